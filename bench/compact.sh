@@ -25,11 +25,11 @@ import os, struct, subprocess, sys, tempfile, time
 from collections import namedtuple
 from statistics import median
 
-from journal import ACKS, SEND
+from journal_files import LATENCY, NOW, heard, name
 from store_file import GROUP, HEADER, Note, first_batches, frame, framed, header, steps
 
 bsp, folder, memory, runs, count = *sys.argv[1:4], int(sys.argv[4]), int(sys.argv[5])
-SIZE, SESSIONS, AT_ONCE, LATENCY, NOW = 200, 100, 1_000, 1_000, 5_000
+SIZE, SESSIONS = 200, 100
 UNKNOWN = '0' * 64
 Used = namedtuple('Used', 'clock processor')
 # the greatest memory of a command, told by a process that is itself small
@@ -46,38 +46,6 @@ def expect(holds, what):
 
 
 # ---- the journals
-
-def name(number):
-    return struct.pack('>I', number)
-
-
-def begins(session, contact):
-    return struct.pack('>BIBBIB', 4, session, contact, 1, LATENCY, 0)
-
-
-def out(session, kind, numbers):
-    named = b'' if kind == SEND else struct.pack('>H', len(numbers))
-    return struct.pack('>BIQB', 15, session, NOW, kind) + named + b''.join(map(name, numbers))
-
-
-def heard(notes, sessions):
-    """Notes that contact 0 sent in so many sessions, and that were sent on to contact 1 in as many."""
-    yield from first_batches()
-    yield b'\1\1'
-    yield struct.pack('>BB32sB', 3, 1, GROUP, 2)
-    most = -(-len(notes) // sessions)
-    for session in range(sessions):
-        yield begins(2 * session, 0)
-        part = range(session * most, min(len(notes), (session + 1) * most))
-        for place, number in enumerate(part):
-            yield struct.pack('>BIQ', 5, 2 * session, place) + b'\7' + name(2 * session) + notes[number].said()[1:]
-            yield steps(name(number))
-            if (place + 1) % AT_ONCE == 0 or number == part[-1]:
-                yield out(2 * session, ACKS, part[place - place % AT_ONCE:place + 1])
-        yield begins(2 * session + 1, 1)
-        for number in part:
-            yield out(2 * session + 1, SEND, [number])
-
 
 def brief(notes, sessions):
     """The brief account of that journal."""

@@ -2,7 +2,8 @@
 # A store of notes on a disk in memory: commits with their settling, loads, and the memory of held messages. Each time is the least
 # processor time of RUNS (5) runs, which the program takes of that step alone. A load is compared with `b2sum -l 256` of the same
 # journal's file in a folder in memory, and with computing the ids of its messages alone; growth is over linear. The group is shared
-# with no contact, and once more with CONTACTS (1). The last lines are `ratio NAME VALUE`.
+# with no contact, and once more with CONTACTS (1). The last lines are `ratio NAME VALUE`, and `memory NAME VALUE` of the bytes that
+# a held message takes beside its body.
 set -eu
 cd "$(dirname "$0")/.."
 (cd crates/bench_store && rt run -- load 50 200 1 >/dev/null)
@@ -79,20 +80,22 @@ with tempfile.TemporaryDirectory(dir="/dev/shm") as folder:
         lines.append(f"ratio load_small{name} {long / ids:.2f}")
         lines.append(f"ratio load_growth{name} {growth:.3f}")
 
-    def compare_memory(contacts):
+    def compare_memory(contacts, name):
         peaks = []
         for count in (100_000, 200_000):
             end, _ = write_journal(path, count, 200, contacts)
             held = step("load", count, 200, contacts, told(count, end)).memory
             made = step("make", count, 200, contacts, f"{end} bytes\n").memory
             peaks.append(held - made)
-        print(f"a held message, {contacts} contacts: {(peaks[1] - peaks[0]) / 100_000 - 200:.0f} bytes of memory beside its body")
+        beside = (peaks[1] - peaks[0]) / 100_000 - 200
+        print(f"a held message, {contacts} contacts: {beside:.0f} bytes of memory beside its body")
+        lines.append(f"memory held{name} {beside:.0f}")
 
     for contacts, name in ((0, ""), (some, "_shared")):
         _, growth, _ = compare_sizes("commit", 5_000, 20_000, contacts)
         lines.append(f"ratio commit_growth{name} {growth:.3f}")
         compare_load(contacts, name)
-        compare_memory(contacts)
+        compare_memory(contacts, name)
     end, _ = write_journal(path, 8_000, 32_000, 0)
     (load, _), (theirs, _) = least(runs, lambda: step("load", 8_000, 32_000, 0, told(8_000, end)), lambda: hashed(path))
     print(f"load: 8000 messages of 32000 bytes, {end} bytes {load:.3f} s, b2sum {theirs:.3f} s")

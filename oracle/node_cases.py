@@ -1,4 +1,4 @@
-"""What the cases of test_nodes leave, by node_model.py: the digests of a journal's file and of what was sent on each link.
+"""What the cases of test_nodes leave, by the nodes of run_model.py: the digests of a journal's file and of what was sent on each link.
 
     node_cases.py ../crates/test_nodes/src/*.rt
 
@@ -10,8 +10,8 @@ import struct
 import sys
 
 from digests import group_id, message_id
-from node_model import (ACK, BATCH, IDLE, INTERACTIVE, LATEST, OFFER, PIECE, PRIORITY, REQUEST, SHARED, VERSIONS, VISIBLE, Node,
-                        message, record)
+from run_model import (ACK, BATCH, IDLE, INTERACTIVE, MAX64, OFFER, PIECE, PRIORITY, REQUEST, SHARED, VERSIONS, VISIBLE, Node, Store,
+                       message_record as message, record_bytes as record)
 
 GREETING = record(VERSIONS, b'\0')
 NOTE = group_id(b'note', 0, b'd')
@@ -56,7 +56,7 @@ def out_of_sight():
     node.attach(0, INTERACTIVE)
     named = [record(kind, X) for kind in (ACK, OFFER, REQUEST)]
     assert hear(node, GREETING, message(NOTE, 0, b'x'), message(NOTE, 0, b'y'), *named) == 0
-    assert node.links[0].takes == 6 and len(node.held) == 1
+    assert node.takes_on(0) == 6 and len(node.journal.held) == 1
     return [node]
 
 
@@ -66,7 +66,7 @@ def another_client():
     node.share(0, thread, SHARED)
     node.attach(0, INTERACTIVE)
     assert hear(node, GREETING, message(group_id(b'chat', 0, b'd'), 0, b'x'), message(thread, 0, b'x')) == 1
-    assert len(node.held) == 1 and node.delivered() == 0
+    assert len(node.journal.held) == 1 and not node.journal.delivered
     return [node]
 
 
@@ -76,7 +76,7 @@ def twice(second):
     node.attach(second, BATCH)
     for link in range(2):
         node.say(link, GREETING + message(NOTE, 0, b'x'))
-    assert not node.turn()
+    assert not node.turn_at()
     return [node]
 
 
@@ -88,24 +88,23 @@ def whole_stream():
     border, takes, sent, ends = 0, 0, 5, {}
     for spelled, behind, sent_behind in records + [(b' ', 0, 0)]:
         for place in range(border, border + len(spelled)):
-            ends[place] = takes, sent, 'clean' if place == border else f'inside {border}'
+            ends[place] = takes, sent, 'clean' if place == border else f'ended inside a record at {border}'
         border, takes, sent = border + len(spelled), behind, sent_behind
     for place in range(len(stream) + 1):
         node = begun()
         node.attach(0, BATCH)
         node.say(0, *[piece for piece in [stream[:place]] if piece])
-        node.turn()
-        node.turn()
-        link = node.links[0]
-        assert (link.takes, len(link.sent), link.end) == ends[place], place
+        node.turn_at()
+        node.turn_at()
+        assert (node.takes_on(0), len(node.host.sent[0]), node.links[0].stands) == ends[place], place
     return [node]
 
 
 def carry(near, far, carried):
-    new = near.links[0].sent[carried:]
+    new = near.host.sent[0][carried:]
     far.say(0, new or IDLE)
     for _ in range(max(1, -(-len(new) // PIECE))):
-        far.turn()
+        far.turn_at()
     return carried + len(new)
 
 
@@ -120,8 +119,8 @@ def forty(mode, nonce, rounds):
         there, back = carry(near, far, there), carry(far, near, back)
     for node in near, far:
         node.say(0, IDLE)
-        assert node.turn() and node.links[0].end == 'going'
-    assert far.delivered() == 40
+        assert node.turn_at() and node.links[0].stands == 'going'
+    assert len(far.journal.delivered) == 40
     return [near, far]
 
 
@@ -135,14 +134,18 @@ def invisible():
     node.attach(1, BATCH)
     node.say(0, GREETING, message(NOTE, 0, b'x'))
     node.say(1, IDLE, IDLE, IDLE)
-    node.turn()
-    node.turn()
-    assert not node.held
+    node.turn_at()
+    node.turn_at()
+    assert not node.journal.held
     node.share(0, NOTE, VISIBLE)
     node.say(0, message(NOTE, 0, b'x'))
-    node.turn()
-    assert node.delivered() == 1
+    node.turn_at()
+    assert len(node.journal.delivered) == 1
     return [node]
+
+
+def expiry_of(node):
+    return node.journal.row(0, X).expiry
 
 
 def offering(latency):
@@ -156,10 +159,10 @@ def doubled():
     node = offering(30_000)
     for now, made, expiry in [(1_000, 1, 61_000), (60_999, 0, 61_000), (61_000, 1, 181_000), (180_999, 0, 181_000),
                               (181_000, 1, 421_000)]:
-        assert node.send_due(0, now) == made and node.peers[0].expiry[X] == expiry
+        assert node.send_due(0, now) == made and expiry_of(node) == expiry
     node.say(0, record(REQUEST, X))
     node.receive(0)
-    assert node.send_due(0, 200_000) == 1 and node.peers[0].expiry[X] == 260_000
+    assert node.send_due(0, 200_000) == 1 and expiry_of(node) == 260_000
     return [node]
 
 
@@ -168,9 +171,9 @@ def last_expiry():
     made = expiry = 0
     for _ in range(32):
         made += node.send_due(0, expiry)
-        expiry = node.peers[0].expiry[X]
-    assert (made, expiry) == (32, LATEST)
-    assert node.send_due(0, LATEST - 1) == 0 and node.send_due(0, LATEST) == 64 and node.peers[0].expiry[X] == LATEST
+        expiry = expiry_of(node)
+    assert (made, expiry) == (32, MAX64)
+    assert node.send_due(0, MAX64 - 1) == 0 and node.send_due(0, MAX64) == 64 and expiry_of(node) == MAX64
     return []
 
 
@@ -178,7 +181,7 @@ def posted():
     node = begun()
     node.post(NOTE, 0, b'x')
     node.attach(0, BATCH)
-    assert not node.turn() and node.turn() and node.links[0].end == 'clean'
+    assert not node.turn_at() and node.turn_at() and node.links[0].stands == 'clean'
     return [node]
 
 
@@ -188,8 +191,8 @@ def offered(offers):
     for offer in offers:
         node.say(0, record(OFFER, unknown(1_536 * offer, 1_536)))
         node.receive(0)
-    assert len(node.peers[0].wanted) == 1_000
-    assert node.send_due(0) == 1 and not node.peers[0].wanted
+    assert len(node.journal.wants(0)) == 1_000
+    assert node.send_due(0) == 1 and not node.journal.wants(0)
     return [node]
 
 
@@ -198,21 +201,21 @@ def seventy():
     for time in range(70):
         node.post(NOTE, time, b'x')
     node.attach(0, BATCH)
-    assert not node.turn() and len(node.links[0].sent) == 5 + 64 * 45
-    assert not node.turn() and node.turn()
+    assert not node.turn_at() and len(node.host.sent[0]) == 5 + 64 * 45
+    assert not node.turn_at() and node.turn_at()
     return [node]
 
 
 def waiting():
     first, second = message_id(NOTE, 0, b'first'), message_id(NOTE, 1, b'second')
-    node = Node({b'note': lambda time, _: ([first if time else second], True)})
+    node = Node(Store({b'note': lambda time, _: ([first if time else second], True)}))
     node.add_contact()
     node.add_group(b'note')
     node.share(0, NOTE, SHARED)
     node.attach(0, BATCH)
     node.say(0, GREETING + message(NOTE, 0, b'first') + message(NOTE, 1, b'second'))
-    assert not node.turn() and not node.turn() and node.turn()
-    assert len(node.held) == 2 and all(held.end is None for held in node.held.values())
+    assert not node.turn_at() and not node.turn_at() and node.turn_at()
+    assert len(node.journal.held) == 2 and not node.journal.delivered and not node.journal.invalid
     return [node]
 
 
@@ -244,7 +247,7 @@ def main(paths):
     computed = set()
     for name, play in CASES.items():
         for node in play():
-            digests = [digest(data) for data in [node.file()] + [link.sent for link in node.links]]
+            digests = [digest(data) for data in [node.file()] + node.host.sent]
             print(f'{name}: {len(node.batches)} batches', *digests, sep='\n    ')
             computed.update(digests)
     tested = {word for path in paths for word in re.findall('"([0-9a-f]{64})"', open(path).read())}

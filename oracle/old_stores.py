@@ -4,12 +4,12 @@ format 2.
 
     old_stores.py > crates/test_commands/src/old_rows.rt
 
-What a node does is played by node_model.py and sharing.py, what is shown of its journal by run_model.py, and both formats are those of
+What a node does is played by run_model.py and sharing.py, what is shown of its journal by world_model.py, and both formats are those of
 journal.py. Nothing here is shared with the program.
 """
 from digests import group_id, message_id
 from journal import SHORT, WHOLE, entries, entry_of, respelled
-from node_model import ACK, INTERACTIVE, BATCH, OFFER, REQUEST, SHARED, VISIBLE, message, record
+from run_model import ACK, BATCH, INTERACTIVE, OFFER, REQUEST, SHARED, VISIBLE, message_record as message, record_bytes as record
 from sharing import NOTE, SHARING, THREAD, Person, rust
 from world_model import Facts, shown
 
@@ -57,21 +57,15 @@ def bare(*definitions):
     person = Person()
     person.add_contact()
     for definition in definitions:
-        person.add(*definition)
+        person.add_group(*definition)
     return person
 
 
 def fresh(*definitions):
     """A store with the note `x`, which is not judged yet."""
     person = bare(*definitions)
-    unsettled(person, lambda: person.post(NOTES, 0, b'x'))
+    person.unsettled(lambda: person.post(NOTES, 0, b'x'))
     return person
-
-
-def unsettled(person, does):
-    settle, person.settle = person.settle, lambda: None
-    does()
-    person.settle = settle
 
 
 def held(*definitions):
@@ -85,7 +79,7 @@ def ended():
     person = bare(NOTE)
     person.share(0, NOTES, VISIBLE)
     person.attach(0, BATCH)
-    person.take(person.links[0], 1, message(NOTES, 0, b'\xff')[4:])
+    person.hears(0, message(NOTES, 0, b'\xff'))
     return person
 
 
@@ -105,48 +99,47 @@ def heard():
     person.post(NOTES, 0, b'x')
     person.post(THREADS, 5, b'\0root')
     person.attach(0, INTERACTIVE, nonce=bytes(15) + b'\7')
-    first = person.links[0]
     reply, lost = b'\1' + ROOT + b'reply', b'\1' + X + b'lost'
     for group, time, body in ((NOTES, 1, b'hi'), (NOTES, 2, b'\xff'), (THREADS, 6, reply), (THREADS, 7, b'\1' + bytes(32) + b'lost')):
-        person.take(first, 1, message(group, time, body)[4:])
-    person.take(first, 1, message(THREADS, 8, lost)[4:])
+        person.hears(0, message(group, time, body))
+    person.hears(0, message(THREADS, 8, lost))
     unknown = message_id(NOTES, 9, b'unknown')
-    person.take(first, OFFER, X + unknown + ROOT)
-    person.take(first, ACK, ROOT)
+    person.hears(0, record(OFFER, X + unknown + ROOT))
+    person.hears(0, record(ACK, ROOT))
     person.send_due(0, now=1_000)
-    person.take(first, REQUEST, X)
+    person.hears(0, record(REQUEST, X))
     person.send_due(0, now=2_000)
     person.attach(1, BATCH)
     person.send_due(1, now=3_000)
     person.attach(1, INTERACTIVE, latency=1)
-    person.take(person.links[2], ACK, X)
+    person.hears(2, record(ACK, X))
     person.send_due(2, now=9_000)
-    unsettled(person, lambda: person.take(first, 1, message(NOTES, 4, 'né'.encode())[4:]))
+    person.unsettled(lambda: person.hears(0, message(NOTES, 4, 'né'.encode())))
     return person
 
 
 # ---- the tables
 
 def adds_contact(person):
-    person.settle()
-    number = len(person.peers)
+    person.store.settle()
+    number = person.journal.contacts
     person.add_contact()
     return f'contact {number}\n'
 
 
 def adds_group(person):
-    return f'group {person.add(*NOTE).hex()}\n'
+    return f'group {person.add_group(*NOTE).hex()}\n'
 
 
 def sets_level(person):
-    person.settle()
+    person.store.settle()
     person.share(0, NOTES, SHARED)
     return f'level 0 {NOTES.hex()} shared\n'
 
 
 def posts(group, time, body):
     def does(person):
-        person.settle()
+        person.store.settle()
         person.post(group, time, body)
         return f'posted {message_id(group, time, body).hex()}\n'
     return does

@@ -1,9 +1,11 @@
 #!/usr/bin/env python3
 """A node by plain scans, written from the protocol's pages alone (docs/PROTOCOL.md, docs/FORMATS.md), beside
-the proved one and sharing nothing with it: its digest is hashlib's, its rules look at whole lists.
+the proved one and sharing nothing with it: its digest is hashlib's, its rules look at whole lists. A `Run` is a
+run of `sync` whose calls may fail; a `Node` is told each of its calls.
 
 `run_model.py CASES` plays the cases of a file, as the program test_runs does, and prints what that program must
 print. What a case is stands in crates/test_runs/src/main.rt."""
+import collections
 import copy
 import hashlib
 import sys
@@ -13,7 +15,11 @@ from journal import SHORT, WHOLE, entries, entry_of, format_of, frames, is_spell
 from store_file import CLOSED, HEADER, OPEN, framed, header
 
 MAX64 = 2**64 - 1
-MAX_STEPS, MAX_ROWS, MAX_WANTED = 256, 1000, 1000
+PIECE, MAX_STEPS, MAX_ROWS, MAX_WANTED, MAX_IDS, MAX_OUTS = 65_536, 256, 1000, 1000, 1536, 64
+ACK, MESSAGE, OFFER, REQUEST, VERSIONS, PRIORITY = range(6)
+INVISIBLE, VISIBLE, SHARED = range(3)
+INTERACTIVE, BATCH = 'interactive', 'batch'
+IDLE, END = ('idle',), ('end',)
 STEPS = ('judged', 'deliver', 'invalid')
 ACCOUNT = ('contact', 'group', 'level', *STEPS, 'kept', 'tried', 'want')
 
@@ -28,20 +34,33 @@ def is_text(bytes_):
         return False
 
 
-def judge(kind, body):
-    """None for a refusal, else the dependencies and whether the message is shared on."""
-    if kind == b'note':
-        return ([], True) if is_text(body) else None
-    if kind == b'thread':
-        count = body[0]
-        ids = [body[1 + 32 * i:33 + 32 * i] for i in range(count)]
-        whole = len(body) >= 1 + 32 * count
-        if not whole or len(set(ids)) < count or not is_text(body[1 + 32 * count:]):
-            return None
-        return (ids, True)
+# what each client says of a time and a body: None for a refusal, else the dependencies and whether the message is shared on
+
+def judge_note(_, body):
+    return ([], True) if is_text(body) else None
+
+
+def judge_thread(_, body):
+    count = body[0]
+    ids = [body[1 + 32 * i:33 + 32 * i] for i in range(count)]
+    whole = len(body) >= 1 + 32 * count
+    if not whole or len(set(ids)) < count or not is_text(body[1 + 32 * count:]):
+        return None
+    return (ids, True)
+
+
+def judge_feed(_, body):
     if len(body) < 32 or not is_text(body[32:]):
         return None
     return ([] if body[:32] == bytes(32) else [body[:32]], False)
+
+
+CLIENTS = {b'note': judge_note, b'thread': judge_thread, b'feed': judge_feed}
+
+
+def crossed(*ids):
+    """The clients of every name that refuse nothing: a message of time 1 depends on the second of two ids, each other on the first."""
+    return collections.defaultdict(lambda: lambda timestamp, _: ([ids[timestamp == 1]], True))
 
 
 class Held:
@@ -59,7 +78,8 @@ class Row:
 class Journal:
     """What the batches of a journal come to."""
 
-    def __init__(self):
+    def __init__(self, clients=CLIENTS):
+        self.clients = clients
         # `empty` without an entry, `opening` where it is a brief account so far, else `going`
         self.start = 'empty'
         self.contacts = 0
@@ -73,7 +93,6 @@ class Journal:
         self.judged, self.invalid, self.delivered = set(), set(), []
         self.rows = {}
         self.wanted = {}
-        self.crossed = None
 
     # ---- look-ups
     def find(self, id_):
@@ -99,9 +118,7 @@ class Journal:
         return self.wanted.setdefault(contact, [])
 
     def answer(self, held):
-        if self.crossed:
-            return [self.crossed[held.timestamp == 1]], True
-        return judge(self.group(held.group)[0], held.body)
+        return self.clients[self.group(held.group)[0]](held.timestamp, held.body)
 
     def state(self, held):
         return ('delivered' if held.id in self.delivered else 'invalid' if held.id in self.invalid else
@@ -229,7 +246,7 @@ class Journal:
         if kind == 'contact':
             return rest[0] == self.contacts
         if kind == 'group':
-            return rest[0] in (b'note', b'thread', b'feed') and rest[1] == 0 and not self.group(group_id(*rest))
+            return rest[0] in self.clients and rest[1] == 0 and not self.group(group_id(*rest))
         if kind == 'level':
             return rest[0] < self.contacts and bool(self.group(rest[1]))
         return kind == 'kept' and self.start == 'opening' and self.may_keep(*rest)
@@ -278,7 +295,7 @@ class Journal:
             return [('again', session, id_)] if self.level(contact, held.group) else []
         if kind in ('versions', 'priority', 'skipped'):
             return []
-        entries, room = [], 1000 - len(self.wants(contact))
+        entries, room = [], MAX_WANTED - len(self.wants(contact))
         for id_ in dict.fromkeys(record[1]):
             held = self.find(id_)
             shown = held and self.level(contact, held.group)
@@ -291,7 +308,7 @@ class Journal:
             elif held:
                 if shown:
                     entries.append(('again', session, id_))
-            elif id_ not in self.wants(contact) and room > 0:
+            elif room > 0 and id_ not in self.wants(contact):
                 room -= 1
                 entries.append(('offered', session, id_))
         return entries
@@ -301,9 +318,9 @@ class Journal:
         _, contact, mode, _, _ = self.sessions[session]
         owed = [h.id for h in self.held if self.row(contact, h.id).owed]
         if owed:
-            return ('acks', owed[:1536])
+            return ('acks', owed[:MAX_IDS])
         if mode == 'interactive' and self.wants(contact):
-            return ('requests', self.wants(contact)[:1536])
+            return ('requests', self.wants(contact)[:MAX_IDS])
         sendable = [h for h in self.held
                     if h.id in self.delivered and self.level(contact, h.group) == 2
                     and not self.row(contact, h.id).seen and (h.origin == 'self' or self.answer(h)[1])]
@@ -315,17 +332,16 @@ class Journal:
             ids = [h.id for h in sendable
                    if not self.row(contact, h.id).asked and self.row(contact, h.id).expiry <= now]
             if ids:
-                return ('offers', ids[:1536])
+                return ('offers', ids[:MAX_IDS])
         return None
 
 
 # ---- the brief account of a journal
 
-def brief(journal, crossed=None):
+def brief(journal):
     """The batches of another journal with the same contacts, groups, levels, messages with their states, and what each
     contact has seen, is owed, wants and was tried."""
-    told = Journal()
-    told.crossed = crossed
+    told = Journal(journal.clients)
     levels = [('level', c, g[3], journal.level(c, g[3])) for c in range(journal.contacts) for g in journal.groups
               if journal.level(c, g[3])]
     batches = [[e] for e in [('brief', journal.begun), *(('contact', c) for c in range(journal.contacts)),
@@ -401,6 +417,10 @@ def record_bytes(kind, payload):
     return bytes([0, kind]) + len(payload).to_bytes(2, 'big') + payload
 
 
+def message_record(group, timestamp, body):
+    return record_bytes(MESSAGE, group + timestamp.to_bytes(8, 'big') + body)
+
+
 REASONS = {'version': 'wrong version', 'long': 'too long', 'empty': 'empty id list', 'ragged': 'ragged id list',
            'short': 'short message', 'body': 'body too long', 'time': 'bad timestamp', 'versions': 'bad versions',
            'nonce': 'bad nonce'}
@@ -462,8 +482,8 @@ class Store:
     # the file of format 2 that a journal of format 1 is to be written anew into
     anew = None
 
-    def __init__(self):
-        self.journal = Journal()
+    def __init__(self, clients=CLIENTS):
+        self.journal = Journal(clients)
         # both files, and the number of the one that has the journal
         self.files, self.at = [HEADER + CLOSED, b''], 0
 
@@ -498,7 +518,7 @@ class Store:
         if self.generation() == MAX64:
             return None
         old = len(self.files[self.at])
-        batches = brief(self.journal, self.journal.crossed)
+        batches = brief(self.journal)
         self.move_to(framed(header(2, self.generation() + 1), map(self.spelled, batches)))
         self.journal.sessions, self.journal.takes = {}, {}
         return 'compacted %d %d' % (old, len(self.files[self.at]))
@@ -588,7 +608,7 @@ class Run:
             nonces.append(nonce)
         return nonces, None
 
-    def attach(self, nonces):
+    def attach_all(self, nonces):
         for i, (contact, mode, latency, _) in enumerate(self.words):
             number = self.store.journal.begun
             self.store.commit([('session', number, contact, mode, latency, nonces[i])])
@@ -627,7 +647,7 @@ class Run:
     def hear(self, i, link):
         """Whether the answer was Idle."""
         script = self.host.answers.get(i, [])
-        answer = script.pop(0) if script else ('end',)
+        answer = script.pop(0) if script else END
         if answer[0] == 'idle':
             return True
         if answer[0] == 'fail':
@@ -639,13 +659,15 @@ class Run:
             else:
                 link.stands = 'clean' if not link.rest else 'ended inside a record at %d' % link.place
         else:
-            link.rest += answer[1]
+            if answer[1][PIECE:]:
+                script.insert(0, ('got', answer[1][PIECE:]))
+            link.rest += answer[1][:PIECE]
             self.items(link)
         return False
 
     def put(self, i, link):
         now, made = self.host.now(), 0
-        while made < 64 and link.stands in ('going', 'clean') and self.put_one(i, link, now):
+        while made < MAX_OUTS and link.stands in ('going', 'clean') and self.put_one(i, link, now):
             made += 1
         return made
 
@@ -658,9 +680,9 @@ class Run:
         what, ids = due
         if what == 'send':
             h = j.find(ids[0])
-            bytes_ = record_bytes(1, h.group + h.timestamp.to_bytes(8, 'big') + h.body)
+            bytes_ = message_record(h.group, h.timestamp, h.body)
         else:
-            bytes_ = record_bytes({'acks': 0, 'requests': 3, 'offers': 2}[what], b''.join(ids))
+            bytes_ = record_bytes({'acks': ACK, 'requests': REQUEST, 'offers': OFFER}[what], b''.join(ids))
         self.store.commit([('out', link.session, now, what, ids)])
         if not self.send(i, bytes_):
             link.stands = 'failed'
@@ -698,7 +720,7 @@ class Run:
         if not self.store.migrate():
             return 10, 'full\n'
         self.store.settle()
-        self.attach(nonces)
+        self.attach_all(nonces)
         still = made = 0
         over = False
         while made < self.turns and not over:
@@ -711,6 +733,78 @@ class Run:
         bad = next((line for line in lines if line not in ('clean', 'quiet', 'redundant')), None)
         status = 0 if bad is None else 7 if bad == 'failed' else 11 if bad == 'unfinished' else 9
         return status, ''.join('link %d: %s\n' % (i, line) for i, line in enumerate(lines))
+
+
+# ---- a node that is told each call
+
+class Node(Run):
+    """A node over a store, on a clock that is handed in, each of whose calls on its host ends well."""
+
+    def __init__(self, store=None):
+        super().__init__(store or Store(), Host(), 0, 0, [])
+
+    @property
+    def journal(self):
+        return self.store.journal
+
+    @property
+    def batches(self):
+        return [payload for _, payload in frames(self.file())]
+
+    def file(self):
+        return self.store.files[self.store.at]
+
+    # ---- what is added here
+    def add_contact(self):
+        self.store.commit([('contact', self.journal.contacts)])
+
+    def add_group(self, name, major=0, descriptor=b'd'):
+        self.store.commit([('group', name, major, descriptor)])
+        return group_id(name, major, descriptor)
+
+    def share(self, contact, group, level):
+        self.store.commit([('level', contact, group, level)])
+
+    def post(self, group, timestamp, body):
+        self.store.commit([('author', (group, timestamp, body))])
+        self.store.settle()
+
+    # ---- sessions
+    def attach(self, contact, mode, latency=1_000, nonce=None):
+        session = self.journal.begun
+        self.store.commit([('session', session, contact, mode, latency, nonce)])
+        self.words.append((contact,))
+        self.links.append(Link(session, nonce))
+        self.host.sent.append(record_bytes(VERSIONS, b'\0') + (record_bytes(PRIORITY, nonce) if nonce else b''))
+
+    def set_clock(self, now):
+        self.host.readings = [now]
+
+    def say(self, number, *answers):
+        """Answers of a link that are to come: bytes, IDLE or END."""
+        told = [answer if isinstance(answer, tuple) else ('got', answer) for answer in answers]
+        self.host.answers.setdefault(number, []).extend(told)
+
+    def receive(self, number):
+        """Asks a link once; whether nothing came for now."""
+        return self.hear(number, self.links[number])
+
+    def hears(self, number, record):
+        """Takes a record that is whole."""
+        self.take(self.links[number], read_one(record)[0], 0)
+
+    def takes_on(self, number):
+        return self.journal.takes.get(self.links[number].session, 0)
+
+    def send_due(self, number, now=0):
+        """Sends what is due on a link; how many outputs that were."""
+        self.set_clock(now)
+        return self.put(number, self.links[number])
+
+    def turn_at(self, now=0):
+        """Makes a turn; whether it was still."""
+        self.set_clock(now)
+        return self.turn()
 
 
 # ---- the cases
@@ -742,7 +836,7 @@ class Cases:
         elif kind == 'do':
             self.do(words[1:])
         elif kind == 'crossed':
-            self.store.journal.crossed = [bytes.fromhex(w) for w in words[1:]]
+            self.store.journal.clients = crossed(*map(bytes.fromhex, words[1:]))
         elif kind == 'states':
             states = ['message %s %s %s' % (h.id.hex(), h.group.hex(), self.store.journal.state(h)) for h in self.store.journal.held]
             self.out.write(''.join(state + '\n' for state in states))

@@ -11,7 +11,7 @@ import struct
 import sys
 
 from digests import group_id, message_id
-from node_model import DELIVER, INVISIBLE, SHARED, VISIBLE, Held, Node, judge_note, judge_thread, message
+from run_model import BATCH, CLIENTS, INVISIBLE, SHARED, VISIBLE, Node, Store, message_record
 
 LEVELS = ['invisible', 'visible', 'shared']
 STANCES = {'join': 1, 'leave': 2}
@@ -51,47 +51,34 @@ def judge_sharing(_, body):
     return ((said[1],) if any(said[1]) else ()), False
 
 
+ALL_CLIENTS = CLIENTS | {b'sharing': judge_sharing}
+
+
 class Person(Node):
     """A node with the client of `sharing` groups, whose commands print lines."""
 
     def __init__(self):
-        super().__init__({b'note': judge_note, b'thread': judge_thread, b'feed': None, b'sharing': judge_sharing})
-        self.definitions, self.origins, self.order = {}, {}, []
+        super().__init__(Store(ALL_CLIENTS))
 
-    def make_step(self):
-        step = super().make_step()
-        if step and step[0] == DELIVER:
-            self.order.append(step[1].id)
-        return step
-
-    def take_message(self, link, peer, payload):
-        made = super().take_message(link, peer, payload)
-        self.origins.setdefault(message_id(payload[:32], *struct.unpack('>Q', payload[32:40]), payload[40:]), link.contact)
-        return made
-
-    def knows(self, definition):
-        return group_id(*definition) in self.groups
-
-    def add(self, name, major, descriptor):
-        group = group_id(name, major, descriptor)
-        self.batches.append(b'\2' + spelled(name, major, descriptor))
-        self.groups[group] = self.clients[name]
-        self.definitions[group] = (name, major, descriptor)
-        return group
+    def unsettled(self, does):
+        """Does something behind which nothing is settled."""
+        settle, self.store.settle = self.store.settle, lambda: None
+        does()
+        self.store.settle = settle
 
     def said(self, group, time, stance, name, major, descriptor):
         """`say`: the body, and the id of its message."""
-        own = [id for id in self.order if self.held[id].is_own and self.held[id].group == group]
+        delivered = map(self.journal.find, self.journal.delivered)
+        own = [held.id for held in delivered if held.origin == 'self' and held.group == group]
         body = bytes([STANCES[stance]]) + (own[-1] if own else bytes(32)) + spelled(name, major, descriptor)
         self.post(group, time, body)
         return body, message_id(group, time, body)
 
     def words_with(self, contact, group):
-        for id in self.order:
-            held = self.held[id]
+        for held in map(self.journal.find, self.journal.delivered):
             said = read_saying(held.body)
-            if held.group == group and said and (held.is_own or self.origins[id] == contact):
-                yield held.is_own, said[0], said[2]
+            if held.group == group and said and held.origin in ('self', contact):
+                yield held.origin == 'self', said[0], said[2]
 
     def targets(self, contact, group):
         """The definitions in the order of their first naming, each with its level."""
@@ -107,14 +94,14 @@ class Person(Node):
         lines = []
         for definition, level in list(self.targets(contact, group)):
             id = group_id(*definition)
-            if not self.knows(definition):
+            if not self.journal.group(id):
                 if level == INVISIBLE:
                     continue
-                if definition[0] not in self.clients or definition[1] or len(self.groups) >= MOST_GROUPS:
+                if definition[0] not in self.journal.clients or definition[1] or len(self.journal.groups) >= MOST_GROUPS:
                     lines.append(f'skipped {id.hex()}\n')
                     continue
-                self.add(*definition)
-            if self.peers[contact].levels.get(id, INVISIBLE) != level:
+                self.add_group(*definition)
+            if self.journal.level(contact, id) != level:
                 self.share(contact, id, level)
             lines.append(f'level {contact} {id.hex()} {LEVELS[level]}\n')
         return ''.join(lines)
@@ -145,7 +132,7 @@ class Scene:
 
 def hears(person, link, group, time, body):
     """A message of the peer is taken, and the journal settled."""
-    person.take(person.links[link], 1, message(group, time, body)[4:])
+    person.hears(link, message_record(group, time, body))
 
 
 def saying(stance, name, major, descriptor, previous=bytes(32)):
@@ -159,7 +146,7 @@ def beginning(*definitions, contacts=1):
     person = Person()
     for _ in range(contacts):
         person.add_contact()
-    return person, [person.add(*definition) for definition in definitions]
+    return person, [person.add_group(*definition) for definition in definitions]
 
 
 SHARING, OTHER, NOTE, THREAD = (b'sharing', 0, b's'), (b'sharing', 0, b'o'), (b'note', 0, b'd'), (b'thread', 0, b'')
@@ -182,7 +169,7 @@ def says_behind():
     person, (group, note) = beginning(SHARING, NOTE)
     person.share(0, group, VISIBLE)
     person.said(group, 1, 'join', *NOTE)
-    person.attach(0, 1)
+    person.attach(0, BATCH)
     hears(person, 0, group, 2, saying('join', *NOTE))
     person.post(note, 3, b'x')
     scene = Scene(person)
@@ -194,17 +181,13 @@ def says_open():
     """The last own message is not delivered yet, so that the one before it is the previous one; it is delivered first."""
     person, (group,) = beginning(SHARING)
     person.said(group, 1, 'join', *NOTE)
-    settles, person.settle = person.settle, lambda: None
-    person.said(group, 2, 'leave', *NOTE)
-    before = len(person.batches)
-    own = [id for id in person.order]
-    person.settle = settles
+    person.unsettled(lambda: person.said(group, 2, 'leave', *NOTE))
+    own = list(person.journal.delivered)
     scene = Scene(person)
-    assert scene.before == before
 
     def done(it):
         body = saying('join', *THREAD, previous=own[-1])
-        it.settle()
+        it.store.settle()
         it.post(group, 3, body)
         return f'posted {message_id(group, 3, body).hex()}\n'
 
@@ -233,14 +216,12 @@ def agrees_behind():
     person, (group,) = beginning(SHARING)
     person.share(0, group, VISIBLE)
     person.said(group, 1, 'join', *NOTE)
-    person.attach(0, 1)
-    settle, person.settle = person.settle, lambda: None
-    hears(person, 0, group, 2, saying('join', *NOTE))
-    person.settle = settle
+    person.attach(0, BATCH)
+    person.unsettled(lambda: hears(person, 0, group, 2, saying('join', *NOTE)))
     scene = Scene(person)
 
     def done(it):
-        it.settle()
+        it.store.settle()
         return it.agree(0, group)
 
     scene.step(f'agree 0 {group.hex()}', done)
@@ -259,7 +240,7 @@ def agrees_at_length():
     person.said(group, 1, 'join', *THREAD)
     person.said(group, 2, 'leave', *NOTE)
     person.said(group, 3, 'join', b'feed', 0, b'd')
-    person.attach(0, 1)
+    person.attach(0, BATCH)
     hears(person, 0, group, 4, saying('join', *THREAD))
     scene = Scene(person)
     scene.agree(0, group)
@@ -275,10 +256,10 @@ def agrees_at_random(seed):
     person, (group,) = beginning(SHARING, contacts=2)
     for contact in range(2):
         person.share(contact, group, VISIBLE)
-        person.attach(contact, 1)
+        person.attach(contact, BATCH)
     for definition in SPOKEN_OF[:4]:
         if dice.random() < 0.4:
-            known = person.add(*definition)
+            known = person.add_group(*definition)
             for contact in range(2):
                 level = dice.choice([INVISIBLE, VISIBLE, SHARED])
                 if level:

@@ -13,7 +13,7 @@ import sys
 
 from digests import group_id, message_id
 from journal import SHORT, entries, entry_of, frames, number
-from run_model import Host, Journal, Link, Run, Store, entry_bytes, judge, record_bytes
+from run_model import CLIENTS, Journal, Node, Store, entry_bytes
 from scripts import generated, has_form, is_number
 from store_file import CLOSED, HEADER, OPEN
 
@@ -87,11 +87,6 @@ class Facts(Journal):
     def find(self, id_):
         return self.by_id.get(id_)
 
-    def fate(self, held):
-        if held.id in self.delivered:
-            return 'delivered'
-        return 'invalid' if held.id in self.invalid else 'pending' if held.id in self.judged else 'unknown'
-
 
 class DiskStore(Store):
     """A store over a disk: it is loaded, and each batch is four calls."""
@@ -123,32 +118,22 @@ class DiskStore(Store):
 
 # ---- a device
 
-class Device(Run):
+class Device(Node):
     """A node over a disk, which runs since its store was loaded."""
 
     def __init__(self, disk, clock):
-        super().__init__(DiskStore(disk), Host(), 0, 0, [])
+        super().__init__(DiskStore(disk))
         self.set_clock(clock)
-
-    def set_clock(self, clock):
-        self.host.readings = [clock]
 
     def add(self, entry):
         self.store.commit([entry])
         self.store.settle()
 
-    def begin(self, contact, mode, latency, nonce):
-        session = len(self.store.journal.sessions)
-        self.store.commit([('session', session, contact, mode, latency, nonce)])
-        self.words.append((contact,))
-        self.links.append(Link(session, nonce))
-        self.host.sent.append(record_bytes(4, b'\0') + (record_bytes(5, nonce) if nonce else b''))
-
     def text(self, place, is_shown):
         journal = self.store.journal
-        fates = [journal.fate(held) for held in journal.held]
-        told = [f'{fate} {fates.count(fate)}' for fate in ('delivered', 'invalid', 'pending', 'unknown')]
-        lines = [f'device {place} held {len(fates)} ' + ' '.join(told)]
+        states = [journal.state(held) for held in journal.held]
+        told = [f'{fate} {states.count(fate)}' for fate in ('delivered', 'invalid', 'pending', 'unknown')]
+        lines = [f'device {place} held {len(states)} ' + ' '.join(told)]
         return lines + (shown(journal) if is_shown else [])
 
 
@@ -157,7 +142,7 @@ def shown(journal):
     groups = [f'group {id_.hex()} {name.hex()} {major} {text.hex()}' for name, major, text, id_ in journal.groups]
     levels = [f'level {contact} {group[3].hex()} {LEVELS[journal.level(contact, group[3])]}'
               for contact in range(journal.contacts) for group in journal.groups if journal.level(contact, group[3])]
-    held = [f'message {held.id.hex()} {held.group.hex()} {journal.fate(held)}' for held in journal.held]
+    held = [f'message {held.id.hex()} {held.group.hex()} {journal.state(held)}' for held in journal.held]
     return [f'contacts {journal.contacts}', *groups, *levels, *held, f'sessions {len(journal.sessions)}']
 
 
@@ -278,7 +263,7 @@ class World:
         id_ = message_id(group, time, body)
         if len(body) > MOST_BODY or journal.find(id_):
             raise Refused
-        answer = judge(kind, body)
+        answer = CLIENTS[kind](time, body)
         if answer is None or not all(dep in journal.delivered and journal.find(dep).group == group for dep in answer[0]):
             raise Refused
         self.posts.append(id_)
@@ -292,7 +277,7 @@ class World:
         self.links.append(link)
         for end, other, own in ((link['ends'][0], e, nonce), (link['ends'][1], d, None)):
             here = end.device
-            if not self.tries(here, lambda device: device.begin(self.contact(here, other), mode, latency, own)):
+            if not self.tries(here, lambda device: device.attach(self.contact(here, other), mode, latency, own)):
                 return
             end.at = len(self.devices[here].links) - 1
             self.look(link, end)
@@ -479,7 +464,7 @@ class Checks:
     def nothing_due_is_all_held(self, journals):
         now = self.world.clock
         for a, journal in enumerate(journals):
-            for session, (_, contact, *_) in enumerate(journal.sessions):
+            for session, (_, contact, *_) in journal.sessions.items():
                 rows = [journal.row(contact, held.id) for held in journal.held]
                 if journal.due(session, now) is None and all(row.expiry <= now for row in rows):
                     b = journals[self.other(a, contact)]

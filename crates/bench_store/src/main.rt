@@ -1,7 +1,7 @@
 //! Commits messages to a store on a disk in memory, loads a store that has them, writes one of format
 //! 1 anew in format 2, or computes their ids alone; loads the store whose file lies in the folder
-//! that it runs in, or takes an OFFER of ids over it: for the speed and memory of a store. The error
-//! output has the microseconds of processor time that this alone took.
+//! that it runs in, audits it, or takes an OFFER of ids over it: for the speed and memory of a store.
+//! The error output has the microseconds of processor time that this alone took.
 #![tactic(auto)]
 
 mod journal_file;
@@ -16,6 +16,7 @@ use crate::stop::Stop;
 use anyhow::{Context, Result, bail};
 use client_basic::Bundle;
 use entry_codec::Format;
+use journal_audit::{Report, audit};
 use outside::{MAX_JOURNAL, MemDisk};
 use std::alloc::Global;
 use std::time::{CpuClock, Duration};
@@ -34,6 +35,8 @@ enum Step {
     Migrate(Plan),
     Commit(Plan),
     File,
+    Read,
+    Audit,
     Offer(u32),
 }
 
@@ -76,6 +79,8 @@ fn step_of(name: &str, first: u32, length: usize, contacts: u8) -> Result<Step> 
         "migrate" => Ok(Step::Migrate(plan)),
         "commit" => Ok(Step::Commit(plan)),
         "file" => Ok(Step::File),
+        "read" => Ok(Step::Read),
+        "audit" => Ok(Step::Audit),
         "offer" => Ok(Step::Offer(first)),
         other => bail!("no step: {other}"),
     }
@@ -152,6 +157,41 @@ fn read_disk(rt: &HostRuntime) -> Result<MemDisk> {
     Ok(disk)
 }
 
+// Reads the folder's file, and no store.
+fn measure_read(rt: &HostRuntime) -> Result<()> {
+    let start = rt.process_cpu_time()?;
+    let disk = read_disk(rt)?;
+    print_time(rt, start)?;
+    let bytes = disk.file(0).len();
+    println!(rt; "{bytes} bytes")?;
+    Ok(())
+}
+
+fn print_report(rt: &HostRuntime, report: Report) -> Result<()> {
+    let Report {
+        batches,
+        entries,
+        good,
+        bad,
+        settled,
+    } = report;
+    let word = if settled { "settled" } else { "open" };
+    println!(rt; "{batches} batches, {entries} entries, {good} good, {bad} bad, {word}")?;
+    Ok(())
+}
+
+// Audits the store of the folder's file.
+fn measure_audit(rt: &HostRuntime) -> Result<()> {
+    let mut disk = read_disk(rt)?;
+    let start = rt.process_cpu_time()?;
+    let answer = audit(rt.alloc(), &mut disk, &Bundle::new());
+    print_time(rt, start)?;
+    match answer {
+        Ok(report) => print_report(rt, report),
+        Err(fault) => bail!("no report: {fault:?}"),
+    }
+}
+
 // Takes an OFFER of ids over a store so many times.
 fn time_offers(rt: &HostRuntime, store: &Store, ids: &[[u8; ID_LEN]], rounds: u32) -> Result<()> {
     let start = rt.process_cpu_time()?;
@@ -224,6 +264,8 @@ fn main(rt: HostRuntime) -> Result<()> {
         Step::Migrate(plan) => measure_migrate(&rt, plan),
         Step::Commit(plan) => measure_commit(&rt, plan),
         Step::File => measure_load(&rt, read_disk(&rt)?),
+        Step::Read => measure_read(&rt),
+        Step::Audit => measure_audit(&rt),
         Step::Offer(rounds) => measure_offer(&rt, rounds),
     }
 }

@@ -162,6 +162,7 @@ plain_in word =
     else if bytes_eq word (codes "contact") then Some command.Contact
     else if bytes_eq word (codes "show") then Some command.Show
     else if bytes_eq word (codes "inbox") then Some command.Inbox
+    else if bytes_eq word (codes "audit") then Some command.Audit
     else if bytes_eq word (codes "compact") then Some command.Compact
     else None
 

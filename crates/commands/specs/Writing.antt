@@ -16,6 +16,7 @@ may_write command.Show = false
 may_write command.Inbox = false
 may_write (command.Body id) = false
 may_write (command.Tree group from count) = false
+may_write command.Audit = false
 may_write (command.Say group timestamp join name major descriptor) = true
 may_write (command.Agree contact group) = true
 may_write command.Compact = true

@@ -32,6 +32,9 @@ pub enum Command {
     /// `tree GROUP FROM COUNT`: prints so many messages of the walk of a group's replies, from a
     /// place on.
     Tree(GroupId, u32, u32),
+    /// `audit`: reads the two files of a store once more by the definitions alone, and prints what
+    /// their journal comes to.
+    Audit,
     /// `say GROUP TIMESTAMP STANCE NAME MAJOR DESCRIPTOR`: says in a sharing group that its author
     /// joins the group of this client, major version and descriptor, or leaves it.
     Say(GroupId, u64, bool, Word, u32, Word),
@@ -79,7 +82,8 @@ impl Command {
             | Command::Show
             | Command::Inbox
             | Command::Body(_)
-            | Command::Tree(_, _, _) => false,
+            | Command::Tree(_, _, _)
+            | Command::Audit => false,
         }
     }
 }

@@ -80,6 +80,7 @@ fn plain(word: &str) -> Option<Command>
         "contact" => Some(Command::Contact),
         "show" => Some(Command::Show),
         "inbox" => Some(Command::Inbox),
+        "audit" => Some(Command::Audit),
         "compact" => Some(Command::Compact),
         _ => None,
     }

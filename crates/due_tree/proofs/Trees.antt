@@ -1,7 +1,8 @@
 -- Cells of a tree: what a write leaves, and what a cell that is not due says of the places below it.
-use Rattle.std.proofs.Common.{◌≡◌, ◌≢◌, ℕ, ◌+◌, ◌-◌, ◌*◌, ◌/◌, ◌%◌, ◌^◌, ◌<◌, ◌≤◌, min, true, false, nat_le, List, length, Option, None, Some, refl, sym, ap, subst, ◌∙◌, ◌⊎◌, inl, inr, set, arith, zero, suc, add-one, pow-add}
+use Rattle.std.proofs.Common.{◌≡◌, ◌≢◌, ℕ, ◌+◌, ◌-◌, ◌*◌, ◌/◌, ◌%◌, ◌^◌, ◌<◌, ◌≤◌, min, true, false, nat_le, nat_eq, List, length, Option, None, Some, refl, sym, ap, subst, ◌∙◌, ◌⊎◌, inl, inr, set, arith, zero, suc, add-one, pow-add}
 use Rattle.std.proofs.lemmas.List.{get_or-set_same, get_or-set_other}
-use Rattle.std.proofs.lemmas.Bool.{cases_eq, cases_lt, true≢false}
+use Rattle.std.specs.Option.{option_eq}
+use Rattle.std.proofs.lemmas.Bool.{cases_eq, cases_lt, true≢false, eqb-true}
 use Rattle.std.proofs.lemmas.Bool.Decides.{nat_tests}
 use Rattle.std.proofs.Math.Nat.{mul-le-mul_left, mul-le-mul_right, mul_assoc, pow-succ'}
 use Rattle.due_tree.specs.Due.{is_due}
@@ -56,6 +57,21 @@ put_next leaves cells cell h within = climbs leaves cells cell (least_below cell
 -- nothing is wrong where only the cell 0 may be
 pub put_last : (leaves : ℕ) (cells : List (Option ℕ)) → IsTreeBut leaves cells 0 → IsTree leaves cells
 put_last leaves cells h node low high = h node low high (let ne : node ≢ 0 = omega arith in ne)
+
+-- nor where the cell that may be wrong is not
+pub put_same : (leaves : ℕ) (cells : List (Option ℕ)) (cell : ℕ) → IsTreeBut leaves cells cell → at cells cell ≡ least_below cells cell → IsTree leaves cells
+put_same leaves cells cell h same node low high =
+    elim (cases_eq node cell) [
+      | inl is ↦ subst (λ k. at cells k ≡ least_below cells k) (sym is) same
+      | inr other ↦ h node low high other
+    ]
+
+-- what a test of two numbers says
+pub same_option : (a b : Option ℕ) → option_eq nat_eq a b ≡ true → a ≡ b
+same_option None None h = refl
+same_option None (Some y) h = cc
+same_option (Some x) None h = cc
+same_option (Some x) (Some y) h = let e : x ≡ y = eqb-true x y h in ap Some e
 
 -- building from the last cell down to the first
 pub mended : (leaves : ℕ) (cells : List (Option ℕ)) (cell : ℕ) → 1 ≤ cell → cell < length cells → ((node : ℕ) → cell < node → 1 ≤ node → node < leaves → at cells node ≡ least_below cells node)

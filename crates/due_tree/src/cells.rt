@@ -11,7 +11,7 @@ use std::alloc::AllocError;
 const MOST: usize = 1 << 58;
 
 /// Whether a number is there, and at most the bound.
-pub(crate) fn is_due(cell: Option<u64>, bound: u64) -> bool
+pub fn is_due(cell: Option<u64>, bound: u64) -> bool
     ensures { result ≡ is_due bound cell }
 {
     match cell {
@@ -20,8 +20,8 @@ pub(crate) fn is_due(cell: Option<u64>, bound: u64) -> bool
     }
 }
 
-/// The lesser of two numbers.
-fn lesser(a: Option<u64>, b: Option<u64>) -> Option<u64>
+/// The lesser of two numbers, of which each may be absent.
+pub fn lesser(a: Option<u64>, b: Option<u64>) -> Option<u64>
     ensures { result ≡ lesser a b }
 {
     match (a, b) {
@@ -62,7 +62,12 @@ pub(crate) fn put(cells: &mut [Option<u64>], leaves: usize, place: usize, number
     cells[leaves + place] = number;
     let mut node = (leaves + place) / 2;
     while node > 0 {
-        cells[node] = least_below(cells, node);
+        let least = least_below(cells, node);
+        // The cells above say what they did where this one does.
+        if cells[node] == least {
+            return;
+        }
+        cells[node] = least;
         node /= 2;
     }
 }

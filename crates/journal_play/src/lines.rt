@@ -5,7 +5,7 @@ ghost use Rattle.journal_play.specs.Keeping.{head_line};
 ghost use Rattle.journal_play.specs.Playing.{head_of};
 
 use crate::kept::Head;
-use std::alloc::{AllocError, Global};
+use std::alloc::AllocError;
 use sync_ids::Message;
 use sync_rules::{Fate, id_of};
 use sync_words::try_line;
@@ -22,15 +22,10 @@ pub fn make_head(message: &Message) -> Head
 }
 
 /// Adds the line of a held message.
-pub fn add_line(
-    alloc: Global,
-    state: Fate,
-    head: &Head,
-    text: &mut String,
-) -> Result<(), AllocError>
+pub fn add_line(state: Fate, head: &Head, text: &mut String) -> Result<(), AllocError>
     requires { state ≢ Fate.Unknown }
     ensures { OnOk result (string_bytes text.new ≡ string_bytes text.old ++ head_line state
         head.now) }
 {
-    try_line(alloc, state, &head.id, head.timestamp, head.len, text)
+    try_line(state, &head.id, head.timestamp, head.len, text)
 }

@@ -105,7 +105,7 @@ impl Play {
 
     /// What is printed: the lines so far, and then a line for each message that has none. It fails
     /// only for want of memory.
-    pub fn finish(self, alloc: Global) -> Result<String, AllocError>
+    pub fn finish(self, _alloc: Global) -> Result<String, AllocError>
         ensures { IfOk result (λ text. (clients : Meaning) (def : GroupValue)
             (records : List Record) → HasPlayed clients def records self
             → IsTextOf clients def records (string_bytes text)) }
@@ -117,7 +117,7 @@ impl Play {
             graph,
             mut text,
         } = self;
-        add_pending(alloc, held.as_slice(), &graph, &mut text)?;
+        add_pending(held.as_slice(), &graph, &mut text)?;
         Ok(text)
     }
 
@@ -212,8 +212,8 @@ impl Play {
     {
         match step {
             Step::Judge(n) => self.judge(alloc, clients, just, n),
-            Step::Invalid(n) => self.end(alloc, step, n, sync_rules::Fate::Invalid),
-            Step::Deliver(n) => self.end(alloc, step, n, sync_rules::Fate::Delivered),
+            Step::Invalid(n) => self.end(step, n, sync_rules::Fate::Invalid),
+            Step::Deliver(n) => self.end(step, n, sync_rules::Fate::Delivered),
         }
     }
 
@@ -241,13 +241,7 @@ impl Play {
     }
 
     // Ends the message of that number, as the step says, and adds its line.
-    fn end(
-        &mut self,
-        alloc: Global,
-        step: Step,
-        n: u32,
-        state: sync_rules::Fate,
-    ) -> Result<(), AllocError>
+    fn end(&mut self, step: Step, n: u32, state: sync_rules::Fate) -> Result<(), AllocError>
         requires next { next self.old.nodes ≡ Some step }
         requires ends { Ends step }
         requires number { step_number step ≡ n }
@@ -257,7 +251,7 @@ impl Play {
         ensures done { OnOk result (self.new.nodes ≡ after_step step self.old.nodes) }
     {
         let head = &self.held[n as usize];
-        add_line(alloc, state, head, &mut self.text)?;
+        add_line(state, head, &mut self.text)?;
         self.graph.apply(step);
         Ok(())
     }
@@ -289,30 +283,25 @@ fn answer_of(alloc: Global, judgement: &Judgement) -> Result<Judged, AllocError>
 
 // ---- the messages that have no end
 
-fn add_if_open(alloc: Global, fate: Fate, head: &Head, text: &mut String) -> Result<(), AllocError>
+fn add_if_open(fate: Fate, head: &Head, text: &mut String) -> Result<(), AllocError>
     ensures { OnOk result (string_bytes text.new ≡ string_bytes text.old ++ open_line fate
         head.now) }
 {
     match fate {
-        Fate::Unknown | Fate::Pending => add_line(alloc, sync_rules::Fate::Pending, head, text),
+        Fate::Unknown | Fate::Pending => add_line(sync_rules::Fate::Pending, head, text),
         Fate::Invalid | Fate::Delivered => Ok(()),
     }
 }
 
 // Adds a line for each message whose node has no end.
-fn add_pending(
-    alloc: Global,
-    held: &[Head],
-    graph: &Graph,
-    text: &mut String,
-) -> Result<(), AllocError>
+fn add_pending(held: &[Head], graph: &Graph, text: &mut String) -> Result<(), AllocError>
     requires each { length graph.now.nodes ≡ length held.now }
     requires few { length held.now < 2 ^ 32 }
     ensures { OnOk result (string_bytes text.new ≡ string_bytes text.old ++ open_text held.now
         graph.now.nodes) }
 {
     for (n, head) in held.iter().enumerate() {
-        add_if_open(alloc, graph.fate(n as u32), head, text)?;
+        add_if_open(graph.fate(n as u32), head, text)?;
     }
     Ok(())
 }

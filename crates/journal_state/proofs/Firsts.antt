@@ -3,6 +3,7 @@ use Rattle.std.proofs.Common.{◌≡◌, ℕ, suc, ◌+◌, Bool, true, false, c
 use Rattle.std.specs.List.{position_from}
 use Rattle.std.specs.Option.{option_map}
 use Rattle.std.proofs.lemmas.Bool.{false≢true}
+use Rattle.std.proofs.lemmas.Option.{slice_get-map}
 use Rattle.std.proofs.lemmas.Iterator.Adapters.{position_from-zero}
 use Rattle.sync_rules.specs.Lists.{same_id}
 use Rattle.sync_rules.specs.Facts.{Held, Id}
@@ -50,8 +51,15 @@ number_from (h ∷ hs) (n ∷ ns) i e d =
       | false ↦ number_from hs ns (i + 1) rest d ∙ one_further i (place_of hs d)
     ]
 
-number_same : (hs : List Held) (ns : List Node) → map (λ (n : Node). n.name) ns ≡ map (λ (h : Held). h.id) hs → (d : Id) → nodes.number_of ns d ≡ place_of hs d
+-- a node's name and its message's id are found at one number
+pub number_same : (hs : List Held) (ns : List Node) → map (λ (n : Node). n.name) ns ≡ map (λ (h : Held). h.id) hs → (d : Id) → nodes.number_of ns d ≡ place_of hs d
 number_same hs ns e d = position_is (λ (node : Node). nodes.same_name d node.name) ns ∙ (number_from hs ns 0 e d ∙ from_zero (place_of hs d))
+
+-- the name of the node of a number is the id of its message
+pub name_same : (hs : List Held) (ns : List Node) → map (λ (n : Node). n.name) ns ≡ map (λ (h : Held). h.id) hs → (n : ℕ)
+    → option_map (λ (x : Node). x.name) (slice_get ns n) ≡ option_map (λ (h : Held). h.id) (slice_get hs n)
+name_same hs ns e n =
+    sym (slice_get-map (λ (x : Node). x.name) ns n) ∙ (ap (λ (ids : List Id). slice_get ids n) e ∙ slice_get-map (λ (h : Held). h.id) hs n)
 
 -- ---- the first dependencies
 

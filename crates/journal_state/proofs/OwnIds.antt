@@ -1,9 +1,9 @@
--- Messages that are held under their own ids, and one more.
-use Rattle.std.proofs.Common.{List, [], ◌∷◌, ◌++◌}
+-- Messages that are kept are held under their own ids.
+use Rattle.std.proofs.Common.{List, [], ◌∷◌, map, refl}
 use Rattle.std.specs.List.{AllByRecursion}
-use Rattle.sync_rules.specs.Facts.{Held}
-use Rattle.journal_state.specs.Holding.{IsOwnId}
+use Rattle.journal_state.specs.declared.messages.KeptMessage.{KeptMessage}
+use Rattle.journal_state.specs.Holding.{IsOwnId, held_of}
 
-pub own_push : (hs : List Held) (h : Held) → AllByRecursion IsOwnId hs → IsOwnId h → AllByRecursion IsOwnId (hs ++ h ∷ [])
-own_push [] h all is = (is, tt)
-own_push (x ∷ hs) h all is = (all.0, own_push hs h all.1 is)
+pub own_kept : (ks : List KeptMessage) → AllByRecursion IsOwnId (map held_of ks)
+own_kept [] = tt
+own_kept (k ∷ ks) = (refl, own_kept ks)

@@ -2,7 +2,6 @@
 use Rattle.std.proofs.Common.{◌≡◌, ℕ, zero, suc, ◌+◌, ◌-◌, ◌<◌, ◌≤◌, max, Bool, true, false, nat_eq, List, [], ◌∷◌, ◌++◌, length, map, set, replicate, slice_index_or, refl, sym, ◌∙◌, ap, subst, arith, eqb-true, length-append, Result, Ok, Err, OnOk, OnErr}
 use Rattle.std.proofs.lemmas.Bool.{false≢true}
 use Rattle.std.proofs.lemmas.List.{length-set, length-replicate}
-use Rattle.sync_rules.specs.Facts.{row_heard, row_seen}
 use Rattle.retry_table.specs.Table as retry
 use Rattle.journal_state.specs.Room.{KeepsRoom, room_in, rows_room, wants_room}
 use Rattle.journal_state.specs.Taking.{Spends}
@@ -31,11 +30,6 @@ set_there (x ∷ xs) zero zero v d apart = absurd (apart refl)
 set_there (x ∷ xs) zero (suc m) v d apart = refl
 set_there (x ∷ xs) (suc n) zero v d apart = refl
 set_there (x ∷ xs) (suc n) (suc m) v d apart = set_there xs n m v d (λ e. apart (ap suc e))
-
-set_twice : {A : Type 0} (xs : List A) (n : ℕ) (v w : A) → set (set xs n v) n w ≡ set xs n w
-set_twice [] n v w = refl
-set_twice (x ∷ xs) zero v w = refl
-set_twice (x ∷ xs) (suc n) v w = ap (λ ys. x ∷ ys) (set_twice xs n v w)
 
 none_more : {A : Type 0} (d : A) (k n : ℕ) → slice_index_or (replicate k d) n d ≡ d
 none_more d zero n = refl
@@ -120,20 +114,6 @@ module _ (old new : retry.Table) (contact n : ℕ) (kept : retry.KeptRow) (k : r
       (λ e. ap (λ x. length (retry.rows_of new x)) e
       ∙ (ap (λ (ks : List retry.KeptRow). length ks) k.here ∙ (length-set (retry.rows_of old contact) n kept ∙ ap (λ x. length (retry.rows_of old x)) (sym e))))
       (λ away. ap (λ (ks : List retry.KeptRow). length ks) (k.others c away))
-
--- a row seen and then owed is heard
-pub heard_twice : (a b d : retry.Table) (contact n : ℕ) → n < length (retry.rows_of a contact)
-    → retry.Keeps a b contact n (retry.with_row row_seen (retry.kept_at a contact n))
-    → retry.Keeps b d contact n (retry.with_row retry.row_owed (retry.kept_at b contact n))
-    → retry.Keeps a d contact n (retry.with_row row_heard (retry.kept_at a contact n))
-heard_twice a b d contact n within one two = record {
-  here =
-      two.here
-      ∙ ((λ i. set (one.here i) n (retry.with_row retry.row_owed (kept_here a b contact n (retry.with_row row_seen (retry.kept_at a contact n)) one within i)))
-      ∙ set_twice (retry.rows_of a contact) n (retry.with_row row_seen (retry.kept_at a contact n)) (retry.with_row row_heard (retry.kept_at a contact n)));
-  others = λ c apart. two.others c apart ∙ one.others c apart;
-  wants = two.wants ∙ one.wants;
-}
 
 -- ---- room kept
 

@@ -1,14 +1,12 @@
 -- What a state knows of judgements, and the room that is left, once it took an entry.
-use Rattle.std.proofs.Common.{◌≡◌, true, false, cond, List, [], ◌∷◌, ◌++◌, map, None, Some, is_some, refl, sym, subst, ◌∙◌, ap, arith}
+use Rattle.std.proofs.Common.{◌≡◌, map, sym, subst, ◌∙◌, ap, arith}
 use Rattle.sync_rules.specs.declared.entries.Entry.{Entry}
 use Rattle.sync_rules.specs.Clients.{Meaning}
-use Rattle.sync_rules.specs.Facts.{Facts, Held, after, held_at, is_held, start_after}
-use Rattle.sync_rules.specs.Lists.{same_id}
+use Rattle.sync_rules.specs.Facts.{Facts, after, start_after}
 use Rattle.sync_rules.specs.Steps.{answer_of}
 use Rattle.journal_state.specs.Room.{Room, KeepsRoom}
 use Rattle.journal_state.specs.Taking.{Moves, Spends, Takes, moved, noted}
 use Rattle.journal_state.specs.Whole.{Knows, StateValue}
-use Rattle.journal_state.proofs.Places.{id_itself}
 
 -- the answers for facts that are those after an entry
 pub took : (clients : Meaning) (old new : Facts) (e : Entry) → new ≡ moved old e
@@ -56,12 +54,3 @@ spends_kept a b c s k = record {
   rows = λ contact. let g = s.rows contact in let h = k.rows contact in omega (arith, g, h);
   wants = λ contact. let g = s.wants contact in let h = k.wants contact in omega (arith, g, h);
 }
-
--- the message at the end is held
-pub end_held : (hs : List Held) (h : Held) → is_held (hs ++ h ∷ []) h.id ≡ true
-end_held [] h = ap (λ b. is_some (cond b (Some h) None)) (id_itself h.id)
-end_held (x ∷ hs) h =
-    elim (same_id x.id h.id) as (λ b. is_some (cond b (Some x) (held_at (hs ++ h ∷ []) h.id)) ≡ true) [
-      | true ↦ refl
-      | false ↦ end_held hs h
-    ]

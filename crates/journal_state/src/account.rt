@@ -69,7 +69,7 @@ impl State {
         ensures knows { IfOk result (λ s. (clients : Meaning) → Knows clients s) }
     {
         let table = self.table.groups_alone(alloc)?;
-        State::over(alloc, self.messages.hasher(), table)
+        State::over(alloc, self.graph.hasher(), table)
     }
 
     /// The held message of this number of another state is kept, and told with the steps that are
@@ -157,7 +157,7 @@ impl State {
         ensures few { result.tries ≤ 64 }
         ensures wait { result.tries ≡ 0 → result.expiry ≡ 0 }
     {
-        self.retry.tried(contact, n, self.messages.id(n))
+        self.retry.tried(contact, n, self.id_at(n))
     }
 
     /// Forgets the sessions, but how many have begun: the state is then that of a brief account of

@@ -57,13 +57,15 @@ impl State {
         ensures err { OnErr result (self.new.facts ≡ self.old.facts) }
         ensures knows { Knows (C.meaning clients.now) self.new }
     {
-        match self.next_step() {
-            Some(step) if same_entry(&step, entry) => {
-                self.step(alloc, clients)?;
-                Ok(true)
-            }
-            _ => Ok(false),
+        let Some(step) = self.open_step() else {
+            return Ok(false);
+        };
+        let open = self.entry_of(step);
+        if !same_entry(&open, entry) {
+            return Ok(false);
         }
+        self.make(alloc, clients, step, &open)?;
+        Ok(true)
     }
 
     /// Makes steps as long as they are these entries, and answers whether all were. It fails only

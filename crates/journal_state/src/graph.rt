@@ -69,6 +69,26 @@ impl CountedGraph {
         number
     }
 
+    /// The number of the node that has the name; `None` exactly where the name is new.
+    pub(crate) fn number(&self, name: &[u8; 32]) -> Option<u32>
+        ensures { result ≡ number_of self.now.nodes name.now }
+    {
+        self.graph.number(name)
+    }
+
+    /// The name of a node.
+    pub(crate) fn name(&self, n: u32) -> [u8; 32]
+        requires { n < length self.now.nodes }
+        ensures { option_map (λ node. node.name) (slice_get self.now.nodes n) ≡ Some result }
+    {
+        self.graph.name(n)
+    }
+
+    /// What hashes names.
+    pub(crate) fn hasher(&self) -> RandomState {
+        self.graph.hasher()
+    }
+
     /// Takes the answer of a message's client, which is the next step. After an error all is as
     /// before.
     pub(crate) fn judged(&mut self, n: u32, answer: Judged) -> Result<(), AllocError>

@@ -25,9 +25,9 @@ fn unwant_from_all(retry: &mut Retry, contacts: u32, id: &MessageId)
 }
 
 impl State {
-    /// Holds a message under its id, where its group is known and the id is new; it is then wanted
-    /// from nobody.
-    pub(crate) fn hold(&mut self, id: MessageId, message: Message, origin: Origin)
+    /// Holds a message under its id, where its group is known and the id is new, and answers its
+    /// arrival number; it is then wanted from nobody.
+    pub(crate) fn hold(&mut self, id: MessageId, message: Message, origin: Origin) -> u32
         requires named { id ≡ message_id_of message }
         requires can { CanHold self.old.facts message }
         requires room { 1 ≤ self.old.room.entries }
@@ -39,15 +39,17 @@ impl State {
           } ∷ [];
           wanted = wanted_by_none self.old.facts.wanted (message_id_of message);
         } }
+        ensures number { result ≡ length self.old.facts.held }
         ensures knows { (clients : Meaning) → Knows clients self.old → Knows clients self.new }
         ensures room { Spends self.old.room self.new.room }
     {
         let group = self.table.group(&message.group()).unwrap();
         self.space -= 1;
-        self.graph.hold(id.0, group);
+        let number = self.graph.hold(id.0, group);
         self.shares.push(false).unwrap();
         // Nothing is wanted from a contact that is not known.
         unwant_from_all(&mut self.retry, self.table.contacts(), &id);
-        self.messages.hold(id, message, origin);
+        self.messages.hold(message, origin);
+        number
     }
 }

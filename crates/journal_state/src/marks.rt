@@ -2,13 +2,15 @@
 ghost use Rattle.std.specs.Prelude.{◌≡◌, ◌<◌, ◌≤◌, true, length};
 ghost use Rattle.std.specs.List.{list_all};
 ghost use Rattle.retry_table.specs.Table.{rows_of, kept_at, with_row, Keeps};
-ghost use Rattle.sync_rules.specs.Facts.{change_row, change_rows, is_held, row_heard};
+ghost use Rattle.sync_rules.specs.Facts.{change_row, change_rows, is_held};
 ghost use Rattle.journal_state.specs.Marks.{marked};
 ghost use Rattle.journal_state.specs.Room.{rows_room, KeepsRoom};
+ghost use Rattle.journal_state.specs.Whole.{id_at};
 
 use crate::state::State;
 use retry_table::Retry;
 use sync_ids::MessageId;
+use sync_rules::View;
 
 /// What is noted of a held message for a contact. Times and latencies are in milliseconds.
 #[derive(Clone, Copy)]
@@ -34,7 +36,7 @@ pub(crate) fn mark_row(retry: &mut Retry, contact: u8, n: u32, mark: Mark)
         (with_row (marked mark) (kept_at retry.old contact n)) }
 {
     match mark {
-        Mark::Heard => hear(retry, contact, n),
+        Mark::Heard => retry.hear(contact, n),
         Mark::Seen => retry.saw(contact, n),
         Mark::Asked => retry.ask(contact, n),
         Mark::Acked => retry.paid(contact, n),
@@ -43,17 +45,22 @@ pub(crate) fn mark_row(retry: &mut Retry, contact: u8, n: u32, mark: Mark)
     }
 }
 
-/// The contact has the message and waits for our acknowledgement.
-fn hear(retry: &mut Retry, contact: u8, n: u32)
-    requires { n < length (rows_of retry.old contact) }
-    ensures { Keeps retry.old retry.new contact n
-        (with_row row_heard (kept_at retry.old contact n)) }
-{
-    retry.saw(contact, n);
-    retry.owe(contact, n);
-}
-
 impl State {
+    /// Notes it of the held message of this number, for a contact that has room for the rows of all
+    /// held messages.
+    pub(crate) fn mark_at(&mut self, contact: u8, n: u32, mark: Mark)
+        requires held { n < length self.old.facts.held }
+        requires room { length self.old.facts.held ≤ rows_room self.old.room contact }
+        ensures facts { self.new.facts ≡ record self.old.facts {
+          rows = change_row self.old.facts.rows contact (id_at self.old.facts.held n)
+              (marked mark);
+        } }
+        ensures answers { self.new.answers ≡ self.old.answers }
+        ensures room { KeepsRoom self.old.room self.new.room }
+    {
+        mark_row(&mut self.retry, contact, n, mark);
+    }
+
     /// Notes it of a held message, for a contact that has room for the rows of all held messages.
     pub(crate) fn mark(&mut self, contact: u8, id: &MessageId, mark: Mark)
         requires held { is_held self.old.facts.held id.now ≡ true }
@@ -63,8 +70,8 @@ impl State {
         ensures answers { self.new.answers ≡ self.old.answers }
         ensures room { KeepsRoom self.old.room self.new.room }
     {
-        let number = self.messages.find(id).unwrap();
-        mark_row(&mut self.retry, contact, number, mark);
+        let number = self.find(id).unwrap();
+        self.mark_at(contact, number, mark);
     }
 
     /// Notes it of each of these held messages, one after the other.

@@ -78,7 +78,7 @@ impl State {
         ensures answers { self.new.answers ≡ self.old.answers }
     {
         self.show_sound();
-        let Some(number) = self.messages.find(&tried.id) else {
+        let Some(number) = self.find(&tried.id) else {
             return Ok(false);
         };
         if !self.may_restore(tried, number) {

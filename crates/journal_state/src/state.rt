@@ -15,7 +15,7 @@ use retry_table::Retry;
 use std::alloc::{AllocError, Global};
 use std::hash::RandomState;
 use std::marker::Model;
-use sync_ids::{GroupDef, GroupId, Message, MessageId};
+use sync_ids::{Fixed, GroupDef, GroupId, Message, MessageId};
 use sync_rules::{Origin, Start};
 use visibility_table::Levels;
 
@@ -93,7 +93,7 @@ impl State {
         Ok(State {
             start: Start::Empty,
             table,
-            messages: Messages::new(alloc, hasher),
+            messages: Messages::new(alloc),
             sessions: Sessions::new(alloc),
             graph,
             shares: Vec::new(alloc),
@@ -180,7 +180,7 @@ impl State {
         requires { n < length self.now.facts.held }
         ensures { option_map (λ h. h.id) (slice_get self.now.facts.held n) ≡ Some result }
     {
-        self.messages.id(n)
+        Fixed(self.graph.name(n))
     }
 
     /// Where the held message of this arrival number came from; the number is below the number of

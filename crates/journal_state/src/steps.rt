@@ -1,5 +1,8 @@
 //! The next step of a journal.
-ghost use Rattle.std.specs.Prelude.{◌≡◌, ◌+◌, ◌<◌, ◌≤◌, ◌↔◌, length, IsTrue, IfOk, IfSome, OnErr};
+ghost use Rattle.std.specs.Prelude.{◌≡◌, ◌+◌, ◌<◌, ◌≤◌, ◌↔◌, length, IsTrue, IfOk, IfSome, OnOk};
+ghost use Rattle.std.specs.Prelude.{OnErr, Some};
+ghost use Rattle.std.specs.Option.{option_map};
+ghost use Rattle.sync_rules.specs.Facts.{after};
 ghost use Rattle.sync_rules.specs.Left.{left_of};
 ghost use Rattle.sync_rules.specs.Clients.{Meaning};
 ghost use Rattle.sync_rules.specs.Steps.{next, IsSettled};
@@ -19,8 +22,19 @@ impl State {
         ensures { (clients : Meaning) → Knows clients self.now
             → result ≡ next clients self.now.facts }
     {
-        let step = self.graph.next()?;
+        let step = self.open_step()?;
         Some(self.entry_of(step))
+    }
+
+    /// The next step by the number of its message. `None` comes exactly where the journal is
+    /// settled.
+    pub(crate) fn open_step(&self) -> Option<Step>
+        ensures next { (clients : Meaning) → Knows clients self.now
+            → option_map (entry_of (id_at self.now.facts.held)) result ≡ next clients
+            self.now.facts }
+        ensures within { IfSome result (λ s. step_number s < length self.now.facts.held) }
+    {
+        self.graph.next()
     }
 
     /// Makes the next step, and answers its entry; `None` comes exactly where the journal is
@@ -39,22 +53,45 @@ impl State {
         ensures err { OnErr result ((self.new.facts ≡ self.old.facts)
             × (self.new.answers ≡ self.old.answers)) }
     {
-        let Some(step) = self.graph.next() else {
+        let Some(step) = self.open_step() else {
             return Ok(None);
         };
         let entry = self.entry_of(step);
+        self.make(alloc, clients, step, &entry)?;
+        Ok(Some(entry))
+    }
+
+    /// Makes the next step, which has this entry. It fails only for want of memory, and then the
+    /// facts and the answers are as before.
+    pub(crate) fn make<C: Clients>(
+        &mut self,
+        alloc: Global,
+        clients: &C,
+        step: Step,
+        entry: &Entry,
+    ) -> Result<(), AllocError>
+        requires knows { Knows (C.meaning clients.now) self.old }
+        requires within { step_number step < length self.old.facts.held }
+        requires entry { entry.now ≡ entry_of (id_at self.old.facts.held) step }
+        requires next { next (C.meaning clients.now) self.old.facts ≡ Some entry.now }
+        ensures facts { OnOk result (self.new.facts ≡ after self.old.facts entry.now) }
+        ensures left { OnOk result (left_of self.new.facts + 1 ≤ left_of self.old.facts) }
+        ensures knows { Knows (C.meaning clients.now) self.new }
+        ensures err { OnErr result ((self.new.facts ≡ self.old.facts)
+            × (self.new.answers ≡ self.old.answers)) }
+    {
         laws::left();
         match step {
             Step::Judge(n) => self.judge(alloc, clients, n)?,
             Step::Invalid(n) => self.refuse(n),
             Step::Deliver(n) => self.deliver(n)?,
         }
-        self.note(&entry);
-        Ok(Some(entry))
+        self.note(entry);
+        Ok(())
     }
 
     /// The entry of a step.
-    fn entry_of(&self, step: Step) -> Entry
+    pub(crate) fn entry_of(&self, step: Step) -> Entry
         requires { step_number step < length self.now.facts.held }
         ensures { result ≡ entry_of (id_at self.now.facts.held) step }
     {

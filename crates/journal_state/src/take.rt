@@ -139,8 +139,8 @@ impl State {
     {
         let contact = self.known_session(session).contact;
         let id = id_known(known, &message);
-        self.hold(id, message, Origin::From(contact));
-        self.mark(contact, &id, Mark::Heard);
+        let number = self.hold(id, message, Origin::From(contact));
+        self.mark_at(contact, number, Mark::Heard);
     }
 
     /// A held message was sent or offered again.

@@ -19,7 +19,7 @@ impl View for State {
     }
 
     fn find(&self, id: &MessageId) -> Option<u32> {
-        self.messages.find(id)
+        self.graph.number(&id.0)
     }
 
     fn group_at(&self, n: u32) -> GroupId {
@@ -49,7 +49,7 @@ impl View for State {
 
     fn next_send(&self, contact: u8, mode: Mode, now: u64) -> Option<MessageId> {
         let number = self.retry.due_message(contact, mode, now)?;
-        Some(self.messages.id(number))
+        Some(self.id_at(number))
     }
 
     fn offers(&self, alloc: Global, contact: u8, now: u64) -> Result<Vec<MessageId>, AllocError> {

@@ -11,6 +11,7 @@ ghost use Rattle.journal_state.specs.Taking.{Spends};
 use crate::state::State;
 use retry_table::Retry;
 use sync_ids::MessageId;
+use sync_rules::View;
 
 /// Puts an id at the end of those wanted from the contact, unless its message is held or the id is
 /// among them.
@@ -49,7 +50,7 @@ impl State {
         ensures answers { self.new.answers ≡ self.old.answers }
         ensures room { Spends self.old.room self.new.room }
     {
-        let held = self.messages.find(&id).is_some();
+        let held = self.find(&id).is_some();
         want_id(&mut self.retry, contact, id, held);
     }
 

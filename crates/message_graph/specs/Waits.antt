@@ -75,10 +75,6 @@ has_step waiting.Doomed = true
 has_step (waiting.Missing count) = none_missing count
 has_step waiting.Ended = false
 
--- the mark of a node in the tree of those that have a step
-abbrev pub mark : Waiting → Option ℕ
-mark wait = if has_step wait then Some 0 else None
-
 -- what is left to wait for of `count` missing ones, after the news of one of them, for a node of the group
 abbrev pub missing_after : News → ℕ → ℕ → Option ℕ
 missing_after (news.Arrived other) group count = if other == group then Some count else None

@@ -121,6 +121,19 @@ impl Graph {
         self.index.holder(name)
     }
 
+    /// The name of a node; the number is below the number of nodes.
+    pub fn name(&self, n: u32) -> [u8; 32]
+        requires { n < length self.now.nodes }
+        ensures { option_map (λ node. node.name) (slice_get self.now.nodes n) ≡ Some result }
+    {
+        self.nodes[n as usize].name
+    }
+
+    /// What hashes names.
+    pub fn hasher(&self) -> RandomState {
+        self.index.hasher()
+    }
+
     /// Takes the answer of a message's client, which is the next step. After an error all is as
     /// before.
     pub fn judged(&mut self, n: u32, answer: Judged) -> Result<(), AllocError>

@@ -1,6 +1,6 @@
 //! Names, who holds each, and who waits for each.
-ghost use Rattle.std.specs.Prelude.{◌≡◌, ◌+◌, ◌-◌, ◌<◌, ◌≤◌, ◌++◌, ◌∷◌, [], IfOk, OnOk, OnErr};
-ghost use Rattle.std.specs.Prelude.{IfSome, Some, None, ℕ, List, length, if◌then◌else◌, slice_get};
+ghost use Rattle.std.specs.Prelude.{◌≡◌, ◌+◌, ◌-◌, ◌^◌, ◌<◌, ◌≤◌, ◌++◌, ◌∷◌, [], true, IfOk, OnOk};
+ghost use Rattle.std.specs.Prelude.{OnErr, IfSome, Some, None, ℕ, List, length, if◌then◌else◌, slice_get};
 ghost use Rattle.std.specs.Prelude.{map, slice_index_or};
 ghost use Rattle.message_graph.specs.Nodes.{same_name};
 ghost use Rattle.message_graph.specs.Links.{place_of, holder_of, edge_at, last_before};
@@ -43,20 +43,20 @@ impl Hash for Key {
 }
 
 /// What is kept for a name: the number of the node that holds it, and the last edge of those who
-/// wait for it.
+/// wait for it. Numbers, places and edges have four bytes each, since there are many of them.
 #[derive(Clone, Copy)]
 pub(crate) struct Slot {
     pub(crate) holder: Option<u32>,
-    pub(crate) last: Option<usize>,
+    pub(crate) last: Option<u32>,
 }
 
 /// One node that waits for one name: the name's place, the node's number, and the edge before it of
 /// the same name.
 #[derive(Clone, Copy)]
 pub(crate) struct Edge {
-    pub(crate) place: usize,
+    pub(crate) place: u32,
     pub(crate) waiter: u32,
-    pub(crate) before: Option<usize>,
+    pub(crate) before: Option<u32>,
 }
 
 /// Names, also those that no node holds yet, with their holders and waiters, and the place of each
@@ -65,12 +65,12 @@ pub(crate) struct Edge {
 pub(crate) struct Index {
     names: IndexSet<Key, RandomState>,
     slots: Vec<Slot>,
-    places: Vec<usize>,
+    places: Vec<u32>,
     edges: Vec<Edge>,
 }
 
 impl Model for Index {
-    ghost use Rattle.std.specs.Prelude.{◌-◌, length, map, min, vec_capacity};
+    ghost use Rattle.std.specs.Prelude.{◌-◌, ◌^◌, length, map, min, vec_capacity};
     ghost use Rattle.indexmap.specs.IndexSet.{spare};
     ghost use Rattle.message_graph.specs.Links.{Links, named, IsLinked, IsPlaced};
 
@@ -84,8 +84,10 @@ impl Model for Index {
         room = vec_capacity i.places - length i.places.items;
       };
       edges = map (named i.names.keys) i.edges.items;
-      room = min (spare i.names) (vec_capacity i.slots - length i.slots.items);
-      edge_room = vec_capacity i.edges - length i.edges.items;
+      room = min (2 ^ 32 - 1 - length i.names.keys)
+          (min (spare i.names) (vec_capacity i.slots - length i.slots.items));
+      edge_room = min (2 ^ 32 - 1 - length i.edges.items)
+          (vec_capacity i.edges - length i.edges.items);
     } };
 
     ghost invariant = { λ i. IsLinked i.names.keys i.slots.items i.edges.items
@@ -113,9 +115,17 @@ fn first_holders(
     // From the last edge to the first: what stays of each node is its first one's.
     'edges: for behind in 0..count {
         let edge = edges[count - 1 - behind];
-        firsts[edge.waiter as usize] = slots[edge.place].holder;
+        firsts[edge.waiter as usize] = slots[edge.place as usize].holder;
     }
     Ok(firsts)
+}
+
+/// Whether that many more can be numbered in four bytes beside those that are.
+fn can_number(used: usize, more: usize) -> bool
+    ensures { result ≡ true → more ≤ 2 ^ 32 - 1 - used }
+{
+    let most = u32::MAX as usize;
+    used <= most && more <= most - used
 }
 
 impl Index {
@@ -133,7 +143,7 @@ impl Index {
         }
     }
 
-    /// Makes room for that many more names and edges.
+    /// Makes room for that many more names and edges; of each there are fewer than 2^32.
     pub(crate) fn reserve(&mut self, names: usize, edges: usize) -> Result<(), AllocError>
         ensures names { self.new.names ≡ self.old.names }
         ensures holders { self.new.holders ≡ self.old.holders }
@@ -143,6 +153,9 @@ impl Index {
         ensures ok { OnOk result (names ≤ self.new.room) }
         ensures edge_room { OnOk result (edges ≤ self.new.edge_room) }
     {
+        if !can_number(self.names.len(), names) || !can_number(self.edges.len(), edges) {
+            return Err(AllocError);
+        }
         self.names.reserve(names)?;
         self.slots.reserve(names)?;
         self.edges.reserve(edges)
@@ -171,29 +184,34 @@ impl Index {
         self.slots[place].holder
     }
 
+    /// What hashes names.
+    pub(crate) fn hasher(&self) -> RandomState {
+        *self.names.hasher()
+    }
+
     /// The last edge of those who wait for the name of the node of this number.
-    pub(crate) fn last(&self, number: u32) -> Option<usize>
+    pub(crate) fn last(&self, number: u32) -> Option<u32>
         requires { number < self.now.numbers.count }
         ensures { (name : List ℕ) → holder_of self.now name ≡ Some number
             → result ≡ last_before self.now.edges name (length self.now.edges) }
     {
-        self.slots[self.places[number as usize]].last
+        self.slots[self.places[number as usize] as usize].last
     }
 
     /// The number of the node that waits by the edge.
-    pub(crate) fn waiter(&self, edge: usize) -> u32
+    pub(crate) fn waiter(&self, edge: u32) -> u32
         requires { edge < length self.now.edges }
         ensures { result ≡ (edge_at self.now.edges edge).1 }
     {
-        self.edges[edge].waiter
+        self.edges[edge as usize].waiter
     }
 
     /// The edge before this one of the same name.
-    pub(crate) fn before(&self, edge: usize) -> Option<usize>
+    pub(crate) fn before(&self, edge: u32) -> Option<u32>
         requires { edge < length self.now.edges }
         ensures { result ≡ last_before self.now.edges (edge_at self.now.edges edge).0 edge }
     {
-        self.edges[edge].before
+        self.edges[edge as usize].before
     }
 
     /// Of each node the number of the node that holds the name of its first edge, in so many nodes.
@@ -210,7 +228,7 @@ impl Index {
     }
 
     /// The place of a name, which is added where it is new.
-    fn place(&mut self, name: [u8; 32]) -> usize
+    fn place(&mut self, name: [u8; 32]) -> u32
         requires { 0 < self.old.room }
         ensures place { place_of self.new.names name ≡ Some result }
         ensures edges { self.new.edges ≡ self.old.edges }
@@ -221,18 +239,18 @@ impl Index {
     {
         let (place, is_new) = self.names.insert_full(Key(name)).unwrap();
         if !is_new {
-            return place;
+            return place as u32;
         }
         let slot = Slot {
             holder: None,
             last: None,
         };
         self.slots.push(slot).unwrap();
-        place
+        place as u32
     }
 
     /// The next node holds the name from now on; answers the last edge of those who wait for it.
-    pub(crate) fn hold(&mut self, name: [u8; 32], number: u32) -> Option<usize>
+    pub(crate) fn hold(&mut self, name: [u8; 32], number: u32) -> Option<u32>
         requires room { 0 < self.old.room }
         requires numbers { 0 < self.old.numbers.room }
         requires next { number ≡ self.old.numbers.count }
@@ -247,7 +265,7 @@ impl Index {
     {
         let place = self.place(name);
         self.places.push(place).unwrap();
-        let slot = &mut self.slots[place];
+        let slot = &mut self.slots[place as usize];
         slot.holder = Some(number);
         slot.last
     }
@@ -263,15 +281,15 @@ impl Index {
         ensures edge_room { self.old.edge_room ≤ self.new.edge_room + 1 }
     {
         let place = self.place(name);
-        let edge = self.edges.len();
-        let before = self.slots[place].last;
+        let edge = self.edges.len() as u32;
+        let before = self.slots[place as usize].last;
         let edge_to = Edge {
             place,
             waiter,
             before,
         };
         self.edges.push(edge_to).unwrap();
-        let slot = &mut self.slots[place];
+        let slot = &mut self.slots[place as usize];
         slot.last = Some(edge);
     }
 }

@@ -4,7 +4,7 @@ ghost use Rattle.std.specs.Prelude.{length, slice_set, slice_get};
 ghost use Rattle.std.specs.List.{position_from};
 ghost use Rattle.message_graph.specs.Waits.{has_step, told, missing_after, from_missing};
 
-use due_tree::DueTree;
+use due_tree::Bits;
 use std::alloc::{AllocError, Global};
 use std::marker::Model;
 
@@ -31,13 +31,13 @@ pub(crate) enum News {
 #[derive(Drop)]
 pub(crate) struct States {
     waits: Vec<Waiting>,
-    ready: DueTree,
+    ready: Bits,
 }
 
 impl Model for States {
-    ghost use Rattle.std.specs.Prelude.{◌≡◌, ◌-◌, ◌≤◌, ◌++◌, length, map, replicate, None};
+    ghost use Rattle.std.specs.Prelude.{◌≡◌, ◌-◌, ◌≤◌, ◌++◌, length, map, replicate, false};
     ghost use Rattle.std.specs.Prelude.{vec_capacity};
-    ghost use Rattle.message_graph.specs.Waits.{Waits, mark};
+    ghost use Rattle.message_graph.specs.Waits.{Waits, has_step};
 
     ghost Value = { Waits };
 
@@ -46,8 +46,8 @@ impl Model for States {
       room = length s.ready - length s.waits.items;
     } };
 
-    ghost invariant = { λ s. (s.ready ≡ map mark s.waits.items ++ replicate
-        (length s.ready - length s.waits.items) None) × (length s.ready ≤ vec_capacity s.waits) };
+    ghost invariant = { λ s. (s.ready ≡ map has_step s.waits.items ++ replicate
+        (length s.ready - length s.waits.items) false) × (length s.ready ≤ vec_capacity s.waits) };
 }
 
 /// Whether a node that waits for this has a step.
@@ -84,7 +84,7 @@ impl States {
     pub(crate) fn new(alloc: Global) -> Result<States, AllocError>
         ensures { IfOk result (λ s. s ≡ record { waits = []; room = 0 }) }
     {
-        let ready = DueTree::new(alloc)?;
+        let ready = Bits::new(alloc)?;
         Ok(States {
             waits: Vec::new(alloc),
             ready,
@@ -117,7 +117,7 @@ impl States {
     {
         let place = self.waits.len();
         self.waits.push(Waiting::Unjudged).unwrap();
-        self.ready.set(place, 0);
+        self.ready.put(place, true);
     }
 
     /// What a node waits for.
@@ -133,24 +133,14 @@ impl States {
         requires { number < length self.old.waits }
         ensures { self.new ≡ record self.old { waits = slice_set self.old.waits number waiting } }
     {
-        let had = has_step(self.waits[number]);
-        let has = has_step(waiting);
         self.waits[number] = waiting;
-        // The tree changes only where a step comes or goes.
-        if had == has {
-            return;
-        }
-        if has {
-            self.ready.set(number, 0);
-        } else {
-            self.ready.clear(number);
-        }
+        self.ready.put(number, has_step(waiting));
     }
 
     /// The first node that has a step.
     pub(crate) fn first(&self) -> Option<usize>
         ensures { result ≡ position_from has_step 0 self.now.waits }
     {
-        self.ready.first_at_most(0)
+        self.ready.next(0)
     }
 }

@@ -17,7 +17,7 @@ pub(crate) fn tell(
     states: &mut States,
     index: &Index,
     nodes: &[Node],
-    last: Option<usize>,
+    last: Option<u32>,
     news: News,
 )
     requires many { length states.old.waits ≡ length nodes.now }

@@ -1,3 +1,4 @@
+pub mod BlockLaws
 pub mod Follows
 pub mod Listing
 pub mod WantedIds

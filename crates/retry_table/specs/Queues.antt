@@ -1,37 +1,73 @@
--- The queues of a contact over the numbers of its messages: what each has of a row, and that each is what the rows say.
-use Rattle.std.specs.Prelude.{◌≡◌, ℕ, ◌<◌, ◌≤◌, ◌^◌, not, cond, ◌&&◌, List, length, Option, None, Some, slice_index_or}
+-- The queues of a contact over the numbers of its messages: what each has of a row, and that each is what the rows say. A queue of
+-- times has a number for each block of 64 rows; the others are sets of rows.
+use Rattle.std.specs.Prelude.{◌≡◌, ℕ, zero, suc, ◌+◌, ◌*◌, ◌<◌, ◌≤◌, ◌^◌, Bool, true, false, not, cond, ◌&&◌, nat_lt, List, length, drop, Option, None, Some, slice_index_or}
+use Rattle.std.specs.List.{position_from}
+use Rattle.due_tree.specs.Due.{is_due}
+use Rattle.due_tree.specs.Cells.{lesser}
 use Rattle.retry_table.specs.Table.{KeptRow, kept_in}
 use Rattle.retry_table.specs.Due.{is_open}
+use Rattle.retry_table.specs.declared.blocks.Times.{Times}
+use Rattle.retry_table.specs.declared.blocks.Times.TheVariants as times
 
 -- in the queue of messages for batch mode: the expiry
 abbrev pub message_place : KeptRow → Option ℕ
 message_place kept = cond (is_open kept) (Some kept.row.expiry) None
 
--- in the queue of asked messages
-abbrev pub asked_place : KeptRow → Option ℕ
-asked_place kept = cond (is_open kept && kept.row.asked) (Some 0) None
-
 -- in the queue of offers: the expiry
 abbrev pub offer_place : KeptRow → Option ℕ
 offer_place kept = cond (is_open kept && not kept.row.asked) (Some kept.row.expiry) None
 
--- in the queue of owed acknowledgements
-abbrev pub owed_place : KeptRow → Option ℕ
-owed_place kept = cond kept.row.owed (Some 0) None
+abbrev pub time_place : Times → KeptRow → Option ℕ
+time_place times.ToSend kept = message_place kept
+time_place times.ToOffer kept = offer_place kept
 
--- what a queue has at a number
+-- in the set of asked messages
+abbrev pub is_awaited : KeptRow → Bool
+is_awaited kept = is_open kept && kept.row.asked
+
+-- whether a number is greater than another, or absent where that is there
+abbrev pub is_later : Option ℕ → Option ℕ → Bool
+is_later None None = false
+is_later (Some m) None = false
+is_later None (Some n) = true
+is_later (Some m) (Some n) = nat_lt n m
+
+-- the least number of so many rows, the first of them that one
+unfoldable pub least_from : Times → List KeptRow → ℕ → ℕ → Option ℕ
+least_from what rows first zero = None
+least_from what rows first (suc count) = lesser (time_place what (kept_in rows first)) (least_from what rows (first + 1) count)
+
+-- what a queue has at a place
 abbrev pub place_at : List (Option ℕ) → ℕ → Option ℕ
 place_at queue n = slice_index_or queue n None
 
--- a queue has at each number what the row there says
-pub record Follows (place : KeptRow → Option ℕ) (rows : List KeptRow) (queue : List (Option ℕ)) : Type 0 where
-  pub same : (n : ℕ) → place_at queue n ≡ place (kept_in rows n)
-  pub room : length rows ≤ length queue
-  pub small : length queue < 2 ^ 32
+-- a queue of times has for each block of 64 rows the least number of one
+pub record AreLeast (what : Times) (rows : List KeptRow) (queue : List (Option ℕ)) : Type 0 where
+  pub same : (block : ℕ) → place_at queue block ≡ least_from what rows (64 * block) 64
+  pub room : length rows ≤ 64 * length queue
+  pub small : length queue ≤ 2 ^ 32
+
+-- a row's number is there, and at most the bound
+abbrev pub is_timely : Times → ℕ → KeptRow → Bool
+is_timely what bound kept = is_due bound (time_place what kept)
+
+-- the first row from `from` on whose number is at most the bound
+abbrev pub next_timely : Times → ℕ → ℕ → List KeptRow → Option ℕ
+next_timely what from bound rows = position_from (is_timely what bound) from (drop from rows)
+
+-- no row from `low` to `high` has a number of at most the bound
+abbrev pub IsUntimely : Times → ℕ → List KeptRow → ℕ → ℕ → Type 0
+IsUntimely what bound rows low high = (n : ℕ) → low ≤ n → n < high → is_timely what bound (kept_in rows n) ≡ false
+
+-- a set has each row that passes the test
+pub record Follows (test : KeptRow → Bool) (rows : List KeptRow) (set : List Bool) : Type 0 where
+  pub same : (n : ℕ) → slice_index_or set n false ≡ test (kept_in rows n)
+  pub room : length rows ≤ length set
+  pub small : length set < 2 ^ 32
 
 -- all four queues of a contact
-pub record AreQueues (rows : List KeptRow) (messages asked offers owed : List (Option ℕ)) : Type 0 where
-  pub by_expiry : Follows message_place rows messages
-  pub by_request : Follows asked_place rows asked
-  pub by_offer : Follows offer_place rows offers
-  pub by_debt : Follows owed_place rows owed
+pub record AreQueues (rows : List KeptRow) (messages : List (Option ℕ)) (asked : List Bool) (offers : List (Option ℕ)) (owed : List Bool) : Type 0 where
+  pub by_expiry : AreLeast times.ToSend rows messages
+  pub by_request : Follows is_awaited rows asked
+  pub by_offer : AreLeast times.ToOffer rows offers
+  pub by_debt : Follows (λ kept. kept.row.owed) rows owed

@@ -51,6 +51,10 @@ with_ready ready kept = record kept { ready = ready }
 abbrev pub row_owed : Row → Row
 row_owed r = record r { owed = true }
 
+-- the contact sent the message: it has it, and our acknowledgement is owed
+abbrev pub row_heard : Row → Row
+row_heard r = record r { seen = true; owed = true }
+
 -- what is stated of a message for a contact, whatever was kept before
 abbrev pub row_restored : Tried → Row → Row
 row_restored t r = record { seen = t.seen; owed = t.owed; asked = t.asked; tries = t.tries; expiry = t.expiry }

@@ -2,6 +2,7 @@
 //! by a walk.
 #![tactic(auto)]
 
+mod blocks;
 mod places;
 mod queues;
 mod retry;

@@ -4,9 +4,10 @@ ghost use Rattle.std.specs.Prelude.{slice_set};
 ghost use Rattle.retry_table.specs.Table.{kept_in, with_numbers};
 ghost use Rattle.retry_table.specs.Due.{owed_in, message_in, offers_in};
 
-use crate::places::{due_places, put};
+use crate::blocks::{Times, mend, next_at_most};
+use crate::places::{set_places, timely_places};
 use crate::rows::KeptRow;
-use due_tree::DueTree;
+use due_tree::{Bits, DueTree};
 use std::alloc::{AllocError, Global};
 use std::marker::Model;
 use sync_rules::Mode;
@@ -17,9 +18,9 @@ use sync_rules::Mode;
 pub(crate) struct Queues {
     rows: Vec<KeptRow>,
     messages: DueTree,
-    asked: DueTree,
+    asked: Bits,
     offers: DueTree,
-    owed: DueTree,
+    owed: Bits,
 }
 
 impl Model for Queues {
@@ -40,9 +41,9 @@ impl Queues {
         ensures { IfOk result (λ q. q ≡ []) }
     {
         let messages = DueTree::new(alloc)?;
-        let asked = DueTree::new(alloc)?;
+        let asked = Bits::new(alloc)?;
         let offers = DueTree::new(alloc)?;
-        let owed = DueTree::new(alloc)?;
+        let owed = Bits::new(alloc)?;
         Ok(Queues {
             rows: Vec::new(alloc),
             messages,
@@ -62,9 +63,9 @@ impl Queues {
         if places <= self.rows.len() {
             return Ok(());
         }
-        self.messages.reserve(places)?;
+        self.messages.reserve(places / 64 + 1)?;
         self.asked.reserve(places)?;
-        self.offers.reserve(places)?;
+        self.offers.reserve(places / 64 + 1)?;
         self.owed.reserve(places)?;
         self.rows.resize(places, KeptRow::none())?;
         Ok(())
@@ -86,25 +87,32 @@ impl Queues {
         requires { n < length self.old }
         ensures { self.new ≡ slice_set self.old n row }
     {
+        let old = self.rows[n];
         self.rows[n] = row;
-        put(&mut self.messages, n, row.message_place());
-        put(&mut self.asked, n, row.asked_place());
-        put(&mut self.offers, n, row.offer_place());
-        put(&mut self.owed, n, row.owed_place());
+        mend(&mut self.messages, Times::ToSend, &self.rows, n, old);
+        mend(&mut self.offers, Times::ToOffer, &self.rows, n, old);
+        self.asked.put(n, row.is_awaited());
+        self.owed.put(n, row.is_owed());
     }
 
     /// The numbers that wait for our acknowledgement, at most 1,536.
     pub(crate) fn owed(&self) -> Result<Vec<u32>, AllocError>
         ensures { IfOk result (λ v. v.items ≡ owed_in self.now) }
     {
-        due_places(*self.rows.allocator(), &self.owed, 0)
+        set_places(*self.rows.allocator(), &self.owed)
     }
 
     /// The numbers to be offered, at most 1,536.
     pub(crate) fn due_offers(&self, now: u64) -> Result<Vec<u32>, AllocError>
         ensures { IfOk result (λ v. v.items ≡ offers_in now self.now) }
     {
-        due_places(*self.rows.allocator(), &self.offers, now)
+        timely_places(
+            *self.rows.allocator(),
+            &self.offers,
+            Times::ToOffer,
+            &self.rows,
+            now,
+        )
     }
 
     /// The place of the message to be sent.
@@ -113,8 +121,8 @@ impl Queues {
         ensures small { IfSome result (λ place. place < 2 ^ 32) }
     {
         match mode {
-            Mode::Interactive => self.asked.first_at_most(0),
-            Mode::Batch => self.messages.first_at_most(now),
+            Mode::Interactive => self.asked.next(0),
+            Mode::Batch => next_at_most(&self.messages, Times::ToSend, &self.rows, 0, now),
         }
     }
 

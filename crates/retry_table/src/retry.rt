@@ -5,7 +5,7 @@ ghost use Rattle.sync_rules.specs.Lists.{is_among, without};
 ghost use Rattle.sync_rules.specs.Facts.{row_seen, row_acked, row_asked, row_sent, row_offered};
 ghost use Rattle.retry_table.specs.Table.{no_wants, rows_of, wants_of, kept_at, with_row};
 ghost use Rattle.retry_table.specs.Table.{with_ready, row_owed, IsEmpty, Keeps, ChangesWants};
-ghost use Rattle.retry_table.specs.Table.{Reserves, row_restored, tried_of};
+ghost use Rattle.retry_table.specs.Table.{Reserves, row_heard, row_restored, tried_of};
 ghost use Rattle.retry_table.specs.Due.{owed_in, message_in, offers_in, requests_in};
 
 use crate::queues::Queues;
@@ -144,6 +144,15 @@ impl Retry {
             (with_row row_seen (kept_at self.old contact n)) }
     {
         self.put(contact, n, self.row(contact, n).see());
+    }
+
+    /// The contact sent the message: it has it, and an acknowledgement is owed to it.
+    pub fn hear(&mut self, contact: u8, n: u32)
+        requires { n < length (rows_of self.old contact) }
+        ensures { Keeps self.old self.new contact n
+            (with_row row_heard (kept_at self.old contact n)) }
+    {
+        self.put(contact, n, self.row(contact, n).see().owe());
     }
 
     /// The message was sent to the contact at `now`, on a session of this latency, both in

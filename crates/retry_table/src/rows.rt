@@ -5,7 +5,7 @@ ghost use Rattle.sync_rules.specs.Facts.{row_asked, row_sent, row_offered};
 ghost use Rattle.retry_table.specs.Table.{no_kept, with_row, with_ready, row_owed, row_restored};
 ghost use Rattle.retry_table.specs.Table.{tried_of};
 ghost use Rattle.retry_table.specs.Due.{is_open};
-ghost use Rattle.retry_table.specs.Queues.{message_place, asked_place, offer_place, owed_place};
+ghost use Rattle.retry_table.specs.Queues.{message_place, is_awaited, offer_place};
 
 use std::marker::Model;
 use sync_ids::MessageId;
@@ -212,15 +212,11 @@ impl KeptRow {
         }
     }
 
-    /// The place in the queue of asked messages.
-    pub(crate) fn asked_place(self) -> Option<u64>
-        ensures { result ≡ asked_place self }
+    /// Whether the message may be sent to the contact, which asked for it.
+    pub(crate) fn is_awaited(self) -> bool
+        ensures { result ≡ is_awaited self }
     {
-        if self.is_open() && self.asked {
-            Some(0)
-        } else {
-            None
-        }
+        self.is_open() && self.asked
     }
 
     /// The place in the queue of offers.
@@ -234,10 +230,10 @@ impl KeptRow {
         }
     }
 
-    /// The place in the queue of owed acknowledgements.
-    pub(crate) fn owed_place(self) -> Option<u64>
-        ensures { result ≡ owed_place self }
+    /// Whether an acknowledgement is owed.
+    pub(crate) fn is_owed(self) -> bool
+        ensures { result ≡ self.row.owed }
     {
-        if self.owed { Some(0) } else { None }
+        self.owed
     }
 }

@@ -1,9 +1,13 @@
 -- Lists of acts: what two parts of one add up to.
-use Rattle.std.proofs.Common.{◌≡◌, ℕ, cond, nat_eq, List, [], ◌∷◌, ◌++◌, append-nil, append_assoc, refl, sym, ◌∙◌, ap, subst}
+use Rattle.std.proofs.Common.{◌≡◌, ℕ, cond, nat_eq, List, [], ◌∷◌, ◌++◌, append-nil, append_assoc, refl, sym, ◌∙◌, ap, subst, inl, inr}
 use Rattle.outside.specs.Runs.{IsFront}
 use Rattle.sync_rules.specs.declared.entries.Entry.{Entry}
 use Rattle.sync_course.specs.Acts.{Act, Does, Send, Fail, batches_in, commit_acts, event_of, events_of, next_bytes, sends_on, sent_by}
-use Rattle.sync_course.specs.Events.{Commit, Event, batches_of, commits}
+use Rattle.sync_rules.specs.Facts.{Facts}
+use Rattle.sync_course.specs.Events.{Break, Commit, Event, Pass, batches_of, commits}
+use Rattle.sync_course.specs.Owing.{ActStep, Owing, adds_to}
+use Rattle.sync_course.specs.Paths.{Path}
+use Rattle.sync_course.proofs.PathLaws.{path_maps}
 use Rattle.sync_course.proofs.ToldLaws.{batches_of-append, batches_of_commits}
 
 pub events_of-append : (acts bs : List Act) → events_of (acts ++ bs) ≡ events_of acts ++ events_of bs
@@ -57,3 +61,26 @@ next_wide link part [] bs front = record {
     none [] rest whole = refl
     none (x ∷ part) rest whole = cc
 next_wide link part (a ∷ acts) bs front = front
+
+-- acts of one machine are acts of another between the places that a function gives, where these have the same facts
+module _ {P Q : Type 0} (facts_of : P → Facts) (other_facts : Q → Facts) (first : ℕ) (step : P → Event → P → Type 0)
+    (other : Q → Event → Q → Type 0) (f : P → Q) (same : (p : P) → other_facts (f p) ≡ facts_of p)
+    (each : (p q : P) (e : Event) → step p e q → other (f p) e (f q)) where
+  abbrev pub owing_at : Owing P → Owing Q
+  owing_at p = record { at = f p.at; owed = p.owed }
+
+  act_maps : (p q : Owing P) (a : Act) → ActStep facts_of first step p a q
+      → ActStep other_facts first other (owing_at p) a (owing_at q)
+  act_maps p q (Does e) s =
+      (s.0, each p.at q.at e s.1, λ link. s.2 link ∙ ap (λ (g : Facts). adds_to g first e link) (sym (same p.at)))
+  act_maps p q (Send n bytes) s =
+      elim s [
+        | inl all ↦ inl (all.0, each p.at q.at Pass all.1, all.2)
+        | inr some ↦ inr (record { rest = some.rest; parts = some.parts; stays = ap f some.stays; left = some.left })
+      ]
+  act_maps p q (Fail n bytes count) s = (s.0, each p.at q.at (Break n) s.1, s.2)
+
+  pub acts_map : (p q : Owing P) (acts : List Act) → Path (ActStep facts_of first step) p acts q
+      → Path (ActStep other_facts first other) (owing_at p) acts (owing_at q)
+  acts_map p q acts path =
+      path_maps (ActStep facts_of first step) (ActStep other_facts first other) owing_at act_maps p q acts path

@@ -369,9 +369,9 @@ moves_fails p q m =
             at_free Pass p q _ sends.leads
             (same_links Pass p (record p { hold = Holds sends.number (Sends sends.now MAX_OUTPUTS) }) (λ i. refl) refl
             (λ link there.
-                let both : Some sends.link ≡ Some link = sym sends.there ∙ there in
-                let is : sends.link ≡ link = cc in
-                subst (λ (l : Link). is_sent_to l.stands ≡ true) is sends.is_open))
+            let both : Some sends.link ≡ Some link = sym sends.there ∙ there in
+            let is : sends.link ≡ link = cc in
+            subst (λ (l : Link). is_sent_to l.stands ≡ true) is sends.is_open))
         | inr closes ↦ at_free Pass p q _ closes (closes_fails p)
       ]
     ]

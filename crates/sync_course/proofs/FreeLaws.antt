@@ -3,12 +3,15 @@ use Rattle.std.proofs.Common.{◌≡◌, ℕ, suc, ◌+◌, Bool, true, false, c
 use Rattle.std.specs.Prelude.{slice_get}
 use Rattle.sync_rules.specs.declared.entries.Entry.{Entry}
 use Rattle.sync_rules.specs.Clients.{Meaning}
+use Rattle.sync_course.specs.Acts.{Act}
 use Rattle.sync_course.specs.Events.{Event, Commit, Hear, Miss, Read, Break, Pass}
-use Rattle.sync_course.specs.Free.{Free, FreeFrom, FreeStep, HoldStep, Holds, Rests, forget, hold_at}
+use Rattle.sync_course.specs.Free.{Free, FreeFrom, FreeStep, HoldStep, Holds, Rests, forget, hold_at, owing_free}
 use Rattle.sync_course.specs.Links.{Link}
 use Rattle.sync_course.specs.LinkTurns.{Asks, Done, Doing}
+use Rattle.sync_course.specs.Owing.{ActStep, Owing}
 use Rattle.sync_course.specs.Paths.{Path}
 use Rattle.sync_course.specs.Turns.{Attaches, Between, Ended, EndsTurn, GoesToNext, Greets, Place, RunStep, Settles, Stage, StageStep, Terms, TurnStep, Works, WorksOn, is_at_end}
+use Rattle.sync_course.proofs.ActLaws.{acts_map}
 use Rattle.sync_course.proofs.PathLaws.{path_maps}
 
 module _ (clients : Meaning) (terms : Terms) where
@@ -75,3 +78,10 @@ module _ (clients : Meaning) (terms : Terms) where
   pub run_is_free : (p q : Place) (es : List Event) → Path (RunStep clients terms) p es q
       → Path (FreeStep clients terms.first) (forget p) es (forget q)
   run_is_free p q es path = path_maps (RunStep clients terms) (FreeStep clients terms.first) forget step_is_free p q es path
+
+  pub run_acts_are_free : (p q : Owing Place) (acts : List Act)
+      → Path (ActStep (λ (x : Place). x.facts) terms.first (RunStep clients terms)) p acts q
+      → Path (ActStep (λ (x : Free). x.facts) terms.first (FreeStep clients terms.first)) (owing_free p) acts (owing_free q)
+  run_acts_are_free p q acts path =
+      acts_map (λ (x : Place). x.facts) (λ (x : Free). x.facts) terms.first (RunStep clients terms) (FreeStep clients terms.first) forget
+      (λ x. refl) step_is_free p q acts path

@@ -41,7 +41,7 @@ from_cases clients first T hold (Break on) p q s stays quiet holds = holds s
 from_cases clients first T hold Pass p q s stays quiet holds =
     elim s [
       | inl same ↦ stays same
-      | inr others ↦ elim others [ | inl m ↦ quiet m | inr h ↦ holds h ]
+      | inr others ↦ elim others [ inl m ↦ quiet m | inr h ↦ holds h ]
     ]
 
 -- nothing that is told of leaves the facts

@@ -297,16 +297,16 @@ module _ (go_on : StreamsGoOn) (join : RecordsJoin) (fronts : FrontsHaveFronts) 
       let from_here : (i : ℕ) → IsFront (heard_at p i) (heard i) =
       λ i. front_then (heard_at p i) (heard_at next i) (heard i) (free_heard clients first p next e path.1 i) (from_next i) in
       let planned : (x : Session) → e ≡ Commit (entry.Session x ∷ []) → p.facts.begun ≡ first + length p.links
-          → slice_get plans (length p.links) ≡ Some x =
+      → slice_get plans (length p.links) ≡ Some x =
       λ x is at_rest.
-          let number : length (begun_by done) ≡ length p.links =
-          let a : p.facts.begun ≡ first + length (begun_by done) = count in
-          let b : p.facts.begun ≡ first + length p.links = at_rest in
-          omega (arith, a, b) in
-          let list : plans ≡ begun_by done ++ x ∷ begun_by later =
-          ap (λ (y : Event). begun_by (done ++ batches_of (y ∷ es))) is ∙ begun_by-append done ((entry.Session x ∷ []) ∷ later) in
-          subst (λ (l : List Session). slice_get l (length p.links) ≡ Some x) (sym list)
-          (subst (λ (k : ℕ). slice_get (begun_by done ++ x ∷ begun_by later) k ≡ Some x) number (get_middle (begun_by done) (begun_by later) x)) in
+      let number : length (begun_by done) ≡ length p.links =
+      let a : p.facts.begun ≡ first + length (begun_by done) = count in
+      let b : p.facts.begun ≡ first + length p.links = at_rest in
+      omega (arith, a, b) in
+      let list : plans ≡ begun_by done ++ x ∷ begun_by later =
+      ap (λ (y : Event). begun_by (done ++ batches_of (y ∷ es))) is ∙ begun_by-append done ((entry.Session x ∷ []) ∷ later) in
+      subst (λ (l : List Session). slice_get l (length p.links) ≡ Some x) (sym list)
+      (subst (λ (k : ℕ). slice_get (begun_by done ++ x ∷ begun_by later) k ≡ Some x) number (get_middle (begun_by done) (begun_by later) x)) in
       let grown : next.facts.begun ≡ p.facts.begun + length (begun_by new) = free_begins clients first p next e path.1 in
       let counts : next.facts.begun ≡ first + length (begun_by (done ++ new)) =
       let a : p.facts.begun ≡ first + length (begun_by done) = count in

@@ -206,11 +206,13 @@ module _ (clients : Meaning) (first : ℕ) (begun plans : List Session) (front :
   all_planned : (f : Facts) (bs : List (List Entry)) → AllSuitNode clients first begun heard f bs → NonePlain bs
       → AllSuitPlanned clients first plans heard f bs
   all_planned f [] suits none = tt
-  all_planned f (b ∷ bs) suits none =
-      (elim suits.0 [
-        | inl plain ↦ absurd (none.0 plain)
-        | inr planned ↦ elim planned [ | inl settles ↦ inl settles | inr of_run ↦ inr (one_planned f b of_run) ]
-      ], all_planned (after_all f b) bs suits.1 none.1)
+  all_planned f (b ∷ bs) suits none = (
+    elim suits.0 [
+      | inl plain ↦ absurd (none.0 plain)
+      | inr planned ↦ elim planned [ inl settles ↦ inl settles | inr of_run ↦ inr (one_planned f b of_run) ]
+    ],
+    all_planned (after_all f b) bs suits.1 none.1,
+  )
 
 pub run_suits : StreamsGoOn → RecordsJoin → FrontsHaveFronts → (clients : Meaning) (terms : Terms) (sessions : List Session)
     (j : List (List Entry)) (events : List Event) (last : Place) → Legal clients j → Broken clients terms sessions (facts j) events last

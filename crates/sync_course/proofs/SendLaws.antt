@@ -31,8 +31,8 @@ use Rattle.sync_course.specs.Owing.{ActStep, Owing, adds_to, paid}
 use Rattle.sync_course.specs.Paths.{Path}
 use Rattle.sync_course.specs.Story.{AllIsSent, FreeActs, LinkFailed}
 use Rattle.sync_course.proofs.ActLaws.{batches_in-append, events_of-append, sends_on-append}
-use Rattle.sync_course.proofs.FailLaws.{DoesOpen, FailsJust, HoldsOpen, fails_step, first_fails, push_failure}
-use Rattle.sync_course.proofs.FreeSound.{IsBegunAt, IsFreeSound, first_free_sound, free_moves, free_sound}
+use Rattle.sync_course.proofs.FailLaws.{DoesOpen, FailsJust, HoldsOpen, fails_step, first_fails, path_fails, push_failure}
+use Rattle.sync_course.proofs.FreeSound.{IsBegunAt, IsFreeSound, first_free_sound, free_moves, free_path_sound, free_sound}
 use Rattle.sync_course.proofs.LiftLaws.{get_within}
 use Rattle.sync_course.proofs.PathLaws.{path_keeps}
 
@@ -133,7 +133,7 @@ module _ (clients : Meaning) (first : ℕ) where
       (λ same. other o (let is : first + n ≡ first + i = same in let e : n ≡ i = omega (arith, is) in e)) s
   link_adds n i _ b p q other s o = absurd s
 
-  hold_adds : (hold : Hold) (b : List Entry) (p q : Free) (i : ℕ) → HoldStep clients first hold (Commit b) p q
+  pub hold_adds : (hold : Hold) (b : List Entry) (p q : Free) (i : ℕ) → HoldStep clients first hold (Commit b) p q
       → IsBegunAt first hold (length p.links) p.facts → HoldsOpen hold p.links → LinkFailed p.links i → output_in p.facts (first + i) b ≡ []
   hold_adds Rests b p q i t begun o f =
       elim t [
@@ -148,17 +148,17 @@ module _ (clients : Meaning) (first : ℕ) where
             ap (λ (x : List Entry). output_in p.facts (first + i) x) begins.is
             ∙ begins_adds p.facts begins.session (first + i)
             (λ same.
-                let at : begins.session.number ≡ first + i = same in
-                absurd (omega (arith, within, numbered, at, begun)))
+            let at : begins.session.number ≡ first + i = same in
+            absurd (omega (arith, within, numbered, at, begun)))
       ]
   hold_adds (Holds n doing) b p q i t begun o f =
       link_adds n i doing b (spot_in doing t.link t.moved p) t.spot
       (λ is_open same.
-          let there : slice_get p.links n ≡ Some f.link = subst (λ (k : ℕ). slice_get p.links k ≡ Some f.link) (sym same) f.there in
-          let both : Some t.link ≡ Some f.link = sym t.there ∙ there in
-          let is : t.link ≡ f.link = cc in
-          let failed : t.link.stands ≡ end.Failed = ap (λ (l : Link). l.stands) is ∙ f.failed in
-          absurd (false≢true (ap is_sent_to (sym failed) ∙ is_open)))
+      let there : slice_get p.links n ≡ Some f.link = subst (λ (k : ℕ). slice_get p.links k ≡ Some f.link) (sym same) f.there in
+      let both : Some t.link ≡ Some f.link = sym t.there ∙ there in
+      let is : t.link ≡ f.link = cc in
+      let failed : t.link.stands ≡ end.Failed = ap (λ (l : Link). l.stands) is ∙ f.failed in
+      absurd (false≢true (ap is_sent_to (sym failed) ∙ is_open)))
       t.steps (o t.link t.there)
   hold_adds _ b p q i t begun o f = absurd t
 
@@ -178,7 +178,7 @@ module _ (clients : Meaning) (first : ℕ) where
 pub under : (clients : Meaning) (first : ℕ) (a : Act) (p q : Owing Free)
     → ActStep (λ (x : Free). x.facts) first (FreeStep clients first) p a q → FreeStep clients first p.at (event_of a) q.at
 under clients first (Does e) p q s = s.1
-under clients first (Send n bytes) p q s = elim s [ | inl all ↦ all.1 | inr some ↦ inl some.stays ]
+under clients first (Send n bytes) p q s = elim s [ inl all ↦ all.1 | inr some ↦ inl some.stays ]
 under clients first (Fail n bytes count) p q s = s.1
 
 module _ (clients : Meaning) (first : ℕ) where
@@ -263,23 +263,23 @@ module _ (go_on : StreamsGoOn) (join : RecordsJoin) (clients : Meaning) (first :
       ap (λ (l : List (List Entry)). j ++ l) (batches_in-append acts (a ∷ [])) ∙ sym (append_assoc j (batches_in acts) new) in
       let events : events_of (acts ++ a ∷ []) ≡ events_of acts ++ e ∷ [] = events_of-append acts (a ∷ []) in
       let grown : (i : ℕ) → output (j ++ batches_in (acts ++ a ∷ [])) (first + i)
-          ≡ output old (first + i) ++ adds_to p.at.facts first e i =
+      ≡ output old (first + i) ++ adds_to p.at.facts first e i =
       λ i. ap (λ (l : List (List Entry)). output l (first + i)) is
-          ∙ event_adds clients first old e i k.legal goes
-          ∙ ap (λ (f : Facts). output old (first + i) ++ adds_to f first e i) k.same in
+      ∙ event_adds clients first old e i k.legal goes
+      ∙ ap (λ (f : Facts). output old (first + i) ++ adds_to f first e i) k.same in
       let sends : (i : ℕ) → sends_on i (acts ++ a ∷ []) ++ q.owed i ≡ sends_on i acts ++ (sent_by i a ++ q.owed i) =
       λ i. ap (λ (l : List ℕ). l ++ q.owed i)
-          (sends_on-append i acts (a ∷ []) ∙ ap (λ (l : List ℕ). sends_on i acts ++ l) (append-nil (sent_by i a)))
-          ∙ append_assoc (sends_on i acts) (sent_by i a) (q.owed i) in
+      (sends_on-append i acts (a ∷ []) ∙ ap (λ (l : List ℕ). sends_on i acts ++ l) (append-nil (sent_by i a)))
+      ∙ append_assoc (sends_on i acts) (sent_by i a) (q.owed i) in
       let was_whole : (i : ℕ) → has_failure i (events_of acts) ≡ false
-          → sends_on i acts ++ (p.owed i ++ adds_to p.at.facts first e i) ≡ output (j ++ batches_in (acts ++ a ∷ [])) (first + i) =
+      → sends_on i acts ++ (p.owed i ++ adds_to p.at.facts first e i) ≡ output (j ++ batches_in (acts ++ a ∷ [])) (first + i) =
       λ i well. sym (append_assoc (sends_on i acts) (p.owed i) (adds_to p.at.facts first e i))
-          ∙ ap (λ (l : List ℕ). l ++ adds_to p.at.facts first e i) (k.whole i well)
-          ∙ sym (grown i) in
+      ∙ ap (λ (l : List ℕ). l ++ adds_to p.at.facts first e i) (k.whole i well)
+      ∙ sym (grown i) in
       let was_front : (i : ℕ) (t : Bool) → has_failure i (events_of acts) ≡ t
-          → IsFront (sends_on i acts ++ (p.owed i ++ adds_to p.at.facts first e i)) (output (j ++ batches_in (acts ++ a ∷ [])) (first + i)) =
+      → IsFront (sends_on i acts ++ (p.owed i ++ adds_to p.at.facts first e i)) (output (j ++ batches_in (acts ++ a ∷ [])) (first + i)) =
       λ i t. elim t as (λ t. has_failure i (events_of acts) ≡ t
-          → IsFront (sends_on i acts ++ (p.owed i ++ adds_to p.at.facts first e i)) (output (j ++ batches_in (acts ++ a ∷ [])) (first + i))) [
+      → IsFront (sends_on i acts ++ (p.owed i ++ adds_to p.at.facts first e i)) (output (j ++ batches_in (acts ++ a ∷ [])) (first + i))) [
         | true ↦ λ failed.
             let none : adds_to p.at.facts first e i ≡ [] =
             event_spares clients first e p.at q.at i step k.sound k.fails.opens (k.fails.stays i failed) in
@@ -364,3 +364,12 @@ all_sent go_on join clients j acts to legal path clear link well =
     sym (append-nil (sends_on link acts))
     ∙ ap (λ (l : List ℕ). sends_on link acts ++ l) (sym (clear link))
     ∙ (acts_sent go_on join clients j acts to legal path).whole link well
+
+-- nothing is committed for a link on which a call failed
+pub failed_spared : StreamsGoOn → RecordsJoin → (clients : Meaning) (j : List (List Entry)) (es : List Event) (p q : Free) (b : List Entry)
+    (link : ℕ) → Legal clients j → Path (FreeStep clients (facts j).begun) (first_free (facts j)) es p
+    → FreeStep clients (facts j).begun p (Commit b) q → has_failure link es ≡ true → output_in p.facts ((facts j).begun + link) b ≡ []
+failed_spared go_on join clients j es p q b link legal path step failed =
+    let fails = path_fails clients (facts j).begun (facts j) p es path in
+    let sound = free_path_sound go_on join clients (facts j).begun (first_free (facts j)) p es path (first_free_sound clients j legal) in
+    hold_adds clients (facts j).begun p.hold b p q link step sound.begun fails.opens (fails.stays link failed)

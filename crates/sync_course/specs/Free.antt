@@ -12,6 +12,7 @@ use Rattle.sync_course.specs.declared.ends.LinkEnd.TheVariants as end
 use Rattle.sync_course.specs.Events.{Event, Commit, Break, Pass}
 use Rattle.sync_course.specs.Links.{Link, is_sent_to, link_of, without_redundant}
 use Rattle.sync_course.specs.LinkTurns.{Doing, Asks, Done, LinkStep, Sends, Spot, Waits}
+use Rattle.sync_course.specs.Owing.{Owing}
 use Rattle.sync_course.specs.Turns.{Attaches, Between, Ended, Greets, Place, Settles, Stage, Works}
 
 -- what a node has in hand: nothing; a session that has begun, on whose link it is to greet; or the link of this number, which does
@@ -135,3 +136,6 @@ hold_at Ended = Rests
 -- a place of a run, but for the order
 abbrev pub forget : Place → Free
 forget p = record { hold = hold_at p.stage; links = p.links; facts = p.facts }
+
+abbrev pub owing_free : Owing Place → Owing Free
+owing_free p = record { at = forget p.at; owed = p.owed }

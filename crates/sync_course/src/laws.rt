@@ -5,7 +5,7 @@ ghost use Rattle.std.specs.Prelude.{◌++◌, length, slice_get, slice_set, Some
 ghost use Rattle.record_grammar.specs.Stream.{items};
 ghost use Rattle.sync_rules.specs.Clients.{Meaning};
 ghost use Rattle.sync_rules.specs.Facts.{after_all, after_batches, Facts, facts, session_at};
-ghost use Rattle.sync_rules.specs.Growth.{output_of};
+ghost use Rattle.sync_rules.specs.Growth.{output_in, output_of};
 ghost use Rattle.sync_rules.specs.Legal.{Allowed, GoesOn, Legal};
 ghost use Rattle.sync_rules.specs.Output.{sent};
 ghost use Rattle.sync_rules.specs.Steps.{IsSettled};
@@ -14,7 +14,7 @@ ghost use Rattle.sync_rules.specs.declared.entries.Entry.TheVariants as entry;
 ghost use Rattle.sync_rules.specs.declared.entries.Out.{Out};
 ghost use Rattle.sync_rules.specs.declared.entries.Session.{Session};
 ghost use Rattle.outside.specs.Outside.{Moment};
-ghost use Rattle.sync_course.specs.Acts.{Act, AtFront, batches_in};
+ghost use Rattle.sync_course.specs.Acts.{Act, AtFront, batches_in, Does};
 ghost use Rattle.sync_course.specs.Events.{batches_of, Commit, Event, has_failure};
 ghost use Rattle.sync_course.specs.Closing.{closing};
 ghost use Rattle.sync_course.specs.Idle.{idle_end, idle_run};
@@ -28,8 +28,8 @@ ghost use Rattle.sync_course.specs.Pending.{pending_at};
 ghost use Rattle.sync_course.specs.Suits.{AllSuit, heard_on, IsCounted};
 ghost use Rattle.sync_course.specs.Turns.{Broken, Course, first_place, is_over, Place};
 ghost use Rattle.sync_course.specs.Turns.{RunStep, Terms, with_spot};
-ghost use Rattle.sync_course.specs.Free.{first_free, forget, Free, FreeStep};
-ghost use Rattle.sync_course.specs.Owing.{Owing};
+ghost use Rattle.sync_course.specs.Free.{first_free, forget, Free, FreeStep, owing_free};
+ghost use Rattle.sync_course.specs.Owing.{ActStep, Owing};
 ghost use Rattle.sync_course.specs.Story.{AllIsSent, AllSuitPlanned, begun_by, FreeActs};
 ghost use Rattle.sync_course.specs.Story.{heard_at, LinkFailed, MomentStands};
 
@@ -201,11 +201,15 @@ pub fn idle_links_end_quiet()
         ≡ record { over = false; ends = LinkEnd.Going ∷ [] }) }
 {}
 
-/// Free: each path of a run is one of the machine without the order of a run.
+/// Free: each path of a run is one of the machine without the order of a run, with what it sends.
 pub fn runs_are_free()
-    ensures { (clients : Meaning) (terms : Terms) (p q : Place) (es : List Event)
+    ensures events { (clients : Meaning) (terms : Terms) (p q : Place) (es : List Event)
         → Path (RunStep clients terms) p es q
         → Path (FreeStep clients terms.first) (forget p) es (forget q) }
+    ensures acts { (clients : Meaning) (terms : Terms) (p q : Owing Place) (acts : List Act)
+        → Path (ActStep (λ (x : Place). x.facts) terms.first (RunStep clients terms)) p acts q
+        → Path (ActStep (λ (x : Free). x.facts) terms.first (FreeStep clients terms.first))
+        (owing_free p) acts (owing_free q) }
 {}
 
 /// Moments: in the middle of the acts of a node over a legal journal, in whatever order its calls
@@ -222,18 +226,24 @@ pub fn moments_stand()
     fronts_have_fronts();
 }
 
-/// Whole: where nothing is owed behind the acts of a node, all output was sent on each link on
-/// which no call failed.
+/// Whole: where nothing is owed behind the acts of a node, and where an event is to come next, as
+/// that a batch is committed which finds no room, all output was sent on each link on which no call
+/// failed.
 pub fn all_is_sent()
-    ensures { (clients : Meaning) (j : List (List Entry)) (acts : List Act) (to : Owing Free)
-        → Legal clients j → FreeActs clients j acts to → ((link : ℕ) → to.owed link ≡ [])
-        → AllIsSent j acts }
+    ensures whole { (clients : Meaning) (j : List (List Entry)) (acts : List Act)
+        (to : Owing Free) → Legal clients j → FreeActs clients j acts to
+        → ((link : ℕ) → to.owed link ≡ []) → AllIsSent j acts }
+    ensures full { (clients : Meaning) (j : List (List Entry)) (acts : List Act)
+        (to next : Owing Free) (e : Event) → Legal clients j → FreeActs clients j acts to
+        → ActStep (λ (x : Free). x.facts) (facts j).begun (FreeStep clients (facts j).begun) to
+        (Does e) next → AllIsSent j acts }
 {
     streams_go_on();
     records_join();
 }
 
-/// Failed: just the links on which a call failed stand Failed, whatever else a node does.
+/// Failed: just the links on which a call failed stand Failed, whatever else a node does, and
+/// nothing is committed for one of them.
 pub fn failed_links_had_failures()
     ensures stays { (clients : Meaning) (first : ℕ) (f : Facts) (es : List Event) (to : Free)
         (link : ℕ) → Path (FreeStep clients first) (first_free f) es to
@@ -241,4 +251,12 @@ pub fn failed_links_had_failures()
     ensures cause { (clients : Meaning) (first : ℕ) (f : Facts) (es : List Event) (to : Free)
         (link : ℕ) → Path (FreeStep clients first) (first_free f) es to
         → LinkFailed to.links link → has_failure link es ≡ true }
-{}
+    ensures spared { (clients : Meaning) (j : List (List Entry)) (es : List Event) (p q : Free)
+        (b : List Entry) (link : ℕ) → Legal clients j
+        → Path (FreeStep clients (facts j).begun) (first_free (facts j)) es p
+        → FreeStep clients (facts j).begun p (Commit b) q → has_failure link es ≡ true
+        → output_in p.facts ((facts j).begun + link) b ≡ [] }
+{
+    streams_go_on();
+    records_join();
+}

@@ -1,2 +1,3 @@
+mod IdBytes
 mod IdLengths
 pub mod Same

@@ -40,6 +40,7 @@ use Rattle.store_commands.specs.Post.{HasPosted, PostsBody}
 use Rattle.store_commands.specs.Show.{HasLooked}
 use Rattle.store_commands.specs.Shown.{Showing, body_shown, denies, listing_shown, shows}
 use Rattle.tree_commands.specs.Trees.{tree_shown}
+use Rattle.audit_commands.specs.Audits.{HasAudited}
 use Rattle.sync_node.specs.Courses.{ReadsAs}
 use Rattle.sharing_commands.specs.Agreeing.{AreRoomy, HasAgreed, IsCut}
 use Rattle.sharing_commands.specs.Agreement.{agree_test}
@@ -54,7 +55,7 @@ use Rattle.mailbox_commands.specs.Sending.{HasSentMail, out_errand}
 use Rattle.mailbox_commands.specs.Taking.{HasTakenMail, IsMail, TakesMail, in_errand, outcome_at}
 use Rattle.store_commands.proofs.Stood.{last_lacks}
 use Rattle.sync_top.specs.declared.input.TheConstants.{MAX_INPUT}
-use Rattle.sync_top.specs.Complete.{BytesDecide, ComesOut, Complete, HasBriefRoom, HasRoom, HasRooms, MayAdd, MayAgreeOn, MayCompact, MayPost, MaySendMail, MayShow, MayTakeMail, MailDecides, NothingFails, mail_status, Serves, status_at, status_by}
+use Rattle.sync_top.specs.Complete.{BytesDecide, ComesOut, Complete, HasBriefRoom, HasRoom, HasRooms, MayAdd, MayAgreeOn, MayAudit, MayCompact, MayPost, MaySendMail, MayShow, MayTakeMail, MailDecides, NothingFails, mail_status, Serves, status_at, status_by}
 use Rattle.sync_top.specs.Run.{Comes, ComesOfStore, ReadsStream, ReadsWhole, Reports, Streams, TriesClient, outcome_of, sending_of, speech_of}
 use Rattle.sync_top.proofs.CompleteRuns.{run_comes_out}
 
@@ -374,6 +375,22 @@ module _ (clients : Meaning) (old new : Outside) (input input' out out' : Stream
       cc
   looked_done shown _ did may = absurd did.by
 
+  audited_done : (came : Outcome) → HasAudited clients old new out out' came
+      → MayAudit clients old.files → Done came
+  audited_done outcome.Done did may = inl refl
+  audited_done outcome.Memory did may = inr refl
+  audited_done outcome.WriteFault did may = absurd (fails.sink did.by)
+  audited_done outcome.DiskFault did may = absurd (fails.disk did.by.0)
+  audited_done outcome.NoStore did may =
+      let stood = sym (did.told may.stood.0 may.stood.1).ends ∙ may.stood.2 in
+      let is : no_store ≡ journal may.of = stood in
+      cc
+  audited_done (outcome.Damaged place) did may =
+      let stood = sym (did.told may.stood.0 may.stood.1).ends ∙ may.stood.2 in
+      let is : damaged place.file place.at ≡ journal may.of = stood in
+      cc
+  audited_done _ did may = absurd did.by
+
   body_done : (group : Id) (timestamp : ℕ) (came : Outcome) → PostsBody clients group timestamp old new input input' out out' came → MayPost clients group timestamp old.files input input' → Done came
   body_done group timestamp came did may = added_done _ settling.BeforeAndAfter came did.added (may.may_add did.body did.reads)
 
@@ -438,6 +455,10 @@ command_comes_out clients (command.Tree group from count) old new input input' o
     (λ did. looked_done clients old new input input' out out' fails
     (tree_shown clients (record { group = group; from = from; count = count }))
     came did.0 serves) comes
+command_comes_out clients command.Audit old new input input' out out' came comes serves fails =
+    store_done clients old new input input' out out' fails
+    (λ (o : Outcome). HasAudited clients old new out out' o × IsIdle input input') came
+    (λ did. audited_done clients old new input input' out out' fails came did.0 serves) comes
 command_comes_out clients (command.Say group timestamp join name major descriptor) old new input input' out out' came comes serves fails =
     let plan = say_plan clients (speech_of group timestamp join name major descriptor) in
     store_done clients old new input input' out out' fails (λ (o : Outcome). HasAdded clients plan settling.BeforeAndAfter old new out out' o × IsIdle input input') came

@@ -13,6 +13,7 @@ use Rattle.store_commands.specs.Show.{HasLooked}
 use Rattle.store_commands.specs.Shown.{Showing, body_shown, listing_shown}
 use Rattle.store_commands.specs.declared.listing.Listing.TheVariants as listing
 use Rattle.tree_commands.specs.Trees.{tree_shown}
+use Rattle.audit_commands.specs.Audits.{HasAudited}
 use Rattle.sync_top.specs.Looking.{LooksUnless, OnlyLooks}
 use Rattle.sync_top.specs.Run.{Comes, ComesOfStore, KeepsHost}
 
@@ -23,6 +24,13 @@ module _ (clients : Meaning) (old new : Outside) (input input' out out' : Stream
   looked : (shown : Facts → Showing) → ComesOfStore (λ did. HasLooked clients shown old new out out' did × IsIdle input input') old new input input' out out' came → OnlyLooks old new
   looked shown (inl did) = record { run = did.0.run; moments = λ two told. (did.0.told two told).rests.moments }
   looked shown (inr none) = record { run = none.1.run; moments = λ two told. (none.1.rests two told).moments }
+
+  audited : ComesOfStore (λ did. HasAudited clients old new out out' did × IsIdle input input')
+      old new input input' out out' came → OnlyLooks old new
+  audited (inl did) =
+      record { run = did.0.run; moments = λ two told. (did.0.told two told).rests.moments }
+  audited (inr none) =
+      record { run = none.1.run; moments = λ two told. (none.1.rests two told).moments }
 
 module _ {H : Type 0} (tells : H → Outside) (clients : Meaning) (h h' : H) (input input' out out' : Stream) (came : Outcome) where
   kept : h' ≡ h → OnlyLooks (tells h) (tells h')
@@ -38,6 +46,8 @@ module _ {H : Type 0} (tells : H → Outside) (clients : Meaning) (h h' : H) (in
   only_looks (Do (command.Tree group from count)) comes keeps =
       λ reads. looked clients (tells h) (tells h') input input' out out' came
       (tree_shown clients (record { group = group; from = from; count = count })) comes
+  only_looks (Do command.Audit) comes keeps =
+      λ reads. audited clients (tells h) (tells h') input input' out out' came comes
   only_looks (Do command.Init) comes keeps = λ reads. absurd (let e : true ≡ false = reads in cc)
   only_looks (Do command.Contact) comes keeps = λ reads. absurd (let e : true ≡ false = reads in cc)
   only_looks (Do (command.Group name major descriptor)) comes keeps = λ reads. absurd (let e : true ≡ false = reads in cc)

@@ -27,6 +27,7 @@ use Rattle.store_commands.specs.Post.{HasPosted, PostsBody, StopsShort}
 use Rattle.store_commands.specs.Show.{HasLooked}
 use Rattle.store_commands.specs.Shown.{Showing, body_shown, listing_shown}
 use Rattle.tree_commands.specs.Trees.{tree_shown}
+use Rattle.audit_commands.specs.Audits.{HasAudited}
 use Rattle.sharing_commands.specs.Agreeing.{AgreesMoment, HasAgreed}
 use Rattle.sharing_commands.specs.Sayings.{say_plan}
 use Rattle.mailbox_commands.specs.declared.sending.Sending.{Sending}
@@ -79,6 +80,10 @@ module _ (clients : Meaning) (old new : Outside) where
 
   of_looked : (shown : Facts → Showing) (out out' : Stream) (came : Outcome) → HasLooked clients shown old new out out' came → Undamaged clients old new
   of_looked shown out out' came did = of_now (λ two files. (did.told two files).rests.moments)
+
+  of_audited : (out out' : Stream) (came : Outcome) → HasAudited clients old new out out' came
+      → Undamaged clients old new
+  of_audited out out' came did = of_now (λ two files. (did.told two files).rests.moments)
 
   added_moment : (plan : Facts → Plan) (standing : Standing) (came : Outcome) (sent : List (List ℕ)) (two : Two File) → ((left : Two (List ℕ)) → IsImage two left → StandsForSome clients left)
       → (m : Moment) → IsNow two old.links m ⊎ AddsMoment clients plan standing came sent m → StandsForSome clients m.files
@@ -208,6 +213,10 @@ module _ {H : Type 0} (tells : H → Outside) (clients : Meaning) (h h' : H) (in
       (tells h') out out' o × IsIdle input input') input
       input' out out' came (λ did. of_looked clients (tells h) (tells h') _ out out' came did.0)
       comes
+  undamaged (Do command.Audit) comes keeps covered =
+      of_store clients (tells h) (tells h')
+      (λ o. HasAudited clients (tells h) (tells h') out out' o × IsIdle input input') input input'
+      out out' came (λ did. of_audited clients (tells h) (tells h') out out' came did.0) comes
   undamaged (Do (command.Say group timestamp join name major descriptor)) comes keeps covered =
       of_store clients (tells h) (tells h')
       (λ o. HasAdded clients (say_plan clients (speech_of group timestamp join name major descriptor)) settling.BeforeAndAfter (tells h) (tells h') out out' o × IsIdle input input')

@@ -135,6 +135,11 @@ pub record MayShow (clients : Meaning) (shown : Facts → Showing) (files : Opti
   pub stood : ReadsAs clients files of
   pub is : shown (facts of) ≡ shows text
 
+-- the files stand for a journal
+pub record MayAudit (clients : Meaning) (files : Option (Two File)) : Type 0 where
+  pub of : List (List Entry)
+  pub stood : ReadsAs clients files of
+
 -- The files stand for a journal for which the tests of the words hold, and there is room for each batch that comes next in a course
 -- over what was heard; where they are in format 1, a generation is left.
 pub record MaySync (clients : Meaning) (limits : Limits) (words : List LinkWords) (old new : Outside) : Type 0 where
@@ -161,6 +166,7 @@ Serves clients (command.Body id) old new input input' = MayShow clients (body_sh
 Serves clients (command.Tree group from count) old new input input' =
     MayShow clients (tree_shown clients (record { group = group; from = from; count = count }))
     old.files
+Serves clients command.Audit old new input input' = MayAudit clients old.files
 Serves clients (command.Say group timestamp join name major descriptor) old new input input' =
     MayAdd clients (say_plan clients (speech_of group timestamp join name major descriptor)) old.files
 Serves clients (command.Agree contact group) old new input input' = MayAgreeOn clients contact group old.files

@@ -33,6 +33,7 @@ use Rattle.sync_words.specs.declared.outcome.Outcome.TheVariants as outcome
 use Rattle.sync_words.specs.Outcomes.{status_of, text_of}
 use Rattle.outside.specs.Streams.{Stream, IsIdle, GetsFront, Gets}
 use Rattle.tree_commands.specs.Trees.{tree_shown}
+use Rattle.audit_commands.specs.Audits.{HasAudited}
 use Rattle.sharing_commands.specs.declared.saying.Speech.{Speech}
 use Rattle.sharing_commands.specs.Agreeing.{HasAgreed}
 use Rattle.sharing_commands.specs.Sayings.{say_plan}
@@ -167,6 +168,9 @@ Comes clients (Do (command.Tree group from count)) old new input input' out out'
     (tree_shown clients (record { group = group; from = from; count = count })) old new out out'
     did × IsIdle input input') old new input input'
     out out' came
+Comes clients (Do command.Audit) old new input input' out out' came =
+    ComesOfStore (λ did. HasAudited clients old new out out' did × IsIdle input input') old new input
+    input' out out' came
 Comes clients (Do (command.Say group timestamp join name major descriptor)) old new input input' out out' came =
     ComesOfStore (λ did. HasAdded clients (say_plan clients (speech_of group timestamp join name major descriptor)) settling.BeforeAndAfter old new out out' did × IsIdle input input') old new input input' out out' came
 Comes clients (Do (command.Agree contact group)) old new input input' out out' came =

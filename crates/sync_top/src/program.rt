@@ -13,6 +13,7 @@ ghost use Rattle.commands.specs.Reading.Asked.{Do};
 
 use crate::laws::runs_are_sound;
 use crate::streams::{group_of, list_records, try_group};
+use audit_commands::print_audit;
 use commands::{Command, read_words};
 use journal_play::play_says;
 use mailbox_commands::{Sending, send_mail, take_mail};
@@ -168,6 +169,7 @@ fn obey<H: Host, S: Source, W: Sink, C: Clients>(
             let window = Window { group, from, count };
             print_tree(alloc, hasher, &window, host, out, clients)
         }
+        Command::Audit => print_audit(alloc, host, out, clients),
         Command::Say(group, timestamp, join, name, major, descriptor) => {
             let def = group_of(alloc, name.as_str(), major, descriptor.as_str())?;
             let speech = spoken(group, timestamp, join, def);

@@ -1,1 +1,2 @@
+mod IdText
 pub mod WordLemmas

@@ -1,6 +1,7 @@
 //! What single words stand for, the texts that commands print, and what a command comes to.
 #![tactic(auto)]
 
+mod digits;
 mod entry_lines;
 mod error_lines;
 mod held_lines;
@@ -13,6 +14,7 @@ mod status;
 mod stream_lines;
 mod word;
 
+pub use digits::add_id;
 pub use entry_lines::{
     compacted_line, contact_line, group_line, level_line, posted_line, ready_line,
 };

@@ -5,6 +5,7 @@ ghost use Rattle.hex.specs.Hex.{encode_lower};
 ghost use Rattle.sync_words.specs.StreamTexts.{ids_text, message_text, placed_text, record_text};
 ghost use Rattle.sync_words.specs.StreamTexts.{skipped_text, try_text, try_word};
 
+use crate::digits::add_id;
 use std::alloc::{AllocError, Global};
 use sync_ids::{Message, MessageId, Record, message_id};
 use sync_rules::Fate;
@@ -23,7 +24,6 @@ fn try_word(fate: Fate) -> &'static str
 /// Appends the line of `try` on a message: its state, its id, its time and the length of its body.
 /// It fails only for want of memory, and then nothing is said of what was appended.
 pub fn try_line(
-    alloc: Global,
     fate: Fate,
     id: &MessageId,
     timestamp: u64,
@@ -34,9 +34,10 @@ pub fn try_line(
     ensures { OnOk result (string_bytes to.new ≡ string_bytes to.old ++ try_text fate id.now
         timestamp len) }
 {
-    let id = id.to_hex(alloc)?;
-    let word = try_word(fate);
-    writeln!(to, "{word} {id} {timestamp} {len}")
+    to.push_str(try_word(fate))?;
+    to.push(' ')?;
+    add_id(id, to)?;
+    writeln!(to, " {timestamp} {len}")
 }
 
 /// Appends the line of `records` on a record at this place. It fails only for want of memory, and
@@ -69,10 +70,10 @@ fn add_record(alloc: Global, record: &Record, to: &mut String) -> Result<(), All
     ensures { OnOk result (string_bytes to.new ≡ string_bytes to.old ++ record_text «record».now) }
 {
     match record {
-        Record::Ack(ids) => add_ids(alloc, "ACK", ids.as_slice(), to),
-        Record::Message(message) => add_message(alloc, message, to),
-        Record::Offer(ids) => add_ids(alloc, "OFFER", ids.as_slice(), to),
-        Record::Request(ids) => add_ids(alloc, "REQUEST", ids.as_slice(), to),
+        Record::Ack(ids) => add_ids("ACK", ids.as_slice(), to),
+        Record::Message(message) => add_message(message, to),
+        Record::Offer(ids) => add_ids("OFFER", ids.as_slice(), to),
+        Record::Request(ids) => add_ids("REQUEST", ids.as_slice(), to),
         Record::Versions(versions) => add_hex(alloc, "VERSIONS ", versions.as_slice(), to),
         Record::Priority(nonce) => add_hex(alloc, "PRIORITY ", nonce.as_bytes(), to),
     }
@@ -89,19 +90,20 @@ fn add_hex(alloc: Global, word: &str, bytes: &[u8], to: &mut String) -> Result<(
 }
 
 // A word and ids.
-fn add_ids(alloc: Global, word: &str, ids: &[MessageId], to: &mut String) -> Result<(), AllocError>
+fn add_ids(word: &str, ids: &[MessageId], to: &mut String) -> Result<(), AllocError>
     ensures { OnOk result
         (string_bytes to.new ≡ string_bytes to.old ++ (word.now ++ ids_text ids.now)) }
 {
     to.push_str(word)?;
     'ids: for id in ids {
-        add_hex(alloc, " ", id.as_bytes(), to)?;
+        to.push(' ')?;
+        add_id(id, to)?;
     }
     Ok(())
 }
 
 // A message's id, its group, its time and the length of its body.
-fn add_message(alloc: Global, message: &Message, to: &mut String) -> Result<(), AllocError>
+fn add_message(message: &Message, to: &mut String) -> Result<(), AllocError>
     ensures { OnOk result
         (string_bytes to.new ≡ string_bytes to.old ++ (codes "MESSAGE" ++ message_text
         message.now)) }
@@ -111,7 +113,9 @@ fn add_message(alloc: Global, message: &Message, to: &mut String) -> Result<(), 
     let body = message.body();
     let id = message_id(&group, time, body);
     let len = body.len();
-    add_hex(alloc, "MESSAGE ", id.as_bytes(), to)?;
-    add_hex(alloc, " ", group.as_bytes(), to)?;
+    to.push_str("MESSAGE ")?;
+    add_id(&id, to)?;
+    to.push(' ')?;
+    add_id(&group, to)?;
     write!(to, " {time} {len}")
 }

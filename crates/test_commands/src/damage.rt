@@ -1,18 +1,20 @@
 //! Files that are damaged, cut, or another program's: what a load says of them, and that no command
-//! changes them.
+//! changes them. An audit finds the same.
 
 use crate::damage_tables::{
-    CHANGED, CUT, FOREIGN, Found, GROWN, INVERTED, MAY_NOT_FOLLOW, NO_FRAME, OLD_GROWN,
-    OLD_MAY_NOT_FOLLOW, OLD_ONE, ONE, PAIRS,
+    ACCOUNT_MAY_NOT_FOLLOW, CHANGED, CUT, FOREIGN, Found, GROWN, INVERTED, MAY_NOT_FOLLOW,
+    NO_FRAME, OLD_GROWN, OLD_MAY_NOT_FOLLOW, OLD_ONE, ONE, PAIRS,
 };
 use crate::journal::{BEGUN, OLD_BEGUN, add_frames, journal_from};
 use crate::play::Order;
 use crate::tally::{Tally, expect};
 use crate::want::{Files, Said};
 use anyhow::Result;
+use client_sharing::SharingBundle;
 use outside::MemDisk;
 use std::alloc::{AllocError, Global};
 use sync_top::Status;
+use test_audits::audited;
 
 /// Plays all damages.
 pub(crate) fn play_all(tally: &mut Tally) -> Result<()> {
@@ -28,8 +30,9 @@ pub(crate) fn play_all(tally: &mut Tally) -> Result<()> {
     play_foreign(tally)
 }
 
-// The files are found to be this, by commands that look and by those that add.
+// The files are found to be this, by an audit, by commands that look and by those that add.
 fn find(files: Files<'_>, found: Found, tally: &mut Tally) -> Result<()> {
+    find_audited(files, found, tally)?;
     match found {
         Found::NoStore => refuse(files, Said::line(Status::NoStore, b"no store\n"), tally),
         Found::Damaged(file, place) => {
@@ -44,6 +47,12 @@ fn find(files: Files<'_>, found: Found, tally: &mut Tally) -> Result<()> {
     }
 }
 
+fn find_audited(files: Files<'_>, found: Found, tally: &mut Tally) -> Result<()> {
+    let disk = files.disk(tally.alloc)?;
+    let answer = audited(tally.alloc, &disk, &SharingBundle::new());
+    Ok(tally.count(answer == found.audited(), "an audit")?)
+}
+
 fn damaged_line(alloc: Global, file: u8, place: u64) -> Result<String, AllocError> {
     format!(in alloc; "damaged: file {file} at {place}\n")
 }
@@ -54,7 +63,7 @@ fn contacts_text(alloc: Global, count: u8) -> Result<String, AllocError> {
 
 // Every command that loads the files leaves them, with this line.
 fn refuse(files: Files<'_>, said: Said<'_>, tally: &mut Tally) -> Result<()> {
-    for words in ["show", "contact", "inbox", "group note 0 d"] {
+    for words in ["show", "contact", "inbox", "group note 0 d", "audit"] {
         expect(&Order::new(words, b""), files, said, files, tally)?;
     }
     Ok(())
@@ -173,6 +182,9 @@ fn raw_file(alloc: Global, one: &[u8; 22], digits: &str) -> Result<Vec<u8>> {
 // it.
 fn play_payloads(tally: &mut Tally) -> Result<()> {
     for (before, payload) in &MAY_NOT_FOLLOW {
+        play_payload(&BEGUN, before, payload, tally)?;
+    }
+    for (before, payload) in &ACCOUNT_MAY_NOT_FOLLOW {
         play_payload(&BEGUN, before, payload, tally)?;
     }
     for (before, payload) in &OLD_MAY_NOT_FOLLOW {

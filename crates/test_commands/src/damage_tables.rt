@@ -1,8 +1,11 @@
 //! Damaged files, and what a load should say of them.
 
 use crate::journals::{
-    FRESH, HELD, INVALID, NOTE, OLD_HELD, OLD_INVALID, OLD_PENDING, PENDING, THREAD,
+    ACCOUNT, ACCOUNT_GONE, ACCOUNT_HELD, ACCOUNT_ROWS, ACCOUNT_UNJUDGED, EMPTY, FRESH, HELD,
+    INVALID, NOTE, OLD_HELD, OLD_INVALID, OLD_PENDING, ONE as CONTACT, PENDING, THREAD,
 };
+use journal_audit::{AuditFault, Report};
+use outside::Place;
 
 /// What two files are found to be.
 #[derive(Clone, Copy)]
@@ -11,6 +14,23 @@ pub(crate) enum Found {
     Damaged(u8, u64),
     /// A journal of so many contacts alone.
     Contacts(u8),
+}
+
+impl Found {
+    /// What an audit answers.
+    pub(crate) fn audited(self) -> Result<Report, AuditFault> {
+        match self {
+            Found::NoStore => Err(AuditFault::NoStore),
+            Found::Damaged(file, at) => Err(AuditFault::Damaged(Place { file, at })),
+            Found::Contacts(count) => Ok(Report {
+                batches: u64::from(count),
+                entries: u64::from(count),
+                good: 0,
+                bad: 0,
+                settled: true,
+            }),
+        }
+    }
 }
 
 // A journal with one contact.
@@ -458,8 +478,83 @@ pub(crate) static MAY_NOT_FOLLOW: [(&str, &str); 58] = [
     (INVALID, "0f0000000000000000000000000000010000000000000000"),
 ];
 
-// The same in format 1.
-pub(crate) static OLD_MAY_NOT_FOLLOW: [(&str, &str); 56] = [
+// The same of the kinds of a brief account.
+pub(crate) static ACCOUNT_MAY_NOT_FOLLOW: [(&str, &str); 28] = [
+    (CONTACT, "1000000000"),
+    (ACCOUNT, "1000000000"),
+    (EMPTY, "10000000000100"),
+    (
+        NOTE,
+        "11000076ff4980d3b5f63962cee45401b6b1bb92efe989c27de4629aac92b18163e6e00000000000000000000178",
+    ),
+    (
+        NOTE,
+        "13001111111111111111111111111111111111111111111111111111111111111111",
+    ),
+    (HELD, "12000000000001000000000000000000"),
+    (
+        ACCOUNT,
+        "11010176ff4980d3b5f63962cee45401b6b1bb92efe989c27de4629aac92b18163e6e00000000000000000000178",
+    ),
+    (
+        ACCOUNT,
+        "11000176ff4980d3b5f63962cee45401b6b1bb92efe989c27de4629aac92b18163e6e00000000000000000000178",
+    ),
+    (
+        ACCOUNT,
+        "110000c1af82673999b1a2e9fa43bb9059dffe0c9aae24bcb4e2d70ebeaa554b9a57360000000000000000000178",
+    ),
+    (
+        ACCOUNT,
+        "11000076ff4980d3b5f63962cee45401b6b1bb92efe989c27de4629aac92b18163e6e000000000000000000001ff",
+    ),
+    (
+        ACCOUNT,
+        "11000076ff4980d3b5f63962cee45401b6b1bb92efe989c27de4629aac92b18163e6e000000000000000000001780101",
+    ),
+    (
+        ACCOUNT_UNJUDGED,
+        "11000076ff4980d3b5f63962cee45401b6b1bb92efe989c27de4629aac92b18163e6e00000000000000001000178",
+    ),
+    (ACCOUNT_UNJUDGED, "12000000000001000000000000000000"),
+    (
+        ACCOUNT_HELD,
+        "11000076ff4980d3b5f63962cee45401b6b1bb92efe989c27de4629aac92b18163e6e00000000000000000000178",
+    ),
+    (ACCOUNT_HELD, "12010000000001000000000000000000"),
+    (ACCOUNT_HELD, "12000000000101000000000000000000"),
+    (ACCOUNT_HELD, "12000000000000000000000000000000"),
+    (ACCOUNT_HELD, "12000000000008000000000000000000"),
+    (ACCOUNT_HELD, "12000000000001410000000000000000"),
+    (ACCOUNT_HELD, "12000000000001000000000000000001"),
+    (
+        ACCOUNT_HELD,
+        "1200000000000100000000000000000012000000000002000000000000000000",
+    ),
+    (ACCOUNT_HELD, "120000000000010000000000000000000101"),
+    (
+        ACCOUNT_HELD,
+        "13011111111111111111111111111111111111111111111111111111111111111111",
+    ),
+    (
+        ACCOUNT_HELD,
+        "13003443418c0382800e42ae01fb9d676b7b25405d2875809cf8d6808f04741c96a4",
+    ),
+    (
+        ACCOUNT_HELD,
+        "1300111111111111111111111111111111111111111111111111111111111111111113001111111111111111111111111111111111111111111111111111111111111111",
+    ),
+    (ACCOUNT_ROWS, "12000000000001000000000000000000"),
+    (
+        ACCOUNT_ROWS,
+        "13001111111111111111111111111111111111111111111111111111111111111111",
+    ),
+    (ACCOUNT_GONE, "12000000000001000000000000000000"),
+];
+
+// The same as the first in format 1.
+pub(crate) static OLD_MAY_NOT_FOLLOW: [(&str, &str); 57] = [
+    (EMPTY, "1000000000"),
     (NOTE, "0100"),
     (NOTE, "0102"),
     (NOTE, "01010102"),

@@ -5,9 +5,11 @@ use crate::journals::{EMPTY, FRESH, HELD, NOTE, ONE};
 use crate::play::{Came, Failing, Order, play};
 use crate::want::{Files, Said};
 use anyhow::Result;
+use client_sharing::SharingBundle;
 use outside::MemDisk;
 use std::alloc::Global;
 use sync_top::Status;
+use test_audits::agree;
 
 /// A command over a journal. It appends so many frames, and each time the gate of a frame opens
 /// there is a new journal.
@@ -107,14 +109,15 @@ impl Scene {
     }
 }
 
-/// Whether `show` says this of a disk, and leaves its files.
+/// Whether `show` says this of a disk, and leaves its files; an audit says what a load tells.
 pub(crate) fn shows(alloc: Global, said: Said<'_>, disk: MemDisk) -> Result<bool> {
     let kept = Files::on(&disk).disk(alloc)?;
+    let agrees = agree(alloc, &kept, &SharingBundle::new());
     let came = play(alloc, &Order::new("show", b""), disk)?;
-    Ok(said.is_of(&came) & Files::on(&kept).are_on(came.disk()))
+    Ok(agrees & said.is_of(&came) & Files::on(&kept).are_on(came.disk()))
 }
 
-pub(crate) static SCENES: [Scene; 10] = [
+pub(crate) static SCENES: [Scene; 11] = [
     Scene {
         begun: false,
         before: EMPTY,
@@ -230,6 +233,19 @@ pub(crate) static SCENES: [Scene; 10] = [
         words: "tree 76ff4980d3b5f63962cee45401b6b1bb92efe989c27de4629aac92b18163e6e0 0 10",
         input: b"",
         out: b"0 1 3443418c0382800e42ae01fb9d676b7b25405d2875809cf8d6808f04741c96a4\n",
+        adds: "",
+        shown: [
+            "contacts 1\ngroup 76ff4980d3b5f63962cee45401b6b1bb92efe989c27de4629aac92b18163e6e0 6e6f7465 0 64\nmessage 3443418c0382800e42ae01fb9d676b7b25405d2875809cf8d6808f04741c96a4 76ff4980d3b5f63962cee45401b6b1bb92efe989c27de4629aac92b18163e6e0 delivered\nsessions 0\n",
+            "",
+            "",
+        ],
+    },
+    Scene {
+        begun: true,
+        before: HELD,
+        words: "audit",
+        input: b"",
+        out: b"legal 4 5 1 0 settled\n",
         adds: "",
         shown: [
             "contacts 1\ngroup 76ff4980d3b5f63962cee45401b6b1bb92efe989c27de4629aac92b18163e6e0 6e6f7465 0 64\nmessage 3443418c0382800e42ae01fb9d676b7b25405d2875809cf8d6808f04741c96a4 76ff4980d3b5f63962cee45401b6b1bb92efe989c27de4629aac92b18163e6e0 delivered\nsessions 0\n",

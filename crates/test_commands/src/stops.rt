@@ -6,9 +6,11 @@ use crate::scenes::{SCENES, Scene};
 use crate::tally::Tally;
 use crate::want::{Files, Said};
 use anyhow::Result;
+use client_sharing::SharingBundle;
 use outside::{MemDisk, Pick};
 use std::alloc::Global;
 use sync_top::Status;
+use test_audits::agree;
 
 /// An image of those that a crash may leave, and from which call of an append on it may have the
 /// gate open: the third writes it, and until the sync behind it it may be as it was or any byte.
@@ -140,14 +142,15 @@ fn begin_twice(files: Files<'_>, tally: &mut Tally) -> Result<()> {
     Ok(())
 }
 
-// Whether an `init` leaves the empty journal: done where no file has an open header, and else
-// refused.
+// Whether an audit of the files says what a load of them tells, and an `init` leaves the empty
+// journal: done where no file has an open header, and else refused.
 fn begins(alloc: Global, files: Files<'_>) -> Result<bool> {
     let said = if files.are_begun() {
         Said::line(Status::Exists, b"store exists\n")
     } else {
         Said::done(b"ready\n")
     };
+    let agrees = agree(alloc, &files.disk(alloc)?, &SharingBundle::new());
     let came = begin(alloc, Failing::Nothing, files)?;
-    Ok(said.is_of(&came) & Files::one(&BEGUN).are_on(came.disk()))
+    Ok(agrees & said.is_of(&came) & Files::one(&BEGUN).are_on(came.disk()))
 }

@@ -8,6 +8,7 @@ use std::hash::RandomState;
 use std::process::Abort;
 use std::test::Fail;
 use sync_store::Store;
+use test_audits::{audited, told_by_load};
 
 /// What is in the journal; its file, of generation 1; and the other file behind the migration, as
 /// `oracle/migration.py` prints them.
@@ -61,6 +62,16 @@ fn migrate_one(
     assert!(rt; disk.file(1) == short.as_slice(), "{label}");
     let store = Store::load(alloc, hasher, &mut disk, &Bundle, MAX_JOURNAL)?;
     assert_eq!(rt; store.state().held(), held, "{label}");
+    audit_one(rt, alloc, label, first)?;
+    audit_one(rt, alloc, label, second)
+}
+
+// An audit of a journal, in either format, comes to what a load of it tells.
+fn audit_one(rt: &impl Abort, alloc: Global, label: &str, digits: &str) -> Result<(), Fail> {
+    let disk = MemDisk::new(alloc, hex::decode(alloc, digits)?, Vec::new(alloc))?;
+    let report = audited(alloc, &disk, &Bundle);
+    assert!(rt; report.is_ok(), "{label}");
+    assert_eq!(rt; report, told_by_load(alloc, &disk, &Bundle), "{label}");
     Ok(())
 }
 

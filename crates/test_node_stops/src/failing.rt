@@ -10,6 +10,7 @@ use outside::{MemDisk, Pick};
 use std::alloc::Global;
 use sync_node::NodeFault;
 use sync_rules::Entry;
+use test_audits::agree;
 use test_links::{Device, Fault};
 
 /// Lets each call of a scene fail.
@@ -87,8 +88,9 @@ fn keeps_sent(device: &Device<Bundle>) -> bool {
     covers(host.disk().file(0), host.sent(0), host.sent(1))
 }
 
-/// Whether a store is loaded, once no call fails any more.
+/// Whether a store is loaded, once no call fails any more, and an audit says the same of it.
 fn loads(alloc: Global, mut disk: MemDisk) -> bool {
     disk.fail_none();
-    device_over(alloc, disk).is_ok()
+    let agrees = agree(alloc, &disk, &Bundle::new());
+    agrees && device_over(alloc, disk).is_ok()
 }

@@ -7,6 +7,7 @@ use client_basic::Bundle;
 use outside::{MemDisk, MemHost, Pick};
 use std::alloc::Global;
 use sync_node::NodeFault;
+use test_audits::agree;
 use test_links::{Device, Fault};
 
 /// What a crash may leave.
@@ -73,6 +74,8 @@ fn look_each(
         let frames = count_front(image.file(0), whole.file.as_slice());
         let is_right = frames == Some(frames_of(scene, stop, pick));
         hold(rt, "the frames", scene.name(), stop, is_right)?;
+        let agrees = agree(alloc, &image, &Bundle::new());
+        hold(rt, "the audit", scene.name(), stop, agrees)?;
         let keeps = keeps_sent(alloc, device.host(), image)?;
         hold(rt, "what was sent", scene.name(), stop, keeps)?;
         count = count.saturating_add(u32::from(is_right && keeps));

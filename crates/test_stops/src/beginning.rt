@@ -1,4 +1,5 @@
 //! A store that is begun, stopped at each call of the disk under each image, and begun again.
+use crate::auditing::look_at;
 use crate::compare::{Case, PICKS, WHOLE, compare, say};
 use crate::files::disk_with;
 use anyhow::Result;
@@ -135,6 +136,7 @@ impl Table {
         let want = left(Err(LoadFault::NoStore), case, calls);
         let got = standing(self.alloc, &image);
         compare(rt, "init", case, &got, &want);
+        look_at(rt, self.alloc, "audit of an init", case, &image);
         self.once.add(got);
         self.stop_all_second(rt, &image, want)
     }
@@ -180,6 +182,7 @@ impl Table {
         let image = disk.image(case.pick)?;
         let got = standing(self.alloc, &image);
         compare(rt, "second init", case, &got, &want);
+        look_at(rt, self.alloc, "audit of a second init", case, &image);
         self.twice.add(got);
         self.end_third(rt, &image, got)
     }
@@ -194,6 +197,7 @@ impl Table {
         let disk = begun(rt, "third init", image, u64::MAX, want)?;
         let left = standing(self.alloc, &disk);
         compare(rt, "the store in the end", WHOLE, &left, &Ok(EMPTY));
+        look_at(rt, self.alloc, "audit of the end", WHOLE, &disk);
         Ok(())
     }
 }

@@ -1,4 +1,5 @@
 //! Many messages that wait for one which arrives last.
+use crate::auditing::look_at;
 use crate::compare::{PICKS, WHOLE, compare, say};
 use crate::files::read_frames;
 use crate::hearing::{begin, hear, hear_settled};
@@ -78,6 +79,7 @@ fn settle_whole(rt: &impl Print, alloc: Global, disk: MemDisk) -> Result<u64> {
     let calls = node.disk().calls();
     let disk = settle_rest(rt, node);
     look(rt, alloc, disk.file(0), &BATCHES, 600)?;
+    look_at(rt, alloc, "audit of a cascade", WHOLE, &disk);
     look_again(rt, load(alloc, disk)?);
     Ok(calls)
 }
@@ -128,6 +130,7 @@ fn go_on_each(rt: &impl Print, alloc: Global, stopped: &MemDisk) -> Result<()> {
 /// What is left of a cascade that was stopped, and the rest of it.
 fn go_on(rt: &impl Print, alloc: Global, image: MemDisk) -> Result<()> {
     look(rt, alloc, image.file(0), &BATCHES[..1], 255)?;
+    look_at(rt, alloc, "audit of a cascade stopped", WHOLE, &image);
     let node = load(alloc, image)?;
     compare(rt, "a cascade left", WHOLE, &counts(&node), &(600, 255));
     let disk = settle_rest(rt, node);

@@ -1,6 +1,7 @@
 //! Files of which a byte was changed or the end is missing, and two files with open headers: what a
 //! load answers.
-use crate::compare::{Case, PICKS, compare, say};
+use crate::auditing::look_at;
+use crate::compare::{Case, PICKS, WHOLE, compare, say};
 use crate::files::{CONTACT, disk_with};
 use anyhow::Result;
 use client_basic::Bundle;
@@ -157,7 +158,7 @@ fn headed(header: (u8, u64)) -> [u8; 15] {
     [1, b'B', b'S', b'P', b'J', format, a, b, c, d, e, f, g, h, 0]
 }
 
-/// Prints what a load answers, and looks whether it wrote.
+/// Prints what a load answers, which an audit is to answer too, and looks whether it wrote.
 fn load(
     rt: &impl Print,
     alloc: Global,
@@ -168,6 +169,7 @@ fn load(
     let mut disk = disk_with(alloc, file0, file1)?;
     let answer = end_of(alloc, &mut disk, &Bundle::new());
     look_all(rt, &disk, file0, file1)?;
+    look_at(rt, alloc, "audit of a damaged file", WHOLE, &disk);
     print_answer(rt, label, answer)
 }
 

@@ -1,5 +1,6 @@
 //! Each call of a disk that fails in turn, with no crash: the answer, the store after it, and the
 //! next load.
+use crate::auditing::look_at;
 use crate::beginning::{EMPTY, begun, count_calls};
 use crate::compare::{Case, compare, say};
 use crate::files::{GROUP, disk_with, failing_disk};
@@ -54,9 +55,15 @@ fn fail_posts(rt: &impl Print, alloc: Global) -> Result<()> {
     Ok(())
 }
 
-/// What a load of a disk comes to, none of whose calls fails any more.
-fn end_again(alloc: Global, mut disk: MemDisk) -> Result<u64, LoadFault> {
+/// What a load of a disk comes to, none of whose calls fails any more; an audit comes to the same.
+fn end_again(
+    rt: &impl Print,
+    alloc: Global,
+    case: Case,
+    mut disk: MemDisk,
+) -> Result<u64, LoadFault> {
     disk.fail_none();
+    look_at(rt, alloc, "audit of a failed call", case, &disk);
     end_of(alloc, &mut disk, &Bundle::new())
 }
 
@@ -74,7 +81,7 @@ fn fail_init(
     } else {
         Err(LoadFault::NoStore)
     };
-    let end = end_again(alloc, disk);
+    let end = end_again(rt, alloc, Case::at(stop), disk);
     compare(rt, "after init", Case::at(stop), &end, &want);
     Ok(())
 }
@@ -92,7 +99,8 @@ fn fail_load(rt: &impl Print, alloc: Global, stop: u64) -> Result<(), AllocError
         &GROUP.as_slice(),
     );
     let [before, ..] = ENDS;
-    compare(rt, "after load", case, &end_again(alloc, disk), &Ok(before));
+    let end = end_again(rt, alloc, case, disk);
+    compare(rt, "after load", case, &end, &Ok(before));
     Ok(())
 }
 
@@ -100,7 +108,7 @@ fn fail_post(rt: &impl Print, alloc: Global, stop: u64) -> Result<()> {
     let next = note_batch(alloc, 1)?;
     let disk = look_failed(rt, post(alloc, stop)?, next, Case::at(stop));
     let stage = (stop.saturating_add(1) / APPEND_CALLS) as usize;
-    let got = end_again(alloc, disk).ok();
+    let got = end_again(rt, alloc, Case::at(stop), disk).ok();
     let want = ENDS.get(stage).copied();
     compare(rt, "after a post", Case::at(stop), &got, &want);
     Ok(())

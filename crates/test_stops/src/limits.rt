@@ -1,4 +1,5 @@
 //! A limit that leaves room for a message and its settling, and one that lacks a byte.
+use crate::auditing::look_at;
 use crate::compare::{WHOLE, compare, say};
 use crate::files::{GROUP, OLD_GROUP, disk_with};
 use crate::posting::{LOAD_CALLS, Node, note_batch};
@@ -132,6 +133,7 @@ fn accept(rt: &impl Print, alloc: Global, case: &Case) -> Result<()> {
         let want = Some(SHORT_STEPS.as_slice());
         compare(rt, "the steps of format 2", WHOLE, &steps, &want);
     }
+    look_at(rt, alloc, "audit within a limit", WHOLE, &disk);
     let frames = frames_behind(alloc, disk.file(0))?;
     print_sizes(rt, case, case.enough, "accepted", accepted)?;
     print_settled(rt, frames.as_slice(), settled)

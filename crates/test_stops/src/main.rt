@@ -1,7 +1,8 @@
 //! Stops a store at each call of its disk, lets each call fail, fills it, and damages its files,
-//! and compares what comes of it with what the rules say.
+//! compares what comes of it with what the rules say, and audits each file beside its load.
 #![tactic(auto)]
 
+mod auditing;
 mod beginning;
 mod cascade;
 mod compare;

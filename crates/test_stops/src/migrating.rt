@@ -1,5 +1,6 @@
 //! A journal of format 1 that is written anew in format 2, stopped at each call of the disk under
 //! each image; and one of the last generation, which can't be.
+use crate::auditing::look_at;
 use crate::compare::{Case, PICKS, WHOLE, compare, say};
 use crate::files::{OLD_GROUP, disk_with};
 use crate::posting::{Node, joined, load, note};
@@ -176,6 +177,7 @@ fn look(
         &image.file(0),
         &journals.old.as_slice(),
     );
+    look_at(rt, alloc, "audit of a migration", case, &image);
     let (old, new) = ENDS;
     let want = if case.is_open(CALLS) { new } else { old };
     let mut copy = image.image(Pick::New)?;

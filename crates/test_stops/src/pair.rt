@@ -1,6 +1,7 @@
 //! Two messages that wait for each other.
 ghost use Rattle.std.specs.Prelude.{◌≡◌, ◌∷◌, [], cond, nat_eq, IfOk};
 
+use crate::auditing::look_for;
 use crate::compare::{WHOLE, compare, say};
 use crate::hearing::{begin, hear_settled};
 use crate::values::{group_def, message};
@@ -64,22 +65,28 @@ impl Clients for Pair {
 pub(crate) fn wait(rt: &impl Print, alloc: Global) -> Result<()> {
     let device = hear_both(alloc)?;
     look(rt, &device);
-    look_again(rt, device.load_again(alloc)?);
+    let clients = make_pair(alloc)?;
+    look_again(rt, alloc, device.load_again(alloc)?, &clients);
     say(
         rt,
         &"two that wait for each other: both pending, and settled",
     )
 }
 
+/// The clients of both messages.
+fn make_pair(alloc: Global) -> Result<Pair> {
+    let group = group_id(&group_def(alloc, "pair")?);
+    Ok(Pair {
+        first: id_of(&message(alloc, group, 0, b"first")?),
+        second: id_of(&message(alloc, group, 1, b"second")?),
+    })
+}
+
 /// A store to which both messages came, settled after each.
 fn hear_both(alloc: Global) -> Result<Device<MemDisk, Pair>> {
     let def = group_def(alloc, "pair")?;
     let group = group_id(&def);
-    let clients = Pair {
-        first: id_of(&message(alloc, group, 0, b"first")?),
-        second: id_of(&message(alloc, group, 1, b"second")?),
-    };
-    let mut device = begin(alloc, clients, def)?;
+    let mut device = begin(alloc, make_pair(alloc)?, def)?;
     hear_two(alloc, &mut device, group)?;
     Ok(device)
 }
@@ -89,11 +96,12 @@ fn hear_two(alloc: Global, device: &mut Device<MemDisk, Pair>, group: GroupId) -
     Ok(hear_settled(alloc, device, 1, message(alloc, group, 1, b"second")?)?)
 }
 
-fn look_again(rt: &impl Print, device: Device<MemDisk, Pair>) {
+fn look_again(rt: &impl Print, alloc: Global, device: Device<MemDisk, Pair>, clients: &Pair) {
     let mut device = device;
     compare(rt, "a pair settled again", WHOLE, &device.settle(), &Ok(()));
     look(rt, &device);
-    let _ = device.into_disk();
+    let disk = device.into_disk();
+    look_for(rt, alloc, "audit of a pair", WHOLE, &disk, clients);
 }
 
 /// The fates of the held messages, and whether the store is settled.

@@ -1,4 +1,5 @@
 //! A message that is posted and settled, stopped at each call of the disk under each image.
+use crate::auditing::look_at;
 use crate::compare::{Case, PICKS, WHOLE, compare, say};
 use crate::files::{GROUP, count_front, failing_disk, read_frames};
 use crate::stages::{Images, POST_CALLS, Stage};
@@ -10,6 +11,7 @@ use std::alloc::{AllocError, Global};
 use sync_ids::{GroupId, Message, group_id};
 use sync_rules::{Batch, Entry, id_of};
 use sync_store::StoreFault;
+use test_audits::audited;
 use test_device::{AddFault, Device, end_of};
 
 /// How many calls a load of the file `GROUP` makes: two syncs, two headers, the length, two for
@@ -155,6 +157,9 @@ fn look(rt: &impl Print, alloc: Global, whole: &[u8], case: Case, disk: &MemDisk
     let mut copy = image.image(Pick::New)?;
     let end = end_of(alloc, &mut copy, &Bundle::new());
     compare(rt, "end", case, &end, &Ok(stage.end()));
+    look_at(rt, alloc, "audit of a post", case, &image);
+    let report = audited(alloc, &image, &Bundle::new());
+    compare(rt, "report of a post", case, &report, &Ok(stage.report()));
     settle(rt, alloc, whole, case, copy)
 }
 
@@ -180,6 +185,7 @@ fn settle(rt: &impl Print, alloc: Global, whole: &[u8], case: Case, image: MemDi
     compare(rt, "messages", case, &counts(&node), &(count, count, true));
     let disk = node.into_disk();
     look_frames(rt, "frames settled", case, &disk, whole, stage.settled());
+    look_at(rt, alloc, "audit of a post settled", case, &disk);
     let frames = read_frames(alloc, disk.file(0))?;
     compare(
         rt,

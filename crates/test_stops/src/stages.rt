@@ -1,5 +1,6 @@
 //! How far the post of a message has come.
 use crate::compare::Case;
+use journal_audit::Report;
 
 /// How many calls a commit makes: two writes, and a sync behind each.
 pub(crate) const APPEND_CALLS: u64 = 4;
@@ -54,6 +55,22 @@ impl Stage {
             Stage::Bare => 2,
             Stage::Posted => 3,
             Stage::Settled => 4,
+        }
+    }
+
+    /// What an audit reports of a file of this stage, which begins with a contact and a group.
+    pub(crate) fn report(self) -> Report {
+        let (batches, entries, settled) = match self {
+            Stage::Bare => (2, 2, true),
+            Stage::Posted => (3, 3, false),
+            Stage::Settled => (4, 5, true),
+        };
+        Report {
+            batches,
+            entries,
+            good: self.messages(),
+            bad: 0,
+            settled,
         }
     }
 

@@ -8,6 +8,7 @@ pub(crate) enum Lookup {
     Settling,
     Load,
     Compact,
+    Audit,
     Held,
     Contacts,
     Groups,

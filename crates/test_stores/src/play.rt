@@ -7,6 +7,7 @@ use anyhow::Result;
 use outside::{MAX_JOURNAL, MemDisk, Pick};
 use std::alloc::Global;
 use sync_rules::Batch;
+use test_audits::agree;
 use test_device::{AddFault, Device};
 use test_drafts::Timing;
 
@@ -73,8 +74,11 @@ fn compare_all(game: &mut Game, device: &Node, settles: bool) -> Result<()> {
     compare_loaded(game, device, left)
 }
 
-/// Compares the store's look-ups, and those of the store that is loaded of this disk.
+/// Compares the store's look-ups, and those of the store that is loaded of this disk, and an audit
+/// of it with what a load tells.
 fn compare_loaded(game: &mut Game, device: &Node, left: MemDisk) -> Result<()> {
+    let agrees = agree(game.alloc, &left, &Timing);
+    game.note(Lookup::Audit, agrees)?;
     match Device::load(game.alloc, left, Timing, MAX_JOURNAL) {
         Ok(loaded) => compare(game, device.store(), loaded.store()),
         Err(_) => game.note(Lookup::Load, false),

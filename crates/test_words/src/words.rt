@@ -210,6 +210,7 @@ fn show(rt: &impl Abort, alloc: Global, command: &Command, to: &mut String) {
         }
         Command::Agree(contact, group) => show_agree(rt, alloc, *contact, group, to),
         Command::Compact => add(rt, to, &["compact"]),
+        Command::Audit => add(rt, to, &["audit"]),
         Command::MailboxIn(contact) => {
             let contact = decimal(rt, alloc, u64::from(*contact));
             add(rt, to, &["mailbox in ", contact.as_str()]);
@@ -275,7 +276,7 @@ const FRONT: &str = "tree 76ff4980d3b5f63962cee45401b6b1bb92efe989c27de4629aac92
 const END: &str =
     "tree 76ff4980d3b5f63962cee45401b6b1bb92efe989c27de4629aac92b18163e6e0+4294967295+4294967295";
 
-static COMMANDS: [(&[&str], &str); 71] = [
+static COMMANDS: [(&[&str], &str); 73] = [
     (&[], "usage 0"),
     (&[""], "usage 0"),
     (&["Try", "note", "d"], "usage 0"),
@@ -332,6 +333,8 @@ static COMMANDS: [(&[&str], &str); 71] = [
     (&["inbox", "x"], "usage 1"),
     (&["compact"], "compact"),
     (&["compact", ""], "usage 1"),
+    (&["audit"], "audit"),
+    (&["audit", "x"], "usage 1"),
     (&["body", ID], BODY),
     (&["body"], "usage 1"),
     (&["body", ""], "usage 1"),
@@ -594,12 +597,9 @@ fn lines_of_streams(rt: HostRuntime) {
     let alloc = rt.alloc();
     let id = id(&rt, ID);
     let mut to = String::new(alloc);
-    made(&rt, try_line(alloc, Fate::Delivered, &id, 0, 1, &mut to));
-    made(&rt, try_line(alloc, Fate::Invalid, &id, 7, 32_768, &mut to));
-    made(
-        &rt,
-        try_line(alloc, Fate::Pending, &id, u64::MAX / 2, 2, &mut to),
-    );
+    made(&rt, try_line(Fate::Delivered, &id, 0, 1, &mut to));
+    made(&rt, try_line(Fate::Invalid, &id, 7, 32_768, &mut to));
+    made(&rt, try_line(Fate::Pending, &id, u64::MAX / 2, 2, &mut to));
     add_records(&rt, alloc, &mut to);
     made(&rt, skipped_line(5, 9, 2, &mut to));
     same(&rt, 1, &to.as_str(), &STREAM_LINES);

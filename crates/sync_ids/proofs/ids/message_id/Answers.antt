@@ -1,10 +1,11 @@
--- The parts are those of the definition, one after the other.
+-- The block is that of the definition's parts.
+use Rattle.std.proofs.Common.{[]}
+use Rattle.bramble_hash.specs.Parts.{hash}
 use Rattle.sync_ids.specs.Ids.{message_id_of}
 use Rattle.sync_ids.proofs.ids.message_id.Goals as goal
 
 pub returns : goal.returns
-unfolding message_id_of
+unfolding message_id_of hash
 returns c =
-    let first = c.part-2.ensures.holds _ (c.part.ensures.holds _ c.new-parts.ensures.holds) in
-    let all = c.finish.ensures _ (c.part-5.ensures.holds _ (c.part-4.ensures.holds _ (c.part-3.ensures.holds _ first))) in
-    rw (c.as_bytes.ensures.value, c.to_be_bytes.ensures, c.block_hash.ensures.value) at all
+    let all = c.finalize.ensures [] _ (c.update.ensures.holds [] [] c.new-hasher.ensures.holds) in
+    rw (c.message_block.ensures, c.block_hash.ensures.value) at all

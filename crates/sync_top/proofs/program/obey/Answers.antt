@@ -35,6 +35,11 @@ returns-in-Tree-clause-comes g c =
     (command.Tree c.in-Tree.group c.in-Tree.from c.in-Tree.count) _ _ _ _ _ _ _ c.in-Tree.is
     (inl (c.print_tree.ensures, (record { same = refl; same_faults = refl })))
 
+pub returns-in-Audit-clause-comes : goal.returns-in-Audit-clause-comes
+returns-in-Audit-clause-comes g c =
+    as_command (g.C.Clients.meaning c.args.clients.now) c.args.asked command.Audit _ _ _ _ _ _ _
+    c.in-Audit.is (inl (c.print_audit.ensures, (record { same = refl; same_faults = refl })))
+
 pub returns-in-Post-clause-comes : goal.returns-in-Post-clause-comes
 returns-in-Post-clause-comes g c =
     as_command (g.C.Clients.meaning c.args.clients.now) c.args.asked (command.Post c.in-Post.group c.in-Post.timestamp) _ _ _ _ _ _ _ c.in-Post.is

@@ -16,47 +16,47 @@ use Rattle.journal_state.proofs.MoreHeld.{no_number, honest_more, held_parts, he
 use Rattle.journal_state.proofs.Tables.{room_spent, one_less}
 use Rattle.journal_state.proofs.state.State.hold.Goals as goal
 
-abbrev message_held : (c : goal.After-hold-2) → Held
+abbrev message_held : (c : goal.After-hold) → Held
 message_held c = record { id = message_id_of c.args.message; message = c.args.message; origin = c.args.origin }
 
-pub hold-requires-clause-new : goal.hold-requires-clause-new
-hold-requires-clause-new c =
+pub hold-number-requires-clause-new : goal.hold-number-requires-clause-new
+hold-number-requires-clause-new c =
     let new : held_at c.self.inside.messages.held (message_id_of c.args.message) ≡ None =
     ap (λ (v : StateValue). held_at v.facts.held (message_id_of c.args.message)) c.self.view_is ∙ c.requires.can.new in
     ap (nodes.number_of c.self.inside.graph.nodes) (c.id.view_is ∙ c.requires.named)
     ∙ no_number c.self.inside.messages.held c.self.inside.graph.nodes c.self.invariant.state.named (message_id_of c.args.message) new
 
-new_id : (c : goal.After-hold-2) → held_at c.self.inside.messages.held (message_id_of c.args.message) ≡ None
+new_id : (c : goal.After-hold) → held_at c.self.inside.messages.held (message_id_of c.args.message) ≡ None
 new_id c = ap (λ (v : StateValue). held_at v.facts.held (message_id_of c.args.message)) c.self.view_is ∙ c.requires.can.new
 
-known : (c : goal.After-hold-2) → levels.number_of c.self.inside.table.groups c.args.message.group ≡ Some c.unwrap-group.result
+known : (c : goal.After-hold) → levels.number_of c.self.inside.table.groups c.args.message.group ≡ Some c.unwrap-group.result
 known c = ap (levels.number_of c.self.inside.table.groups) (sym c.group.ensures) ∙ (sym c.group-2.ensures.number ∙ c.unwrap-group.ensures)
 
-unwanted : (c : goal.After-hold-2) → UnwantsBelow c.self.inside.table.contacts c.self.inside.retry c.unwant_from_all.new.retry (message_id_of c.args.message)
+unwanted : (c : goal.After-hold) → UnwantsBelow c.self.inside.table.contacts c.self.inside.retry c.unwant_from_all.new.retry (message_id_of c.args.message)
 unwanted c =
     subst (λ n. UnwantsBelow n c.self.inside.retry c.unwant_from_all.new.retry (message_id_of c.args.message)) c.contacts.ensures
     (subst (λ (x : Id). UnwantsBelow c.contacts.result c.self.inside.retry c.unwant_from_all.new.retry x) c.requires.named c.unwant_from_all.ensures)
 
-items : (c : goal.After-hold-2) → c.push.new.self.items ≡ c.self.inside.shares.items ++ false ∷ []
+items : (c : goal.After-hold) → c.push.new.self.items ≡ c.self.inside.shares.items ++ false ∷ []
 items c = rw c.unwrap.ensures at c.push.ensures.items
 
-nodes_are : (c : goal.After-hold-2) → c.hold.new.self.nodes ≡ c.self.inside.graph.nodes ++ nodes.fresh (message_id_of c.args.message) c.unwrap-group.result ∷ []
+nodes_are : (c : goal.After-hold) → c.hold-number.new.self.nodes ≡ c.self.inside.graph.nodes ++ nodes.fresh (message_id_of c.args.message) c.unwrap-group.result ∷ []
 nodes_are c =
-    ap (λ (g : nodes.Shown). g.nodes) c.hold.ensures.nodes
+    ap (λ (g : nodes.Shown). g.nodes) c.hold-number.ensures.nodes
     ∙ ap (λ (x : Id). c.self.inside.graph.nodes ++ nodes.fresh x c.unwrap-group.result ∷ []) (c.id.view_is ∙ c.requires.named)
 
-abbrev after_it : (c : goal.After-hold-2) → Parts
+abbrev after_it : (c : goal.After-hold) → Parts
 after_it c = held_parts (parts c.self.inside) (message_held c) c.unwrap-group.result c.unwant_from_all.new.retry (c.self.inside.space - 1)
 
-made : (c : goal.After-hold-2) → ◌≡◌ {A = Parts} (record (parts c.self.inside) {
-  held = c.hold-2.new.self.held;
-  nodes = c.hold.new.self.nodes;
+made : (c : goal.After-hold) → ◌≡◌ {A = Parts} (record (parts c.self.inside) {
+  held = c.hold.new.self.held;
+  nodes = c.hold-number.new.self.nodes;
   shares = c.push.new.self.items;
   retry = c.unwant_from_all.new.retry;
   space = c.self.inside.space - 1;
 }) (after_it c)
 made c = λ k. record (parts c.self.inside) {
-  held = c.hold-2.ensures.held k;
+  held = c.hold.ensures.held k;
   nodes = nodes_are c k;
   shares = items c k;
   retry = c.unwant_from_all.new.retry;
@@ -67,13 +67,13 @@ pub invariant_of-self : goal.invariant_of-self
 invariant_of-self c =
     let some : 1 ≤ c.self.inside.space = subst (λ (v : StateValue). 1 ≤ v.room.entries) (sym c.self.view_is) c.requires.room in
     let long : length c.push.new.self.items ≡ length c.self.inside.shares.items + 1 = ap length (items c) ∙ length-append c.self.inside.shares.items (false ∷ []) in
-    let spare : c.hold.new.self.spare ≡ c.self.inside.graph.spare - 1 = ap (λ (g : nodes.Shown). g.spare) c.hold.ensures.nodes in
+    let spare : c.hold-number.new.self.spare ≡ c.self.inside.graph.spare - 1 = ap (λ (g : nodes.Shown). g.spare) c.hold-number.ensures.nodes in
     record {
       state = subst IsState (sym (made c))
           (held_state (parts c.self.inside) c.self.invariant.state (message_held c) c.unwrap-group.result c.unwant_from_all.new.retry (c.self.inside.space - 1) (new_id c) (known c) (unwanted c));
       roomy = record {
         table = let m = c.self.invariant.roomy.table in omega (arith, m);
-        messages = let m = c.self.invariant.roomy.messages in let left = c.hold-2.ensures.left in omega (arith, m, left);
+        messages = let m = c.self.invariant.roomy.messages in let left = c.hold.ensures.left in omega (arith, m, left);
         sessions = let m = c.self.invariant.roomy.sessions in omega (arith, m);
         graph = let m = c.self.invariant.roomy.graph in omega (arith, m, spare);
         shares = let m = c.self.invariant.roomy.shares in omega (arith, m, long, some, c.push.ensures.capacity);

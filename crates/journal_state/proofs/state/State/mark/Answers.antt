@@ -1,58 +1,20 @@
-use Rattle.std.proofs.Common.{ℕ, ◌<◌, ◌≤◌, List, Option, length, ap, sym, subst, ◌∙◌, arith}
+use Rattle.std.proofs.Common.{◌≡◌, ℕ, Option, ap, subst, ◌∙◌}
 use Rattle.sync_rules.specs.Facts.{change_row}
 use Rattle.sync_rules.specs.Views.{IsFound, IsPlace}
-use Rattle.retry_table.specs.Table as retry
 use Rattle.journal_state.specs.Marks.{marked}
-use Rattle.journal_state.specs.Room.{KeepsRoom, rows_room, room_in}
-use Rattle.journal_state.specs.Whole.{StateValue, value_of}
-use Rattle.journal_state.specs.Inside.{parts}
-use Rattle.journal_state.proofs.Kept.{marked_state, marked_facts}
-use Rattle.journal_state.proofs.Limited.{limited_mark, limits_kept}
-use Rattle.journal_state.proofs.Tables.{kept_length, room_kept, rows_room_is}
+use Rattle.journal_state.specs.Whole.{id_at}
+use Rattle.journal_state.proofs.Listed.{id_there}
 use Rattle.journal_state.proofs.state.State.mark.Goals as goal
 
-place : (c : goal.After-mark_row) → IsPlace c.self.inside.messages.held c.args.id.now c.unwrap-number.result
-place c = subst (λ (o : Option ℕ). IsFound c.self.inside.messages.held c.args.id.now o) c.unwrap-number.ensures c.find.ensures.found
-
-within : (c : goal.After-mark_row) → c.unwrap-number.result < length (retry.rows_of c.self.inside.retry c.args.contact)
-within c =
-    let room : length c.self.inside.messages.held ≤ rows_room (room_in c.self.inside.space c.self.inside.retry) c.args.contact =
-    subst (λ (v : StateValue). length v.facts.held ≤ rows_room v.room c.args.contact) (sym c.self.view_is) c.requires.room in
-    let rows = rows_room_is c.self.inside.space c.self.inside.retry c.args.contact in
-    let below = (place c).within in
-    omega (arith, room, rows, below)
-
-pub invariant_of-self : goal.invariant_of-self
-invariant_of-self c = record {
-  state = marked_state (parts c.self.inside) c.self.invariant.state c.args.contact c.unwrap-number.result (place c).message (place c).stands (marked c.args.mark) c.mark_row.new.retry c.mark_row.ensures (within c);
-  roomy = record {
-    table = c.self.invariant.roomy.table;
-    messages = c.self.invariant.roomy.messages;
-    sessions = c.self.invariant.roomy.sessions;
-    graph = c.self.invariant.roomy.graph;
-    shares = c.self.invariant.roomy.shares;
-  };
-  few = c.self.invariant.few;
-  met = c.self.invariant.met;
-  honest = c.self.invariant.honest;
-  limited =
-      limits_kept c.self.inside.retry c.mark_row.new.retry c.args.contact c.unwrap-number.result
-      (retry.with_row (marked c.args.mark) (retry.kept_at c.self.inside.retry c.args.contact c.unwrap-number.result)) c.mark_row.ensures (within c)
-      (limited_mark c.args.mark (retry.kept_at c.self.inside.retry c.args.contact c.unwrap-number.result).row
-      (c.self.invariant.limited c.args.contact c.unwrap-number.result)) c.self.invariant.limited;
-  fresh = c.self.invariant.fresh;
-}
+pub mark_at-requires-clause-held : goal.mark_at-requires-clause-held
+mark_at-requires-clause-held c =
+    let place : IsPlace c.args.self.now.facts.held c.args.id.now c.unwrap-number.result =
+    subst (λ (o : Option ℕ). IsFound c.args.self.now.facts.held c.args.id.now o) c.unwrap-number.ensures c.find.ensures.found in
+    place.within
 
 pub returns-clause-facts : goal.returns-clause-facts
 returns-clause-facts c =
-    marked_facts (parts c.self.inside) c.self.invariant.state c.args.contact c.unwrap-number.result (place c).message (place c).stands (marked c.args.mark) c.mark_row.new.retry c.mark_row.ensures (within c)
-    ∙ ((λ i. record (value_of (parts c.self.inside)).facts { rows = change_row (value_of (parts c.self.inside)).facts.rows c.args.contact ((place c).named i) (marked c.args.mark) })
-    ∙ ap (λ (v : StateValue). record v.facts { rows = change_row v.facts.rows c.args.contact c.args.id.now (marked c.args.mark) }) c.self.view_is)
-
-pub returns-clause-room : goal.returns-clause-room
-returns-clause-room c =
-    let long = kept_length c.self.inside.retry c.mark_row.new.retry c.args.contact c.unwrap-number.result (retry.with_row (marked c.args.mark) (retry.kept_at c.self.inside.retry c.args.contact c.unwrap-number.result)) c.mark_row.ensures in
-    subst (λ (v : StateValue). KeepsRoom v.room (room_in c.self.inside.space c.mark_row.new.retry)) c.self.view_is
-    (room_kept c.self.inside.space c.self.inside.space c.self.inside.retry c.mark_row.new.retry (omega arith)
-    (λ k. let e = long k in omega (arith, e))
-    (λ k. let e = ap (λ (ws : List retry.Wants). (retry.wants_of (record c.self.inside.retry { wants = ws }) k).room) c.mark_row.ensures.wants in omega (arith, e)))
+    let old = c.args.self.now.facts in
+    let place : IsPlace old.held c.args.id.now c.unwrap-number.result = subst (λ (o : Option ℕ). IsFound old.held c.args.id.now o) c.unwrap-number.ensures c.find.ensures.found in
+    let same : id_at old.held c.unwrap-number.result ≡ c.args.id.now = id_there old.held c.unwrap-number.result place.message place.stands ∙ place.named in
+    c.mark_at.ensures.facts ∙ (λ i. record old { rows = change_row old.rows c.args.contact (same i) (marked c.args.mark) })

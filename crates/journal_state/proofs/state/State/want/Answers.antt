@@ -24,7 +24,8 @@ returns-clause-facts c =
     let known : c.args.contact < c.self.inside.table.contacts = subst (λ (v : StateValue). c.args.contact < v.facts.contacts) (sym c.self.view_is) c.requires.known in
     let was : (retry.wants_of c.self.inside.retry c.args.contact).ids ≡ wanted_from (value_of (parts c.self.inside)).facts.wanted c.args.contact =
     sym (wants_found c.self.inside.retry c.self.inside.table.contacts c.args.contact c.self.invariant.state.free_wants) in
-    let held : c.is_some-held.result ≡ is_held c.self.inside.messages.held c.args.id = c.is_some-held.ensures ∙ found_held c.self.inside.messages.held c.args.id c.find.result c.find.ensures.found in
+    let held : c.is_some-held.result ≡ is_held c.self.inside.messages.held c.args.id = c.is_some-held.ensures
+    ∙ (found_held c.args.self.now.facts.held c.args.id c.find.result c.find.ensures.found ∙ ap (λ (v : StateValue). is_held v.facts.held c.args.id) (sym c.self.view_is)) in
     ids_facts (parts c.self.inside) c.self.invariant.state c.args.contact (with_want c.is_some-held.result (retry.wants_of c.self.inside.retry c.args.contact).ids c.args.id) c.want_id.new.retry c.want_id.ensures known
     ∙ ((λ i. record (value_of (parts c.self.inside)).facts { wanted = fin_map.insert (value_of (parts c.self.inside)).facts.wanted c.args.contact (with_want (held i) (was i) c.args.id) })
     ∙ ap (λ (v : StateValue). record v.facts { wanted = fin_map.insert v.facts.wanted c.args.contact (with_want (is_held v.facts.held c.args.id) (wanted_from v.facts.wanted c.args.contact) c.args.id) }) c.self.view_is)

@@ -1,4 +1,4 @@
-use Rattle.std.proofs.Common.{ℕ, Option, Some, length, sym, ap, ◌∙◌}
+use Rattle.std.proofs.Common.{ℕ, ◌<◌, Option, Some, length, sym, ap, subst, ◌∙◌}
 use Rattle.std.specs.Option.{option_map}
 use Rattle.sync_rules.specs.Sessions.{send_of}
 use Rattle.journal_state.specs.Whole.{StateValue, id_at, shared_of}
@@ -14,14 +14,16 @@ returns-in_err-number c =
     ∙ (send_found (parts c.self.inside) c.self.invariant.state c.args.contact c.args.mode c.args.now c.ranges.contact.fits
     ∙ ap (λ (v : StateValue). send_of v.facts (shared_of v) c.args.contact c.args.mode c.args.now) c.self.view_is))
 
-pub id-requires : goal.id-requires
-id-requires c =
-    below_is c.in_ok-number.number (length c.self.inside.messages.held)
-    (send_below (parts c.self.inside) c.self.invariant.state c.args.contact c.args.mode c.args.now c.in_ok-number.number (sym c.in_ok-number.ensures))
+pub id_at-requires : goal.id_at-requires
+id_at-requires c =
+    subst (λ (v : StateValue). c.in_ok-number.number < length v.facts.held) c.self.view_is
+    (below_is c.in_ok-number.number (length c.self.inside.messages.held)
+    (send_below (parts c.self.inside) c.self.invariant.state c.args.contact c.args.mode c.args.now c.in_ok-number.number (sym c.in_ok-number.ensures)))
 
 pub returns : goal.returns
 returns c =
-    ap Some (sym (id_shown c.self.inside.messages.held c.in_ok-number.number c.id.result c.id.ensures))
+    ap Some (sym (id_shown c.args.self.now.facts.held c.in_ok-number.number c.id_at.result c.id_at.ensures))
+    ∙ (ap (λ (v : StateValue). Some (id_at v.facts.held c.in_ok-number.number)) (sym c.self.view_is)
     ∙ (ap (λ (o : Option ℕ). option_map (id_at c.self.inside.messages.held) o) c.in_ok-number.ensures
     ∙ (send_found (parts c.self.inside) c.self.invariant.state c.args.contact c.args.mode c.args.now c.ranges.contact.fits
-    ∙ ap (λ (v : StateValue). send_of v.facts (shared_of v) c.args.contact c.args.mode c.args.now) c.self.view_is))
+    ∙ ap (λ (v : StateValue). send_of v.facts (shared_of v) c.args.contact c.args.mode c.args.now) c.self.view_is)))

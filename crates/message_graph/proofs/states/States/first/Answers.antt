@@ -6,4 +6,4 @@ use Rattle.message_graph.proofs.states.States.first.Goals as goal
 
 pub returns : goal.returns
 returns c =
-    c.first_at_most.ensures ∙ first_of_marked c.self.inside.ready c.self.inside.waits.items c.self.invariant.0 ∙ ap (λ (w : Waits). position_from has_step 0 w.waits) c.self.view_is
+    c.next.ensures ∙ first_of_marked c.self.inside.ready c.self.inside.waits.items c.self.invariant.0 ∙ ap (λ (w : Waits). position_from has_step 0 w.waits) c.self.view_is

@@ -8,6 +8,6 @@ use Rattle.sync_ids.specs.declared.lists.TheConstants.{MAX_IDS}
 pub returns : goal.returns
 returns c =
     let q = c.self.inside in
-    subst (λ (numbers : List ℕ). IfOk c.due_places.result (λ v. v.items ≡ numbers))
+    subst (λ (numbers : List ℕ). IfOk c.set_places.result (λ v. v.items ≡ numbers))
     (ap (take MAX_IDS) (owed_found q.rows.items q.owed c.self.invariant.by_debt) ∙ ap (λ (rows : List KeptRow). owed_in rows) c.self.view_is)
-    c.due_places.ensures
+    c.set_places.ensures

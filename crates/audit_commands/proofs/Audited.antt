@@ -1,0 +1,127 @@
+-- An audit, and what is printed of its report.
+use Rattle.std.proofs.Common.{◌≡◌, ◌∙◌, ℕ, List, ap, subst, sym, Result, Ok, Err, Option, Some}
+use Rattle.std.specs.Prelude.{IsErrAnd}
+use Rattle.outside.specs.Disk.{Becomes}
+use Rattle.outside.specs.Files.{Two, File, read_files}
+use Rattle.outside.specs.Outside.{DiskRun, Outside}
+use Rattle.outside.specs.Streams.{IsIdle, Stream}
+use Rattle.outside.proofs.CallSteps.{becomes_told}
+use Rattle.entry_codec.specs.Standing.{Standing, stands}
+use Rattle.sync_rules.specs.Clients.{Meaning}
+use Rattle.journal_audit.specs.declared.report.Report.{Report}
+use Rattle.journal_audit.specs.Answers.{IsAuditOf}
+use Rattle.journal_audit.specs.Files.{AnyImage, ReadsSame, SyncsBoth}
+use Rattle.store_commands.specs.Show.{PrintsText}
+use Rattle.sync_words.specs.declared.outcome.Outcome.{Outcome}
+use Rattle.sync_words.specs.declared.outcome.Outcome.TheVariants as outcome
+use Rattle.sync_words.specs.Outcomes.{came_to}
+use Rattle.audit_commands.specs.Audits.{AuditEnds, AuditedBy, HasAudited, KeepsSynced}
+use Rattle.audit_commands.specs.Audits.{LeavesSynced, PrintsBy, Tells}
+use Rattle.audit_commands.specs.Texts.{legal_text}
+
+-- a step of files that are told
+told_step : (step : Two File → Two File → Type 0) (old new : Option (Two File))
+    (two two' : Two File) → Becomes step old new → old ≡ Some two → new ≡ Some two' → step two two'
+told_step step old new two two' becomes told told' =
+    let at = becomes_told step old new two told becomes in
+    let same : at.0 ≡ two' = let it = sym at.1 ∙ told' in cc in
+    subst (step two) same at.2
+
+-- what holds of an error that goes on by `?`
+passed : (P : Outcome → Type 0) (r : Result (Unit {0}) Outcome) (x : Outcome)
+    → IsErrAnd r (λ e. e ≡ x) → P x → P (came_to r)
+passed P (Ok u) x is holds = absurd is
+passed P (Err e) x is holds = subst P (sym is) holds
+
+module _ (clients : Meaning) (old new : Outside) (out out' : Stream) where
+  -- ---- a report
+
+  printed_by : (text : List ℕ) (came : Outcome) → PrintsText text out out' came
+      → PrintsBy old new out out' came
+  printed_by text outcome.Done printed = tt
+  printed_by text outcome.WriteFault printed = printed.0
+  printed_by text outcome.Memory printed = printed
+  printed_by text _ printed = absurd printed
+
+  printed_ends : (standing : Standing) (r : Report) (came : Outcome) → IsAuditOf clients standing r
+      → PrintsText (legal_text r) out out' came → AuditEnds clients standing out out' came
+  printed_ends standing r outcome.Done is printed =
+      record { report = r; audit = is; printed = printed }
+  printed_ends standing r outcome.WriteFault is printed =
+      record { report = r; audit = is; printed = printed.1 }
+  printed_ends standing r outcome.Memory is printed = tt
+  printed_ends standing r _ is printed = absurd printed
+
+  keeps_of : (came : Outcome) (two two' : Two File) → SyncsBoth two two'
+      → KeepsSynced came two two'
+  keeps_of outcome.DiskFault two two' same = ap read_files same
+  keeps_of _ two two' same = same
+
+  -- the files were audited, and the line of the report was printed
+  pub audited : (came : Outcome) (r : Report) → DiskRun old new → AnyImage old new
+      → Becomes SyncsBoth old.files new.files
+      → ((two : Two File) → old.files ≡ Some two
+      → IsAuditOf clients (stands clients (read_files two)) r)
+      → PrintsText (legal_text r) out out' came → HasAudited clients old new out out' came
+  audited came r run moments synced is printed = record {
+    run = run;
+    by = printed_by (legal_text r) came printed;
+    told = λ two told. record {
+      rests = record {
+        moments = moments two told;
+        kept = λ two' told'.
+            keeps_of came two two'
+            (told_step SyncsBoth old.files new.files two two' synced told told');
+      };
+      ends = printed_ends (stands clients (read_files two)) r came (is two told) printed;
+    };
+  }
+
+  -- ---- no report
+
+  none_by : (came : Outcome) → IsIdle out out' → AuditedBy old new (Err came)
+      → PrintsBy old new out out' came
+  none_by outcome.DiskFault idle by = (by, idle)
+  none_by outcome.NoStore idle by = idle
+  none_by (outcome.Damaged place) idle by = idle
+  none_by outcome.Memory idle by = idle
+  none_by _ idle by = absurd by
+
+  none_ends : (standing : Standing) (came : Outcome) → AuditedBy old new (Err came)
+      → Tells clients standing (Err came) → AuditEnds clients standing out out' came
+  none_ends standing outcome.DiskFault by tells = tt
+  none_ends standing outcome.NoStore by tells = tells
+  none_ends standing (outcome.Damaged place) by tells = tells
+  none_ends standing outcome.Memory by tells = tt
+  none_ends standing _ by tells = absurd by
+
+  none_keeps : (came : Outcome) (two two' : Two File) → Becomes ReadsSame old.files new.files
+      → LeavesSynced old.files new.files (Err came) → old.files ≡ Some two → new.files ≡ Some two'
+      → KeepsSynced came two two'
+  none_keeps outcome.DiskFault two two' reads synced told told' =
+      told_step ReadsSame old.files new.files two two' reads told told'
+  none_keeps _ two two' reads synced told told' =
+      told_step SyncsBoth old.files new.files two two' synced told told'
+
+  -- there was no report, and nothing was printed
+  pub audited_not : (came : Outcome) → DiskRun old new → AnyImage old new
+      → Becomes ReadsSame old.files new.files → LeavesSynced old.files new.files (Err came)
+      → AuditedBy old new (Err came)
+      → ((two : Two File) → old.files ≡ Some two
+      → Tells clients (stands clients (read_files two)) (Err came))
+      → IsIdle out out' → HasAudited clients old new out out' came
+  audited_not came run moments reads synced by tells idle = record {
+    run = run;
+    by = none_by came idle by;
+    told = λ two told. record {
+      rests = record {
+        moments = moments two told;
+        kept = λ two' told'. none_keeps came two two' reads synced told told';
+      };
+      ends = none_ends (stands clients (read_files two)) came by (tells two told);
+    };
+  }
+
+  pub audited_on : (r : Result (Unit {0}) Outcome) (x : Outcome) → IsErrAnd r (λ e. e ≡ x)
+      → HasAudited clients old new out out' x → HasAudited clients old new out out' (came_to r)
+  audited_on r x is = passed (λ (came : Outcome). HasAudited clients old new out out' came) r x is

@@ -1,0 +1,92 @@
+-- What `audit` does: it writes nothing to the files, and prints the line of the report on the
+-- journal that they stand for, or tells that they stand for none.
+use Rattle.std.specs.Prelude.{◌≡◌, ℕ, List, Option, Some, Result, Ok, Err}
+use Rattle.std.specs.Io.KnownBytes.{Appends}
+use Rattle.outside.specs.Disk.{Becomes}
+use Rattle.outside.specs.Faults.{Rose}
+use Rattle.outside.specs.Files.{Two, File, read_files}
+use Rattle.outside.specs.Outside.{DiskRun, Outside}
+use Rattle.outside.specs.Streams.{Stream, IsIdle, GetsFront}
+use Rattle.entry_codec.specs.Standing.{Standing, damaged, no_store, stands}
+use Rattle.sync_rules.specs.Clients.{Meaning}
+use Rattle.journal_audit.specs.declared.report.Report.{Report}
+use Rattle.journal_audit.specs.Answers.{IsAuditOf}
+use Rattle.journal_audit.specs.Files.{SyncsBoth}
+use Rattle.store_commands.specs.Show.{ReadsAs, Rests}
+use Rattle.sync_words.specs.declared.outcome.Outcome.{Outcome}
+use Rattle.sync_words.specs.declared.outcome.Outcome.TheVariants as outcome
+use Rattle.audit_commands.specs.Texts.{legal_text}
+
+-- ---- the audit
+
+-- the causes, whatever the disk tells
+abbrev pub AuditedBy : (old new : Outside) → Result Report Outcome → Type 0
+AuditedBy old new (Ok r) = Unit {0}
+AuditedBy old new (Err outcome.DiskFault) = Rose old.disk_faults new.disk_faults
+AuditedBy old new (Err outcome.NoStore) = Unit {0}
+AuditedBy old new (Err (outcome.Damaged place)) = Unit {0}
+AuditedBy old new (Err outcome.Memory) = Unit {0}
+AuditedBy old new (Err _) = ⊥
+
+-- by what the files stand for
+abbrev pub Tells : Meaning → Standing → Result Report Outcome → Type 0
+Tells clients standing (Ok r) = IsAuditOf clients standing r
+Tells clients standing (Err outcome.NoStore) = standing ≡ no_store
+Tells clients standing (Err (outcome.Damaged place)) = standing ≡ damaged place.file place.at
+Tells clients standing (Err _) = Unit {0}
+
+-- but for a fault of the disk the files read as before, with nothing pending in them
+abbrev pub LeavesSynced : Option (Two File) → Option (Two File) → Result Report Outcome → Type 0
+LeavesSynced old new (Err outcome.DiskFault) = Unit {0}
+LeavesSynced old new (Ok r) = Becomes SyncsBoth old new
+LeavesSynced old new (Err _) = Becomes SyncsBoth old new
+
+-- ---- the command
+
+-- the causes of an outcome, whatever the disk tells: a fault comes only where its count rose, and
+-- nothing is written but the line
+abbrev pub PrintsBy : (old new : Outside) (out out' : Stream) → Outcome → Type 0
+PrintsBy old new out out' outcome.Done = Unit {0}
+PrintsBy old new out out' outcome.WriteFault = Rose out.faults out'.faults
+PrintsBy old new out out' outcome.DiskFault = Rose old.disk_faults new.disk_faults × IsIdle out out'
+PrintsBy old new out out' outcome.NoStore = IsIdle out out'
+PrintsBy old new out out' (outcome.Damaged place) = IsIdle out out'
+PrintsBy old new out out' outcome.Memory = IsIdle out out'
+PrintsBy old new out out' _ = ⊥
+
+-- the files stand for a legal journal, and so much of the line of its report is printed
+pub record PrintsReport (clients : Meaning) (standing : Standing) (P : List ℕ → Type 0) : Type 0
+  where
+    pub report : Report
+    pub audit : IsAuditOf clients standing report
+    pub printed : P (legal_text report)
+
+-- the outcome by what the files stand for
+abbrev pub AuditEnds : Meaning → Standing → (out out' : Stream) → Outcome → Type 0
+AuditEnds clients standing out out' outcome.Done =
+    PrintsReport clients standing (Appends out.bytes out'.bytes)
+AuditEnds clients standing out out' outcome.WriteFault =
+    PrintsReport clients standing (GetsFront out out')
+AuditEnds clients standing out out' outcome.NoStore = standing ≡ no_store
+AuditEnds clients standing out out' (outcome.Damaged place) = standing ≡ damaged place.file place.at
+AuditEnds clients standing out out' outcome.DiskFault = Unit {0}
+AuditEnds clients standing out out' outcome.Memory = Unit {0}
+AuditEnds clients standing out out' _ = ⊥
+
+-- the files read as before; and but for a fault of the disk nothing is pending in them
+abbrev pub KeepsSynced : Outcome → (two two' : Two File) → Type 0
+KeepsSynced outcome.DiskFault two two' = ReadsAs two two'
+KeepsSynced came two two' = SyncsBoth two two'
+
+-- what is so where the files are told
+pub record AuditTold (clients : Meaning) (two : Two File) (old new : Outside) (out out' : Stream)
+    (came : Outcome) : Type 0 where
+  pub rests : Rests (KeepsSynced came two) two old new
+  pub ends : AuditEnds clients (stands clients (read_files two)) out out' came
+
+-- an audit
+pub record HasAudited (clients : Meaning) (old new : Outside) (out out' : Stream)
+    (came : Outcome) : Type 0 where
+  pub run : DiskRun old new
+  pub by : PrintsBy old new out out' came
+  pub told : (two : Two File) → old.files ≡ Some two → AuditTold clients two old new out out' came

@@ -1,0 +1,67 @@
+// The command `audit`.
+ghost use Rattle.std.specs.Prelude.{◌≡◌, Some};
+ghost use Rattle.outside.specs.Disk.{Becomes};
+ghost use Rattle.outside.specs.Files.{File, Two, read_files};
+ghost use Rattle.outside.specs.Outside.{DiskRun};
+ghost use Rattle.entry_codec.specs.Standing.{stands};
+ghost use Rattle.sync_words.specs.Outcomes.{came_to};
+ghost use Rattle.journal_audit.specs.Files.{AnyImage, ReadsSame};
+ghost use Rattle.store_commands.specs.Show.{PrintsText};
+ghost use Rattle.audit_commands.specs.Audits.{AuditedBy, HasAudited, LeavesSynced, Tells};
+ghost use Rattle.audit_commands.specs.Texts.{legal_text};
+
+use crate::lines::legal_line;
+use journal_audit::{AuditFault, Report, audit};
+use outside::{Disk, Sink};
+use std::alloc::Global;
+use store_commands::print_bytes;
+use sync_rules::Clients;
+use sync_words::Outcome;
+
+/// Audits the two files of a store, and prints the line of what is reported of their journal. It
+/// syncs both files, and writes nothing to them.
+pub fn print_audit<D: Disk, W: Sink, C: Clients>(
+    alloc: Global,
+    disk: &mut D,
+    out: &mut W,
+    clients: &C,
+) -> Result<(), Outcome>
+    ensures { HasAudited (C.meaning clients.now) (D.tells disk.old) (D.tells disk.new)
+        (W.tells out.old) (W.tells out.new) (came_to result) }
+{
+    let report = audit_files(alloc, disk, clients)?;
+    print_report(alloc, &report, out)
+}
+
+// The report of the files, or what the command comes to without one.
+fn audit_files<D: Disk, C: Clients>(
+    alloc: Global,
+    disk: &mut D,
+    clients: &C,
+) -> Result<Report, Outcome>
+    ensures run { DiskRun (D.tells disk.old) (D.tells disk.new) }
+    ensures by { AuditedBy (D.tells disk.old) (D.tells disk.new) result }
+    ensures moments { AnyImage (D.tells disk.old) (D.tells disk.new) }
+    ensures reads { Becomes ReadsSame (D.tells disk.old).files (D.tells disk.new).files }
+    ensures synced { LeavesSynced (D.tells disk.old).files (D.tells disk.new).files result }
+    ensures tells { (two : Two File) → (D.tells disk.old).files ≡ Some two
+        → Tells (C.meaning clients.now) (stands (C.meaning clients.now) (read_files two)) result }
+{
+    match audit(alloc, disk, clients) {
+        Ok(report) => Ok(report),
+        Err(AuditFault::Memory) => Err(Outcome::Memory),
+        Err(AuditFault::DiskFault) => Err(Outcome::DiskFault),
+        Err(AuditFault::NoStore) => Err(Outcome::NoStore),
+        Err(AuditFault::Damaged(place)) => Err(Outcome::Damaged(place)),
+    }
+}
+
+// Prints the line of a report.
+fn print_report<W: Sink>(alloc: Global, report: &Report, out: &mut W) -> Result<(), Outcome>
+    ensures { PrintsText (legal_text report.now) (W.tells out.old) (W.tells out.new)
+        (came_to result) }
+{
+    let mut text = String::new(alloc);
+    legal_line(report, &mut text)?;
+    print_bytes(text.as_bytes(), out)
+}

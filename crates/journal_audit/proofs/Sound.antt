@@ -1,0 +1,147 @@
+-- What holds of plain facts stays so, entry by entry.
+use Rattle.std.proofs.Common.{◌≡◌, ◌≢◌, ℕ, ◌+◌, ◌<◌, ◌≤◌, ◌⊎◌, Bool, true, false, not, cond, ◌&&◌, ◌||◌, List, [], ◌∷◌, ◌++◌, length, Option, Some, None, refl, sym, ◌∙◌, ap, subst, inl, inr, arith, is_some, nat_eq, nat_lt, eqb-true, eq-eqb}
+use Rattle.std.specs.FinMap as fin_map
+use Rattle.std.specs.List.{AllByRecursion, list_all, slice_get}
+use Rattle.std.proofs.lemmas.Bool.{and_from, and_parts, false≢true, lt-ltb, or_parts}
+use Rattle.sync_rules.specs.declared.entries.Level.{Level}
+use Rattle.sync_rules.specs.declared.entries.Level.TheVariants as level
+use Rattle.sync_rules.specs.Facts.{Held, Id, Known, LevelMap, Row, Rows, change_row, group_at, held_at, is_held, is_invisible, is_level_shared, known_of, level_at, level_or, no_row, pair_cmp, put_level, row_at, row_or}
+use Rattle.sync_rules.specs.Lists.{same_id}
+use Rattle.sync_rules.specs.Views.{IsFound, IsPlace, place_of}
+use Rattle.sync_rules.proofs.Elements.{same_id-is, same_id_itself}
+use Rattle.sync_rules.proofs.RowLaws.{hits, row_at_change}
+use Rattle.sync_rules.proofs.ScanLaws.{level_at_set}
+use Rattle.sync_rules.proofs.Sound.{group_at-push, held_at-push}
+use Rattle.journal_audit.specs.declared.messages.Line.{Line}
+use Rattle.journal_audit.specs.Lines.{AreLines, Kept, delivered_in, delivered_line, held_in, held_of, id_at, invalid_line, judged_line, line_changed}
+use Rattle.journal_audit.specs.Numbers.{CursorLists, from_of, has, has_for, until_of}
+use Rattle.journal_audit.specs.Plain.{AreGrouped, AreSound, HasLevels, HasRows, Owes, Waits, is_awake}
+use Rattle.journal_audit.proofs.Lines.{HasLine, OldOrNew, WasLine, held_get, old_or_new, place_own, same_held, same_place, was_line}
+use Rattle.journal_audit.proofs.Kept.{lines_changed, lines_delivered, lines_none, lines_push}
+use Rattle.journal_audit.proofs.Places.{held_push, place_found}
+
+-- ---- tests
+
+never : (b : Bool) → b ≡ true → b ≡ false → ⊥
+never b holds fails = false≢true (sym fails ∙ holds)
+
+not_true : (b : Bool) → (b ≡ true → ⊥) → b ≡ false
+not_true true h = absurd (h refl)
+not_true false h = refl
+
+-- ---- nothing
+
+pub sound_none : (groups : List Known) (levels : LevelMap) (kept : Kept) (rows : Rows) (waiting : List ℕ) (owed : List (List ℕ)) (cursors : CursorLists)
+    → levels ≡ fin_map.empty → kept.lines ≡ [] → kept.delivered ≡ [] → rows ≡ fin_map.empty → ((contact : ℕ) → from_of cursors contact ≡ 0) → AreSound 0 groups levels kept rows waiting owed cursors
+sound_none groups levels kept rows waiting owed cursors no_levels no_lines no_delivered no_rows no_cursor =
+    let P : List Line → Type 0 = λ ls. Waits ls waiting in
+    let R : List Line → Type 0 = λ ls. AreGrouped groups (held_in ls) in
+    let O : List Line → Type 0 = λ ls. Owes (held_in ls) rows owed in
+    record {
+      lines = lines_none kept no_lines no_delivered;
+      levels_fit = record {
+        few = omega arith;
+        shown = λ contact group seen. absurd (never _ (ap is_invisible (unset contact group)) seen);
+        hidden = λ contact group beyond. unset contact group;
+      };
+      grouped = subst R (sym no_lines) refl;
+      rows_fit = λ contact id none. ap (λ (r : Rows). row_at r contact id) no_rows ∙ ap row_or (fin_map.get-empty pair_cmp (contact, id));
+      waits = subst P (sym no_lines) (λ n l at. cc);
+      owes = subst O (sym no_lines) (λ contact n h below at. cc);
+      sleeps = λ contact n h at below. let none = no_cursor contact in absurd (omega (arith, none, below));
+      within = λ contact. let none = no_cursor contact in omega (arith, none);
+    }
+  where
+    unset : (contact : ℕ) (group : Id) → level_at levels contact group ≡ level.Invisible
+    unset contact group = ap (λ (l : LevelMap). level_at l contact group) no_levels ∙ ap level_or (fin_map.get-empty pair_cmp (contact, group))
+
+module _ (contacts : ℕ) (groups : List Known) (levels : LevelMap) (kept : Kept) (rows : Rows) (waiting : List ℕ) (owed : List (List ℕ)) (cursors : CursorLists)
+    (s : AreSound contacts groups levels kept rows waiting owed cursors) where
+  -- ---- contacts, groups and levels
+
+  pub sound_contact : contacts < 256 → AreSound (contacts + 1) groups levels kept rows waiting owed cursors
+  sound_contact below = record {
+    lines = s.lines;
+    levels_fit = record {
+      few = omega (arith, below);
+      shown = s.levels_fit.shown;
+      hidden = λ contact group beyond. s.levels_fit.hidden contact group (omega (arith, beyond));
+    };
+    grouped = s.grouped;
+    rows_fit = s.rows_fit;
+    waits = s.waits;
+    owes = s.owes;
+    sleeps = s.sleeps;
+    within = s.within;
+  }
+
+  grouped_more : (x : Known) (hs : List Held) → AreGrouped groups hs → AreGrouped (groups ++ x ∷ []) hs
+  grouped_more x [] all = refl
+  grouped_more x (h ∷ hs) all =
+      let parts = and_parts (is_some (group_at groups h.message.group)) _ all in
+      and_from (is_some (group_at (groups ++ x ∷ []) h.message.group)) _ (ap is_some (group_at-push groups x h.message.group parts.0) ∙ parts.0) (grouped_more x hs parts.1)
+
+  pub sound_group : (x : Known) (groups' : List Known) → groups' ≡ groups ++ x ∷ [] → AreSound contacts groups' levels kept rows waiting owed cursors
+  sound_group x groups' more =
+      let At : List Known → Type 0 = λ gs. AreSound contacts gs levels kept rows waiting owed cursors in
+      subst At (sym more)
+      (record {
+        lines = s.lines;
+        levels_fit = record {
+          few = s.levels_fit.few;
+          shown = λ contact group seen. let was = s.levels_fit.shown contact group seen in ap is_some (group_at-push groups x group was) ∙ was;
+          hidden = s.levels_fit.hidden;
+        };
+        grouped = grouped_more x (held_in kept.lines) s.grouped;
+        rows_fit = s.rows_fit;
+        waits = s.waits;
+        owes = s.owes;
+        sleeps = s.sleeps;
+        within = s.within;
+      })
+
+  pub sound_level : (c : ℕ) (g : Id) (l : Level) (levels' : LevelMap) (cursors' : CursorLists) → c < contacts → is_some (group_at groups g) ≡ true → levels' ≡ put_level levels (c, g) l
+      → ((x : ℕ) → from_of cursors' x ≡ cond (nat_eq x c) 0 (from_of cursors x)) → ((x : ℕ) → until_of cursors' x ≡ cond (nat_eq x c) 0 (until_of cursors x))
+      → AreSound contacts groups levels' kept rows waiting owed cursors'
+  sound_level c g l levels' cursors' below known put from_is until_is = record {
+    lines = s.lines;
+    levels_fit = record { few = s.levels_fit.few; shown = λ x group. shown x group _ refl; hidden = λ x group beyond. hidden x group beyond };
+    grouped = s.grouped;
+    rows_fit = s.rows_fit;
+    waits = s.waits;
+    owes = s.owes;
+    sleeps = λ x m h at under. sleeps x m h at under (nat_eq x c) refl;
+    within = λ x. within x (nat_eq x c) refl;
+  }
+    where
+      is : (x : ℕ) (group : Id) → level_at levels' x group ≡ cond (nat_eq x c && same_id group g) l (level_at levels x group)
+      is x group = ap (λ (m : LevelMap). level_at m x group) put ∙ level_at_set levels x c group g l
+
+      shown : (x : ℕ) (group : Id) (b : Bool) → (nat_eq x c && same_id group g) ≡ b → is_invisible (level_at levels' x group) ≡ false → is_some (group_at groups group) ≡ true
+      shown x group true e seen = let both = and_parts (nat_eq x c) (same_id group g) e in ap (λ (i : Id). is_some (group_at groups i)) (same_id-is group g both.1) ∙ known
+      shown x group false e seen = s.levels_fit.shown x group (ap is_invisible (sym (is x group ∙ ap (λ b. cond b l (level_at levels x group)) e)) ∙ seen)
+
+      hidden : (x : ℕ) (group : Id) → contacts ≤ x → level_at levels' x group ≡ level.Invisible
+      hidden x group beyond =
+          let other : nat_eq x c ≡ false = not_true (nat_eq x c) (λ e. let same : x ≡ c = eqb-true x c e in absurd (omega (arith, below, beyond, same))) in
+          is x group ∙ ap (λ b. cond (b && same_id group g) l (level_at levels x group)) other ∙ s.levels_fit.hidden x group beyond
+
+      -- the contact begins anew, and nothing is changed for another
+      from_now : (x : ℕ) (b : Bool) → nat_eq x c ≡ b → from_of cursors' x ≡ cond b 0 (from_of cursors x)
+      from_now x b e = from_is x ∙ ap (λ t. cond t 0 (from_of cursors x)) e
+
+      within : (x : ℕ) (b : Bool) → nat_eq x c ≡ b → from_of cursors' x ≤ length kept.lines
+      within x true e = let none = from_now x true e in omega (arith, none)
+      within x false e = let same = from_now x false e in let old = s.within x in omega (arith, same, old)
+
+      sleeps : (x m : ℕ) (h : Held) → slice_get (held_in kept.lines) m ≡ Some h → m < from_of cursors' x → (b : Bool) → nat_eq x c ≡ b
+          → is_awake levels' rows x (until_of cursors' x) h ≡ false
+      sleeps x m h at under true e = let none = from_now x true e in absurd (omega (arith, none, under))
+      sleeps x m h at under false e =
+          let same = from_now x false e in
+          let was : m < from_of cursors x = omega (arith, same, under) in
+          let level_same : level_at levels' x h.message.group ≡ level_at levels x h.message.group =
+          is x h.message.group ∙ ap (λ b. cond (b && same_id h.message.group g) l (level_at levels x h.message.group)) e in
+          let until_same : until_of cursors' x ≡ until_of cursors x = until_is x ∙ ap (λ t. cond t 0 (until_of cursors x)) e in
+          (λ i. is_level_shared (level_same i)
+          && (not (row_at rows x h.id).seen && ((row_at rows x h.id).asked || nat_lt (row_at rows x h.id).expiry (until_same i)))) ∙ s.sleeps x m h at was

@@ -1,0 +1,120 @@
+-- What holds of plain facts stays so when a row changes.
+use Rattle.std.proofs.Common.{◌≡◌, ℕ, ◌<◌, ◌≤◌, ◌⊎◌, Bool, true, false, not, cond, ◌&&◌, ◌||◌, nat_lt, arith, List, Option, Some, None, refl, sym, ◌∙◌, ap, subst, inl, inr, nat_eq, eq-eqb, eqb-true, is_some}
+use Rattle.std.specs.List.{slice_get}
+use Rattle.std.proofs.lemmas.Bool.{and_from, and_parts, false≢true}
+use Rattle.sync_rules.specs.Facts.{Held, Id, Known, LevelMap, Row, Rows, change_row, held_at, is_held, is_level_shared, level_at, row_at}
+use Rattle.sync_rules.specs.Lists.{same_id}
+use Rattle.sync_rules.specs.Views.{IsPlace, place_of}
+use Rattle.sync_rules.proofs.Elements.{same_id-is, same_id_itself}
+use Rattle.sync_rules.proofs.RowLaws.{hits, row_at_change}
+use Rattle.journal_audit.specs.Lines.{Kept, held_in}
+use Rattle.journal_audit.specs.Numbers.{CursorLists, from_of, has_for, until_of}
+use Rattle.journal_audit.specs.Plain.{AreSound, AreWithin, HasRows, Owes, Sleeps, is_awake}
+use Rattle.journal_audit.proofs.Lines.{place_own}
+
+never : (b : Bool) → b ≡ true → b ≡ false → ⊥
+never b holds fails = false≢true (sym fails ∙ holds)
+
+not_true : (b : Bool) → (b ≡ true → ⊥) → b ≡ false
+not_true true h = absurd (h refl)
+not_true false h = refl
+
+module _ (contacts : ℕ) (groups : List Known) (levels : LevelMap) (kept : Kept) (rows : Rows) (waiting : List ℕ) (owed : List (List ℕ)) (cursors : CursorLists)
+    (s : AreSound contacts groups levels kept rows waiting owed cursors) where
+  module _ (rows' : Rows) (owed' : List (List ℕ)) (cursors' : CursorLists) (c : ℕ) (id : Id) (n : ℕ) (change : Row → Row) (row : Row) (place : IsPlace (held_in kept.lines) id n)
+      (changed : rows' ≡ change_row rows c id change) (row_is : row ≡ change (row_at rows c id))
+      (owed_is : (x m : ℕ) → has_for owed' x m ≡ cond (nat_eq x c && nat_eq m n) row.owed (has_for owed x m))
+      (less : (x : ℕ) → from_of cursors' x ≤ from_of cursors x) (until_is : (x : ℕ) → until_of cursors' x ≡ until_of cursors x)
+      (back : row.seen ≡ false → from_of cursors' c ≤ n) where
+    abbrev held : List Held
+    held = held_in kept.lines
+
+    row_now : (x : ℕ) (y : Id) → row_at rows' x y ≡ cond (hits x y c id) (change (row_at rows x y)) (row_at rows x y)
+    row_now x y = ap (λ (r : Rows). row_at r x y) changed ∙ row_at_change rows x c y id change
+
+    rows_fit : HasRows held rows'
+    rows_fit x y none =
+        let apart : same_id id y ≡ false = not_true (same_id id y) (λ e. never (is_held held id) (ap is_some place.first) (ap (is_held held) (same_id-is id y e) ∙ none)) in
+        row_now x y ∙ (ap (λ b. cond (nat_eq x c && b) (change (row_at rows x y)) (row_at rows x y)) apart ∙ (by (nat_eq x c) ∙ s.rows_fit x y none))
+      where
+        by : (t : Bool) → cond (t && false) (change (row_at rows x y)) (row_at rows x y) ≡ row_at rows x y
+        by true = refl
+        by false = refl
+
+    -- the message of the number is the one of the id
+    here : (m : ℕ) (h : Held) → slice_get held m ≡ Some h → same_id id h.id ≡ true → m ≡ n
+    here m h at e =
+        let one : Some m ≡ Some n = sym (place_own held m h s.lines.distinct at) ∙ (ap (place_of held) (sym (same_id-is id h.id e) ∙ sym place.named) ∙ place_own held n place.message s.lines.distinct place.stands) in
+        cc
+
+    there : (m : ℕ) (h : Held) → slice_get held m ≡ Some h → m ≡ n → same_id id h.id ≡ true
+    there m h at e =
+        let one : Some h ≡ Some place.message = sym at ∙ (ap (slice_get held) e ∙ place.stands) in
+        let same : h ≡ place.message = cc in
+        ap (λ (k : Held). same_id id k.id) same ∙ (ap (same_id id) place.named ∙ same_id_itself id)
+
+    -- the row and the number are hit together
+    hit : (x m : ℕ) (h : Held) → slice_get held m ≡ Some h → hits x h.id c id ≡ (nat_eq x c && nat_eq m n)
+    hit x m h at = ap (λ b. nat_eq x c && b) (by (same_id id h.id) refl) where
+      by : (b : Bool) → same_id id h.id ≡ b → same_id id h.id ≡ nat_eq m n
+      by true e = e ∙ sym (eq-eqb m n (here m h at e))
+      by false e = e ∙ sym (not_true (nat_eq m n) (λ t. never (same_id id h.id) (there m h at (eqb-true m n t)) e))
+
+    -- where they are hit, the row is the one that was made
+    made : (x m : ℕ) (h : Held) → slice_get held m ≡ Some h → (nat_eq x c && nat_eq m n) ≡ true → row_at rows' x h.id ≡ row
+    made x m h at e =
+        let both = and_parts (nat_eq x c) (nat_eq m n) e in
+        let contact : x ≡ c = eqb-true x c both.0 in
+        let named : id ≡ h.id = same_id-is id h.id (there m h at (eqb-true m n both.1)) in
+        row_now x h.id ∙ (ap (λ b. cond b (change (row_at rows x h.id)) (row_at rows x h.id)) (hit x m h at ∙ e)
+        ∙ ((λ i. change (row_at rows (contact i) (sym named i))) ∙ sym row_is))
+
+    left : (x m : ℕ) (h : Held) → slice_get held m ≡ Some h → (nat_eq x c && nat_eq m n) ≡ false → row_at rows' x h.id ≡ row_at rows x h.id
+    left x m h at e = row_now x h.id ∙ ap (λ b. cond b (change (row_at rows x h.id)) (row_at rows x h.id)) (hit x m h at ∙ e)
+
+    owes : Owes held rows' owed'
+    owes x m h under at out = by (nat_eq x c && nat_eq m n) refl where
+      by : (b : Bool) → (nat_eq x c && nat_eq m n) ≡ b → (row_at rows' x h.id).owed ≡ false
+      by true e = ap (λ (r : Row). r.owed) (made x m h at e) ∙ (sym (owed_is x m ∙ ap (λ b. cond b row.owed (has_for owed x m)) e) ∙ out)
+      by false e = ap (λ (r : Row). r.owed) (left x m h at e) ∙ s.owes x m h under at (sym (owed_is x m ∙ ap (λ b. cond b row.owed (has_for owed x m)) e) ∙ out)
+
+    sleeps : Sleeps held levels rows' cursors'
+    sleeps x m h at under = by (nat_eq x c && nat_eq m n) refl where
+      none : (t : Bool) → (t && false) ≡ false
+      none true = refl
+      none false = refl
+
+      hit_so : (b : Bool) → row.seen ≡ b → (nat_eq x c && nat_eq m n) ≡ true → is_awake levels rows' x (until_of cursors' x) h ≡ false
+      hit_so true e hits_it =
+          (λ i. is_level_shared (level_at levels x h.message.group)
+          && (not ((ap (λ (r : Row). r.seen) (made x m h at hits_it) ∙ e) i)
+          && ((row_at rows' x h.id).asked || nat_lt (row_at rows' x h.id).expiry (until_of cursors' x)))) ∙ none (is_level_shared (level_at levels x h.message.group))
+      hit_so false e hits_it =
+          let both = and_parts (nat_eq x c) (nat_eq m n) hits_it in
+          let contact : x ≡ c = eqb-true x c both.0 in
+          let number : m ≡ n = eqb-true m n both.1 in
+          let most : from_of cursors' x ≤ n = subst (λ (k : ℕ). from_of cursors' k ≤ n) (sym contact) (back e) in
+          absurd (omega (arith, number, most, under))
+
+      by : (b : Bool) → (nat_eq x c && nat_eq m n) ≡ b → is_awake levels rows' x (until_of cursors' x) h ≡ false
+      by true e = hit_so row.seen refl e
+      by false e =
+          let fewer = less x in
+          let was : m < from_of cursors x = omega (arith, fewer, under) in
+          (λ i. is_level_shared (level_at levels x h.message.group)
+          && (not (left x m h at e i).seen && ((left x m h at e i).asked || nat_lt (left x m h at e i).expiry (until_is x i)))) ∙ s.sleeps x m h at was
+
+    within : AreWithin kept.lines cursors'
+    within x = let fewer = less x in let old = s.within x in omega (arith, fewer, old)
+
+    pub sound_row : AreSound contacts groups levels kept rows' waiting owed' cursors'
+    sound_row = record {
+      lines = s.lines;
+      levels_fit = s.levels_fit;
+      grouped = s.grouped;
+      rows_fit = rows_fit;
+      waits = s.waits;
+      owes = owes;
+      sleeps = sleeps;
+      within = within;
+    }

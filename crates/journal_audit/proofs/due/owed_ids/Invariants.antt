@@ -1,0 +1,11 @@
+-- What was found and what is left are what there is.
+use Rattle.std.proofs.Common.{◌≡◌, ◌++◌, take}
+use Rattle.sync_ids.specs.declared.lists.TheConstants.{MAX_IDS}
+use Rattle.journal_audit.specs.Lines.{held_in}
+use Rattle.journal_audit.specs.Looks.{ids_at, is_owed, seen_of}
+use Rattle.journal_audit.proofs.due.owed_ids.Given as goal
+
+abbrev pub invariant-loop-n : goal.invariant-loop-n
+invariant-loop-n l =
+    take MAX_IDS (l.ids.items ++ ids_at (is_owed (seen_of l.facts) l.contact) (held_in l.facts.messages.lines) l.n-iterator)
+    ≡ take MAX_IDS (ids_at (is_owed (seen_of l.facts) l.contact) (held_in l.facts.messages.lines) l.numbers.keys)

@@ -1,0 +1,23 @@
+use Rattle.std.proofs.Common.{cond, ◌&&◌, nat_eq, ap, ◌∙◌}
+use Rattle.sync_rules.specs.Facts.{Row, Rows}
+use Rattle.journal_audit.specs.Changes.{with_rows}
+use Rattle.journal_audit.specs.Numbers.{has_for}
+use Rattle.journal_audit.specs.Plain.{facts_of}
+use Rattle.journal_audit.specs.Rows.{changed_by}
+use Rattle.journal_audit.proofs.SoundRows.{sound_row}
+use Rattle.journal_audit.proofs.facts.PlainFacts.change_row.Goals as goal
+
+pub returns : goal.returns
+returns c =
+    let p = c.args.self.now in
+    let row = c.in_ok-row.row in
+    record {
+      facts = ap (λ (rows : Rows). with_rows (facts_of p) rows) c.in_ok-row.ensures.rows;
+      sound =
+          sound_row p.contacts p.groups p.levels p.messages p.rows p.waiting p.owed p.cursors c.requires.sound c.change.new.self c.mark_owed.new.owed c.fall_back.new.self
+          c.args.contact c.args.id c.in-Some.n (changed_by c.args.change.now) row c.in-Some.ensures.found c.in_ok-row.ensures.rows c.in_ok-row.ensures.row
+          (λ x m. c.in_ok-mark_owed.ensures x m
+          ∙ ap (λ (r : Row). cond (nat_eq x c.args.contact && nat_eq m c.in-Some.n) r.owed (has_for p.owed x m)) c.row.view_is)
+          c.fall_back.ensures.less c.fall_back.ensures.until (λ unseen. c.fall_back.ensures.back (ap (λ (r : Row). r.seen) c.row.view_is ∙ unseen));
+      knows = λ clients knows. knows;
+    }

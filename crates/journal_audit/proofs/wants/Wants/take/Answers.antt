@@ -1,0 +1,18 @@
+use Rattle.std.proofs.Common.{sym, ap, ◌∙◌}
+use Rattle.std.specs.Cmp.{nat_cmp_total}
+use Rattle.std.specs.FinMap as fin_map
+use Rattle.sync_rules.specs.Facts.{Wants, ids_or, wanted_from}
+use Rattle.journal_audit.proofs.Maps.{got, map_drop}
+use Rattle.journal_audit.proofs.wants.Wants.take.Goals as goal
+
+pub returns-clause-ids : goal.returns-clause-ids
+returns-clause-ids c =
+    c.ids_or.ensures
+    ∙ (ap ids_or (c.remove-found.ensures.value ∙ sym (got nat_cmp_total c.self.inside.wants.entries c.args.contact))
+    ∙ ap (λ (wants : Wants). wanted_from wants c.args.contact) c.self.view_is)
+
+pub returns-clause-rest : goal.returns-clause-rest
+returns-clause-rest c =
+    map_drop nat_cmp_total fin_map.nat_cmp-IsAntisymmetric c.self.inside.wants.entries c.remove-found.new.self.entries c.args.contact
+    c.remove-found.ensures.updates.0
+    ∙ ap (λ (wants : Wants). fin_map.remove wants c.args.contact) c.self.view_is

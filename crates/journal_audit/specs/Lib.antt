@@ -1,0 +1,16 @@
+pub mod Answers
+pub mod Changes
+pub mod Codes
+pub mod Files
+pub mod Frames
+pub mod Lines
+pub mod Looks
+pub mod Numbers
+pub mod Plain
+pub mod Playing
+pub mod Reading
+pub mod Reports
+pub mod Rounding
+pub mod Rows
+pub mod Sessions
+pub mod Telling

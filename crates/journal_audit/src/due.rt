@@ -1,0 +1,203 @@
+//! Which held messages are owed, sent and offered to a contact.
+ghost use Rattle.std.specs.Prelude.{◌≡◌, ◌&&◌, drop, not, nat_le, IfOk, slice_get, take};
+ghost use Rattle.std.specs.Option.{option_copied};
+ghost use Rattle.sync_rules.specs.Facts.{is_level_shared, level_at};
+ghost use Rattle.sync_rules.specs.Sessions.{first_id, ids_where, is_author, is_ripe};
+ghost use Rattle.sync_ids.specs.declared.lists.TheConstants.{MAX_IDS};
+ghost use Rattle.journal_audit.specs.Lines.{held_in};
+ghost use Rattle.journal_audit.specs.Looks.{ids_at, is_line_sendable, is_offered, is_owed, is_sent};
+ghost use Rattle.journal_audit.specs.Looks.{picked, seen_of};
+ghost use Rattle.journal_audit.specs.Plain.{IsSound, shares};
+
+use crate::facts::PlainFacts;
+use crate::levels::Levels;
+use crate::messages::Line;
+use crate::rows::ContactRow;
+use std::alloc::{AllocError, Global};
+use std::collections::BTreeSet;
+use sync_ids::{GroupId, MAX_IDS, MessageId};
+use sync_rules::{Judgement, Level, Mode, Origin};
+
+// ---- one message
+
+/// Whether a group is Shared with the contact.
+pub(crate) fn is_shared(levels: &Levels, contact: u8, group: &GroupId) -> bool
+    ensures { result ≡ is_level_shared (level_at levels.now contact group.now) }
+{
+    match levels.level(contact, group) {
+        Level::Shared => true,
+        Level::Invisible | Level::Visible => false,
+    }
+}
+
+// Whether a message was written here.
+fn is_author(origin: Origin) -> bool
+    ensures { result ≡ is_author origin }
+{
+    match origin {
+        Origin::Author => true,
+        Origin::From(_) => false,
+    }
+}
+
+// Whether a judgement lets its message be sent on.
+fn shares(answer: &Judgement) -> bool
+    ensures { result ≡ shares answer.now }
+{
+    match answer {
+        Judgement::Refuse => false,
+        Judgement::Accept { share, .. } => *share,
+    }
+}
+
+// Whether a message may be sent to a contact for which this row is kept.
+fn is_sendable(levels: &Levels, contact: u8, line: &Line, row: ContactRow) -> bool
+    ensures { result ≡ is_line_sendable levels.now contact line.now row }
+{
+    line.delivered
+        && is_shared(levels, contact, &line.message.group())
+        && !row.seen
+        && (is_author(line.origin) || (line.judged && shares(&line.answer)))
+}
+
+// Whether a message of this row is to be sent now.
+fn is_ripe(mode: Mode, now: u64, row: ContactRow) -> bool
+    ensures { result ≡ is_ripe mode now row }
+{
+    match mode {
+        Mode::Interactive => row.asked,
+        Mode::Batch => row.expiry <= now,
+    }
+}
+
+// Whether a message is to be sent to a contact for which this row is kept.
+fn is_sent(levels: &Levels, contact: u8, mode: Mode, now: u64, line: &Line, row: ContactRow) -> bool
+    ensures { result ≡ (is_line_sendable levels.now contact line.now row && is_ripe mode now row) }
+{
+    is_sendable(levels, contact, line, row) && is_ripe(mode, now, row)
+}
+
+// Whether a message is to be offered to a contact for which this row is kept.
+fn is_offered(levels: &Levels, contact: u8, now: u64, line: &Line, row: ContactRow) -> bool
+    ensures { result ≡ (is_line_sendable levels.now contact line.now row && (not row.asked
+        && nat_le row.expiry now)) }
+{
+    is_sendable(levels, contact, line, row) && !row.asked && row.expiry <= now
+}
+
+// The id of the message of this number, where it waits for an acknowledgement to the contact.
+fn owed_at(facts: &PlainFacts, contact: u8, n: u32) -> Option<MessageId>
+    ensures { result ≡ picked (is_owed (seen_of facts.now) contact)
+        (slice_get (held_in facts.now.messages.lines) n) }
+{
+    let line = facts.messages.get(n)?;
+    if facts.rows.row(contact, &line.id).owed {
+        Some(line.id)
+    } else {
+        None
+    }
+}
+
+// The id of the message of this number, where it is to be sent to the contact.
+fn sent_at(facts: &PlainFacts, contact: u8, mode: Mode, now: u64, n: u32) -> Option<MessageId>
+    requires { IsSound facts.now }
+    ensures { result ≡ picked (is_sent (seen_of facts.now) contact mode now)
+        (slice_get (held_in facts.now.messages.lines) n) }
+{
+    let line = facts.messages.get(n)?;
+    let row = facts.rows.row(contact, &line.id);
+    if is_sent(&facts.levels, contact, mode, now, line, row) {
+        Some(line.id)
+    } else {
+        None
+    }
+}
+
+// The id of the message of this number, where it is to be offered to the contact.
+fn offered_at(facts: &PlainFacts, contact: u8, now: u64, n: u32) -> Option<MessageId>
+    requires { IsSound facts.now }
+    ensures { result ≡ picked (is_offered (seen_of facts.now) contact now)
+        (slice_get (held_in facts.now.messages.lines) n) }
+{
+    let line = facts.messages.get(n)?;
+    let row = facts.rows.row(contact, &line.id);
+    if is_offered(&facts.levels, contact, now, line, row) {
+        Some(line.id)
+    } else {
+        None
+    }
+}
+
+// ---- all of them
+
+/// The ids of the messages of these numbers that wait for an acknowledgement to the contact, at
+/// most the first MAX_IDS of them.
+pub(crate) fn owed_ids(
+    alloc: Global,
+    facts: &PlainFacts,
+    contact: u8,
+    numbers: &BTreeSet<u32>,
+) -> Result<Vec<MessageId>, AllocError>
+    ensures { IfOk result (λ ids. ids.items ≡ take MAX_IDS (ids_at
+        (is_owed (seen_of facts.now) contact) (held_in facts.now.messages.lines)
+        numbers.now.keys)) }
+{
+    let mut ids = Vec::new(alloc);
+    for n in numbers {
+        if ids.len() >= MAX_IDS {
+            break;
+        }
+        if let Some(id) = owed_at(facts, contact, *n) {
+            ids.push(id)?;
+        }
+    }
+    ids.truncate(MAX_IDS);
+    Ok(ids)
+}
+
+/// The first message from this number on that is to be sent to the contact.
+pub(crate) fn first_sent(
+    facts: &PlainFacts,
+    contact: u8,
+    mode: Mode,
+    now: u64,
+    from: u32,
+) -> Option<MessageId>
+    requires { IsSound facts.now }
+    ensures { result ≡ first_id (ids_where (is_sent (seen_of facts.now) contact mode now)
+        (drop from (held_in facts.now.messages.lines))) }
+{
+    for n in from..facts.messages.len() {
+        if let Some(id) = sent_at(facts, contact, mode, now, n) {
+            return Some(id);
+        }
+    }
+    None
+}
+
+/// The ids of the messages from this number on that are to be offered to the contact, at most the
+/// first MAX_IDS of them.
+pub(crate) fn offered_ids(
+    alloc: Global,
+    facts: &PlainFacts,
+    contact: u8,
+    now: u64,
+    from: u32,
+) -> Result<Vec<MessageId>, AllocError>
+    requires { IsSound facts.now }
+    ensures { IfOk result (λ ids. ids.items ≡ take MAX_IDS (ids_where
+        (is_offered (seen_of facts.now) contact now)
+        (drop from (held_in facts.now.messages.lines)))) }
+{
+    let mut ids = Vec::new(alloc);
+    for n in from..facts.messages.len() {
+        if ids.len() >= MAX_IDS {
+            break;
+        }
+        if let Some(id) = offered_at(facts, contact, now, n) {
+            ids.push(id)?;
+        }
+    }
+    ids.truncate(MAX_IDS);
+    Ok(ids)
+}

@@ -1,0 +1,68 @@
+//! The facts of a journal.
+ghost use Rattle.std.specs.Prelude.{◌≡◌, IfOk};
+ghost use Rattle.sync_rules.specs.Clients.{Meaning};
+ghost use Rattle.sync_rules.specs.Facts.{nothing};
+ghost use Rattle.journal_audit.specs.Plain.{IsSound, Knows, facts_of};
+
+use crate::cursors::Cursors;
+use crate::groups::Groups;
+use crate::levels::Levels;
+use crate::messages::Messages;
+use crate::numbers::{ByContact, Numbers};
+use crate::rows::Rows;
+use crate::sessions::Sessions;
+use crate::wants::Wants;
+use std::alloc::{AllocError, Global};
+use sync_rules::Start;
+
+/// The facts of a journal as the definitions have them, in maps and sets. Two sets of arrival numbers
+/// say where it is worth to look for steps and for what is owed: each has the messages that matter,
+/// and maybe more. Cursors say from where on for what is due.
+#[derive(Drop)]
+pub(crate) struct PlainFacts {
+    /// How the journal began.
+    pub(crate) start: Start,
+    /// The number of contacts.
+    pub(crate) contacts: u32,
+    /// The groups.
+    pub(crate) groups: Groups,
+    /// The levels of groups for contacts.
+    pub(crate) levels: Levels,
+    /// The sessions, and the records taken on each.
+    pub(crate) sessions: Sessions,
+    /// The held messages.
+    pub(crate) messages: Messages,
+    /// What is kept of each message for each contact.
+    pub(crate) rows: Rows,
+    /// The ids wanted from each contact.
+    pub(crate) wants: Wants,
+    /// The messages that may have a step.
+    pub(crate) waiting: Numbers,
+    /// For each contact the messages that may wait for our acknowledgement.
+    pub(crate) owed: ByContact,
+    /// For each contact the number below which no message is due to it for a while.
+    pub(crate) cursors: Cursors,
+}
+
+impl PlainFacts {
+    /// The facts of a journal that has no entry.
+    pub(crate) fn new(alloc: Global) -> Result<PlainFacts, AllocError>
+        ensures facts { IfOk result (λ p. facts_of p ≡ nothing) }
+        ensures sound { IfOk result (λ p. IsSound p) }
+        ensures knows { IfOk result (λ p. (clients : Meaning) → Knows clients p) }
+    {
+        Ok(PlainFacts {
+            start: Start::Empty,
+            contacts: 0,
+            groups: Groups::new(alloc),
+            levels: Levels::new(alloc),
+            sessions: Sessions::new(alloc),
+            messages: Messages::new(alloc),
+            rows: Rows::new(alloc),
+            wants: Wants::new(alloc),
+            waiting: Numbers::new(alloc),
+            owed: ByContact::new(alloc)?,
+            cursors: Cursors::new(alloc)?,
+        })
+    }
+}

@@ -1,0 +1,119 @@
+//! The queues of times, each with a number for every block of 64 rows: the least that a row there
+//! has.
+ghost use Rattle.std.specs.Prelude.{◌≡◌, ◌*◌, ◌/◌, ◌+◌, ◌^◌, ◌<◌, ◌≤◌, true, false, IfSome, IfNone};
+ghost use Rattle.std.specs.Prelude.{None, length, slice_set};
+ghost use Rattle.retry_table.specs.Table.{kept_in};
+ghost use Rattle.retry_table.specs.Queues.{time_place, is_later, least_from, AreLeast};
+ghost use Rattle.retry_table.specs.Queues.{is_timely, next_timely, IsUntimely};
+
+use crate::places::put;
+use crate::rows::KeptRow;
+use due_tree::{DueTree, is_due, lesser};
+
+/// The rows of a block.
+const BLOCK: usize = 64;
+
+/// What a time is waited for: to send a message in batch mode, or to offer it.
+#[derive(Clone, Copy)]
+pub(crate) enum Times {
+    ToSend,
+    ToOffer,
+}
+
+/// The place of a row in a queue of times.
+fn place_of(times: Times, row: KeptRow) -> Option<u64>
+    ensures { result ≡ time_place times row }
+{
+    match times {
+        Times::ToSend => row.message_place(),
+        Times::ToOffer => row.offer_place(),
+    }
+}
+
+/// Whether a number is greater than another, or absent where that is there.
+fn is_later(new: Option<u64>, old: Option<u64>) -> bool
+    ensures { result ≡ is_later new old }
+{
+    match (new, old) {
+        (_, None) => false,
+        (None, Some(_)) => true,
+        (Some(m), Some(n)) => m > n,
+    }
+}
+
+/// Whether a row's number is there, and at most the bound.
+fn is_timely(times: Times, row: KeptRow, bound: u64) -> bool
+    ensures { result ≡ is_timely times bound row }
+{
+    is_due(place_of(times, row), bound)
+}
+
+/// The least number that a row of a block has.
+fn least_in(rows: &[KeptRow], times: Times, block: usize) -> Option<u64>
+    requires there { 64 * block < length rows.now }
+    requires few { length rows.now < 2 ^ 60 }
+    ensures { result ≡ least_from times rows.now (64 * block) 64 }
+{
+    let first = BLOCK * block;
+    let mut n = rows.len().min(first + BLOCK);
+    let mut least = None;
+    while n > first {
+        n -= 1;
+        least = lesser(place_of(times, rows[n]), least);
+    }
+    least
+}
+
+/// Mends the number of a row's block after the row was written in place of an old one.
+pub(crate) fn mend(tree: &mut DueTree, times: Times, rows: &[KeptRow], n: usize, old: KeptRow)
+    requires within { n < length rows.now }
+    requires before { AreLeast times (slice_set rows.now n old) tree.old }
+    ensures { AreLeast times rows.now tree.new }
+{
+    let block = n / BLOCK;
+    let new = place_of(times, rows[n]);
+    let least = if is_later(new, place_of(times, old)) {
+        least_in(rows, times, block)
+    } else {
+        lesser(new, tree.get(block))
+    };
+    put(tree, block, least);
+}
+
+/// The first row of a block, from `from` on, whose number is at most the bound.
+fn next_in_block(rows: &[KeptRow], times: Times, from: usize, bound: u64) -> Option<usize>
+    requires { from < 2 ^ 60 }
+    ensures low { IfSome result (λ n. from ≤ n) }
+    ensures timely { IfSome result (λ n. is_timely times bound (kept_in rows.now n) ≡ true) }
+    ensures before { IfSome result (IsUntimely times bound rows.now from) }
+    ensures none { IfNone result (IsUntimely times bound rows.now from (64 * (from / 64) + 64)) }
+{
+    let end = rows.len().min(BLOCK * (from / BLOCK) + BLOCK);
+    for n in from..end {
+        if is_timely(times, rows[n], bound) {
+            return Some(n);
+        }
+    }
+    None
+}
+
+/// The first row from `from` on whose number is at most the bound.
+pub(crate) fn next_at_most(
+    tree: &DueTree,
+    times: Times,
+    rows: &[KeptRow],
+    from: usize,
+    bound: u64,
+) -> Option<usize>
+    requires { AreLeast times rows.now tree.now }
+    ensures { result ≡ next_timely times from bound rows.now }
+{
+    if from >= rows.len() {
+        return None;
+    }
+    if let Some(n) = next_in_block(rows, times, from, bound) {
+        return Some(n);
+    }
+    let block = tree.next_at_most(from / BLOCK + 1, bound)?;
+    next_in_block(rows, times, BLOCK * block, bound)
+}
