@@ -1,5 +1,5 @@
 -- Where calls led, one behind the other, on any machine whose steps are acts.
-use Rattle.std.proofs.Common.{◌≡◌, List, [], ◌∷◌, ◌++◌, refl, sym, ap, subst, inl, inr}
+use Rattle.std.proofs.Common.{◌≡◌, ◌⊎◌, List, [], ◌∷◌, ◌++◌, refl, sym, subst, inl, inr}
 use Rattle.outside.specs.Faults.{Rose}
 use Rattle.outside.specs.Outside.{Outside}
 use Rattle.sync_rules.specs.Clients.{Meaning}
@@ -18,6 +18,17 @@ use Rattle.sync_node.specs.Output.{Journal}
 use Rattle.sync_node.specs.Went.{HasSoon, Stopped, StopsBroken, StopsFull, StopsReady, Went}
 use Rattle.sync_node.proofs.DidLaws.{did_none, did_then, some_then}
 use Rattle.sync_node.proofs.CauseLaws.{rose_before}
+
+-- a front of one batch has it or not
+front_of_one : (b : List Entry) (front others : Journal) → b ∷ [] ≡ front ++ others
+    → ((front ≡ []) × (others ≡ b ∷ [])) ⊎ ((front ≡ b ∷ []) × (others ≡ []))
+front_of_one b [] others parts = inl (refl, sym parts)
+front_of_one b (x ∷ []) others parts =
+    let one : b ∷ [] ≡ x ∷ others = parts in
+    inr (cc, cc)
+front_of_one b (x ∷ (y ∷ ys)) others parts =
+    let two : b ∷ [] ≡ x ∷ (y ∷ (ys ++ others)) = parts in
+    cc
 
 module _ {P : Type 0} (clients : Meaning) (step : P → Act → P → Type 0) where
   pub went_none : (p : P) (s : StoreValue) (o : Outside) → Went clients step p p s s o o
@@ -99,42 +110,50 @@ module _ {P : Type 0} (clients : Meaning) (step : P → Act → P → Type 0) wh
       no_calls : StaysIdle clients s s' o o' → Went clients step p p s s' o o'
       no_calls idle = record { acts = []; path = refl; did = idle.did }
 
-      by_front : (front others : Journal) → b ∷ [] ≡ front ++ others
-          → DidSome clients (commit_acts front) others s s' o o'
-          → Rose o.disk_faults o'.disk_faults → StopsBroken clients step Has p s s' o o'
-      by_front [] others parts did rose = record {
+      -- the batch does not stand, or it does
+      none_stands : DidSome clients [] (b ∷ []) s s' o o' → Rose o.disk_faults o'.disk_faults
+          → StopsBroken clients step Has p s s' o o'
+      none_stands did rose = record {
         to = p;
         acts = [];
         path = refl;
-        next = others;
+        next = b ∷ [];
         beyond = q;
-        goes_on =
-            subst (λ (bs : Journal). Path step p (commit_acts bs) q) parts
-            (path_one step p q (Does (Commit b)) steps);
+        goes_on = path_one step p q (Does (Commit b)) steps;
         did = did;
         stands = will_stand;
         rose = rose;
       }
-      by_front (x ∷ []) others parts did rose =
-          let one : b ∷ [] ≡ x ∷ others = parts in
-          let is : b ≡ x = cc in
-          let none : [] ≡ others = cc in
-          record {
-            to = q;
-            acts = Does (Commit x) ∷ [];
-            path =
-                subst (λ (y : List Entry). Path step p (Does (Commit y) ∷ []) q) is
-                (path_one step p q (Does (Commit b)) steps);
-            next = others;
-            beyond = q;
-            goes_on = subst (λ (bs : Journal). Path step q (commit_acts bs) q) none refl;
-            did = did;
-            stands = inl has;
-            rose = rose;
-          }
-      by_front (x ∷ (y ∷ ys)) others parts did rose =
-          let two : b ∷ [] ≡ x ∷ (y ∷ (ys ++ others)) = parts in
-          cc
+
+      one_stands : DidSome clients (Does (Commit b) ∷ []) [] s s' o o'
+          → Rose o.disk_faults o'.disk_faults → StopsBroken clients step Has p s s' o o'
+      one_stands did rose = record {
+        to = q;
+        acts = Does (Commit b) ∷ [];
+        path = path_one step p q (Does (Commit b)) steps;
+        next = [];
+        beyond = q;
+        goes_on = refl;
+        did = did;
+        stands = inl has;
+        rose = rose;
+      }
+
+      by_front : (front others : Journal) → b ∷ [] ≡ front ++ others
+          → DidSome clients (commit_acts front) others s s' o o'
+          → Rose o.disk_faults o'.disk_faults → StopsBroken clients step Has p s s' o o'
+      by_front front others parts did rose = elim (front_of_one b front others parts) [
+        | inl none ↦
+            none_stands
+            (subst (λ (bs : Journal). DidSome clients [] bs s s' o o') none.1
+            (subst (λ (bs : Journal). DidSome clients (commit_acts bs) others s s' o o') none.0 did))
+            rose
+        | inr one ↦
+            one_stands
+            (subst (λ (bs : Journal). DidSome clients (Does (Commit b) ∷ []) bs s s' o o') one.1
+            (subst (λ (bs : Journal). DidSome clients (commit_acts bs) others s s' o o') one.0 did))
+            rose
+      ]
 
       pub commit_stopped : (e : Fault) → CommitStops clients b s s' o o' e
           → Stopped clients step Has p s s' o o' e
