@@ -1,13 +1,13 @@
 -- What the calls of a store come to, as acts.
 use Rattle.std.proofs.Common.{◌≡◌, ◌≢◌, ℕ, ◌*◌, ◌<◌, false, List, [], ◌∷◌, ◌++◌, append-nil, refl, sym, ◌∙◌, ap, subst, inl, inr, arith, Result, Ok, Err, Some}
-use Rattle.outside.specs.Faults.{Rose}
+use Rattle.outside.specs.Faults.{CountRose}
 use Rattle.outside.specs.Files.{Two, File}
 use Rattle.outside.specs.Outside.{DiskRun, MakesAtMost, Outside}
 use Rattle.sync_rules.specs.declared.entries.Entry.{Entry}
 use Rattle.sync_rules.specs.Clients.{Meaning}
 use Rattle.sync_store.specs.Commits as store_commits
 use Rattle.sync_store.specs.Commits.{needed}
-use Rattle.sync_store.specs.Fitting.{Fits}
+use Rattle.sync_store.specs.Fitting.{FitsFiles}
 use Rattle.sync_store.specs.Moments as store_moments
 use Rattle.sync_store.specs.Moments.{IsBetween, WithAtMost, journal_with}
 use Rattle.sync_store.specs.Ready.{IsReady}
@@ -20,7 +20,7 @@ use Rattle.sync_course.specs.Acts.{commit_acts}
 use Rattle.sync_node.specs.Batches.{Added, AddingBreaks, AddingFull, AddsBy, Breaks, Committed, HasNoRoom, Settled, SettlesBy, SettlingBreaks, StaysIdle}
 use Rattle.sync_node.specs.Courses.{FitsWith, ReadsFront}
 use Rattle.sync_node.specs.Did.{Did}
-use Rattle.sync_node.specs.Fulls.{IsOver}
+use Rattle.sync_node.specs.Fulls.{PassesLimit}
 use Rattle.sync_node.specs.Output.{Journal}
 use Rattle.sync_node.proofs.CourseLaws.{at_most_between, commit_reads, reads_front, settle_reads, told_as}
 use Rattle.sync_node.proofs.PrimLaws.{did_batches, did_some, did_unasked}
@@ -31,12 +31,12 @@ use Rattle.sync_node.proofs.PrimLaws.{did_batches, did_some, did_unasked}
 abbrev pub AddsTo : Meaning → List Entry → Result (Unit {0}) StoreFault → StoreValue → StoreValue
     → Outside → Outside → Type 0
 AddsTo clients batch result s s' o o' =
-    (two : Two File) → o.files ≡ Some two → (j : Journal) → Fits clients s j two
-    → store_moments.Adds clients batch result s' o o' j
+    (two : Two File) → o.files ≡ Some two → (j : Journal) → FitsFiles clients s j two
+    → store_moments.RunsCommit clients batch result s' o o' j
 
 pub commit_did : (clients : Meaning) (s s' : StoreValue) (batch : List Entry) (u : Unit {0})
     (o o' : Outside) → IsReady clients s o.files → DiskRun o o' → MakesAtMost 4 o o'
-    → store_commits.Commits s s' batch (Ok u) → (s'.closed ≡ false → IsReady clients s' o'.files)
+    → store_commits.AnswersCommit s s' batch (Ok u) → (s'.closed ≡ false → IsReady clients s' o'.files)
     → AddsTo clients batch (Ok u) s s' o o' → Committed clients batch s s' o o'
 commit_did clients s s' batch u o o' ready run made answer ready' adds = record {
   did =
@@ -49,9 +49,9 @@ commit_did clients s s' batch u o o' ready run made answer ready' adds = record 
 
 pub commit_breaks : (clients : Meaning) (s s' : StoreValue) (batch : List Entry) (o o' : Outside)
     → IsReady clients s o.files → DiskRun o o' → MakesAtMost 4 o o'
-    → store_commits.Commits s s' batch (Err store_fault.DiskFault)
+    → store_commits.AnswersCommit s s' batch (Err store_fault.DiskFault)
     → AddsTo clients batch (Err store_fault.DiskFault) s s' o o'
-    → Rose o.disk_faults o'.disk_faults → Breaks clients (batch ∷ []) s s' o o'
+    → CountRose o.disk_faults o'.disk_faults → Breaks clients (batch ∷ []) s s' o o'
 commit_breaks clients s s' batch o o' ready run made answer adds rose =
     let stood =
     commit_reads clients s s' batch (Err store_fault.DiskFault) o o' ready.fits run.same_told adds in
@@ -69,7 +69,7 @@ commit_breaks clients s s' batch o o' ready run made answer adds rose =
 -- the host was not called, and the store is as it was
 pub commit_idle : {H : Type 0} (tells : H → Outside) (clients : Meaning) (s s' : StoreValue)
     (batch : List Entry) (e : StoreFault) (host host' : H) → IsReady clients s (tells host).files
-    → DiskRun (tells host) (tells host') → store_commits.Stays s s'
+    → DiskRun (tells host) (tells host') → store_commits.KeepsStore s s'
     → (s'.closed ≡ false → IsReady clients s' (tells host').files) → host' ≡ host
     → AddsTo clients batch (Err e) s s' (tells host) (tells host')
     → StaysIdle clients s s' (tells host) (tells host')
@@ -81,12 +81,12 @@ commit_idle tells clients s s' batch e host host' ready run stays ready' same ad
           (λ j fit.
           let two' = told_as (tells host).files (tells host').files fit.0 run.same_told fit.1 in
           let end = (adds fit.0 fit.1 j fit.2).ends still two'.0 two'.1 in
-          (two'.0, two'.1, subst (λ (whole : Journal). Fits clients s' whole two'.0) end.1 end.2));
+          (two'.0, two'.1, subst (λ (whole : Journal). FitsFiles clients s' whole two'.0) end.1 end.2));
       ready = ready' still;
     }
 
 pub commit_full : (clients : Meaning) (batch : List Entry) (s s' : StoreValue) (o o' : Outside)
-    → StaysIdle clients s s' o o' → IsOver clients batch s s' o o'
+    → StaysIdle clients s s' o o' → PassesLimit clients batch s s' o o'
     → HasNoRoom clients batch s s' o o'
 commit_full clients batch s s' o o' idle over =
     record { idle = idle; before = over.before; over = over.over }
@@ -118,7 +118,7 @@ settle_did clients s s' u o o' ready run has ready' = record {
 
 pub settle_breaks : (clients : Meaning) (s s' : StoreValue) (result : Result (Unit {0}) StoreFault)
     (o o' : Outside) → IsReady clients s o.files → DiskRun o o'
-    → HasSettled clients s s' result o o' → Rose o.disk_faults o'.disk_faults
+    → HasSettled clients s s' result o o' → CountRose o.disk_faults o'.disk_faults
     → SettlingBreaks clients s s' o o'
 settle_breaks clients s s' result o o' ready run has rose =
     let stood = settle_reads clients s s' result o o' has ready.fits run.same_told in
@@ -157,7 +157,7 @@ module _ (clients : Meaning) (batch : List Entry) (s s' : StoreValue)
     ready = ready' still;
   }
 
-  pub add_breaks : Rose o.disk_faults o'.disk_faults → AddingBreaks clients batch s s' o o'
+  pub add_breaks : CountRose o.disk_faults o'.disk_faults → AddingBreaks clients batch s s' o o'
   add_breaks rose =
       let stood : ReadsFront clients has.more s o o' =
       reads_front clients s s' has.more o o' (λ j whole. IsBetween j has.more whole)

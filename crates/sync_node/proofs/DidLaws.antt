@@ -2,19 +2,19 @@
 use Rattle.std.proofs.Common.{◌≡◌, ◌⊎◌, ℕ, ◌+◌, ◌*◌, ◌≤◌, List, [], ◌∷◌, ◌++◌, append-nil, append_assoc, length, length-append, refl, sym, ◌∙◌, ap, subst, inl, inr, arith, slice_index_or, Option, Some, None, is_some}
 use Rattle.outside.specs.Files.{Two, File}
 use Rattle.outside.specs.Outside.{MakesAtMost, Moment, Outside}
-use Rattle.outside.specs.Runs.{IsFront, Told}
+use Rattle.outside.specs.Runs.{IsFront, TellsAll}
 use Rattle.outside.proofs.CallCounts.{most_none, most_then}
 use Rattle.sync_rules.specs.declared.entries.Entry.{Entry}
 use Rattle.sync_rules.specs.Clients.{Meaning}
 use Rattle.entry_codec.specs.Standing.{journal, stands}
 use Rattle.sync_store.specs.Store.{StoreValue}
 use Rattle.sync_course.specs.Acts.{Act, AtFront, batches_in, commit_acts, events_of, next_bytes, sends_on}
-use Rattle.sync_course.specs.Events.{Event, Told as Tells}
+use Rattle.sync_course.specs.Events.{Event, TellsEvents as Tells}
 use Rattle.sync_course.proofs.ActLaws.{batches_in-append, events_of-append, next_wide, sends_on-append}
 use Rattle.sync_course.proofs.ToldLaws.{told_none, told_then}
 use Rattle.sync_node.specs.Courses.{FitsWith, ReadsAs}
 use Rattle.sync_node.specs.Did.{ComesAtFronts, Did, DidSome, HasSentBy, SinceThen}
-use Rattle.sync_node.specs.Going.{Goes}
+use Rattle.sync_node.specs.Going.{LetsNothingFall}
 use Rattle.sync_node.specs.Output.{Journal, sent_on}
 use Rattle.sync_node.proofs.SafeLaws.{goes_none}
 use Rattle.sync_node.proofs.WorkLaws.{goes_then}
@@ -27,7 +27,7 @@ some_on None b x same is = cc
 some_on (Some a) None x same is = cc
 some_on (Some a) (Some b) x same is = (b, refl)
 
-pub told_on : (o o' : Outside) → Goes o o' → Told o → Told o'
+pub told_on : (o o' : Outside) → LetsNothingFall o o' → TellsAll o → TellsAll o'
 told_on o o' goes told =
     let files = some_on o.files o'.files told.two goes.same_files told.files_are in
     let links = some_on o.links.told o'.links.told told.links goes.links.same_told told.links_are in
@@ -124,7 +124,7 @@ calls_add acts bs next =
     length-append next (batches_in (acts ++ bs)) in
     omega (arith, both, first, all)
 
-sent_then : (acts bs : List Act) (o o1 o2 : Outside) → Goes o o1 → HasSentBy acts o o1
+sent_then : (acts bs : List Act) (o o1 o2 : Outside) → LetsNothingFall o o1 → HasSentBy acts o o1
     → HasSentBy bs o1 o2 → HasSentBy (acts ++ bs) o o2
 sent_then acts bs o o1 o2 goes first second told link =
     second (told_on o o1 goes told) link

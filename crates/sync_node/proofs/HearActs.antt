@@ -2,7 +2,7 @@
 use Rattle.std.proofs.Common.{◌≡◌, ℕ, Bool, true, false, List, [], ◌∷◌, ◌++◌, length, take, refl, sym, ◌∙◌, ap, subst, inl, inr}
 use Rattle.outside.specs.declared.host.Heard.{Heard}
 use Rattle.outside.specs.declared.host.Heard.TheVariants as heard_kind
-use Rattle.outside.specs.Host.{Hears, IsCaused}
+use Rattle.outside.specs.Host.{HearsAnswer, IsAnswerCaused}
 use Rattle.outside.specs.Outside.{Outside, QuietCall}
 use Rattle.record_grammar.specs.Stream.{ending}
 use Rattle.record_grammar.specs.declared.stream.Ending.{Ending}
@@ -44,8 +44,8 @@ module _ (clients : Meaning) (n session : ℕ) where
   -- it is asked
   pub link_asked : (given : Heard) (buf : List ℕ) (p : Spot) (s : StoreValue) (o o' : Outside)
       → p.doing ≡ Asks → is_going p.link.stands ≡ true → length buf ≡ PIECE_LEN → QuietCall o o'
-      → Hears n given buf o.links o'.links
-      → IsCaused given (length buf) (o.links.faults n) (o'.links.faults n)
+      → HearsAnswer n given buf o.links o'.links
+      → IsAnswerCaused given (length buf) (o.links.faults n) (o'.links.faults n)
       → LinkWent clients n session p (answered_spot given buf p) s s o o'
   link_asked given buf p s o o' asks going whole call hears caused =
       link_does clients n session p (answered_spot given buf p) (asked_event n given buf) s s o o'
@@ -68,8 +68,8 @@ module _ (clients : Meaning) (n session : ℕ) where
 module _ (clients : Meaning) (n : ℕ) (l : Link) (s : StoreValue) (o o1 : Outside) (buf : List ℕ) (whole : length buf ≡ PIECE_LEN)
     (going : l.end ≡ link_end.Going) (call : QuietCall o o1) where
   -- nothing came for now
-  pub hear_idle : Hears n heard_kind.Idle buf o.links o1.links
-      → IsCaused heard_kind.Idle (length buf) (o.links.faults n) (o1.links.faults n)
+  pub hear_idle : HearsAnswer n heard_kind.Idle buf o.links o1.links
+      → IsAnswerCaused heard_kind.Idle (length buf) (o.links.faults n) (o1.links.faults n)
       → HearingWent clients n l l s s o o1 true
   hear_idle hears caused = record {
     leads = λ heard moved read. record {
@@ -84,8 +84,8 @@ module _ (clients : Meaning) (n : ℕ) (l : Link) (s : StoreValue) (o o1 : Outsi
   }
 
   -- the call failed
-  pub hear_failed : Hears n heard_kind.Failed buf o.links o1.links
-      → IsCaused heard_kind.Failed (length buf) (o.links.faults n) (o1.links.faults n)
+  pub hear_failed : HearsAnswer n heard_kind.Failed buf o.links o1.links
+      → IsAnswerCaused heard_kind.Failed (length buf) (o.links.faults n) (o1.links.faults n)
       → HearingWent clients n l (record l { end = link_end.Failed }) s s o o1 false
   hear_failed hears caused = record {
     leads = λ heard moved read. record {
@@ -106,8 +106,8 @@ module _ (clients : Meaning) (n : ℕ) (l : Link) (s : StoreValue) (o o1 : Outsi
 
   -- the other side ended
   pub hear_ended : (end : LinkEnd) → end ≡ stands_ended (ending l.reader.place l.reader.bytes)
-      → Hears n heard_kind.End buf o.links o1.links
-      → IsCaused heard_kind.End (length buf) (o.links.faults n) (o1.links.faults n)
+      → HearsAnswer n heard_kind.End buf o.links o1.links
+      → IsAnswerCaused heard_kind.End (length buf) (o.links.faults n) (o1.links.faults n)
       → HearingWent clients n l (record l { end = end }) s s o o1 false
   hear_ended end is hears caused = record {
     leads = λ heard moved read.
@@ -128,8 +128,8 @@ module _ (clients : Meaning) (n : ℕ) (l : Link) (s : StoreValue) (o o1 : Outsi
   }
 
   heard_piece : (count : ℕ) (heard : List ℕ) (moved : Bool)
-      → Hears n (heard_kind.Got count) buf o.links o1.links
-      → IsCaused (heard_kind.Got count) (length buf) (o.links.faults n) (o1.links.faults n)
+      → HearsAnswer n (heard_kind.Got count) buf o.links o1.links
+      → IsAnswerCaused (heard_kind.Got count) (length buf) (o.links.faults n) (o1.links.faults n)
       → LinkWent clients n l.session.number (spot_at Asks l heard moved s.state.facts)
       (spot_at (Takes (new_items heard (take count buf))) l (heard ++ take count buf) true s.state.facts) s s o o1
   heard_piece count heard moved hears caused =
@@ -138,8 +138,8 @@ module _ (clients : Meaning) (n : ℕ) (l : Link) (s : StoreValue) (o o1 : Outsi
 
   -- bytes came, and were taken
   pub hear_piece : ReadingsWiden → (count : ℕ) (l' : Link) (s' : StoreValue) (o' : Outside)
-      → Hears n (heard_kind.Got count) buf o.links o1.links
-      → IsCaused (heard_kind.Got count) (length buf) (o.links.faults n) (o1.links.faults n)
+      → HearsAnswer n (heard_kind.Got count) buf o.links o1.links
+      → IsAnswerCaused (heard_kind.Got count) (length buf) (o.links.faults n) (o1.links.faults n)
       → PieceWent clients n (take count buf) l l' s s' o1 o'
       → HearingWent clients n l l' s s' o o' false
   hear_piece widen count l' s' o' hears caused taken = record {
@@ -160,8 +160,8 @@ module _ (clients : Meaning) (n : ℕ) (l : Link) (s : StoreValue) (o o1 : Outsi
   }
 
   pub hear_stops : ReadingsWiden → (count : ℕ) (l' : Link) (s' : StoreValue) (o' : Outside)
-      (e : Fault) → Hears n (heard_kind.Got count) buf o.links o1.links
-      → IsCaused (heard_kind.Got count) (length buf) (o.links.faults n) (o1.links.faults n)
+      (e : Fault) → HearsAnswer n (heard_kind.Got count) buf o.links o1.links
+      → IsAnswerCaused (heard_kind.Got count) (length buf) (o.links.faults n) (o1.links.faults n)
       → ItemsStopped clients n (take count buf) l l' s s' o1 o' e
       → HearingStopped clients n l l' s s' o o' e
   hear_stops widen count l' s' o' e hears caused stopped = record {

@@ -28,7 +28,7 @@ use Rattle.sync_node.specs.declared.fault.Fault.{Fault}
 use Rattle.sync_node.specs.declared.fault.Fault.TheVariants as fault
 use Rattle.sync_node.specs.declared.link.Link.{Link}
 use Rattle.sync_node.specs.Courses.{IsTaking, link_at, spot_at}
-use Rattle.sync_node.specs.Hearing.{Learns}
+use Rattle.sync_node.specs.Hearing.{LearnsNonce}
 use Rattle.sync_node.specs.OnLinks.{ItemsStopped, ItemsWent, LinkStopped, LinkWent, NextWent, PieceWent, RecordStopped, RecordTaken}
 use Rattle.sync_node.proofs.CourseTakes.{closed_behind, learned, not_taking, same_at, to_come}
 use Rattle.sync_node.proofs.LinkActs.{link_does, link_joins, link_no_memory, link_stays, link_stops_then}
@@ -48,7 +48,7 @@ link_passes clients n session its p q s o takes settled passes =
 pub item_one : ReadingsFollow → (clients : Meaning) (n place : ℕ) (r : Record)
     (piece left : List ℕ) (l mid l' : Link) (s s' : StoreValue) (o o' : Outside)
     → l.end ≡ link_end.Going → mid.session ≡ l.session → mid.end ≡ l.end → mid.nonce ≡ l.nonce
-    → ReadsOn piece l.reader (item.One place r ∷ []) left mid.reader → Learns place r mid l'
+    → ReadsOn piece l.reader (item.One place r ∷ []) left mid.reader → LearnsNonce place r mid l'
     → RecordTaken clients l'.session.number r s s' o o'
     → NextWent clients n piece left l l' s s' o o' true
 item_one follow clients n place r piece left l mid l' s s' o o' going same_session same_end same_nonce reads learns takes = record {
@@ -156,7 +156,7 @@ item_bad follow clients n place why piece left l l' s o going same_session end_i
 pub item_stops : ReadingsFollow → (clients : Meaning) (n place : ℕ) (r : Record)
     (piece left : List ℕ) (l mid l' : Link) (s s' : StoreValue) (o o' : Outside) (e : Fault)
     → mid.session ≡ l.session → mid.end ≡ l.end → mid.nonce ≡ l.nonce
-    → ReadsOn piece l.reader (item.One place r ∷ []) left mid.reader → Learns place r mid l'
+    → ReadsOn piece l.reader (item.One place r ∷ []) left mid.reader → LearnsNonce place r mid l'
     → RecordStopped clients l'.session.number r s s' o o' e
     → ItemsStopped clients n piece l l' s s' o o' e
 item_stops follow clients n place r piece left l mid l' s s' o o' e same_session same_end same_nonce reads learns stopped = record {

@@ -5,25 +5,25 @@ use Rattle.std.proofs.lemmas.Bool.{cases_eq, ne_eqb}
 use Rattle.outside.specs.declared.failed.Failed.{Failed}
 use Rattle.outside.specs.declared.limits.TheConstants.{MAX_JOURNAL}
 use Rattle.outside.specs.Files.{Two, File}
-use Rattle.outside.specs.Host.{Sends, SendsPart}
-use Rattle.outside.specs.Links.{Link, Links, sent_of, with_sent}
+use Rattle.outside.specs.Host.{SendsOnLink, SendsPart}
+use Rattle.outside.specs.Links.{ToldLink, Links, sent_of, with_sent}
 use Rattle.outside.specs.Outside.{DiskRun, LinkCall, MakesAtMost, Moment, Outside, QuietCall}
-use Rattle.outside.specs.Runs.{IsFront, Told, sent_at}
+use Rattle.outside.specs.Runs.{IsFront, TellsAll, sent_at}
 use Rattle.outside.proofs.RunLaws.{grow_send, quiet_moments, send_moments, sent_at-other, sent_at-with_sent, went_out}
 use Rattle.sync_rules.specs.declared.entries.Entry.{Entry}
 use Rattle.sync_rules.specs.Clients.{Meaning}
 use Rattle.entry_codec.specs.Standing.{journal, room_of}
-use Rattle.sync_store.specs.Fitting.{Fits, FitsSome, ImagesStand}
-use Rattle.sync_store.specs.Moments.{IsBetween, JournalMoment, Leads}
+use Rattle.sync_store.specs.Fitting.{FitsFiles, FitsSome, ImagesStand}
+use Rattle.sync_store.specs.Moments.{IsBetween, JournalMoment, LeadsTo}
 use Rattle.sync_store.specs.Store.{StoreValue, written_in}
 use Rattle.sync_course.specs.Acts.{Act, AtFront, Fail, Send, batches_in, commit_acts, events_of, next_bytes, sends_on}
-use Rattle.sync_course.specs.Events.{Event, Told as Tells, commits}
+use Rattle.sync_course.specs.Events.{Event, TellsEvents as Tells, commits}
 use Rattle.sync_course.proofs.ActLaws.{batches_in_commits, commit_acts-append, commits_send, events_of_commits}
 use Rattle.sync_course.proofs.CallLaws.{calls_parts}
 use Rattle.sync_course.proofs.ToldLaws.{told_broken, told_commits, told_sent}
 use Rattle.sync_node.specs.Courses.{FitsWith, ReadsAs, ReadsFront}
 use Rattle.sync_node.specs.Did.{ComesAtFronts, Did, DidSome, HasSentBy, SinceThen}
-use Rattle.sync_node.specs.Going.{Goes, specs_of}
+use Rattle.sync_node.specs.Going.{LetsNothingFall, specs_of}
 use Rattle.sync_node.specs.Output.{Journal, sent_on}
 use Rattle.sync_node.proofs.CourseLaws.{fits_grown, fits_on, quiet_most}
 use Rattle.sync_node.proofs.DidLaws.{did_none, since_none}
@@ -60,8 +60,8 @@ module _ (clients : Meaning) (s s' : StoreValue) (may : Journal) (o o' : Outside
     (made : MakesAtMost (4 * length may) o o') (limit : s'.limit ≡ s.limit)
     (format : s'.format ≡ s.format)
     (between : (j whole : Journal) → P j whole → IsBetween j may whole)
-    (leads : (two : Two File) → o.files ≡ Some two → (j : Journal) → Fits clients s j two
-    → Leads clients (P j) (Q j) s' o o') where
+    (leads : (two : Two File) → o.files ≡ Some two → (j : Journal) → FitsFiles clients s j two
+    → LeadsTo clients (P j) (Q j) s' o o') where
   batch_fronts : ComesAtFronts clients (commit_acts may) s o o'
   batch_fronts told j fit =
       let led = leads fit.0 fit.1 j fit.2 in
@@ -152,7 +152,7 @@ did_unasked {H} tells clients s s' host host' same limit format fits =
 -- ---- calls that send nothing
 
 pub did_quiet : (clients : Meaning) (a : Act) (s : StoreValue) (o o' : Outside)
-    → batches_in (a ∷ []) ≡ [] → ((link : ℕ) → sends_on link (a ∷ []) ≡ []) → Goes o o'
+    → batches_in (a ∷ []) ≡ [] → ((link : ℕ) → sends_on link (a ∷ []) ≡ []) → LetsNothingFall o o'
     → QuietCall o o' → o'.links.told ≡ o.links.told → Tells (events_of (a ∷ [])) o o'
     → Did clients (a ∷ []) s s o o'
 did_quiet clients a s o o' none silent goes call same_told tells = record {
@@ -251,7 +251,7 @@ module _ (stand : ImagesStand) (clients : Meaning) (link : ℕ) (bytes : List �
             parts = refl;
             stands_for =
                 stand clients s j told.two m.files
-                (subst (λ (t : Two File). Fits clients s j t) (sym two) fit.2) roomy part.image
+                (subst (λ (t : Two File). FitsFiles clients s j t) (sym two) fit.2) roomy part.image
                 ∙ ap journal (sym (append-nil j));
             part = λ i. cond (nat_eq link i) (take part.count bytes) [];
             begun = λ i.
@@ -266,7 +266,7 @@ module _ (stand : ImagesStand) (clients : Meaning) (link : ℕ) (bytes : List �
 
   -- what went out of it
   out_by : (gone : List ℕ) → o'.links.told ≡ option_map (with_sent link gone) o.links.told
-      → Told o → (i : ℕ)
+      → TellsAll o → (i : ℕ)
       → sent_on o'.links i ≡ sent_on o.links i ++ (cond (nat_eq link i) gone [] ++ [])
   out_by gone went told i =
       let inside : link < length told.links = omega (arith, within, o.all_told told.links told.links_are) in
@@ -275,8 +275,8 @@ module _ (stand : ImagesStand) (clients : Meaning) (link : ℕ) (bytes : List �
       (λ k other. ap (λ t. sent_at t k) went ∙ sent_at-other o.links.told link gone k other)
       ∙ ap (λ (l : List ℕ). sent_on o.links i ++ l) (sym (append-nil (cond (nat_eq link i) gone [])))
 
-  goes_out : (result : Result (Unit {0}) Failed) → Sends link bytes result o.links o'.links
-      → Goes o o'
+  goes_out : (result : Result (Unit {0}) Failed) → SendsOnLink link bytes result o.links o'.links
+      → LetsNothingFall o o'
   goes_out result sends =
       let out = went_out link bytes result o.links o'.links sends in
       goes_link _ o o' call (grow_send link bytes result o.links o'.links sends) sends.same_dialled
@@ -288,7 +288,7 @@ module _ (stand : ImagesStand) (clients : Meaning) (link : ℕ) (bytes : List �
       (fits_on clients s o o' call.same_files j fit)
 
   -- all of it
-  pub did_send : (u : Unit {0}) → Sends link bytes (Ok u) o.links o'.links
+  pub did_send : (u : Unit {0}) → SendsOnLink link bytes (Ok u) o.links o'.links
       → Did clients (Send link bytes ∷ []) s s o o'
   did_send u sends = record {
     goes = goes_out (Ok u) sends;
@@ -302,7 +302,7 @@ module _ (stand : ImagesStand) (clients : Meaning) (link : ℕ) (bytes : List �
   }
 
   -- a front of it, and the call failed
-  pub did_fail : (why : Failed) (sends : Sends link bytes (Err why) o.links o'.links)
+  pub did_fail : (why : Failed) (sends : SendsOnLink link bytes (Err why) o.links o'.links)
       → Did clients (Fail link bytes sends.sent.0 ∷ []) s s o o'
   did_fail why sends = record {
     goes = goes_out (Err why) sends;

@@ -21,7 +21,7 @@ use Rattle.sync_course.proofs.ToldLaws.{told_pass}
 use Rattle.sync_node.specs.declared.fault.Fault.{Fault}
 use Rattle.sync_node.specs.declared.fault.Fault.TheVariants as fault
 use Rattle.sync_node.specs.declared.link.Link.{Link}
-use Rattle.sync_node.specs.Courses.{AllRead, IsRead, IsReadyToSend, link_at, links_from, place_at, spot_at}
+use Rattle.sync_node.specs.Courses.{AllRead, IsLinkRead, IsReadyToSend, link_at, links_from, place_at, spot_at}
 use Rattle.sync_node.specs.Ends.{MaySend}
 use Rattle.sync_node.specs.OnLinks.{DueStopped, DueWent, HearingStopped, HearingWent, LinkActs, LinkMakes, LinkStopped, LinkWent, TurnWent}
 use Rattle.sync_node.specs.OnRuns.{AskingStopped, AskingWent, LinksStopped, LinksWent, OutsSent, OutsStopped, RoundStopped, RoundWent, RunActs, RunMakes, RunStopped, RunWent}
@@ -410,7 +410,7 @@ module _ (clients : Meaning) (first n : ℕ) (links : List Link) (l : Link) (s :
         → OutsSent clients first n now links (slice_set links n l') s s' o o' outs
     outs_sent l' s' o' outs sent = record {
       has_read = λ heard read i x there.
-          subst (λ (bytes : List ℕ). IsRead bytes x) (same_cond i n heard)
+          subst (λ (bytes : List ℕ). IsLinkRead bytes x) (same_cond i n heard)
           (all_read n links heard l l' (heard n) at read (read_on (heard n) l l' sent.same_reader sent.end (read n l at)) i x there);
       makes = λ terms heard moved still made same.
           let to : (h : ℕ → List ℕ) → Place = λ h. place_at (Works n Done) (slice_set links n l') h (cond (nat_lt 0 outs) true moved) still made s'.state.facts in

@@ -5,7 +5,7 @@ use Rattle.std.proofs.lemmas.Bool.{cases_eq, false≢true, lt-ltb, ne_eqb}
 use Rattle.entry_codec.specs.Standing.{room_of}
 use Rattle.outside.specs.declared.failed.Failed.{Failed}
 use Rattle.outside.specs.declared.limits.TheConstants.{MAX_JOURNAL}
-use Rattle.outside.specs.Host.{ReadsClock, Sends as SendsBytes, SendsPart}
+use Rattle.outside.specs.Host.{ReadsClock, SendsOnLink as SendsBytes, SendsPart}
 use Rattle.outside.specs.Outside.{LinkCall, Outside, QuietCall}
 use Rattle.outside.proofs.RunLaws.{front_same}
 use Rattle.record_grammar.specs.Spelling.{spelled}

@@ -5,7 +5,7 @@ use Rattle.std.proofs.lemmas.Bool.{cases_eq, ne_eqb}
 use Rattle.entry_codec.specs.Standing.{room_of}
 use Rattle.outside.specs.declared.failed.Failed.{Failed}
 use Rattle.outside.specs.declared.limits.TheConstants.{MAX_JOURNAL}
-use Rattle.outside.specs.Host.{Sends}
+use Rattle.outside.specs.Host.{SendsOnLink}
 use Rattle.outside.specs.Outside.{Outside}
 use Rattle.outside.proofs.RunLaws.{front_same}
 use Rattle.record_grammar.specs.Spelling.{spelled}
@@ -37,7 +37,7 @@ use Rattle.sync_node.specs.declared.fault.Fault.{Fault}
 use Rattle.sync_node.specs.declared.fault.Fault.TheVariants as fault
 use Rattle.sync_node.specs.declared.link.Link.{Link}
 use Rattle.sync_node.specs.Batches.{CommitStops, Committed}
-use Rattle.sync_node.specs.Courses.{IsRead, attaching_at, link_at, links_from, place_at}
+use Rattle.sync_node.specs.Courses.{IsLinkRead, attaching_at, link_at, links_from, place_at}
 use Rattle.sync_node.specs.Did.{Did}
 use Rattle.sync_node.specs.OnRuns.{BeginStopped, BeginWent, GreetsBy, IsGreeting, RunActs, RunStopped, RunWent, StartStopped, StartWent, StartWentLast}
 use Rattle.sync_node.specs.Sending.{EndsBy, SendsOn}
@@ -56,7 +56,7 @@ pub greeted_once : ImagesStand → (n : ℕ) (first second : List ℕ) (l l' : L
 greeted_once stand n first second l l' o o' within sends over =
     by_result sends.result sends.sends sends.ends
   where
-    by_result : (result : Result (Unit {0}) Failed) → Sends n first result o.links o'.links
+    by_result : (result : Result (Unit {0}) Failed) → SendsOnLink n first result o.links o'.links
         → EndsBy result l l' → GreetsBy n first second l l' o o'
     by_result (Ok u) went ends = record {
       acts = Send n first ∷ [];
@@ -76,8 +76,8 @@ pub greeted_twice : ImagesStand → (n : ℕ) (first second : List ℕ) (l mid l
 greeted_twice stand n first second l mid l' o o1 o' within within1 unfailed one two =
     by_results one.result two.result one.sends one.ends two.sends two.ends
   where
-    by_results : (a b : Result (Unit {0}) Failed) → Sends n first a o.links o1.links
-        → EndsBy a l mid → Sends n second b o1.links o'.links → EndsBy b mid l'
+    by_results : (a b : Result (Unit {0}) Failed) → SendsOnLink n first a o.links o1.links
+        → EndsBy a l mid → SendsOnLink n second b o1.links o'.links → EndsBy b mid l'
         → GreetsBy n first second l l' o o'
     by_results (Ok u) (Ok v) went ends went' ends' = record {
       acts = Send n first ∷ (Send n second ∷ []);
@@ -302,8 +302,8 @@ module _ (clients : Meaning) (x : Session) (links : List Link) (s : StoreValue) 
         elim (get_push_cases links behind.link i y (subst (λ (ls : List Link). slice_get ls i ≡ Some y) behind.pushed there)) [
           | inl old ↦ read i y old
           | inr new ↦
-              subst (λ (k : ℕ). IsRead (heard k) y) (sym new.0)
-              (subst (λ (bytes : List ℕ). IsRead bytes y) (sym none) (subst (IsRead []) (sym new.1) behind.starts.has_read))
+              subst (λ (k : ℕ). IsLinkRead (heard k) y) (sym new.0)
+              (subst (λ (bytes : List ℕ). IsLinkRead bytes y) (sym none) (subst (IsLinkRead []) (sym new.1) behind.starts.has_read))
         ];
     went = λ two told terms left heard moved still made none numbered.
         let plain : length links ≡ 0 + length links = omega arith in

@@ -1,6 +1,6 @@
 -- Where calls led, one behind the other, on any machine whose steps are acts.
 use Rattle.std.proofs.Common.{◌≡◌, ◌⊎◌, List, [], ◌∷◌, ◌++◌, refl, sym, subst, inl, inr}
-use Rattle.outside.specs.Faults.{Rose}
+use Rattle.outside.specs.Faults.{CountRose}
 use Rattle.outside.specs.Outside.{Outside}
 use Rattle.sync_rules.specs.Clients.{Meaning}
 use Rattle.sync_store.specs.Ready.{IsReady}
@@ -111,7 +111,7 @@ module _ {P : Type 0} (clients : Meaning) (step : P → Act → P → Type 0) wh
       no_calls idle = record { acts = []; path = refl; did = idle.did }
 
       -- the batch does not stand, or it does
-      none_stands : DidSome clients [] (b ∷ []) s s' o o' → Rose o.disk_faults o'.disk_faults
+      none_stands : DidSome clients [] (b ∷ []) s s' o o' → CountRose o.disk_faults o'.disk_faults
           → StopsBroken clients step Has p s s' o o'
       none_stands did rose = record {
         to = p;
@@ -126,7 +126,7 @@ module _ {P : Type 0} (clients : Meaning) (step : P → Act → P → Type 0) wh
       }
 
       one_stands : DidSome clients (Does (Commit b) ∷ []) [] s s' o o'
-          → Rose o.disk_faults o'.disk_faults → StopsBroken clients step Has p s s' o o'
+          → CountRose o.disk_faults o'.disk_faults → StopsBroken clients step Has p s s' o o'
       one_stands did rose = record {
         to = q;
         acts = Does (Commit b) ∷ [];
@@ -141,7 +141,7 @@ module _ {P : Type 0} (clients : Meaning) (step : P → Act → P → Type 0) wh
 
       by_front : (front others : Journal) → b ∷ [] ≡ front ++ others
           → DidSome clients (commit_acts front) others s s' o o'
-          → Rose o.disk_faults o'.disk_faults → StopsBroken clients step Has p s s' o o'
+          → CountRose o.disk_faults o'.disk_faults → StopsBroken clients step Has p s s' o o'
       by_front front others parts did rose = elim (front_of_one b front others parts) [
         | inl none ↦
             none_stands

@@ -1,6 +1,6 @@
 -- What came of a batch that was to be committed, and of settling.
 use Rattle.std.specs.Prelude.{◌≡◌, ◌≢◌, ◌<◌, List, [], ◌∷◌, ◌++◌}
-use Rattle.outside.specs.Faults.{Rose}
+use Rattle.outside.specs.Faults.{CountRose}
 use Rattle.outside.specs.Outside.{Outside}
 use Rattle.sync_rules.specs.declared.entries.Entry.{Entry}
 use Rattle.sync_rules.specs.Clients.{Meaning}
@@ -29,7 +29,7 @@ pub record Breaks (clients : Meaning) (may : Journal) (s s' : StoreValue)
   pub others : Journal
   pub parts : may ≡ front ++ others
   pub did : DidSome clients (commit_acts front) others s s' o o'
-  pub rose : Rose o.disk_faults o'.disk_faults
+  pub rose : CountRose o.disk_faults o'.disk_faults
 
 -- ---- one batch
 

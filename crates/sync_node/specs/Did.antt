@@ -3,13 +3,13 @@
 -- run stands in it.
 use Rattle.std.specs.Prelude.{◌≡◌, ◌⊎◌, ℕ, ◌*◌, ◌≤◌, List, ◌++◌, length}
 use Rattle.outside.specs.Outside.{MakesAtMost, Moment, Outside}
-use Rattle.outside.specs.Runs.{Told}
+use Rattle.outside.specs.Runs.{TellsAll}
 use Rattle.sync_rules.specs.Clients.{Meaning}
 use Rattle.sync_store.specs.Store.{StoreValue}
 use Rattle.sync_course.specs.Acts.{Act, AtFront, batches_in, commit_acts, events_of, sends_on}
-use Rattle.sync_course.specs.Events.{Told as Tells}
+use Rattle.sync_course.specs.Events.{TellsEvents as Tells}
 use Rattle.sync_node.specs.Courses.{FitsWith, ReadsAs}
-use Rattle.sync_node.specs.Going.{Goes}
+use Rattle.sync_node.specs.Going.{LetsNothingFall}
 use Rattle.sync_node.specs.Output.{Journal, sent_on}
 
 -- a moment that came with some calls has P: one since an earlier value of the clock is from before
@@ -22,19 +22,19 @@ pub record SinceThen (old new : Outside) (P : Moment → Type 0) : Type 0 where
 -- acts, whatever journal the files stood for
 abbrev pub ComesAtFronts : Meaning → List Act → StoreValue → Outside → Outside → Type 0
 ComesAtFronts clients acts s o o' =
-    Told o → (j : Journal) → FitsWith clients s o.files j
+    TellsAll o → (j : Journal) → FitsWith clients s o.files j
     → SinceThen o o' (AtFront clients acts j (sent_on o.links))
 
 -- what went out, where links are told
 abbrev pub HasSentBy : List Act → Outside → Outside → Type 0
 HasSentBy acts o o' =
-    Told o → (link : ℕ) → sent_on o'.links link ≡ sent_on o.links link ++ sends_on link acts
+    TellsAll o → (link : ℕ) → sent_on o'.links link ≡ sent_on o.links link ++ sends_on link acts
 
 -- These acts were done: the disk fits the store with the journal and their batches, each of which
 -- took at most four calls of it.
 pub record Did (clients : Meaning) (acts : List Act) (s s' : StoreValue)
     (o o' : Outside) : Type 0 where
-  pub goes : Goes o o'
+  pub goes : LetsNothingFall o o'
   pub tells : Tells (events_of acts) o o'
   pub sent : HasSentBy acts o o'
   pub limit : s'.limit ≡ s.limit
@@ -49,7 +49,7 @@ pub record Did (clients : Meaning) (acts : List Act) (s s' : StoreValue)
 -- acts; a crash may leave some of the next ones too.
 pub record DidSome (clients : Meaning) (acts : List Act) (next : Journal) (s s' : StoreValue)
     (o o' : Outside) : Type 0 where
-  pub goes : Goes o o'
+  pub goes : LetsNothingFall o o'
   pub tells : Tells (events_of acts) o o'
   pub sent : HasSentBy acts o o'
   pub limit : s'.limit ≡ s.limit

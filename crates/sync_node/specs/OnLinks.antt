@@ -17,7 +17,7 @@ use Rattle.sync_course.specs.declared.TheConstants.{MAX_OUTPUTS}
 use Rattle.sync_course.specs.declared.ends.LinkEnd.TheVariants as link_end
 use Rattle.sync_node.specs.declared.fault.Fault.{Fault}
 use Rattle.sync_node.specs.declared.link.Link.{Link}
-use Rattle.sync_node.specs.Courses.{GoesOnSending, IsRead, IsReadyToSend, IsTaking, link_at, spot_at}
+use Rattle.sync_node.specs.Courses.{GoesOnSending, IsLinkRead, IsReadyToSend, IsTaking, link_at, spot_at}
 use Rattle.sync_node.specs.Went.{Stopped, Went}
 
 -- ---- the machine of a link's turn
@@ -113,7 +113,7 @@ pub record HeardTo (clients : Meaning) (n : ℕ) (l l' : Link) (s s' : StoreValu
     (heard : List ℕ) (moved idle : Bool) : Type 0 where
   pub heard' : List ℕ
   pub doing : Doing
-  pub has_read : IsRead heard' l'
+  pub has_read : IsLinkRead heard' l'
   pub ready : IsReadyToSend doing l'
   pub went : LinkWent clients n l.session.number (spot_at Asks l heard moved s.state.facts)
       (spot_at doing l' heard' (cond idle moved true) s'.state.facts) s s' o o'
@@ -121,12 +121,12 @@ pub record HeardTo (clients : Meaning) (n : ℕ) (l l' : Link) (s s' : StoreValu
 -- the link was asked once, and what came was taken
 pub record HearingWent (clients : Meaning) (n : ℕ) (l l' : Link) (s s' : StoreValue)
     (o o' : Outside) (idle : Bool) : Type 0 where
-  pub leads : (heard : List ℕ) (moved : Bool) → IsRead heard l
+  pub leads : (heard : List ℕ) (moved : Bool) → IsLinkRead heard l
       → HeardTo clients n l l' s s' o o' heard moved idle
 
 pub record HearingStopped (clients : Meaning) (n : ℕ) (l l' : Link) (s s' : StoreValue)
     (o o' : Outside) (e : Fault) : Type 0 where
-  pub stops : (heard : List ℕ) (moved : Bool) → IsRead heard l
+  pub stops : (heard : List ℕ) (moved : Bool) → IsLinkRead heard l
       → (heard' : List ℕ) × LinkStopped clients n l.session.number
       (spot_at Asks l heard moved s.state.facts) (link_at l' heard') s s' o o' e
 
@@ -210,11 +210,11 @@ pub record SendingStopped (clients : Meaning) (n : ℕ) (l l' : Link) (s s' : St
 pub record TurnedTo (clients : Meaning) (n : ℕ) (l l' : Link) (s s' : StoreValue) (o o' : Outside)
     (heard : List ℕ) (moved still : Bool) : Type 0 where
   pub heard' : List ℕ
-  pub has_read : IsRead heard' l'
+  pub has_read : IsLinkRead heard' l'
   pub went : LinkWent clients n l.session.number (spot_at Asks l heard moved s.state.facts)
       (spot_at Done l' heard' (cond still moved true) s'.state.facts) s s' o o'
 
 pub record TurnWent (clients : Meaning) (n : ℕ) (l l' : Link) (s s' : StoreValue) (o o' : Outside)
     (still : Bool) : Type 0 where
-  pub leads : (heard : List ℕ) (moved : Bool) → IsRead heard l
+  pub leads : (heard : List ℕ) (moved : Bool) → IsLinkRead heard l
       → TurnedTo clients n l l' s s' o o' heard moved still

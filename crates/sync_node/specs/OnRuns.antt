@@ -19,7 +19,7 @@ use Rattle.sync_node.specs.declared.fault.NodeFault.{NodeFault}
 use Rattle.sync_node.specs.declared.fault.NodeFault.TheVariants as node
 use Rattle.sync_node.specs.declared.link.Link.{Link}
 use Rattle.sync_course.specs.declared.ends.LinkEnd.TheVariants as link_end
-use Rattle.sync_node.specs.Courses.{AllRead, IsRead, IsReadyToSend, attaching_at, link_at, links_from, place_at}
+use Rattle.sync_node.specs.Courses.{AllRead, IsLinkRead, IsReadyToSend, attaching_at, link_at, links_from, place_at}
 use Rattle.sync_node.specs.Did.{Did}
 use Rattle.sync_node.specs.Went.{Stopped, Went}
 
@@ -171,7 +171,7 @@ pub record GreetsBy (n : ℕ) (first second : List ℕ) (l l' : Link) (o o' : Ou
 -- there. Nothing was heard on it.
 pub record StartWent (clients : Meaning) (n : ℕ) (session : Session) (l : Link)
     (s s' : StoreValue) (o o' : Outside) : Type 0 where
-  pub has_read : IsRead [] l
+  pub has_read : IsLinkRead [] l
   pub went : (two : Two File) → o.files ≡ Some two → (terms : Terms) (left : List Session)
       (links : List course_links.Link) (moved : Bool) (still made : ℕ) → length links ≡ n
       → session.number ≡ terms.first + n

@@ -1,6 +1,6 @@
 -- Where calls led on a machine whose steps are acts, and where they stopped.
 use Rattle.std.specs.Prelude.{◌≡◌, ◌⊎◌, ◌<◌, List, [], ◌∷◌}
-use Rattle.outside.specs.Faults.{Rose}
+use Rattle.outside.specs.Faults.{CountRose}
 use Rattle.outside.specs.Outside.{Outside}
 use Rattle.sync_rules.specs.declared.entries.Entry.{Entry}
 use Rattle.sync_rules.specs.Clients.{Meaning}
@@ -67,7 +67,7 @@ pub record StopsBroken {P : Type 0} (clients : Meaning) (step : P → Act → P 
   pub goes_on : Path step to (commit_acts next) beyond
   pub did : DidSome clients acts next s s' o o'
   pub stands : HasSoon step Has to
-  pub rose : Rose o.disk_faults o'.disk_faults
+  pub rose : CountRose o.disk_faults o'.disk_faults
 
 -- by the fault, calls that were broken off; what stands in the code is what `Has` says of the place
 abbrev pub Stopped : {P : Type 0} → Meaning → (P → Act → P → Type 0) → (P → Type 0) → P
