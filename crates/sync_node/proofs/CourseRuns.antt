@@ -18,7 +18,12 @@ use Rattle.sync_course.specs.Turns.{Place, RunStep, Terms, Works, with_spot}
 use Rattle.sync_node.specs.declared.link.Link.{Link}
 use Rattle.sync_node.proofs.CourseTakes.{full_sent_then}
 use Rattle.sync_node.proofs.SentLaws.{stopped_sent}
-use Rattle.sync_node.specs.Fulls.{AllSentOn, HearsFull, LinkFull, RunFull, RunFullSent, TurnsFull}
+use Rattle.sync_node.specs.Fulls.{AllSentOn, LinkFull, RunFull, RunFullSent, TurnsFull}
+use Rattle.sync_node.specs.OnLinks.{HearingStopped}
+use Rattle.sync_node.specs.OnRuns.{LinksWent}
+use Rattle.sync_node.specs.declared.fault.Fault.{Fault}
+use Rattle.sync_node.specs.declared.fault.Fault.TheVariants as fault
+use Rattle.sync_node.proofs.NodeRuns.{link_full, run_went}
 use Rattle.sync_node.specs.Joined.{Joined}
 use Rattle.sync_node.specs.Node.{LinksWork}
 use Rattle.sync_node.specs.Stops.{StopsSent}
@@ -287,9 +292,9 @@ module _ (clients : Meaning) (first n : ℕ) (links : List Link) (l : Link) (s :
         subst (λ (x : Place). RunFull clients terms x s s' o o') (start_here doing)
         (full_lifted clients terms n place within p s s' o o' (subst (λ (k : ℕ). LinkFull clients n k p s s' o o') in_terms full))
 
-    -- the same, with what was sent
+    -- a batch found no room in the link's turn, and what was sent
     pub link_limit_sent : (doing : Doing) (Given : Type 0) (s' : StoreValue) (o' : Outside)
-        → LinkFull clients n l.session.number (spot_at doing l (heard n) moved s.state.facts) s s' o o'
+        → LinkFull clients n (terms.first + n) (spot_at doing l (heard n) moved s.state.facts) s s' o o'
         → (Given → (to : course_links.Link) → AllSentOn clients terms.first (slice_set (links_from 0 links heard) n to) s' o')
         → RunFullSent clients terms (place_at (Works n doing) links heard moved still made s.state.facts) Given s s' o o'
     unfolding full_lifted
@@ -297,96 +302,34 @@ module _ (clients : Meaning) (first n : ℕ) (links : List Link) (l : Link) (s :
         let place : Place = place_at (Works n doing) links heard moved still made s.state.facts in
         let p : Spot = spot_at doing l (heard n) moved s.state.facts in
         let within : n < length place.links = get_within (links_from 0 links heard) n (link_at l (heard n)) at_course in
-        let here : LinkFull clients n (terms.first + n) p s s' o o' = subst (λ (k : ℕ). LinkFull clients n k p s s' o o') in_terms full in
         subst (λ (x : Place). RunFullSent clients terms x Given s s' o o') (start_here doing)
         (record {
-          full = full_lifted clients terms n place within p s s' o o' here;
-          sent = λ given. sent given here.to.link;
+          full = full_lifted clients terms n place within p s s' o o' full;
+          sent = λ given. sent given full.to.link;
         })
 
 -- ---- one link more
 
 module _ (clients : Meaning) (first n : ℕ) (links0 links : List Link) (l : Link) (s0 s : StoreValue) (o0 o : Outside) (quiet : Bool)
     (at : slice_get links n ≡ Some l) (numbered : l.session.number ≡ first + n)
-    (a : TurnsAsCourse clients first n links0 links s0 s o0 o quiet) where
-  module _ (terms : Terms) (same : terms.first ≡ first) (heard : ℕ → List ℕ) (moved : Bool)
-      (still made : ℕ) where
-    turn_in_run : (l' : Link) (s' : StoreValue) (o' : Outside) (bytes : List ℕ) (moved' : Bool)
-        → LinkRuns clients n l.session.number (spot_at Asks l (heard n) moved s.state.facts)
-        (spot_at Done l' bytes moved' s'.state.facts) s s' o o'
-        → RunRuns clients terms (place_at (Works n Asks) links heard moved still made s.state.facts)
-        (place_at (Works (suc n) Asks) (slice_set links n l') (heard_with n bytes heard) moved' still made s'.state.facts) s s' o o'
-    turn_in_run l' s' o' bytes moved' runs =
-        let heard' : ℕ → List ℕ = heard_with n bytes heard in
-        let done : Place = place_at (Works n Done) (slice_set links n l') heard' moved' still made s'.state.facts in
-        let there : slice_get (slice_set links n l') n ≡ Some l' = get_set links n l' (get_within links n l at) in
-        runs_then (RunStep clients terms) (FitsWith clients s o.files) (FitsWith clients s' o'.files) (FitsWith clients s' o'.files)
-        (place_at (Works n Asks) links heard moved still made s.state.facts) done
-        (place_at (Works (suc n) Asks) (slice_set links n l') heard' moved' still made s'.state.facts) o o' o'
-        (link_in_run clients first n links l s o at numbered terms same heard moved still made Asks Done l' s' o' bytes moved' runs)
-        (runs_next clients terms (FitsWith clients s' o'.files) (FitsWith clients s' o'.files) (λ j fit. fit) n (link_at l' (heard' (0 + n))) done o' refl
-        (get_at 0 n (slice_set links n l') heard' l' there))
-
-  pub turns_then : (l' : Link) (s' : StoreValue) (o' : Outside) (still_too : Bool)
-      → TurnAsCourse clients n l l' s s' o o' still_too
-      → TurnsAsCourse clients first (suc n) links0 (slice_set links n l') s0 s' o0 o' (quiet && still_too)
-  turns_then l' s' o' still_too turn = record {
-    leads = λ terms heard moved still made same read.
-        let so = a.leads terms heard moved still made same read in
-        let t = turn.leads (so.heard' n) (cond quiet moved true) (so.has_read n l at) in
-        record {
-          heard' = heard_with n t.heard' so.heard';
-          has_read = all_read n links so.heard' l l' t.heard' at so.has_read t.has_read;
-          runs =
-              subst (λ (b : Bool). RunRuns clients terms (place_at (Works 0 Asks) links0 heard moved still made s0.state.facts)
-              (place_at (Works (suc n) Asks) (slice_set links n l') (heard_with n t.heard' so.heard') b still made s'.state.facts) s0 s' o0 o')
-              (and_cond quiet still_too moved)
-              (runs_then (RunStep clients terms) (FitsWith clients s0 o0.files) (FitsWith clients s o.files) (FitsWith clients s' o'.files)
-              (place_at (Works 0 Asks) links0 heard moved still made s0.state.facts)
-              (place_at (Works n Asks) links so.heard' (cond quiet moved true) still made s.state.facts)
-              (place_at (Works (suc n) Asks) (slice_set links n l') (heard_with n t.heard' so.heard') (cond still_too (cond quiet moved true) true) still made s'.state.facts)
-              o0 o o' so.runs
-              (turn_in_run terms same so.heard' (cond quiet moved true) still made l' s' o' t.heard' (cond still_too (cond quiet moved true) true) t.runs));
-        };
-  }
-
-  pub turns_stop : (l' : Link) (o' : Outside) → HearsStops clients n l l' s o o'
-      → TurnsStop clients first links0 (slice_set links n l') s0 o0 o'
-  turns_stop l' o' stopped = record {
-    stops = λ terms heard moved still made same read.
-        let so = a.leads terms heard moved still made same read in
-        let halts = stopped.stops (so.heard' n) (cond quiet moved true) (so.has_read n l at) in
-        let heard' : ℕ → List ℕ = heard_with n halts.0 so.heard' in (
-          heard',
-          run_halts_behind clients terms (links_from 0 (slice_set links n l') heard') s0 s o0 o o'
-              (place_at (Works 0 Asks) links0 heard moved still made s0.state.facts)
-              (place_at (Works n Asks) links so.heard' (cond quiet moved true) still made s.state.facts) so.runs
-              (link_halted clients first n links l s o at numbered terms same so.heard' (cond quiet moved true) still made Asks l' o' halts.0 halts.1),
-        );
-  }
-
-  pub turns_full : (s' : StoreValue) (o' : Outside) → HearsFull clients n l s s' o o'
-      → LinksWork clients first links0 links s0 s o0 o → StopsSent clients n [] l s s' o o'
-      → TurnsFull clients first links0 s0 s' o0 o'
-  turns_full s' o' full works stops = record {
+    (a : LinksWent clients first n links0 links s0 s o0 o quiet) where
+  pub turns_full : (l' : Link) (s' : StoreValue) (o' : Outside) (e : Fault) → e ≡ fault.Full
+      → HearingStopped clients n l l' s s' o o' e → LinksWork clients first links0 links s0 s o0 o
+      → StopsSent clients n [] l s s' o o' → TurnsFull clients first links0 s0 s' o0 o'
+  turns_full l' s' o' e is stopped works stops = record {
     fills = λ terms heard moved still made same read.
         let so = a.leads terms heard moved still made same read in
-        full_sent_then clients terms (place_at (Works 0 Asks) links0 heard moved still made s0.state.facts)
-        (place_at (Works n Asks) links so.heard' (cond quiet moved true) still made s.state.facts) (Joined clients links0 s0 o0) (Joined clients links s o) s0 s s' o0 o o'
-        so.runs works.joined
+        let from : Place = place_at (Works 0 Asks) links0 heard moved still made s0.state.facts in
+        let here : Place = place_at (Works n Asks) links so.heard' (cond quiet moved true) still made s.state.facts in
+        let p : Spot = spot_at Asks l (so.heard' n) (cond quiet moved true) s.state.facts in
+        let hearing = subst (HearingStopped clients n l l' s s' o o') is stopped in
+        let stood = hearing.stops (so.heard' n) (cond quiet moved true) (so.has_read n l at) in
+        full_sent_then clients terms from here (Joined clients links0 s0 o0) (Joined clients links s o) s0 s s' o0 o o'
+        (run_went clients terms from here s0 s o0 o so.went) works.joined
         (link_limit_sent clients first n links l s o at numbered terms same so.heard' (cond quiet moved true) still made Asks (Joined clients links s o) s' o'
-        (full.fills (so.heard' n) (cond quiet moved true) (so.has_read n l at))
+        (link_full clients terms.first n p (link_at l' stood.0) s s' o o'
+        (stood.1 terms.first (in_terms clients first n links l s o at numbered terms same so.heard' (cond quiet moved true) still made)))
         (λ joined to.
         subst (λ (k : ℕ). AllSentOn clients k (slice_set (links_from 0 links so.heard') n to) s' o') (sym same)
         (stopped_sent clients first n links l s s' o o' so.heard' works.attached at stops joined to)));
   }
-
-  -- the same, by the number of the next link and whether all were still
-  pub turns_next : (l' : Link) (s' : StoreValue) (o' : Outside) (still_too : Bool)
-      → TurnAsCourse clients n l l' s s' o o' still_too → (k : ℕ) (all : Bool)
-      → k ≡ n + 1 → all ≡ (quiet && still_too)
-      → TurnsAsCourse clients first k links0 (slice_set links n l') s0 s' o0 o' all
-  turns_next l' s' o' still_too turn k all more is =
-      let next : suc n ≡ k = omega (arith, more) in
-      subst (λ (j : ℕ). TurnsAsCourse clients first j links0 (slice_set links n l') s0 s' o0 o' all) next
-      (subst (λ (b : Bool). TurnsAsCourse clients first (suc n) links0 (slice_set links n l') s0 s' o0 o' b) (sym is) (turns_then l' s' o' still_too turn))

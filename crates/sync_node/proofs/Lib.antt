@@ -37,3 +37,5 @@ mod TurnActs
 mod RunActLaws
 mod NodeActs
 mod StartActs
+mod EventLaws
+mod NodeRuns

@@ -58,8 +58,6 @@ pub(crate) fn attach_on<H: Host, C: Clients>(
     ensures course { OnOk result (StartsBehind (C.meaning clients.now) number session
         links.old.items links.new.items store.old store.new (H.tells host.old)
         (H.tells host.new)) }
-    ensures halts { OnErr result (BreaksStart (C.meaning clients.now) session store.old
-        (H.tells host.old) (H.tells host.new)) }
     ensures same { OnErr result (links.new.items ≡ links.old.items) }
     ensures safe { StartsSafe (C.meaning clients.now) number session store.old store.new
         (H.tells host.old) (H.tells host.new) }
@@ -108,8 +106,6 @@ fn start<H: Host, C: Clients>(
         (H.tells host.new)) }
     ensures course { IfOk result (λ link. StartsAsCourse (C.meaning clients.now) number session link
         store.old store.new (H.tells host.old) (H.tells host.new)) }
-    ensures halts { OnErr result (BreaksStart (C.meaning clients.now) session store.old
-        (H.tells host.old) (H.tells host.new)) }
     ensures starts { IfOk result (λ link. StartsSession (C.meaning clients.now) number session link
         store.old store.new (H.tells host.old) (H.tells host.new)) }
     ensures safe { StartsSafe (C.meaning clients.now) number session store.old store.new

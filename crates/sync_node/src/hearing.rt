@@ -57,12 +57,6 @@ pub(crate) fn receive_on<H: Host, C: Clients>(
     ensures able { OnOk result (IsAble (C.meaning clients.now) number link.new.session store.new
         (H.tells host.new)) }
     ensures waits { OnOk result (HasGivenItems link.new) }
-    ensures course { length buffer.old ≡ PIECE_LEN → IfOk result (HearsAsCourse
-        (C.meaning clients.now) number link.old link.new store.old store.new (H.tells host.old)
-        (H.tells host.new)) }
-    ensures stops { length buffer.old ≡ PIECE_LEN → OnErr result (HearsStops
-        (C.meaning clients.now) number link.old link.new store.old (H.tells host.old)
-        (H.tells host.new)) }
     ensures works { OnOk result (WorksOnLink (C.meaning clients.now) number [] [] link.old link.new
         store.old store.new (H.tells host.old) (H.tells host.new)) }
     ensures stays { OnErr result (StaysSafe (C.meaning clients.now) number [] link.old store.old
@@ -72,9 +66,6 @@ pub(crate) fn receive_on<H: Host, C: Clients>(
     ensures run { LinkGoes number link.old link.new (H.tells host.old) (H.tells host.new) }
     ensures limit { store.new.limit ≡ store.old.limit }
     ensures format { store.new.format ≡ store.old.format }
-    ensures full { length buffer.old ≡ PIECE_LEN → IsErrOf result Fault.Full → HearsFull
-        (C.meaning clients.now) number link.old store.old store.new (H.tells host.old)
-        (H.tells host.new) }
     ensures fault { IsErrOf result Fault.DiskFault → CountRose (H.tells host.old).disk_faults
         (H.tells host.new).disk_faults }
 {
@@ -120,10 +111,6 @@ fn take_piece<H: Host, C: Clients>(
     ensures able { OnOk result (IsAble (C.meaning clients.now) number link.new.session store.new
         (H.tells host.new)) }
     ensures waits { OnOk result (HasGivenItems link.new) }
-    ensures course { OnOk result (PieceTaken (C.meaning clients.now) number piece.old link.old
-        link.new store.old store.new (H.tells host.old) (H.tells host.new)) }
-    ensures stops { OnErr result (NextStops (C.meaning clients.now) number piece.old link.old
-        link.new store.old (H.tells host.old) (H.tells host.new)) }
     ensures works { OnOk result (WorksOnLink (C.meaning clients.now) number piece.old [] link.old link.new
         store.old store.new (H.tells host.old) (H.tells host.new)) }
     ensures stays { OnErr result (StaysSafe (C.meaning clients.now) number piece.old link.old
@@ -133,8 +120,6 @@ fn take_piece<H: Host, C: Clients>(
     ensures run { LinkGoes number link.old link.new (H.tells host.old) (H.tells host.new) }
     ensures limit { store.new.limit ≡ store.old.limit }
     ensures format { store.new.format ≡ store.old.format }
-    ensures full { IsErrOf result Fault.Full → NextFull (C.meaning clients.now) number piece.old
-        link.old store.old store.new (H.tells host.old) (H.tells host.new) }
     ensures fault { IsErrOf result Fault.DiskFault → CountRose (H.tells host.old).disk_faults
         (H.tells host.new).disk_faults }
 {
@@ -168,10 +153,6 @@ fn take_next<H: Host, C: Clients>(
         (H.tells host.new)) }
     ensures able { OnOk result (IsAble (C.meaning clients.now) number link.new.session store.new
         (H.tells host.new)) }
-    ensures course { IfOk result (NextAsCourse (C.meaning clients.now) number piece.old piece.new
-        link.old link.new store.old store.new (H.tells host.old) (H.tells host.new)) }
-    ensures stops { OnErr result (NextStops (C.meaning clients.now) number piece.old link.old
-        link.new store.old (H.tells host.old) (H.tells host.new)) }
     ensures left { IfOk result (LeavesLess link.old piece.old link.new piece.new) }
     ensures works { OnOk result (WorksOnLink (C.meaning clients.now) number piece.old piece.new link.old
         link.new store.old store.new (H.tells host.old) (H.tells host.new)) }
@@ -182,8 +163,6 @@ fn take_next<H: Host, C: Clients>(
     ensures run { LinkGoes number link.old link.new (H.tells host.old) (H.tells host.new) }
     ensures limit { store.new.limit ≡ store.old.limit }
     ensures format { store.new.format ≡ store.old.format }
-    ensures full { IsErrOf result Fault.Full → NextFull (C.meaning clients.now) number piece.old
-        link.old store.old store.new (H.tells host.old) (H.tells host.new) }
     ensures fault { IsErrOf result Fault.DiskFault → CountRose (H.tells host.old).disk_faults
         (H.tells host.new).disk_faults }
 {
@@ -239,10 +218,6 @@ fn take_one<H: Host, C: Clients>(
         store.old store.new (H.tells host.old) (H.tells host.new)) }
     ensures ready { IfErr result (KeepsReady (C.meaning clients.now) store.new
         (H.tells host.new)) }
-    ensures course { OnOk result (TakesAsCourse (C.meaning clients.now) session.now.number rec
-        store.old store.new (H.tells host.old) (H.tells host.new)) }
-    ensures stops { OnErr result (StopsAsCourse (C.meaning clients.now) session.now.number rec
-        store.old (H.tells host.old) (H.tells host.new)) }
     ensures takes { OnOk result (TakesOn (C.meaning clients.now) session.now rec store.old
         store.new (H.tells host.old) (H.tells host.new)) }
     ensures safe { TakesSafe (C.meaning clients.now) session.now rec store.old store.new
@@ -252,8 +227,6 @@ fn take_one<H: Host, C: Clients>(
     ensures format { store.new.format ≡ store.old.format }
     ensures as_before { IsErrOf result Fault.Full → StaysSame (C.meaning clients.now) store.old
         store.new (H.tells host.old) (H.tells host.new) }
-    ensures full { IsErrOf result Fault.Full → TakesFull (C.meaning clients.now)
-        session.now.number rec store.old store.new (H.tells host.old) (H.tells host.new) }
     ensures fault { IsErrOf result Fault.DiskFault → CountRose (H.tells host.old).disk_faults
         (H.tells host.new).disk_faults }
 {

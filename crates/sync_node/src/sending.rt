@@ -47,10 +47,6 @@ pub(crate) fn send_all<H: Host, C: Clients>(
     ensures able { OnOk result (IsAble (C.meaning clients.now) number link.new.session store.new
         (H.tells host.new)) }
     ensures waits { OnOk result (HasGivenItems link.new) }
-    ensures course { MaySend link.old.end → IfOk result (SentAsCourse (C.meaning clients.now) number
-        now link.old link.new store.old store.new (H.tells host.old) (H.tells host.new)) }
-    ensures stops { MaySend link.old.end → OnErr result (SentStops (C.meaning clients.now) number
-        now link.old link.new store.old (H.tells host.old) (H.tells host.new)) }
     ensures works { OnOk result (WorksOnLink (C.meaning clients.now) number [] [] link.old link.new
         store.old store.new (H.tells host.old) (H.tells host.new)) }
     ensures stays { OnErr result (StaysSafe (C.meaning clients.now) number [] link.old store.old
@@ -60,9 +56,6 @@ pub(crate) fn send_all<H: Host, C: Clients>(
     ensures run { LinkGoes number link.old link.new (H.tells host.old) (H.tells host.new) }
     ensures limit { store.new.limit ≡ store.old.limit }
     ensures format { store.new.format ≡ store.old.format }
-    ensures full { MaySend link.old.end → IsErrOf result Fault.Full → TurnLeavesNoRoom
-        (C.meaning clients.now) number now link.old store.old store.new (H.tells host.old)
-        (H.tells host.new) }
     ensures fault { IsErrOf result Fault.DiskFault → CountRose (H.tells host.old).disk_faults
         (H.tells host.new).disk_faults }
 {
@@ -104,10 +97,6 @@ fn put_out<H: Host, C: Clients>(
     ensures able { OnOk result (IsAble (C.meaning clients.now) number link.new.session store.new
         (H.tells host.new)) }
     ensures waits { OnOk result (HasGivenItems link.new) }
-    ensures course { OnOk result (PutsAsCourse (C.meaning clients.now) number now link.old link.new
-        store.old store.new (H.tells host.old) (H.tells host.new)) }
-    ensures stops { OnErr result (PutsStop (C.meaning clients.now) number now link.old link.new
-        store.old (H.tells host.old) (H.tells host.new)) }
     ensures works { OnOk result (WorksOnLink (C.meaning clients.now) number [] [] link.old link.new
         store.old store.new (H.tells host.old) (H.tells host.new)) }
     ensures stays { OnErr result (StaysSafe (C.meaning clients.now) number [] link.old store.old
@@ -117,8 +106,6 @@ fn put_out<H: Host, C: Clients>(
     ensures run { LinkGoes number link.old link.new (H.tells host.old) (H.tells host.new) }
     ensures limit { store.new.limit ≡ store.old.limit }
     ensures format { store.new.format ≡ store.old.format }
-    ensures full { IsErrOf result Fault.Full → PutsFull (C.meaning clients.now) number now link.old
-        store.old store.new (H.tells host.old) (H.tells host.new) }
     ensures fault { IsErrOf result Fault.DiskFault → CountRose (H.tells host.old).disk_faults
         (H.tells host.new).disk_faults }
 {

@@ -116,10 +116,6 @@ pub(crate) fn settle<H: Host, C: Clients>(
         (H.tells host.new)) }
     ensures settles { OnOk result (SettlesStore (C.meaning clients.now) store.old store.new
         (H.tells host.old) (H.tells host.new)) }
-    ensures adds { OnOk result (CommitsSettling (C.meaning clients.now) store.old store.new
-        (H.tells host.old) (H.tells host.new)) }
-    ensures adds_some { OnErr result (AddsSomeSettling (C.meaning clients.now) store.old
-        (H.tells host.old) (H.tells host.new)) }
     ensures safe { (b : Begin) (plans : List Session)
         → Safe (C.meaning clients.now) b plans store.old (H.tells host.old)
         → Safe (C.meaning clients.now) b plans store.new (H.tells host.new) }

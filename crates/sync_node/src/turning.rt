@@ -52,12 +52,6 @@ pub(crate) fn turn_all<H: Host, C: Clients>(
         (H.tells host.new)) }
     ensures may { OnOk result (MayGoOn (C.meaning clients.now) links.new store.new
         (H.tells host.new)) }
-    ensures course { (first : ℕ) → AreAttached first links.old store.old.state.facts
-        → length buffer.old ≡ PIECE_LEN → IfOk result (MakesTurn (C.meaning clients.now) first
-        links.old links.new store.old store.new (H.tells host.old) (H.tells host.new)) }
-    ensures halts { (first : ℕ) → AreAttached first links.old store.old.state.facts
-        → length buffer.old ≡ PIECE_LEN → OnErr result (HaltsTurn (C.meaning clients.now) first
-        links.old links.new store.old (H.tells host.old) (H.tells host.new)) }
     ensures works { (first : ℕ) → AreAttached first links.old store.old.state.facts
         → OnOk result (LinksWork (C.meaning clients.now) first links.old links.new store.old
         store.new (H.tells host.old) (H.tells host.new)) }
@@ -107,13 +101,6 @@ fn turn_each<H: Host, C: Clients>(
         (H.tells host.new)) }
     ensures may { OnOk result (MayGoOn (C.meaning clients.now) links.new store.new
         (H.tells host.new)) }
-    ensures course { (first : ℕ) → AreAttached first links.old store.old.state.facts
-        → length buffer.old ≡ PIECE_LEN → IfOk result (TurnsAsCourse (C.meaning clients.now) first
-        (length links.old) links.old links.new store.old store.new (H.tells host.old)
-        (H.tells host.new)) }
-    ensures halts { (first : ℕ) → AreAttached first links.old store.old.state.facts
-        → length buffer.old ≡ PIECE_LEN → OnErr result (TurnsStop (C.meaning clients.now) first
-        links.old links.new store.old (H.tells host.old) (H.tells host.new)) }
     ensures works { (first : ℕ) → AreAttached first links.old store.old.state.facts
         → OnOk result (LinksWork (C.meaning clients.now) first links.old links.new store.old
         store.new (H.tells host.old) (H.tells host.new)) }
@@ -169,12 +156,6 @@ fn turn_link<H: Host, C: Clients>(
     ensures able { OnOk result (IsAble (C.meaning clients.now) number link.new.session store.new
         (H.tells host.new)) }
     ensures waits { OnOk result (HasGivenItems link.new) }
-    ensures course { length buffer.old ≡ PIECE_LEN → IfOk result (TurnAsCourse
-        (C.meaning clients.now) number link.old link.new store.old store.new (H.tells host.old)
-        (H.tells host.new)) }
-    ensures halts { length buffer.old ≡ PIECE_LEN → OnErr result (HearsStops
-        (C.meaning clients.now) number link.old link.new store.old (H.tells host.old)
-        (H.tells host.new)) }
     ensures works { OnOk result (WorksOnLink (C.meaning clients.now) number [] [] link.old link.new
         store.old store.new (H.tells host.old) (H.tells host.new)) }
     ensures stays { OnErr result (StaysSafe (C.meaning clients.now) number [] link.old store.old
@@ -184,9 +165,6 @@ fn turn_link<H: Host, C: Clients>(
     ensures run { LinkGoes number link.old link.new (H.tells host.old) (H.tells host.new) }
     ensures limit { store.new.limit ≡ store.old.limit }
     ensures format { store.new.format ≡ store.old.format }
-    ensures full { length buffer.old ≡ PIECE_LEN → IsErrOf result Fault.Full → HearsFull
-        (C.meaning clients.now) number link.old store.old store.new (H.tells host.old)
-        (H.tells host.new) }
     ensures fault { IsErrOf result Fault.DiskFault → CountRose (H.tells host.old).disk_faults
         (H.tells host.new).disk_faults }
 {
@@ -220,12 +198,6 @@ fn hear_now<H: Host, C: Clients>(
     ensures able { OnOk result (IsAble (C.meaning clients.now) number link.new.session store.new
         (H.tells host.new)) }
     ensures waits { OnOk result (HasGivenItems link.new) }
-    ensures course { length buffer.old ≡ PIECE_LEN → IfOk result (HearsAsCourse
-        (C.meaning clients.now) number link.old link.new store.old store.new (H.tells host.old)
-        (H.tells host.new)) }
-    ensures stops { length buffer.old ≡ PIECE_LEN → OnErr result (HearsStops
-        (C.meaning clients.now) number link.old link.new store.old (H.tells host.old)
-        (H.tells host.new)) }
     ensures works { OnOk result (WorksOnLink (C.meaning clients.now) number [] [] link.old link.new
         store.old store.new (H.tells host.old) (H.tells host.new)) }
     ensures stays { OnErr result (StaysSafe (C.meaning clients.now) number [] link.old store.old
@@ -235,9 +207,6 @@ fn hear_now<H: Host, C: Clients>(
     ensures run { LinkGoes number link.old link.new (H.tells host.old) (H.tells host.new) }
     ensures limit { store.new.limit ≡ store.old.limit }
     ensures format { store.new.format ≡ store.old.format }
-    ensures full { length buffer.old ≡ PIECE_LEN → IsErrOf result Fault.Full → HearsFull
-        (C.meaning clients.now) number link.old store.old store.new (H.tells host.old)
-        (H.tells host.new) }
     ensures fault { IsErrOf result Fault.DiskFault → CountRose (H.tells host.old).disk_faults
         (H.tells host.new).disk_faults }
 {
@@ -269,10 +238,6 @@ fn send_now<H: Host, C: Clients>(
     ensures able { OnOk result (IsAble (C.meaning clients.now) number link.new.session store.new
         (H.tells host.new)) }
     ensures waits { OnOk result (HasGivenItems link.new) }
-    ensures course { IfOk result (SendsAsCourse (C.meaning clients.now) number link.old link.new
-        store.old store.new (H.tells host.old) (H.tells host.new)) }
-    ensures halts { OnErr result (SendsStop (C.meaning clients.now) number link.old link.new
-        store.old (H.tells host.old) (H.tells host.new)) }
     ensures works { OnOk result (WorksOnLink (C.meaning clients.now) number [] [] link.old link.new
         store.old store.new (H.tells host.old) (H.tells host.new)) }
     ensures stays { OnErr result (StaysSafe (C.meaning clients.now) number [] link.old store.old
@@ -282,8 +247,6 @@ fn send_now<H: Host, C: Clients>(
     ensures run { LinkGoes number link.old link.new (H.tells host.old) (H.tells host.new) }
     ensures limit { store.new.limit ≡ store.old.limit }
     ensures format { store.new.format ≡ store.old.format }
-    ensures full { IsErrOf result Fault.Full → LeavesNoRoomFor (C.meaning clients.now) number link.old
-        store.old store.new (H.tells host.old) (H.tells host.new) }
     ensures fault { IsErrOf result Fault.DiskFault → CountRose (H.tells host.old).disk_faults
         (H.tells host.new).disk_faults }
 {

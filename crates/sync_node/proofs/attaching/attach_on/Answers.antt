@@ -18,12 +18,6 @@ returns-in_err-reader-clause-safe g c = starts_as_before c.cite_laws.ensures.fro
 pub returns-in_err-reserve-clause-safe : goal.returns-in_err-reserve-clause-safe
 returns-in_err-reserve-clause-safe g c = starts_as_before c.cite_laws.ensures.fronts _ _ _ _ _
 
-pub returns-in_err-reader-clause-halts : goal.returns-in_err-reader-clause-halts
-returns-in_err-reader-clause-halts g c = on_err _ _ (start_none _ _ _ _)
-
-pub returns-in_err-reserve-clause-halts : goal.returns-in_err-reserve-clause-halts
-returns-in_err-reserve-clause-halts g c = on_err _ _ (start_none _ _ _ _)
-
 pub returns-in_err-reader-clause-run : goal.returns-in_err-reader-clause-run
 returns-in_err-reader-clause-run g c = links_go_none _ _
 

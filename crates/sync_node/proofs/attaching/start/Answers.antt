@@ -70,19 +70,6 @@ returns-clause-safe g c =
     (commits_safe_as _ c.in_ok-batch.batch _ _ _ _ _ c.in_ok-batch.ensures c.in_ok-commit.ensures.safe)
     (first_bytes c.args.session _ _ (c.as_slice.ensures.value ∙ c.in_ok-versions.ensures) (c.as_slice-2.ensures.value ∙ c.in_ok-priority.ensures)) c.in_ok-commit.ensures.numbers.roomy c.greet.ensures.greets
 
-pub returns-in_err-versions-clause-halts : goal.returns-in_err-versions-clause-halts
-returns-in_err-versions-clause-halts g c = on_err _ _ (start_none _ _ _ _)
-
-pub returns-in_err-priority-clause-halts : goal.returns-in_err-priority-clause-halts
-returns-in_err-priority-clause-halts g c = on_err _ _ (start_none _ _ _ _)
-
-pub returns-in_err-batch-clause-halts : goal.returns-in_err-batch-clause-halts
-returns-in_err-batch-clause-halts g c = on_err _ _ (start_none _ _ _ _)
-
-pub returns-in_err-commit-clause-halts : goal.returns-in_err-commit-clause-halts
-returns-in_err-commit-clause-halts g c =
-    on_err _ _ (start_broken _ c.args.session _ _ c.in_ok-batch.batch c.in_ok-batch.ensures c.requires.allowed _ c.in_err-commit.ensures.adds_some)
-
 pub returns-clause-course : goal.returns-clause-course
 returns-clause-course g c =
     starts_course _ c.args.session _ _ c.in_ok-batch.batch c.in_ok-batch.ensures c.requires.allowed _ c.in-Some.begun c.args.reader _ _ _ _ c.requires.ready

@@ -42,21 +42,6 @@ returns-clause-works g c =
     (c.as_slice.ensures.value ∙ c.in_ok-bytes.ensures)
     c.in_ok-commit.ensures.numbers.roomy c.requires.able.dialled c.requires.unfailed c.send_on.ensures
 
-pub returns-in_err-bytes-clause-stops : goal.returns-in_err-bytes-clause-stops
-returns-in_err-bytes-clause-stops g c = on_err _ _ (puts_stops_there _ _ _ _ _ _)
-
-pub returns-in_err-batch-clause-stops : goal.returns-in_err-batch-clause-stops
-returns-in_err-batch-clause-stops g c = on_err _ _ (puts_stops_there _ _ _ _ _ _)
-
-pub returns-in_err-commit-clause-stops : goal.returns-in_err-commit-clause-stops
-returns-in_err-commit-clause-stops g c =
-    on_err _ _ (puts_stops _ _ c.args.now c.args.out _ _ _ c.in_ok-batch.batch c.in_ok-batch.ensures c.requires.allowed _ c.in_err-commit.ensures.adds_some)
-
-pub returns-clause-course : goal.returns-clause-course
-returns-clause-course g c =
-    puts_course _ _ c.args.now c.args.out _ _ _ c.in_ok-batch.batch c.in_ok-batch.ensures c.requires.allowed _ _ _ _ _ c.in_ok-commit.ensures.commits.facts
-    c.in_ok-commit.ensures.adds c.send_on.ensures
-
 pub returns-in_err-bytes-clause-run : goal.returns-in_err-bytes-clause-run
 returns-in_err-bytes-clause-run g c = link_none _ _ _
 
@@ -70,11 +55,6 @@ pub returns-clause-run : goal.returns-clause-run
 returns-clause-run g c =
     link_then _ _ _ _ _ _ _ (link_kept _ _ _ _ _ c.commit.ensures.run refl refl)
     (link_sent _ _ _ _ _ _ c.send_on.ensures)
-
-pub returns-in_err-commit-clause-full : goal.returns-in_err-commit-clause-full
-returns-in_err-commit-clause-full g c = λ is.
-    puts_full _ _ c.args.now c.args.out _ _ _ c.in_ok-batch.batch c.in_ok-batch.ensures c.requires.allowed _ _
-    (c.in_err-commit.ensures.full (ap (λ e. Err e) (err_was _ c.in_err-commit.field-0.0 _ c.from_residual-in_err-commit.ensures.1 is)))
 
 pub returns-in_err-commit-clause-sent : goal.returns-in_err-commit-clause-sent
 returns-in_err-commit-clause-sent g c = λ is.

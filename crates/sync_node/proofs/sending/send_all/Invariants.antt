@@ -14,7 +14,6 @@ invariant-outs g l = record {
   format : l.store.format ≡ l.initial.store.format;
   able : IsAble (g.C.Clients.meaning l.clients) l.number l.link.session l.store (g.H.Disk.tells l.host);
   waits : HasGivenItems l.link;
-  course : OutsAsCourse (g.C.Clients.meaning l.clients) l.number l.now l.made l.initial.link l.link l.initial.store l.store (g.H.Disk.tells l.initial.host) (g.H.Disk.tells l.host);
   went : OutsWent (g.C.Clients.meaning l.clients) l.number l.now l.made l.initial.link l.link l.initial.store l.store (g.H.Disk.tells l.initial.host) (g.H.Disk.tells l.host);
   works : WorksOnLink (g.C.Clients.meaning l.clients) l.number [] [] l.initial.link l.link l.initial.store l.store (g.H.Disk.tells l.initial.host) (g.H.Disk.tells l.host);
 }

@@ -21,18 +21,6 @@ pub returns-in-Err-DiskFault-clause-safe : goal.returns-in-Err-DiskFault-clause-
 returns-in-Err-DiskFault-clause-safe g c = λ b plans safe.
     safe_settle c.cite_laws.ensures.fronts _ b plans _ _ _ _ _ c.requires.ready.still_open c.in-Err-DiskFault.ensures.run (c.in-Err-DiskFault.ensures.settled c.requires.ready.still_open) safe
 
-pub returns-in-Ok-clause-adds : goal.returns-in-Ok-clause-adds
-returns-in-Ok-clause-adds g c =
-    settle_adds _ _ _ _ _ _ c.in-Ok.ensures.run (c.in-Ok.ensures.settled c.requires.ready.still_open)
-
-pub returns-in-Err-Memory-clause-adds_some : goal.returns-in-Err-Memory-clause-adds_some
-returns-in-Err-Memory-clause-adds_some g c =
-    settle_adds_some _ _ _ _ _ _ c.requires.ready.fits c.in-Err-Memory.ensures.run (c.in-Err-Memory.ensures.settled c.requires.ready.still_open)
-
-pub returns-in-Err-DiskFault-clause-adds_some : goal.returns-in-Err-DiskFault-clause-adds_some
-returns-in-Err-DiskFault-clause-adds_some g c =
-    settle_adds_some _ _ _ _ _ _ c.requires.ready.fits c.in-Err-DiskFault.ensures.run (c.in-Err-DiskFault.ensures.settled c.requires.ready.still_open)
-
 pub returns-in-Ok-clause-run : goal.returns-in-Ok-clause-run
 returns-in-Ok-clause-run g c =
     goes_settled _ _ _ _ _ _ c.requires.ready.fits c.in-Ok.ensures.run (c.in-Ok.ensures.settled c.requires.ready.still_open)

@@ -25,24 +25,11 @@ returns-clause-works g c = c.receive_on.ensures.works
 pub returns-clause-stays : goal.returns-clause-stays
 returns-clause-stays g c = c.receive_on.ensures.stays
 
-pub returns-then-not-is_asked-clause-course : goal.returns-then-not-is_asked-clause-course
-returns-then-not-is_asked-clause-course g c = λ whole.
-    hears_nothing _ _ _ _ _ (λ going. let yes = c.is_asked.ensures.1 going in let no = c.if-not-is_asked.true in cc)
-
-pub returns-clause-course : goal.returns-clause-course
-returns-clause-course g c = c.receive_on.ensures.course
-
-pub returns-clause-stops : goal.returns-clause-stops
-returns-clause-stops g c = c.receive_on.ensures.stops
-
 pub returns-then-not-is_asked-clause-run : goal.returns-then-not-is_asked-clause-run
 returns-then-not-is_asked-clause-run g c = link_none _ _ _
 
 pub returns-clause-run : goal.returns-clause-run
 returns-clause-run g c = c.receive_on.ensures.run
-
-pub returns-clause-full : goal.returns-clause-full
-returns-clause-full g c = c.receive_on.ensures.full
 
 pub returns-clause-sent : goal.returns-clause-sent
 returns-clause-sent g c = c.receive_on.ensures.sent

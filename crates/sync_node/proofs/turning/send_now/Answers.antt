@@ -44,33 +44,12 @@ returns-clause-stays g c =
     (stays_then _ _ _ _ _ _ _ _ _ _ _ _ (works_clock c.cite_laws.ensures.fronts _ _ _ _ _ _ _ _ c.now-now.ensures.call c.now-now.ensures.links))
     c.send_all.ensures.stays
 
-pub returns-then-not-may_send-clause-course : goal.returns-then-not-may_send-clause-course
-returns-then-not-may_send-clause-course g c =
-    sends_closed _ _ _ _ _ (λ may. let yes = c.may_send.ensures.1 may in let no = c.if-not-may_send.true in cc)
-
-pub returns-clause-course : goal.returns-clause-course
-returns-clause-course g c =
-    let may = c.may_send.ensures.0 c.if-not-may_send.false in
-    if_ok_then c.send_all.result _ _
-    (λ made sent. sends_read _ _ _ _ _ _ _ may c.now-now.ensures.links c.now-now.ensures.call.same_files (quiet_most _ _ _ c.now-now.ensures.call) _ _ _ made sent) (c.send_all.ensures.course may)
-
-pub returns-clause-halts : goal.returns-clause-halts
-returns-clause-halts g c =
-    let may = c.may_send.ensures.0 c.if-not-may_send.false in
-    on_err_then c.send_all.result _ _
-    (sends_stop _ _ _ _ _ _ _ may c.now-now.ensures.links c.now-now.ensures.call.same_files (quiet_most _ _ _ c.now-now.ensures.call) _ _) (c.send_all.ensures.stops may)
-
 pub returns-then-not-may_send-clause-run : goal.returns-then-not-may_send-clause-run
 returns-then-not-may_send-clause-run g c = link_none _ _ _
 
 pub returns-clause-run : goal.returns-clause-run
 returns-clause-run g c =
     link_then _ _ _ _ _ _ _ (link_kept _ _ _ _ _ (goes_read _ _ _ c.now-now.ensures.call c.now-now.ensures.links) refl refl) c.send_all.ensures.run
-
-pub returns-clause-full : goal.returns-clause-full
-returns-clause-full g c = λ is.
-    let may = c.may_send.ensures.0 c.if-not-may_send.false in
-    sends_full _ _ _ _ _ _ _ may c.now-now.ensures.links c.now-now.ensures.call.same_files (quiet_most _ _ _ c.now-now.ensures.call) _ _ (c.send_all.ensures.full may is)
 
 pub returns-clause-sent : goal.returns-clause-sent
 returns-clause-sent g c = λ is.

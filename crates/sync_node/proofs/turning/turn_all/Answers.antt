@@ -23,15 +23,6 @@ pub returns-clause-may : goal.returns-clause-may
 returns-clause-may g c =
     links_may _ _ _ _ _ c.close_redundant.ensures.some.same_number c.in_ok-still.ensures.may
 
-pub returns-in_err-still-clause-halts : goal.returns-in_err-still-clause-halts
-returns-in_err-still-clause-halts g c = λ first attached whole.
-    on_err _ _ (turn_halted _ first _ _ _ _ _ (c.in_err-still.ensures.halts first attached whole))
-
-pub returns-clause-course : goal.returns-clause-course
-returns-clause-course g c = λ first attached whole.
-    turn_made _ first _ _ c.turn_each.new.links _ _ _ _ _ c.in_ok-still.still (omega (arith, c.turn_each.auto.links))
-    (c.in_ok-still.ensures.course first attached whole) c.close_redundant.ensures.some c.close_redundant.ensures.exact
-
 pub returns-in_err-still-clause-run : goal.returns-in_err-still-clause-run
 returns-in_err-still-clause-run g c = c.turn_each.ensures.run
 

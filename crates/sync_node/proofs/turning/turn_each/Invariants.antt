@@ -15,9 +15,6 @@ invariant-links g l = record {
   may : MayGoOn (g.C.Clients.meaning l.clients) l.links l.store (g.H.Disk.tells l.host);
   works : (first : ℕ) → AreAttached first l.initial.links l.initial.store.state.facts
       → LinksWork (g.C.Clients.meaning l.clients) first l.initial.links l.links l.initial.store l.store (g.H.Disk.tells l.initial.host) (g.H.Disk.tells l.host);
-  course : (first : ℕ) → AreAttached first l.initial.links l.initial.store.state.facts
-      → length l.initial.buffer ≡ PIECE_LEN
-      → TurnsAsCourse (g.C.Clients.meaning l.clients) first l.place l.initial.links l.links l.initial.store l.store (g.H.Disk.tells l.initial.host) (g.H.Disk.tells l.host) l.still;
   went : (first : ℕ) → AreAttached first l.initial.links l.initial.store.state.facts
       → length l.initial.buffer ≡ PIECE_LEN
       → LinksWent (g.C.Clients.meaning l.clients) first l.place l.initial.links l.links l.initial.store l.store (g.H.Disk.tells l.initial.host) (g.H.Disk.tells l.host) l.still;

@@ -113,7 +113,8 @@ pub returns-in-Err-clause-halts : goal.returns-in-Err-clause-halts
 returns-in-Err-clause-halts g c = λ opened.
     node_beginning_halted _ (session_of c.sessions.result c.args.plan.now c.args.nonce) c.self.inside.links.items _ _ _ c.self.inside.first c.self.inside.closed _ c.self.view_is _
     (ap (λ (k : ℕ). session_of k c.args.plan.now c.args.nonce) (c.sessions.ensures ∙ ap (λ (n : NodeValue). n.store.state.facts.begun) c.self.view_is))
-    _ (beginning_halted _ (session_of c.sessions.result c.args.plan.now c.args.nonce) c.self.inside.links.items _ _ _ _ c.in-Err.ensures.same c.in-Err.ensures.halts)
+    _ (beginning_halts _ (session_of c.sessions.result c.args.plan.now c.args.nonce) c.self.inside.links.items _ _ _ _ _ c.in-Err.fault
+    (begin_stopped _ (session_of c.sessions.result c.args.plan.now c.args.nonce) c.self.inside.links.items _ _ _ _ _ c.in-Err.fault c.in-Err.ensures.same c.in-Err.ensures.stopped))
 
 pub attach_on-requires-clause-last : goal.attach_on-requires-clause-last
 attach_on-requires-clause-last g c =
