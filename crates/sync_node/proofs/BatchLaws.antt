@@ -1,5 +1,5 @@
 -- What the calls of a store come to, as acts.
-use Rattle.std.proofs.Common.{◌≡◌, ◌≢◌, ℕ, ◌*◌, ◌<◌, false, List, [], ◌∷◌, ◌++◌, append-nil, refl, sym, ◌∙◌, ap, subst, inl, inr, arith, Result, Ok, Err, Some}
+use Rattle.std.proofs.Common.{◌≡◌, ◌<◌, false, List, [], ◌∷◌, ◌++◌, ◌∙◌, subst, Result, Ok, Err, Some}
 use Rattle.outside.specs.Faults.{CountRose}
 use Rattle.outside.specs.Files.{Two, File}
 use Rattle.outside.specs.Outside.{DiskRun, MakesAtMost, Outside}
@@ -9,7 +9,7 @@ use Rattle.sync_store.specs.Commits as store_commits
 use Rattle.sync_store.specs.Commits.{needed}
 use Rattle.sync_store.specs.Fitting.{FitsFiles}
 use Rattle.sync_store.specs.Moments as store_moments
-use Rattle.sync_store.specs.Moments.{IsBetween, WithAtMost, journal_with}
+use Rattle.sync_store.specs.Moments.{IsBetween, WithAtMost}
 use Rattle.sync_store.specs.Ready.{IsReady}
 use Rattle.sync_store.specs.Runs.{HasExtended}
 use Rattle.sync_store.specs.Settling.{HasSettled}
@@ -17,8 +17,8 @@ use Rattle.sync_store.specs.Store.{StoreValue}
 use Rattle.sync_store.specs.declared.fault.StoreFault.{StoreFault}
 use Rattle.sync_store.specs.declared.fault.StoreFault.TheVariants as store_fault
 use Rattle.sync_course.specs.Acts.{commit_acts}
-use Rattle.sync_node.specs.Batches.{Added, AddingBreaks, AddingFull, AddsBy, Breaks, Committed, HasNoRoom, Settled, SettlesBy, SettlingBreaks, StaysIdle}
-use Rattle.sync_node.specs.Courses.{FitsWith, ReadsFront}
+use Rattle.sync_node.specs.Batches.{Added, AddingBreaks, AddingFull, CommitsAndSettles, Breaks, Committed, HasNoRoom, Settled, SettlesBy, SettlingBreaks, NodeStaysIdle}
+use Rattle.sync_node.specs.Courses.{ReadsFront}
 use Rattle.sync_node.specs.Did.{Did}
 use Rattle.sync_node.specs.Fulls.{PassesLimit}
 use Rattle.sync_node.specs.Output.{Journal}
@@ -72,7 +72,7 @@ pub commit_idle : {H : Type 0} (tells : H → Outside) (clients : Meaning) (s s'
     → DiskRun (tells host) (tells host') → store_commits.KeepsStore s s'
     → (s'.closed ≡ false → IsReady clients s' (tells host').files) → host' ≡ host
     → AddsTo clients batch (Err e) s s' (tells host) (tells host')
-    → StaysIdle clients s s' (tells host) (tells host')
+    → NodeStaysIdle clients s s' (tells host) (tells host')
 commit_idle tells clients s s' batch e host host' ready run stays ready' same adds =
     let still : s'.closed ≡ false = stays.closed ∙ ready.still_open in
     record {
@@ -86,7 +86,7 @@ commit_idle tells clients s s' batch e host host' ready run stays ready' same ad
     }
 
 pub commit_full : (clients : Meaning) (batch : List Entry) (s s' : StoreValue) (o o' : Outside)
-    → StaysIdle clients s s' o o' → PassesLimit clients batch s s' o o'
+    → NodeStaysIdle clients s s' o o' → PassesLimit clients batch s s' o o'
     → HasNoRoom clients batch s s' o o'
 commit_full clients batch s s' o o' idle over =
     record { idle = idle; before = over.before; over = over.over }
@@ -149,7 +149,7 @@ module _ (clients : Meaning) (batch : List Entry) (s s' : StoreValue)
       has.runs.format (λ j whole between. between) has.runs.leads still (λ j whole is. is)
 
   pub add_by : s'.closed ≡ false → (s'.closed ≡ false → IsReady clients s' o'.files)
-      → AddsBy clients batch s s' o o'
+      → CommitsAndSettles clients batch s s' o o'
   add_by still ready' = record {
     more = has.more;
     adds = has.adds;

@@ -6,15 +6,12 @@ use Rattle.outside.specs.Outside.{Outside}
 use Rattle.sync_rules.specs.Clients.{Meaning}
 use Rattle.sync_rules.specs.Facts.{Facts}
 use Rattle.sync_store.specs.Store.{StoreValue}
-use Rattle.sync_course.proofs.CallLaws.{runs_none}
-use Rattle.sync_course.specs.Events.{Commit, commits}
+use Rattle.sync_course.specs.Events.{Commit}
 use Rattle.sync_course.proofs.PathLaws.{path_one}
-use Rattle.sync_course.proofs.LiftLaws.{get_other, get_set, get_within, lifted_step, link_lifts, runs_lifted, runs_next, set_same}
+use Rattle.sync_course.proofs.LiftLaws.{get_other, get_set, get_within, link_lifts, runs_lifted, set_same}
 use Rattle.sync_course.specs.Links as course_links
-use Rattle.sync_course.specs.LinkTurns.{Asks, Doing, Done, LinkStep, Spot}
-use Rattle.sync_course.proofs.ToldLaws.{runs_then}
-use Rattle.sync_course.proofs.Counted.{counted_lifted}
-use Rattle.sync_course.specs.Turns.{Place, RunStep, Terms, Works, with_spot}
+use Rattle.sync_course.specs.LinkTurns.{Asks, Doing, LinkStep, Spot}
+use Rattle.sync_course.specs.Turns.{Place, Terms, Works, with_spot}
 use Rattle.sync_node.specs.declared.link.Link.{Link}
 use Rattle.sync_node.proofs.CourseTakes.{full_sent_then}
 use Rattle.sync_node.proofs.SentLaws.{stopped_sent}
@@ -27,7 +24,7 @@ use Rattle.sync_node.proofs.NodeRuns.{link_full, run_went}
 use Rattle.sync_node.specs.Joined.{Joined}
 use Rattle.sync_node.specs.Node.{LinksWork}
 use Rattle.sync_node.specs.Stops.{StopsSent}
-use Rattle.sync_node.specs.Courses.{AllRead, FitsWith, HearsStops, IsLinkRead, LinkCounts, LinkHalts, LinkRuns, ReadsAs, RunCounts, RunHalts, RunRuns, TurnAsCourse, TurnsAsCourse, TurnsStop, link_at, links_from, place_at, spot_at}
+use Rattle.sync_node.specs.Courses.{AllRead, FitsWith, IsLinkRead, link_at, links_from, place_at, spot_at}
 
 -- ---- lists of links
 
@@ -106,26 +103,6 @@ pub still_else : (a b r : Bool) → a ≡ false → r ≡ a → r ≡ (a && b)
 still_else true b r is same = cc
 still_else false b r is same = same
 
--- all links had their turn
-pub turns_all : (clients : Meaning) (first n k : ℕ) (links links' : List Link) (s s' : StoreValue)
-    (o o' : Outside) (quiet : Bool) → n ≡ k
-    → TurnsAsCourse clients first n links links' s s' o o' quiet
-    → TurnsAsCourse clients first k links links' s s' o o' quiet
-turns_all clients first n k links links' s s' o o' quiet same turns =
-    subst (λ (j : ℕ). TurnsAsCourse clients first j links links' s s' o o' quiet) same turns
-
-pub turns_none : (clients : Meaning) (first : ℕ) (links : List Link) (s : StoreValue) (o : Outside)
-    → TurnsAsCourse clients first 0 links links s s o o true
-turns_none clients first links s o = record {
-  leads = λ terms heard moved still made same read. record {
-    heard' = heard;
-    has_read = read;
-    runs =
-        runs_none (RunStep clients terms) (FitsWith clients s o.files) (FitsWith clients s o.files) (λ j fit. fit)
-        (place_at (Works 0 Asks) links heard moved still made s.state.facts) o;
-  };
-}
-
 -- a link's turn in the run, up to a batch that would have passed the limit
 pub full_lifted : (clients : Meaning) (terms : Terms) (n : ℕ) (place : Place)
     → n < length place.links → (p : Spot) (s s' : StoreValue) (o o' : Outside)
@@ -141,49 +118,6 @@ full_lifted clients terms n place within p s s' o o' full =
       steps = lifted.1;
       over = full.over;
     }
-
--- a link's turn in the run, up to where it was broken off
-pub halts_lifted : (clients : Meaning) (terms : Terms) (n : ℕ) (place : Place)
-    → n < length place.links → (p : Spot) (link : course_links.Link) (s : StoreValue)
-    (o o' : Outside) → LinkHalts clients n (terms.first + n) p link s o o'
-    → RunHalts clients terms (with_spot n p place) (slice_set place.links n link) s o o'
-halts_lifted clients terms n place within p link s o o' halts = record {
-  breaks = record {
-    to = with_spot n halts.breaks.to place;
-    next = halts.breaks.next;
-    beyond = with_spot n halts.breaks.beyond place;
-    goes_on = link_lifts clients terms n place within halts.breaks.to halts.breaks.beyond (commits halts.breaks.next) halts.breaks.goes_on;
-    runs =
-        runs_lifted clients terms n place within (FitsWith clients s o.files) (ReadsAs clients o'.files) p halts.breaks.to o o' halts.breaks.runs;
-  };
-  stands = elim halts.stands [
-    | inl has ↦ inl (ap (λ (x : course_links.Link). slice_set place.links n x) has)
-    | inr will ↦
-        inr (record {
-          batch = will.batch;
-          next = with_spot n will.next place;
-          steps = lifted_step clients terms n place within halts.breaks.to will.next (Commit will.batch) will.steps;
-          has = ap (λ (x : course_links.Link). slice_set place.links n x) will.has;
-        })
-  ];
-}
-
--- a run was broken off behind what was done
-pub run_halts_behind : (clients : Meaning) (terms : Terms) (links : List course_links.Link)
-    (s s1 : StoreValue) (o o1 o' : Outside) (p q : Place) → RunRuns clients terms p q s s1 o o1
-    → RunHalts clients terms q links s1 o1 o' → RunHalts clients terms p links s o o'
-run_halts_behind clients terms links s s1 o o1 o' p q first second = record {
-  breaks = record {
-    to = second.breaks.to;
-    next = second.breaks.next;
-    beyond = second.breaks.beyond;
-    goes_on = second.breaks.goes_on;
-    runs =
-        runs_then (RunStep clients terms) (FitsWith clients s o.files) (FitsWith clients s1 o1.files) (ReadsAs clients o'.files)
-        p q second.breaks.to o o1 o' first second.breaks.runs;
-  };
-  stands = second.stands;
-}
 
 -- ---- one link in the run
 
@@ -228,69 +162,6 @@ module _ (clients : Meaning) (first n : ℕ) (links : List Link) (l : Link) (s :
           facts = f;
         })
         (set_at 0 n links heard l' bytes ∙ ap (λ (j : ℕ). links_from 0 (slice_set links n l') (heard_with j bytes heard)) plain)
-
-    pub link_in_run : (doing doing' : Doing) (l' : Link) (s' : StoreValue) (o' : Outside)
-        (bytes : List ℕ) (moved' : Bool)
-        → LinkRuns clients n l.session.number (spot_at doing l (heard n) moved s.state.facts)
-        (spot_at doing' l' bytes moved' s'.state.facts) s s' o o'
-        → RunRuns clients terms (place_at (Works n doing) links heard moved still made s.state.facts)
-        (place_at (Works n doing') (slice_set links n l') (heard_with n bytes heard) moved' still made s'.state.facts) s s' o o'
-    link_in_run doing doing' l' s' o' bytes moved' runs =
-        let place : Place = place_at (Works n doing) links heard moved still made s.state.facts in
-        let p : Spot = spot_at doing l (heard n) moved s.state.facts in
-        let q : Spot = spot_at doing' l' bytes moved' s'.state.facts in
-        let within : n < length place.links = get_within (links_from 0 links heard) n (link_at l (heard n)) at_course in
-        let lifted : RunRuns clients terms (with_spot n p place) (with_spot n q place) s s' o o' =
-        runs_lifted clients terms n place within (FitsWith clients s o.files) (FitsWith clients s' o'.files) p q o o'
-        (subst (λ (k : ℕ). LinkRuns clients n k p q s s' o o') in_terms runs) in
-        subst (λ (x : Place). RunRuns clients terms x (place_at (Works n doing') (slice_set links n l') (heard_with n bytes heard) moved' still made s'.state.facts) s s' o o')
-        (start_here doing)
-        (subst (λ (x : Place). RunRuns clients terms (with_spot n p place) x s s' o o') (end_there doing doing' l' s'.state.facts bytes moved') lifted)
-
-    -- the same, with the number of batches that were committed
-    pub link_counted : (doing doing' : Doing) (l' : Link) (s' : StoreValue) (o' : Outside)
-        (bytes : List ℕ) (moved' : Bool) (count : ℕ)
-        → LinkCounts clients n l.session.number (spot_at doing l (heard n) moved s.state.facts)
-        (spot_at doing' l' bytes moved' s'.state.facts) s s' o o' count
-        → RunCounts clients terms (place_at (Works n doing) links heard moved still made s.state.facts)
-        (place_at (Works n doing') (slice_set links n l') (heard_with n bytes heard) moved' still made s'.state.facts) s s' o o' count
-    link_counted doing doing' l' s' o' bytes moved' count counts =
-        let place : Place = place_at (Works n doing) links heard moved still made s.state.facts in
-        let p : Spot = spot_at doing l (heard n) moved s.state.facts in
-        let q : Spot = spot_at doing' l' bytes moved' s'.state.facts in
-        let within : n < length place.links = get_within (links_from 0 links heard) n (link_at l (heard n)) at_course in
-        let lifted : RunCounts clients terms (with_spot n p place) (with_spot n q place) s s' o o' count =
-        counted_lifted clients terms n place within (FitsWith clients s o.files) (FitsWith clients s' o'.files) p q o o' count
-        (subst (λ (k : ℕ). LinkCounts clients n k p q s s' o o' count) in_terms counts) in
-        subst (λ (x : Place). RunCounts clients terms x (place_at (Works n doing') (slice_set links n l') (heard_with n bytes heard) moved' still made s'.state.facts) s s' o o' count)
-        (start_here doing)
-        (subst (λ (x : Place). RunCounts clients terms (with_spot n p place) x s s' o o' count) (end_there doing doing' l' s'.state.facts bytes moved') lifted)
-
-    pub link_halted : (doing : Doing) (l' : Link) (o' : Outside) (bytes : List ℕ)
-        → LinkHalts clients n l.session.number (spot_at doing l (heard n) moved s.state.facts) (link_at l' bytes) s o o'
-        → RunHalts clients terms (place_at (Works n doing) links heard moved still made s.state.facts)
-        (links_from 0 (slice_set links n l') (heard_with n bytes heard)) s o o'
-    link_halted doing l' o' bytes halts =
-        let place : Place = place_at (Works n doing) links heard moved still made s.state.facts in
-        let p : Spot = spot_at doing l (heard n) moved s.state.facts in
-        let within : n < length place.links = get_within (links_from 0 links heard) n (link_at l (heard n)) at_course in
-        let plain : 0 + n ≡ n = omega arith in
-        let set : slice_set (links_from 0 links heard) n (link_at l' bytes) ≡ links_from 0 (slice_set links n l') (heard_with n bytes heard) =
-        set_at 0 n links heard l' bytes ∙ ap (λ (j : ℕ). links_from 0 (slice_set links n l') (heard_with j bytes heard)) plain in
-        subst (λ (x : Place). RunHalts clients terms x (links_from 0 (slice_set links n l') (heard_with n bytes heard)) s o o') (start_here doing)
-        (subst (λ (ls : List course_links.Link). RunHalts clients terms (with_spot n p place) ls s o o') set
-        (halts_lifted clients terms n place within p (link_at l' bytes) s o o'
-        (subst (λ (k : ℕ). LinkHalts clients n k p (link_at l' bytes) s o o') in_terms halts)))
-
-    pub link_limit : (doing : Doing) (s' : StoreValue) (o' : Outside)
-        → LinkFull clients n l.session.number (spot_at doing l (heard n) moved s.state.facts) s s' o o'
-        → RunFull clients terms (place_at (Works n doing) links heard moved still made s.state.facts) s s' o o'
-    link_limit doing s' o' full =
-        let place : Place = place_at (Works n doing) links heard moved still made s.state.facts in
-        let p : Spot = spot_at doing l (heard n) moved s.state.facts in
-        let within : n < length place.links = get_within (links_from 0 links heard) n (link_at l (heard n)) at_course in
-        subst (λ (x : Place). RunFull clients terms x s s' o o') (start_here doing)
-        (full_lifted clients terms n place within p s s' o o' (subst (λ (k : ℕ). LinkFull clients n k p s s' o o') in_terms full))
 
     -- a batch found no room in the link's turn, and what was sent
     pub link_limit_sent : (doing : Doing) (Given : Type 0) (s' : StoreValue) (o' : Outside)

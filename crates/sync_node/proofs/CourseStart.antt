@@ -14,9 +14,7 @@ use Rattle.sync_rules.specs.declared.entries.Entry.{Entry}
 use Rattle.sync_rules.specs.declared.entries.Session.{Session}
 use Rattle.sync_store.specs.Ready.{IsReady}
 use Rattle.sync_store.specs.Store.{StoreValue}
-use Rattle.sync_course.proofs.CallLaws.{runs_commits, runs_none}
-use Rattle.sync_course.specs.Events.{Break, Commit, TellsEvents}
-use Rattle.sync_course.proofs.PathLaws.{path_one}
+use Rattle.sync_course.specs.Events.{Break, TellsEvents}
 use Rattle.sync_course.proofs.LiftLaws.{runs_attached, runs_greeted, runs_ungreeted}
 use Rattle.sync_course.specs.Links as course_links
 use Rattle.sync_course.specs.Links.{link_of}
@@ -29,11 +27,11 @@ use Rattle.sync_node.specs.declared.link.Link.{Link}
 use Rattle.sync_course.specs.declared.ends.LinkEnd.{LinkEnd}
 use Rattle.sync_course.specs.declared.ends.LinkEnd.TheVariants as link_end
 use Rattle.sync_node.proofs.CourseLaws.{fits_on, quiet_most}
-use Rattle.sync_node.proofs.CourseTakes.{full_sent_here, none_or_one}
+use Rattle.sync_node.proofs.CourseTakes.{full_sent_here}
 use Rattle.sync_node.specs.Fulls.{FullBeginning, FullStart, PassesLimit}
 use Rattle.sync_node.specs.Stops.{StaysSame}
 use Rattle.sync_node.proofs.SentLaws.{same_sent}
-use Rattle.sync_node.specs.Courses.{CommitsWithinCalls, AddsSome, BeginsNextSession, BreaksStart, FitsWith, GreetsAsCourse, HaltsBeginning, IsLinkRead, ReadsAs, RunHalts, RunRuns, StartsAsCourse, StartsBehind, attaching_at, link_at, links_from, place_at}
+use Rattle.sync_node.specs.Courses.{CommitsWithinCalls, BeginsNextSession, FitsWith, GreetsAsCourse, HaltsBeginning, IsLinkRead, RunRuns, StartsAsCourse, StartsBehind, attaching_at, link_at, links_from, place_at}
 use Rattle.sync_node.proofs.CourseRuns.{length_from}
 use Rattle.sync_node.specs.Node.{NodeValue}
 use Rattle.sync_node.specs.Sending.{EndsBy, SendsOn}
@@ -150,43 +148,6 @@ module _ (clients : Meaning) (x : Session) (s : StoreValue) (o : Outside) (batch
               (subst (λ (k : ℕ). TellsEvents (Break k ∷ []) o1 o2) (sym long) failed.1) greets.0)
         ]
 
-  -- a commit that was broken off
-  pub start_broken : (o' : Outside) → AddsSome clients (batch ∷ []) s o o'
-      → BreaksStart clients x s o o'
-  start_broken o' adds = record {
-    stops = λ terms left links moved still made.
-        let p : Place = attaching_at (x ∷ left) links moved still made s.state.facts in
-        let b : List Entry = session_batch x in
-        let q : Place = greeting_at terms left links moved still made (after_all s.state.facts b) in
-        let step : RunStep clients terms p (Commit b) q = (refl, allowed, refl) in
-        elim (none_or_one clients batch s o o' adds) [
-          | inl none ↦ record {
-            breaks = record {
-              to = p;
-              next = b ∷ [];
-              beyond = q;
-              goes_on = path_one (RunStep clients terms) p q (Commit b) step;
-              runs =
-                  runs_commits (RunStep clients terms) (FitsWith clients s o.files) (ReadsAs clients o'.files) [] none p p o o' adds.same_links
-                  adds.calls refl;
-            };
-            stands = inl refl;
-          }
-          | inr one ↦ record {
-            breaks = record {
-              to = q;
-              next = [];
-              beyond = q;
-              goes_on = refl;
-              runs =
-                  runs_attached clients terms (FitsWith clients s o.files) (ReadsAs clients o'.files) x left p o o' refl allowed adds.same_links adds.calls
-                  (subst (λ (b : List Entry). (j : List (List Entry)) → FitsWith clients s o.files j → ReadsAs clients o'.files (j ++ b ∷ [])) is one);
-            };
-            stands = inl refl;
-          }
-        ];
-  }
-
   -- a session that would have passed the limit
   pub start_full : (s' : StoreValue) (o' : Outside) → PassesLimit clients batch s s' o o'
       → FullStart clients x s s' o o'
@@ -218,24 +179,6 @@ module _ (clients : Meaning) (x : Session) (s : StoreValue) (o : Outside) (batch
             (begun_runs terms left links moved still made s1 o1 facts_are adds)
             (greeted_runs terms left links moved still made n begun reader same l s1 o1 o2 long same_files greets);
       }
-
--- a call that was broken off before it committed anything
-pub start_none : (clients : Meaning) (x : Session) (s : StoreValue) (o : Outside)
-    → BreaksStart clients x s o o
-start_none clients x s o = record {
-  stops = λ terms left links moved still made. record {
-    breaks = record {
-      to = attaching_at (x ∷ left) links moved still made s.state.facts;
-      next = [];
-      beyond = attaching_at (x ∷ left) links moved still made s.state.facts;
-      goes_on = refl;
-      runs =
-          runs_none (RunStep clients terms) (FitsWith clients s o.files) (ReadsAs clients o.files) (λ j fit. (fit.0, fit.1, fit.2.stands_for))
-          (attaching_at (x ∷ left) links moved still made s.state.facts) o;
-    };
-    stands = inl refl;
-  };
-}
 
 -- ---- behind the links of a node
 
@@ -273,14 +216,6 @@ module _ (clients : Meaning) (x : Session) (links : List Link) (s : StoreValue)
         (λ (ls : List course_links.Link). RunRuns clients terms (place_at (Attaches (x ∷ left)) links heard moved still made s.state.facts) (attaching_at left ls moved still made s'.state.facts) s s' o o')
         ends
         (behind.starts.runs two told terms left (links_from 0 links heard) moved still made (length_from 0 links heard ∙ last));
-  }
-
-  pub beginning_halted : (links' : List Link) → links' ≡ links → BreaksStart clients x s o o'
-      → HaltsBeginning clients x links links' s o o'
-  beginning_halted links' same breaks = record {
-    stops = λ terms left heard moved still made.
-        subst (λ (ls : List Link). RunHalts clients terms (place_at (Attaches (x ∷ left)) links heard moved still made s.state.facts) (links_from 0 ls heard) s o o')
-        (sym same) (breaks.stops terms left (links_from 0 links heard) moved still made);
   }
 
   pub beginning_full : (s' : StoreValue) → FullStart clients x s s' o o'

@@ -1,14 +1,12 @@
 -- What calls did, one behind the other.
-use Rattle.std.proofs.Common.{◌≡◌, ◌⊎◌, ℕ, ◌+◌, ◌*◌, ◌≤◌, List, [], ◌∷◌, ◌++◌, append-nil, append_assoc, length, length-append, refl, sym, ◌∙◌, ap, subst, inl, inr, arith, slice_index_or, Option, Some, None, is_some}
-use Rattle.outside.specs.Files.{Two, File}
+use Rattle.std.proofs.Common.{◌≡◌, ℕ, ◌+◌, ◌*◌, List, [], ◌++◌, append-nil, append_assoc, length, length-append, refl, sym, ◌∙◌, ap, subst, inl, inr, arith, Option, Some, None, is_some}
 use Rattle.outside.specs.Outside.{MakesAtMost, Moment, Outside}
-use Rattle.outside.specs.Runs.{IsFront, TellsAll}
+use Rattle.outside.specs.Runs.{TellsAll}
 use Rattle.outside.proofs.CallCounts.{most_none, most_then}
-use Rattle.sync_rules.specs.declared.entries.Entry.{Entry}
 use Rattle.sync_rules.specs.Clients.{Meaning}
-use Rattle.entry_codec.specs.Standing.{journal, stands}
+use Rattle.entry_codec.specs.Standing.{journal}
 use Rattle.sync_store.specs.Store.{StoreValue}
-use Rattle.sync_course.specs.Acts.{Act, AtFront, batches_in, commit_acts, events_of, next_bytes, sends_on}
+use Rattle.sync_course.specs.Acts.{Act, AtFront, batches_in, commit_acts, events_of, sends_on}
 use Rattle.sync_course.specs.Events.{Event, TellsEvents as Tells}
 use Rattle.sync_course.proofs.ActLaws.{batches_in-append, events_of-append, next_wide, sends_on-append}
 use Rattle.sync_course.proofs.ToldLaws.{told_none, told_then}

@@ -1,26 +1,25 @@
 -- What calls did as acts, as events that are told: a path of acts is one of events, but for parts of
 -- what was owed, which are told of nothing.
-use Rattle.std.proofs.Common.{◌≡◌, ◌⊎◌, ℕ, ◌*◌, ◌||◌, List, [], ◌∷◌, ◌++◌, length, refl, sym, ◌∙◌, ap, subst, inl, inr, Bool, Option, None, Some}
+use Rattle.std.proofs.Common.{◌≡◌, ℕ, ◌*◌, ◌||◌, List, [], ◌∷◌, ◌++◌, length, refl, sym, ◌∙◌, ap, subst, inl, inr, Bool, Option, None, Some}
 use Rattle.std.specs.Option.{option_map}
 use Rattle.outside.specs.Disk.{RelatesTold}
 use Rattle.outside.specs.Links.{HeardOn, Planned}
 use Rattle.outside.specs.Outside.{MakesAtMost, Outside}
-use Rattle.sync_rules.specs.declared.entries.Entry.{Entry}
 use Rattle.sync_rules.specs.Clients.{Meaning}
 use Rattle.sync_rules.specs.Facts.{Facts}
 use Rattle.sync_store.specs.Store.{StoreValue}
 use Rattle.sync_course.specs.Acts.{Act, Does, Fail, Send, batches_in, commit_acts, events_of}
-use Rattle.sync_course.specs.Events.{Break, Commit, Event, GrowsBy, Pass, PlansAfter, RoseIf, ChangesThrough, TellsEvents, UpcomingAfter, batches_of, commits, has_failure, heard_after, heard_by, is_failure, readings_of}
+use Rattle.sync_course.specs.Events.{Break, Event, GrowsBy, Pass, PlansAfter, RoseIf, ChangesThrough, TellsEvents, UpcomingAfter, batches_of, commits, has_failure, heard_after, heard_by, is_failure, readings_of}
 use Rattle.sync_course.specs.Owing.{ActStep, Owing}
 use Rattle.sync_course.specs.Paths.{BreaksPath, CountsBatches, Path, RunsPath}
 use Rattle.sync_course.proofs.ToldLaws.{batches_of-append, readings_of-append}
 use Rattle.sync_node.specs.declared.fault.Fault.{Fault}
 use Rattle.sync_node.specs.declared.fault.Fault.TheVariants as fault
-use Rattle.sync_node.specs.Courses.{CommitsTo, FitsWith, HasOrWillHave, ReadsAs}
-use Rattle.sync_node.specs.Did.{Did, DidSome}
+use Rattle.sync_node.specs.Courses.{FitsWith, HasOrWillHave, ReadsAs}
+use Rattle.sync_node.specs.Did.{Did}
 use Rattle.sync_node.specs.Fulls as fulls
 use Rattle.sync_node.specs.Output.{Journal}
-use Rattle.sync_node.specs.Went.{HasSoon, Stopped, StopsBroken, StopsFull, StopsReady, Went}
+use Rattle.sync_node.specs.Went.{HasSoon, Stopped, StopsFull, Went}
 
 -- ---- events without some that tell of nothing
 

@@ -1,5 +1,5 @@
 -- Hearing on a link, as steps of its turn.
-use Rattle.std.proofs.Common.{◌≡◌, ℕ, Bool, true, false, List, [], ◌∷◌, ◌++◌, length, take, refl, sym, ◌∙◌, ap, subst, inl, inr}
+use Rattle.std.proofs.Common.{◌≡◌, ℕ, Bool, true, false, List, [], ◌++◌, length, take, refl, sym, ◌∙◌, ap, subst, inl, inr}
 use Rattle.outside.specs.declared.host.Heard.{Heard}
 use Rattle.outside.specs.declared.host.Heard.TheVariants as heard_kind
 use Rattle.outside.specs.Host.{HearsAnswer, IsAnswerCaused}
@@ -27,7 +27,7 @@ use Rattle.sync_course.proofs.ToldLaws.{told_asked, told_pass}
 use Rattle.sync_node.specs.declared.fault.Fault.{Fault}
 use Rattle.sync_node.specs.declared.link.Link.{Link}
 use Rattle.sync_node.specs.Courses.{link_at, spot_at}
-use Rattle.sync_node.specs.OnLinks.{HearingStopped, HearingWent, ItemsStopped, LinkStopped, LinkWent, PieceWent}
+use Rattle.sync_node.specs.OnLinks.{HearingStopped, HearingWent, ItemsStopped, LinkWent, PieceWent}
 use Rattle.sync_node.proofs.CourseTurns.{going_end, not_going_end}
 use Rattle.sync_node.proofs.LinkActs.{link_does, link_joins, link_stops_then}
 use Rattle.sync_node.proofs.PrimLaws.{did_pass, did_quiet}

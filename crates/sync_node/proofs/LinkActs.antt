@@ -1,7 +1,6 @@
 -- The calls of a link's turn as steps of its machine: one law for each call, and for one behind
 -- another.
-use Rattle.std.proofs.Common.{◌≡◌, ◌⊎◌, ℕ, suc, ◌+◌, false, true, List, [], ◌∷◌, ◌++◌, length, append-nil, refl, sym, ◌∙◌, ap, subst, inl, inr, Ok, Err}
-use Rattle.outside.specs.declared.failed.Failed.{Failed}
+use Rattle.std.proofs.Common.{◌≡◌, ℕ, ◌+◌, List, [], ◌∷◌, ◌++◌, refl, sym, ◌∙◌, ap, subst, inl, inr}
 use Rattle.outside.specs.Outside.{Outside}
 use Rattle.record_grammar.specs.Spelling.{spelled}
 use Rattle.record_grammar.specs.declared.stream.Item.{Item}
@@ -14,19 +13,18 @@ use Rattle.sync_rules.specs.Legal.{Allowed, AllSettling}
 use Rattle.sync_rules.proofs.OutputLaws.{settling_silent, silent_adds_nothing, take_silent}
 use Rattle.sync_store.specs.Ready.{IsReady}
 use Rattle.sync_store.specs.Store.{StoreValue}
-use Rattle.sync_course.specs.Acts.{Act, Does, commit_acts}
+use Rattle.sync_course.specs.Acts.{Does, commit_acts}
 use Rattle.sync_course.specs.Events.{Commit, Event}
 use Rattle.sync_course.specs.Links as course_links
 use Rattle.sync_course.specs.Links.{items_after, link_after}
-use Rattle.sync_course.specs.LinkTurns.{Doing, LinkStep, Spot, StepOf, Takes, next_take, taken_spot}
+use Rattle.sync_course.specs.LinkTurns.{LinkStep, Spot, Takes, next_take, taken_spot}
 use Rattle.sync_course.specs.Owing.{Owing, adds_to, paid}
 use Rattle.sync_course.specs.Paths.{Path}
-use Rattle.sync_course.proofs.ActLaws.{commit_acts-append}
 use Rattle.sync_course.proofs.CallLaws.{step_at}
 use Rattle.sync_node.specs.declared.fault.Fault.{Fault}
 use Rattle.sync_node.specs.declared.fault.Fault.TheVariants as fault
 use Rattle.sync_node.specs.Batches.{CommitStops, Committed, Settled, SettleStops, SettlesBy}
-use Rattle.sync_node.specs.Did.{Did, DidSome}
+use Rattle.sync_node.specs.Did.{Did}
 use Rattle.sync_node.specs.OnLinks.{LinkActs, LinkStopped, LinkWent, RecordStopped, RecordTaken}
 use Rattle.sync_node.specs.Output.{Journal}
 use Rattle.sync_node.proofs.CommitLaws.{settling_front}

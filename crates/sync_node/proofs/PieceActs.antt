@@ -1,5 +1,5 @@
 -- The items of a piece, one behind the other, as steps of a link's turn.
-use Rattle.std.proofs.Common.{◌≡◌, ℕ, Bool, true, false, List, [], ◌∷◌, ◌++◌, refl, sym, ◌∙◌, ap, subst, inl, inr}
+use Rattle.std.proofs.Common.{◌≡◌, ℕ, Bool, true, false, List, [], ◌∷◌, refl, sym, ◌∙◌, ap, subst}
 use Rattle.outside.specs.Outside.{Outside}
 use Rattle.record_grammar.specs.Laws.{EndingsAreOfRests, RestsGiveNothing}
 use Rattle.record_grammar.specs.Reading.{found_in}
@@ -18,7 +18,7 @@ use Rattle.sync_store.specs.Store.{StoreValue}
 use Rattle.sync_course.specs.Acts.{Does}
 use Rattle.sync_course.specs.Events.{Pass}
 use Rattle.sync_course.specs.Links.{items_after, link_after, stands_behind}
-use Rattle.sync_course.specs.LinkTurns.{LinkStep, PassesItem, Spot, Takes, Waits, all_taken_spot}
+use Rattle.sync_course.specs.LinkTurns.{PassesItem, Spot, Takes, Waits, all_taken_spot}
 use Rattle.sync_course.specs.Reading.{HasRead, IsReading}
 use Rattle.sync_course.specs.declared.ends.LinkEnd.TheVariants as link_end
 use Rattle.sync_course.proofs.CallLaws.{step_at}

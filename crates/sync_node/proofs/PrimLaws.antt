@@ -1,28 +1,27 @@
 -- What each call of a store or of a host did, as acts.
-use Rattle.std.proofs.Common.{◌≡◌, ◌≢◌, ◌⊎◌, ℕ, ◌+◌, ◌*◌, ◌<◌, ◌≤◌, false, true, Bool, cond, nat_eq, eq-eqb, arith, List, [], ◌∷◌, ◌++◌, append-nil, length, take, refl, sym, ◌∙◌, ap, subst, inl, inr, Option, Some, None, Result, Ok, Err, slice_index_or}
+use Rattle.std.proofs.Common.{◌≡◌, ◌≢◌, ℕ, ◌+◌, ◌*◌, ◌<◌, ◌≤◌, false, true, Bool, cond, nat_eq, eq-eqb, arith, List, [], ◌∷◌, ◌++◌, append-nil, length, take, refl, sym, ◌∙◌, ap, subst, inl, inr, Some, Result, Ok, Err, slice_index_or}
 use Rattle.std.specs.Option.{option_map}
 use Rattle.std.proofs.lemmas.Bool.{cases_eq, ne_eqb}
 use Rattle.outside.specs.declared.failed.Failed.{Failed}
 use Rattle.outside.specs.declared.limits.TheConstants.{MAX_JOURNAL}
 use Rattle.outside.specs.Files.{Two, File}
 use Rattle.outside.specs.Host.{SendsOnLink, SendsPart}
-use Rattle.outside.specs.Links.{ToldLink, Links, sent_of, with_sent}
+use Rattle.outside.specs.Links.{Links, sent_of, with_sent}
 use Rattle.outside.specs.Outside.{DiskRun, LinkCall, MakesAtMost, Moment, Outside, QuietCall}
 use Rattle.outside.specs.Runs.{IsFront, TellsAll, sent_at}
 use Rattle.outside.proofs.RunLaws.{grow_send, quiet_moments, send_moments, sent_at-other, sent_at-with_sent, went_out}
-use Rattle.sync_rules.specs.declared.entries.Entry.{Entry}
 use Rattle.sync_rules.specs.Clients.{Meaning}
 use Rattle.entry_codec.specs.Standing.{journal, room_of}
 use Rattle.sync_store.specs.Fitting.{FitsFiles, FitsSome, ImagesStand}
 use Rattle.sync_store.specs.Moments.{IsBetween, JournalMoment, LeadsTo}
 use Rattle.sync_store.specs.Store.{StoreValue, written_in}
 use Rattle.sync_course.specs.Acts.{Act, AtFront, Fail, Send, batches_in, commit_acts, events_of, next_bytes, sends_on}
-use Rattle.sync_course.specs.Events.{Event, TellsEvents as Tells, commits}
+use Rattle.sync_course.specs.Events.{Event, TellsEvents as Tells}
 use Rattle.sync_course.proofs.ActLaws.{batches_in_commits, commit_acts-append, commits_send, events_of_commits}
 use Rattle.sync_course.proofs.CallLaws.{calls_parts}
 use Rattle.sync_course.proofs.ToldLaws.{told_broken, told_commits, told_sent}
 use Rattle.sync_node.specs.Courses.{FitsWith, ReadsAs, ReadsFront}
-use Rattle.sync_node.specs.Did.{ComesAtFronts, Did, DidSome, HasSentBy, SinceThen}
+use Rattle.sync_node.specs.Did.{ComesAtFronts, Did, DidSome, HasSentBy}
 use Rattle.sync_node.specs.Going.{LetsNothingFall, specs_of}
 use Rattle.sync_node.specs.Output.{Journal, sent_on}
 use Rattle.sync_node.proofs.CourseLaws.{fits_grown, fits_on, quiet_most}

@@ -1,16 +1,14 @@
 -- The turns of all links, and a whole turn, as paths of a run's acts.
-use Rattle.std.proofs.Common.{◌≡◌, ℕ, zero, suc, ◌+◌, ◌<◌, Bool, true, false, cond, ◌&&◌, List, [], ◌∷◌, length, refl, sym, ◌∙◌, ap, subst, inl, inr, arith, Some}
+use Rattle.std.proofs.Common.{◌≡◌, ℕ, suc, ◌+◌, ◌<◌, Bool, true, false, cond, ◌&&◌, List, [], length, refl, sym, ◌∙◌, ap, subst, inl, inr, arith, Some}
 use Rattle.std.specs.Prelude.{nat_lt, not, slice_get, slice_set}
 use Rattle.outside.specs.Outside.{Outside}
-use Rattle.sync_rules.specs.declared.entries.Entry.{Entry}
 use Rattle.sync_rules.specs.Clients.{Meaning}
-use Rattle.sync_rules.specs.Facts.{Facts}
 use Rattle.sync_store.specs.Store.{StoreValue}
 use Rattle.sync_course.specs.Acts.{Act, Does, Fail, Send, commit_acts}
-use Rattle.sync_course.specs.Events.{Break, Commit, Event, Pass}
+use Rattle.sync_course.specs.Events.{Break, Commit, Pass}
 use Rattle.sync_course.specs.Links as course_links
 use Rattle.sync_course.specs.Links.{without_redundant}
-use Rattle.sync_course.specs.LinkTurns.{Asks, Doing, Done, LinkStep, Sends, Spot}
+use Rattle.sync_course.specs.LinkTurns.{Asks, Doing, Done, Sends, Spot}
 use Rattle.sync_course.specs.Owing.{Owing, paid}
 use Rattle.sync_course.specs.Paths.{Path}
 use Rattle.sync_course.specs.declared.TheConstants.{MAX_OUTPUTS}
@@ -21,7 +19,7 @@ use Rattle.sync_course.proofs.ToldLaws.{told_pass}
 use Rattle.sync_node.specs.declared.fault.Fault.{Fault}
 use Rattle.sync_node.specs.declared.fault.Fault.TheVariants as fault
 use Rattle.sync_node.specs.declared.link.Link.{Link}
-use Rattle.sync_node.specs.Courses.{AllRead, IsLinkRead, IsReadyToSend, link_at, links_from, place_at, spot_at}
+use Rattle.sync_node.specs.Courses.{IsLinkRead, IsReadyToSend, link_at, links_from, place_at, spot_at}
 use Rattle.sync_node.specs.Ends.{MaySend}
 use Rattle.sync_node.specs.OnLinks.{DueStopped, DueWent, HearingStopped, HearingWent, LinkActs, LinkMakes, LinkStopped, LinkWent, TurnWent}
 use Rattle.sync_node.specs.OnRuns.{AskingStopped, AskingWent, LinksStopped, LinksWent, OutsSent, OutsStopped, RoundStopped, RoundWent, RunActs, RunMakes, RunStopped, RunWent}

@@ -5,15 +5,13 @@ use Rattle.std.proofs.lemmas.Bool.{cases_eq, false≢true, lt-ltb, ne_eqb}
 use Rattle.entry_codec.specs.Standing.{room_of}
 use Rattle.outside.specs.declared.failed.Failed.{Failed}
 use Rattle.outside.specs.declared.limits.TheConstants.{MAX_JOURNAL}
-use Rattle.outside.specs.Host.{ReadsClock, SendsOnLink as SendsBytes, SendsPart}
-use Rattle.outside.specs.Outside.{LinkCall, Outside, QuietCall}
+use Rattle.outside.specs.Host.{ReadsClock, SendsOnLink as SendsBytes}
+use Rattle.outside.specs.Outside.{Outside, QuietCall}
 use Rattle.outside.proofs.RunLaws.{front_same}
 use Rattle.record_grammar.specs.Spelling.{spelled}
-use Rattle.sync_ids.specs.declared.records.Record.{Record}
 use Rattle.sync_rules.specs.declared.entries.Entry.{Entry}
 use Rattle.sync_rules.specs.declared.entries.Entry.TheVariants as entry
 use Rattle.sync_rules.specs.declared.entries.Out.{Out}
-use Rattle.sync_rules.specs.declared.entries.Session.{Session}
 use Rattle.sync_rules.specs.Clients.{Meaning}
 use Rattle.sync_rules.specs.Facts.{Facts, after_all}
 use Rattle.sync_rules.specs.Growth.{output_in}
@@ -23,12 +21,11 @@ use Rattle.sync_store.specs.Fitting.{ImagesStand}
 use Rattle.sync_store.specs.Ready.{IsReady}
 use Rattle.sync_store.specs.Store.{StoreValue, written_in}
 use Rattle.sync_course.specs.Acts.{Act, Does, Fail, Send, batches_in, commit_acts}
-use Rattle.sync_course.specs.Events.{Break, Commit, Pass, Read}
+use Rattle.sync_course.specs.Events.{Commit, Pass, Read}
 use Rattle.sync_course.specs.Links.{is_sent_to}
-use Rattle.sync_course.specs.LinkTurns.{Doing, Done, IsEnough, LinkStep, Puts, Sends, Spot, Waits, failed_spot, out_batch, out_spot}
+use Rattle.sync_course.specs.LinkTurns.{Doing, Done, IsEnough, LinkStep, Sends, Spot, Waits, failed_spot, out_batch, out_spot}
 use Rattle.sync_course.specs.Owing.{Owing, adds_to, paid}
 use Rattle.sync_course.specs.declared.TheConstants.{MAX_OUTPUTS}
-use Rattle.sync_course.specs.declared.ends.LinkEnd.{LinkEnd}
 use Rattle.sync_course.specs.declared.ends.LinkEnd.TheVariants as link_end
 use Rattle.sync_course.proofs.ActLaws.{batches_in-append}
 use Rattle.sync_course.proofs.CallLaws.{step_at}
@@ -38,10 +35,10 @@ use Rattle.sync_node.specs.declared.fault.Fault.{Fault}
 use Rattle.sync_node.specs.declared.fault.Fault.TheVariants as fault
 use Rattle.sync_node.specs.declared.link.Link.{Link}
 use Rattle.sync_node.specs.Batches.{CommitStops, Committed}
-use Rattle.sync_node.specs.Courses.{GoesOnSending, IsReadyToSend, link_at, spot_at}
+use Rattle.sync_node.specs.Courses.{IsReadyToSend, link_at, spot_at}
 use Rattle.sync_node.specs.Did.{Did}
 use Rattle.sync_node.specs.Ends.{MaySend}
-use Rattle.sync_node.specs.OnLinks.{DueStopped, DueWent, LinkActs, LinkMakes, LinkStopped, LinkWent, Makes, OutsMadeTo, OutsWent, PutStopped, PutTo, PutWent, SendingStopped, SendingWent}
+use Rattle.sync_node.specs.OnLinks.{DueStopped, DueWent, LinkActs, LinkMakes, LinkStopped, LinkWent, OutsMadeTo, OutsWent, PutStopped, PutTo, PutWent, SendingStopped, SendingWent}
 use Rattle.sync_node.specs.Output.{Journal}
 use Rattle.sync_node.specs.Sending.{EndsBy, SendsOn}
 use Rattle.sync_node.proofs.CourseTurns.{end_then, may_end, may_not_end, sends_yet}

@@ -1,5 +1,5 @@
 -- A session that begins on the next link, as acts of a run.
-use Rattle.std.proofs.Common.{◌≡◌, ◌≢◌, ◌⊎◌, ℕ, suc, ◌+◌, ◌<◌, ◌≤◌, Bool, true, false, cond, nat_eq, eq-eqb, List, [], ◌∷◌, ◌++◌, append-nil, length, refl, sym, ◌∙◌, ap, subst, inl, inr, arith, Some, Result, Ok, Err}
+use Rattle.std.proofs.Common.{◌≡◌, ◌≢◌, ◌⊎◌, ℕ, ◌+◌, ◌<◌, ◌≤◌, Bool, cond, nat_eq, eq-eqb, List, [], ◌∷◌, ◌++◌, append-nil, length, refl, sym, ◌∙◌, ap, subst, inl, inr, arith, Some, Result, Ok, Err}
 use Rattle.std.specs.Prelude.{slice_get}
 use Rattle.std.proofs.lemmas.Bool.{cases_eq, ne_eqb}
 use Rattle.entry_codec.specs.Standing.{room_of}
@@ -10,7 +10,6 @@ use Rattle.outside.specs.Outside.{Outside}
 use Rattle.outside.proofs.RunLaws.{front_same}
 use Rattle.record_grammar.specs.Spelling.{spelled}
 use Rattle.record_stream.specs.Reading.{AwaitsBytes, ReaderState, fresh}
-use Rattle.sync_ids.specs.declared.records.Record.{Record}
 use Rattle.sync_rules.specs.declared.entries.Entry.{Entry}
 use Rattle.sync_rules.specs.declared.entries.Session.{Session}
 use Rattle.sync_rules.specs.Clients.{Meaning}
@@ -24,12 +23,10 @@ use Rattle.sync_store.specs.Store.{StoreValue, written_in}
 use Rattle.sync_course.specs.Acts.{Act, Does, Fail, Send, commit_acts}
 use Rattle.sync_course.specs.Events.{Commit}
 use Rattle.sync_course.specs.Links as course_links
-use Rattle.sync_course.specs.Links.{link_of}
 use Rattle.sync_course.specs.Owing.{Owing, adds_to, paid}
 use Rattle.sync_course.specs.Paths.{Path}
 use Rattle.sync_course.specs.Reading.{HasRead}
-use Rattle.sync_course.specs.Turns.{Attaches, Greets, Place, RunStep, Terms, attached, unattached}
-use Rattle.sync_course.specs.declared.ends.LinkEnd.{LinkEnd}
+use Rattle.sync_course.specs.Turns.{Attaches, Greets, Place, Terms, attached, unattached}
 use Rattle.sync_course.specs.declared.ends.LinkEnd.TheVariants as link_end
 use Rattle.sync_course.proofs.ReadingLaws.{fresh_has_read}
 use Rattle.sync_course.proofs.RunLaws.{get_push_cases}

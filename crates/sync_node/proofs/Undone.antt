@@ -9,7 +9,7 @@ use Rattle.sync_node.specs.declared.fault.NodeFault.{NodeFault}
 use Rattle.sync_node.specs.Faults.{fault_of}
 use Rattle.sync_node.specs.declared.link.Link.{Link}
 use Rattle.sync_node.specs.Node.{NodeValue}
-use Rattle.sync_node.specs.Stays.{IsUndone, IsUndoneAt, IsUndoneBy}
+use Rattle.sync_node.specs.Stays.{IsUndoneAt, IsUndoneBy}
 use Rattle.sync_node.proofs.NodeLaws.{node_of}
 
 pub stays_none : (s : StoreValue) → KeepsStore s s

@@ -8,14 +8,13 @@ use Rattle.sync_store.specs.Store.{StoreValue}
 use Rattle.sync_rules.specs.declared.entries.Entry.{Entry}
 use Rattle.sync_course.specs.Acts.{Act, Does, commit_acts}
 use Rattle.sync_course.specs.Events.{Commit}
-use Rattle.sync_course.specs.Paths.{Path}
 use Rattle.sync_course.proofs.PathLaws.{path_one, path_then}
 use Rattle.sync_node.specs.declared.fault.Fault.{Fault}
 use Rattle.sync_node.specs.declared.fault.Fault.TheVariants as fault
-use Rattle.sync_node.specs.Batches.{CommitStops, StaysIdle}
+use Rattle.sync_node.specs.Batches.{CommitStops, NodeStaysIdle}
 use Rattle.sync_node.specs.Did.{Did, DidSome}
 use Rattle.sync_node.specs.Output.{Journal}
-use Rattle.sync_node.specs.Went.{HasSoon, Stopped, StopsBroken, StopsFull, StopsReady, Went}
+use Rattle.sync_node.specs.Went.{HasSoon, Stopped, StopsBroken, Went}
 use Rattle.sync_node.proofs.DidLaws.{did_none, did_then, some_then}
 use Rattle.sync_node.proofs.CauseLaws.{rose_before}
 
@@ -107,7 +106,7 @@ module _ {P : Type 0} (clients : Meaning) (step : P → Act → P → Type 0) wh
       will_stand : HasSoon step Has p
       will_stand = inr (record { batch = b; next = q; steps = steps; has = has })
 
-      no_calls : StaysIdle clients s s' o o' → Went clients step p p s s' o o'
+      no_calls : NodeStaysIdle clients s s' o o' → Went clients step p p s s' o o'
       no_calls idle = record { acts = []; path = refl; did = idle.did }
 
       -- the batch does not stand, or it does

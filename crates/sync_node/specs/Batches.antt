@@ -18,7 +18,7 @@ use Rattle.sync_node.specs.Did.{Did, DidSome}
 use Rattle.sync_node.specs.Output.{Journal}
 
 -- nothing was done, and the store is ready
-pub record StaysIdle (clients : Meaning) (s s' : StoreValue) (o o' : Outside) : Type 0 where
+pub record NodeStaysIdle (clients : Meaning) (s s' : StoreValue) (o o' : Outside) : Type 0 where
   pub did : Did clients [] s s' o o'
   pub ready : IsReady clients s' o'.files
 
@@ -42,13 +42,13 @@ pub record Committed (clients : Meaning) (batch : List Entry) (s s' : StoreValue
 -- with it the journal would pass the limit
 pub record HasNoRoom (clients : Meaning) (batch : List Entry) (s s' : StoreValue)
     (o o' : Outside) : Type 0 where
-  pub idle : StaysIdle clients s s' o o'
+  pub idle : NodeStaysIdle clients s s' o o'
   pub before : s.limit < needed s batch
   pub over : s'.limit < needed s' batch
 
 abbrev pub CommitStops : Meaning → List Entry → StoreValue → StoreValue → Outside → Outside → Fault
     → Type 0
-CommitStops clients batch s s' o o' fault.Memory = StaysIdle clients s s' o o'
+CommitStops clients batch s s' o o' fault.Memory = NodeStaysIdle clients s s' o o'
 CommitStops clients batch s s' o o' fault.Full = HasNoRoom clients batch s s' o o'
 CommitStops clients batch s s' o o' fault.DiskFault = Breaks clients (batch ∷ []) s s' o o'
 
@@ -80,7 +80,7 @@ SettleStops clients s s' o o' fault.DiskFault = SettlingBreaks clients s s' o o'
 -- ---- a batch that is added beside the sessions
 
 -- nothing was committed, or the batch was and settling behind it
-pub record AddsBy (clients : Meaning) (batch : List Entry) (s s' : StoreValue)
+pub record CommitsAndSettles (clients : Meaning) (batch : List Entry) (s s' : StoreValue)
     (o o' : Outside) : Type 0 where
   pub more : Journal
   pub adds : AddsBatch clients s.state.facts batch more
@@ -90,13 +90,13 @@ pub record AddsBy (clients : Meaning) (batch : List Entry) (s s' : StoreValue)
 -- it was, and nothing is left to be settled
 pub record Added (clients : Meaning) (batch : List Entry) (s s' : StoreValue)
     (o o' : Outside) : Type 0 where
-  pub by : AddsBy clients batch s s' o o'
+  pub by : CommitsAndSettles clients batch s s' o o'
   pub some : by.more ≢ []
   pub settled : IsSettled clients s'.state.facts
 
 pub record AddingFull (clients : Meaning) (batch : List Entry) (s s' : StoreValue)
     (o o' : Outside) : Type 0 where
-  pub idle : StaysIdle clients s s' o o'
+  pub idle : NodeStaysIdle clients s s' o o'
   pub before : s.limit < needed s batch
 
 pub record AddingBreaks (clients : Meaning) (batch : List Entry) (s s' : StoreValue)
@@ -107,6 +107,6 @@ pub record AddingBreaks (clients : Meaning) (batch : List Entry) (s s' : StoreVa
 
 abbrev pub AddStops : Meaning → List Entry → StoreValue → StoreValue → Outside → Outside → Fault
     → Type 0
-AddStops clients batch s s' o o' fault.Memory = AddsBy clients batch s s' o o'
+AddStops clients batch s s' o o' fault.Memory = CommitsAndSettles clients batch s s' o o'
 AddStops clients batch s s' o o' fault.Full = AddingFull clients batch s s' o o'
 AddStops clients batch s s' o o' fault.DiskFault = AddingBreaks clients batch s s' o o'

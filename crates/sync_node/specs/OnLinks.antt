@@ -70,13 +70,13 @@ pub record RecordStopped (clients : Meaning) (session : ℕ) (r : Record) (s s' 
 -- ---- the items of a piece
 
 -- the next item was taken or passed over, or there was none
-abbrev pub LeadsOn : Meaning → ℕ → List ℕ → List Item → Bool → List ℕ → Link → Link → StoreValue
+abbrev pub TakesOrPassesItem : Meaning → ℕ → List ℕ → List Item → Bool → List ℕ → Link → Link → StoreValue
     → StoreValue → Outside → Outside → Bool → Type 0
-LeadsOn clients n heard its moved left l l' s s' o o' true =
+TakesOrPassesItem clients n heard its moved left l l' s s' o o' true =
     (others : List Item) × IsTaking heard left l' others l'.end
     × LinkWent clients n l.session.number (spot_at (Takes its) l heard moved s.state.facts)
     (spot_at (Takes others) l' heard moved s'.state.facts) s s' o o'
-LeadsOn clients n heard its moved left l l' s s' o o' false =
+TakesOrPassesItem clients n heard its moved left l l' s s' o o' false =
     HasRead heard l'.reader
     × LinkWent clients n l.session.number (spot_at (Takes its) l heard moved s.state.facts)
     (spot_at Waits l' heard moved s'.state.facts) s s' o o'
@@ -84,7 +84,7 @@ LeadsOn clients n heard its moved left l l' s s' o o' false =
 pub record NextWent (clients : Meaning) (n : ℕ) (piece left : List ℕ) (l l' : Link)
     (s s' : StoreValue) (o o' : Outside) (more : Bool) : Type 0 where
   pub leads : (heard : List ℕ) (its : List Item) (moved : Bool) → IsReading heard piece l.reader its
-      → LeadsOn clients n heard its moved left l l' s s' o o' more
+      → TakesOrPassesItem clients n heard its moved left l l' s s' o o' more
 
 pub record ItemsStopped (clients : Meaning) (n : ℕ) (piece : List ℕ) (l l' : Link)
     (s s' : StoreValue) (o o' : Outside) (e : Fault) : Type 0 where
@@ -96,7 +96,7 @@ pub record ItemsStopped (clients : Meaning) (n : ℕ) (piece : List ℕ) (l l' :
 pub record ItemsWent (clients : Meaning) (n : ℕ) (piece left : List ℕ) (l l' : Link)
     (s s' : StoreValue) (o o' : Outside) : Type 0 where
   pub leads : (heard : List ℕ) (its : List Item) (moved : Bool) → IsReading heard piece l.reader its
-      → LeadsOn clients n heard its moved left l l' s s' o o' true
+      → TakesOrPassesItem clients n heard its moved left l l' s s' o o' true
 
 -- all of them were, and the link waits for the clock
 pub record PieceWent (clients : Meaning) (n : ℕ) (piece : List ℕ) (l l' : Link)

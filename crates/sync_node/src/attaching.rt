@@ -8,7 +8,7 @@ ghost use Rattle.sync_rules.specs.Legal.{Allowed};
 ghost use Rattle.sync_rules.specs.declared.entries.Entry.TheVariants as entry;
 ghost use Rattle.sync_store.specs.Ready.{IsReady};
 ghost use Rattle.sync_node.specs.Causes.{LinkGoes, LinksGo};
-ghost use Rattle.sync_node.specs.Courses.{BreaksStart, GreetsAsCourse, StartsAsCourse};
+ghost use Rattle.sync_node.specs.Courses.{GreetsAsCourse, StartsAsCourse};
 ghost use Rattle.sync_node.specs.Courses.{StartsBehind};
 ghost use Rattle.sync_node.specs.Fulls.{FullStart};
 ghost use Rattle.sync_node.specs.Going.{LetsNothingFall};

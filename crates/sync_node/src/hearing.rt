@@ -1,14 +1,10 @@
 //! What is heard on a link is taken.
 ghost use Rattle.std.specs.Prelude.{IfErr};
-ghost use Rattle.std.specs.Prelude.{◌≡◌, ◌+◌, ◌<◌, ◌++◌, ◌∷◌, [], false, true, length, IfOk, OnErr};
+ghost use Rattle.std.specs.Prelude.{◌≡◌, ◌<◌, [], false, true, length, IfOk, OnErr};
 ghost use Rattle.std.specs.Prelude.{IsErrOf, OnOk};
 ghost use Rattle.outside.specs.Faults.{CountRose};
 ghost use Rattle.sync_course.specs.declared.TheConstants.{PIECE_LEN};
 ghost use Rattle.sync_node.specs.Causes.{LinkGoes};
-ghost use Rattle.sync_node.specs.Courses.{HearsAsCourse, HearsStops};
-ghost use Rattle.sync_node.specs.Courses.{NextAsCourse, NextStops, PieceTaken, StopsAsCourse};
-ghost use Rattle.sync_node.specs.Courses.{TakesAsCourse};
-ghost use Rattle.sync_node.specs.Fulls.{HearsFull, NextFull, TakesFull};
 ghost use Rattle.sync_node.specs.Going.{LetsNothingFall};
 ghost use Rattle.sync_node.specs.Hearing.{LearnsNonce};
 ghost use Rattle.sync_node.specs.OnLinks.{HearingStopped, HearingWent, ItemsStopped, NextWent};

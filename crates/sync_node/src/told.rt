@@ -17,7 +17,7 @@ ghost use Rattle.sync_node.specs.Adding.{AddsAtMost, AddsSettled, AddsWithin, Is
 ghost use Rattle.sync_node.specs.Batches.{Added, AddStops, CommitStops, Committed, Settled};
 ghost use Rattle.sync_node.specs.Batches.{SettleStops};
 ghost use Rattle.sync_node.specs.Cited.{NodeCallLaws};
-ghost use Rattle.sync_node.specs.Courses.{CommitsWithinCalls, CommitsSettling, AddsSome, AddsSomeSettling};
+ghost use Rattle.sync_node.specs.Courses.{CommitsWithinCalls, AddsSome};
 ghost use Rattle.sync_node.specs.Fulls.{PassesLimit};
 ghost use Rattle.sync_node.specs.Going.{CommitsBatches, LetsNothingFall, SettlesStore};
 ghost use Rattle.sync_node.specs.Output.{heard_on, Journal};

@@ -1,8 +1,6 @@
 use Rattle.sync_node.proofs.Undone.{if_err_all, if_err_was, undone_none}
-use Rattle.sync_node.proofs.CourseStart.{start_none}
 use Rattle.sync_node.proofs.SafeLaws.{goes_none}
 use Rattle.sync_node.proofs.StartLaws.{starts_as_before}
-use Rattle.sync_node.proofs.WorkLaws.{on_err}
 use Rattle.std.proofs.Common.{List, [], ◌∷◌, ◌++◌, ap, ◌∙◌}
 use Rattle.sync_node.specs.declared.link.Link.{Link}
 use Rattle.sync_node.proofs.CauseLaws.{links_go_none, links_go_push, links_go_same}

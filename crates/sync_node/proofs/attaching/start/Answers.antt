@@ -2,9 +2,8 @@ use Rattle.session_core.proofs.Unknown.{unknown}
 use Rattle.sync_node.proofs.Undone.{if_err_all, if_err_was, undone_none}
 use Rattle.std.proofs.Common.{arith, refl, sym, ◌∙◌, subst}
 use Rattle.record_stream.specs.Reading.{AwaitsBytes, ReaderState}
-use Rattle.sync_node.proofs.CourseStart.{start_broken, start_none, starts_course}
+use Rattle.sync_node.proofs.CourseStart.{starts_course}
 use Rattle.sync_node.proofs.StartLaws.{allowed_as, commits_as, commits_safe_as, first_bytes, kind_as, own_as, session_found, starts, starts_as_before, starts_failed, starts_safe}
-use Rattle.sync_node.proofs.WorkLaws.{on_err}
 use Rattle.sync_node.proofs.CauseLaws.{greeted_cause}
 use Rattle.sync_node.proofs.SafeLaws.{goes_none}
 use Rattle.sync_node.proofs.WorkLaws.{goes_then}

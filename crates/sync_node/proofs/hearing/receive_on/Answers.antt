@@ -2,15 +2,12 @@ use Rattle.std.proofs.Common.{refl, sym, ◌∙◌}
 use Rattle.outside.specs.declared.host.Heard.TheVariants as heard
 use Rattle.sync_node.proofs.WorkLaws.{able_calm, ended_not_going, on_err, stays_then, works_ended, works_heard, works_then}
 use Rattle.std.proofs.Common.{ap}
-use Rattle.sync_node.proofs.CourseTurns.{hears_ended, hears_failed, hears_idle, hears_piece, hears_stops}
 use Rattle.sync_course.specs.Links.{stands_ended}
 use Rattle.sync_node.proofs.CauseLaws.{ended_unfailed, link_failed, link_kept, link_then, link_unfailed}
 use Rattle.sync_node.proofs.WorkLaws.{goes_heard}
 use Rattle.std.proofs.Common.{Err}
 use Rattle.sync_node.proofs.WorkLaws.{err_was}
-use Rattle.sync_node.proofs.CourseTurns.{hears_full}
 use Rattle.sync_node.proofs.StopLaws.{stops_then}
-use Rattle.sync_node.proofs.CourseLaws.{quiet_most}
 use Rattle.sync_node.proofs.HearActs.{hear_ended, hear_failed, hear_idle, hear_piece, hear_stops}
 use Rattle.sync_node.proofs.Undone.{if_err_was}
 use Rattle.sync_node.proofs.hearing.receive_on.Goals as goal

@@ -2,12 +2,10 @@ use Rattle.std.proofs.Common.{refl, ap, length, arith}
 use Rattle.record_stream.specs.Reading.{ReaderState}
 use Rattle.sync_node.proofs.TakeLaws.{more_works, open_for, skip_works, taken_able, taken_stays, taken_works}
 use Rattle.sync_node.proofs.WorkLaws.{on_err, stays_none, works_ended}
-use Rattle.sync_node.proofs.CourseTakes.{next_bad, next_more, next_one, next_skipped, next_stops, next_stops_at_none}
 use Rattle.sync_node.proofs.CauseLaws.{learnt_unfailed, link_kept, link_unfailed}
 use Rattle.sync_node.proofs.SafeLaws.{goes_none}
 use Rattle.std.proofs.Common.{Err}
 use Rattle.sync_node.proofs.WorkLaws.{err_was}
-use Rattle.sync_node.proofs.CourseTakes.{next_full}
 use Rattle.sync_node.proofs.StopLaws.{stops_none}
 use Rattle.sync_node.specs.declared.fault.Fault.TheVariants as fault
 use Rattle.sync_node.proofs.PieceActs.{item_bad, item_more, item_no_memory, item_one, item_skipped, item_stops}

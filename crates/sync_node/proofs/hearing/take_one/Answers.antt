@@ -1,12 +1,11 @@
 use Rattle.sync_node.proofs.TakeLaws.{take_allowed, take_is, take_kind, take_own, take_safe, take_safe_none, take_safe_then, taken_on}
-use Rattle.sync_node.proofs.WorkLaws.{on_err, on_err_then, on_ok}
-use Rattle.sync_node.proofs.CourseTakes.{stops_at_commit, stops_at_none, stops_at_settle, takes_course, take_named}
+use Rattle.sync_node.proofs.WorkLaws.{on_ok}
+use Rattle.sync_node.proofs.CourseTakes.{take_named}
 use Rattle.sync_node.proofs.SafeLaws.{goes_none}
 use Rattle.sync_node.proofs.WorkLaws.{goes_then}
 use Rattle.std.proofs.Common.{Err, ap, refl}
 use Rattle.session_core.specs.Taking.{take_of}
 use Rattle.sync_node.proofs.WorkLaws.{err_was}
-use Rattle.sync_node.proofs.CourseTakes.{take_full}
 use Rattle.sync_node.proofs.StateLaws.{takes_told}
 use Rattle.sync_node.specs.declared.fault.Fault.TheVariants as fault
 use Rattle.sync_node.proofs.LinkActs.{record_no_memory, record_stops_at_commit, record_stops_at_settle, record_taken}

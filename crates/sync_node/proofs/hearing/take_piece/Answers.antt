@@ -1,10 +1,8 @@
 use Rattle.sync_node.proofs.TakeLaws.{none_left}
 use Rattle.sync_node.proofs.WorkLaws.{on_err, stays_then, works_closed, works_none, works_then}
-use Rattle.sync_node.proofs.CourseTakes.{piece_closed, piece_none, piece_stops, piece_taken, piece_then}
 use Rattle.sync_node.proofs.CauseLaws.{link_none, link_then}
 use Rattle.std.proofs.Common.{Err, ap, refl, ◌∙◌}
 use Rattle.sync_node.proofs.WorkLaws.{err_was}
-use Rattle.sync_node.proofs.CourseTakes.{piece_full}
 use Rattle.sync_node.proofs.StopLaws.{stops_then}
 use Rattle.sync_node.proofs.PieceActs.{items_closed, items_none, items_stop, items_taken, items_then}
 use Rattle.sync_node.proofs.Undone.{if_err_was}

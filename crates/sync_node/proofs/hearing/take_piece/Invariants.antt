@@ -1,6 +1,5 @@
 use Rattle.std.proofs.Common.{◌+◌, length, ◌≡◌}
 use Rattle.sync_node.specs.Causes.{LinkGoes}
-use Rattle.sync_node.specs.Courses.{PieceAsCourse}
 use Rattle.sync_node.specs.OnLinks.{ItemsWent}
 use Rattle.sync_node.specs.Working.{IsAble, WorksOnLink}
 use Rattle.sync_node.proofs.hearing.take_piece.Given as goal

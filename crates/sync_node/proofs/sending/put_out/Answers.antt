@@ -2,12 +2,10 @@ use Rattle.session_core.proofs.Unknown.{unknown}
 use Rattle.std.proofs.Common.{arith, ◌∙◌}
 use Rattle.sync_node.proofs.OutLaws.{put_able, put_stays, put_waits, put_works}
 use Rattle.sync_node.proofs.WorkLaws.{on_err, stays_none}
-use Rattle.sync_node.proofs.CourseTurns.{puts_course, puts_stops, puts_stops_there}
 use Rattle.std.proofs.Common.{refl}
 use Rattle.sync_node.proofs.CauseLaws.{link_kept, link_none, link_sent, link_then}
 use Rattle.std.proofs.Common.{Err, ap}
 use Rattle.sync_node.proofs.WorkLaws.{err_was}
-use Rattle.sync_node.proofs.CourseTurns.{puts_full}
 use Rattle.sync_node.proofs.StopLaws.{stops_none}
 use Rattle.sync_node.specs.declared.fault.Fault.TheVariants as fault
 use Rattle.sync_node.proofs.SendActs.{put_no_memory, put_stops, put_went}

@@ -1,12 +1,11 @@
 use Rattle.sync_node.proofs.OutLaws.{may_unfailed}
 use Rattle.sync_node.proofs.WorkLaws.{on_err, stays_then, works_none, works_then}
 use Rattle.std.proofs.Common.{sym, ◌∙◌, refl}
-use Rattle.sync_node.proofs.CourseTurns.{full, may_end, may_not_end, none_due, option_none, outs_end, outs_none, outs_stop, outs_stop_there, outs_then}
+use Rattle.sync_node.proofs.CourseTurns.{full, may_end, may_not_end, none_due, option_none}
 use Rattle.std.proofs.lemmas.Bool.{false≢true}
 use Rattle.sync_node.proofs.CauseLaws.{link_none, link_then}
 use Rattle.std.proofs.Common.{Err, ap}
 use Rattle.sync_node.proofs.WorkLaws.{err_was}
-use Rattle.sync_node.proofs.CourseTurns.{outs_full}
 use Rattle.sync_node.proofs.StopLaws.{stops_then}
 use Rattle.sync_node.proofs.StateLaws.{allowed_told, due_told}
 use Rattle.sync_node.specs.declared.fault.Fault.TheVariants as fault

@@ -1,7 +1,6 @@
 use Rattle.std.proofs.Common.{◌-◌, [], ◌≡◌}
 use Rattle.sync_course.specs.declared.TheConstants.{MAX_OUTPUTS}
 use Rattle.sync_node.specs.Causes.{LinkGoes}
-use Rattle.sync_node.specs.Courses.{OutsAsCourse}
 use Rattle.sync_node.specs.OnLinks.{OutsWent}
 use Rattle.sync_node.specs.Working.{IsAble, HasGivenItems, WorksOnLink}
 use Rattle.sync_node.proofs.sending.send_all.Given as goal

@@ -1,5 +1,4 @@
 use Rattle.sync_node.proofs.CommitLaws.{safe_settle, settled}
-use Rattle.sync_node.proofs.CourseLaws.{settle_adds, settle_adds_some}
 use Rattle.sync_node.proofs.CommitLaws.{goes_settled}
 use Rattle.std.proofs.Common.{Err, ap}
 use Rattle.sync_node.proofs.BatchLaws.{settle_breaks, settle_by, settle_did}

@@ -1,5 +1,4 @@
 use Rattle.sync_node.proofs.WorkLaws.{works_none}
-use Rattle.sync_node.proofs.CourseTurns.{hears_nothing}
 use Rattle.sync_node.proofs.CauseLaws.{link_none}
 use Rattle.sync_node.proofs.HearActs.{hear_nothing}
 use Rattle.sync_node.proofs.turning.hear_now.Goals as goal

@@ -1,11 +1,9 @@
 use Rattle.sync_node.proofs.WorkLaws.{able_calm, on_err_then, on_ok, stays_then, works_clock, works_none, works_then}
-use Rattle.sync_node.proofs.CourseTurns.{if_ok_then, sends_closed, sends_read, sends_stop}
+use Rattle.sync_node.proofs.CourseTurns.{if_ok_then}
 use Rattle.std.proofs.Common.{refl}
 use Rattle.sync_node.proofs.CauseLaws.{link_kept, link_none, link_then}
 use Rattle.sync_node.proofs.WorkLaws.{goes_read}
-use Rattle.sync_node.proofs.CourseTurns.{sends_full}
 use Rattle.sync_node.proofs.StopLaws.{stops_then}
-use Rattle.sync_node.proofs.CourseLaws.{quiet_most}
 use Rattle.sync_node.proofs.SendActs.{sending_closed, sending_read, sending_stops}
 use Rattle.sync_node.proofs.Undone.{if_err_then}
 use Rattle.sync_node.proofs.turning.send_now.Goals as goal

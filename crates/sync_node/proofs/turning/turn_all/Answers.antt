@@ -1,6 +1,5 @@
 use Rattle.std.proofs.Common.{arith, ◌∙◌}
 use Rattle.sync_node.proofs.NodeLaws.{links_closed, links_may, links_then}
-use Rattle.sync_node.proofs.CourseCalls.{turn_halted, turn_made}
 use Rattle.sync_node.proofs.WorkLaws.{on_err}
 use Rattle.sync_node.proofs.CauseLaws.{links_go_closed, sessions_closed}
 use Rattle.std.proofs.Common.{Err, ap}

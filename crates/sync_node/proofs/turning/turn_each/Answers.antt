@@ -1,5 +1,5 @@
 use Rattle.std.proofs.Common.{◌≡◌, ◌+◌, ◌&&◌, refl, arith, ◌∙◌, length}
-use Rattle.sync_node.proofs.CourseRuns.{still_else, still_then, turns_all, turns_next, turns_none, turns_stop}
+use Rattle.sync_node.proofs.CourseRuns.{still_else, still_then}
 use Rattle.std.proofs.lemmas.Option.{slice_get-get_or}
 use Rattle.sync_node.proofs.NodeLaws.{length_set, link_able, links_fail, links_go_on, links_none, links_one, links_then}
 use Rattle.sync_node.proofs.WorkLaws.{on_err}

@@ -1,7 +1,6 @@
 use Rattle.std.proofs.Common.{◌≡◌, ℕ, ◌<◌, ◌≤◌, length}
 use Rattle.sync_course.specs.declared.TheConstants.{PIECE_LEN}
 use Rattle.sync_node.specs.Causes.{LinksGo, sessions_of}
-use Rattle.sync_node.specs.Courses.{TurnsAsCourse}
 use Rattle.sync_node.specs.OnRuns.{LinksWent}
 use Rattle.sync_node.specs.Node.{AreAttached, LinksWork, MayGoOn}
 use Rattle.sync_node.proofs.turning.turn_each.Given as goal

@@ -1,9 +1,7 @@
 use Rattle.sync_node.proofs.WorkLaws.{on_err, stays_then, works_then}
-use Rattle.sync_node.proofs.CourseTurns.{turn_loud, turn_quiet, turn_stops}
 use Rattle.sync_node.proofs.CauseLaws.{link_then}
 use Rattle.std.proofs.Common.{Err, ap}
 use Rattle.sync_node.proofs.WorkLaws.{err_was}
-use Rattle.sync_node.proofs.CourseTurns.{turn_full}
 use Rattle.sync_node.proofs.StopLaws.{stops_then}
 use Rattle.sync_node.proofs.TurnActs.{turned_loud, turned_quiet, turned_stops}
 use Rattle.sync_node.proofs.Undone.{if_err_was}

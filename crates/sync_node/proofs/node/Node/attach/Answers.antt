@@ -2,7 +2,7 @@ use Rattle.std.proofs.Common.{inl, List, [], ◌∷◌, ◌++◌, ◌<◌, ℕ, 
 use Rattle.sync_rules.specs.declared.limits.TheConstants.{MAX_SESSIONS}
 use Rattle.sync_node.specs.declared.link.Link.{Link}
 use Rattle.sync_node.specs.Node.{NodeValue}
-use Rattle.sync_node.proofs.CourseStart.{beginning_halted, begins_behind, node_beginning_halted, node_begins}
+use Rattle.sync_node.proofs.CourseStart.{begins_behind, node_beginning_halted, node_begins}
 use Rattle.sync_node.proofs.AttachLaws.{attached_last, attached_may, node_attaches, node_plans, node_settled, one_longer, plan_allowed, plans_as, plans_same, session_begun}
 use Rattle.sync_node.specs.Plans.{session_of}
 use Rattle.sync_node.proofs.NodeLaws.{true≢false, fault_answers, is_closed_node, is_node, node_may, stays_closed}

@@ -8,7 +8,6 @@ use Rattle.sync_node.proofs.CourseNode.{node_sending_halted, node_sends}
 use Rattle.sync_node.proofs.SafeLaws.{goes_none}
 use Rattle.sync_node.specs.Causes.{sessions_of}
 use Rattle.sync_node.proofs.CauseLaws.{links_go_none, links_go_set, node_causes, sessions_set}
-use Rattle.std.proofs.Common.{Err}
 use Rattle.sync_node.proofs.NodeLaws.{was_full}
 use Rattle.sync_node.proofs.CourseNode.{node_sending_full}
 use Rattle.sync_node.proofs.NodeActs.{node_outs_sent, node_outs_stopped}
