@@ -8,8 +8,8 @@ use Rattle.outside.specs.declared.pick.Pick.TheVariants as pick
 use Rattle.outside.specs.Files.{Two, File, IsFileImage, IsImage, is_written}
 use Rattle.outside.specs.Images.{image_synced}
 use Rattle.outside.specs.MemDisk.{Change, wrote, wrote_not, cut, cut_not, synced, dialled, sent, answered, hosted, KeptFile, kept, changed, kept_after, both_kept, files_of, disk_files, MemDiskValue, change_of, fresh}
-use Rattle.outside.specs.MemTold.{IsSound, start_sound}
-use Rattle.outside.specs.MemImage.{one_changed, one_after, PickOf, IsFilled, left_at, Pictures}
+use Rattle.outside.specs.MemTold.{IsKeptFileSound, start_sound}
+use Rattle.outside.specs.MemImage.{one_changed, one_after, PickOf, IsFilled, left_at, PicturesDisk}
 
 chosen : {A : Type 0} (a b : Bool) (x y : A) → a ≡ true → b ≡ false → (if a && not b then x else y) ≡ x
 chosen true false x y p q = refl
@@ -19,7 +19,7 @@ chosen false b x y p q = cc
 left_synced : (byte : ℕ) (file : File) (place : ℕ) → place < file.least → is_written file.written place ≡ false → left_at byte file place ≡ slice_index file.synced place
 left_synced byte file place below out = chosen (nat_lt place file.least) (is_written file.written place) (slice_index file.synced place) byte (lt-ltb place file.least below) out
 
-filled_image : (byte : ℕ) (k : KeptFile) (bytes : List ℕ) → IsSound k → IsFilled byte k.file bytes → IsFileImage k.file bytes
+filled_image : (byte : ℕ) (k : KeptFile) (bytes : List ℕ) → IsKeptFileSound k → IsFilled byte k.file bytes → IsFileImage k.file bytes
 filled_image byte k bytes s f = record {
   no_shorter = omega (arith, s.low, s.high, f.longest);
   no_longer = omega (arith, f.longest);
@@ -28,7 +28,7 @@ filled_image byte k bytes s f = record {
       f.each place inside ∙ left_synced byte k.file place below out;
 }
 
-pub pick_image : (choice : Pick) (k : KeptFile) (bytes : List ℕ) → IsSound k → PickOf choice k bytes → IsFileImage k.file bytes
+pub pick_image : (choice : Pick) (k : KeptFile) (bytes : List ℕ) → IsKeptFileSound k → PickOf choice k bytes → IsFileImage k.file bytes
 pick_image pick.Old k bytes s e = subst (IsFileImage k.file) (sym e) (image_synced k.file s.low s.high)
 pick_image pick.New k bytes s e = subst (IsFileImage k.file) (sym e) s.whole
 pick_image pick.Zero k bytes s e = filled_image 0 k bytes s e
@@ -97,7 +97,7 @@ derefed choice file s s' l l' a e f p =
 pub pictured : {E : Type 0} (choice : Pick) (v disk : MemDiskValue) (a b : List ℕ) (r : Result MemDiskValue E) → v ≡ disk
     → PickOf choice (one_after 0 (kept v.start.first) v.calls) a → PickOf choice (one_after 1 (kept v.start.second) v.calls) b
     → IfOk r (λ d. d ≡ fresh (record { first = a; second = b }))
-    → IfOk r (λ d. Pictures choice (disk_files disk) d) × IfOk r (λ d. IsImage (files_of (disk_files disk)) d.start)
+    → IfOk r (λ d. PicturesDisk choice (disk_files disk) d) × IfOk r (λ d. IsImage (files_of (disk_files disk)) d.start)
 pictured choice v disk a b (Ok d) same p q e =
     let picked = both_picked choice v a b p q in
     let image = both_image choice v a b picked.0 picked.1 in

@@ -1,7 +1,7 @@
 -- What a host in memory tells, and the laws of it.
 use Rattle.std.specs.Prelude.{◌≡◌, ℕ, zero, suc, List, [], ◌∷◌, ◌++◌, length, map, Some, slice_index}
 use Rattle.std.proofs.Common.{refl, sym, ap, ◌∙◌, arith, length-append}
-use Rattle.outside.specs.Links.{Links, Link, Answered, HeardOn, Planned, changed_at}
+use Rattle.outside.specs.Links.{Links, ToldLink, Answered, HeardOn, Planned, changed_at}
 use Rattle.outside.specs.Outside.{Outside}
 use Rattle.outside.specs.MemDisk.{Change, wrote, wrote_not, cut, cut_not, synced, dialled, sent, answered, hosted, links_after, link_changed, answers_after, answers_changed, calls_of}
 use Rattle.outside.specs.MemTold.{mem_told}
@@ -41,7 +41,7 @@ length-heard_on (_ ∷ links) failures = ap suc (length-heard_on links (λ i. fa
 one_longer : {A B : Type 0} (xs : List A) (ys : List B) (x : A) (y : B) → length xs ≡ length ys → length (xs ++ x ∷ []) ≡ length (ys ++ y ∷ [])
 one_longer xs ys x y e = omega (arith, length-append xs (x ∷ []), length-append ys (y ∷ []))
 
-as_many_changed : (heard : List (List Answered)) (links : List Link) (c : Change) → length heard ≡ length links → length (answers_changed heard c) ≡ length (link_changed links c)
+as_many_changed : (heard : List (List Answered)) (links : List ToldLink) (c : Change) → length heard ≡ length links → length (answers_changed heard c) ≡ length (link_changed links c)
 as_many_changed heard links (wrote _ _ _) e = e
 as_many_changed heard links (wrote_not _ _ _) e = e
 as_many_changed heard links (cut _ _) e = e
@@ -52,11 +52,11 @@ as_many_changed heard links (sent link bytes) e = e ∙ sym (length-changed_at l
 as_many_changed heard links (answered link answer) e = length-changed_at link _ heard ∙ e
 as_many_changed heard links hosted e = refl
 
-pub as_many : (heard : List (List Answered)) (links : List Link) (calls : List Change) → length heard ≡ length links → length (answers_after heard calls) ≡ length (links_after links calls)
+pub as_many : (heard : List (List Answered)) (links : List ToldLink) (calls : List Change) → length heard ≡ length links → length (answers_after heard calls) ≡ length (links_after links calls)
 as_many heard links [] e = e
 as_many heard links (c ∷ calls) e = as_many (answers_changed heard c) (link_changed links c) calls (as_many_changed heard links c e)
 
-pub each_told : (calls : List Change) (links : List Link) → Some (links_after [] calls) ≡ Some links → length links ≡ length (links_after [] calls)
+pub each_told : (calls : List Change) (links : List ToldLink) → Some (links_after [] calls) ≡ Some links → length links ≡ length (links_after [] calls)
 each_told calls links had = let same : links_after [] calls ≡ links = cc in ap length (sym same)
 
 pub each_heard : (calls : List Change) (failures : ℕ → ℕ) (heard : List HeardOn) → Some (heard_on (answers_after [] calls) failures) ≡ Some heard → length heard ≡ length (links_after [] calls)

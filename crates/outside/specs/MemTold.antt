@@ -6,23 +6,23 @@ use Rattle.std.proofs.lemmas.Bool.{cases_lt}
 use Rattle.outside.specs.Files.{Two, File, IsFileImage, IsImage, file_of, with_file, read_files}
 use Rattle.outside.specs.Disk.{after_write, after_cut, overwritten}
 use Rattle.outside.specs.Images.{image_wrote, image_unwritten, image_cut, image_uncut, settled_image, padded_le}
-use Rattle.outside.specs.Links.{Links, Link, HeardOn, sent_of, no_links}
+use Rattle.outside.specs.Links.{Links, ToldLink, HeardOn, sent_of, no_links}
 use Rattle.outside.specs.Outside.{Outside, Moment, IsNow}
 use Rattle.outside.specs.Calls.{Calls}
 use Rattle.outside.specs.MemDisk.{MemDiskValue, Change, wrote, wrote_not, cut, cut_not, synced, dialled, sent, answered, hosted, KeptFile, kept, changed, kept_after, both_kept, files_of, after_wrote, after_wrote_not, link_changed, links_after, calls_of}
 
 -- ---- what is kept is sound: the bytes as they read, the bytes at the last sync and the bytes of all writes are images
 
-pub record IsSound (k : KeptFile) : Type 0 where
+pub record IsKeptFileSound (k : KeptFile) : Type 0 where
   pub reads : IsFileImage k.file k.file.now
   pub low : k.file.least ≤ length k.file.synced
   pub high : length k.file.synced ≤ k.file.greatest
   pub whole : IsFileImage k.file k.whole
 
-pub kept_sound : (bytes : List ℕ) → IsSound (kept bytes)
+pub kept_sound : (bytes : List ℕ) → IsKeptFileSound (kept bytes)
 kept_sound bytes = record { reads = settled_image bytes; low = omega arith; high = omega arith; whole = settled_image bytes }
 
-pub wrote_sound : (k : KeptFile) (at : ℕ) (bytes : List ℕ) → IsSound k → IsSound (after_wrote k at bytes)
+pub wrote_sound : (k : KeptFile) (at : ℕ) (bytes : List ℕ) → IsKeptFileSound k → IsKeptFileSound (after_wrote k at bytes)
 wrote_sound k at bytes s =
     let a = min at (length k.file.now) in
     let now = overwritten k.file.now a bytes in
@@ -35,7 +35,7 @@ wrote_sound k at bytes s =
       whole = image_wrote k.file a k.whole bytes now s.whole;
     }
 
-pub wrote_not_sound : (k : KeptFile) (at : ℕ) (bytes : List ℕ) → IsSound k → IsSound (after_wrote_not k at bytes)
+pub wrote_not_sound : (k : KeptFile) (at : ℕ) (bytes : List ℕ) → IsKeptFileSound k → IsKeptFileSound (after_wrote_not k at bytes)
 wrote_not_sound k at bytes s =
     let a = min at (length k.file.now) in
     record {
@@ -45,7 +45,7 @@ wrote_not_sound k at bytes s =
       whole = image_wrote k.file a k.whole bytes k.file.now s.whole;
     }
 
-pub cut_sound : (k : KeptFile) (n : ℕ) → IsSound k → IsSound (record { file = after_cut k.file n (take n k.file.now); whole = take n k.whole })
+pub cut_sound : (k : KeptFile) (n : ℕ) → IsKeptFileSound k → IsKeptFileSound (record { file = after_cut k.file n (take n k.file.now); whole = take n k.whole })
 cut_sound k n s = record {
   reads = image_cut k.file n (take n k.file.now) k.file.now s.reads;
   low = omega (arith, s.low);
@@ -53,7 +53,7 @@ cut_sound k n s = record {
   whole = image_cut k.file n (take n k.file.now) k.whole s.whole;
 }
 
-pub cut_not_sound : (k : KeptFile) (n : ℕ) → IsSound k → IsSound (record { file = after_cut k.file n k.file.now; whole = take n k.whole })
+pub cut_not_sound : (k : KeptFile) (n : ℕ) → IsKeptFileSound k → IsKeptFileSound (record { file = after_cut k.file n k.file.now; whole = take n k.whole })
 cut_not_sound k n s = record {
   reads = image_uncut k.file n k.file.now k.file.now s.reads;
   low = omega (arith, s.low);
@@ -62,14 +62,14 @@ cut_not_sound k n s = record {
 }
 
 pub record BothSound (two : Two KeptFile) : Type 0 where
-  pub first : IsSound two.first
-  pub second : IsSound two.second
+  pub first : IsKeptFileSound two.first
+  pub second : IsKeptFileSound two.second
 
-pub sound_of : (two : Two KeptFile) (file : ℕ) → BothSound two → IsSound (file_of two file)
+pub sound_of : (two : Two KeptFile) (file : ℕ) → BothSound two → IsKeptFileSound (file_of two file)
 sound_of two zero s = s.first
 sound_of two (suc _) s = s.second
 
-pub sound_with : (two : Two KeptFile) (file : ℕ) (k : KeptFile) → BothSound two → IsSound k → BothSound (with_file two file k)
+pub sound_with : (two : Two KeptFile) (file : ℕ) (k : KeptFile) → BothSound two → IsKeptFileSound k → BothSound (with_file two file k)
 sound_with two zero k s t = record { first = t; second = s.second }
 sound_with two (suc _) k s t = record { first = s.first; second = t }
 
@@ -97,7 +97,7 @@ pub kept_after-push : (two : Two KeptFile) (calls : List Change) (c : Change) �
 kept_after-push two [] c = refl
 kept_after-push two (d ∷ calls) c = kept_after-push (changed two d) calls c
 
-pub links_after-push : (links : List Link) (calls : List Change) (c : Change) → links_after links (calls ++ c ∷ []) ≡ link_changed (links_after links calls) c
+pub links_after-push : (links : List ToldLink) (calls : List Change) (c : Change) → links_after links (calls ++ c ∷ []) ≡ link_changed (links_after links calls) c
 links_after-push links [] c = refl
 links_after-push links (d ∷ calls) c = links_after-push (link_changed links d) calls c
 
@@ -188,7 +188,7 @@ module _ (sent_by : List Change → List (List ℕ)) (start : Two (List ℕ)) (c
 
 abbrev pub mem_told : (sent_by : List Change → List (List ℕ)) (calls : Calls) (links : Links) → ℕ
     → sent_by calls.changes ≡ sent_of links.told
-    → ((links' : List Link) → links.told ≡ Some links' → length links' ≡ links.dialled)
+    → ((links' : List ToldLink) → links.told ≡ Some links' → length links' ≡ links.dialled)
     → ((heard : List HeardOn) → links.heard ≡ Some heard → length heard ≡ links.dialled)
     → Outside
 mem_told sent_by calls links faults sent_is all_told all_heard = record {
@@ -207,7 +207,7 @@ mem_told sent_by calls links faults sent_is all_told all_heard = record {
 }
 
 -- a disk in memory tells its files; it has no links
-pub no_links_told : (links : List Link) → Some [] ≡ Some links → length links ≡ 0
+pub no_links_told : (links : List ToldLink) → Some [] ≡ Some links → length links ≡ 0
 no_links_told links had = let same : [] ≡ links = cc in ap length (sym same)
 
 pub no_links_heard : (heard : List HeardOn) → Some [] ≡ Some heard → length heard ≡ 0

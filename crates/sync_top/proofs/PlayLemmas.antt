@@ -7,7 +7,7 @@ use Rattle.journal_play.specs.Playing.{Played, HasPlayed}
 use Rattle.sync_ids.specs.Values.{GroupValue}
 use Rattle.sync_ids.specs.declared.records.Record.{Record}
 use Rattle.sync_rules.specs.Clients.{Meaning}
-use Rattle.sync_top.specs.Plays.{Plays}
+use Rattle.sync_top.specs.Plays.{PlaysItems}
 
 -- the records of one item more
 records_push : (some : List Item) (i : Item) → records_of (some ++ i ∷ []) ≡ records_of some ++ records_of (i ∷ [])
@@ -18,7 +18,7 @@ records_push (item.Skipped place type_byte len ∷ some) i = records_push some i
 
 -- an item without a record changes nothing
 pub plays_same : (clients : Meaning) (play : Played) (some : List Item) (clients' : Meaning) (play' : Played) (i : Item) → records_of (i ∷ []) ≡ []
-    → Plays clients play some clients' play' → Plays clients play (some ++ i ∷ []) clients' play'
+    → PlaysItems clients play some clients' play' → PlaysItems clients play (some ++ i ∷ []) clients' play'
 plays_same clients play some clients' play' i none plays = record {
   same = plays.same;
   takes = λ def records played.
@@ -29,7 +29,7 @@ plays_same clients play some clients' play' i none plays = record {
 -- a record more
 pub plays_more : (clients : Meaning) (play : Played) (some : List Item) (clients' : Meaning) (play' play'' : Played) (i : Item) (r : Record) → records_of (i ∷ []) ≡ r ∷ []
     → ((def : GroupValue) (records : List Record) → HasPlayed clients' def records play' → HasPlayed clients' def (records ++ r ∷ []) play'')
-    → Plays clients play some clients' play' → Plays clients play (some ++ i ∷ []) clients' play''
+    → PlaysItems clients play some clients' play' → PlaysItems clients play (some ++ i ∷ []) clients' play''
 plays_more clients play some clients' play' play'' i r one hears plays = record {
   same = plays.same;
   takes = λ def records played.
@@ -42,6 +42,6 @@ plays_more clients play some clients' play' play'' i r one hears plays = record 
 }
 
 -- what a player has taken that was begun with nothing
-pub played_all : (clients clients' : Meaning) (play play' : Played) (some : List Item) (def : GroupValue) → Plays clients play some clients' play' → HasPlayed clients def [] play
+pub played_all : (clients clients' : Meaning) (play play' : Played) (some : List Item) (def : GroupValue) → PlaysItems clients play some clients' play' → HasPlayed clients def [] play
     → HasPlayed clients def (records_of some) play'
 played_all clients clients' play play' some def plays begun = plays.takes def [] begun

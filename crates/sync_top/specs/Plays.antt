@@ -10,7 +10,7 @@ use Rattle.sync_rules.specs.Clients.{Meaning}
 
 -- From a play to a later one, the clients being the same: whatever the first had taken, the other has taken that and the records
 -- of these items.
-pub record Plays (clients : Meaning) (play : Played) (some : List Item) (clients' : Meaning) (play' : Played) : Type 0 where
+pub record PlaysItems (clients : Meaning) (play : Played) (some : List Item) (clients' : Meaning) (play' : Played) : Type 0 where
   pub same : clients' ≡ clients
   pub takes : (def : GroupValue) (records : List Record) → HasPlayed clients def records play → HasPlayed clients def (records ++ records_of some) play'
 
@@ -19,7 +19,7 @@ unfolding records_of
 no_records = refl
 
 -- nothing was heard
-pub plays_nothing : (clients : Meaning) (play : Played) → Plays clients play [] clients play
+pub plays_nothing : (clients : Meaning) (play : Played) → PlaysItems clients play [] clients play
 plays_nothing clients play = record {
   same = refl;
   takes = λ def records played.

@@ -20,9 +20,9 @@ pub struct Player<'a, C: Clients> {
 }
 
 impl<'a, C: Clients> Listener for Player<'a, C> {
-    ghost use Rattle.sync_top.specs.Plays.{Plays, plays_nothing};
+    ghost use Rattle.sync_top.specs.Plays.{PlaysItems, plays_nothing};
 
-    ghost heard = { λ first items now. Plays (C.meaning first.clients.now) first.play items
+    ghost heard = { λ first items now. PlaysItems (C.meaning first.clients.now) first.play items
         (C.meaning now.clients.now) now.play };
 
     ghost heard_nothing = { λ p. plays_nothing (C.meaning p.clients.now) p.play };
