@@ -4,7 +4,7 @@ use Rattle.std.proofs.Math.Seq.{take-append_seam, drop-append_seam}
 use Rattle.outside.specs.declared.failed.Failed.{Failed}
 use Rattle.outside.specs.Files.{Two, File, IsFileImage, NothingPending, file_of, settled}
 use Rattle.outside.specs.Disk.{RelatesTold, WritesFile, SyncsFile, after_write, overwritten}
-use Rattle.outside.specs.Images.{length-overwritten}
+use Rattle.outside.specs.MemLaws.{length-overwritten}
 use Rattle.outside.specs.Outside.{Outside, DiskCall}
 use Rattle.outside.specs.Steps.{ReachedFile, PassedMoments, other_of}
 use Rattle.outside.proofs.CallSteps.{begun, wrote_ok, wrote_err, synced_ok, synced_err, file_of-with_file, other_of-with_file}

@@ -2,7 +2,7 @@
 use Rattle.std.proofs.Common.{◌≡◌, ℕ, refl, inl, inr}
 use Rattle.outside.specs.Files.{IsImage}
 use Rattle.outside.specs.HostTold.{host_told}
-use Rattle.outside.specs.HostTold as told
+use Rattle.outside.specs.LinksTold as told
 use Rattle.outside.specs.MemHost.{MemHostValue}
 use Rattle.outside.specs.Runs.{TellsAll}
 use Rattle.sync_rules.specs.Clients.{Meaning}

@@ -1,12 +1,12 @@
 -- The headline of a host in memory, by its own calls.
 use Rattle.std.specs.Prelude.{◌≡◌, ◌⊎◌, ℕ, ◌≤◌, List, [], length, take, slice_index_or}
 use Rattle.outside.specs.Files.{Two, File, IsImage, read_files}
-use Rattle.outside.specs.HostTold as told
+use Rattle.outside.specs.LinksTold as told
 use Rattle.outside.specs.HostTold.{host_told}
 use Rattle.outside.specs.Changes.{Change}
 use Rattle.outside.specs.MemDisk.{MemDiskValue}
 use Rattle.outside.specs.MemHost.{MemHostValue}
-use Rattle.outside.specs.MemTold.{files_at}
+use Rattle.outside.specs.MemMoments.{files_at}
 use Rattle.sync_rules.specs.Clients.{Meaning}
 use Rattle.entry_codec.specs.Standing.{stands}
 use Rattle.sync_node.specs.Output.{heard_on}

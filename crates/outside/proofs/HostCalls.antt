@@ -13,9 +13,13 @@ use Rattle.outside.specs.Host.{SendsPart}
 use Rattle.outside.specs.Calls.{NoCall}
 use Rattle.outside.proofs.CallSteps.{go_on_none}
 use Rattle.outside.specs.MemDisk.{Change, dialled, sent, answered, hosted, MemDiskValue, MakesChange, KeptFile, kept_after, both_kept, changed, files_of, links_after, link_changed, answers_after, answers_changed, with_call, bytes_each, calls_of}
-use Rattle.outside.specs.MemTold.{WasAt, was_now, files_at, kept_after-push, links_after-push}
+use Rattle.outside.specs.MemMoments.{WasAt, files_at}
+use Rattle.outside.specs.MemLaws.{was_now}
+use Rattle.outside.proofs.MemSound.{kept_after-push, links_after-push}
 use Rattle.outside.specs.MemHost.{MemHostValue, Readings, links_of, AreLinksWired, OnDisk, MakesDial, MakesSend, MakesAnswer, RepliesOnLink}
-use Rattle.outside.specs.HostTold.{sent_by, links_told, each_told, each_heard, host_told}
+use Rattle.outside.specs.LinksTold.{sent_by, links_told}
+use Rattle.outside.specs.MemLaws.{each_told, each_heard}
+use Rattle.outside.specs.HostTold.{host_told}
 use Rattle.outside.proofs.MemCalls.{passes, makes_told}
 
 -- a clause on a call's result at a test of it

@@ -11,9 +11,10 @@ use Rattle.outside.specs.Faults.{one_more}
 use Rattle.outside.specs.Links.{Links, ToldLink, Reply, got, idle, ended, Answered, nothing_heard, hear_reply, hear_failure, changed_at, with_sent}
 use Rattle.outside.specs.Host.{LinkCause, DialsLink, MakesLink, HearsAnswer, hear, SendsOnLink, ReadsClock, GrowsReadings}
 use Rattle.outside.specs.MemDisk.{dialled, sent, answered, MemDiskValue, answers_after, with_call}
-use Rattle.outside.specs.MemTold.{links_after-push}
+use Rattle.outside.proofs.MemSound.{links_after-push}
 use Rattle.outside.specs.MemHost.{MemHostValue, Readings, last_of, first_readings, readings_told, next_reading, upcoming_of, plans_of, links_of, RaisesCount, BeginsAgain, MakesDial, MakesAnswer, RepliesOnLink, MakesSend, MakesReading}
-use Rattle.outside.specs.HostTold.{heard_on, links_told, as_many, length-changed_at}
+use Rattle.outside.specs.LinksTold.{heard_on, links_told}
+use Rattle.outside.specs.MemLaws.{as_many, length-changed_at}
 use Rattle.outside.specs.Planned.{AnswersAsPlanned}
 use Rattle.outside.proofs.HostCalls.{answers_after-push}
 use Rattle.outside.proofs.ClockSteps.{if_true, if_false}

@@ -1,3 +1,5 @@
+pub mod Images
+pub mod MemSound
 pub mod StreamSteps
 pub mod MemCalls
 pub mod MemSteps

@@ -9,7 +9,10 @@ use Rattle.outside.specs.Links.{Links, ToldLink, HeardOn, sent_of, no_links}
 use Rattle.outside.specs.Outside.{Moment, DiskCall}
 use Rattle.outside.specs.Calls.{OneCall}
 use Rattle.outside.specs.MemDisk.{Change, wrote, wrote_not, cut, cut_not, synced, KeptFile, changed, kept_after, both_kept, files_of, bytes_of, MemDiskValue, disk_files, MakesChange, calls_of}
-use Rattle.outside.specs.MemTold.{WasAt, was_before, was_kept, mem_told, disk_told, no_links_told, no_links_heard, kept_after-push}
+use Rattle.outside.specs.MemMoments.{WasAt}
+use Rattle.outside.specs.MemLaws.{no_links_told, no_links_heard}
+use Rattle.outside.proofs.MemSound.{was_before, was_kept, kept_after-push}
+use Rattle.outside.specs.MemTold.{mem_told, disk_told}
 
 -- ---- one file of two
 

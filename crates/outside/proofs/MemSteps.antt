@@ -5,7 +5,7 @@ use Rattle.outside.specs.declared.call.Call.{Call}
 use Rattle.outside.specs.Files.{Two, file_of, with_file}
 use Rattle.outside.specs.Disk.{overwritten}
 use Rattle.outside.specs.MemDisk.{wrote, wrote_not, cut, cut_not, synced, change_of, KeptFile, changed, kept_after, bytes_of}
-use Rattle.outside.specs.MemTold.{kept_after-push}
+use Rattle.outside.proofs.MemSound.{kept_after-push}
 use Rattle.outside.proofs.MemCalls.{bytes_with, bytes_file, with_same}
 
 pub kept_step : (start : Two KeptFile) (calls mid calls' : List Call) (call : Call) (now' : Two (List ℕ)) → calls' ≡ mid ++ call ∷ [] → mid ≡ calls

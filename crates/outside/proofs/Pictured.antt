@@ -6,9 +6,9 @@ use Rattle.outside.specs.declared.pick.Pick.{Pick}
 use Rattle.outside.specs.declared.call.Call.{Call}
 use Rattle.outside.specs.declared.pick.Pick.TheVariants as pick
 use Rattle.outside.specs.Files.{Two, File, IsFileImage, IsImage, is_written}
-use Rattle.outside.specs.Images.{image_synced}
+use Rattle.outside.proofs.Images.{image_synced}
 use Rattle.outside.specs.MemDisk.{Change, wrote, wrote_not, cut, cut_not, synced, dialled, sent, answered, hosted, KeptFile, kept, changed, kept_after, both_kept, files_of, disk_files, MemDiskValue, change_of, fresh}
-use Rattle.outside.specs.MemTold.{IsKeptFileSound, start_sound}
+use Rattle.outside.proofs.MemSound.{IsSound, start_sound}
 use Rattle.outside.specs.MemImage.{one_changed, one_after, PickOf, IsFilled, left_at, PicturesDisk}
 
 chosen : {A : Type 0} (a b : Bool) (x y : A) → a ≡ true → b ≡ false → (if a && not b then x else y) ≡ x
@@ -19,7 +19,7 @@ chosen false b x y p q = cc
 left_synced : (byte : ℕ) (file : File) (place : ℕ) → place < file.least → is_written file.written place ≡ false → left_at byte file place ≡ slice_index file.synced place
 left_synced byte file place below out = chosen (nat_lt place file.least) (is_written file.written place) (slice_index file.synced place) byte (lt-ltb place file.least below) out
 
-filled_image : (byte : ℕ) (k : KeptFile) (bytes : List ℕ) → IsKeptFileSound k → IsFilled byte k.file bytes → IsFileImage k.file bytes
+filled_image : (byte : ℕ) (k : KeptFile) (bytes : List ℕ) → IsSound k → IsFilled byte k.file bytes → IsFileImage k.file bytes
 filled_image byte k bytes s f = record {
   no_shorter = omega (arith, s.low, s.high, f.longest);
   no_longer = omega (arith, f.longest);
@@ -28,7 +28,7 @@ filled_image byte k bytes s f = record {
       f.each place inside ∙ left_synced byte k.file place below out;
 }
 
-pub pick_image : (choice : Pick) (k : KeptFile) (bytes : List ℕ) → IsKeptFileSound k → PickOf choice k bytes → IsFileImage k.file bytes
+pub pick_image : (choice : Pick) (k : KeptFile) (bytes : List ℕ) → IsSound k → PickOf choice k bytes → IsFileImage k.file bytes
 pick_image pick.Old k bytes s e = subst (IsFileImage k.file) (sym e) (image_synced k.file s.low s.high)
 pick_image pick.New k bytes s e = subst (IsFileImage k.file) (sym e) s.whole
 pick_image pick.Zero k bytes s e = filled_image 0 k bytes s e

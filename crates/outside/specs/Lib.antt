@@ -11,13 +11,15 @@ pub mod Disk
 pub mod Outside
 pub mod Host
 pub mod Silent
-pub mod Images
 pub mod MemDisk
-pub mod MemTold
 pub mod MemImage
 pub mod Steps
 pub mod Runs
 pub mod Frames
 pub mod Script
 pub mod MemHost
+pub mod MemMoments
+pub mod LinksTold
+pub mod MemLaws
+pub mod MemTold
 pub mod HostTold

@@ -1,7 +1,6 @@
 -- What any run of calls of a host does, on its disk, its links and its clock, and what is told of one link.
 use Rattle.std.specs.Prelude.{◌≡◌, ◌≢◌, ℕ, ◌≤◌, List, [], ◌∷◌, ◌++◌, length, take, Option, None, Some, is_some, slice_index_or}
 use Rattle.std.specs.List.{flat_map}
-use Rattle.outside.specs.declared.failed.Failed.{Failed}
 use Rattle.outside.specs.declared.host.Heard.{Heard}
 use Rattle.outside.specs.declared.host.Heard.TheVariants as heard
 use Rattle.outside.specs.Files.{Two, File, IsImage}

@@ -7,7 +7,9 @@ use Rattle.outside.specs.Links.{Answered, HeardOn, Planned, Reply, piece, pause,
 use Rattle.outside.specs.Planned.{UsesPlan, pieces, plan_after, reply_to}
 use Rattle.outside.specs.Runs.{heard_bytes, reply_bytes}
 use Rattle.outside.proofs.RunLaws.{changed_at_other, changed_at_same}
-use Rattle.outside.specs.HostTold.{heard_on, host_told, length-changed_at}
+use Rattle.outside.specs.LinksTold.{heard_on}
+use Rattle.outside.specs.HostTold.{host_told}
+use Rattle.outside.specs.MemLaws.{length-changed_at}
 use Rattle.outside.specs.MemDisk.{answers_after}
 use Rattle.outside.specs.MemHost.{MemHostValue, plans_of}
 use Rattle.sync_course.specs.declared.TheConstants.{PIECE_LEN}

@@ -16,7 +16,8 @@ use Rattle.outside.specs.MemDisk.{MemDiskValue, calls_of, KeptFile, kept_after, 
 use Rattle.outside.specs.MemHost.{MemHostValue, Readings, CrashesHost, fresh_host, plans_of}
 use Rattle.outside.specs.declared.limits.TheConstants.{LINKS}
 use Rattle.world_devices.specs.Brought.{IsSilent, brought_on, planned_bytes}
-use Rattle.outside.specs.HostTold.{host_told, heard_on}
+use Rattle.outside.specs.HostTold.{host_told}
+use Rattle.outside.specs.LinksTold.{heard_on}
 use Rattle.outside.specs.declared.pick.Pick.{Pick}
 use Rattle.outside.specs.Links.{Planned}
 use Rattle.sync_store.specs.Begin.{BeginsJournal}
