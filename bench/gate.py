@@ -79,7 +79,8 @@ class Costs:
     """What was used until now: of each check that is not below another one, with all below it."""
 
     def __init__(self, is_gate):
-        self.is_gate, self.gates, self.ticks, self.purposes, self.loads = is_gate, {}, {}, {}, []
+        self.is_gate, self.gates, self.ticks, self.purposes = is_gate, {}, {}, {}
+        self.load, self.looks = 0, 0
 
     def look(self):
         found = processes()
@@ -98,7 +99,8 @@ class Costs:
                 self.purposes[check] = gate and purpose(root)
             self.ticks[check] = max(self.ticks.get(check, 0), used)
         if any(self.purposes[root, found[root][2]] for root in below):
-            self.loads.append(os.getloadavg()[0])
+            self.load += os.getloadavg()[0]
+            self.looks += 1
 
     def seen(self):
         """The minutes of each run of the gate for each crate and what they went to, and the load of the machine meanwhile."""
@@ -106,7 +108,7 @@ class Costs:
         for check, used in self.ticks.items():
             if self.purposes[check]:
                 minutes[self.gates[check], *self.purposes[check]] += used / TICKS
-        return {'used': [[*what, used] for what, used in minutes.items()], 'loads': self.loads}
+        return {'used': [[*what, used] for what, used in minutes.items()], 'load': self.load, 'looks': self.looks}
 
 
 def watch(costs, is_over):
@@ -179,7 +181,7 @@ def keep(path, seen):
 
 def watch_all(path):
     """Watches every run of the gate, and keeps what it sees once a minute, and when it is interrupted."""
-    before = json.loads(text_of(path) or '{"used": [], "loads": []}')
+    before = json.loads(text_of(path) or '{"used": [], "load": 0, "looks": 0}')
     costs, over = Costs(is_any_gate), threading.Event()
     for number in signal.SIGINT, signal.SIGTERM:
         signal.signal(number, lambda *_: over.set())
@@ -209,18 +211,18 @@ def run_gate(words):
     return costs.seen(), log, status
 
 
-def main(words):
+def main(here, words):
     if words[:1] == ['--watch']:
-        return watch_all(words[1])
+        return watch_all(os.path.join(here, words[1]))
     writes = words[:1] == ['--write']
     words = words[writes:]
     if words[:1] == ['--of']:
-        seen, status = json.loads(text_of(words[1])), 0
-        log = [line for path in words[2:] for line in text_of(path).splitlines()]
+        seen, *logs = (text_of(os.path.join(here, path)) for path in words[1:])
+        seen, log, status = json.loads(seen), [line for text in logs for line in text.splitlines()], 0
     else:
         seen, log, status = run_gate(words)
     runs = len({run for run, *_ in seen['used']})
-    load = sum(seen['loads']) / max(len(seen['loads']), 1)
+    load = seen['load'] / max(seen['looks'], 1)
     told = (f'Runs of the gate: {runs}. The machine has {os.cpu_count()} processors, and its load was {load:.0f} meanwhile; '
             'what else runs makes a minute of a processor longer.')
     text = f'{table_of(minutes_of(seen), *counts_of(log))}\n\n{told}'
@@ -231,5 +233,6 @@ def main(words):
 
 
 if __name__ == '__main__':
+    folder = os.getcwd()
     os.chdir(os.path.join(os.path.dirname(os.path.abspath(__file__)), '..'))
-    sys.exit(main(sys.argv[1:]))
+    sys.exit(main(folder, sys.argv[1:]))
