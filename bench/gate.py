@@ -4,8 +4,8 @@
     bench/gate.py                         the gate, `rt ci`
     bench/gate.py rt ci --anew            all of it anew, whatever an earlier run proved
     bench/gate.py rt ci bramble_hash      one crate and those below it
-    bench/gate.py --watch SEEN            each `rt ci` of this machine, in whatever clone, until this is interrupted: it
-                                          keeps in the file SEEN what they used, and adds to what stands there
+    bench/gate.py --watch SEEN            each `rt ci` and `rt must-fail` of this machine, in whatever clone, until this is
+                                          interrupted: it keeps in the file SEEN what they used, and adds to what stands there
     bench/gate.py --of SEEN LOG..         the table of what was kept so, with the functions and edits that these logs tell
     bench/gate.py --write ..              the table is written into docs/COSTS.md too; with any of these but --watch
 
@@ -59,7 +59,7 @@ def gate_of(pid, found, is_gate):
 
 def is_any_gate(pid):
     words = text_of(f'/proc/{pid}/cmdline').split('\0')
-    return any(os.path.basename(word) == 'rt' and words[place + 1:place + 2] == ['ci'] for place, word in enumerate(words[:2]))
+    return any(os.path.basename(word) == 'rt' and words[place + 1] in ('ci', 'must-fail') for place, word in enumerate(words[:2]) if words[place + 1:])
 
 
 def purpose(pid):
