@@ -83,9 +83,9 @@ def adds(shape, count):
 
 ratios = []
 for shape in ('chains', 'star', 'random'):
-    (few, few_steps), (many, steps), (one, _) = adds(shape, FEW), adds(shape, MANY), adds(shape, 1)
+    (few, few_steps), (many, many_steps), (one, _) = adds(shape, FEW), adds(shape, MANY), adds(shape, 1)
     (short, _), (long, _), (start, _) = least(runs, few, many, one)
-    growth = (long - start) / max(short - start, 0.001) / (steps / few_steps)
+    growth = (long - start) / max(short - start, 0.001) / (many_steps / few_steps)
     print(f'{shape}: {FEW} in {short:.3f} s, {MANY} in {long:.3f} s, growth over the sum of depths {growth:.3f}', flush=True)
     ratios.append(f'ratio tree_add_{shape} {growth:.3f}')
 
