@@ -15,6 +15,7 @@ use Rattle.sync_node.proofs.CourseStart.{beginning_full, node_beginning_full}
 use Rattle.sync_node.proofs.StopLaws.{links_same, node_sends}
 use Rattle.sync_node.proofs.NodeActs.{node_begin_stopped, node_begin_went}
 use Rattle.sync_node.proofs.StartActs.{begin_stopped, begin_went}
+use Rattle.sync_node.proofs.NodeRuns.{beginning_halts}
 use Rattle.sync_node.proofs.node.Node.attach.Goals as goal
 
 pub same-self : goal.same-self
