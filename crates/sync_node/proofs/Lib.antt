@@ -25,9 +25,9 @@ mod CourseStart
 mod Undone
 pub mod Halts
 pub mod CourseLaws
-mod DidLaws
-mod WentLaws
-mod PrimLaws
+pub mod DidLaws
+pub mod WentLaws
+pub mod PrimLaws
 mod BatchLaws
 mod LinkActs
 mod PieceActs
@@ -37,5 +37,5 @@ mod TurnActs
 mod RunActLaws
 mod NodeActs
 mod StartActs
-mod EventLaws
-mod NodeRuns
+pub mod EventLaws
+pub mod NodeRuns

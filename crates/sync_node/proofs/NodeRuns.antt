@@ -34,7 +34,7 @@ module _ (clients : Meaning) (terms : Terms) where
       runs_of clients (λ (x : Place). x.facts) terms.first (RunStep clients terms) (paid p) (paid q)
       s s' o o' went
 
-  run_halts : (p : Place) (links : List course_links.Link) (s s' : StoreValue) (o o' : Outside)
+  pub run_halts : (p : Place) (links : List course_links.Link) (s s' : StoreValue) (o o' : Outside)
       (e : Fault) → RunStopped clients terms p links s s' o o' e
       → RunHalts clients terms p links s o o'
   run_halts p links s s' o o' e stops =
@@ -42,7 +42,7 @@ module _ (clients : Meaning) (terms : Terms) where
       (λ (q : Place). q.links ≡ links) (paid p) s s' o o' e stops in
       record { breaks = h.breaks; stands = h.stands }
 
-  run_full : (p : Place) (links : List course_links.Link) (s s' : StoreValue) (o o' : Outside)
+  pub run_full : (p : Place) (links : List course_links.Link) (s s' : StoreValue) (o o' : Outside)
       → RunStopped clients terms p links s s' o o' fault.Full → RunFull clients terms p s s' o o'
   run_full p links s s' o o' stops =
       full_of clients (λ (x : Place). x.facts) terms.first (RunStep clients terms)
