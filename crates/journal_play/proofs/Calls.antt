@@ -1,5 +1,5 @@
 -- What the calls leave, over plain variables.
-use Rattle.std.proofs.Common.{◌≡◌, ℕ, zero, suc, ◌+◌, ◌<◌, List, [], ◌∷◌, ◌++◌, length, sym, ◌∙◌, ap, arith, Option, Some, None, Result, Ok, Err, OnOk, OnErr, slice_get, drop, append_assoc}
+use Rattle.std.proofs.Common.{◌≡◌, ℕ, zero, suc, ◌+◌, List, [], ◌∷◌, ◌++◌, sym, ◌∙◌, ap, arith, Option, Some, None, Result, Ok, Err, OnOk, OnErr, slice_get, drop, append_assoc}
 use Rattle.std.specs.Option.{option_map}
 use Rattle.sync_rules.specs.declared.states.Fate as state
 use Rattle.sync_rules.specs.Clients.{Meaning}

@@ -17,7 +17,7 @@ returns-clause-held c =
     ∙ ap (λ (r : Rest). inside.rest.items ++ r ∷ []) c.of-rest.ensures in
     let held : c.hold-number.new.self.nodes ≡ inside.graph.nodes ++ fresh c.args.head.id 0 ∷ [] =
     ap (λ (s : Shown). s.nodes) c.hold-number.ensures.nodes
-    ∙ (λ i. c.make_room.ensures.nodes i ++ fresh (c.head.view_is i) 0 ∷ []) in
+    ∙ (λ i. c.make_room.ensures.nodes i ++ fresh (c.head.view_is i).id 0 ∷ []) in
     held_more inside.rest.items c.push.new.self.items inside.graph.nodes c.hold-number.new.self.nodes c.args.self.now c.args.head c.self.view_is c.self.invariant.0 held
     rests
 
