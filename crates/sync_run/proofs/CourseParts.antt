@@ -20,13 +20,11 @@ use Rattle.sync_course.specs.declared.ends.LinkEnd.{LinkEnd}
 use Rattle.sync_course.specs.declared.ends.LinkEnd.TheVariants as link_end
 use Rattle.sync_node.specs.declared.node.Turned.{Turned}
 use Rattle.sync_node.specs.declared.node.Turned.TheVariants as turned
-use Rattle.sync_node.specs.Courses.{AllRead, FitsWith, is_still, links_from, place_at}
-use Rattle.sync_node.specs.OnRuns.{BeginStopped, BeginWent, ByFault, RoundStopped, RoundWent, RunActs, RunWent}
-use Rattle.sync_node.specs.declared.fault.Fault.{Fault}
-use Rattle.sync_node.specs.declared.fault.Fault.TheVariants as fault
+use Rattle.sync_node.specs.Courses.{AllRead, FitsWith, RunBreaks, is_still, links_from, place_at}
+use Rattle.sync_node.specs.OnRuns.{BeginStopped, BeginWent, ByFault, RoundStopped, RoundWent, RunActs, RunStopped, RunWent}
 use Rattle.sync_node.specs.declared.fault.NodeFault.{NodeFault}
 use Rattle.sync_node.specs.declared.fault.NodeFault.TheVariants as node_fault
-use Rattle.sync_node.proofs.NodeRuns.{run_went}
+use Rattle.sync_node.proofs.NodeRuns.{run_halts, run_went}
 use Rattle.sync_node.proofs.PrimLaws.{did_pass}
 use Rattle.sync_node.proofs.WentLaws.{stopped_then, went_none, went_one, went_then}
 use Rattle.sync_node.specs.Fulls.{AllSentOn, FullBeginning, FullTurn, RunFullSent}
@@ -57,11 +55,17 @@ if_err_then (Ok t) P Q then p = tt
 if_err_then (Err e) P Q then p = then e p
 
 -- by what a node answers, of each fault
-pub by_fault_map : (P Q : Fault → Type 0) → ((e : Fault) → P e → Q e) → (x : NodeFault) → ByFault P x → ByFault Q x
-by_fault_map P Q then node_fault.Memory p = then fault.Memory p
-by_fault_map P Q then node_fault.DiskFault p = then fault.DiskFault p
-by_fault_map P Q then node_fault.Full p = then fault.Full p
+pub by_fault_map : (P Q : _ → Type 0) → ((e : _) → P e → Q e) → (x : NodeFault) → ByFault P x → ByFault Q x
+by_fault_map P Q then node_fault.Memory p = then _ p
+by_fault_map P Q then node_fault.DiskFault p = then _ p
+by_fault_map P Q then node_fault.Full p = then _ p
 by_fault_map P Q then node_fault.Closed p = p
+
+pub by_fault_any : (P : _ → Type 0) (Q : Type 0) → ((e : _) → P e → Q) → (x : NodeFault) → ByFault P x → Q
+by_fault_any P Q then node_fault.Memory p = then _ p
+by_fault_any P Q then node_fault.DiskFault p = then _ p
+by_fault_any P Q then node_fault.Full p = then _ p
+by_fault_any P Q then node_fault.Closed p = absurd p
 
 -- a place that is told of nothing
 passes : (clients : Meaning) (terms : Terms) (p q : Place) (s : StoreValue) (o : Outside) → RunStep clients terms p Pass q
@@ -71,12 +75,22 @@ passes clients terms p q s o steps =
     (did_pass clients (Does Pass) s o refl (λ link. refl) (told_pass o o refl))
 
 -- a run stopped behind what was done
-stops_then : (clients : Meaning) (terms : Terms) (p q : Place) (s0 s s' : StoreValue) (o0 o o' : Outside) (e : Fault)
-    → RunWent clients terms p q s0 s o0 o → StopsFrom clients terms q s s' o o' e → StopsFrom clients terms p s0 s' o0 o' e
-stops_then clients terms p q s0 s s' o0 o o' e first second = (
-  second.0,
-  stopped_then clients (RunActs clients terms) (λ (x : Owing Place). x.at.links ≡ second.0) (paid p) (paid q) s0 s s' o0 o o' e first second.1,
-)
+stops_then : (clients : Meaning) (terms : Terms) (p q : Place) (s0 s s' : StoreValue) (o0 o o' : Outside) (x : NodeFault)
+    → RunWent clients terms p q s0 s o0 o → StopsFrom clients terms q s s' o o' x → StopsFrom clients terms p s0 s' o0 o' x
+stops_then clients terms p q s0 s s' o0 o o' x first second =
+    by_fault_map (λ e. (links : List course_links.Link) × RunStopped clients terms q links s s' o o' e)
+    (λ e. (links : List course_links.Link) × RunStopped clients terms p links s0 s' o0 o' e)
+    (λ e stopped. (
+      stopped.0,
+      stopped_then clients (RunActs clients terms) (λ (y : Owing Place). y.at.links ≡ stopped.0) (paid p) (paid q) s0 s s' o0 o o' e first stopped.1,
+    )) x second
+
+-- it was broken off
+pub stops_halted : (clients : Meaning) (terms : Terms) (p : Place) (s s' : StoreValue) (o o' : Outside) (x : NodeFault)
+    → StopsFrom clients terms p s s' o o' x → RunBreaks clients terms p s o o'
+stops_halted clients terms p s s' o o' x stops =
+    by_fault_any (λ e. (links : List course_links.Link) × RunStopped clients terms p links s s' o o' e) (RunBreaks clients terms p s o o')
+    (λ e stopped. (run_halts clients terms p stopped.0 s s' o o' e stopped.1).breaks) x stops
 
 -- files that are told on one side of a call are told on the other
 pub told_too : {A : Type 0} (a b : Option A) (x : A) → is_some b ≡ is_some a → a ≡ Some x → (y : A) × (b ≡ Some y)
@@ -125,13 +139,15 @@ module _ (clients : Meaning) (sessions left : List Session) (session : Session) 
         (begins.went there.0 there.1 terms left silent false 0 0 refl (numbered ∙ ap (λ (n : ℕ). n + length links) (sym same)));
   }
 
-  pub session_stopped : (links' : List Link) (s' : StoreValue) (o' : Outside) (e : Fault) → BeginStopped clients session links links' s s' o o' e
-      → SessionsStopped clients sessions s0 s' o0 o' e
-  session_stopped links' s' o' e stopped = record {
+  pub session_stopped : (links' : List Link) (s' : StoreValue) (o' : Outside) (x : NodeFault)
+      → ByFault (BeginStopped clients session links links' s s' o o') x → SessionsStopped clients sessions s0 s' o0 o' x
+  session_stopped links' s' o' x stopped = record {
     stops = λ two files terms same.
         let here : Place = place_at (Attaches (session ∷ left)) links silent false 0 0 s.state.facts in
-        stops_then clients terms (before_sessions sessions s0.state.facts) here s0 s s' o0 o o' e (so.went two files terms same)
-        (links_from 0 links' silent, stopped.stops terms left silent false 0 0);
+        stops_then clients terms (before_sessions sessions s0.state.facts) here s0 s s' o0 o o' x (so.went two files terms same)
+        (by_fault_map (BeginStopped clients session links links' s s' o o')
+        (λ e. (ls : List course_links.Link) × RunStopped clients terms here ls s s' o o' e)
+        (λ e begins. (links_from 0 links' silent, begins.stops terms left silent false 0 0)) x stopped);
   }
 
 -- a batch would have passed the limit, behind a run of calls
@@ -214,11 +230,9 @@ module _ (clients : Meaning) (sessions : List Session) (links : List Dialled) (f
 
   pub attaching_stopped : (nodes' : List Link) (s' : StoreValue) (o' : Outside) (x : NodeFault)
       → ByFault (BeginStopped clients (session_of s.state.facts.begun d.plan d.nonce) nodes nodes' s s' o o') x
-      → ByFault (SessionsStopped clients sessions s0 s' o0 o') x
+      → SessionsStopped clients sessions s0 s' o0 o' x
   attaching_stopped nodes' s' o' x stopped =
-      by_fault_map (BeginStopped clients (session_of s.state.facts.begun d.plan d.nonce) nodes nodes' s s' o o') (SessionsStopped clients sessions s0 s' o0 o')
-      (session_stopped clients sessions (sessions_from (suc s.state.facts.begun) (drop (i + 1) links)) (session_of s.state.facts.begun d.plan d.nonce) nodes s0 s o0 o so_next nodes' s' o')
-      x stopped
+      session_stopped clients sessions (sessions_from (suc s.state.facts.begun) (drop (i + 1) links)) (session_of s.state.facts.begun d.plan d.nonce) nodes s0 s o0 o so_next nodes' s' o' x stopped
 
 pub attached_all : (clients : Meaning) (sessions : List Session) (links : List Dialled) (i : ℕ) (nodes : List Link) (s0 s : StoreValue) (o0 o : Outside) → length links ≤ i
     → SessionsSoFar clients sessions (sessions_from s.state.facts.begun (drop i links)) nodes s0 s o0 o → SessionsBegin clients sessions nodes s0 s o0 o
@@ -311,11 +325,15 @@ module _ (clients : Meaning) (limits : Limits) (first : ℕ) (from : Place) (lin
               (paid (place_at Between links' t.heard' (not quiet) (cond quiet (suc still) 0) (suc made) s'.state.facts)) s0 s s' o0 o o' so.went t.went));
         }
 
-    pub turn_stopped : (at : ℕ) (links' : List Link) (s' : StoreValue) (o' : Outside) (e : Fault) → at ≡ first → RoundStopped clients at links links' s s' o o' e
-        → StopsFrom clients (terms_at limits first) from s0 s' o0 o' e
-    turn_stopped at links' s' o' e same stopped =
-        let so_stopped = stopped.stops (terms_at limits first) so.heard so.moved still made (sym same) so.has_read not_at_end in
-        stops_then clients (terms_at limits first) from place s0 s s' o0 o o' e so.went (links_from 0 links' so_stopped.0, so_stopped.1)
+    pub turn_stopped : (at : ℕ) (links' : List Link) (s' : StoreValue) (o' : Outside) (x : NodeFault) → at ≡ first
+        → ByFault (RoundStopped clients at links links' s s' o o') x → StopsFrom clients (terms_at limits first) from s0 s' o0 o' x
+    turn_stopped at links' s' o' x same stopped =
+        stops_then clients (terms_at limits first) from place s0 s s' o0 o o' x so.went
+        (by_fault_map (RoundStopped clients at links links' s s' o o')
+        (λ e. (ls : List course_links.Link) × RunStopped clients (terms_at limits first) place ls s s' o o' e)
+        (λ e round.
+        let t = round.stops (terms_at limits first) so.heard so.moved still made (sym same) so.has_read not_at_end in
+        (links_from 0 links' t.0, t.1)) x stopped)
 
     pub turn_full : (at : ℕ) (Given : Type 0) (s' : StoreValue) (o' : Outside) → at ≡ first → (Given → Joined clients links s o) → FullTurn clients at links s s' o o'
         → RunFullSent clients (terms_at limits first) from Given s0 s' o0 o'
@@ -344,13 +362,11 @@ module _ (clients : Meaning) (limits : Limits) (first : ℕ) (from : Place) (lin
 pub turns_stopped : (clients : Meaning) (limits : Limits) (first : ℕ) (links0 links links' : List Link) (s0 s s' : StoreValue) (o0 o o' : Outside) (still made : ℕ) (x : NodeFault)
     → ((heard : ℕ → List ℕ) → AllRead heard links0 → TurnsSoFar clients limits first (before_turns links0 heard s0.state.facts) links s0 s o0 o still made)
     → over_by limits.quiet still (nat_lt 0 (asked_among links)) ≡ false → made < limits.turns → (at : ℕ) → at ≡ first
-    → ByFault (RoundStopped clients at links links' s s' o o') x → ByFault (TurnsStopped clients limits first links0 s0 s' o0 o') x
-turns_stopped clients limits first links0 links links' s0 s s' o0 o o' still made x so going left at same stopped =
-    by_fault_map (RoundStopped clients at links links' s s' o o') (TurnsStopped clients limits first links0 s0 s' o0 o')
-    (λ e stops. record {
-      stops = λ heard read.
-          turn_stopped clients limits first (before_turns links0 heard s0.state.facts) links s0 s o0 o still made (so heard read) going left at links' s' o' e same stops;
-    }) x stopped
+    → ByFault (RoundStopped clients at links links' s s' o o') x → TurnsStopped clients limits first links0 s0 s' o0 o' x
+turns_stopped clients limits first links0 links links' s0 s s' o0 o o' still made x so going left at same stopped = record {
+  stops = λ heard read.
+      turn_stopped clients limits first (before_turns links0 heard s0.state.facts) links s0 s o0 o still made (so heard read) going left at links' s' o' x same stopped;
+}
 
 -- ---- both
 
@@ -388,19 +404,15 @@ pub run_unfilled : (clients : Meaning) (limits : Limits) (first : ℕ) (sessions
 run_unfilled clients limits first sessions s0 s' o0 o' same full = record { fills = λ two files. full.fills two files (terms_at limits first) same }
 
 pub run_unbegun : (clients : Meaning) (limits : Limits) (first : ℕ) (sessions : List Session) (s0 s' : StoreValue) (o0 o' : Outside) (x : NodeFault) → first ≡ s0.state.facts.begun
-    → ByFault (SessionsStopped clients sessions s0 s' o0 o') x → ByFault (StopsRun clients limits first sessions s0 s' o0 o') x
-run_unbegun clients limits first sessions s0 s' o0 o' x named stopped =
-    by_fault_map (SessionsStopped clients sessions s0 s' o0 o') (StopsRun clients limits first sessions s0 s' o0 o')
-    (λ e stops. record { stops = λ two files. stops.stops two files (terms_at limits first) named }) x stopped
+    → SessionsStopped clients sessions s0 s' o0 o' x → StopsRun clients limits first sessions s0 s' o0 o' x
+run_unbegun clients limits first sessions s0 s' o0 o' x named stopped = record { stops = λ two files. stopped.stops two files (terms_at limits first) named }
 
 pub run_stopped : (clients : Meaning) (limits : Limits) (first at : ℕ) (sessions : List Session) (links : List Link) (s0 s s' : StoreValue) (o0 o o' : Outside) (x : NodeFault)
-    → at ≡ first → first ≡ s0.state.facts.begun → SessionsBegin clients sessions links s0 s o0 o → ByFault (TurnsStopped clients limits at links s s' o o') x
-    → ByFault (StopsRun clients limits first sessions s0 s' o0 o') x
-run_stopped clients limits first at sessions links s0 s s' o0 o o' x same named begins stopped =
-    by_fault_map (TurnsStopped clients limits at links s s' o o') (StopsRun clients limits first sessions s0 s' o0 o')
-    (λ e stops. record {
-      stops = λ two files.
-          stops_then clients (terms_at limits first) (before_sessions sessions s0.state.facts) (before_turns links silent s.state.facts) s0 s s' o0 o o' e
-          (begins.went two files (terms_at limits first) named)
-          ((subst (λ (k : ℕ). TurnsStopped clients limits k links s s' o o' e) same stops).stops silent begins.has_read);
-    }) x stopped
+    → at ≡ first → first ≡ s0.state.facts.begun → SessionsBegin clients sessions links s0 s o0 o → TurnsStopped clients limits at links s s' o o' x
+    → StopsRun clients limits first sessions s0 s' o0 o' x
+run_stopped clients limits first at sessions links s0 s s' o0 o o' x same named begins stopped = record {
+  stops = λ two files.
+      stops_then clients (terms_at limits first) (before_sessions sessions s0.state.facts) (before_turns links silent s.state.facts) s0 s s' o0 o o' x
+      (begins.went two files (terms_at limits first) named)
+      ((subst (λ (k : ℕ). TurnsStopped clients limits k links s s' o o' x) same stopped).stops silent begins.has_read);
+}

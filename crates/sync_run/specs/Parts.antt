@@ -14,8 +14,8 @@ use Rattle.sync_course.specs.Quiet.{EndsQuiet}
 use Rattle.sync_course.specs.Turns.{Attaches, Between, Broken, Course, Ended, Place, RunStep, Terms, is_over}
 use Rattle.sync_node.specs.declared.link.Link.{Link}
 use Rattle.sync_node.specs.Courses.{AllRead, ReadsAs, place_at}
-use Rattle.sync_node.specs.OnRuns.{RunStopped, RunWent}
-use Rattle.sync_node.specs.declared.fault.Fault.{Fault}
+use Rattle.sync_node.specs.OnRuns.{ByFault, RunStopped, RunWent}
+use Rattle.sync_node.specs.declared.fault.NodeFault.{NodeFault}
 use Rattle.sync_course.specs.Links as course_links
 use Rattle.sync_node.specs.Fulls.{RunFullSent}
 use Rattle.sync_node.specs.Joined.{Joined}
@@ -60,14 +60,14 @@ pub record SessionsBegin (clients : Meaning) (sessions : List Session) (links : 
   pub went : (two : Two File) → o.files ≡ Some two → (terms : Terms) → terms.first ≡ s.state.facts.begun
       → RunWent clients terms (before_sessions sessions s.state.facts) (before_turns links silent s'.state.facts) s s' o o'
 
--- a run stopped at a place, whatever its links are there
-abbrev pub StopsFrom : Meaning → Terms → Place → StoreValue → StoreValue → Outside → Outside → Fault → Type 0
-StopsFrom clients terms p s s' o o' e = (links : List course_links.Link) × RunStopped clients terms p links s s' o o' e
+-- a run stopped at a place, whatever its links are there, by what the node answered
+abbrev pub StopsFrom : Meaning → Terms → Place → StoreValue → StoreValue → Outside → Outside → NodeFault → Type 0
+StopsFrom clients terms p s s' o o' x = ByFault (λ e. (links : List course_links.Link) × RunStopped clients terms p links s s' o o' e) x
 
 -- while its sessions began
-pub record SessionsStopped (clients : Meaning) (sessions : List Session) (s s' : StoreValue) (o o' : Outside) (e : Fault) : Type 0 where
+pub record SessionsStopped (clients : Meaning) (sessions : List Session) (s s' : StoreValue) (o o' : Outside) (x : NodeFault) : Type 0 where
   pub stops : (two : Two File) → o.files ≡ Some two → (terms : Terms) → terms.first ≡ s.state.facts.begun
-      → StopsFrom clients terms (before_sessions sessions s.state.facts) s s' o o' e
+      → StopsFrom clients terms (before_sessions sessions s.state.facts) s s' o o' x
 
 -- the batch of the next of these sessions would have passed the limit
 pub record FullSessions (clients : Meaning) (sessions : List Session) (s s' : StoreValue) (o o' : Outside) : Type 0 where
@@ -97,9 +97,9 @@ pub record MakesTurns (clients : Meaning) (limits : Limits) (first : ℕ) (links
   pub ends : (heard : ℕ → List ℕ) → AllRead heard links
       → EndsFrom clients limits first (before_turns links heard s.state.facts) links' s s' o o' over
 
-pub record TurnsStopped (clients : Meaning) (limits : Limits) (first : ℕ) (links : List Link) (s s' : StoreValue) (o o' : Outside) (e : Fault) : Type 0 where
+pub record TurnsStopped (clients : Meaning) (limits : Limits) (first : ℕ) (links : List Link) (s s' : StoreValue) (o o' : Outside) (x : NodeFault) : Type 0 where
   pub stops : (heard : ℕ → List ℕ) → AllRead heard links
-      → StopsFrom clients (terms_at limits first) (before_turns links heard s.state.facts) s s' o o' e
+      → StopsFrom clients (terms_at limits first) (before_turns links heard s.state.facts) s s' o o' x
 
 -- a batch would have passed the limit
 pub record FullTurns (clients : Meaning) (limits : Limits) (first : ℕ) (links : List Link) (s s' : StoreValue) (o o' : Outside) : Type 0 where
@@ -113,9 +113,9 @@ pub record RunsSessions (clients : Meaning) (limits : Limits) (first : ℕ) (ses
   pub ends : (two : Two File) → o.files ≡ Some two
       → EndsFrom clients limits first (before_sessions sessions s.state.facts) links s s' o o' over
 
-pub record StopsRun (clients : Meaning) (limits : Limits) (first : ℕ) (sessions : List Session) (s s' : StoreValue) (o o' : Outside) (e : Fault) : Type 0 where
+pub record StopsRun (clients : Meaning) (limits : Limits) (first : ℕ) (sessions : List Session) (s s' : StoreValue) (o o' : Outside) (x : NodeFault) : Type 0 where
   pub stops : (two : Two File) → o.files ≡ Some two
-      → StopsFrom clients (terms_at limits first) (before_sessions sessions s.state.facts) s s' o o' e
+      → StopsFrom clients (terms_at limits first) (before_sessions sessions s.state.facts) s s' o o' x
 
 pub record FullRun (clients : Meaning) (limits : Limits) (first : ℕ) (sessions : List Session) (s s' : StoreValue) (o o' : Outside) : Type 0 where
   pub fills : (two : Two File) → o.files ≡ Some two

@@ -21,7 +21,6 @@ ghost use Rattle.sync_run.specs.Causes.{FailsAlone, IsCaused, RunCaused};
 ghost use Rattle.sync_run.specs.Courses.{RunComesTo, HaveSpecs, RunComes, TestsContacts, TestsWords};
 ghost use Rattle.sync_run.specs.Headline.{Headline, LeavesFilesAtRest, AllSentWhenFull, SentWhole};
 ghost use Rattle.sync_run.specs.Leaving.{DoesNotBegin, LeavesLinks, MayNotBegin};
-ghost use Rattle.sync_node.specs.OnRuns.{ByFault};
 ghost use Rattle.sync_run.specs.Parts.{FullRun, RunsOver, RunsSessions, StopsRun, sessions_from};
 ghost use Rattle.sync_run.specs.SafeRuns.{AllMayBegin, AreUnused, AttachesAll, IsKnown, RunsSafe};
 ghost use Rattle.sync_run.specs.SafeRuns.{SessionsSentWhenFull, SendsWhole, SessionsSafe, SessionsSent};
@@ -266,10 +265,10 @@ fn run_node<H: Host, C: Clients>(
         node.old.store.state.facts.begun
         (sessions_from node.old.store.state.facts.begun links.now) node.new.links node.old.store
         node.new.store (H.tells host.old) (H.tells host.new)) }
-    ensures stopped { IfErr result (ByFault (StopsRun (C.meaning clients.now) limits
+    ensures stopped { IfErr result (StopsRun (C.meaning clients.now) limits
         node.old.store.state.facts.begun
         (sessions_from node.old.store.state.facts.begun links.now) node.old.store
-        node.new.store (H.tells host.old) (H.tells host.new))) }
+        node.new.store (H.tells host.old) (H.tells host.new)) }
 {
     attach_all(node, host, clients, links)?;
     make_turns(node, host, clients, limits)

@@ -10,7 +10,6 @@ ghost use Rattle.sync_node.specs.Node.{AnswersAndCloses, IsNode, KeepsJoined, Ke
 ghost use Rattle.sync_node.specs.Stays.{StaysReady};
 ghost use Rattle.sync_node.specs.Stops.{NodeSendsAll};
 ghost use Rattle.sync_run.specs.SafeRuns.{AllMayBegin, AttachesAll, SessionsSafe, SessionsSent};
-ghost use Rattle.sync_node.specs.OnRuns.{ByFault};
 ghost use Rattle.sync_run.specs.Parts.{MakesTurns, SessionsStopped, TurnsStopped};
 ghost use Rattle.sync_run.specs.Parts.{FullSessions, FullTurns, SessionsBegin, sessions_from};
 
@@ -60,9 +59,9 @@ pub fn attach_all<H: Host, C: Clients>(
     ensures went { OnOk result (SessionsBegin (C.meaning clients.now)
         (sessions_from node.old.store.state.facts.begun links.now) node.new.links node.old.store
         node.new.store (H.tells host.old) (H.tells host.new)) }
-    ensures stopped { IfErr result (ByFault (SessionsStopped (C.meaning clients.now)
+    ensures stopped { IfErr result (SessionsStopped (C.meaning clients.now)
         (sessions_from node.old.store.state.facts.begun links.now) node.old.store
-        node.new.store (H.tells host.old) (H.tells host.new))) }
+        node.new.store (H.tells host.old) (H.tells host.new)) }
 {
     let mut number = 0;
     'links: for link in links {
@@ -105,9 +104,8 @@ pub fn make_turns<H: Host, C: Clients>(
     ensures went { IfOk result (MakesTurns (C.meaning clients.now) limits node.old.first
         node.old.links node.new.links node.old.store node.new.store (H.tells host.old)
         (H.tells host.new)) }
-    ensures stopped { IfErr result (ByFault (TurnsStopped (C.meaning clients.now) limits
-        node.old.first node.old.links node.old.store node.new.store (H.tells host.old)
-        (H.tells host.new))) }
+    ensures stopped { IfErr result (TurnsStopped (C.meaning clients.now) limits node.old.first
+        node.old.links node.old.store node.new.store (H.tells host.old) (H.tells host.new)) }
 {
     let mut still = 0;
     'turns: for _ in 0..limits.turns {

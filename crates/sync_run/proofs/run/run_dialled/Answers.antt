@@ -126,12 +126,12 @@ returns-in-Ok-clause-caused g c =
 pub returns-in-Err-Memory-clause-course : goal.returns-in-Err-Memory-clause-course
 returns-in-Err-Memory-clause-course g c = λ j fit.
     over_broken _ c.args.limits c.args.links.now _ _ _ _ c.in_ok-migrate_and_settle.field-0 c.migrate_and_settle.ensures.run c.in_ok-migrate_and_settle.ensures.settled j fit c.in_ok-node.node
-    (ap (λ (n : NodeValue). n.store) c.in_ok-node.ensures) _ _ _ (rw c.in-Err-Memory.field-0-is at c.in-Err-Memory.ensures.stopped)
+    (ap (λ (n : NodeValue). n.store) c.in_ok-node.ensures) _ _ _ c.in-Err-Memory.ensures.stopped
 
 pub returns-in-Err-DiskFault-clause-course : goal.returns-in-Err-DiskFault-clause-course
 returns-in-Err-DiskFault-clause-course g c = λ j fit.
     over_broken _ c.args.limits c.args.links.now _ _ _ _ c.in_ok-migrate_and_settle.field-0 c.migrate_and_settle.ensures.run c.in_ok-migrate_and_settle.ensures.settled j fit c.in_ok-node.node
-    (ap (λ (n : NodeValue). n.store) c.in_ok-node.ensures) _ _ _ (rw c.in-Err-DiskFault.field-0-is at c.in-Err-DiskFault.ensures.stopped)
+    (ap (λ (n : NodeValue). n.store) c.in_ok-node.ensures) _ _ _ c.in-Err-DiskFault.ensures.stopped
 
 pub returns-in-Err-Full-clause-course : goal.returns-in-Err-Full-clause-course
 returns-in-Err-Full-clause-course g c = λ j fit.
