@@ -28,7 +28,7 @@ use Rattle.sync_course.specs.Turns.{Attaches, Course, Ended, Place, Terms, first
 use Rattle.sync_node.specs.declared.link.Link.{Link}
 use Rattle.sync_node.proofs.CourseLaws.{fits_grown, reads_front}
 use Rattle.sync_node.specs.declared.fault.NodeFault.{NodeFault}
-use Rattle.sync_node.specs.Courses.{FitsWith, ReadsAs, RunBreaks, RunRuns, place_at}
+use Rattle.sync_node.specs.Courses.{FitsWith, ReadsAs, RunBreaks, place_at}
 use Rattle.sync_node.proofs.NodeRuns.{run_went}
 use Rattle.sync_node.specs.Fulls.{RunFullSent}
 use Rattle.sync_node.specs.Joined.{Joined}
