@@ -9,7 +9,3 @@ writes need.Nothing = false
 writes need.Read = false
 writes need.Write = true
 writes need.Stay = true
-
--- neither file may be written, by what each says of it
-abbrev pub IsUnwritten : Bool → Bool → Type 0
-IsUnwritten first second = (first ≡ false) × (second ≡ false)

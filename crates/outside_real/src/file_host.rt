@@ -1,7 +1,7 @@
 //! The disk, the links and the clock of this machine.
 ghost use Rattle.std.specs.Prelude.{◌≡◌, ◌+◌, ◌<◌, ◌≤◌, IfOk, Ok, MatchResult, OnOk, OnErr};
-ghost use Rattle.std.specs.Prelude.{vec_len, false};
-ghost use Rattle.outside_real.specs.Need.{IsUnwritten, writes};
+ghost use Rattle.std.specs.Prelude.{All, vec_len, false};
+ghost use Rattle.outside_real.specs.Need.{writes};
 ghost use Rattle.outside.specs.declared.limits.TheConstants.{LINKS};
 ghost use Rattle.outside.specs.Faults.{HasCause};
 
@@ -28,8 +28,7 @@ use std::time::Clock;
 pub struct FileHost<R: Runtime + Net> {
     rt: R,
     alloc: Global,
-    first: StoreFile<R>,
-    second: StoreFile<R>,
+    files: [StoreFile<R>; 2],
     lock: Option<Lock>,
     disk_faults: u64,
     links: Vec<Link<R>>,
@@ -46,31 +45,29 @@ impl<R: Runtime + AllocGlobal + Net> FileHost<R> {
         let alloc = rt.alloc();
         let first = StoreFile::open(alloc, folder, "bsp.0")?;
         let second = StoreFile::open(alloc, folder, "bsp.1")?;
-        Ok(FileHost::over(rt, first, second))
+        Ok(FileHost::over(rt, [first, second]))
     }
 
     /// A host without links that touches no file: each call on one fails.
     pub fn shut(rt: R, folder: &str) -> Result<FileHost<R>, AllocError>
         ensures no_links { IfOk result (λ h. vec_len h.links ≡ 0) }
-        ensures reads { IfOk result (λ h. IsUnwritten h.first.may_write h.second.may_write) }
+        ensures reads { IfOk result (λ h. All (λ file. file.may_write ≡ false) h.files) }
     {
         let alloc = rt.alloc();
         let first = StoreFile::shut(alloc, folder, "bsp.0")?;
         let second = StoreFile::shut(alloc, folder, "bsp.1")?;
-        Ok(FileHost::over(rt, first, second))
+        Ok(FileHost::over(rt, [first, second]))
     }
 
-    fn over(rt: R, first: StoreFile<R>, second: StoreFile<R>) -> FileHost<R>
+    fn over(rt: R, files: [StoreFile<R>; 2]) -> FileHost<R>
         ensures no_links { vec_len result.links ≡ 0 }
-        ensures first { result.first ≡ first }
-        ensures second { result.second ≡ second }
+        ensures files { result.files ≡ files }
     {
         let alloc = rt.alloc();
         FileHost {
             rt,
             alloc,
-            first,
-            second,
+            files,
             lock: None,
             disk_faults: 0,
             links: Vec::new(alloc),
@@ -88,7 +85,7 @@ impl<R: Runtime + Files<File = File> + AllocGlobal + Net> FileHost<R> {
     pub fn with(rt: R, folder: &str, need: Need) -> Result<FileHost<R>, AllocError>
         ensures no_links { IfOk result (λ h. vec_len h.links ≡ 0) }
         ensures reads { writes need ≡ false
-            → IfOk result (λ h. IsUnwritten h.first.may_write h.second.may_write) }
+            → IfOk result (λ h. All (λ file. file.may_write ≡ false) h.files) }
     {
         match need {
             Need::Nothing => FileHost::shut(rt, folder),
@@ -107,12 +104,12 @@ impl<R: Runtime + Files<File = File> + AllocGlobal + Net> FileHost<R> {
     // Over copies of the files, for which others that will be done at once are waited for.
     fn reading(rt: R, folder: &str) -> Result<FileHost<R>, AllocError>
         ensures no_links { IfOk result (λ h. vec_len h.links ≡ 0) }
-        ensures reads { IfOk result (λ h. IsUnwritten h.first.may_write h.second.may_write) }
+        ensures reads { IfOk result (λ h. All (λ file. file.may_write ≡ false) h.files) }
     {
         let mut host = FileHost::shut(rt, folder)?;
         if let Ok((first, second)) = copied(&host.rt, host.alloc, folder) {
-            host.first.read_from(first);
-            host.second.read_from(second);
+            host.files[0].read_from(first);
+            host.files[1].read_from(second);
         }
         Ok(host)
     }
@@ -178,42 +175,27 @@ impl<R: Runtime + Net> Disk for FileHost<R> {
     ghost tells = { λ h. silent h.disk_faults (vec_len h.links) h.link_faults };
 
     fn len(&mut self, file: u8) -> Result<u64, Failed> {
-        let answer = match file {
-            0 => self.first.len(&self.rt),
-            _ => self.second.len(&self.rt),
-        };
+        let answer = self.files[file as usize].len(&self.rt);
         self.answer(answer)
     }
 
     fn read_at(&mut self, file: u8, at: u64, buf: &mut [u8]) -> Result<usize, Failed> {
-        let answer = match file {
-            0 => self.first.read_at(&self.rt, at, buf),
-            _ => self.second.read_at(&self.rt, at, buf),
-        };
+        let answer = self.files[file as usize].read_at(&self.rt, at, buf);
         self.answer(answer)
     }
 
     fn write_at(&mut self, file: u8, at: u64, bytes: &[u8]) -> Result<(), Failed> {
-        let answer = match file {
-            0 => self.first.write_at(&self.rt, at, bytes),
-            _ => self.second.write_at(&self.rt, at, bytes),
-        };
+        let answer = self.files[file as usize].write_at(&self.rt, at, bytes);
         self.answer(answer)
     }
 
     fn cut(&mut self, file: u8, len: u64) -> Result<(), Failed> {
-        let answer = match file {
-            0 => self.first.cut(&self.rt, len),
-            _ => self.second.cut(&self.rt, len),
-        };
+        let answer = self.files[file as usize].cut(&self.rt, len);
         self.answer(answer)
     }
 
     fn sync(&mut self, file: u8) -> Result<(), Failed> {
-        let answer = match file {
-            0 => self.first.sync(&self.rt),
-            _ => self.second.sync(&self.rt),
-        };
+        let answer = self.files[file as usize].sync(&self.rt);
         self.answer(answer)
     }
 }
