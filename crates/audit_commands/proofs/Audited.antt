@@ -1,7 +1,7 @@
 -- An audit, and what is printed of its report.
 use Rattle.std.proofs.Common.{◌≡◌, ◌∙◌, ℕ, List, ap, subst, sym, Result, Ok, Err, Option, Some}
 use Rattle.std.specs.Prelude.{IsErrAnd}
-use Rattle.outside.specs.Disk.{Becomes}
+use Rattle.outside.specs.Disk.{RelatesTold}
 use Rattle.outside.specs.Files.{Two, File, read_files}
 use Rattle.outside.specs.Outside.{DiskRun, Outside}
 use Rattle.outside.specs.Streams.{IsIdle, Stream}
@@ -16,12 +16,12 @@ use Rattle.sync_words.specs.declared.outcome.Outcome.{Outcome}
 use Rattle.sync_words.specs.declared.outcome.Outcome.TheVariants as outcome
 use Rattle.sync_words.specs.Outcomes.{came_to}
 use Rattle.audit_commands.specs.Audits.{AuditEnds, AuditedBy, HasAudited, KeepsSynced}
-use Rattle.audit_commands.specs.Audits.{LeavesSynced, PrintsBy, Tells}
+use Rattle.audit_commands.specs.Audits.{LeavesSynced, PrintsBy, TellsOutcome}
 use Rattle.audit_commands.specs.Texts.{legal_text}
 
 -- a step of files that are told
 told_step : (step : Two File → Two File → Type 0) (old new : Option (Two File))
-    (two two' : Two File) → Becomes step old new → old ≡ Some two → new ≡ Some two' → step two two'
+    (two two' : Two File) → RelatesTold step old new → old ≡ Some two → new ≡ Some two' → step two two'
 told_step step old new two two' becomes told told' =
     let at = becomes_told step old new two told becomes in
     let same : at.0 ≡ two' = let it = sym at.1 ∙ told' in cc in
@@ -59,7 +59,7 @@ module _ (clients : Meaning) (old new : Outside) (out out' : Stream) where
 
   -- the files were audited, and the line of the report was printed
   pub audited : (came : Outcome) (r : Report) → DiskRun old new → AnyImage old new
-      → Becomes SyncsBoth old.files new.files
+      → RelatesTold SyncsBoth old.files new.files
       → ((two : Two File) → old.files ≡ Some two
       → IsAuditOf clients (stands clients (read_files two)) r)
       → PrintsText (legal_text r) out out' came → HasAudited clients old new out out' came
@@ -88,14 +88,14 @@ module _ (clients : Meaning) (old new : Outside) (out out' : Stream) where
   none_by _ idle by = absurd by
 
   none_ends : (standing : Standing) (came : Outcome) → AuditedBy old new (Err came)
-      → Tells clients standing (Err came) → AuditEnds clients standing out out' came
+      → TellsOutcome clients standing (Err came) → AuditEnds clients standing out out' came
   none_ends standing outcome.DiskFault by tells = tt
   none_ends standing outcome.NoStore by tells = tells
   none_ends standing (outcome.Damaged place) by tells = tells
   none_ends standing outcome.Memory by tells = tt
   none_ends standing _ by tells = absurd by
 
-  none_keeps : (came : Outcome) (two two' : Two File) → Becomes ReadsSame old.files new.files
+  none_keeps : (came : Outcome) (two two' : Two File) → RelatesTold ReadsSame old.files new.files
       → LeavesSynced old.files new.files (Err came) → old.files ≡ Some two → new.files ≡ Some two'
       → KeepsSynced came two two'
   none_keeps outcome.DiskFault two two' reads synced told told' =
@@ -105,10 +105,10 @@ module _ (clients : Meaning) (old new : Outside) (out out' : Stream) where
 
   -- there was no report, and nothing was printed
   pub audited_not : (came : Outcome) → DiskRun old new → AnyImage old new
-      → Becomes ReadsSame old.files new.files → LeavesSynced old.files new.files (Err came)
+      → RelatesTold ReadsSame old.files new.files → LeavesSynced old.files new.files (Err came)
       → AuditedBy old new (Err came)
       → ((two : Two File) → old.files ≡ Some two
-      → Tells clients (stands clients (read_files two)) (Err came))
+      → TellsOutcome clients (stands clients (read_files two)) (Err came))
       → IsIdle out out' → HasAudited clients old new out out' came
   audited_not came run moments reads synced by tells idle = record {
     run = run;

@@ -2,8 +2,8 @@
 -- journal that they stand for, or tells that they stand for none.
 use Rattle.std.specs.Prelude.{◌≡◌, ℕ, List, Option, Some, Result, Ok, Err}
 use Rattle.std.specs.Io.KnownBytes.{Appends}
-use Rattle.outside.specs.Disk.{Becomes}
-use Rattle.outside.specs.Faults.{Rose}
+use Rattle.outside.specs.Disk.{RelatesTold}
+use Rattle.outside.specs.Faults.{CountRose}
 use Rattle.outside.specs.Files.{Two, File, read_files}
 use Rattle.outside.specs.Outside.{DiskRun, Outside}
 use Rattle.outside.specs.Streams.{Stream, IsIdle, GetsFront}
@@ -12,7 +12,7 @@ use Rattle.sync_rules.specs.Clients.{Meaning}
 use Rattle.journal_audit.specs.declared.report.Report.{Report}
 use Rattle.journal_audit.specs.Answers.{IsAuditOf}
 use Rattle.journal_audit.specs.Files.{SyncsBoth}
-use Rattle.store_commands.specs.Show.{ReadsAs, Rests}
+use Rattle.store_commands.specs.Show.{FilesReadSame, LeavesFilesSo}
 use Rattle.sync_words.specs.declared.outcome.Outcome.{Outcome}
 use Rattle.sync_words.specs.declared.outcome.Outcome.TheVariants as outcome
 use Rattle.audit_commands.specs.Texts.{legal_text}
@@ -22,24 +22,24 @@ use Rattle.audit_commands.specs.Texts.{legal_text}
 -- the causes, whatever the disk tells
 abbrev pub AuditedBy : (old new : Outside) → Result Report Outcome → Type 0
 AuditedBy old new (Ok r) = Unit {0}
-AuditedBy old new (Err outcome.DiskFault) = Rose old.disk_faults new.disk_faults
+AuditedBy old new (Err outcome.DiskFault) = CountRose old.disk_faults new.disk_faults
 AuditedBy old new (Err outcome.NoStore) = Unit {0}
 AuditedBy old new (Err (outcome.Damaged place)) = Unit {0}
 AuditedBy old new (Err outcome.Memory) = Unit {0}
 AuditedBy old new (Err _) = ⊥
 
 -- by what the files stand for
-abbrev pub Tells : Meaning → Standing → Result Report Outcome → Type 0
-Tells clients standing (Ok r) = IsAuditOf clients standing r
-Tells clients standing (Err outcome.NoStore) = standing ≡ no_store
-Tells clients standing (Err (outcome.Damaged place)) = standing ≡ damaged place.file place.at
-Tells clients standing (Err _) = Unit {0}
+abbrev pub TellsOutcome : Meaning → Standing → Result Report Outcome → Type 0
+TellsOutcome clients standing (Ok r) = IsAuditOf clients standing r
+TellsOutcome clients standing (Err outcome.NoStore) = standing ≡ no_store
+TellsOutcome clients standing (Err (outcome.Damaged place)) = standing ≡ damaged place.file place.at
+TellsOutcome clients standing (Err _) = Unit {0}
 
 -- but for a fault of the disk the files read as before, with nothing pending in them
 abbrev pub LeavesSynced : Option (Two File) → Option (Two File) → Result Report Outcome → Type 0
 LeavesSynced old new (Err outcome.DiskFault) = Unit {0}
-LeavesSynced old new (Ok r) = Becomes SyncsBoth old new
-LeavesSynced old new (Err _) = Becomes SyncsBoth old new
+LeavesSynced old new (Ok r) = RelatesTold SyncsBoth old new
+LeavesSynced old new (Err _) = RelatesTold SyncsBoth old new
 
 -- ---- the command
 
@@ -47,8 +47,8 @@ LeavesSynced old new (Err _) = Becomes SyncsBoth old new
 -- nothing is written but the line
 abbrev pub PrintsBy : (old new : Outside) (out out' : Stream) → Outcome → Type 0
 PrintsBy old new out out' outcome.Done = Unit {0}
-PrintsBy old new out out' outcome.WriteFault = Rose out.faults out'.faults
-PrintsBy old new out out' outcome.DiskFault = Rose old.disk_faults new.disk_faults × IsIdle out out'
+PrintsBy old new out out' outcome.WriteFault = CountRose out.faults out'.faults
+PrintsBy old new out out' outcome.DiskFault = CountRose old.disk_faults new.disk_faults × IsIdle out out'
 PrintsBy old new out out' outcome.NoStore = IsIdle out out'
 PrintsBy old new out out' (outcome.Damaged place) = IsIdle out out'
 PrintsBy old new out out' outcome.Memory = IsIdle out out'
@@ -75,13 +75,13 @@ AuditEnds clients standing out out' _ = ⊥
 
 -- the files read as before; and but for a fault of the disk nothing is pending in them
 abbrev pub KeepsSynced : Outcome → (two two' : Two File) → Type 0
-KeepsSynced outcome.DiskFault two two' = ReadsAs two two'
+KeepsSynced outcome.DiskFault two two' = FilesReadSame two two'
 KeepsSynced came two two' = SyncsBoth two two'
 
 -- what is so where the files are told
 pub record AuditTold (clients : Meaning) (two : Two File) (old new : Outside) (out out' : Stream)
     (came : Outcome) : Type 0 where
-  pub rests : Rests (KeepsSynced came two) two old new
+  pub rests : LeavesFilesSo (KeepsSynced came two) two old new
   pub ends : AuditEnds clients (stands clients (read_files two)) out out' came
 
 -- an audit

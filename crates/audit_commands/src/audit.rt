@@ -1,13 +1,13 @@
 // The command `audit`.
 ghost use Rattle.std.specs.Prelude.{◌≡◌, Some};
-ghost use Rattle.outside.specs.Disk.{Becomes};
+ghost use Rattle.outside.specs.Disk.{RelatesTold};
 ghost use Rattle.outside.specs.Files.{File, Two, read_files};
 ghost use Rattle.outside.specs.Outside.{DiskRun};
 ghost use Rattle.entry_codec.specs.Standing.{stands};
 ghost use Rattle.sync_words.specs.Outcomes.{came_to};
 ghost use Rattle.journal_audit.specs.Files.{AnyImage, ReadsSame};
 ghost use Rattle.store_commands.specs.Show.{PrintsText};
-ghost use Rattle.audit_commands.specs.Audits.{AuditedBy, HasAudited, LeavesSynced, Tells};
+ghost use Rattle.audit_commands.specs.Audits.{AuditedBy, HasAudited, LeavesSynced, TellsOutcome};
 ghost use Rattle.audit_commands.specs.Texts.{legal_text};
 
 use crate::lines::legal_line;
@@ -42,10 +42,10 @@ fn audit_files<D: Disk, C: Clients>(
     ensures run { DiskRun (D.tells disk.old) (D.tells disk.new) }
     ensures by { AuditedBy (D.tells disk.old) (D.tells disk.new) result }
     ensures moments { AnyImage (D.tells disk.old) (D.tells disk.new) }
-    ensures reads { Becomes ReadsSame (D.tells disk.old).files (D.tells disk.new).files }
+    ensures reads { RelatesTold ReadsSame (D.tells disk.old).files (D.tells disk.new).files }
     ensures synced { LeavesSynced (D.tells disk.old).files (D.tells disk.new).files result }
     ensures tells { (two : Two File) → (D.tells disk.old).files ≡ Some two
-        → Tells (C.meaning clients.now) (stands (C.meaning clients.now) (read_files two)) result }
+        → TellsOutcome (C.meaning clients.now) (stands (C.meaning clients.now) (read_files two)) result }
 {
     match audit(alloc, disk, clients) {
         Ok(report) => Ok(report),

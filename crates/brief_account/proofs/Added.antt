@@ -7,7 +7,7 @@ use Rattle.sync_rules.specs.declared.entries.Entry.TheVariants as entry
 use Rattle.sync_rules.specs.declared.limits.TheConstants.{MAX_GROUPS}
 use Rattle.sync_rules.specs.Clients.{Meaning}
 use Rattle.sync_rules.specs.Facts.{Facts, Known, after, after_all, group_at, known_of}
-use Rattle.sync_rules.specs.Meeting.{AllMeet, Meets}
+use Rattle.sync_rules.specs.Meeting.{AllMeet, MeetsNoStep}
 use Rattle.sync_rules.specs.Steps.{kind_of_def}
 
 -- a group that may be added to these
@@ -34,7 +34,7 @@ added_push clients before (g ∷ gs) def added may = (
       (subst (λ (x : List Known). IsAddable clients x def) (sym (append_assoc before (g ∷ []) gs)) may),
 )
 
-added_one : (clients : Meaning) (f : Facts) (e : Entry) → Meets clients f e → AreAdded clients [] f.groups
+added_one : (clients : Meaning) (f : Facts) (e : Entry) → MeetsNoStep clients f e → AreAdded clients [] f.groups
     → AreAdded clients [] (after f e).groups
 added_one clients f (entry.Group def) met added =
     added_push clients [] f.groups def added

@@ -17,10 +17,10 @@ use Rattle.sync_rules.specs.declared.states.Start.TheVariants as start
 use Rattle.sync_rules.specs.Clients.{Meaning}
 use Rattle.sync_rules.specs.Consistency.{HasSessions}
 use Rattle.sync_rules.specs.Facts.{Facts, Held, Id, Ids, Known, after, after_all, group_at, held_at, is_held, session_at, contact_of, kept_as, start_after}
-use Rattle.sync_rules.specs.Growth.{Continues}
+use Rattle.sync_rules.specs.Growth.{ContinuesFacts}
 use Rattle.sync_rules.specs.Legal.{accepts_served, IsKeptFrom, MayKeep}
 use Rattle.sync_rules.specs.Lists.{In, is_among}
-use Rattle.sync_rules.specs.Meeting.{AllMeet, Meets}
+use Rattle.sync_rules.specs.Meeting.{AllMeet, MeetsNoStep}
 use Rattle.sync_rules.specs.Steps.{first_or_next, first_step, IsSettled, is_beside, next, step, step_by, verdict_for, verdict_in}
 use Rattle.sync_rules.proofs.Continuing.{continues_all}
 use Rattle.sync_rules.proofs.Kept.{after_all-append, sound_after}
@@ -49,7 +49,7 @@ pub record IsWithin (f g : Facts) : Type 0 where
   pub contacts : f.contacts ≤ g.contacts
   pub groups : (id : Id) (x : Known) → group_at f.groups id ≡ Some x → group_at g.groups id ≡ Some x
 
-pub within_whole : (f whole g : Facts) → Continues f whole → HasWhole whole g → IsWithin f g
+pub within_whole : (f whole g : Facts) → ContinuesFacts f whole → HasWhole whole g → IsWithin f g
 within_whole f whole g c w = record {
   contacts =
       let up : f.contacts ≤ whole.contacts = c.contacts in
@@ -172,7 +172,7 @@ module _ (clients : Meaning) (whole : Facts) where
     has_whole = w;
   }
 
-  kept_one : (f g : Facts) (from : Origin) (m : MessageValue) → Continues f whole → SoundFacts clients f
+  kept_one : (f g : Facts) (from : Origin) (m : MessageValue) → ContinuesFacts f whole → SoundFacts clients f
       → IsAlong f g → HasWhole whole g
       → IsSettled clients f → MayKeep clients f from m → (later : Facts) → later.held ≡ f.held ++ kept_as from m ∷ []
       → later.judged ≡ f.judged → later.invalid ≡ f.invalid → later.delivered ≡ f.delivered
@@ -183,7 +183,7 @@ module _ (clients : Meaning) (whole : Facts) where
     has_whole = record { contacts = w.contacts; groups = w.groups };
   }
 
-  pub told_one : (f g : Facts) (e : Entry) → Meets clients f e → SoundFacts clients f → HasSessions f → Continues f whole
+  pub told_one : (f g : Facts) (e : Entry) → MeetsNoStep clients f e → SoundFacts clients f → HasSessions f → ContinuesFacts f whole
       → IsAlong f g → HasWhole whole g → GoesAlong clients (after f e) whole g (told f e)
   told_one f g (entry.Author m) met sound sessions c a w =
       kept_one f g origin.Author m c sound a w met.0
@@ -251,7 +251,7 @@ module _ (clients : Meaning) (whole : Facts) where
       (ap (λ (x : Facts). x.delivered) (sym last))
   told_along (e ∷ es) f g met sound sessions last a w =
       let one : GoesAlong clients (after f e) whole g (told f e) =
-      told_one f g e met.0 sound sessions (subst (Continues f) last (continues_all f (e ∷ es))) a w in
+      told_one f g e met.0 sound sessions (subst (ContinuesFacts f) last (continues_all f (e ∷ es))) a w in
       goes_then (after f e) g (told f e) (retold (after f e) es) whole one
       (told_along es (after f e) (after_all g (told f e)) met.1
       (sound_after clients f e (meets_fits clients f e met.0) sound)

@@ -13,7 +13,7 @@ use Rattle.sync_rules.specs.Clients.{Meaning}
 use Rattle.sync_rules.specs.Lists.{firsts, without}
 use Rattle.sync_rules.specs.Facts.{Facts, Id, Row, Rows, Wants, after, after_all, change_each, change_row, change_rows, contact_of, entries_of, facts, is_held, latency_of, nothing, pair_cmp, row_acked, row_asked, row_at, row_heard, row_offered, row_or, row_seen, row_sent, row_tried, wait_for, wanted_by_none, wanted_from, with_want, without_each}
 use Rattle.sync_rules.specs.Legal.{Legal}
-use Rattle.sync_rules.specs.Meeting.{AllMeet, Meets}
+use Rattle.sync_rules.specs.Meeting.{AllMeet, MeetsNoStep}
 use Rattle.sync_rules.specs.Consistency.{HasHeld, HasRows, HasWanted}
 use Rattle.sync_rules.proofs.Kept.{after_batches-is}
 use Rattle.sync_rules.proofs.RowLaws.{hits, row_at_change}
@@ -146,7 +146,7 @@ lists_held contacts wanted id has contact known =
     ∙ (some_changed (without id) (fin_map.entries wanted) contact
     ∙ (ap is_some (sym (fin_map.get-entries wanted contact)) ∙ has contact known))
 
-lists_after : (clients : Meaning) (f : Facts) (e : Entry) → Meets clients f e → HasLists f.contacts f.wanted
+lists_after : (clients : Meaning) (f : Facts) (e : Entry) → MeetsNoStep clients f e → HasLists f.contacts f.wanted
     → HasLists (after f e).contacts (after f e).wanted
 lists_after clients f (entry.Contact c) met has = lists_more f.contacts f.wanted c (wanted_from f.wanted c) met.1 has
 lists_after clients f (entry.Author m) met has = lists_held f.contacts f.wanted (message_id_of m) has

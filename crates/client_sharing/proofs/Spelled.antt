@@ -16,9 +16,9 @@ use Rattle.sync_ids.specs.declared.def.TheConstants.{MAX_DESCRIPTOR, MAX_NAME}
 use Rattle.sync_rules.specs.declared.entries.Entry.{Entry}
 use Rattle.sync_rules.specs.declared.entries.Entry.TheVariants as entry
 use Rattle.entry_codec.specs.Naming.{AreNames}
-use Rattle.entry_codec.specs.Spelling.{IsDef, Spells, counted, def_bytes, spelling_in}
+use Rattle.entry_codec.specs.Spelling.{IsDef, SpellsEntry, counted, def_bytes, spelling_in}
 use Rattle.entry_codec.specs.declared.naming.Format.TheVariants as format
-use Rattle.entry_codec.specs.Laws.{IsRead, SpellingsReadBack}
+use Rattle.entry_codec.specs.Laws.{IsEntryRead, EntriesReadBack}
 use Rattle.entry_codec.specs.declared.reading.EntryFound.{EntryFound}
 use Rattle.entry_codec.specs.declared.reading.EntryFound.TheVariants as found
 use Rattle.client_sharing.specs.declared.bodies.Saying.{Saying}
@@ -103,7 +103,7 @@ def_told bytes d e = go (spells_cut bytes) refl e where
 
 -- an entry that takes all of these bytes
 all_spelled : (bytes : List ℕ) (d : GroupValue) (used : ℕ) → used ≡ length (2 ∷ bytes)
-    → Spells (entry.Group d) (take used (2 ∷ bytes)) → def_of bytes ≡ Some d
+    → SpellsEntry (entry.Group d) (take used (2 ∷ bytes)) → def_of bytes ≡ Some d
 unfolding spelling_in
 all_spelled bytes d used all s =
     let front : take used (2 ∷ bytes) ≡ 2 ∷ bytes =
@@ -113,7 +113,7 @@ all_spelled bytes d used all s =
     ap def_of rest ∙ def_back d s.within
 
 -- no definition is found where these bytes spell none
-none_found : (bytes : List ℕ) (e : Entry) (used : ℕ) → Spells e (take used (2 ∷ bytes)) → def_of bytes ≡ None
+none_found : (bytes : List ℕ) (e : Entry) (used : ℕ) → SpellsEntry e (take used (2 ∷ bytes)) → def_of bytes ≡ None
     → whole_def (length (2 ∷ bytes)) (found.One e used) ≡ None
 none_found bytes (entry.Group d) used s none = go (nat_eq used (length (2 ∷ bytes))) refl where
   go : (b : Bool) → nat_eq used (length (2 ∷ bytes)) ≡ b → cond b (Some d) None ≡ None
@@ -126,11 +126,11 @@ none_found bytes _ used s none = refl
 no_names : AreNames []
 no_names = record { distinct = refl; whole = tt; few = omega arith }
 
-pub found_def : (bytes : List ℕ) (f : EntryFound) → SpellingsReadBack → IsRead (2 ∷ bytes) f
+pub found_def : (bytes : List ℕ) (f : EntryFound) → EntriesReadBack → IsEntryRead (2 ∷ bytes) f
     → whole_def (length (2 ∷ bytes)) f ≡ def_of bytes
 unfolding spelling_in
 found_def bytes f back is = go (def_of bytes) refl where
-  none : (x : EntryFound) → IsRead (2 ∷ bytes) x → def_of bytes ≡ None → whole_def (length (2 ∷ bytes)) x ≡ None
+  none : (x : EntryFound) → IsEntryRead (2 ∷ bytes) x → def_of bytes ≡ None → whole_def (length (2 ∷ bytes)) x ≡ None
   none (found.One e used) read e' = none_found bytes e used read.1 e'
   none found.BadEntry read e' = refl
 
@@ -139,10 +139,10 @@ found_def bytes f back is = go (def_of bytes) refl where
   go (Some d) e =
       let told = def_told bytes d e in
       let whole : ℕ = length (2 ∷ bytes) in
-      let spelled : Spells (entry.Group d) (2 ∷ bytes) =
+      let spelled : SpellsEntry (entry.Group d) (2 ∷ bytes) =
       record { kind = tt; within = told.0; named = tt; is = ap (λ (l : List ℕ). 2 ∷ l) told.1 } in
       let same : f ≡ found.One (entry.Group d) whole =
-      back format.Whole [] no_names (entry.Group d) (2 ∷ bytes) [] f spelled (subst (λ (l : List ℕ). IsRead l f) (sym (append-nil (2 ∷ bytes))) is) in
+      back format.Whole [] no_names (entry.Group d) (2 ∷ bytes) [] f spelled (subst (λ (l : List ℕ). IsEntryRead l f) (sym (append-nil (2 ∷ bytes))) is) in
       ap (whole_def whole) same ∙ ap (λ (b : Bool). cond b (Some d) None) (eq-eqb whole whole refl) ∙ sym e
 
 -- ---- bodies

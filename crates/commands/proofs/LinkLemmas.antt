@@ -9,7 +9,7 @@ use Rattle.commands.specs.declared.fault.WordsFault.TheVariants as fault
 use Rattle.sync_words.specs.declared.link_words.LinkWords.{LinkWords}
 use Rattle.commands.specs.declared.links.TheConstants.{FIRST_LINK, LINK_WORDS, MAX_LATENCY}
 use Rattle.commands.specs.Reading.{has_std}
-use Rattle.commands.specs.Reading.{Rest, word_then, link_then, has_ended, asks_links, is_left, Reads, Stops, ReadsLink, ReadsLinks, StopsLink, StopsLinks}
+use Rattle.commands.specs.Reading.{Rest, word_then, link_then, has_ended, asks_links, is_left, ReadsWord, StopsAtWord, ReadsLink, ReadsLinks, StopsLink, StopsLinks}
 use Rattle.commands.specs.Reading.Asked.{Usage, Do}
 use Rattle.sync_words.specs.Words.{number_in, positive_in, mode_in, spec_in}
 
@@ -30,14 +30,14 @@ module _ (before : List LinkWords) (words : List (List ℕ)) (place : ℕ) where
   moved : (rest : Rest) (m n : ℕ) → m ≡ n → rest m (drop m words) ≡ rest n (drop n words)
   moved rest m n same = ap (λ k. rest k (drop k words)) same
 
-  pub at_latency : (contact : ℕ) (mode : Mode) → Reads (number_in MAX_CONTACT) words place contact → Reads mode_in words (place + 1) mode → (next : LinkWords → Rest)
+  pub at_latency : (contact : ℕ) (mode : Mode) → ReadsWord (number_in MAX_CONTACT) words place contact → ReadsWord mode_in words (place + 1) mode → (next : LinkWords → Rest)
       → link_then before next place (drop place words) ≡ behind_mode before next contact mode (place + 2) (drop (place + 2) words)
   at_latency contact mode c m next =
       c (λ contact. behind_contact before next contact) ∙ m (λ mode. behind_mode before next contact mode)
       ∙ moved (behind_mode before next contact mode) (place + 1 + 1) (place + 2) (omega arith)
 
-  pub at_spec : (contact : ℕ) (mode : Mode) (latency : ℕ) → Reads (number_in MAX_CONTACT) words place contact → Reads mode_in words (place + 1) mode
-      → Reads (positive_in MAX_LATENCY) words (place + 2) latency → (next : LinkWords → Rest)
+  pub at_spec : (contact : ℕ) (mode : Mode) (latency : ℕ) → ReadsWord (number_in MAX_CONTACT) words place contact → ReadsWord mode_in words (place + 1) mode
+      → ReadsWord (positive_in MAX_LATENCY) words (place + 2) latency → (next : LinkWords → Rest)
       → link_then before next place (drop place words) ≡ behind_latency before next contact mode latency (place + 3) (drop (place + 3) words)
   at_spec contact mode latency c m l next =
       at_latency contact mode c m next ∙ l (λ latency. behind_latency before next contact mode latency)
@@ -46,7 +46,7 @@ module _ (before : List LinkWords) (words : List (List ℕ)) (place : ℕ) where
   -- a word that stops ends the link
   pub link_stopped : {V : Type 0} (read : List ℕ → Option V) (at : ℕ) (e : WordsFault) (behind : (LinkWords → Rest) → V → Rest)
       → ((next : LinkWords → Rest) → link_then before next place (drop place words) ≡ word_then read (behind next) at (drop at words))
-      → Stops read words at e → StopsLink before words place e
+      → StopsAtWord read words at e → StopsLink before words place e
   link_stopped read at (fault.Usage n) behind there stops = λ next. there next ∙ stops (behind next)
   link_stopped read at fault.Memory behind there stops = tt
 

@@ -4,7 +4,7 @@ use Rattle.std.specs.String.{string_bytes}
 use Rattle.std.specs.declared.alloc.Global.{Global}
 use Rattle.commands.specs.declared.fault.WordsFault.{WordsFault}
 use Rattle.commands.specs.declared.fault.WordsFault.TheVariants as fault
-use Rattle.commands.specs.Reading.{Asked, Rest, word_then, read_or_usage, Reads, Stops, IsReadAs}
+use Rattle.commands.specs.Reading.{Asked, Rest, word_then, read_or_usage, ReadsWord, StopsAtWord, IsReadAs}
 use Rattle.sync_words.specs.Words.{texts}
 
 -- ---- the word at a place
@@ -29,19 +29,19 @@ none_there (w ∷ words) (suc place) at = none_there words place at
 -- ---- what is asked for
 
 module _ {V : Type 0} (read : List ℕ → Option V) (words : List (List ℕ)) (place : ℕ) where
-  pub reads_by : (word : List ℕ) (value : V) → drop place words ≡ word ∷ drop (place + 1) words → read word ≡ Some value → Reads read words place value
+  pub reads_by : (word : List ℕ) (value : V) → drop place words ≡ word ∷ drop (place + 1) words → read word ≡ Some value → ReadsWord read words place value
   reads_by word value there is next =
       ap (word_then read next place) there ∙ ap (λ o. read_or_usage o next place (drop (place + 1) words)) is
 
-  pub stops_wrong : (word : List ℕ) → drop place words ≡ word ∷ drop (place + 1) words → read word ≡ None → Stops read words place (fault.Usage place)
+  pub stops_wrong : (word : List ℕ) → drop place words ≡ word ∷ drop (place + 1) words → read word ≡ None → StopsAtWord read words place (fault.Usage place)
   stops_wrong word there wrong next =
       ap (word_then read next place) there ∙ ap (λ o. read_or_usage o next place (drop (place + 1) words)) wrong
 
-  pub stops_missing : drop place words ≡ [] → Stops read words place (fault.Usage place)
+  pub stops_missing : drop place words ≡ [] → StopsAtWord read words place (fault.Usage place)
   stops_missing none next = ap (word_then read next place) none
 
   -- a word that stops ends the whole
-  pub stopped : (asked : Asked) (e : WordsFault) (next : V → Rest) → asked ≡ word_then read next place (drop place words) → Stops read words place e
+  pub stopped : (asked : Asked) (e : WordsFault) (next : V → Rest) → asked ≡ word_then read next place (drop place words) → StopsAtWord read words place e
       → IsReadAs asked (Err e)
   stopped asked (fault.Usage at) next is stops = is ∙ stops next
   stopped asked fault.Memory next is stops = tt

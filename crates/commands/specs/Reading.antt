@@ -213,26 +213,26 @@ abbrev pub IsCount : ℕ → Type 0
 IsCount n = (1 ≤ n) × (n ≤ MAX_TURNS)
 
 -- the parts of a command are within their limits
-abbrev pub IsWithin : Command → Type 0
-IsWithin (command.Try name descriptor) = IsName name × IsDescriptor descriptor
-IsWithin (command.Group name major descriptor) = IsName name × IsDescriptor descriptor
-IsWithin (command.Post group timestamp) = timestamp ≤ MAX_TIMESTAMP
-IsWithin (command.Say group timestamp join name major descriptor) =
+abbrev pub IsCommandWithin : Command → Type 0
+IsCommandWithin (command.Try name descriptor) = IsName name × IsDescriptor descriptor
+IsCommandWithin (command.Group name major descriptor) = IsName name × IsDescriptor descriptor
+IsCommandWithin (command.Post group timestamp) = timestamp ≤ MAX_TIMESTAMP
+IsCommandWithin (command.Say group timestamp join name major descriptor) =
     (timestamp ≤ MAX_TIMESTAMP) × IsName name × IsDescriptor descriptor
-IsWithin (command.MailboxOut contact latency count) = 1 ≤ latency
-IsWithin (command.Sync turns quiet links) = IsCount turns × IsCount quiet × AreLinks links
-IsWithin _ = Unit {0}
+IsCommandWithin (command.MailboxOut contact latency count) = 1 ≤ latency
+IsCommandWithin (command.Sync turns quiet links) = IsCount turns × IsCount quiet × AreLinks links
+IsCommandWithin _ = Unit {0}
 
 -- ---- a single word
 
 -- the word at this place was read as this value
-abbrev pub Reads : {V : Type 0} → (List ℕ → Option V) → List (List ℕ) → ℕ → V → Type 0
-Reads {V} read words place value = (next : V → Rest) → word_then read next place (drop place words) ≡ next value (place + 1) (drop (place + 1) words)
+abbrev pub ReadsWord : {V : Type 0} → (List ℕ → Option V) → List (List ℕ) → ℕ → V → Type 0
+ReadsWord {V} read words place value = (next : V → Rest) → word_then read next place (drop place words) ≡ next value (place + 1) (drop (place + 1) words)
 
 -- the word at this place is missing or wrong
-abbrev pub Stops : {V : Type 0} → (List ℕ → Option V) → List (List ℕ) → ℕ → WordsFault → Type 0
-Stops {V} read words place (fault.Usage at) = (next : V → Rest) → word_then read next place (drop place words) ≡ Usage at
-Stops {V} read words place fault.Memory = Unit {0}
+abbrev pub StopsAtWord : {V : Type 0} → (List ℕ → Option V) → List (List ℕ) → ℕ → WordsFault → Type 0
+StopsAtWord {V} read words place (fault.Usage at) = (next : V → Rest) → word_then read next place (drop place words) ≡ Usage at
+StopsAtWord {V} read words place fault.Memory = Unit {0}
 
 -- ---- links
 

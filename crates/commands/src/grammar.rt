@@ -4,7 +4,7 @@ ghost use Rattle.commands.specs.Reading.{asks, asks_agree, asks_of, asks_try, as
 ghost use Rattle.commands.specs.Reading.{asks_mailbox, asks_share, asks_sending, asks_taking};
 ghost use Rattle.commands.specs.Reading.{asks_post, asks_body, asks_say, asks_saying, asks_sync};
 ghost use Rattle.commands.specs.Reading.{asks_tree, ends};
-ghost use Rattle.commands.specs.Reading.{IsReadAs, IsWithin, plain_in};
+ghost use Rattle.commands.specs.Reading.{IsReadAs, IsCommandWithin, plain_in};
 ghost use Rattle.sync_words.specs.Words.{texts};
 
 use crate::command::Command;
@@ -38,7 +38,7 @@ pub const MAX_TURNS: u64 = 1_000_000;
 /// want of memory.
 pub fn read_words(alloc: Global, words: &[String]) -> Result<Command, WordsFault>
     ensures read { IsReadAs (asks (texts words.now)) result }
-    ensures within { IfOk result IsWithin }
+    ensures within { IfOk result IsCommandWithin }
 {
     match words.first() {
         Some(word) => read_command(alloc, word.as_str(), words),
@@ -49,7 +49,7 @@ pub fn read_words(alloc: Global, words: &[String]) -> Result<Command, WordsFault
 // Reads the words behind the first one.
 fn read_command(alloc: Global, word: &str, words: &[String]) -> Result<Command, WordsFault>
     ensures read { IsReadAs (asks_of word.now 1 (drop 1 (texts words.now))) result }
-    ensures within { IfOk result IsWithin }
+    ensures within { IfOk result IsCommandWithin }
 {
     match word {
         "try" => read_try(alloc, words),
@@ -72,7 +72,7 @@ fn read_command(alloc: Global, word: &str, words: &[String]) -> Result<Command, 
 // The command without parts of this word.
 fn plain(word: &str) -> Option<Command>
     ensures value { result ≡ plain_in word.now }
-    ensures within { IfSome result IsWithin }
+    ensures within { IfSome result IsCommandWithin }
 {
     match word {
         "records" => Some(Command::Records),
@@ -99,7 +99,7 @@ fn read_end(words: &[String], place: usize, command: Command) -> Result<Command,
 
 fn read_try(alloc: Global, words: &[String]) -> Result<Command, WordsFault>
     ensures read { IsReadAs (asks_try 1 (drop 1 (texts words.now))) result }
-    ensures within { IfOk result IsWithin }
+    ensures within { IfOk result IsCommandWithin }
 {
     let name = name_at(alloc, words, 1)?;
     let descriptor = descriptor_at(alloc, words, 2)?;
@@ -108,7 +108,7 @@ fn read_try(alloc: Global, words: &[String]) -> Result<Command, WordsFault>
 
 fn read_group(alloc: Global, words: &[String]) -> Result<Command, WordsFault>
     ensures read { IsReadAs (asks_group 1 (drop 1 (texts words.now))) result }
-    ensures within { IfOk result IsWithin }
+    ensures within { IfOk result IsCommandWithin }
 {
     let name = name_at(alloc, words, 1)?;
     let major = number_at(words, 2, MAX_MAJOR)?;
@@ -118,7 +118,7 @@ fn read_group(alloc: Global, words: &[String]) -> Result<Command, WordsFault>
 
 fn read_share(words: &[String]) -> Result<Command, WordsFault>
     ensures read { IsReadAs (asks_share 1 (drop 1 (texts words.now))) result }
-    ensures within { IfOk result IsWithin }
+    ensures within { IfOk result IsCommandWithin }
 {
     let contact = number_at(words, 1, MAX_CONTACT)?;
     let group = id_at(words, 2)?;
@@ -128,7 +128,7 @@ fn read_share(words: &[String]) -> Result<Command, WordsFault>
 
 fn read_post(words: &[String]) -> Result<Command, WordsFault>
     ensures read { IsReadAs (asks_post 1 (drop 1 (texts words.now))) result }
-    ensures within { IfOk result IsWithin }
+    ensures within { IfOk result IsCommandWithin }
 {
     let group = id_at(words, 1)?;
     let timestamp = number_at(words, 2, MAX_TIMESTAMP)?;
@@ -137,7 +137,7 @@ fn read_post(words: &[String]) -> Result<Command, WordsFault>
 
 fn read_body(words: &[String]) -> Result<Command, WordsFault>
     ensures read { IsReadAs (asks_body 1 (drop 1 (texts words.now))) result }
-    ensures within { IfOk result IsWithin }
+    ensures within { IfOk result IsCommandWithin }
 {
     let id = id_at(words, 1)?;
     read_end(words, 2, Command::Body(id))
@@ -145,7 +145,7 @@ fn read_body(words: &[String]) -> Result<Command, WordsFault>
 
 fn read_tree(words: &[String]) -> Result<Command, WordsFault>
     ensures read { IsReadAs (asks_tree 1 (drop 1 (texts words.now))) result }
-    ensures within { IfOk result IsWithin }
+    ensures within { IfOk result IsCommandWithin }
 {
     let group = id_at(words, 1)?;
     let from = number_at(words, 2, MAX_WALK)?;
@@ -155,7 +155,7 @@ fn read_tree(words: &[String]) -> Result<Command, WordsFault>
 
 fn read_say(alloc: Global, words: &[String]) -> Result<Command, WordsFault>
     ensures read { IsReadAs (asks_say 1 (drop 1 (texts words.now))) result }
-    ensures within { IfOk result IsWithin }
+    ensures within { IfOk result IsCommandWithin }
 {
     let group = id_at(words, 1)?;
     let timestamp = number_at(words, 2, MAX_TIMESTAMP)?;
@@ -174,7 +174,7 @@ fn read_saying(
     requires { timestamp ≤ MAX_TIMESTAMP }
     ensures read { IsReadAs (asks_saying group timestamp join 4 (drop 4 (texts words.now)))
         result }
-    ensures within { IfOk result IsWithin }
+    ensures within { IfOk result IsCommandWithin }
 {
     let name = name_at(alloc, words, 4)?;
     let major = number_at(words, 5, MAX_MAJOR)?;
@@ -185,7 +185,7 @@ fn read_saying(
 
 fn read_agree(words: &[String]) -> Result<Command, WordsFault>
     ensures read { IsReadAs (asks_agree 1 (drop 1 (texts words.now))) result }
-    ensures within { IfOk result IsWithin }
+    ensures within { IfOk result IsCommandWithin }
 {
     let contact = number_at(words, 1, MAX_CONTACT)?;
     let group = id_at(words, 2)?;
@@ -194,7 +194,7 @@ fn read_agree(words: &[String]) -> Result<Command, WordsFault>
 
 fn read_mailbox(words: &[String]) -> Result<Command, WordsFault>
     ensures read { IsReadAs (asks_mailbox 1 (drop 1 (texts words.now))) result }
-    ensures within { IfOk result IsWithin }
+    ensures within { IfOk result IsCommandWithin }
 {
     let inward = way_at(words, 1)?;
     if inward {
@@ -207,7 +207,7 @@ fn read_mailbox(words: &[String]) -> Result<Command, WordsFault>
 // Reads whose file is read.
 fn read_taking(words: &[String]) -> Result<Command, WordsFault>
     ensures read { IsReadAs (asks_taking 2 (drop 2 (texts words.now))) result }
-    ensures within { IfOk result IsWithin }
+    ensures within { IfOk result IsCommandWithin }
 {
     let contact = number_at(words, 2, MAX_CONTACT)?;
     read_end(words, 3, Command::MailboxIn(contact as u8))
@@ -216,7 +216,7 @@ fn read_taking(words: &[String]) -> Result<Command, WordsFault>
 // Reads for whom a file is written, and how.
 fn read_sending(words: &[String]) -> Result<Command, WordsFault>
     ensures read { IsReadAs (asks_sending 2 (drop 2 (texts words.now))) result }
-    ensures within { IfOk result IsWithin }
+    ensures within { IfOk result IsCommandWithin }
 {
     let contact = number_at(words, 2, MAX_CONTACT)?;
     let latency = positive_at(words, 3, MAX_LATENCY)?;
@@ -227,7 +227,7 @@ fn read_sending(words: &[String]) -> Result<Command, WordsFault>
 
 fn read_sync(alloc: Global, words: &[String]) -> Result<Command, WordsFault>
     ensures read { IsReadAs (asks_sync 1 (drop 1 (texts words.now))) result }
-    ensures within { IfOk result IsWithin }
+    ensures within { IfOk result IsCommandWithin }
 {
     let turns = positive_at(words, 1, MAX_TURNS)?;
     let quiet = positive_at(words, 2, MAX_TURNS)?;

@@ -1,6 +1,6 @@
 // The words of a command line, one by one.
 ghost use Rattle.std.specs.Prelude.{◌≡◌, ◌+◌, ◌≤◌, ◌∷◌, [], drop, IfOk, IfErr, MatchOption};
-ghost use Rattle.commands.specs.Reading.{is_left, IsDescriptor, IsName, Reads, Stops};
+ghost use Rattle.commands.specs.Reading.{is_left, IsDescriptor, IsName, ReadsWord, StopsAtWord};
 ghost use Rattle.commands.specs.Reading.{stance_in, way_in};
 ghost use Rattle.sync_words.specs.Words.{name_in, descriptor_in, number_in, positive_in, id_in};
 ghost use Rattle.sync_words.specs.Words.{level_in, mode_in, spec_in, texts};
@@ -24,9 +24,9 @@ fn word_at(words: &[String], place: usize) -> Option<&str>
 
 /// Reads the word at this place as a client's name.
 pub fn name_at(alloc: Global, words: &[String], place: usize) -> Result<Word, WordsFault>
-    ensures ok { IfOk result (Reads name_in (texts words.now) place) }
+    ensures ok { IfOk result (ReadsWord name_in (texts words.now) place) }
     ensures within { IfOk result IsName }
-    ensures err { IfErr result (Stops name_in (texts words.now) place) }
+    ensures err { IfErr result (StopsAtWord name_in (texts words.now) place) }
 {
     match word_at(words, place) {
         Some(word) if (1..=MAX_NAME).contains(&word.len()) => copied(alloc, word),
@@ -36,9 +36,9 @@ pub fn name_at(alloc: Global, words: &[String], place: usize) -> Result<Word, Wo
 
 /// Reads the word at this place as a descriptor.
 pub fn descriptor_at(alloc: Global, words: &[String], place: usize) -> Result<Word, WordsFault>
-    ensures ok { IfOk result (Reads descriptor_in (texts words.now) place) }
+    ensures ok { IfOk result (ReadsWord descriptor_in (texts words.now) place) }
     ensures within { IfOk result IsDescriptor }
-    ensures err { IfErr result (Stops descriptor_in (texts words.now) place) }
+    ensures err { IfErr result (StopsAtWord descriptor_in (texts words.now) place) }
 {
     match word_at(words, place) {
         Some(word) if word.len() <= MAX_DESCRIPTOR => copied(alloc, word),
@@ -56,9 +56,9 @@ fn copied(alloc: Global, word: &str) -> Result<Word, WordsFault>
 
 /// Reads the word at this place as a number, at most `most`.
 pub fn number_at(words: &[String], place: usize, most: u64) -> Result<u64, WordsFault>
-    ensures ok { IfOk result (Reads (number_in most) (texts words.now) place) }
+    ensures ok { IfOk result (ReadsWord (number_in most) (texts words.now) place) }
     ensures most { IfOk result (λ n. n ≤ most) }
-    ensures err { IfErr result (Stops (number_in most) (texts words.now) place) }
+    ensures err { IfErr result (StopsAtWord (number_in most) (texts words.now) place) }
 {
     match word_at(words, place) {
         Some(word) => number(word, most).ok_or(WordsFault::Usage(place)),
@@ -68,10 +68,10 @@ pub fn number_at(words: &[String], place: usize, most: u64) -> Result<u64, Words
 
 /// Reads the word at this place as a number from 1 to `most`.
 pub fn positive_at(words: &[String], place: usize, most: u64) -> Result<u64, WordsFault>
-    ensures ok { IfOk result (Reads (positive_in most) (texts words.now) place) }
+    ensures ok { IfOk result (ReadsWord (positive_in most) (texts words.now) place) }
     ensures least { IfOk result (λ n. 1 ≤ n) }
     ensures most { IfOk result (λ n. n ≤ most) }
-    ensures err { IfErr result (Stops (positive_in most) (texts words.now) place) }
+    ensures err { IfErr result (StopsAtWord (positive_in most) (texts words.now) place) }
 {
     match word_at(words, place) {
         Some(word) => positive(word, most).ok_or(WordsFault::Usage(place)),
@@ -81,8 +81,8 @@ pub fn positive_at(words: &[String], place: usize, most: u64) -> Result<u64, Wor
 
 /// Reads the word at this place as an id.
 pub fn id_at(words: &[String], place: usize) -> Result<Fixed<32>, WordsFault>
-    ensures ok { IfOk result (Reads id_in (texts words.now) place) }
-    ensures err { IfErr result (Stops id_in (texts words.now) place) }
+    ensures ok { IfOk result (ReadsWord id_in (texts words.now) place) }
+    ensures err { IfErr result (StopsAtWord id_in (texts words.now) place) }
 {
     match word_at(words, place) {
         Some(word) => id(word).ok_or(WordsFault::Usage(place)),
@@ -92,8 +92,8 @@ pub fn id_at(words: &[String], place: usize) -> Result<Fixed<32>, WordsFault>
 
 /// Reads the word at this place as a level.
 pub fn level_at(words: &[String], place: usize) -> Result<Level, WordsFault>
-    ensures ok { IfOk result (Reads level_in (texts words.now) place) }
-    ensures err { IfErr result (Stops level_in (texts words.now) place) }
+    ensures ok { IfOk result (ReadsWord level_in (texts words.now) place) }
+    ensures err { IfErr result (StopsAtWord level_in (texts words.now) place) }
 {
     match word_at(words, place) {
         Some(word) => level(word).ok_or(WordsFault::Usage(place)),
@@ -103,8 +103,8 @@ pub fn level_at(words: &[String], place: usize) -> Result<Level, WordsFault>
 
 /// Reads the word at this place as a mode.
 pub fn mode_at(words: &[String], place: usize) -> Result<Mode, WordsFault>
-    ensures ok { IfOk result (Reads mode_in (texts words.now) place) }
-    ensures err { IfErr result (Stops mode_in (texts words.now) place) }
+    ensures ok { IfOk result (ReadsWord mode_in (texts words.now) place) }
+    ensures err { IfErr result (StopsAtWord mode_in (texts words.now) place) }
 {
     match word_at(words, place) {
         Some(word) => mode(word).ok_or(WordsFault::Usage(place)),
@@ -114,8 +114,8 @@ pub fn mode_at(words: &[String], place: usize) -> Result<Mode, WordsFault>
 
 /// Reads the word at this place as a stance: whether it is to join.
 pub fn stance_at(words: &[String], place: usize) -> Result<bool, WordsFault>
-    ensures ok { IfOk result (Reads stance_in (texts words.now) place) }
-    ensures err { IfErr result (Stops stance_in (texts words.now) place) }
+    ensures ok { IfOk result (ReadsWord stance_in (texts words.now) place) }
+    ensures err { IfErr result (StopsAtWord stance_in (texts words.now) place) }
 {
     match word_at(words, place) {
         Some(word) => stance(word).ok_or(WordsFault::Usage(place)),
@@ -136,8 +136,8 @@ fn stance(word: &str) -> Option<bool>
 
 /// Reads the word at this place as the way of a mailbox file: whether it comes in.
 pub fn way_at(words: &[String], place: usize) -> Result<bool, WordsFault>
-    ensures ok { IfOk result (Reads way_in (texts words.now) place) }
-    ensures err { IfErr result (Stops way_in (texts words.now) place) }
+    ensures ok { IfOk result (ReadsWord way_in (texts words.now) place) }
+    ensures err { IfErr result (StopsAtWord way_in (texts words.now) place) }
 {
     match word_at(words, place) {
         Some(word) => way(word).ok_or(WordsFault::Usage(place)),
@@ -164,8 +164,8 @@ pub fn spec_at(
     place: usize,
     has_std: bool,
 ) -> Result<Word, WordsFault>
-    ensures ok { IfOk result (Reads (spec_in has_std) (texts words.now) place) }
-    ensures err { IfErr result (Stops (spec_in has_std) (texts words.now) place) }
+    ensures ok { IfOk result (ReadsWord (spec_in has_std) (texts words.now) place) }
+    ensures err { IfErr result (StopsAtWord (spec_in has_std) (texts words.now) place) }
 {
     match word_at(words, place) {
         Some(word) if is_spec(word) && !(has_std && is_std(word)) => copied(alloc, word),

@@ -36,6 +36,6 @@ pub record IsShape (height leaves count : ℕ) : Type 0 where
   pub ended : count ≤ 2 * leaves
 
 -- a tree of that height, whole
-pub record IsWhole (height leaves : ℕ) (cells : List (Option ℕ)) : Type 0 where
+pub record IsTreeWhole (height leaves : ℕ) (cells : List (Option ℕ)) : Type 0 where
   pub shape : IsShape height leaves (length cells)
   pub tree : IsTree leaves cells

@@ -3,7 +3,7 @@ ghost use Rattle.std.specs.Prelude.{◌≡◌, ◌+◌, ◌-◌, ◌*◌, ◌^�
 ghost use Rattle.std.specs.Prelude.{IfNone, None, length, drop, slice_set, replicate, vec_len};
 ghost use Rattle.due_tree.specs.Due.{is_due};
 ghost use Rattle.due_tree.specs.Cells.{lesser, at, least_below, IsTree, IsTreeBut, IsClear};
-ghost use Rattle.due_tree.specs.Cells.{IsShape, IsWhole};
+ghost use Rattle.due_tree.specs.Cells.{IsShape, IsTreeWhole};
 
 use std::alloc::AllocError;
 
@@ -123,7 +123,7 @@ pub(crate) fn first_cell(
     from: usize,
     bound: u64,
 ) -> Option<usize>
-    requires whole { IsWhole height leaves cells.now }
+    requires whole { IsTreeWhole height leaves cells.now }
     requires begins { leaves ≤ from }
     requires ends { from < 2 * leaves }
     ensures least { IfSome result (λ cell. from ≤ cell) }

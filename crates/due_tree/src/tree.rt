@@ -19,13 +19,13 @@ pub struct DueTree {
 
 impl Model for DueTree {
     ghost use Rattle.std.specs.Prelude.{ℕ, List, Option, drop};
-    ghost use Rattle.due_tree.specs.Cells.{IsWhole};
+    ghost use Rattle.due_tree.specs.Cells.{IsTreeWhole};
 
     ghost Value = { List (Option ℕ) };
 
     ghost view = { λ t. drop t.leaves t.cells.items };
 
-    ghost invariant = { λ t. IsWhole t.height t.leaves t.cells.items };
+    ghost invariant = { λ t. IsTreeWhole t.height t.leaves t.cells.items };
 }
 
 impl DueTree {

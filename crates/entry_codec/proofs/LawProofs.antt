@@ -9,7 +9,7 @@ use Rattle.entry_codec.specs.declared.naming.Format.{Format}
 use Rattle.entry_codec.specs.declared.naming.Format.TheVariants as format
 use Rattle.entry_codec.specs.Naming.{AreNames, IsNamed, held_bytes}
 use Rattle.entry_codec.specs.Payloads.{payload_len, spellings}
-use Rattle.entry_codec.specs.Spelling.{EntryNames, IsEntry, IsOfFormat, Spells, SpellsIn, entry_bytes, spelling, spelling_in}
+use Rattle.entry_codec.specs.Spelling.{EntryNames, IsEntry, IsOfFormat, SpellsEntry, SpellsIn, entry_bytes, spelling, spelling_in}
 use Rattle.entry_codec.specs.Reading.{entry_by, held_in}
 use Rattle.entry_codec.specs.Laws.{IsReadIn}
 use Rattle.entry_codec.specs.declared.reading.EntryFound.{EntryFound}
@@ -81,7 +81,7 @@ module _ (f : Format) (names : List (List ℕ)) (are : AreNames names) where
 
 -- ---- lengths
 
-pub short_spelling : (e : Entry) (bytes : List ℕ) → Spells e bytes → (2 ≤ length bytes) × (length bytes ≤ MAX_SPELLING)
+pub short_spelling : (e : Entry) (bytes : List ℕ) → SpellsEntry e bytes → (2 ≤ length bytes) × (length bytes ≤ MAX_SPELLING)
 unfolding spelling spelling_in
 short_spelling e bytes s = let bounds = short e s.within in let len : length bytes ≡ length (spelling e) = ap length s.is in (omega (arith, bounds.0, len), omega (arith, bounds.1, len))
 

@@ -7,7 +7,7 @@ use Rattle.std.proofs.lemmas.List.{append_assoc, append-nil}
 use Rattle.entry_codec.specs.declared.stop.Stop.{Stop}
 use Rattle.entry_codec.specs.declared.stop.Stop.TheVariants as stop
 use Rattle.entry_codec.specs.declared.naming.Format.{Format}
-use Rattle.entry_codec.specs.Answers.{Reads, ReadsList}
+use Rattle.entry_codec.specs.Answers.{ReadsPartFrom, ReadsList}
 use Rattle.entry_codec.specs.Reading.{IdReader, be_number_in, byte_in, chained, entry_by, entry_of, front_in, heard_of, ids_in, is_between, list_in, made, meant, moved_of, name_in, out_in, out_of, pair_in, passed}
 use Rattle.sync_ids.specs.declared.lists.TheConstants.{MAX_IDS}
 use Rattle.sync_rules.specs.declared.entries.Entry.{Entry}
@@ -35,7 +35,7 @@ list_none p xs n b e = rw e refl
 
 -- a part of a list is not read
 pub list_stops : {A : Type 0} → (p : List ℕ → Option (A × List ℕ)) (xs : List A) (count n m : ℕ) (b old new : List ℕ) (s : Stop)
-    → list_in p count old ≡ made (λ more. xs ++ more) (list_in p n b) → n ≡ suc m → Reads p b (Err s) new → ReadsList (list_in p count) old (Err s) new
+    → list_in p count old ≡ made (λ more. xs ++ more) (list_in p n b) → n ≡ suc m → ReadsPartFrom p b (Err s) new → ReadsList (list_in p count) old (Err s) new
 list_stops p xs count n m b old new stop.BadEntry e some none = e ∙ ap (λ (k : ℕ). made (λ more. xs ++ more) (list_in p k b)) some ∙ list_none p xs m b none
 list_stops p xs count n m b old new stop.Memory e some none = tt
 
@@ -48,7 +48,7 @@ list_done {A} p xs b = ap (λ (ys : List A). Some (ys, b)) (append-nil xs)
 
 -- the ids behind their number are not read
 pub ids_stop : (p : IdReader) (b rest new : List ℕ) (count : ℕ) (s : Stop) → passed (is_between 1 MAX_IDS) (be_number_in w16 b) ≡ Some (count, rest)
-    → ReadsList (list_in p count) rest (Err s) new → Reads (ids_in p) b (Err s) new
+    → ReadsList (list_in p count) rest (Err s) new → ReadsPartFrom (ids_in p) b (Err s) new
 unfolding ids_in
 ids_stop p b rest new count stop.BadEntry first none = ap (chained (list_in p)) first ∙ none
 ids_stop p b rest new count stop.Memory first none = tt
@@ -64,14 +64,14 @@ out_ok p q make b rest new kind k a first same is read =
     kind_read p b rest kind first ∙ ap (λ (n : ℕ). out_of p n rest) same ∙ is rest ∙ ap (made make) read
 
 pub out_stop : {A : Type 0} (p : IdReader) (q : List ℕ → Option (A × List ℕ)) (make : A → Out) (b rest new : List ℕ) (kind k : ℕ) (s : Stop)
-    → byte_in b ≡ Some (kind, rest) → kind ≡ k → ((x : List ℕ) → out_of p k x ≡ made make (q x)) → Reads q rest (Err s) new → Reads (out_in p) b (Err s) new
+    → byte_in b ≡ Some (kind, rest) → kind ≡ k → ((x : List ℕ) → out_of p k x ≡ made make (q x)) → ReadsPartFrom q rest (Err s) new → ReadsPartFrom (out_in p) b (Err s) new
 out_stop p q make b rest new kind k stop.BadEntry first same is none =
     kind_read p b rest kind first ∙ ap (λ (n : ℕ). out_of p n rest) same ∙ is rest ∙ ap (made make) none
 out_stop p q make b rest new kind k stop.Memory first same is none = tt
 
 -- an output, behind the numbers of its session and of its time, is not read
 pub moved_stop : (p : IdReader) (b first_left left new : List ℕ) (tag session now : ℕ) (s : Stop) → tag ≡ 15 → be_number_in w32 b ≡ Some (session, first_left)
-    → be_number_in w64 first_left ≡ Some (now, left) → Reads (out_in p) left (Err s) new → Reads (moved_of p tag) b (Err s) new
+    → be_number_in w64 first_left ≡ Some (now, left) → ReadsPartFrom (out_in p) left (Err s) new → ReadsPartFrom (moved_of p tag) b (Err s) new
 moved_stop p b first_left left new tag session now stop.BadEntry same first second none = rw (same, first, second, none) refl
 moved_stop p b first_left left new tag session now stop.Memory same first second none = tt
 
@@ -86,7 +86,7 @@ heard_read f p b rest tag k first same is =
     tag_read f p b rest tag first ∙ ap (λ (n : ℕ). entry_of f p n rest) same ∙ is rest ∙ ap (λ (n : ℕ). meant (heard_of n) (pair_in p rest)) (sym same)
 
 pub heard_by : (f : Format) (p : IdReader) (b rest new : List ℕ) (tag k : ℕ) (r : Result Entry Stop) → byte_in b ≡ Some (tag, rest) → tag ≡ k
-    → ((x : List ℕ) → entry_of f p k x ≡ meant (heard_of k) (pair_in p x)) → Reads (λ x. meant (heard_of tag) (pair_in p x)) rest r new → Reads (entry_by f p) b r new
+    → ((x : List ℕ) → entry_of f p k x ≡ meant (heard_of k) (pair_in p x)) → ReadsPartFrom (λ x. meant (heard_of tag) (pair_in p x)) rest r new → ReadsPartFrom (entry_by f p) b r new
 heard_by f p b rest new tag k (Ok e) first same is read = heard_read f p b rest tag k first same is ∙ read
 heard_by f p b rest new tag k (Err stop.BadEntry) first same is read = heard_read f p b rest tag k first same is ∙ read
 heard_by f p b rest new tag k (Err stop.Memory) first same is read = tt

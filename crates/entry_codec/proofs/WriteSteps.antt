@@ -2,7 +2,7 @@
 use Rattle.std.proofs.Common.{◌≡◌, ℕ, List, ◌++◌, ap, ◌∙◌, append_assoc, refl}
 use Rattle.std.specs.Prelude.{Result, Ok, Err, OnOk}
 use Rattle.sync_rules.specs.declared.entries.Entry.{Entry}
-use Rattle.entry_codec.specs.Spelling.{AddsTo, IsEntry, IsOld, Spells, spelling, spelling_in}
+use Rattle.entry_codec.specs.Spelling.{AddsTo, IsEntry, IsOld, SpellsEntry, spelling, spelling_in}
 use Rattle.entry_codec.proofs.Entries.{entry_free}
 
 -- three pieces, one behind the other
@@ -13,7 +13,7 @@ three (Ok t) old first second new a b o e f g =
 three (Err t) old first second new a b o e f g = tt
 
 -- a spelling of the first format
-pub spells_whole : {T E : Type 0} (r : Result T E) (e : Entry) → IsOld e → OnOk r (IsEntry e) → OnOk r (Spells e (spelling e))
+pub spells_whole : {T E : Type 0} (r : Result T E) (e : Entry) → IsOld e → OnOk r (IsEntry e) → OnOk r (SpellsEntry e (spelling e))
 unfolding spelling spelling_in
 spells_whole (Ok t) e old is = record { kind = old; within = is; named = entry_free e; is = refl }
 spells_whole (Err t) e old is = tt

@@ -6,10 +6,10 @@ use Rattle.entry_codec.specs.declared.stop.Stop.{Stop}
 use Rattle.entry_codec.specs.declared.stop.Stop.TheVariants as stop
 
 -- a part is read from the front of some bytes, and the rest is left; or no such part stands there
-abbrev pub Reads : {A : Type 0} → (List ℕ → Option (A × List ℕ)) → List ℕ → Result A Stop → List ℕ → Type 0
-Reads p old (Ok a) new = p old ≡ Some (a, new)
-Reads p old (Err stop.BadEntry) new = p old ≡ None
-Reads p old (Err stop.Memory) new = Unit {0}
+abbrev pub ReadsPartFrom : {A : Type 0} → (List ℕ → Option (A × List ℕ)) → List ℕ → Result A Stop → List ℕ → Type 0
+ReadsPartFrom p old (Ok a) new = p old ≡ Some (a, new)
+ReadsPartFrom p old (Err stop.BadEntry) new = p old ≡ None
+ReadsPartFrom p old (Err stop.Memory) new = Unit {0}
 
 -- the same of bytes that are lent
 abbrev pub ReadsSlice : (List ℕ → Option (List ℕ × List ℕ)) → List ℕ → Result (Bor (List ℕ)) Stop → List ℕ → Type 0

@@ -10,7 +10,7 @@ use Rattle.sync_rules.specs.Lists.{is_among}
 use Rattle.entry_codec.specs.declared.lengths.TheConstants.{MAX_BATCH_LEN, MAX_SPELLING}
 use Rattle.entry_codec.specs.Payloads.{payload_len}
 use Rattle.entry_codec.specs.Naming.{AreNames}
-use Rattle.entry_codec.specs.Spelling.{EntryNames, IsEntry, Spells, SpellsIn, spelling, spelling_in}
+use Rattle.entry_codec.specs.Spelling.{EntryNames, IsEntry, SpellsEntry, SpellsIn, spelling, spelling_in}
 use Rattle.entry_codec.specs.declared.naming.Format.{Format}
 use Rattle.entry_codec.specs.declared.naming.Format.TheVariants as format
 use Rattle.entry_codec.specs.declared.reading.EntryFound.{EntryFound}
@@ -23,22 +23,22 @@ IsReadIn f names bytes (found.One e used) = (used ≤ length bytes) × SpellsIn 
 IsReadIn f names bytes found.BadEntry = (e : Entry) (used : ℕ) → SpellsIn f names e (take used bytes) → ⊥
 
 -- the same in the first format
-abbrev pub IsRead : List ℕ → EntryFound → Type 0
-IsRead bytes found = IsReadIn format.Whole [] bytes found
+abbrev pub IsEntryRead : List ℕ → EntryFound → Type 0
+IsEntryRead bytes found = IsReadIn format.Whole [] bytes found
 
 -- whatever is found where an entry is spelled is that entry, whatever follows, in each format
-abbrev pub SpellingsReadBack : Type 0
-SpellingsReadBack = (f : Format) (names : List (List ℕ)) → AreNames names → (e : Entry) (bytes more : List ℕ) (read : EntryFound)
+abbrev pub EntriesReadBack : Type 0
+EntriesReadBack = (f : Format) (names : List (List ℕ)) → AreNames names → (e : Entry) (bytes more : List ℕ) (read : EntryFound)
     → SpellsIn f names e bytes → IsReadIn f names (bytes ++ more) read → read ≡ found.One e (length bytes)
 
 -- no entry's bytes begin another's, and bytes spell one entry at most, in each format
-abbrev pub NoneBeginsAnother : Type 0
-NoneBeginsAnother = (f : Format) (names : List (List ℕ)) → AreNames names → (e d : Entry) (bytes more : List ℕ)
+abbrev pub NoEntryBeginsAnother : Type 0
+NoEntryBeginsAnother = (f : Format) (names : List (List ℕ)) → AreNames names → (e d : Entry) (bytes more : List ℕ)
     → SpellsIn f names e bytes → SpellsIn f names d (bytes ++ more) → (e ≡ d) × (more ≡ [])
 
 -- every spelling of the first format has 2 to MAX_SPELLING bytes
 abbrev pub SpellingsAreShort : Type 0
-SpellingsAreShort = (e : Entry) (bytes : List ℕ) → Spells e bytes → (2 ≤ length bytes) × (length bytes ≤ MAX_SPELLING)
+SpellingsAreShort = (e : Entry) (bytes : List ℕ) → SpellsEntry e bytes → (2 ≤ length bytes) × (length bytes ≤ MAX_SPELLING)
 
 -- a spelling of the second format has 2 bytes or more, and is never longer than it would be with whole ids
 abbrev pub ShortIsNotLonger : Type 0

@@ -245,8 +245,8 @@ pub record SpellsIn (f : Format) (names : List (List ℕ)) (e : Entry) (bytes : 
   pub is : bytes ≡ spelling_in f names e
 
 -- the same in the first format, which asks for no names
-abbrev pub Spells : Entry → List ℕ → Type 0
-Spells e bytes = SpellsIn format.Whole [] e bytes
+abbrev pub SpellsEntry : Entry → List ℕ → Type 0
+SpellsEntry e bytes = SpellsIn format.Whole [] e bytes
 
 -- what an entry has to keep of itself to be written: a session has a latency of at least 1, and a row may be stated
 abbrev pub MayBeWritten : Entry → Type 0

@@ -3,7 +3,7 @@ ghost use Rattle.std.specs.Prelude.{◌≡◌, ◌≤◌, Some, None, MatchResul
 ghost use Rattle.std.specs.Prelude.{nat_lt};
 ghost use Rattle.std.specs.Int.{w16, w32, w64};
 ghost use Rattle.std.specs.Str.{IsUtf8};
-ghost use Rattle.entry_codec.specs.Answers.{Reads, ReadsSlice};
+ghost use Rattle.entry_codec.specs.Answers.{ReadsPartFrom, ReadsSlice};
 ghost use Rattle.entry_codec.specs.Reading.{byte_in, counted_in, front_in, held_in, id_in};
 ghost use Rattle.entry_codec.specs.Reading.{is_between, name_in, be_number_in, passed, time_in};
 ghost use Rattle.entry_codec.specs.Reading.{latency_in};
@@ -21,7 +21,7 @@ pub(crate) struct Front<'a> {
 impl<'a> Front<'a> {
     #[tactic(auto, unfolding(crate::specs::Reading::byte_in))]
     pub(crate) fn read_byte(&mut self) -> Result<u8, Stop>
-        ensures { Reads byte_in self.old.rest.now result self.new.rest.now }
+        ensures { ReadsPartFrom byte_in self.old.rest.now result self.new.rest.now }
     {
         let Some((byte, rest)) = self.rest.split_first() else {
             return Err(Stop::BadEntry);
@@ -45,7 +45,7 @@ impl<'a> Front<'a> {
 
     #[tactic(auto, unfolding(crate::specs::Reading::be_number_in))]
     pub(crate) fn read_u16(&mut self) -> Result<u16, Stop>
-        ensures { Reads (be_number_in w16) self.old.rest.now result self.new.rest.now }
+        ensures { ReadsPartFrom (be_number_in w16) self.old.rest.now result self.new.rest.now }
     {
         let mut bytes = [0; 2];
         bytes.copy_from_slice(self.read_front(2)?);
@@ -54,7 +54,7 @@ impl<'a> Front<'a> {
 
     #[tactic(auto, unfolding(crate::specs::Reading::be_number_in))]
     pub(crate) fn read_u32(&mut self) -> Result<u32, Stop>
-        ensures { Reads (be_number_in w32) self.old.rest.now result self.new.rest.now }
+        ensures { ReadsPartFrom (be_number_in w32) self.old.rest.now result self.new.rest.now }
     {
         let mut bytes = [0; 4];
         bytes.copy_from_slice(self.read_front(4)?);
@@ -63,7 +63,7 @@ impl<'a> Front<'a> {
 
     #[tactic(auto, unfolding(crate::specs::Reading::be_number_in))]
     pub(crate) fn read_u64(&mut self) -> Result<u64, Stop>
-        ensures { Reads (be_number_in w64) self.old.rest.now result self.new.rest.now }
+        ensures { ReadsPartFrom (be_number_in w64) self.old.rest.now result self.new.rest.now }
     {
         let mut bytes = [0; 8];
         bytes.copy_from_slice(self.read_front(8)?);
@@ -71,7 +71,7 @@ impl<'a> Front<'a> {
     }
 
     pub(crate) fn read_id(&mut self) -> Result<MessageId, Stop>
-        ensures { Reads id_in self.old.rest.now result self.new.rest.now }
+        ensures { ReadsPartFrom id_in self.old.rest.now result self.new.rest.now }
     {
         let mut bytes = [0; 32];
         bytes.copy_from_slice(self.read_front(32)?);
@@ -84,7 +84,7 @@ impl<'a> Front<'a> {
         format: Format,
         names: &N,
     ) -> Result<MessageId, Stop>
-        ensures { Reads (held_in format (N.named names.now)) self.old.rest.now result
+        ensures { ReadsPartFrom (held_in format (N.named names.now)) self.old.rest.now result
             self.new.rest.now }
     {
         match format {
@@ -100,7 +100,7 @@ impl<'a> Front<'a> {
     }
 
     pub(crate) fn read_nonce(&mut self) -> Result<Nonce, Stop>
-        ensures { Reads (front_in 16) self.old.rest.now result self.new.rest.now }
+        ensures { ReadsPartFrom (front_in 16) self.old.rest.now result self.new.rest.now }
     {
         let mut bytes = [0; 16];
         bytes.copy_from_slice(self.read_front(16)?);
@@ -109,7 +109,7 @@ impl<'a> Front<'a> {
 
     #[tactic(auto, unfolding(crate::specs::Reading::time_in))]
     pub(crate) fn read_time(&mut self) -> Result<u64, Stop>
-        ensures read { Reads time_in self.old.rest.now result self.new.rest.now }
+        ensures read { ReadsPartFrom time_in self.old.rest.now result self.new.rest.now }
         ensures within { IfOk result (λ time. time ≤ MAX_TIMESTAMP) }
     {
         let time = self.read_u64()?;
@@ -121,7 +121,7 @@ impl<'a> Front<'a> {
 
     #[tactic(auto, unfolding(crate::specs::Reading::latency_in))]
     pub(crate) fn read_latency(&mut self) -> Result<u32, Stop>
-        ensures { Reads latency_in self.old.rest.now result self.new.rest.now }
+        ensures { ReadsPartFrom latency_in self.old.rest.now result self.new.rest.now }
     {
         let latency = self.read_u32()?;
         if latency == 0 {
@@ -132,7 +132,7 @@ impl<'a> Front<'a> {
 
     // A number of two bytes within these limits.
     pub(crate) fn read_count(&mut self, least: usize, most: usize) -> Result<usize, Stop>
-        ensures read { Reads (λ bytes. passed (is_between least most) (be_number_in w16 bytes))
+        ensures read { ReadsPartFrom (λ bytes. passed (is_between least most) (be_number_in w16 bytes))
             self.old.rest.now result self.new.rest.now }
         ensures least { IfOk result (λ count. least ≤ count) }
         ensures most { IfOk result (λ count. count ≤ most) }

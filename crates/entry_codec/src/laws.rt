@@ -1,7 +1,7 @@
 //! What holds of all spellings. Each function's clause is the law; none does anything.
-ghost use Rattle.entry_codec.specs.Laws.{AllowedNames, NoneBeginsAnother, PayloadsFitFrames};
+ghost use Rattle.entry_codec.specs.Laws.{AllowedNames, NoEntryBeginsAnother, PayloadsFitFrames};
 ghost use Rattle.entry_codec.specs.Laws.{ShortBatchesAreNotLonger, ShortIsNotLonger};
-ghost use Rattle.entry_codec.specs.Laws.{SpellingsAreShort, SpellingsReadBack};
+ghost use Rattle.entry_codec.specs.Laws.{SpellingsAreShort, EntriesReadBack};
 ghost use Rattle.entry_codec.specs.StandingLaws.{AllowedAddOne, AllowedMayBeWritten, AllowedTakeOne};
 ghost use Rattle.entry_codec.specs.StandingLaws.{BatchesReadBack, JournalsStand, PayloadsSpellOnce};
 ghost use Rattle.entry_codec.specs.StandingLaws.{LegalHasNames, StandingIsLegal};
@@ -12,12 +12,12 @@ use sync_rules::laws::allows_is_allowed;
 /// Whatever `read_entry` finds where an entry is spelled in format 1 is that entry, whatever
 /// follows, and so it is with `read_short` and format 2.
 pub fn spellings_read_back()
-    ensures { SpellingsReadBack }
+    ensures { EntriesReadBack }
 {}
 
 /// In each format no entry's bytes begin another's, and bytes spell one entry at most.
 pub fn none_begins_another()
-    ensures { NoneBeginsAnother }
+    ensures { NoEntryBeginsAnother }
 {}
 
 /// Every spelling of format 1 has 2 to `MAX_SPELLING` bytes.

@@ -1,7 +1,7 @@
 //! Reading an entry.
 ghost use Rattle.std.specs.Prelude.{IfOk};
-ghost use Rattle.entry_codec.specs.Laws.{IsRead, IsReadIn};
-ghost use Rattle.entry_codec.specs.Answers.{Reads};
+ghost use Rattle.entry_codec.specs.Laws.{IsEntryRead, IsReadIn};
+ghost use Rattle.entry_codec.specs.Answers.{ReadsPartFrom};
 ghost use Rattle.entry_codec.specs.Reading.{account_of, entry_by, entry_of, entry_in, heard_of};
 ghost use Rattle.entry_codec.specs.Reading.{held_in, known_of, meant, moved_of, id_in, pair_in};
 ghost use Rattle.entry_codec.specs.Reading.{step_of};
@@ -32,7 +32,7 @@ fn read_pair<N: Names>(
     names: &N,
     front: &mut Front,
 ) -> Result<(u32, MessageId), Stop>
-    ensures { Reads (pair_in (held_in format (N.named names.now))) front.old.rest.now result
+    ensures { ReadsPartFrom (pair_in (held_in format (N.named names.now))) front.old.rest.now result
         front.new.rest.now }
 {
     let session = front.read_u32()?;
@@ -42,7 +42,7 @@ fn read_pair<N: Names>(
 
 // What follows the tags 1 to 3.
 fn read_known(alloc: Global, tag: u8, front: &mut Front) -> Result<Entry, Stop>
-    ensures { Reads (known_of tag) front.old.rest.now result front.new.rest.now }
+    ensures { ReadsPartFrom (known_of tag) front.old.rest.now result front.new.rest.now }
 {
     match tag {
         1 => Ok(Entry::Contact(front.read_byte()?)),
@@ -64,7 +64,7 @@ fn read_moved<N: Names>(
     tag: u8,
     front: &mut Front,
 ) -> Result<Entry, Stop>
-    ensures { Reads (moved_of (held_in format (N.named names.now)) tag) front.old.rest.now result
+    ensures { ReadsPartFrom (moved_of (held_in format (N.named names.now)) tag) front.old.rest.now result
         front.new.rest.now }
 {
     match tag {
@@ -89,7 +89,7 @@ fn read_moved<N: Names>(
 
 // What follows the tags 8 to 10.
 fn read_step<N: Names>(format: Format, names: &N, tag: u8, front: &mut Front) -> Result<Entry, Stop>
-    ensures { Reads (λ bytes. meant (step_of tag) (held_in format (N.named names.now) bytes))
+    ensures { ReadsPartFrom (λ bytes. meant (step_of tag) (held_in format (N.named names.now) bytes))
         front.old.rest.now result front.new.rest.now }
 {
     let id = front.read_held(format, names)?;
@@ -108,7 +108,7 @@ fn read_heard<N: Names>(
     tag: u8,
     front: &mut Front,
 ) -> Result<Entry, Stop>
-    ensures { Reads
+    ensures { ReadsPartFrom
         (λ bytes. meant (heard_of tag) (pair_in (held_in format (N.named names.now)) bytes))
         front.old.rest.now result front.new.rest.now }
 {
@@ -129,7 +129,7 @@ fn read_account<N: Names>(
     tag: u8,
     front: &mut Front,
 ) -> Result<Entry, Stop>
-    ensures { Reads (account_of format (held_in format (N.named names.now)) tag)
+    ensures { ReadsPartFrom (account_of format (held_in format (N.named names.now)) tag)
         front.old.rest.now result front.new.rest.now }
 {
     match format {
@@ -145,7 +145,7 @@ fn read_stated<N: Names>(
     tag: u8,
     front: &mut Front,
 ) -> Result<Entry, Stop>
-    ensures { Reads
+    ensures { ReadsPartFrom
         (account_of format_kind.Short (held_in format_kind.Short (N.named names.now)) tag)
         front.old.rest.now result front.new.rest.now }
 {
@@ -172,7 +172,7 @@ pub(crate) fn read_tagged<N: Names>(
     names: &N,
     front: &mut Front,
 ) -> Result<Entry, Stop>
-    ensures { Reads (entry_by format (held_in format (N.named names.now))) front.old.rest.now
+    ensures { ReadsPartFrom (entry_by format (held_in format (N.named names.now))) front.old.rest.now
         result front.new.rest.now }
 {
     let tag = front.read_byte()?;
@@ -213,7 +213,7 @@ fn read_found<N: Names>(
 /// front of them is the spelling of an entry within its limits; the kinds that stand in a brief
 /// account alone have none. It fails only for want of memory.
 pub fn read_entry(alloc: Global, bytes: &[u8]) -> Result<EntryFound, AllocError>
-    ensures { IfOk result (λ found. IsRead bytes.now found) }
+    ensures { IfOk result (λ found. IsEntryRead bytes.now found) }
 {
     read_found(alloc, Format::Whole, &NoNames, bytes)
 }

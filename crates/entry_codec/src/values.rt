@@ -1,7 +1,7 @@
 //! Reading the values that an entry holds.
 ghost use Rattle.std.specs.Prelude.{◌≡◌, ◌≤◌, length, IfOk};
 ghost use Rattle.std.specs.Str.{IsUtf8};
-ghost use Rattle.entry_codec.specs.Answers.{Reads, ReadsList, ReadsText};
+ghost use Rattle.entry_codec.specs.Answers.{ReadsPartFrom, ReadsList, ReadsText};
 ghost use Rattle.entry_codec.specs.Reading.{def_in, flags_in, held_in, ids_in, is_stated, level_in};
 ghost use Rattle.entry_codec.specs.Reading.{list_in, message_in, mode_in, name_in, nonce_in};
 ghost use Rattle.entry_codec.specs.Reading.{origin_in, out_in, session_in, tried_in};
@@ -33,7 +33,7 @@ fn read_name<'a>(front: &mut Front<'a>) -> Result<&'a str, Stop>
 
 #[tactic(auto, unfolding(crate::specs::Reading::def_in))]
 pub(crate) fn read_def(alloc: Global, front: &mut Front) -> Result<GroupDef, Stop>
-    ensures { Reads def_in front.old.rest.now result front.new.rest.now }
+    ensures { ReadsPartFrom def_in front.old.rest.now result front.new.rest.now }
 {
     let name = read_name(front)?;
     let major = front.read_u32()?;
@@ -47,7 +47,7 @@ pub(crate) fn read_def(alloc: Global, front: &mut Front) -> Result<GroupDef, Sto
 
 #[tactic(auto, unfolding(crate::specs::Reading::message_in))]
 pub(crate) fn read_message(alloc: Global, front: &mut Front) -> Result<Message, Stop>
-    ensures { Reads message_in front.old.rest.now result front.new.rest.now }
+    ensures { ReadsPartFrom message_in front.old.rest.now result front.new.rest.now }
 {
     let group = front.read_id()?;
     let time = front.read_time()?;
@@ -60,7 +60,7 @@ pub(crate) fn read_message(alloc: Global, front: &mut Front) -> Result<Message, 
 
 #[tactic(auto, unfolding(crate::specs::Reading::level_in))]
 pub(crate) fn read_level(front: &mut Front) -> Result<Level, Stop>
-    ensures { Reads level_in front.old.rest.now result front.new.rest.now }
+    ensures { ReadsPartFrom level_in front.old.rest.now result front.new.rest.now }
 {
     match front.read_byte()? {
         0 => Ok(Level::Invisible),
@@ -72,7 +72,7 @@ pub(crate) fn read_level(front: &mut Front) -> Result<Level, Stop>
 
 #[tactic(auto, unfolding(crate::specs::Reading::mode_in))]
 fn read_mode(front: &mut Front) -> Result<Mode, Stop>
-    ensures { Reads mode_in front.old.rest.now result front.new.rest.now }
+    ensures { ReadsPartFrom mode_in front.old.rest.now result front.new.rest.now }
 {
     match front.read_byte()? {
         0 => Ok(Mode::Interactive),
@@ -83,7 +83,7 @@ fn read_mode(front: &mut Front) -> Result<Mode, Stop>
 
 #[tactic(auto, unfolding(crate::specs::Reading::nonce_in))]
 fn read_flagged_nonce(front: &mut Front) -> Result<Option<Nonce>, Stop>
-    ensures { Reads nonce_in front.old.rest.now result front.new.rest.now }
+    ensures { ReadsPartFrom nonce_in front.old.rest.now result front.new.rest.now }
 {
     match front.read_byte()? {
         0 => Ok(None),
@@ -94,7 +94,7 @@ fn read_flagged_nonce(front: &mut Front) -> Result<Option<Nonce>, Stop>
 
 #[tactic(auto, unfolding(crate::specs::Reading::session_in))]
 pub(crate) fn read_session(front: &mut Front) -> Result<Session, Stop>
-    ensures { Reads session_in front.old.rest.now result front.new.rest.now }
+    ensures { ReadsPartFrom session_in front.old.rest.now result front.new.rest.now }
 {
     let number = front.read_u32()?;
     let contact = front.read_byte()?;
@@ -117,7 +117,7 @@ fn read_ids<N: Names>(
     names: &N,
     front: &mut Front,
 ) -> Result<IdList<MAX_IDS>, Stop>
-    ensures { Reads (ids_in (held_in format (N.named names.now))) front.old.rest.now result
+    ensures { ReadsPartFrom (ids_in (held_in format (N.named names.now))) front.old.rest.now result
         front.new.rest.now }
 {
     let count = front.read_count(1, MAX_IDS)?;
@@ -153,7 +153,7 @@ pub(crate) fn read_out<N: Names>(
     names: &N,
     front: &mut Front,
 ) -> Result<Out, Stop>
-    ensures { Reads (out_in (held_in format (N.named names.now))) front.old.rest.now result
+    ensures { ReadsPartFrom (out_in (held_in format (N.named names.now))) front.old.rest.now result
         front.new.rest.now }
 {
     match front.read_byte()? {
@@ -167,7 +167,7 @@ pub(crate) fn read_out<N: Names>(
 
 #[tactic(auto, unfolding(crate::specs::Reading::origin_in))]
 pub(crate) fn read_origin(front: &mut Front) -> Result<Origin, Stop>
-    ensures { Reads origin_in front.old.rest.now result front.new.rest.now }
+    ensures { ReadsPartFrom origin_in front.old.rest.now result front.new.rest.now }
 {
     let flag = front.read_byte()?;
     let contact = front.read_byte()?;
@@ -181,7 +181,7 @@ pub(crate) fn read_origin(front: &mut Front) -> Result<Origin, Stop>
 // The three flags of a row.
 #[tactic(auto, unfolding(crate::specs::Reading::flags_in))]
 fn read_flags(front: &mut Front) -> Result<(bool, bool, bool), Stop>
-    ensures { Reads flags_in front.old.rest.now result front.new.rest.now }
+    ensures { ReadsPartFrom flags_in front.old.rest.now result front.new.rest.now }
 {
     let flags = front.read_byte()?;
     if flags > 7 {
@@ -206,7 +206,7 @@ pub(crate) fn read_tried<N: Names>(
     names: &N,
     front: &mut Front,
 ) -> Result<Tried, Stop>
-    ensures { Reads (tried_in (held_in format (N.named names.now))) front.old.rest.now result
+    ensures { ReadsPartFrom (tried_in (held_in format (N.named names.now))) front.old.rest.now result
         front.new.rest.now }
 {
     let contact = front.read_byte()?;

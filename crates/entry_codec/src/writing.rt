@@ -6,7 +6,7 @@ ghost use Rattle.std.specs.List.{AllByRecursion, flat_map};
 ghost use Rattle.entry_codec.specs.Naming.{IsNamed, held_bytes};
 ghost use Rattle.entry_codec.specs.Spelling.{AddsTo, EntryNames, IsDef, IsEntry, IsOld};
 ghost use Rattle.entry_codec.specs.Spelling.{IsOrigin, IsOut, IsSession, IsStated, IsTried};
-ghost use Rattle.entry_codec.specs.Spelling.{MayBeWritten, OutNames, Spells, SpellsIn};
+ghost use Rattle.entry_codec.specs.Spelling.{MayBeWritten, OutNames, SpellsEntry, SpellsIn};
 ghost use Rattle.entry_codec.specs.Spelling.{def_bytes, entry_bytes, flags_byte, ids_bytes};
 ghost use Rattle.entry_codec.specs.Spelling.{level_byte, message_bytes, mode_byte, origin_bytes};
 ghost use Rattle.entry_codec.specs.Spelling.{out_bytes, session_bytes, spelling, spelling_in};
@@ -454,7 +454,7 @@ pub fn write_entry(entry: &Entry, to: &mut Vec<u8>) -> Result<(), AllocError>
     requires written { MayBeWritten entry.now }
     requires old { IsOld entry.now }
     ensures ok { OnOk result (to.new.items ≡ to.old.items ++ spelling entry.now) }
-    ensures spells { OnOk result (Spells entry.now (spelling entry.now)) }
+    ensures spells { OnOk result (SpellsEntry entry.now (spelling entry.now)) }
     ensures err { OnErr result (to.new.items ≡ to.old.items) }
 {
     append_entry(Format::Whole, &NoNames, entry, to)

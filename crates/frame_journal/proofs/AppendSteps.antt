@@ -8,13 +8,13 @@ use Rattle.std.proofs.lemmas.List.{take-take}
 use Rattle.std.proofs.lemmas.List.Elements.{All-push}
 use Rattle.std.proofs.Math.Seq.{take-append_seam}
 use Rattle.outside.specs.Files.{Two, File, NothingPending, file_of, with_file, settled}
-use Rattle.outside.specs.Disk.{Becomes, overwritten}
+use Rattle.outside.specs.Disk.{RelatesTold, overwritten}
 use Rattle.outside.specs.Frames.{IsPayload, HasFrames, IsAtRest, end_of, frame_of}
 use Rattle.outside.specs.Outside.{Outside}
 use Rattle.outside.specs.Links.{sent_of}
-use Rattle.outside.specs.Steps.{FileMoment, Passed, other_of}
+use Rattle.outside.specs.Steps.{FileMoment, PassedMoments, other_of}
 use Rattle.outside.proofs.CallSteps.{moments_map, file_of-with_file, other_of-with_file, with_file-with_file}
-use Rattle.frame_journal.specs.Append.{payload_of, IsFramed, appended, Gated, Opens, Appends, BeforeOrWith}
+use Rattle.frame_journal.specs.Append.{payload_of, IsFramed, appended, Gated, WritesAndOpensGate, AppendsFrame, BeforeOrWith}
 use Rattle.frame_journal.specs.Gates.{WritesBehind, OpensGate, KeepsFront, KeepsAllBut}
 use Rattle.frame_journal.proofs.BehindSteps.{behind_front, behind_rest}
 
@@ -143,7 +143,7 @@ gated_open bytes end framed c some within kept =
     inr (kept.0, kept.1 ∙ ap (λ l. l ++ kept.0 ∷ drop (end - 1 + 1) b) front ∙ ap (λ l. take (end - 1) bytes ++ kept.0 ∷ l) (ap (λ n. drop n b) next ∙ behind_rest bytes end framed within))
 
 -- bytes behind the gate, and then the gate
-pub opens_both : (file end : ℕ) (framed : List ℕ) (x y z : Two File) → WritesBehind file end framed x y → OpensGate file end y z → Opens file end framed x z
+pub opens_both : (file end : ℕ) (framed : List ℕ) (x y z : Two File) → WritesBehind file end framed x y → OpensGate file end y z → WritesAndOpensGate file end framed x z
 opens_both file end framed x y z written opened =
     let f = settled (overwritten (file_of x file).now end framed) in
     let this : file_of y file ≡ f = ap (λ (t : Two File). file_of t file) written ∙ file_of-with_file x file f in
@@ -173,14 +173,14 @@ end_more payloads end framed is_framed is_end =
     omega (arith, is_end, long, all, be_long (length p), length-append (flat_map frame_of payloads) (frame_of p), length-append head p, length-append (head ++ p) (0 ∷ []))
 
 -- told before and after, and so related
-pub becomes_from : {A : Type 0} (step : A → A → Type 0) (old new : Option A) → is_some new ≡ is_some old → ((a b : A) → old ≡ Some a → new ≡ Some b → step a b) → Becomes step old new
+pub becomes_from : {A : Type 0} (step : A → A → Type 0) (old new : Option A) → is_some new ≡ is_some old → ((a b : A) → old ≡ Some a → new ≡ Some b → step a b) → RelatesTold step old new
 becomes_from step None None same each = tt
 becomes_from step None (Some b) same each = cc
 becomes_from step (Some a) None same each = cc
 becomes_from step (Some a) (Some b) same each = each a b refl refl
 
 -- the files with a frame added
-pub opens_appends : (file end : ℕ) (framed : List ℕ) (two two' : Two File) → IsFramed framed → IsAtRest two file end → Opens file end framed two two' → Appends file end framed two two'
+pub opens_appends : (file end : ℕ) (framed : List ℕ) (two two' : Two File) → IsFramed framed → IsAtRest two file end → WritesAndOpensGate file end framed two two' → AppendsFrame file end framed two two'
 opens_appends file end framed two two' is_framed rest opened =
     let bytes = (file_of two file).now in
     let this : file_of two' file ≡ settled (appended bytes end framed) = ap (λ (t : Two File). file_of t file) opened ∙ file_of-with_file two file (settled (appended bytes end framed)) in
@@ -205,14 +205,14 @@ pub rest_within : (two : Two File) (file end : ℕ) → IsAtRest two file end �
 rest_within two file end rest = (rest.settled, end_within (file_of two file).now rest.header rest.payloads end rest.frames rest.end_is)
 
 -- a step that follows from another
-pub becomes_map : {A : Type 0} (step step' : A → A → Type 0) (old new : Option A) → ((a b : A) → old ≡ Some a → step a b → step' a b) → Becomes step old new → Becomes step' old new
+pub becomes_map : {A : Type 0} (step step' : A → A → Type 0) (old new : Option A) → ((a b : A) → old ≡ Some a → step a b → step' a b) → RelatesTold step old new → RelatesTold step' old new
 becomes_map step step' None None each p = tt
 becomes_map step step' None (Some b) each p = p
 becomes_map step step' (Some a) None each p = p
 becomes_map step step' (Some a) (Some b) each p = each a b refl p
 
 -- a weaker word on the file in each moment
-pub passed_map : (two : Two File) (o o' : Outside) (file : ℕ) (Q Q' : List ℕ → Type 0) → ((c : List ℕ) → Q c → Q' c) → Passed two o o' file Q → Passed two o o' file Q'
+pub passed_map : (two : Two File) (o o' : Outside) (file : ℕ) (Q Q' : List ℕ → Type 0) → ((c : List ℕ) → Q c → Q' c) → PassedMoments two o o' file Q → PassedMoments two o o' file Q'
 passed_map two o o' file Q Q' weaker run =
     moments_map o o' (FileMoment Q two (sent_of o.links.told) file) (FileMoment Q' two (sent_of o.links.told) file)
     (λ m p. record { this = weaker (file_of m.files file) p.this; other = p.other; nothing_sent = p.nothing_sent }) run

@@ -3,10 +3,10 @@ use Rattle.std.proofs.Common.{◌≡◌, ℕ, ◌+◌, ◌≤◌, List, ◌++◌
 use Rattle.std.proofs.Math.Seq.{take-append_seam, drop-append_seam}
 use Rattle.outside.specs.declared.failed.Failed.{Failed}
 use Rattle.outside.specs.Files.{Two, File, IsFileImage, NothingPending, file_of, settled}
-use Rattle.outside.specs.Disk.{Becomes, Writes, Syncs, after_write, overwritten}
+use Rattle.outside.specs.Disk.{RelatesTold, WritesFile, SyncsFile, after_write, overwritten}
 use Rattle.outside.specs.MemLaws.{length-overwritten}
 use Rattle.outside.specs.Outside.{Outside, DiskCall}
-use Rattle.outside.specs.Steps.{Reached, Passed, other_of}
+use Rattle.outside.specs.Steps.{ReachedFile, PassedMoments, other_of}
 use Rattle.outside.proofs.CallSteps.{begun, wrote_ok, wrote_err, synced_ok, synced_err, file_of-with_file, other_of-with_file}
 use Rattle.frame_journal.specs.Gates.{WritesBehind, KeepsFront}
 use Rattle.frame_journal.proofs.Torn.{settled_only, torn_front}
@@ -43,29 +43,29 @@ module _ (two : Two File) (o0 : Outside) (file end : ℕ) (framed : List ℕ) (t
   abbrev Q : List ℕ → Type 0
   Q = KeepsFront bytes end
 
-  start : Reached two o0 o0 file Q (settled bytes)
+  start : ReachedFile two o0 o0 file Q (settled bytes)
   start =
-      subst (λ (f : File). Reached two o0 o0 file Q f) pending
+      subst (λ (f : File). ReachedFile two o0 o0 file Q f) pending
       (begun two o0 file Q told (λ c image. passes_settled bytes c end (subst (λ (f : File). IsFileImage f c) pending image)))
 
-  pub write_ok : (o1 : Outside) (u : Unit {0}) → DiskCall o0 o1 → Becomes (Writes file end framed (Ok u)) o0.files o1.files
-      → Reached two o0 o1 file Q (after_write (settled bytes) end (length framed) (overwritten bytes end framed))
+  pub write_ok : (o1 : Outside) (u : Unit {0}) → DiskCall o0 o1 → RelatesTold (WritesFile file end framed (Ok u)) o0.files o1.files
+      → ReachedFile two o0 o1 file Q (after_write (settled bytes) end (length framed) (overwritten bytes end framed))
   write_ok o1 u call becomes = wrote_ok two o0 o0 o1 file Q (settled bytes) end framed u start call becomes (λ now c image. torn_front bytes end (length framed) now c within image)
 
-  pub write_err : (o1 : Outside) (e : Failed) → DiskCall o0 o1 → Becomes (Writes file end framed (Err e)) o0.files o1.files → Passed two o0 o1 file Q
+  pub write_err : (o1 : Outside) (e : Failed) → DiskCall o0 o1 → RelatesTold (WritesFile file end framed (Err e)) o0.files o1.files → PassedMoments two o0 o1 file Q
   write_err o1 e call becomes =
       wrote_err two o0 o0 o1 file Q (settled bytes) end framed e start call becomes (λ c image. passes_settled bytes c end image)
       (λ now c image. torn_front bytes end (length framed) now c within image)
 
-  pub sync_ok : (o1 o2 : Outside) (u : Unit {0}) → Reached two o0 o1 file Q (after_write (settled bytes) end (length framed) (overwritten bytes end framed)) → DiskCall o1 o2
-      → Becomes (Syncs file (Ok u)) o1.files o2.files → Reached two o0 o2 file Q (settled (overwritten bytes end framed))
+  pub sync_ok : (o1 o2 : Outside) (u : Unit {0}) → ReachedFile two o0 o1 file Q (after_write (settled bytes) end (length framed) (overwritten bytes end framed)) → DiskCall o1 o2
+      → RelatesTold (SyncsFile file (Ok u)) o1.files o2.files → ReachedFile two o0 o2 file Q (settled (overwritten bytes end framed))
   sync_ok o1 o2 u run call becomes = synced_ok two o0 o1 o2 file Q _ u run call becomes (λ c image. passes_behind bytes c end framed within image)
 
-  pub sync_err : (o1 o2 : Outside) (e : Failed) → Reached two o0 o1 file Q (after_write (settled bytes) end (length framed) (overwritten bytes end framed)) → DiskCall o1 o2
-      → Becomes (Syncs file (Err e)) o1.files o2.files → Passed two o0 o2 file Q
+  pub sync_err : (o1 o2 : Outside) (e : Failed) → ReachedFile two o0 o1 file Q (after_write (settled bytes) end (length framed) (overwritten bytes end framed)) → DiskCall o1 o2
+      → RelatesTold (SyncsFile file (Err e)) o1.files o2.files → PassedMoments two o0 o2 file Q
   sync_err o1 o2 e run call becomes = synced_err two o0 o1 o2 file Q _ e run call becomes (λ c image. torn_front bytes end (length framed) _ c within image)
 
-  pub writes : (o2 : Outside) → Reached two o0 o2 file Q (settled (overwritten bytes end framed)) → (two' : Two File) → o2.files ≡ Some two' → WritesBehind file end framed two two'
+  pub writes : (o2 : Outside) → ReachedFile two o0 o2 file Q (settled (overwritten bytes end framed)) → (two' : Two File) → o2.files ≡ Some two' → WritesBehind file end framed two two'
   writes o2 run two' had = cc
 
 -- what was written behind a gate lies behind it

@@ -4,7 +4,7 @@ use Rattle.outside.specs.declared.failed.Failed.{Failed}
 use Rattle.outside.specs.Files.{Two, File, IsFileImage, IsImage, read_files, settled}
 use Rattle.outside.specs.Links.{Links, sent_of}
 use Rattle.outside.specs.Outside.{Outside, IsNow, DiskCall, MomentsAre}
-use Rattle.outside.specs.Disk.{Becomes, Syncs}
+use Rattle.outside.specs.Disk.{RelatesTold, SyncsFile}
 use Rattle.outside.proofs.CallSteps.{moments_none, moments_call, becomes_told, now_images}
 use Rattle.frame_journal.specs.Gates.{ReadsSame}
 use Rattle.frame_journal.proofs.Torn.{settled_only}
@@ -12,7 +12,7 @@ use Rattle.frame_journal.proofs.Torn.{settled_only}
 settled_back : (f : File) (c : List ℕ) → IsFileImage f f.now → IsFileImage (settled f.now) c → IsFileImage f c
 settled_back f c reads image = subst (IsFileImage f) (sym (settled_only f.now c image)) reads
 
-sync_back : (file : ℕ) (result : Result (Unit {0}) Failed) (old new : Two File) → Syncs file result old new → IsImage old (read_files old) → (c : Two (List ℕ)) → IsImage new c → IsImage old c
+sync_back : (file : ℕ) (result : Result (Unit {0}) Failed) (old new : Two File) → SyncsFile file result old new → IsImage old (read_files old) → (c : Two (List ℕ)) → IsImage new c → IsImage old c
 sync_back zero (Ok _) old new synced reads c image =
     let there = subst (λ (t : Two File). IsImage t c) synced image in
     record { first = settled_back old.first c.first reads.first there.first; second = there.second }
@@ -22,16 +22,16 @@ sync_back (suc _) (Ok _) old new synced reads c image =
 sync_back file (Err _) old new synced reads c image = subst (λ (t : Two File). IsImage t c) synced image
 
 -- a sync leaves the files as they read
-sync_reads : (file : ℕ) (result : Result (Unit {0}) Failed) (old new : Two File) → Syncs file result old new → read_files new ≡ read_files old
+sync_reads : (file : ℕ) (result : Result (Unit {0}) Failed) (old new : Two File) → SyncsFile file result old new → read_files new ≡ read_files old
 sync_reads zero (Ok _) old new synced = ap read_files synced
 sync_reads (suc _) (Ok _) old new synced = ap read_files synced
 sync_reads file (Err _) old new synced = ap read_files synced
 
-pub reads_none : (o : Option (Two File)) → Becomes ReadsSame o o
+pub reads_none : (o : Option (Two File)) → RelatesTold ReadsSame o o
 reads_none None = tt
 reads_none (Some two) = refl
 
-pub reads_sync : (o0 o o' : Option (Two File)) (file : ℕ) (result : Result (Unit {0}) Failed) → Becomes ReadsSame o0 o → Becomes (Syncs file result) o o' → Becomes ReadsSame o0 o'
+pub reads_sync : (o0 o o' : Option (Two File)) (file : ℕ) (result : Result (Unit {0}) Failed) → RelatesTold ReadsSame o0 o → RelatesTold (SyncsFile file result) o o' → RelatesTold ReadsSame o0 o'
 reads_sync None None None file result reads becomes = tt
 reads_sync None None (Some new) file result reads becomes = becomes
 reads_sync None (Some mid) o' file result reads becomes = absurd reads
@@ -56,9 +56,9 @@ calm_begun two o files = record {
   moments = moments_none o (IsNow two o.links) (now_images o o two files refl);
 }
 
-pub calm_sync : (two : Two File) (o0 o o' : Outside) (file : ℕ) (result : Result (Unit {0}) Failed) → Calm two o0 o → DiskCall o o' → Becomes (Syncs file result) o.files o'.files → Calm two o0 o'
+pub calm_sync : (two : Two File) (o0 o o' : Outside) (file : ℕ) (result : Result (Unit {0}) Failed) → Calm two o0 o → DiskCall o o' → RelatesTold (SyncsFile file result) o.files o'.files → Calm two o0 o'
 calm_sync two o0 o o' file result calm call becomes =
-    let told = becomes_told (Syncs file result) o.files o'.files calm.now calm.files becomes in
+    let told = becomes_told (SyncsFile file result) o.files o'.files calm.now calm.files becomes in
     let links = call.same_links ∙ calm.links in
     let back : (c : Two (List ℕ)) → IsImage told.0 c → IsImage two c =
     λ c image. calm.images c (sync_back file result calm.now told.0 told.2 (o.reads calm.now calm.files) c image) in

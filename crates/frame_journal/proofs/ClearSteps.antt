@@ -6,12 +6,12 @@ use Rattle.std.proofs.lemmas.Bool.{cases_eq, cases_lt, lt-leb, ltb-true, lt-ltb,
 use Rattle.std.proofs.lemmas.List.{get_or-take, take_all}
 use Rattle.outside.specs.declared.failed.Failed.{Failed}
 use Rattle.outside.specs.Files.{Two, File, IsFileImage, NothingPending, file_of, with_file, settled}
-use Rattle.outside.specs.Disk.{Becomes, Writes, Cuts, Syncs, Reads, after_write, after_cut, overwritten}
+use Rattle.outside.specs.Disk.{RelatesTold, WritesFile, CutsFile, SyncsFile, ReadsBytes, after_write, after_cut, overwritten}
 use Rattle.outside.specs.Frames.{is_open}
 use Rattle.outside.specs.Outside.{Outside, DiskCall}
-use Rattle.outside.specs.Steps.{FileMoment, Reached, Passed, other_of}
+use Rattle.outside.specs.Steps.{FileMoment, ReachedFile, PassedMoments, other_of}
 use Rattle.outside.proofs.CallSteps.{moments_map, moments_then, begun, looked, wrote_ok, wrote_err, synced_ok, synced_err, cut_ok, cut_err, file_of-with_file, other_of-with_file}
-use Rattle.frame_journal.specs.Create.{HasShutGate, ShutsGate, Shortens, Clears, BeforeOrShut}
+use Rattle.frame_journal.specs.Create.{HasShutGate, ShutsGate, CutsToFirstByte, ClearsFile, BeforeOrShut}
 use Rattle.frame_journal.proofs.Torn.{settled_only, torn_byte}
 use Rattle.frame_journal.proofs.CreateSteps.{not_open}
 
@@ -43,10 +43,10 @@ some_same a b e = cc
 pub record Opened (bytes : List ℕ) : Type 0 where
   pub opened : (length bytes ≡ 0) ⊎ (slice_index bytes 0 ≡ 1)
 
-same_first : (bytes buf : List ℕ) (n : ℕ) → Reads bytes 0 buf n → 0 < n → slice_index buf 0 ≡ slice_index bytes 0
+same_first : (bytes buf : List ℕ) (n : ℕ) → ReadsBytes bytes 0 buf n → 0 < n → slice_index buf 0 ≡ slice_index bytes 0
 same_first bytes buf n reads some = sym (get_or-take n buf 0 0 some) ∙ ap (λ l. slice_index l 0) reads.given ∙ get_or-take n bytes 0 0 some
 
-pub shut_read : (bytes buf : List ℕ) (n : ℕ) → Reads bytes 0 buf n → (nat_lt 0 n && not (slice_index buf 0 == 1)) ≡ true → HasShutGate bytes
+pub shut_read : (bytes buf : List ℕ) (n : ℕ) → ReadsBytes bytes 0 buf n → (nat_lt 0 n && not (slice_index buf 0 == 1)) ≡ true → HasShutGate bytes
 shut_read bytes buf n reads test =
     let parts = and_parts (nat_lt 0 n) (not (slice_index buf 0 == 1)) test in
     let some : 0 < n = ltb-true 0 n parts.0 in
@@ -58,7 +58,7 @@ shut_read bytes buf n reads test =
       shape = first_rest bytes inside;
     }
 
-pub open_read : (bytes buf : List ℕ) (n : ℕ) → Reads bytes 0 buf n → length buf ≡ 1 → (nat_lt 0 n && not (slice_index buf 0 == 1)) ≡ false → Opened bytes
+pub open_read : (bytes buf : List ℕ) (n : ℕ) → ReadsBytes bytes 0 buf n → length buf ≡ 1 → (nat_lt 0 n && not (slice_index buf 0 == 1)) ≡ false → Opened bytes
 open_read bytes buf n reads long test =
     elim (cases_lt 0 n) [
       | inl some ↦ record {
@@ -104,34 +104,34 @@ module _ (two : Two File) (o0 : Outside) (file : ℕ) (told : o0.files ≡ Some 
   abbrev bytes : List ℕ
   bytes = (file_of two file).now
 
-  begin : NothingPending two file → Reached two o0 o0 file (BeforeOrShut bytes) (settled bytes)
+  begin : NothingPending two file → ReachedFile two o0 o0 file (BeforeOrShut bytes) (settled bytes)
   begin pending =
-      subst (λ (f : File). Reached two o0 o0 file (BeforeOrShut bytes) f) pending
+      subst (λ (f : File). ReachedFile two o0 o0 file (BeforeOrShut bytes) f) pending
       (begun two o0 file (BeforeOrShut bytes) told (λ c image. passes_settled bytes c (subst (λ (f : File). IsFileImage f c) pending image)))
 
-  pub gate_read : (o1 : Outside) → NothingPending two file → DiskCall o0 o1 → o1.files ≡ o0.files → Reached two o0 o1 file (BeforeOrShut bytes) (settled bytes)
+  pub gate_read : (o1 : Outside) → NothingPending two file → DiskCall o0 o1 → o1.files ≡ o0.files → ReachedFile two o0 o1 file (BeforeOrShut bytes) (settled bytes)
   gate_read o1 pending call same = looked two o0 o0 o1 file (BeforeOrShut bytes) (settled bytes) (begin pending) call same (passes_settled bytes)
 
-  pub zero_ok : (o1 o2 : Outside) (u : Unit {0}) → Opened bytes → Reached two o0 o1 file (BeforeOrShut bytes) (settled bytes) → DiskCall o1 o2 → Becomes (Writes file 0 (0 ∷ []) (Ok u)) o1.files o2.files
-      → Reached two o0 o2 file (BeforeOrShut bytes) (after_write (settled bytes) 0 1 (overwritten bytes 0 (0 ∷ [])))
+  pub zero_ok : (o1 o2 : Outside) (u : Unit {0}) → Opened bytes → ReachedFile two o0 o1 file (BeforeOrShut bytes) (settled bytes) → DiskCall o1 o2 → RelatesTold (WritesFile file 0 (0 ∷ []) (Ok u)) o1.files o2.files
+      → ReachedFile two o0 o2 file (BeforeOrShut bytes) (after_write (settled bytes) 0 1 (overwritten bytes 0 (0 ∷ [])))
   zero_ok o1 o2 u gate run call becomes = wrote_ok two o0 o1 o2 file (BeforeOrShut bytes) (settled bytes) 0 (0 ∷ []) u run call becomes (λ now c image. passes_zero bytes now c gate image)
 
-  pub zero_err : (o1 o2 : Outside) (e : Failed) → Opened bytes → Reached two o0 o1 file (BeforeOrShut bytes) (settled bytes) → DiskCall o1 o2 → Becomes (Writes file 0 (0 ∷ []) (Err e)) o1.files o2.files
-      → Passed two o0 o2 file (BeforeOrShut bytes)
+  pub zero_err : (o1 o2 : Outside) (e : Failed) → Opened bytes → ReachedFile two o0 o1 file (BeforeOrShut bytes) (settled bytes) → DiskCall o1 o2 → RelatesTold (WritesFile file 0 (0 ∷ []) (Err e)) o1.files o2.files
+      → PassedMoments two o0 o2 file (BeforeOrShut bytes)
   zero_err o1 o2 e gate run call becomes =
       wrote_err two o0 o1 o2 file (BeforeOrShut bytes) (settled bytes) 0 (0 ∷ []) e run call becomes (passes_settled bytes) (λ now c image. passes_zero bytes now c gate image)
 
-  pub shut_ok : (o2 o3 : Outside) (u : Unit {0}) → Reached two o0 o2 file (BeforeOrShut bytes) (after_write (settled bytes) 0 1 (overwritten bytes 0 (0 ∷ []))) → DiskCall o2 o3 → Becomes (Syncs file (Ok u)) o2.files o3.files
-      → Passed two o0 o3 file (BeforeOrShut bytes)
+  pub shut_ok : (o2 o3 : Outside) (u : Unit {0}) → ReachedFile two o0 o2 file (BeforeOrShut bytes) (after_write (settled bytes) 0 1 (overwritten bytes 0 (0 ∷ []))) → DiskCall o2 o3 → RelatesTold (SyncsFile file (Ok u)) o2.files o3.files
+      → PassedMoments two o0 o3 file (BeforeOrShut bytes)
   shut_ok o2 o3 u run call becomes = (synced_ok two o0 o2 o3 file (BeforeOrShut bytes) _ u run call becomes (λ c image. inr (passes_shut (overwritten bytes 0 (0 ∷ [])) c (zeroed bytes) image))).moments
 
-  pub shut_err : (o2 o3 : Outside) (e : Failed) → Opened bytes → Reached two o0 o2 file (BeforeOrShut bytes) (after_write (settled bytes) 0 1 (overwritten bytes 0 (0 ∷ []))) → DiskCall o2 o3 → Becomes (Syncs file (Err e)) o2.files o3.files
-      → Passed two o0 o3 file (BeforeOrShut bytes)
+  pub shut_err : (o2 o3 : Outside) (e : Failed) → Opened bytes → ReachedFile two o0 o2 file (BeforeOrShut bytes) (after_write (settled bytes) 0 1 (overwritten bytes 0 (0 ∷ []))) → DiskCall o2 o3 → RelatesTold (SyncsFile file (Err e)) o2.files o3.files
+      → PassedMoments two o0 o3 file (BeforeOrShut bytes)
   shut_err o2 o3 e gate run call becomes = synced_err two o0 o2 o3 file (BeforeOrShut bytes) _ e run call becomes (λ c image. passes_zero bytes _ c gate image)
 
   -- the files, whatever is pending
-  pub shuts : (o1 o2 o3 : Outside) (u v : Unit {0}) → DiskCall o0 o1 → o1.files ≡ o0.files → DiskCall o1 o2 → Becomes (Writes file 0 (0 ∷ []) (Ok u)) o1.files o2.files
-      → DiskCall o2 o3 → Becomes (Syncs file (Ok v)) o2.files o3.files → (two' : Two File) → o3.files ≡ Some two' → ShutsGate file two two'
+  pub shuts : (o1 o2 o3 : Outside) (u v : Unit {0}) → DiskCall o0 o1 → o1.files ≡ o0.files → DiskCall o1 o2 → RelatesTold (WritesFile file 0 (0 ∷ []) (Ok u)) o1.files o2.files
+      → DiskCall o2 o3 → RelatesTold (SyncsFile file (Ok v)) o2.files o3.files → (two' : Two File) → o3.files ≡ Some two' → ShutsGate file two two'
   shuts o1 o2 o3 u v look same call becomes sync settles two' had =
       let Q : List ℕ → Type 0 = λ _. Unit {0} in
       let run0 = begun two o0 file Q told (λ c image. tt) in
@@ -149,34 +149,34 @@ module _ (two : Two File) (o0 : Outside) (file : ℕ) (told : o0.files ≡ Some 
 
   -- ---- the file cut
 
-  pub whole : NothingPending two file → HasShutGate bytes → Reached two o0 o0 file (λ left. is_open left ≡ false) (settled bytes)
+  pub whole : NothingPending two file → HasShutGate bytes → ReachedFile two o0 o0 file (λ left. is_open left ≡ false) (settled bytes)
   whole pending shut =
       let Q : List ℕ → Type 0 = λ left. is_open left ≡ false in
-      subst (λ (f : File). Reached two o0 o0 file Q f) pending
+      subst (λ (f : File). ReachedFile two o0 o0 file Q f) pending
       (begun two o0 file Q told (λ c image. passes_shut bytes c shut (subst (λ (f : File). IsFileImage f c) pending image)))
 
-  pub length_read : (o1 : Outside) → NothingPending two file → HasShutGate bytes → DiskCall o0 o1 → o1.files ≡ o0.files → Reached two o0 o1 file (λ left. is_open left ≡ false) (settled bytes)
+  pub length_read : (o1 : Outside) → NothingPending two file → HasShutGate bytes → DiskCall o0 o1 → o1.files ≡ o0.files → ReachedFile two o0 o1 file (λ left. is_open left ≡ false) (settled bytes)
   length_read o1 pending shut call same = looked two o0 o0 o1 file _ (settled bytes) (whole pending shut) call same (λ c image. passes_shut bytes c shut image)
 
-  pub cuts_ok : (o1 o2 : Outside) (u : Unit {0}) → HasShutGate bytes → Reached two o0 o1 file (λ left. is_open left ≡ false) (settled bytes) → DiskCall o1 o2 → Becomes (Cuts file 1 (Ok u)) o1.files o2.files
-      → Reached two o0 o2 file (λ left. is_open left ≡ false) (after_cut (settled bytes) 1 (take 1 bytes))
+  pub cuts_ok : (o1 o2 : Outside) (u : Unit {0}) → HasShutGate bytes → ReachedFile two o0 o1 file (λ left. is_open left ≡ false) (settled bytes) → DiskCall o1 o2 → RelatesTold (CutsFile file 1 (Ok u)) o1.files o2.files
+      → ReachedFile two o0 o2 file (λ left. is_open left ≡ false) (after_cut (settled bytes) 1 (take 1 bytes))
   cuts_ok o1 o2 u shut run call becomes = cut_ok two o0 o1 o2 file _ (settled bytes) 1 u run call becomes (λ now c image. passes_cut bytes now c shut image)
 
-  pub cuts_err : (o1 o2 : Outside) (e : Failed) → HasShutGate bytes → Reached two o0 o1 file (λ left. is_open left ≡ false) (settled bytes) → DiskCall o1 o2 → Becomes (Cuts file 1 (Err e)) o1.files o2.files
-      → Passed two o0 o2 file (λ left. is_open left ≡ false)
+  pub cuts_err : (o1 o2 : Outside) (e : Failed) → HasShutGate bytes → ReachedFile two o0 o1 file (λ left. is_open left ≡ false) (settled bytes) → DiskCall o1 o2 → RelatesTold (CutsFile file 1 (Err e)) o1.files o2.files
+      → PassedMoments two o0 o2 file (λ left. is_open left ≡ false)
   cuts_err o1 o2 e shut run call becomes =
       cut_err two o0 o1 o2 file _ (settled bytes) 1 e run call becomes (λ c image. passes_shut bytes c shut image) (λ now c image. passes_cut bytes now c shut image)
 
-  pub cut_synced : (o2 o3 : Outside) (u : Unit {0}) → HasShutGate bytes → Reached two o0 o2 file (λ left. is_open left ≡ false) (after_cut (settled bytes) 1 (take 1 bytes)) → DiskCall o2 o3 → Becomes (Syncs file (Ok u)) o2.files o3.files
-      → Passed two o0 o3 file (λ left. is_open left ≡ false)
+  pub cut_synced : (o2 o3 : Outside) (u : Unit {0}) → HasShutGate bytes → ReachedFile two o0 o2 file (λ left. is_open left ≡ false) (after_cut (settled bytes) 1 (take 1 bytes)) → DiskCall o2 o3 → RelatesTold (SyncsFile file (Ok u)) o2.files o3.files
+      → PassedMoments two o0 o3 file (λ left. is_open left ≡ false)
   cut_synced o2 o3 u shut run call becomes = (synced_ok two o0 o2 o3 file _ _ u run call becomes (λ c image. passes_shut (take 1 bytes) c (cut_shut bytes shut) image)).moments
 
-  pub cut_unsynced : (o2 o3 : Outside) (e : Failed) → HasShutGate bytes → Reached two o0 o2 file (λ left. is_open left ≡ false) (after_cut (settled bytes) 1 (take 1 bytes)) → DiskCall o2 o3 → Becomes (Syncs file (Err e)) o2.files o3.files
-      → Passed two o0 o3 file (λ left. is_open left ≡ false)
+  pub cut_unsynced : (o2 o3 : Outside) (e : Failed) → HasShutGate bytes → ReachedFile two o0 o2 file (λ left. is_open left ≡ false) (after_cut (settled bytes) 1 (take 1 bytes)) → DiskCall o2 o3 → RelatesTold (SyncsFile file (Err e)) o2.files o3.files
+      → PassedMoments two o0 o3 file (λ left. is_open left ≡ false)
   cut_unsynced o2 o3 e shut run call becomes = synced_err two o0 o2 o3 file _ _ e run call becomes (λ c image. passes_cut bytes _ c shut image)
 
-  pub shortens : (o1 o2 o3 : Outside) (u v : Unit {0}) → DiskCall o0 o1 → o1.files ≡ o0.files → DiskCall o1 o2 → Becomes (Cuts file 1 (Ok u)) o1.files o2.files
-      → DiskCall o2 o3 → Becomes (Syncs file (Ok v)) o2.files o3.files → (two' : Two File) → o3.files ≡ Some two' → Shortens file two two'
+  pub shortens : (o1 o2 o3 : Outside) (u v : Unit {0}) → DiskCall o0 o1 → o1.files ≡ o0.files → DiskCall o1 o2 → RelatesTold (CutsFile file 1 (Ok u)) o1.files o2.files
+      → DiskCall o2 o3 → RelatesTold (SyncsFile file (Ok v)) o2.files o3.files → (two' : Two File) → o3.files ≡ Some two' → CutsToFirstByte file two two'
   shortens o1 o2 o3 u v look same call becomes sync settles two' had =
       let Q : List ℕ → Type 0 = λ _. Unit {0} in
       let run0 = begun two o0 file Q told (λ c image. tt) in
@@ -193,7 +193,7 @@ module _ (two : Two File) (o0 : Outside) (file : ℕ) (told : o0.files ≡ Some 
       }
 
 -- a file that is one byte long already
-pub short_already : (two : Two File) (file : ℕ) → length (file_of two file).now ≤ 1 → Shortens file two two
+pub short_already : (two : Two File) (file : ℕ) → length (file_of two file).now ≤ 1 → CutsToFirstByte file two two
 short_already two file short = record { reads = sym (take_all 1 (file_of two file).now short); still = λ pending. pending; other = refl }
 
 pub shut_already : (two : Two File) (file : ℕ) → HasShutGate (file_of two file).now → ShutsGate file two two
@@ -201,7 +201,7 @@ shut_already two file shut = record { shut = shut; still = λ pending. pending; 
 
 -- ---- both
 
-pub clears : (file : ℕ) (two two1 two2 : Two File) → ShutsGate file two two1 → Shortens file two1 two2 → Clears file two two2
+pub clears : (file : ℕ) (two two1 two2 : Two File) → ShutsGate file two two1 → CutsToFirstByte file two1 two2 → ClearsFile file two two2
 clears file two two1 two2 first second =
     let reads : (file_of two2 file).now ≡ first.shut.gate ∷ [] = second.reads ∙ ap (take 1) first.shut.shape in
     record {
@@ -213,8 +213,8 @@ clears file two two1 two2 first second =
     }
 
 -- one run after another, the second in words of the files between them
-pub passed_then : (two two1 : Two File) (o0 o1 o2 : Outside) (file : ℕ) (Q Q' : List ℕ → Type 0) → Passed two o0 o1 file Q → o1.links ≡ o0.links → other_of two1 file ≡ other_of two file
-    → ((c : List ℕ) → Q' c → Q c) → Passed two1 o1 o2 file Q' → Passed two o0 o2 file Q
+pub passed_then : (two two1 : Two File) (o0 o1 o2 : Outside) (file : ℕ) (Q Q' : List ℕ → Type 0) → PassedMoments two o0 o1 file Q → o1.links ≡ o0.links → other_of two1 file ≡ other_of two file
+    → ((c : List ℕ) → Q' c → Q c) → PassedMoments two1 o1 o2 file Q' → PassedMoments two o0 o2 file Q
 passed_then two two1 o0 o1 o2 file Q Q' first links other weaker second =
     moments_then o0 o1 o2 (FileMoment Q two (sent_of o0.links.told) file) first
     (moments_map o1 o2 (FileMoment Q' two1 (sent_of o1.links.told) file) (FileMoment Q two (sent_of o0.links.told) file)
@@ -229,13 +229,13 @@ pub on_ok_map : {T E : Type 0} (r : Result T E) (P Q : Type 0) → (P → Q) →
 on_ok_map (Ok _) P Q f p = f p
 on_ok_map (Err _) P Q f p = p
 
-pub becomes_new : {A : Type 0} (step : A → A → Type 0) (old new : Option A) (b : A) → new ≡ Some b → Becomes step old new → (a : A) × (old ≡ Some a) × step a b
+pub becomes_new : {A : Type 0} (step : A → A → Type 0) (old new : Option A) (b : A) → new ≡ Some b → RelatesTold step old new → (a : A) × (old ≡ Some a) × step a b
 becomes_new step None None b had p = cc
 becomes_new step None (Some y) b had p = absurd p
 becomes_new step (Some x) None b had p = cc
 becomes_new step (Some x) (Some y) b had p = let same : y ≡ b = cc in (x, refl, subst (λ z. step x z) same p)
 
-pub becomes_then : {A : Type 0} (s1 s2 s : A → A → Type 0) (a b c : Option A) → ((x y z : A) → s1 x y → s2 y z → s x z) → Becomes s1 a b → Becomes s2 b c → Becomes s a c
+pub becomes_then : {A : Type 0} (s1 s2 s : A → A → Type 0) (a b c : Option A) → ((x y z : A) → s1 x y → s2 y z → s x z) → RelatesTold s1 a b → RelatesTold s2 b c → RelatesTold s a c
 becomes_then s1 s2 s None None None f p q = tt
 becomes_then s1 s2 s None None (Some z) f p q = absurd q
 becomes_then s1 s2 s None (Some y) c f p q = absurd p

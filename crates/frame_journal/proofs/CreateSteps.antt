@@ -11,7 +11,7 @@ use Rattle.outside.specs.Frames.{is_open, HasFrames}
 use Rattle.outside.specs.Steps.{other_of}
 use Rattle.outside.proofs.CallSteps.{file_of-with_file, other_of-with_file}
 use Rattle.frame_journal.specs.Gates.{WritesBehind, KeepsFront}
-use Rattle.frame_journal.specs.Create.{IsCleared, Creates, Prepares, Publishes, ShutOrBegun, ShutOrOpened, begun_bytes, behind_gate, opened}
+use Rattle.frame_journal.specs.Create.{IsCleared, CreatesJournal, PreparesJournal, PublishesHeader, ShutOrBegun, ShutOrOpened, begun_bytes, behind_gate, opened}
 
 -- a file whose first byte is not 1 has no open header
 pub not_open : (bytes : List ℕ) → slice_index bytes 0 ≢ 1 → is_open bytes ≡ false
@@ -42,7 +42,7 @@ cleared_fits two file cleared =
 cleared_now : (two : Two File) (file : ℕ) (cleared : IsCleared two file) → (file_of two file).now ≡ cleared.gate ∷ []
 cleared_now two file cleared = ap (λ (f : File). f.now) cleared.bytes
 
-pub writes_prepares : (file format generation : ℕ) (two two' : Two File) → IsCleared two file → WritesBehind file 1 (behind_gate format generation) two two' → Prepares file format generation two two'
+pub writes_prepares : (file format generation : ℕ) (two two' : Two File) → IsCleared two file → WritesBehind file 1 (behind_gate format generation) two two' → PreparesJournal file format generation two two'
 writes_prepares file format generation two two' cleared written =
     let f = settled (overwritten (file_of two file).now 1 (behind_gate format generation)) in
     let this : file_of two' file ≡ settled (cleared.gate ∷ behind_gate format generation) =
@@ -84,16 +84,16 @@ kept_shut two file cleared c kept =
 opened_bytes : (gate format generation : ℕ) → opened (gate ∷ behind_gate format generation) ≡ begun_bytes format generation
 opened_bytes gate format generation = refl
 
-prepares_now : (file format generation : ℕ) (two two' : Two File) (p : Prepares file format generation two two') → (file_of two' file).now ≡ p.gate ∷ behind_gate format generation
+prepares_now : (file format generation : ℕ) (two two' : Two File) (p : PreparesJournal file format generation two two') → (file_of two' file).now ≡ p.gate ∷ behind_gate format generation
 prepares_now file format generation two two' p = ap (λ (f : File). f.now) p.bytes
 
-pub prepares_creates : (file format generation : ℕ) (x y z : Two File) → Prepares file format generation x y → Publishes file y z → Creates file format generation x z
+pub prepares_creates : (file format generation : ℕ) (x y z : Two File) → PreparesJournal file format generation x y → PublishesHeader file y z → CreatesJournal file format generation x z
 prepares_creates file format generation x y z p published =
     let this : file_of z file ≡ settled (begun_bytes format generation) =
     published.bytes ∙ ap (λ l. settled (opened l)) (prepares_now file format generation x y p) ∙ ap settled (opened_bytes p.gate format generation) in
     record { bytes = this; other = published.other ∙ p.other; at_rest = published.at_rest 15 p.at_rest }
 
-pub gate_begun : (file format generation : ℕ) (two two' : Two File) → Prepares file format generation two two' → (c : List ℕ) → ShutOrOpened (file_of two' file).now c → ShutOrBegun format generation c
+pub gate_begun : (file format generation : ℕ) (two two' : Two File) → PreparesJournal file format generation two two' → (c : List ℕ) → ShutOrOpened (file_of two' file).now c → ShutOrBegun format generation c
 gate_begun file format generation two two' p c either =
     elim either [
       | inl shut ↦ inl shut

@@ -10,8 +10,8 @@ use Rattle.outside.specs.Disk.{overwritten}
 use Rattle.outside.specs.Frames.{is_open, HasFrames, IsAtRest, frame_of, end_of}
 use Rattle.outside.specs.Steps.{other_of}
 use Rattle.outside.proofs.CallSteps.{file_of-with_file, other_of-with_file}
-use Rattle.frame_journal.specs.Append.{payload_of, Appends}
-use Rattle.frame_journal.specs.Create.{IsPrepared, Publishes, ShutOrOpened, opened}
+use Rattle.frame_journal.specs.Append.{payload_of, AppendsFrame}
+use Rattle.frame_journal.specs.Create.{IsPrepared, PublishesHeader, ShutOrOpened, opened}
 use Rattle.frame_journal.specs.Gates.{OpensGate, KeepsAllBut}
 use Rattle.frame_journal.proofs.CreateSteps.{not_open}
 
@@ -57,7 +57,7 @@ prepared_fits file two p =
 prepared_now : (file : ℕ) (two : Two File) (p : IsPrepared two file) → (file_of two file).now ≡ p.gate ∷ (p.marked ++ flat_map frame_of p.payloads ++ p.frames.gate ∷ p.frames.rest)
 prepared_now file two p = p.frames.whole
 
-pub opens_publishes : (file : ℕ) (two two' : Two File) → IsPrepared two file → OpensGate file 1 two two' → Publishes file two two'
+pub opens_publishes : (file : ℕ) (two two' : Two File) → IsPrepared two file → OpensGate file 1 two two' → PublishesHeader file two two'
 opens_publishes file two two' p opens =
     let f = settled (overwritten (file_of two file).now 0 (1 ∷ [])) in
     let now = prepared_now file two p in
@@ -100,7 +100,7 @@ gate_opened file two p c kept =
     ]
 
 -- a frame more leaves a file prepared
-pub prepared_appended : (file : ℕ) (framed : List ℕ) (two two' : Two File) (p : IsPrepared two file) → Appends file (end_of p.payloads) framed two two' → IsPrepared two' file
+pub prepared_appended : (file : ℕ) (framed : List ℕ) (two two' : Two File) (p : IsPrepared two file) → AppendsFrame file (end_of p.payloads) framed two two' → IsPrepared two' file
 prepared_appended file framed two two' p a = record {
   settled = a.at_rest.settled;
   gate = p.gate;

@@ -3,22 +3,22 @@ use Rattle.std.proofs.Common.{◌≡◌, ℕ, zero, suc, ◌+◌, ◌-◌, ◌�
 use Rattle.std.specs.Int.{w32, to_be_bytes}
 use Rattle.std.proofs.lemmas.List.{take-append-le, drop-drop}
 use Rattle.outside.specs.Files.{Two, File, file_of, read_files}
-use Rattle.outside.specs.Disk.{Reads}
+use Rattle.outside.specs.Disk.{ReadsBytes}
 use Rattle.outside.specs.Frames.{framed, format_in, generation_in}
-use Rattle.outside.specs.Outside.{Outside, DiskCall, Looks}
+use Rattle.outside.specs.Outside.{Outside, DiskCall, OnlyReads}
 use Rattle.outside.proofs.CallSteps.{looks_none, looks_call}
 use Rattle.frame_journal.specs.Header.{begun_at}
 use Rattle.frame_journal.specs.Journal.{JournalValue}
 use Rattle.frame_journal.specs.Next.{IsOpenGate, FrameRead}
 
-pub looks_once : (o o' : Outside) → DiskCall o o' → o'.files ≡ o.files → o.disk_faults ≤ o'.disk_faults → Looks o o'
+pub looks_once : (o o' : Outside) → DiskCall o o' → o'.files ≡ o.files → o.disk_faults ≤ o'.disk_faults → OnlyReads o o'
 looks_once o o' call same later = looks_call o o o' (looks_none o) call same later
 
 -- what a read into a part of a buffer gave
-pub gate_count : (bytes buf : List ℕ) (place len n room : ℕ) → Reads bytes place buf n → length buf ≡ room → room ≡ min (len - place) 5 → length bytes ≡ len → n ≡ min 5 (len - place)
+pub gate_count : (bytes buf : List ℕ) (place len n room : ℕ) → ReadsBytes bytes place buf n → length buf ≡ room → room ≡ min (len - place) 5 → length bytes ≡ len → n ≡ min 5 (len - place)
 gate_count bytes buf place len n room reads is_room is_min long = omega (arith, reads.count, is_room, is_min, long)
 
-pub gate_front : (bytes buf tail : List ℕ) (place n : ℕ) → Reads bytes place buf n → take n (buf ++ tail) ≡ take n (drop place bytes)
+pub gate_front : (bytes buf tail : List ℕ) (place n : ℕ) → ReadsBytes bytes place buf n → take n (buf ++ tail) ≡ take n (drop place bytes)
 gate_front bytes buf tail place n reads =
     let within : n ≤ length buf = omega (arith, reads.count) in
     take-append-le n buf tail within ∙ reads.given

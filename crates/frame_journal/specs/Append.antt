@@ -31,11 +31,11 @@ Gated bytes end framed left =
     ⊎ ((gate : ℕ) × (left ≡ take (end - 1) bytes ++ gate ∷ (framed ++ drop (end + length framed) bytes)))
 
 -- bytes were written behind a gate, and the gate was opened
-abbrev pub Opens : ℕ → ℕ → List ℕ → Two File → Two File → Type 0
-Opens file end framed old new = new ≡ with_file old file (settled (appended (file_of old file).now end framed))
+abbrev pub WritesAndOpensGate : ℕ → ℕ → List ℕ → Two File → Two File → Type 0
+WritesAndOpensGate file end framed old new = new ≡ with_file old file (settled (appended (file_of old file).now end framed))
 
 -- The file has the new frame behind its frames, and nothing is pending in it; the other file is as before.
-pub record Appends (file end : ℕ) (framed : List ℕ) (old new : Two File) : Type 0 where
+pub record AppendsFrame (file end : ℕ) (framed : List ℕ) (old new : Two File) : Type 0 where
   pub bytes : file_of new file ≡ settled (appended (file_of old file).now end framed)
   pub other : other_of new file ≡ other_of old file
   pub frames : (header : List ℕ) (payloads : List (List ℕ)) → HasFrames (file_of old file).now header payloads → end ≡ end_of payloads

@@ -33,7 +33,7 @@ pub record IsPrepared (files : Two File) (file : ℕ) : Type 0 where
 
 -- All of a journal with no frame but the gate of its header, and nothing pending in its file; the other file is as
 -- before. Frames may be added to it, and its gate may be opened.
-pub record Prepares (file format generation : ℕ) (old new : Two File) : Type 0 where
+pub record PreparesJournal (file format generation : ℕ) (old new : Two File) : Type 0 where
   pub gate : ℕ
   pub closed : gate ≢ 1
   pub bytes : file_of new file ≡ settled (gate ∷ behind_gate format generation)
@@ -47,7 +47,7 @@ opened bytes = 1 ∷ drop 1 bytes
 
 -- The gate of a file's header is open, and nothing is pending in the file; the other file is as before. What frames it
 -- had it has.
-pub record Publishes (file : ℕ) (old new : Two File) : Type 0 where
+pub record PublishesHeader (file : ℕ) (old new : Two File) : Type 0 where
   pub bytes : file_of new file ≡ settled (opened (file_of old file).now)
   pub other : other_of new file ≡ other_of old file
   pub header : is_open (file_of new file).now ≡ true
@@ -62,7 +62,7 @@ abbrev pub begun_bytes : ℕ → ℕ → List ℕ
 begun_bytes format generation = header_of format generation ++ 0 ∷ []
 
 -- A journal with no frame, and nothing pending in its file; the other file is as before.
-pub record Creates (file format generation : ℕ) (old new : Two File) : Type 0 where
+pub record CreatesJournal (file format generation : ℕ) (old new : Two File) : Type 0 where
   pub bytes : file_of new file ≡ settled (begun_bytes format generation)
   pub other : other_of new file ≡ other_of old file
   pub at_rest : IsAtRest new file 15
@@ -86,13 +86,13 @@ pub record ShutsGate (file : ℕ) (old new : Two File) : Type 0 where
   pub other : other_of new file ≡ other_of old file
 
 -- a file is cut to its first byte
-pub record Shortens (file : ℕ) (old new : Two File) : Type 0 where
+pub record CutsToFirstByte (file : ℕ) (old new : Two File) : Type 0 where
   pub reads : (file_of new file).now ≡ take 1 (file_of old file).now
   pub still : NothingPending old file → NothingPending new file
   pub other : other_of new file ≡ other_of old file
 
 -- The file reads as one byte, which is no open gate; where nothing was pending in it, it is cleared.
-pub record Clears (file : ℕ) (old new : Two File) : Type 0 where
+pub record ClearsFile (file : ℕ) (old new : Two File) : Type 0 where
   pub gate : ℕ
   pub closed : gate ≢ 1
   pub reads : (file_of new file).now ≡ gate ∷ []

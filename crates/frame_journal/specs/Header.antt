@@ -19,14 +19,14 @@ begun_at file bytes = record { file = file; format = format_in bytes; generation
 -- The journal of two files begins behind the header of the journal's file, where its format is one
 -- that a journal may have; else the file is damaged there, and where no header is open there is no
 -- journal.
-abbrev pub Starts : Two (List ℕ) → Result JournalValue StartFault → Type 0
-Starts files (Ok journal) =
+abbrev pub StartsJournal : Two (List ℕ) → Result JournalValue StartFault → Type 0
+StartsJournal files (Ok journal) =
     (journal_file files ≡ Some journal.file)
     × (is_format (format_in (file_of files journal.file)) ≡ true)
     × (journal ≡ begun_at journal.file (file_of files journal.file))
-Starts files (Err start.NoStore) = journal_file files ≡ None
-Starts files (Err (start.Damaged place)) =
+StartsJournal files (Err start.NoStore) = journal_file files ≡ None
+StartsJournal files (Err (start.Damaged place)) =
     (journal_file files ≡ Some place.file)
     × (is_format (format_in (file_of files place.file)) ≡ false)
     × (place.at ≡ 5)
-Starts files (Err start.DiskFault) = Unit {0}
+StartsJournal files (Err start.DiskFault) = Unit {0}

@@ -54,19 +54,19 @@ pub record NextFrame (bytes : List ℕ) (old new : JournalValue) (to : List ℕ)
   pub behind : List ℕ
   pub spelled : drop (old.end - 1) bytes ≡ frame_of to ++ behind
 
-abbrev pub IsNext : List ℕ → JournalValue → JournalValue → List ℕ → Result Bool FrameFault → Type 0
-IsNext bytes old new to (Ok true) = NextFrame bytes old new to
-IsNext bytes old new to (Ok false) = (frame_at bytes (old.end - 1) ≡ closed) × (new ≡ old)
-IsNext bytes old new to (Err (fault.Damaged place)) = (frame_at bytes (old.end - 1) ≡ broken) × (place.file ≡ old.file) × (place.at ≡ old.end - 1) × (new ≡ old)
-IsNext bytes old new to (Err fault.DiskFault) = new ≡ old
-IsNext bytes old new to (Err fault.Memory) = new ≡ old
+abbrev pub IsNextFrame : List ℕ → JournalValue → JournalValue → List ℕ → Result Bool FrameFault → Type 0
+IsNextFrame bytes old new to (Ok true) = NextFrame bytes old new to
+IsNextFrame bytes old new to (Ok false) = (frame_at bytes (old.end - 1) ≡ closed) × (new ≡ old)
+IsNextFrame bytes old new to (Err (fault.Damaged place)) = (frame_at bytes (old.end - 1) ≡ broken) × (place.file ≡ old.file) × (place.at ≡ old.end - 1) × (new ≡ old)
+IsNextFrame bytes old new to (Err fault.DiskFault) = new ≡ old
+IsNextFrame bytes old new to (Err fault.Memory) = new ≡ old
 
 -- whatever the disk tells: how far the reader moved, and that it did not at another answer
-abbrev pub Moves : JournalValue → JournalValue → Result Bool FrameFault → Type 0
-Moves old new (Ok true) = (new.file ≡ old.file) × (new.len ≡ old.len) × (new.last ≡ old.end - 1) × (old.end + 6 ≤ new.end) × (new.end ≤ old.end + 5 + MAX_FRAME) × (new.format ≡ old.format) × (new.generation ≡ old.generation)
+abbrev pub MovesReader : JournalValue → JournalValue → Result Bool FrameFault → Type 0
+MovesReader old new (Ok true) = (new.file ≡ old.file) × (new.len ≡ old.len) × (new.last ≡ old.end - 1) × (old.end + 6 ≤ new.end) × (new.end ≤ old.end + 5 + MAX_FRAME) × (new.format ≡ old.format) × (new.generation ≡ old.generation)
     × (new.end ≤ MAX_JOURNAL)
-Moves old new (Ok false) = new ≡ old
-Moves old new (Err _) = new ≡ old
+MovesReader old new (Ok false) = new ≡ old
+MovesReader old new (Err _) = new ≡ old
 
 -- a fact where the answer is a frame
 abbrev pub OnTrue : Result Bool FrameFault → Type 0 → Type 0

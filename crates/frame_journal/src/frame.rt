@@ -3,10 +3,10 @@ ghost use Rattle.std.specs.Prelude.{◌≡◌, ◌+◌, ◌-◌, ◌<◌, ◌≤
 ghost use Rattle.std.specs.Prelude.{length, vec_len, IfOk, IfErr, IsErrOf};
 ghost use Rattle.frame_journal.specs.declared.fault.FrameFault.TheVariants as fault;
 ghost use Rattle.std.specs.Option.{ForSome};
-ghost use Rattle.outside.specs.Faults.{HasCause, Rose};
+ghost use Rattle.outside.specs.Faults.{HasCause, CountRose};
 ghost use Rattle.outside.specs.Files.{file_of};
-ghost use Rattle.outside.specs.Outside.{Looks, MakesCalls};
-ghost use Rattle.outside.specs.Disk.{Reads};
+ghost use Rattle.outside.specs.Outside.{OnlyReads, MakesCalls};
+ghost use Rattle.outside.specs.Disk.{ReadsBytes};
 ghost use Rattle.frame_journal.specs.Next.{IsGate, HasSize, IsNextAt, IsSizeOf, ReadsGate};
 ghost use Rattle.frame_journal.specs.Next.{ReadsFrame};
 
@@ -32,7 +32,7 @@ pub fn read_gate<D: Disk>(disk: &mut D, file: u8, place: u64, len: u64) -> Resul
     ensures gate { IfOk result (λ gate. ForSome (D.tells disk.old).files
         (λ two. length (file_of two file).now ≡ len → IsGate (file_of two file).now place gate)) }
     ensures size { IfOk result (HasSize place) }
-    ensures looks { Looks (D.tells disk.old) (D.tells disk.new) }
+    ensures looks { OnlyReads (D.tells disk.old) (D.tells disk.new) }
     ensures fault { HasCause (D.tells disk.old).disk_faults (D.tells disk.new).disk_faults result }
     ensures calls { ReadsGate result (D.tells disk.old) (D.tells disk.new) }
 {
@@ -84,10 +84,10 @@ pub fn read_payload<D: Disk>(
         (λ two. at + size ≤ length (file_of two file).now → (all ≡ true)
         × (to.new.items ≡ take size (drop at (file_of two file).now)))) }
     ensures len { IfOk result (λ all. vec_len to.new ≡ size) }
-    ensures looks { Looks (D.tells disk.old) (D.tells disk.new) }
+    ensures looks { OnlyReads (D.tells disk.old) (D.tells disk.new) }
     ensures later { (D.tells disk.old).disk_faults ≤ (D.tells disk.new).disk_faults }
     ensures fault { IsErrOf result FrameFault.DiskFault
-        → Rose (D.tells disk.old).disk_faults (D.tells disk.new).disk_faults }
+        → CountRose (D.tells disk.old).disk_faults (D.tells disk.new).disk_faults }
     ensures calls { MakesCalls 1 result (D.tells disk.old) (D.tells disk.new) }
     ensures undamaged { IfErr result (λ e. e ≡ FrameFault.DiskFault ⊎ e ≡ FrameFault.Memory) }
 {
@@ -112,10 +112,10 @@ pub fn next_at<D: Disk>(
     ensures next { ForSome (D.tells disk.old).files
         (λ two. IsNextAt (file_of two file).now file place to.new.items result) }
     ensures size { IfOk result (IsSizeOf place (vec_len to.new)) }
-    ensures looks { Looks (D.tells disk.old) (D.tells disk.new) }
+    ensures looks { OnlyReads (D.tells disk.old) (D.tells disk.new) }
     ensures later { (D.tells disk.old).disk_faults ≤ (D.tells disk.new).disk_faults }
     ensures fault { IsErrOf result FrameFault.DiskFault
-        → Rose (D.tells disk.old).disk_faults (D.tells disk.new).disk_faults }
+        → CountRose (D.tells disk.old).disk_faults (D.tells disk.new).disk_faults }
     ensures calls { ReadsFrame result (D.tells disk.old) (D.tells disk.new) }
 {
     match read_gate(disk, file, place, len) {

@@ -4,14 +4,14 @@ ghost use Rattle.std.specs.Prelude.{◌==◌, length, OnOk};
 ghost use Rattle.std.specs.Option.{ForSome};
 ghost use Rattle.outside.specs.Faults.{HasCause};
 ghost use Rattle.outside.specs.Files.{Two, File, file_of, NothingPending};
-ghost use Rattle.outside.specs.Disk.{Becomes};
+ghost use Rattle.outside.specs.Disk.{RelatesTold};
 ghost use Rattle.outside.specs.Frames.{is_open};
 ghost use Rattle.outside.specs.Outside.{DiskRun, MakesCalls, MakesAtMost};
-ghost use Rattle.outside.specs.Steps.{Passed};
-ghost use Rattle.frame_journal.specs.Append.{Opens, Gated};
-ghost use Rattle.frame_journal.specs.Create.{IsCleared, Clears, Creates, Prepares, behind_gate};
+ghost use Rattle.outside.specs.Steps.{PassedMoments};
+ghost use Rattle.frame_journal.specs.Append.{WritesAndOpensGate, Gated};
+ghost use Rattle.frame_journal.specs.Create.{IsCleared, ClearsFile, CreatesJournal, PreparesJournal, behind_gate};
 ghost use Rattle.frame_journal.specs.Create.{ShutOrBegun, BeforeOrShut, HasShutGate, ShutsGate};
-ghost use Rattle.frame_journal.specs.Create.{Shortens, IsPrepared, Publishes, ShutOrOpened};
+ghost use Rattle.frame_journal.specs.Create.{CutsToFirstByte, IsPrepared, PublishesHeader, ShutOrOpened};
 ghost use Rattle.frame_journal.specs.Gates.{SyncsBoth, AnyImage, WritesBehind, OpensGate};
 ghost use Rattle.frame_journal.specs.Journal.{is_format};
 ghost use Rattle.frame_journal.specs.Gates.{KeepsFront, KeepsAllBut, ReadsSame};
@@ -22,9 +22,9 @@ use outside::Disk;
 /// Syncs both files, file 0 first, in two calls of the disk: after it a crash leaves what a read
 /// gives. Whatever it answers, the files read as before.
 pub fn barrier<D: Disk>(disk: &mut D) -> Result<(), DiskFault>
-    ensures settled { OnOk result (Becomes SyncsBoth (D.tells disk.old).files
+    ensures settled { OnOk result (RelatesTold SyncsBoth (D.tells disk.old).files
         (D.tells disk.new).files) }
-    ensures reads { Becomes ReadsSame (D.tells disk.old).files (D.tells disk.new).files }
+    ensures reads { RelatesTold ReadsSame (D.tells disk.old).files (D.tells disk.new).files }
 
     // At each moment a crash leaves what it might have left before.
     ensures any_moment { AnyImage (D.tells disk.old) (D.tells disk.new) }
@@ -48,10 +48,10 @@ pub fn write_behind<D: Disk>(
     requires file { file < 2 }
     requires fits { ForSome (D.tells disk.old).files (λ two. NothingPending two file
         × (end ≤ length (file_of two file).now)) }
-    ensures written { OnOk result (Becomes (WritesBehind file end bytes.now)
+    ensures written { OnOk result (RelatesTold (WritesBehind file end bytes.now)
         (D.tells disk.old).files (D.tells disk.new).files) }
     ensures any_moment { (two : Two File) → (D.tells disk.old).files ≡ Some two
-        → Passed two (D.tells disk.old) (D.tells disk.new) file
+        → PassedMoments two (D.tells disk.old) (D.tells disk.new) file
         (KeepsFront (file_of two file).now end) }
     ensures run { DiskRun (D.tells disk.old) (D.tells disk.new) }
     ensures fault { HasCause (D.tells disk.old).disk_faults (D.tells disk.new).disk_faults result }
@@ -69,10 +69,10 @@ pub fn open_gate<D: Disk>(disk: &mut D, file: u8, end: u64) -> Result<(), DiskFa
     requires behind { 1 ≤ end }
     requires fits { ForSome (D.tells disk.old).files (λ two. NothingPending two file
         × (end ≤ length (file_of two file).now)) }
-    ensures opened { OnOk result (Becomes (OpensGate file end) (D.tells disk.old).files
+    ensures opened { OnOk result (RelatesTold (OpensGate file end) (D.tells disk.old).files
         (D.tells disk.new).files) }
     ensures any_moment { (two : Two File) → (D.tells disk.old).files ≡ Some two
-        → Passed two (D.tells disk.old) (D.tells disk.new) file
+        → PassedMoments two (D.tells disk.old) (D.tells disk.new) file
         (KeepsAllBut (file_of two file).now (end - 1)) }
     ensures run { DiskRun (D.tells disk.old) (D.tells disk.new) }
     ensures fault { HasCause (D.tells disk.old).disk_faults (D.tells disk.new).disk_faults result }
@@ -90,10 +90,10 @@ pub fn open_behind<D: Disk>(disk: &mut D, file: u8, end: u64, bytes: &[u8]) -> R
     requires behind { 1 ≤ end }
     requires fits { ForSome (D.tells disk.old).files (λ two. NothingPending two file
         × (end ≤ length (file_of two file).now)) }
-    ensures opened { OnOk result (Becomes (Opens file end bytes.now) (D.tells disk.old).files
+    ensures opened { OnOk result (RelatesTold (WritesAndOpensGate file end bytes.now) (D.tells disk.old).files
         (D.tells disk.new).files) }
     ensures any_moment { (two : Two File) → (D.tells disk.old).files ≡ Some two
-        → Passed two (D.tells disk.old) (D.tells disk.new) file
+        → PassedMoments two (D.tells disk.old) (D.tells disk.new) file
         (Gated (file_of two file).now end bytes.now) }
     ensures run { DiskRun (D.tells disk.old) (D.tells disk.new) }
     ensures fault { HasCause (D.tells disk.old).disk_faults (D.tells disk.new).disk_faults result }
@@ -110,10 +110,10 @@ pub fn create<D: Disk>(disk: &mut D, file: u8, format: u8, generation: u64) -> R
     requires file { file < 2 }
     requires format { is_format format ≡ true }
     requires cleared { ForSome (D.tells disk.old).files (λ two. IsCleared two file) }
-    ensures created { OnOk result (Becomes (Creates file format generation) (D.tells disk.old).files
+    ensures created { OnOk result (RelatesTold (CreatesJournal file format generation) (D.tells disk.old).files
         (D.tells disk.new).files) }
     ensures any_moment { (two : Two File) → (D.tells disk.old).files ≡ Some two
-        → Passed two (D.tells disk.old) (D.tells disk.new) file (ShutOrBegun format generation) }
+        → PassedMoments two (D.tells disk.old) (D.tells disk.new) file (ShutOrBegun format generation) }
     ensures run { DiskRun (D.tells disk.old) (D.tells disk.new) }
     ensures fault { HasCause (D.tells disk.old).disk_faults (D.tells disk.new).disk_faults result }
     ensures calls { MakesCalls 4 result (D.tells disk.old) (D.tells disk.new) }
@@ -134,10 +134,10 @@ pub fn prepare<D: Disk>(
     requires file { file < 2 }
     requires format { is_format format ≡ true }
     requires cleared { ForSome (D.tells disk.old).files (λ two. IsCleared two file) }
-    ensures prepared { OnOk result (Becomes (Prepares file format generation) (D.tells disk.old).files
+    ensures prepared { OnOk result (RelatesTold (PreparesJournal file format generation) (D.tells disk.old).files
         (D.tells disk.new).files) }
     ensures any_moment { (two : Two File) → (D.tells disk.old).files ≡ Some two
-        → Passed two (D.tells disk.old) (D.tells disk.new) file (λ left. is_open left ≡ false) }
+        → PassedMoments two (D.tells disk.old) (D.tells disk.new) file (λ left. is_open left ≡ false) }
     ensures run { DiskRun (D.tells disk.old) (D.tells disk.new) }
     ensures fault { HasCause (D.tells disk.old).disk_faults (D.tells disk.new).disk_faults result }
     ensures calls { MakesCalls 2 result (D.tells disk.old) (D.tells disk.new) }
@@ -152,10 +152,10 @@ pub fn prepare<D: Disk>(
 pub fn publish<D: Disk>(disk: &mut D, file: u8) -> Result<(), DiskFault>
     requires file { file < 2 }
     requires prepared { ForSome (D.tells disk.old).files (λ two. IsPrepared two file) }
-    ensures published { OnOk result (Becomes (Publishes file) (D.tells disk.old).files
+    ensures published { OnOk result (RelatesTold (PublishesHeader file) (D.tells disk.old).files
         (D.tells disk.new).files) }
     ensures any_moment { (two : Two File) → (D.tells disk.old).files ≡ Some two
-        → Passed two (D.tells disk.old) (D.tells disk.new) file
+        → PassedMoments two (D.tells disk.old) (D.tells disk.new) file
         (ShutOrOpened (file_of two file).now) }
     ensures run { DiskRun (D.tells disk.old) (D.tells disk.new) }
     ensures fault { HasCause (D.tells disk.old).disk_faults (D.tells disk.new).disk_faults result }
@@ -176,10 +176,10 @@ fn behind_gate(format: u8, generation: u64) -> [u8; 14]
 /// it is one byte long, which is no open gate, and nothing is pending in it.
 pub fn clear<D: Disk>(disk: &mut D, file: u8) -> Result<(), DiskFault>
     requires { file < 2 }
-    ensures cleared { OnOk result (Becomes (Clears file) (D.tells disk.old).files
+    ensures cleared { OnOk result (RelatesTold (ClearsFile file) (D.tells disk.old).files
         (D.tells disk.new).files) }
     ensures any_moment { (two : Two File) → (D.tells disk.old).files ≡ Some two
-        → NothingPending two file → Passed two (D.tells disk.old) (D.tells disk.new) file
+        → NothingPending two file → PassedMoments two (D.tells disk.old) (D.tells disk.new) file
         (BeforeOrShut (file_of two file).now) }
     ensures run { DiskRun (D.tells disk.old) (D.tells disk.new) }
     ensures fault { HasCause (D.tells disk.old).disk_faults (D.tells disk.new).disk_faults result }
@@ -192,10 +192,10 @@ pub fn clear<D: Disk>(disk: &mut D, file: u8) -> Result<(), DiskFault>
 // Puts a closed gate in the place of an open one, or of none.
 fn shut_gate<D: Disk>(disk: &mut D, file: u8) -> Result<(), DiskFault>
     requires { file < 2 }
-    ensures shut { OnOk result (Becomes (ShutsGate file) (D.tells disk.old).files
+    ensures shut { OnOk result (RelatesTold (ShutsGate file) (D.tells disk.old).files
         (D.tells disk.new).files) }
     ensures any_moment { (two : Two File) → (D.tells disk.old).files ≡ Some two
-        → NothingPending two file → Passed two (D.tells disk.old) (D.tells disk.new) file
+        → NothingPending two file → PassedMoments two (D.tells disk.old) (D.tells disk.new) file
         (BeforeOrShut (file_of two file).now) }
     ensures run { DiskRun (D.tells disk.old) (D.tells disk.new) }
     ensures fault { HasCause (D.tells disk.old).disk_faults (D.tells disk.new).disk_faults result }
@@ -222,10 +222,10 @@ fn is_shut(n: usize, gate: u8) -> bool
 fn shorten<D: Disk>(disk: &mut D, file: u8) -> Result<(), DiskFault>
     requires file { file < 2 }
     requires shut { ForSome (D.tells disk.old).files (λ two. HasShutGate (file_of two file).now) }
-    ensures shortened { OnOk result (Becomes (Shortens file) (D.tells disk.old).files
+    ensures shortened { OnOk result (RelatesTold (CutsToFirstByte file) (D.tells disk.old).files
         (D.tells disk.new).files) }
     ensures any_moment { (two : Two File) → (D.tells disk.old).files ≡ Some two
-        → NothingPending two file → Passed two (D.tells disk.old) (D.tells disk.new) file
+        → NothingPending two file → PassedMoments two (D.tells disk.old) (D.tells disk.new) file
         (λ left. is_open left ≡ false) }
     ensures run { DiskRun (D.tells disk.old) (D.tells disk.new) }
     ensures fault { HasCause (D.tells disk.old).disk_faults (D.tells disk.new).disk_faults result }

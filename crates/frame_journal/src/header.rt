@@ -4,7 +4,7 @@ ghost use Rattle.std.specs.Option.{ForSome, option_map};
 ghost use Rattle.outside.specs.Faults.{HasCause};
 ghost use Rattle.outside.specs.Files.{Two, file_of};
 ghost use Rattle.outside.specs.Frames.{is_open, journal_file};
-ghost use Rattle.outside.specs.Outside.{Looks, MakesCalls};
+ghost use Rattle.outside.specs.Outside.{OnlyReads, MakesCalls};
 ghost use Rattle.frame_journal.specs.Journal.{is_format};
 
 use crate::DiskFault;
@@ -70,7 +70,7 @@ pub fn read_header<D: Disk>(disk: &mut D, file: u8) -> Result<Option<Header>, Di
     requires { file < 2 }
     ensures header { IfOk result
         (λ h. ForSome (D.tells disk.old).files (λ two. IsHeaderOf (file_of two file).now h)) }
-    ensures looks { Looks (D.tells disk.old) (D.tells disk.new) }
+    ensures looks { OnlyReads (D.tells disk.old) (D.tells disk.new) }
     ensures fault { HasCause (D.tells disk.old).disk_faults (D.tells disk.new).disk_faults result }
     ensures calls { MakesCalls 1 result (D.tells disk.old) (D.tells disk.new) }
 {

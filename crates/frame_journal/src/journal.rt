@@ -1,18 +1,18 @@
 //! The journal's file: its frames are read in order, and then further ones are added.
 ghost use Rattle.std.specs.Prelude.{◌≡◌, ◌+◌, ◌<◌, ◌≤◌, true, max, Some, length, OnOk, OnErr, IfOk};
 ghost use Rattle.std.specs.Prelude.{IsErrOf, vec_len};
-ghost use Rattle.frame_journal.specs.Header.{Starts};
-ghost use Rattle.frame_journal.specs.Next.{IsNext, Moves, OnTrue, ReadsNext};
+ghost use Rattle.frame_journal.specs.Header.{StartsJournal};
+ghost use Rattle.frame_journal.specs.Next.{IsNextFrame, MovesReader, OnTrue, ReadsNext};
 ghost use Rattle.frame_journal.specs.Journal.{fresh, is_format, rewound};
 ghost use Rattle.std.specs.Option.{ForSome};
-ghost use Rattle.outside.specs.Faults.{HasCause, Rose};
+ghost use Rattle.outside.specs.Faults.{HasCause, CountRose};
 ghost use Rattle.outside.specs.Files.{Two, File, file_of, read_files};
 ghost use Rattle.outside.specs.Links.{sent_of};
-ghost use Rattle.outside.specs.Outside.{DiskRun, Looks, MakesCalls};
-ghost use Rattle.outside.specs.Disk.{Becomes};
+ghost use Rattle.outside.specs.Outside.{DiskRun, OnlyReads, MakesCalls};
+ghost use Rattle.outside.specs.Disk.{RelatesTold};
 ghost use Rattle.outside.specs.Frames.{IsAtRest};
-ghost use Rattle.outside.specs.Steps.{Passed};
-ghost use Rattle.frame_journal.specs.Append.{IsFramed, Appends, BeforeOrWith};
+ghost use Rattle.outside.specs.Steps.{PassedMoments};
+ghost use Rattle.frame_journal.specs.Append.{IsFramed, AppendsFrame, BeforeOrWith};
 
 use crate::frame::next_at;
 use crate::gates::open_behind;
@@ -58,12 +58,12 @@ impl Journal {
     /// `Damaged` exactly where that file's format is no format of a journal (`is_format`), at the
     /// format's place, 5.
     pub fn start<D: Disk>(disk: &mut D) -> Result<Journal, StartFault>
-        ensures start { ForSome (D.tells disk.old).files (λ two. Starts (read_files two) result) }
+        ensures start { ForSome (D.tells disk.old).files (λ two. StartsJournal (read_files two) result) }
         ensures fresh { IfOk result (λ j. (j.file < 2) × (j.end ≡ 15)) }
-        ensures looks { Looks (D.tells disk.old) (D.tells disk.new) }
+        ensures looks { OnlyReads (D.tells disk.old) (D.tells disk.new) }
         ensures later { (D.tells disk.old).disk_faults ≤ (D.tells disk.new).disk_faults }
         ensures fault { IsErrOf result StartFault.DiskFault
-            → Rose (D.tells disk.old).disk_faults (D.tells disk.new).disk_faults }
+            → CountRose (D.tells disk.old).disk_faults (D.tells disk.new).disk_faults }
         ensures calls { MakesCalls 3 result (D.tells disk.old) (D.tells disk.new) }
     {
         let first = read_header(disk, 0)?;
@@ -129,13 +129,13 @@ impl Journal {
         requires { ForSome (D.tells disk.old).files
             (λ two. length (file_of two self.old.file).now ≡ self.old.len) }
         ensures next { ForSome (D.tells disk.old).files
-            (λ two. IsNext (file_of two self.old.file).now self.old self.new to.new.items result) }
-        ensures moves { Moves self.old self.new result }
+            (λ two. IsNextFrame (file_of two self.old.file).now self.old self.new to.new.items result) }
+        ensures moves { MovesReader self.old self.new result }
         ensures size { OnTrue result (self.new.end ≡ self.old.end + 5 + vec_len to.new) }
-        ensures looks { Looks (D.tells disk.old) (D.tells disk.new) }
+        ensures looks { OnlyReads (D.tells disk.old) (D.tells disk.new) }
         ensures later { (D.tells disk.old).disk_faults ≤ (D.tells disk.new).disk_faults }
         ensures fault { IsErrOf result FrameFault.DiskFault
-            → Rose (D.tells disk.old).disk_faults (D.tells disk.new).disk_faults }
+            → CountRose (D.tells disk.old).disk_faults (D.tells disk.new).disk_faults }
         ensures calls { ReadsNext result (D.tells disk.old) (D.tells disk.new) }
     {
         let place = self.end - 1;
@@ -176,10 +176,10 @@ impl Journal {
               len = max self.old.len (self.old.end + length framed.now);
             }) }
         ensures err { OnErr result (self.new ≡ self.old) }
-        ensures appended { OnOk result (Becomes (Appends self.old.file self.old.end framed.now)
+        ensures appended { OnOk result (RelatesTold (AppendsFrame self.old.file self.old.end framed.now)
             (D.tells disk.old).files (D.tells disk.new).files) }
         ensures any_moment { (two : Two File) → (D.tells disk.old).files ≡ Some two
-            → Passed two (D.tells disk.old) (D.tells disk.new) self.old.file
+            → PassedMoments two (D.tells disk.old) (D.tells disk.new) self.old.file
             (BeforeOrWith (file_of two self.old.file).now self.old.end framed.now) }
         ensures run { DiskRun (D.tells disk.old) (D.tells disk.new) }
         ensures fault { HasCause (D.tells disk.old).disk_faults (D.tells disk.new).disk_faults

@@ -3,7 +3,7 @@ use Rattle.std.proofs.Common.{◌≡◌, ℕ, zero, suc, Bool, true, false, List
 use Rattle.std.specs.List.{AllByRecursion}
 use Rattle.std.specs.Option.{option_map, IfSome}
 use Rattle.std.specs.Result.{IsErrAnd}
-use Rattle.outside.specs.Faults.{Rose}
+use Rattle.outside.specs.Faults.{CountRose}
 use Rattle.outside.specs.Files.{File, Two, file_of, read_files}
 use Rattle.outside.specs.Frames.{format_in, journal_file}
 use Rattle.entry_codec.specs.declared.naming.Format.{Format}
@@ -26,14 +26,14 @@ use Rattle.journal_audit.specs.declared.files.Header.{Header}
 use Rattle.journal_audit.specs.declared.files.Taken.{Taken}
 use Rattle.journal_audit.specs.declared.reading.Played.{Played}
 use Rattle.journal_audit.specs.declared.report.Report.{Report}
-use Rattle.journal_audit.specs.Answers.{IsAuditOf, IsAudited, IsTaken, Reports, Says}
-use Rattle.journal_audit.specs.Files.{IsFound, IsHeaderOf}
+use Rattle.journal_audit.specs.Answers.{IsAuditOf, IsAudited, IsFileTaken, ReportsFrames, SaysOfStanding}
+use Rattle.journal_audit.specs.Files.{IsFileFound, IsHeaderOf}
 use Rattle.journal_audit.specs.Lines.{held_in, held_of}
-use Rattle.journal_audit.specs.Plain.{Knows, facts_of}
-use Rattle.journal_audit.specs.Reading.{IsDamage, IsRead, whole_of}
+use Rattle.journal_audit.specs.Plain.{KnowsMeanings, facts_of}
+use Rattle.journal_audit.specs.Reading.{IsDamage, IsJournalRead, whole_of}
 use Rattle.journal_audit.specs.Reports.{EndsAreCounted, IsReport}
-use Rattle.journal_audit.specs.Rounding.{IsGraph, round_count}
-use Rattle.journal_audit.specs.Telling.{Tells}
+use Rattle.journal_audit.specs.Rounding.{IsGraphOfLines, round_count}
+use Rattle.journal_audit.specs.Telling.{TellsReport}
 
 -- an answer that is this error
 pub err_is : {T E : Type 0} (r : Result T E) (e : E) → IsErrAnd r (λ x. x ≡ e) → r ≡ Err e
@@ -43,7 +43,7 @@ err_is (Err x) e is = ap (λ y. Err y) is
 -- ---- the journal's file
 
 pub found_some : (files : Two (List ℕ)) (o : Option (ℕ × ℕ)) (found : ℕ × ℕ) → journal_file files ≡ option_map (λ (x : ℕ × ℕ). x.0) o → IfSome o (λ x. x.1 ≡ format_in (file_of files x.0)) → o ≡ Some found
-    → IsFound files (Ok found)
+    → IsFileFound files (Ok found)
 found_some files o found file format is =
     let P : Option (ℕ × ℕ) → Type 0 = λ x. IfSome x (λ y. y.1 ≡ format_in (file_of files y.0)) in
     (file ∙ ap (option_map (λ (x : ℕ × ℕ). x.0)) is, sym (subst P is format))
@@ -52,15 +52,15 @@ pub as_read : (two : Two File) (file : ℕ) → file_of (read_files two) file �
 as_read two zero = refl
 as_read two (suc n) = refl
 
-pub taken_other : (clients : Meaning) (files : Two (List ℕ)) (file number : ℕ) → IsFound files (Ok (file, number)) → format_of number ≡ None → stands clients files ≡ damaged file 5
+pub taken_other : (clients : Meaning) (files : Two (List ℕ)) (file number : ℕ) → IsFileFound files (Ok (file, number)) → format_of number ≡ None → stands clients files ≡ damaged file 5
 taken_other clients files file number found none = front_format clients files file found.0 (ap format_of found.1 ∙ none)
 
-pub taken_file : (clients : Meaning) (files : Two (List ℕ)) (file number : ℕ) (format : Format) (bytes : List ℕ) → IsFound files (Ok (file, number)) → format_of number ≡ Some format
+pub taken_file : (clients : Meaning) (files : Two (List ℕ)) (file number : ℕ) (format : Format) (bytes : List ℕ) → IsFileFound files (Ok (file, number)) → format_of number ≡ Some format
     → bytes ≡ file_of files file → stands clients files ≡ whole_of clients file format bytes
 taken_file clients files file number format bytes found known all =
     (front_start clients files file format found.0 (ap format_of found.1 ∙ known)).going ∙ ap (whole_of clients file format) (sym all)
 
-pub taken_fault : (clients : Meaning) (files : Two (List ℕ)) (e : AuditFault) → IsFound files (Err e) → IsTaken clients files (Err e)
+pub taken_fault : (clients : Meaning) (files : Two (List ℕ)) (e : AuditFault) → IsFileFound files (Err e) → IsFileTaken clients files (Err e)
 taken_fault clients files fault.Memory found = tt
 taken_fault clients files fault.NoStore found = front_none clients files found
 taken_fault clients files (fault.Damaged place) found = absurd found
@@ -74,7 +74,7 @@ settled_is clients f o on is = by (next clients f) (sym is ∙ on) where
   by None none = refl
   by (Some e) none = absurd (false≢true none)
 
-graph_is : (clients : Meaning) (p : PlainFacts) → Knows clients p → IsGraph (graph_of clients (facts_of p)) p.messages.lines
+graph_is : (clients : Meaning) (p : PlainFacts) → KnowsMeanings clients p → IsGraphOfLines (graph_of clients (facts_of p)) p.messages.lines
 graph_is clients p knows = record { held_is = refl; verdicts = knows }
 
 counted : (clients : Meaning) (p : Played) (f : Facts) (of_good : Bool) (n : ℕ) → facts_of p.facts ≡ f → n ≡ round_count of_good (graph_of clients (facts_of p.facts)) (held_in p.facts.messages.lines)
@@ -82,7 +82,7 @@ counted : (clients : Meaning) (p : Played) (f : Facts) (of_good : Bool) (n : ℕ
 counted clients p f of_good n is told = told ∙ ap (λ (x : Facts). round_count of_good (graph_of clients x) x.held) is
 
 pub audit_of : ((clients : Meaning) (j : List (List Entry)) → Legal clients j → IsSettled clients (facts j) → CountsEnds clients (facts j)) → (clients : Meaning) (whole : Standing) (p : Played) (r : Report)
-    → IsRead clients whole p → Tells p r → IsAuditOf clients whole r
+    → IsJournalRead clients whole p → TellsReport p r → IsAuditOf clients whole r
 audit_of law clients whole p r read told =
     let of = read.of in
     let graph = graph_is clients p.facts of.knows in
@@ -101,21 +101,21 @@ audit_of law clients whole p r read told =
 
 -- ---- the answer
 
-damage_said : (clients : Meaning) (standing : Standing) (e : AuditFault) → IsDamage standing e → Says clients standing (Err e)
+damage_said : (clients : Meaning) (standing : Standing) (e : AuditFault) → IsDamage standing e → SaysOfStanding clients standing (Err e)
 damage_said clients standing fault.Memory damage = tt
 damage_said clients standing fault.NoStore damage = absurd damage
 damage_said clients standing (fault.Damaged place) damage = damage
 damage_said clients standing fault.DiskFault damage = tt
 
-reports_say : (clients : Meaning) (standing : Standing) (r : Result Report AuditFault) → Reports clients standing r → Says clients standing r
+reports_say : (clients : Meaning) (standing : Standing) (r : Result Report AuditFault) → ReportsFrames clients standing r → SaysOfStanding clients standing r
 reports_say clients standing (Ok r) reports = reports
 reports_say clients standing (Err e) reports = damage_said clients standing e reports
 
-pub audited : (clients : Meaning) (files : Two (List ℕ)) (t : Taken) (r : Result Report AuditFault) → IsTaken clients files (Ok t) → Reports clients (whole_of clients t.file t.format t.bytes.items) r
+pub audited : (clients : Meaning) (files : Two (List ℕ)) (t : Taken) (r : Result Report AuditFault) → IsFileTaken clients files (Ok t) → ReportsFrames clients (whole_of clients t.file t.format t.bytes.items) r
     → IsAudited clients files r
-audited clients files t r taken reports = subst (λ (s : Standing). Says clients s r) (sym taken) (reports_say clients (whole_of clients t.file t.format t.bytes.items) r reports)
+audited clients files t r taken reports = subst (λ (s : Standing). SaysOfStanding clients s r) (sym taken) (reports_say clients (whole_of clients t.file t.format t.bytes.items) r reports)
 
-pub untaken : (clients : Meaning) (files : Two (List ℕ)) (e : AuditFault) → IsTaken clients files (Err e) → IsAudited clients files (Err e)
+pub untaken : (clients : Meaning) (files : Two (List ℕ)) (e : AuditFault) → IsFileTaken clients files (Err e) → IsAudited clients files (Err e)
 untaken clients files fault.Memory taken = tt
 untaken clients files fault.NoStore taken = taken
 untaken clients files (fault.Damaged place) taken = taken

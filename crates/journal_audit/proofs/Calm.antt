@@ -5,8 +5,8 @@ use Rattle.std.proofs.Math.Seq.{take-append_seam, take-length}
 use Rattle.std.proofs.lemmas.Grind.{same_number_lists}
 use Rattle.outside.specs.Files.{Two, File, IsFileImage, IsImage, read_files, settled}
 use Rattle.outside.specs.Links.{Links, sent_of}
-use Rattle.outside.specs.Outside.{Outside, IsNow, DiskCall, Looks, MomentsAre}
-use Rattle.outside.specs.Disk.{Becomes, Reads, Syncs}
+use Rattle.outside.specs.Outside.{Outside, IsNow, DiskCall, OnlyReads, MomentsAre}
+use Rattle.outside.specs.Disk.{RelatesTold, ReadsBytes, SyncsFile}
 use Rattle.outside.proofs.CallSteps.{looks_call, looks_none, moments_none, moments_call, becomes_told, now_images}
 use Rattle.journal_audit.specs.Files.{ReadsSame}
 
@@ -19,7 +19,7 @@ settled_only bytes c image =
 settled_back : (f : File) (c : List ℕ) → IsFileImage f f.now → IsFileImage (settled f.now) c → IsFileImage f c
 settled_back f c reads image = subst (IsFileImage f) (sym (settled_only f.now c image)) reads
 
-sync_back : (file : ℕ) (result : Result (Unit {0}) Failed) (old new : Two File) → Syncs file result old new → IsImage old (read_files old) → (c : Two (List ℕ)) → IsImage new c → IsImage old c
+sync_back : (file : ℕ) (result : Result (Unit {0}) Failed) (old new : Two File) → SyncsFile file result old new → IsImage old (read_files old) → (c : Two (List ℕ)) → IsImage new c → IsImage old c
 sync_back zero (Ok _) old new synced reads c image =
     let there = subst (λ (t : Two File). IsImage t c) synced image in
     record { first = settled_back old.first c.first reads.first there.first; second = there.second }
@@ -45,9 +45,9 @@ calm_begun two o files = record {
   moments = moments_none o (IsNow two o.links) (now_images o o two files refl);
 }
 
-pub calm_sync : (two : Two File) (o0 o o' : Outside) (file : ℕ) (result : Result (Unit {0}) Failed) → Calm two o0 o → DiskCall o o' → Becomes (Syncs file result) o.files o'.files → Calm two o0 o'
+pub calm_sync : (two : Two File) (o0 o o' : Outside) (file : ℕ) (result : Result (Unit {0}) Failed) → Calm two o0 o → DiskCall o o' → RelatesTold (SyncsFile file result) o.files o'.files → Calm two o0 o'
 calm_sync two o0 o o' file result calm call becomes =
-    let told = becomes_told (Syncs file result) o.files o'.files calm.now calm.files becomes in
+    let told = becomes_told (SyncsFile file result) o.files o'.files calm.now calm.files becomes in
     let links = call.same_links ∙ calm.links in
     let back : (c : Two (List ℕ)) → IsImage told.0 c → IsImage two c =
     λ c image. calm.images c (sync_back file result calm.now told.0 told.2 (o.reads calm.now calm.files) c image) in
@@ -63,14 +63,14 @@ calm_sync two o0 o o' file result calm call becomes =
 
 -- ---- reads
 
-pub looks_once : (o o' : Outside) → DiskCall o o' → o'.files ≡ o.files → o.disk_faults ≤ o'.disk_faults → Looks o o'
+pub looks_once : (o o' : Outside) → DiskCall o o' → o'.files ≡ o.files → o.disk_faults ≤ o'.disk_faults → OnlyReads o o'
 looks_once o o' call same later = looks_call o o o' (looks_none o) call same later
 
-pub looks_twice : (o o' o'' : Outside) → Looks o o' → DiskCall o' o'' → o''.files ≡ o'.files → o'.disk_faults ≤ o''.disk_faults → Looks o o''
+pub looks_twice : (o o' o'' : Outside) → OnlyReads o o' → DiskCall o' o'' → o''.files ≡ o'.files → o'.disk_faults ≤ o''.disk_faults → OnlyReads o o''
 looks_twice o o' o'' looks call same later = looks_call o o' o'' looks call same later
 
 -- a read of so many bytes from the begin into a buffer that is as long, of which all that was read is kept
-pub read_whole : (bytes buf tail all : List ℕ) (n len room : ℕ) → Reads bytes 0 buf n → length buf ≡ len → room ≡ len → len ≡ length bytes → all ≡ take n (take room (buf ++ tail)) → all ≡ bytes
+pub read_whole : (bytes buf tail all : List ℕ) (n len room : ℕ) → ReadsBytes bytes 0 buf n → length buf ≡ len → room ≡ len → len ≡ length bytes → all ≡ take n (take room (buf ++ tail)) → all ≡ bytes
 read_whole bytes buf tail all n len room reads long roomy same is =
     let count : n ≡ length bytes = omega (arith, reads.count, long, same) in
     let fit : length buf ≡ room = omega (arith, long, roomy) in

@@ -15,7 +15,7 @@ use Rattle.journal_audit.specs.declared.messages.Line.{Line}
 use Rattle.journal_audit.specs.Lines.{held_in, held_of}
 use Rattle.journal_audit.specs.Looks.{ids_at, is_line_sendable, is_offered, is_owed, is_sent, picked, seen_of}
 use Rattle.journal_audit.specs.Numbers.{from_of, has, has_for, until_of}
-use Rattle.journal_audit.specs.Plain.{IsSound, facts_of, is_awake, shared_in, shares}
+use Rattle.journal_audit.specs.Plain.{IsPlainSound, facts_of, is_awake, shared_in, shares}
 use Rattle.journal_audit.proofs.Lines.{among_flagged, get_held, own_flag}
 use Rattle.journal_audit.proofs.Sparse.{cons_cond, sparse}
 
@@ -27,7 +27,7 @@ pub picked_line : (test : Held → Bool) (ls : List Line) (n : ℕ) (l : Line) (
 picked_line test ls n l b at is = ap (λ (x : Bool). cond x (Some l.id) None) is ∙ sym (ap (picked test) (get_held ls n l at))
 
 -- a message may be sent by what is kept of it
-pub sendable_line : (p : PlainFacts) (contact n : ℕ) (l : Line) → IsSound p → slice_get p.messages.lines n ≡ Some l
+pub sendable_line : (p : PlainFacts) (contact n : ℕ) (l : Line) → IsPlainSound p → slice_get p.messages.lines n ≡ Some l
     → is_line_sendable p.levels contact l (row_at p.rows contact l.id) ≡ is_sendable (facts_of p) (shared_in p.messages.lines) contact (held_of l)
 sendable_line p contact n l sound at =
     let ls = p.messages.lines in
@@ -37,11 +37,11 @@ sendable_line p contact n l sound at =
     among_flagged (λ x. x.judged && shares x.answer) ls l.id ∙ own_flag (λ x. x.judged && shares x.answer) ls n l sound.lines.distinct at in
     λ i. sym ended i && (is_level_shared (level_at p.levels contact l.message.group) && (not row.seen && (is_author l.origin || sym shared i)))
 
-pub sent_line : (p : PlainFacts) (contact : ℕ) (mode : Mode) (now n : ℕ) (l : Line) → IsSound p → slice_get p.messages.lines n ≡ Some l
+pub sent_line : (p : PlainFacts) (contact : ℕ) (mode : Mode) (now n : ℕ) (l : Line) → IsPlainSound p → slice_get p.messages.lines n ≡ Some l
     → (is_line_sendable p.levels contact l (row_at p.rows contact l.id) && is_ripe mode now (row_at p.rows contact l.id)) ≡ is_sent (seen_of p) contact mode now (held_of l)
 sent_line p contact mode now n l sound at = ap (λ b. b && is_ripe mode now (row_at p.rows contact l.id)) (sendable_line p contact n l sound at)
 
-pub offered_line : (p : PlainFacts) (contact now n : ℕ) (l : Line) → IsSound p → slice_get p.messages.lines n ≡ Some l
+pub offered_line : (p : PlainFacts) (contact now n : ℕ) (l : Line) → IsPlainSound p → slice_get p.messages.lines n ≡ Some l
     → (is_line_sendable p.levels contact l (row_at p.rows contact l.id) && (not (row_at p.rows contact l.id).asked && nat_le (row_at p.rows contact l.id).expiry now))
     ≡ is_offered (seen_of p) contact now (held_of l)
 offered_line p contact now n l sound at =
@@ -61,7 +61,7 @@ enough most n xs ys whole all is len long so = is ∙ (sym (take-append-le most 
 -- ---- all that there are
 
 -- a test that is false beside a set of numbers picks the same among them as among all
-pub owed_all : (p : PlainFacts) (contact : ℕ) (ns : List ℕ) → IsSound p → contact < 256 → IsStrictlySortedBy nat_cmp ns → ((n : ℕ) → has ns n ≡ has_for p.owed contact n)
+pub owed_all : (p : PlainFacts) (contact : ℕ) (ns : List ℕ) → IsPlainSound p → contact < 256 → IsStrictlySortedBy nat_cmp ns → ((n : ℕ) → has ns n ≡ has_for p.owed contact n)
     → ids_at (is_owed (seen_of p) contact) (held_in p.messages.lines) ns ≡ ids_where (is_owed (seen_of p) contact) (held_in p.messages.lines)
 owed_all p contact ns sound few ascends same =
     sparse (is_owed (seen_of p) contact) (held_in p.messages.lines) ns ascends (λ n h at out. sound.owes contact n h few at (sym (same n) ∙ out))
@@ -150,7 +150,7 @@ offer_late now until r sooner none =
     λ i. not (parts.0 i) && parts.1 i
 
 -- below where a contact is served from at this time nothing is due
-below : (p : PlainFacts) (contact now from n : ℕ) (h : Held) → IsSound p
+below : (p : PlainFacts) (contact now from n : ℕ) (h : Held) → IsPlainSound p
     → from ≡ cond (nat_lt now (until_of p.cursors contact)) (from_of p.cursors contact) 0 → slice_get (held_in p.messages.lines) n ≡ Some h → n < from
     → (now < until_of p.cursors contact) × (is_awake p.levels p.rows contact (until_of p.cursors contact) h ≡ false)
 below p contact now from n h sound is at under = by (nat_lt now (until_of p.cursors contact)) refl where
@@ -163,7 +163,7 @@ below p contact now from n h sound is at under = by (nat_lt now (until_of p.curs
       let none : from ≡ 0 = is ∙ ap (λ b. cond b (from_of p.cursors contact) 0) e in
       absurd (omega (arith, none, under))
 
-pub sent_all : (p : PlainFacts) (contact : ℕ) (mode : Mode) (now from : ℕ) → IsSound p
+pub sent_all : (p : PlainFacts) (contact : ℕ) (mode : Mode) (now from : ℕ) → IsPlainSound p
     → from ≡ cond (nat_lt now (until_of p.cursors contact)) (from_of p.cursors contact) 0
     → ids_where (is_sent (seen_of p) contact mode now) (drop from (held_in p.messages.lines)) ≡ ids_where (is_sent (seen_of p) contact mode now) (held_in p.messages.lines)
 sent_all p contact mode now from sound is =
@@ -175,7 +175,7 @@ sent_all p contact mode now from sound is =
     (is_author h.origin || is_among (shared_in p.messages.lines) h.id) (row.asked || nat_lt row.expiry (until_of p.cursors contact)) (is_ripe mode now row) far.1
     (ripe_late mode now (until_of p.cursors contact) row far.0))
 
-pub offered_all : (p : PlainFacts) (contact now from : ℕ) → IsSound p
+pub offered_all : (p : PlainFacts) (contact now from : ℕ) → IsPlainSound p
     → from ≡ cond (nat_lt now (until_of p.cursors contact)) (from_of p.cursors contact) 0
     → ids_where (is_offered (seen_of p) contact now) (drop from (held_in p.messages.lines)) ≡ ids_where (is_offered (seen_of p) contact now) (held_in p.messages.lines)
 offered_all p contact now from sound is =

@@ -18,7 +18,7 @@ use Rattle.sync_rules.proofs.Elements.{all_weaker, any_weaker}
 use Rattle.sync_rules.proofs.RoundLaws.{bad_le, good_le}
 use Rattle.journal_audit.specs.declared.messages.Line.{Line}
 use Rattle.journal_audit.specs.Lines.{held_in, held_of}
-use Rattle.journal_audit.specs.Rounding.{AreMarked, AreStable, IsGraph, in_round, is_bad_by, is_good_by, is_marked, is_next, is_next_at, mark_at, round_count}
+use Rattle.journal_audit.specs.Rounding.{AreMarked, AreStable, IsGraphOfLines, in_round, is_bad_by, is_good_by, is_marked, is_next, is_next_at, mark_at, round_count}
 use Rattle.journal_audit.proofs.Lines.{get_held, held_get, place_own}
 use Rattle.journal_audit.proofs.Places.{place_found}
 
@@ -185,7 +185,7 @@ line_of ls id h there = by (place_of (held_in ls) id) refl where
       record { place = n; line = line.line; placed = e; at = line.at; is = same ∙ line.is }
 
 -- a held message that is next is marked
-marked_by : (of_good : Bool) (g : Graph) (ls : List Line) (marks : List Bool) (id : Id) (h : Held) → IsGraph g ls → AreStable of_good ls marks → held_at g.held id ≡ Some h
+marked_by : (of_good : Bool) (g : Graph) (ls : List Line) (marks : List Bool) (id : Id) (h : Held) → IsGraphOfLines g ls → AreStable of_good ls marks → held_at g.held id ≡ Some h
     → ((l : Line) → h ≡ held_of l → l.answer ≡ g.verdict h → is_next of_good g.held marks l ≡ true) → is_marked g.held marks id ≡ true
 marked_by of_good g ls marks id h graph stable there next =
     let there' : held_at (held_in ls) id ≡ Some h = ap (λ (hs : List Held). held_at hs id) (sym graph.held_is) ∙ there in
@@ -217,7 +217,7 @@ worse_marked g marks k group (judgement.Accept deps share) up by =
     any_weaker (bad g k) (λ d. is_elsewhere group (held_at g.held d) || is_marked g.held marks d)
     (λ d t. or_right (is_elsewhere group (held_at g.held d)) (is_marked g.held marks d) (up d t)) deps by
 
-good_marked : (g : Graph) (ls : List Line) (marks : List Bool) → IsGraph g ls → AreStable true ls marks → (k : ℕ) (id : Id) → good g k id ≡ true → is_marked g.held marks id ≡ true
+good_marked : (g : Graph) (ls : List Line) (marks : List Bool) → IsGraphOfLines g ls → AreStable true ls marks → (k : ℕ) (id : Id) → good g k id ≡ true → is_marked g.held marks id ≡ true
 good_marked g ls marks graph stable zero id in_k = absurd (false≢true in_k)
 good_marked g ls marks graph stable (suc k) id in_k = by (good_marked g ls marks graph stable k) (held_at g.held id) refl in_k where
   by : ((d : Id) → good g k d ≡ true → is_marked g.held marks d ≡ true) → (o : Option Held) → held_at g.held id ≡ o → good_next g (good g k) o ≡ true → is_marked g.held marks id ≡ true
@@ -227,7 +227,7 @@ good_marked g ls marks graph stable (suc k) id in_k = by (good_marked g ls marks
       (λ l is said. all_good_marked g marks k l.message.group l.answer up
       (ap (λ (x : Held). good_by g (good g k) x.message.group l.answer) (sym is) ∙ (ap (good_by g (good g k) h.message.group) said ∙ next)))
 
-bad_marked : (g : Graph) (ls : List Line) (marks : List Bool) → IsGraph g ls → AreStable false ls marks → (k : ℕ) (id : Id) → bad g k id ≡ true → is_marked g.held marks id ≡ true
+bad_marked : (g : Graph) (ls : List Line) (marks : List Bool) → IsGraphOfLines g ls → AreStable false ls marks → (k : ℕ) (id : Id) → bad g k id ≡ true → is_marked g.held marks id ≡ true
 bad_marked g ls marks graph stable zero id in_k = by (held_at g.held id) refl in_k where
   by : (o : Option Held) → held_at g.held id ≡ o → bad_first g o ≡ true → is_marked g.held marks id ≡ true
   by None there next = absurd (false≢true next)
@@ -246,7 +246,7 @@ bad_marked g ls marks graph stable (suc k) id in_k =
     by up (Some h) there next =
         marked_by false g ls marks id h graph stable there (λ l is said. worse_marked g marks k l.message.group l.answer up (ap (worse_by (bad g k)) said ∙ next))
 
-all_marked : (of_good : Bool) (g : Graph) (ls : List Line) (marks : List Bool) → IsGraph g ls → AreStable of_good ls marks → (k : ℕ) (id : Id) → in_round of_good g k id ≡ true
+all_marked : (of_good : Bool) (g : Graph) (ls : List Line) (marks : List Bool) → IsGraphOfLines g ls → AreStable of_good ls marks → (k : ℕ) (id : Id) → in_round of_good g k id ≡ true
     → is_marked g.held marks id ≡ true
 all_marked true g ls marks graph stable k id in_k = good_marked g ls marks graph stable k id in_k
 all_marked false g ls marks graph stable k id in_k = bad_marked g ls marks graph stable k id in_k
@@ -270,7 +270,7 @@ count_by-same test (h ∷ hs) (m ∷ marks) long same =
     ∙ ((λ i. cond (here i) 1 0 + rest i) ∙ sym (sum_by-cons (λ (b : Bool). cond b 1 0) m marks))
 
 pub round_counted : (of_good : Bool) (g : Graph) (ls : List Line) (marks : List Bool) (count : ℕ) → has_repeat (ids_of_held (held_in ls)) ≡ false → AreMarked of_good ls marks count
-    → AreStable of_good ls marks → IsGraph g ls → count ≡ round_count of_good g (held_in ls)
+    → AreStable of_good ls marks → IsGraphOfLines g ls → count ≡ round_count of_good g (held_in ls)
 round_counted of_good g ls marks count distinct are stable graph =
     let few = count_by-le-length (λ (b : Bool). b) marks in
     let held = held_in ls in

@@ -14,7 +14,7 @@ use Rattle.sync_rules.proofs.Sound.{verdict_stays}
 use Rattle.journal_audit.specs.declared.facts.PlainFacts.{PlainFacts}
 use Rattle.journal_audit.specs.declared.messages.Line.{Line}
 use Rattle.journal_audit.specs.Lines.{AreLines, Kept, delivered_in, delivered_line, held_in, held_of, id_at, ids_flagged, invalid_in, invalid_line, judged_in, judged_line, line_changed}
-use Rattle.journal_audit.specs.Plain.{AreGrouped, Knows, facts_of}
+use Rattle.journal_audit.specs.Plain.{AreGrouped, KnowsMeanings, facts_of}
 use Rattle.journal_audit.proofs.Lines.{delivered_push, delivered_same, flagged_push, id_at-get, invalid_more, judged_more, map_push, same_each, same_flagged, same_held, same_ids}
 use Rattle.journal_audit.proofs.Places.{held_push, place_found}
 

@@ -7,11 +7,11 @@ use Rattle.sync_rules.specs.Allows.{allows}
 use Rattle.sync_rules.specs.Clients.{Meaning}
 use Rattle.sync_rules.specs.Facts.{Facts, Held, LevelMap, Rows, after_all, is_level_shared, level_at, row_at}
 use Rattle.journal_audit.specs.declared.facts.PlainFacts.{PlainFacts}
-use Rattle.journal_audit.specs.Changes.{Becomes, BecomesKnown}
+use Rattle.journal_audit.specs.Changes.{BecomesFacts, BecomesKnown}
 use Rattle.journal_audit.specs.Lines.{held_in}
 use Rattle.journal_audit.specs.Numbers.{CursorLists, from_of, until_of}
-use Rattle.journal_audit.specs.Plain.{IsSound, Knows, Passes, facts_of, is_awake}
-use Rattle.journal_audit.specs.Playing.{IsOfLegal, Plays}
+use Rattle.journal_audit.specs.Plain.{IsPlainSound, KnowsMeanings, PassesUntil, facts_of, is_awake}
+use Rattle.journal_audit.specs.Playing.{IsOfLegal, PlaysEntries}
 
 -- ---- cursors
 
@@ -40,13 +40,13 @@ asleep_sooner levels rows contact sooner until h le asleep =
     by true true false late soon so none = so none
 
 -- cursors of which one was set, to a number below which all are asleep
-pub cursor_set : (p new : PlainFacts) (cursors' : CursorLists) (contact from until : ℕ) → IsSound p → new ≡ record p { cursors = cursors' }
+pub cursor_set : (p new : PlainFacts) (cursors' : CursorLists) (contact from until : ℕ) → IsPlainSound p → new ≡ record p { cursors = cursors' }
     → ((c : ℕ) → from_of cursors' c ≡ cond (nat_eq c contact) from (from_of p.cursors c)) → ((c : ℕ) → until_of cursors' c ≡ cond (nat_eq c contact) until (until_of p.cursors c))
     → from ≤ length p.messages.lines
     → ((n : ℕ) (h : Held) → slice_get (held_in p.messages.lines) n ≡ Some h → n < from → is_awake p.levels p.rows contact until h ≡ false)
-    → Becomes p new (facts_of p)
+    → BecomesFacts p new (facts_of p)
 cursor_set p new cursors' contact from until s is from_is until_is most asleep =
-    subst (λ (q : PlainFacts). Becomes p q (facts_of p)) (sym is)
+    subst (λ (q : PlainFacts). BecomesFacts p q (facts_of p)) (sym is)
     (record {
       facts = refl;
       sound = record {
@@ -83,7 +83,7 @@ cursor_set p new cursors' contact from until s is from_is until_is most asleep =
         ap (λ (u : ℕ). is_awake p.levels p.rows c u h) (until_now c false e) ∙ s.sleeps c n h at (omega (arith, same, under))
 
 -- one message more is passed
-pub one_more : (p : PlainFacts) (contact n until : ℕ) → IsSound p → from_of p.cursors contact ≡ n → Passes p contact n until
+pub one_more : (p : PlainFacts) (contact n until : ℕ) → IsPlainSound p → from_of p.cursors contact ≡ n → PassesUntil p contact n until
     → (m : ℕ) (h : Held) → slice_get (held_in p.messages.lines) m ≡ Some h → m < n + 1 → is_awake p.levels p.rows contact until h ≡ false
 one_more p contact n until s next passes m h at under = by (nat_eq m n) refl where
   by : (b : Bool) → nat_eq m n ≡ b → is_awake p.levels p.rows contact until h ≡ false
@@ -97,10 +97,10 @@ one_more p contact n until s next passes m h at under = by (nat_eq m n) refl whe
 
 -- ---- one after the other
 
-pub passed_none : (p : PlainFacts) → IsSound p → Becomes p p (facts_of p)
+pub passed_none : (p : PlainFacts) → IsPlainSound p → BecomesFacts p p (facts_of p)
 passed_none p sound = record { facts = refl; sound = sound; knows = λ clients knows. knows }
 
-pub passed_then : (p q r : PlainFacts) → Becomes p q (facts_of p) → Becomes q r (facts_of q) → Becomes p r (facts_of p)
+pub passed_then : (p q r : PlainFacts) → BecomesFacts p q (facts_of p) → BecomesFacts q r (facts_of q) → BecomesFacts p r (facts_of p)
 passed_then p q r first then_ = record {
   facts = then_.facts ∙ first.facts;
   sound = then_.sound;
@@ -109,7 +109,7 @@ passed_then p q r first then_ = record {
 
 -- ---- batches
 
-pub legal_passed : (clients : Meaning) (p q : PlainFacts) → Becomes p q (facts_of p) → IsOfLegal clients p → IsOfLegal clients q
+pub legal_passed : (clients : Meaning) (p q : PlainFacts) → BecomesFacts p q (facts_of p) → IsOfLegal clients p → IsOfLegal clients q
 legal_passed clients p q became legal = record {
   done = legal.done;
   legal = legal.legal;
@@ -118,8 +118,8 @@ legal_passed clients p q became legal = record {
   knows = became.knows clients legal.knows;
 }
 
-pub plays_passed : (clients : Meaning) (p q new : PlainFacts) (b : List Entry) (told : Bool) → Becomes p q (facts_of p)
-    → Plays clients q new (allows clients (facts_of q) b) b told → Plays clients p new (allows clients (facts_of p) b) b told
+pub plays_passed : (clients : Meaning) (p q new : PlainFacts) (b : List Entry) (told : Bool) → BecomesFacts p q (facts_of p)
+    → PlaysEntries clients q new (allows clients (facts_of q) b) b told → PlaysEntries clients p new (allows clients (facts_of p) b) b told
 plays_passed clients p q new b told became plays = record {
   answer = plays.answer ∙ ap (λ (f : Facts). allows clients f b) became.facts;
   taken = λ yes. subst (λ (f : Facts). BecomesKnown clients new (after_all f b)) became.facts (plays.taken yes);

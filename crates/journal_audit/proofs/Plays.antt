@@ -18,7 +18,7 @@ use Rattle.sync_rules.specs.Consistency.{IsConsistent}
 use Rattle.sync_rules.specs.Facts.{Facts, Held, Id, after, after_all, contact_in, facts, is_held, nothing, session_at}
 use Rattle.sync_rules.specs.Legal.{Allowed, IsDue, Legal}
 use Rattle.sync_rules.specs.Lists.{is_among, same_id}
-use Rattle.sync_rules.specs.Meeting.{AllMeet, Meets}
+use Rattle.sync_rules.specs.Meeting.{AllMeet, MeetsNoStep}
 use Rattle.sync_rules.specs.Naming.{NamesDistinct}
 use Rattle.sync_rules.specs.Sessions.{ids_where, may_share, shared_ids}
 use Rattle.sync_rules.specs.Steps.{answer_of, next}
@@ -34,10 +34,10 @@ use Rattle.sync_rules.proofs.Sound.{SoundFacts}
 use Rattle.sync_rules.proofs.StepKinds.{next_is_step}
 use Rattle.journal_audit.specs.declared.facts.PlainFacts.{PlainFacts}
 use Rattle.journal_audit.specs.declared.messages.Line.{Line}
-use Rattle.journal_audit.specs.Changes.{AreNamed, BecomesKnown, CanHold, Fits, FitsOut}
+use Rattle.journal_audit.specs.Changes.{AreNamed, BecomesKnown, MayHoldMessage, MayTakeEntry, FitsOut}
 use Rattle.journal_audit.specs.Lines.{held_in, held_of, ids_flagged, judged_in}
-use Rattle.journal_audit.specs.Plain.{IsSound, Knows, facts_of, shared_in, shares}
-use Rattle.journal_audit.specs.Playing.{AllFit, IsOfLegal, Plays, all_go, goes}
+use Rattle.journal_audit.specs.Plain.{IsPlainSound, KnowsMeanings, facts_of, shared_in, shares}
+use Rattle.journal_audit.specs.Playing.{AllFit, IsOfLegal, PlaysEntries, all_go, goes}
 use Rattle.journal_audit.proofs.Lines.{flagged_is, own_flag}
 use Rattle.journal_audit.proofs.Steps.{known_at}
 
@@ -49,7 +49,7 @@ flagged_where flag test [] same = refl
 flagged_where flag test (l ∷ ls) same =
     λ i. cond (same 0 l refl i) (l.id ∷ flagged_where flag test ls (λ n x at. same (suc n) x at) i) (flagged_where flag test ls (λ n x at. same (suc n) x at) i)
 
-pub shared_is : (clients : Meaning) (p : PlainFacts) → IsSound p → Knows clients p → shared_in p.messages.lines ≡ shared_ids clients (facts_of p)
+pub shared_is : (clients : Meaning) (p : PlainFacts) → IsPlainSound p → KnowsMeanings clients p → shared_in p.messages.lines ≡ shared_ids clients (facts_of p)
 shared_is clients p sound knows =
     let ls = p.messages.lines in
     flagged_where (λ l. l.judged && shares l.answer) (λ h. may_share (answer_of clients (facts_of p) h)) ls
@@ -65,7 +65,7 @@ shared_is clients p sound knows =
 -- ---- entries fit
 
 -- the next step fits
-step_fits : (f : Facts) (e : Entry) → IsStepOf f e → Fits f e
+step_fits : (f : Facts) (e : Entry) → IsStepOf f e → MayTakeEntry f e
 step_fits f (entry.Contact c) is = absurd is
 step_fits f (entry.Group def) is = absurd is
 step_fits f (entry.Level c g l) is = absurd is
@@ -86,12 +86,12 @@ step_fits f (entry.Kept from m) is = absurd is
 step_fits f (entry.Tried t) is = absurd is
 step_fits f (entry.Want contact id) is = absurd is
 
-next_fits : (clients : Meaning) (f : Facts) (e : Entry) (o : Option Entry) → next clients f ≡ o → is_some_of same_entry o e ≡ true → Fits f e
+next_fits : (clients : Meaning) (f : Facts) (e : Entry) (o : Option Entry) → next clients f ≡ o → is_some_of same_entry o e ≡ true → MayTakeEntry f e
 next_fits clients f e None is go = absurd (false≢true go)
 next_fits clients f e (Some x) is go = step_fits f e (next_is_step clients f e (is ∙ ap (λ (y : Entry). Some y) (same_entry-is x e go)))
 
 -- a row or a wanted id that suits fits
-rows_fit : (f : Facts) (e : Entry) → suits_rows f e ≡ true → Fits f e
+rows_fit : (f : Facts) (e : Entry) → suits_rows f e ≡ true → MayTakeEntry f e
 rows_fit f (entry.Contact c) go = absurd (false≢true go)
 rows_fit f (entry.Group def) go = absurd (false≢true go)
 rows_fit f (entry.Level c g l) go = absurd (false≢true go)
@@ -112,7 +112,7 @@ rows_fit f (entry.Kept from m) go = absurd (false≢true go)
 rows_fit f (entry.Tried t) go = (and_parts (is_held f.held t.id) _ (and_parts (nat_lt t.contact f.contacts) _ go).1).0
 rows_fit f (entry.Want contact id) go = tt
 
-pub goes_fits : (clients : Meaning) (rows : Bool) (f : Facts) (e : Entry) → goes clients rows f e ≡ true → Fits f e
+pub goes_fits : (clients : Meaning) (rows : Bool) (f : Facts) (e : Entry) → goes clients rows f e ≡ true → MayTakeEntry f e
 goes_fits clients true f e go = rows_fit f e go
 goes_fits clients false f e go = next_fits clients f e (next clients f) refl go
 
@@ -130,7 +130,7 @@ out_fits f contact (out.Requests ids) names = tt
 out_fits f contact (out.Offers ids) names = record { distinct = names.0.distinct; held = each_held f ids names.1 }
 out_fits f contact (out.Send id) names = names
 
-meeting_fits : (clients : Meaning) (f : Facts) (e : Entry) → IsConsistent f → Meets clients f e → Fits f e
+meeting_fits : (clients : Meaning) (f : Facts) (e : Entry) → IsConsistent f → MeetsNoStep clients f e → MayTakeEntry f e
 meeting_fits clients f (entry.Contact c) fit m = (m.1, m.2)
 meeting_fits clients f (entry.Group def) fit m = tt
 meeting_fits clients f (entry.Level c g l) fit m = (m.1, m.2)
@@ -168,12 +168,12 @@ allowed_fits clients p b law of test =
 
 -- entries are taken, and these are left
 pub record PlaysOn (clients : Meaning) (rows : Bool) (old now : PlainFacts) (whole left : List Entry) : Type 0 where
-  pub sound : IsSound now
-  pub knows : Knows clients now
+  pub sound : IsPlainSound now
+  pub knows : KnowsMeanings clients now
   pub same_test : all_go clients rows (facts_of now) left ≡ all_go clients rows (facts_of old) whole
   pub same_end : after_all (facts_of now) left ≡ after_all (facts_of old) whole
 
-pub plays_begin : (clients : Meaning) (rows : Bool) (p : PlainFacts) (whole left : List Entry) → IsSound p → Knows clients p → left ≡ whole → PlaysOn clients rows p p whole left
+pub plays_begin : (clients : Meaning) (rows : Bool) (p : PlainFacts) (whole left : List Entry) → IsPlainSound p → KnowsMeanings clients p → left ≡ whole → PlaysOn clients rows p p whole left
 plays_begin clients rows p whole left sound knows same = record {
   sound = sound;
   knows = knows;
@@ -193,7 +193,7 @@ plays_more clients rows old now next whole left rest e on is go more = record {
 }
 
 pub plays_refused : (clients : Meaning) (rows : Bool) (old now new : PlainFacts) (whole left rest : List Entry) (e : Entry) → PlaysOn clients rows old now whole left → left ≡ e ∷ rest
-    → goes clients rows (facts_of now) e ≡ false → Plays clients old new (all_go clients rows (facts_of old) whole) whole false
+    → goes clients rows (facts_of now) e ≡ false → PlaysEntries clients old new (all_go clients rows (facts_of old) whole) whole false
 plays_refused clients rows old now new whole left rest e on is go = record {
   answer =
       sym (ap (λ b. b && all_go clients rows (after (facts_of now) e) rest) go) ∙ (sym (ap (all_go clients rows (facts_of now)) is) ∙ on.same_test);
@@ -201,7 +201,7 @@ plays_refused clients rows old now new whole left rest e on is go = record {
 }
 
 pub plays_whole : (clients : Meaning) (rows : Bool) (old now : PlainFacts) (whole left : List Entry) → PlaysOn clients rows old now whole left → left ≡ []
-    → Plays clients old now (all_go clients rows (facts_of old) whole) whole true
+    → PlaysEntries clients old now (all_go clients rows (facts_of old) whole) whole true
 plays_whole clients rows old now whole left on none = record {
   answer = sym (ap (all_go clients rows (facts_of now)) none) ∙ on.same_test;
   taken = λ done. record { facts = sym (ap (after_all (facts_of now)) none) ∙ on.same_end; sound = on.sound; knows = on.knows };
@@ -210,13 +210,13 @@ plays_whole clients rows old now whole left on none = record {
 -- ---- entries that fit
 
 pub record TakesOn (clients : Meaning) (old now : PlainFacts) (known : Option Id) (whole left : List Entry) : Type 0 where
-  pub sound : IsSound now
-  pub knows : Knows clients now
+  pub sound : IsPlainSound now
+  pub knows : KnowsMeanings clients now
   pub fit : AllFit (facts_of now) left
   pub named : IsOfAll known left
   pub same_end : after_all (facts_of now) left ≡ after_all (facts_of old) whole
 
-pub takes_begin : (clients : Meaning) (p : PlainFacts) (known : Option Id) (whole left : List Entry) → IsSound p → Knows clients p → AllFit (facts_of p) whole → IsOfAll known whole
+pub takes_begin : (clients : Meaning) (p : PlainFacts) (known : Option Id) (whole left : List Entry) → IsPlainSound p → KnowsMeanings clients p → AllFit (facts_of p) whole → IsOfAll known whole
     → left ≡ whole → TakesOn clients p p known whole left
 takes_begin clients p known whole left sound knows fit named same = record {
   sound = sound;
@@ -227,7 +227,7 @@ takes_begin clients p known whole left sound knows fit named same = record {
 }
 
 pub takes_next : (clients : Meaning) (old now : PlainFacts) (known : Option Id) (whole left rest : List Entry) (e : Entry) → TakesOn clients old now known whole left → left ≡ e ∷ rest
-    → Fits (facts_of now) e × IsOfEntry known e
+    → MayTakeEntry (facts_of now) e × IsOfEntry known e
 takes_next clients old now known whole left rest e on is = ((subst (AllFit (facts_of now)) is on.fit).0, (subst (IsOfAll known) is on.named).0)
 
 pub takes_more : (clients : Meaning) (old now next : PlainFacts) (known : Option Id) (whole left rest : List Entry) (e : Entry) → TakesOn clients old now known whole left → left ≡ e ∷ rest

@@ -15,7 +15,7 @@ use Rattle.sync_rules.proofs.Sound.{group_at-push, held_at-push}
 use Rattle.journal_audit.specs.declared.messages.Line.{Line}
 use Rattle.journal_audit.specs.Lines.{AreLines, Kept, delivered_in, delivered_line, held_in, held_of, id_at, invalid_line, judged_line, line_changed}
 use Rattle.journal_audit.specs.Numbers.{CursorLists, from_of, has, has_for, until_of}
-use Rattle.journal_audit.specs.Plain.{AreGrouped, AreSound, HasLevels, HasRows, Owes, Waits, is_awake}
+use Rattle.journal_audit.specs.Plain.{AreGrouped, AreSound, HasPlainLevels, HasPlainRows, OwesAcks, WaitsOrHasEnded, is_awake}
 use Rattle.journal_audit.proofs.Lines.{HasLine, OldOrNew, WasLine, held_get, old_or_new, place_own, same_held, same_place, was_line}
 use Rattle.journal_audit.proofs.Kept.{lines_changed, lines_delivered, lines_none, lines_push}
 use Rattle.journal_audit.proofs.Places.{held_push, place_found}
@@ -34,9 +34,9 @@ not_true false h = refl
 pub sound_none : (groups : List Known) (levels : LevelMap) (kept : Kept) (rows : Rows) (waiting : List ℕ) (owed : List (List ℕ)) (cursors : CursorLists)
     → levels ≡ fin_map.empty → kept.lines ≡ [] → kept.delivered ≡ [] → rows ≡ fin_map.empty → ((contact : ℕ) → from_of cursors contact ≡ 0) → AreSound 0 groups levels kept rows waiting owed cursors
 sound_none groups levels kept rows waiting owed cursors no_levels no_lines no_delivered no_rows no_cursor =
-    let P : List Line → Type 0 = λ ls. Waits ls waiting in
+    let P : List Line → Type 0 = λ ls. WaitsOrHasEnded ls waiting in
     let R : List Line → Type 0 = λ ls. AreGrouped groups (held_in ls) in
-    let O : List Line → Type 0 = λ ls. Owes (held_in ls) rows owed in
+    let O : List Line → Type 0 = λ ls. OwesAcks (held_in ls) rows owed in
     record {
       lines = lines_none kept no_lines no_delivered;
       levels_fit = record {

@@ -10,7 +10,7 @@ use Rattle.sync_rules.proofs.Sound.{held_at-push}
 use Rattle.journal_audit.specs.declared.messages.Line.{Line}
 use Rattle.journal_audit.specs.Lines.{AreLines, Kept, delivered_line, held_in, held_of, invalid_line, judged_line, line_changed}
 use Rattle.journal_audit.specs.Numbers.{CursorLists, from_of, has, has_for}
-use Rattle.journal_audit.specs.Plain.{AreGrouped, AreSound, HasRows, Owes, Sleeps, Waits}
+use Rattle.journal_audit.specs.Plain.{AreGrouped, AreSound, HasPlainRows, OwesAcks, SleepsBelowCursor, WaitsOrHasEnded}
 use Rattle.journal_audit.proofs.Kept.{lines_changed, lines_delivered, lines_push}
 use Rattle.journal_audit.proofs.Lines.{HasLine, OldOrNew, WasLine, held_get, get_held, old_or_new, same_held, was_line}
 use Rattle.journal_audit.proofs.Places.{held_push}
@@ -57,21 +57,21 @@ module _ (contacts : ℕ) (groups : List Known) (levels : LevelMap) (kept : Kept
           | inr both ↦ inr (both.0, line.is ∙ ap held_of both.1)
         ]
 
-    waits : Waits kept'.lines waiting'
+    waits : WaitsOrHasEnded kept'.lines waiting'
     waits m x at out =
         elim (old_or_new kept.lines l m x (ap (λ (ls : List Line). slice_get ls m) (sym more) ∙ at)).cases [
           | inl old ↦ s.waits m x old (added _ _ (sym (waits_too m) ∙ out)).1
           | inr both ↦ absurd (never (nat_eq m (length kept.lines)) (eq-eqb m (length kept.lines) both.0) (added _ _ (sym (waits_too m) ∙ out)).0)
         ]
 
-    owes : Owes (held_in kept'.lines) rows owed
+    owes : OwesAcks (held_in kept'.lines) rows owed
     owes c m h under at out =
         elim (was m h at) [
           | inl old ↦ s.owes c m h under old out
           | inr both ↦ ap (λ (k : Held). (row_at rows c k.id).owed) both.1 ∙ ap (λ (r : Row). r.owed) (s.rows_fit c l.id new)
         ]
 
-    sleeps : Sleeps (held_in kept'.lines) levels rows cursors
+    sleeps : SleepsBelowCursor (held_in kept'.lines) levels rows cursors
     sleeps c m h at under =
         elim (was m h at) [
           | inl old ↦ s.sleeps c m h old under
@@ -96,7 +96,7 @@ module _ (contacts : ℕ) (groups : List Known) (levels : LevelMap) (kept : Kept
   -- ---- what became of a message
 
   changed_so : (change : Line → Line) → ((l : Line) → held_of (change l) ≡ held_of l) → (kept' : Kept) (n : ℕ) (waiting' : List ℕ) → kept'.lines ≡ line_changed change n kept.lines
-      → AreLines kept' → Waits kept'.lines waiting' → AreSound contacts groups levels kept' rows waiting' owed cursors
+      → AreLines kept' → WaitsOrHasEnded kept'.lines waiting' → AreSound contacts groups levels kept' rows waiting' owed cursors
   changed_so change held kept' n waiting' changed lines waits =
       let hs : held_in kept'.lines ≡ held_in kept.lines = ap held_in changed ∙ same_held change held n kept.lines in
       let same_length : length kept'.lines ≡ length kept.lines =
@@ -105,10 +105,10 @@ module _ (contacts : ℕ) (groups : List Known) (levels : LevelMap) (kept : Kept
         lines = lines;
         levels_fit = s.levels_fit;
         grouped = subst (AreGrouped groups) (sym hs) s.grouped;
-        rows_fit = subst (λ k. HasRows k rows) (sym hs) s.rows_fit;
+        rows_fit = subst (λ k. HasPlainRows k rows) (sym hs) s.rows_fit;
         waits = waits;
-        owes = subst (λ k. Owes k rows owed) (sym hs) s.owes;
-        sleeps = subst (λ k. Sleeps k levels rows cursors) (sym hs) s.sleeps;
+        owes = subst (λ k. OwesAcks k rows owed) (sym hs) s.owes;
+        sleeps = subst (λ k. SleepsBelowCursor k levels rows cursors) (sym hs) s.sleeps;
         within = λ c. let most = s.within c in let long = same_length in omega (arith, most, long);
       }
 
@@ -125,7 +125,7 @@ module _ (contacts : ℕ) (groups : List Known) (levels : LevelMap) (kept : Kept
             | inr both ↦ subst (λ (y : Line). (y.judged ≡ true) × ((y.delivered || y.invalid) ≡ true)) (sym both.1) old
           ]
 
-      waits : Waits kept'.lines waiting
+      waits : WaitsOrHasEnded kept'.lines waiting
       waits m x at out = by m x out (was_line judged_line n kept.lines m x (ap (λ (ls : List Line). slice_get ls m) (sym changed) ∙ at))
 
   -- a message that ends waits no more, if it was judged
@@ -164,7 +164,7 @@ module _ (contacts : ℕ) (groups : List Known) (levels : LevelMap) (kept : Kept
                 (still m was.before was.at (was.before.judged) refl (apart m both.0) out)
           ]
 
-      waits : Waits kept'.lines waiting'
+      waits : WaitsOrHasEnded kept'.lines waiting'
       waits m x at out = by m x out (was_line change n kept.lines m x (ap (λ (ls : List Line). slice_get ls m) (sym changed) ∙ at))
 
   invalid_ends : (l : Line) → (l.delivered || true) ≡ true

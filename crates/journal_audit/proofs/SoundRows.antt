@@ -9,7 +9,7 @@ use Rattle.sync_rules.proofs.Elements.{same_id-is, same_id_itself}
 use Rattle.sync_rules.proofs.RowLaws.{hits, row_at_change}
 use Rattle.journal_audit.specs.Lines.{Kept, held_in}
 use Rattle.journal_audit.specs.Numbers.{CursorLists, from_of, has_for, until_of}
-use Rattle.journal_audit.specs.Plain.{AreSound, AreWithin, HasRows, Owes, Sleeps, is_awake}
+use Rattle.journal_audit.specs.Plain.{AreSound, AreWithin, HasPlainRows, OwesAcks, SleepsBelowCursor, is_awake}
 use Rattle.journal_audit.proofs.Lines.{place_own}
 
 never : (b : Bool) → b ≡ true → b ≡ false → ⊥
@@ -32,7 +32,7 @@ module _ (contacts : ℕ) (groups : List Known) (levels : LevelMap) (kept : Kept
     row_now : (x : ℕ) (y : Id) → row_at rows' x y ≡ cond (hits x y c id) (change (row_at rows x y)) (row_at rows x y)
     row_now x y = ap (λ (r : Rows). row_at r x y) changed ∙ row_at_change rows x c y id change
 
-    rows_fit : HasRows held rows'
+    rows_fit : HasPlainRows held rows'
     rows_fit x y none =
         let apart : same_id id y ≡ false = not_true (same_id id y) (λ e. never (is_held held id) (ap is_some place.first) (ap (is_held held) (same_id-is id y e) ∙ none)) in
         row_now x y ∙ (ap (λ b. cond (nat_eq x c && b) (change (row_at rows x y)) (row_at rows x y)) apart ∙ (by (nat_eq x c) ∙ s.rows_fit x y none))
@@ -72,13 +72,13 @@ module _ (contacts : ℕ) (groups : List Known) (levels : LevelMap) (kept : Kept
     left : (x m : ℕ) (h : Held) → slice_get held m ≡ Some h → (nat_eq x c && nat_eq m n) ≡ false → row_at rows' x h.id ≡ row_at rows x h.id
     left x m h at e = row_now x h.id ∙ ap (λ b. cond b (change (row_at rows x h.id)) (row_at rows x h.id)) (hit x m h at ∙ e)
 
-    owes : Owes held rows' owed'
+    owes : OwesAcks held rows' owed'
     owes x m h under at out = by (nat_eq x c && nat_eq m n) refl where
       by : (b : Bool) → (nat_eq x c && nat_eq m n) ≡ b → (row_at rows' x h.id).owed ≡ false
       by true e = ap (λ (r : Row). r.owed) (made x m h at e) ∙ (sym (owed_is x m ∙ ap (λ b. cond b row.owed (has_for owed x m)) e) ∙ out)
       by false e = ap (λ (r : Row). r.owed) (left x m h at e) ∙ s.owes x m h under at (sym (owed_is x m ∙ ap (λ b. cond b row.owed (has_for owed x m)) e) ∙ out)
 
-    sleeps : Sleeps held levels rows' cursors'
+    sleeps : SleepsBelowCursor held levels rows' cursors'
     sleeps x m h at under = by (nat_eq x c && nat_eq m n) refl where
       none : (t : Bool) → (t && false) ≡ false
       none true = refl

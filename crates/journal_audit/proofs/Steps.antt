@@ -18,7 +18,7 @@ use Rattle.journal_audit.specs.declared.messages.Line.{Line}
 use Rattle.journal_audit.specs.Lines.{held_in, held_of, invalid_in, judged_in, left_for_line, left_in}
 use Rattle.journal_audit.specs.Looks.{first_at, of_held, picks_at, picks_of, step_at, step_of_line}
 use Rattle.journal_audit.specs.Numbers.{has}
-use Rattle.journal_audit.specs.Plain.{IsSound, Knows, facts_of}
+use Rattle.journal_audit.specs.Plain.{IsPlainSound, KnowsMeanings, facts_of}
 use Rattle.journal_audit.proofs.Lines.{flag_at, flagged_is, get_held, held_get, not_flagged, own_flag, place_none}
 use Rattle.journal_audit.proofs.Sparse.{picks_all}
 use Rattle.journal_audit.proofs.Took.{line_named}
@@ -32,7 +32,7 @@ not_failing p group id none =
     let valid : fin_set.contains (invalid_in ls) id ≡ false = flagged_is (λ l. l.invalid) ls id ∙ not_flagged (λ l. l.invalid) ls id (ap is_some away) in
     λ i. is_elsewhere group (sym away i) || sym valid i
 
-pub failing_line : (p : PlainFacts) (group id : Id) (n : ℕ) (l : Line) → IsSound p → IsPlace (held_in p.messages.lines) id n → slice_get p.messages.lines n ≡ Some l
+pub failing_line : (p : PlainFacts) (group id : Id) (n : ℕ) (l : Line) → IsPlainSound p → IsPlace (held_in p.messages.lines) id n → slice_get p.messages.lines n ≡ Some l
     → (cond (same_id l.message.group group) false true || l.invalid) ≡ is_failing (facts_of p) group id
 failing_line p group id n l sound place at =
     let ls = p.messages.lines in
@@ -61,7 +61,7 @@ known_at clients p (x ∷ ls) zero l known at =
 known_at clients p (x ∷ ls) (suc n) l known at = known_at clients p ls n l known.1 at
 
 -- the step of a line is the step of its message
-pub line_step : (clients : Meaning) (p : PlainFacts) (n : ℕ) (l : Line) → IsSound p → Knows clients p → slice_get p.messages.lines n ≡ Some l
+pub line_step : (clients : Meaning) (p : PlainFacts) (n : ℕ) (l : Line) → IsPlainSound p → KnowsMeanings clients p → slice_get p.messages.lines n ≡ Some l
     → step_of_line (facts_of p) l ≡ step clients (facts_of p) (held_of l)
 line_step clients p n l sound knows at =
     let ls = p.messages.lines in
@@ -83,7 +83,7 @@ get_none [] n none = refl
 get_none (l ∷ ls) zero none = let wrong : Some l ≡ None = none in cc
 get_none (l ∷ ls) (suc n) none = get_none ls n none
 
-step_held : (clients : Meaning) (p : PlainFacts) (n : ℕ) → IsSound p → Knows clients p
+step_held : (clients : Meaning) (p : PlainFacts) (n : ℕ) → IsPlainSound p → KnowsMeanings clients p
     → step_at (facts_of p) (slice_get p.messages.lines n) ≡ of_held (step clients (facts_of p)) (slice_get (held_in p.messages.lines) n)
 step_held clients p n sound knows = by (slice_get p.messages.lines n) refl where
   by : (o : Option Line) → slice_get p.messages.lines n ≡ o → step_at (facts_of p) (slice_get p.messages.lines n) ≡ of_held (step clients (facts_of p)) (slice_get (held_in p.messages.lines) n)
@@ -102,7 +102,7 @@ first_cons : (o : Option Entry) (es : List Entry) → first_or_next o (first_of 
 first_cons None es = refl
 first_cons (Some e) es = refl
 
-first_picked : (clients : Meaning) (p : PlainFacts) (ns : List ℕ) → IsSound p → Knows clients p
+first_picked : (clients : Meaning) (p : PlainFacts) (ns : List ℕ) → IsPlainSound p → KnowsMeanings clients p
     → first_at (facts_of p) p.messages.lines ns ≡ first_of (picks_at (step clients (facts_of p)) (held_in p.messages.lines) ns)
 first_picked clients p [] sound knows = refl
 first_picked clients p (n ∷ ns) sound knows =
@@ -114,7 +114,7 @@ first_is clients f [] = refl
 first_is clients f (h ∷ hs) = sym (first_cons (step clients f h) (picks_of (step clients f) hs)) ∙ ap (first_or_next (step clients f h)) (first_is clients f hs)
 
 -- a message that does not wait has no step
-no_step : (clients : Meaning) (p : PlainFacts) (n : ℕ) (h : Held) → IsSound p → Knows clients p → slice_get (held_in p.messages.lines) n ≡ Some h → has p.waiting n ≡ false
+no_step : (clients : Meaning) (p : PlainFacts) (n : ℕ) (h : Held) → IsPlainSound p → KnowsMeanings clients p → slice_get (held_in p.messages.lines) n ≡ Some h → has p.waiting n ≡ false
     → step clients (facts_of p) h ≡ None
 no_step clients p n h sound knows at out =
     let found = held_get p.messages.lines n h at in
@@ -125,7 +125,7 @@ no_step clients p n h sound knows at out =
     ∙ (λ i. cond (over.0 i) (cond (over.1 i) None (step_open (facts_of p) (held_of l) l.answer)) (Some (entry.Judged l.id))))
 
 -- the first step among those that wait is the next one
-pub next_waits : (clients : Meaning) (p : PlainFacts) (ns : List ℕ) → IsSound p → Knows clients p → ns ≡ p.waiting → IsStrictlySortedBy nat_cmp p.waiting
+pub next_waits : (clients : Meaning) (p : PlainFacts) (ns : List ℕ) → IsPlainSound p → KnowsMeanings clients p → ns ≡ p.waiting → IsStrictlySortedBy nat_cmp p.waiting
     → first_at (facts_of p) p.messages.lines ns ≡ next clients (facts_of p)
 next_waits clients p ns sound knows is ascends =
     ap (first_at (facts_of p) p.messages.lines) is
@@ -139,7 +139,7 @@ left_same : (f : Facts) (ls : List Line) → ((n : ℕ) (l : Line) → slice_get
 left_same f [] same = refl
 left_same f (l ∷ ls) same = λ i. same 0 l refl i + left_same f ls (λ n x at. same (suc n) x at) i
 
-pub left_is : (p : PlainFacts) → IsSound p → left_in p.messages.lines ≡ left_of (facts_of p)
+pub left_is : (p : PlainFacts) → IsPlainSound p → left_in p.messages.lines ≡ left_of (facts_of p)
 left_is p sound =
     let ls = p.messages.lines in
     left_same (facts_of p) ls

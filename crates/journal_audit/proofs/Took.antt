@@ -19,9 +19,9 @@ use Rattle.sync_rules.proofs.PartsOfIds.{firsts_of_distinct}
 use Rattle.sync_rules.proofs.Sound.{held_at-push_new}
 use Rattle.journal_audit.specs.declared.facts.PlainFacts.{PlainFacts}
 use Rattle.journal_audit.specs.declared.messages.Line.{Line}
-use Rattle.journal_audit.specs.Changes.{Becomes, BecomesKnown, FitsOut, with_rows}
+use Rattle.journal_audit.specs.Changes.{BecomesFacts, BecomesKnown, FitsOut, with_rows}
 use Rattle.journal_audit.specs.Lines.{held_in, held_of}
-use Rattle.journal_audit.specs.Plain.{IsSound, Knows, facts_of, rest_after}
+use Rattle.journal_audit.specs.Plain.{IsPlainSound, KnowsMeanings, facts_of, rest_after}
 use Rattle.journal_audit.specs.Rows.{changed_by}
 use Rattle.journal_audit.proofs.Lines.{get_held}
 
@@ -37,12 +37,12 @@ line_named ls id n l place at =
 -- some rows of a contact were changed, and these are left
 pub record RowsSoFar (before now : PlainFacts) (contact : ℕ) (ids left : List Id) (f : Row → Row) : Type 0 where
   pub facts : facts_of now ≡ with_rows (facts_of before) now.rows
-  pub sound : IsSound now
-  pub knows : (clients : Meaning) → Knows clients before → Knows clients now
+  pub sound : IsPlainSound now
+  pub knows : (clients : Meaning) → KnowsMeanings clients before → KnowsMeanings clients now
   pub so_far : change_rows now.rows contact left f ≡ change_rows before.rows contact ids f
   pub held : list_all (is_held (facts_of now).held) left ≡ true
 
-pub rows_begun : (p : PlainFacts) (contact : ℕ) (ids : List Id) (f : Row → Row) → IsSound p → list_all (is_held (facts_of p).held) ids ≡ true → RowsSoFar p p contact ids ids f
+pub rows_begun : (p : PlainFacts) (contact : ℕ) (ids : List Id) (f : Row → Row) → IsPlainSound p → list_all (is_held (facts_of p).held) ids ≡ true → RowsSoFar p p contact ids ids f
 rows_begun p contact ids f sound held = record { facts = refl; sound = sound; knows = λ clients knows. knows; so_far = refl; held = held }
 
 -- the next id, and those behind it
@@ -58,7 +58,7 @@ next_held before now contact ids n id f within at so =
     (and_parts (is_held (facts_of now).held id) _ (next_of before now contact ids n id f within at so).held).0
 
 pub rows_more : (before now next : PlainFacts) (contact : ℕ) (ids : List Id) (n : ℕ) (id : Id) (f : Row → Row) → n < length ids → id ≡ get_or ids n id
-    → RowsSoFar before now contact ids (drop n ids) f → Becomes now next (with_rows (facts_of now) (change_row now.rows contact id f))
+    → RowsSoFar before now contact ids (drop n ids) f → BecomesFacts now next (with_rows (facts_of now) (change_row now.rows contact id f))
     → RowsSoFar before next contact ids (drop (n + 1) ids) f
 rows_more before now next contact ids n id f within at so more =
     let here = next_of before now contact ids n id f within at so in
@@ -75,7 +75,7 @@ rows_more before now next contact ids n id f within at so more =
     }
 
 pub rows_done : (before now : PlainFacts) (contact : ℕ) (ids left : List Id) (f : Row → Row) → left ≡ [] → RowsSoFar before now contact ids left f
-    → Becomes before now (with_rows (facts_of before) (change_rows before.rows contact ids f))
+    → BecomesFacts before now (with_rows (facts_of before) (change_rows before.rows contact ids f))
 rows_done before now contact ids left f none so = record {
   facts = so.facts ∙ ap (with_rows (facts_of before)) (ap (λ (l : List Id). change_rows now.rows contact l f) (sym none) ∙ so.so_far);
   sound = so.sound;
@@ -123,7 +123,7 @@ arrived_facts f session contact m id next on named is =
 -- ---- any entry
 
 -- what clients say is known of what the facts became
-pub known_now : {X E : Type 0} {f : Facts} (clients : Meaning) (old new : PlainFacts) (r : Result X E) (next : Facts) → f ≡ next → Knows clients old → OnOk r (Becomes old new f)
+pub known_now : {X E : Type 0} {f : Facts} (clients : Meaning) (old new : PlainFacts) (r : Result X E) (next : Facts) → f ≡ next → KnowsMeanings clients old → OnOk r (BecomesFacts old new f)
     → OnOk r (BecomesKnown clients new next)
 known_now {f = f} clients old new (Ok x) next same knows becomes = record {
   facts = becomes.facts ∙ same;
@@ -133,7 +133,7 @@ known_now {f = f} clients old new (Ok x) next same knows becomes = record {
 known_now clients old new (Err e) next same knows becomes = tt
 
 -- and so for an entry that was told apart
-pub entry_now : {X E : Type 0} {e : Entry} (clients : Meaning) (old new : PlainFacts) (r : Result X E) (given : Entry) → given ≡ e → Knows clients old
-    → OnOk r (Becomes old new (rest_after (facts_of old) e)) → OnOk r (BecomesKnown clients new (rest_after (facts_of old) given))
+pub entry_now : {X E : Type 0} {e : Entry} (clients : Meaning) (old new : PlainFacts) (r : Result X E) (given : Entry) → given ≡ e → KnowsMeanings clients old
+    → OnOk r (BecomesFacts old new (rest_after (facts_of old) e)) → OnOk r (BecomesKnown clients new (rest_after (facts_of old) given))
 entry_now {e = e} clients old new r given is knows becomes =
     known_now {f = rest_after (facts_of old) e} clients old new r (rest_after (facts_of old) given) (ap (λ (x : Entry). rest_after (facts_of old) x) (sym is)) knows becomes

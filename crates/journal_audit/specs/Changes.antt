@@ -11,10 +11,10 @@ use Rattle.sync_rules.specs.Clients.{Meaning}
 use Rattle.sync_rules.specs.Facts.{Facts, Id, Rows, Wants, group_at, is_held}
 use Rattle.sync_rules.specs.Lists.{has_repeat}
 use Rattle.journal_audit.specs.declared.facts.PlainFacts.{PlainFacts}
-use Rattle.journal_audit.specs.Plain.{IsSound, Knows, facts_of}
+use Rattle.journal_audit.specs.Plain.{IsPlainSound, KnowsMeanings, facts_of}
 
 -- a message may be held: its group is known, and its id is not held
-pub record CanHold (f : Facts) (m : MessageValue) : Type 0 where
+pub record MayHoldMessage (f : Facts) (m : MessageValue) : Type 0 where
   pub known_group : is_some (group_at f.groups m.group) ≡ true
   pub new : is_held f.held (message_id_of m) ≡ false
 
@@ -30,21 +30,21 @@ FitsOut f (out.Offers ids) = AreNamed f ids
 FitsOut f (out.Send id) = is_held f.held id ≡ true
 
 -- an entry may be taken: less than what an entry of a legal journal meets at its place
-abbrev pub Fits : Facts → Entry → Type 0
-Fits f (entry.Contact c) = (c ≡ f.contacts) × (c < 256)
-Fits f (entry.Level c g l) = (c < f.contacts) × (is_some (group_at f.groups g) ≡ true)
-Fits f (entry.Author m) = CanHold f m
-Fits f (entry.Arrive s m) = CanHold f m
-Fits f (entry.Kept from m) = CanHold f m
-Fits f (entry.Judged id) = is_held f.held id ≡ true
-Fits f (entry.Deliver id) = is_held f.held id ≡ true
-Fits f (entry.Invalid id) = is_held f.held id ≡ true
-Fits f (entry.Again s id) = is_held f.held id ≡ true
-Fits f (entry.Seen s id) = is_held f.held id ≡ true
-Fits f (entry.Asked s id) = is_held f.held id ≡ true
-Fits f (entry.Tried t) = is_held f.held t.id ≡ true
-Fits f (entry.Out s now what) = FitsOut f what
-Fits f _ = Unit {0}
+abbrev pub MayTakeEntry : Facts → Entry → Type 0
+MayTakeEntry f (entry.Contact c) = (c ≡ f.contacts) × (c < 256)
+MayTakeEntry f (entry.Level c g l) = (c < f.contacts) × (is_some (group_at f.groups g) ≡ true)
+MayTakeEntry f (entry.Author m) = MayHoldMessage f m
+MayTakeEntry f (entry.Arrive s m) = MayHoldMessage f m
+MayTakeEntry f (entry.Kept from m) = MayHoldMessage f m
+MayTakeEntry f (entry.Judged id) = is_held f.held id ≡ true
+MayTakeEntry f (entry.Deliver id) = is_held f.held id ≡ true
+MayTakeEntry f (entry.Invalid id) = is_held f.held id ≡ true
+MayTakeEntry f (entry.Again s id) = is_held f.held id ≡ true
+MayTakeEntry f (entry.Seen s id) = is_held f.held id ≡ true
+MayTakeEntry f (entry.Asked s id) = is_held f.held id ≡ true
+MayTakeEntry f (entry.Tried t) = is_held f.held t.id ≡ true
+MayTakeEntry f (entry.Out s now what) = FitsOut f what
+MayTakeEntry f _ = Unit {0}
 
 -- ---- what taking an entry does
 
@@ -57,13 +57,13 @@ abbrev pub with_wanted : Facts → Wants → Facts
 with_wanted f wanted = record f { wanted = wanted }
 
 -- the facts became these, what holds of plain facts holds, and what clients say of each message is known as before
-pub record Becomes (old new : PlainFacts) (f : Facts) : Type 0 where
+pub record BecomesFacts (old new : PlainFacts) (f : Facts) : Type 0 where
   pub facts : facts_of new ≡ f
-  pub sound : IsSound new
-  pub knows : (clients : Meaning) → Knows clients old → Knows clients new
+  pub sound : IsPlainSound new
+  pub knows : (clients : Meaning) → KnowsMeanings clients old → KnowsMeanings clients new
 
 -- the same where what these clients say is known
 pub record BecomesKnown (clients : Meaning) (new : PlainFacts) (f : Facts) : Type 0 where
   pub facts : facts_of new ≡ f
-  pub sound : IsSound new
-  pub knows : Knows clients new
+  pub sound : IsPlainSound new
+  pub knows : KnowsMeanings clients new

@@ -25,9 +25,9 @@ IsHeaderOf bytes None = is_open bytes ≡ false
 IsHeaderOf bytes (Some header) = (is_open bytes ≡ true) × (header.format ≡ format_in bytes) × (header.generation ≡ generation_in bytes)
 
 -- the journal's file and its format were found, or no header is open
-abbrev pub IsFound : Two (List ℕ) → Result (ℕ × ℕ) AuditFault → Type 0
-IsFound files (Ok found) = (journal_file files ≡ Some found.0) × (format_in (file_of files found.0) ≡ found.1)
-IsFound files (Err fault.Memory) = ⊥
-IsFound files (Err fault.NoStore) = journal_file files ≡ None
-IsFound files (Err (fault.Damaged place)) = ⊥
-IsFound files (Err fault.DiskFault) = Unit {0}
+abbrev pub IsFileFound : Two (List ℕ) → Result (ℕ × ℕ) AuditFault → Type 0
+IsFileFound files (Ok found) = (journal_file files ≡ Some found.0) × (format_in (file_of files found.0) ≡ found.1)
+IsFileFound files (Err fault.Memory) = ⊥
+IsFileFound files (Err fault.NoStore) = journal_file files ≡ None
+IsFileFound files (Err (fault.Damaged place)) = ⊥
+IsFileFound files (Err fault.DiskFault) = Unit {0}

@@ -47,13 +47,13 @@ abbrev pub shared_in : List Line → List Id
 shared_in lines = ids_flagged (λ l. l.judged && shares l.answer) lines
 
 -- what is kept of each message is what its client says of it
-abbrev pub Knows : Meaning → PlainFacts → Type 0
-Knows clients p = AllByRecursion (λ l. l.answer ≡ verdict_in clients p.groups l.message) p.messages.lines
+abbrev pub KnowsMeanings : Meaning → PlainFacts → Type 0
+KnowsMeanings clients p = AllByRecursion (λ l. l.answer ≡ verdict_in clients p.groups l.message) p.messages.lines
 
 -- ---- what holds of the parts together
 
 -- there are at most 256 contacts, and each group that is not Invisible to some contact is known, and the contact too
-pub record HasLevels (contacts : ℕ) (groups : List Known) (levels : LevelMap) : Type 0 where
+pub record HasPlainLevels (contacts : ℕ) (groups : List Known) (levels : LevelMap) : Type 0 where
   pub few : contacts ≤ 256
   pub shown : (contact : ℕ) (group : Id) → is_invisible (level_at levels contact group) ≡ false → is_some (group_at groups group) ≡ true
   pub hidden : (contact : ℕ) (group : Id) → contacts ≤ contact → level_at levels contact group ≡ level.Invisible
@@ -63,17 +63,17 @@ abbrev pub AreGrouped : List Known → List Held → Type 0
 AreGrouped groups held = list_all (λ h. is_some (group_at groups h.message.group)) held ≡ true
 
 -- nothing is kept of a message that is not held
-abbrev pub HasRows : List Held → Rows → Type 0
-HasRows held rows = (contact : ℕ) (id : Id) → is_held held id ≡ false → row_at rows contact id ≡ no_row
+abbrev pub HasPlainRows : List Held → Rows → Type 0
+HasPlainRows held rows = (contact : ℕ) (id : Id) → is_held held id ≡ false → row_at rows contact id ≡ no_row
 
 -- a message that is not waiting is judged, and is delivered or invalid
-abbrev pub Waits : List Line → List ℕ → Type 0
-Waits lines waiting =
+abbrev pub WaitsOrHasEnded : List Line → List ℕ → Type 0
+WaitsOrHasEnded lines waiting =
     (n : ℕ) (l : Line) → slice_get lines n ≡ Some l → has waiting n ≡ false → (l.judged ≡ true) × ((l.delivered || l.invalid) ≡ true)
 
 -- a message that is not among those owed waits for no acknowledgement
-abbrev pub Owes : List Held → Rows → List (List ℕ) → Type 0
-Owes held rows owed =
+abbrev pub OwesAcks : List Held → Rows → List (List ℕ) → Type 0
+OwesAcks held rows owed =
     (contact n : ℕ) (h : Held) → contact < 256 → slice_get held n ≡ Some h → has_for owed contact n ≡ false → (row_at rows contact h.id).owed ≡ false
 
 -- a message may be due to the contact at some time before this one: it is in a group that is Shared with the contact, the contact
@@ -84,8 +84,8 @@ is_awake levels rows contact until h =
     && (not (row_at rows contact h.id).seen && ((row_at rows contact h.id).asked || nat_lt (row_at rows contact h.id).expiry until))
 
 -- nothing below a contact's cursor is due before its time
-abbrev pub Sleeps : List Held → LevelMap → Rows → CursorLists → Type 0
-Sleeps held levels rows cursors =
+abbrev pub SleepsBelowCursor : List Held → LevelMap → Rows → CursorLists → Type 0
+SleepsBelowCursor held levels rows cursors =
     (contact n : ℕ) (h : Held) → slice_get held n ≡ Some h → n < from_of cursors contact → is_awake levels rows contact (until_of cursors contact) h ≡ false
 
 -- no cursor is beyond the messages
@@ -94,18 +94,18 @@ AreWithin lines cursors = (contact : ℕ) → from_of cursors contact ≤ length
 
 pub record AreSound (contacts : ℕ) (groups : List Known) (levels : LevelMap) (kept : Kept) (rows : Rows) (waiting : List ℕ) (owed : List (List ℕ)) (cursors : CursorLists) : Type 0 where
   pub lines : AreLines kept
-  pub levels_fit : HasLevels contacts groups levels
+  pub levels_fit : HasPlainLevels contacts groups levels
   pub grouped : AreGrouped groups (held_in kept.lines)
-  pub rows_fit : HasRows (held_in kept.lines) rows
-  pub waits : Waits kept.lines waiting
-  pub owes : Owes (held_in kept.lines) rows owed
-  pub sleeps : Sleeps (held_in kept.lines) levels rows cursors
+  pub rows_fit : HasPlainRows (held_in kept.lines) rows
+  pub waits : WaitsOrHasEnded kept.lines waiting
+  pub owes : OwesAcks (held_in kept.lines) rows owed
+  pub sleeps : SleepsBelowCursor (held_in kept.lines) levels rows cursors
   pub within : AreWithin kept.lines cursors
 
-abbrev pub IsSound : PlainFacts → Type 0
-IsSound p = AreSound p.contacts p.groups p.levels p.messages p.rows p.waiting p.owed p.cursors
+abbrev pub IsPlainSound : PlainFacts → Type 0
+IsPlainSound p = AreSound p.contacts p.groups p.levels p.messages p.rows p.waiting p.owed p.cursors
 
 -- a message of this number need not be looked at before this time
-pub record Passes (p : PlainFacts) (contact n until : ℕ) : Type 0 where
+pub record PassesUntil (p : PlainFacts) (contact n until : ℕ) : Type 0 where
   pub sooner : until ≤ until_of p.cursors contact
   pub asleep : (h : Held) → slice_get (held_in p.messages.lines) n ≡ Some h → is_awake p.levels p.rows contact until h ≡ false

@@ -7,21 +7,21 @@ use Rattle.sync_rules.specs.Facts.{Facts, after, after_all, facts}
 use Rattle.sync_rules.specs.Legal.{Legal}
 use Rattle.sync_rules.specs.Steps.{next}
 use Rattle.journal_audit.specs.declared.facts.PlainFacts.{PlainFacts}
-use Rattle.journal_audit.specs.Changes.{BecomesKnown, Fits}
-use Rattle.journal_audit.specs.Plain.{IsSound, Knows, facts_of}
+use Rattle.journal_audit.specs.Changes.{BecomesKnown, MayTakeEntry}
+use Rattle.journal_audit.specs.Plain.{IsPlainSound, KnowsMeanings, facts_of}
 
 -- plain facts are those of a legal journal
 pub record IsOfLegal (clients : Meaning) (p : PlainFacts) : Type 0 where
   pub done : List (List Entry)
   pub legal : Legal clients done
   pub facts_are : facts_of p ≡ facts done
-  pub sound : IsSound p
-  pub knows : Knows clients p
+  pub sound : IsPlainSound p
+  pub knows : KnowsMeanings clients p
 
 -- each entry may be taken behind those before it
 abbrev pub AllFit : Facts → List Entry → Type 0
 AllFit f [] = Unit {0}
-AllFit f (e ∷ es) = Fits f e × AllFit (after f e) es
+AllFit f (e ∷ es) = MayTakeEntry f e × AllFit (after f e) es
 
 -- an entry is a row or a wanted id that suits, or else the next step
 abbrev pub goes : Meaning → Bool → Facts → Entry → Bool
@@ -33,6 +33,6 @@ all_go clients rows f [] = true
 all_go clients rows f (e ∷ es) = goes clients rows f e && all_go clients rows (after f e) es
 
 -- entries were tested, and taken where the test said yes
-pub record Plays (clients : Meaning) (old new : PlainFacts) (test : Bool) (es : List Entry) (told : Bool) : Type 0 where
+pub record PlaysEntries (clients : Meaning) (old new : PlainFacts) (test : Bool) (es : List Entry) (told : Bool) : Type 0 where
   pub answer : told ≡ test
   pub taken : told ≡ true → BecomesKnown clients new (after_all (facts_of old) es)

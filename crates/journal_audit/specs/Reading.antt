@@ -18,7 +18,7 @@ abbrev pub whole_of : Meaning → ℕ → Format → List ℕ → Standing
 whole_of clients file format bytes = rest_from clients format file bytes 14 []
 
 -- the facts are those of the batches before a place, and the file stands for what its rest gives behind them
-pub record SoFar (clients : Meaning) (file : ℕ) (format : Format) (bytes : List ℕ) (p : Played) : Type 0 where
+pub record ReadSoFar (clients : Meaning) (file : ℕ) (format : Format) (bytes : List ℕ) (p : Played) : Type 0 where
   pub of : IsOfLegal clients p.facts
   pub going : whole_of clients file format bytes ≡ rest_from clients format file bytes p.place of.done
   pub batches : p.batches ≡ length of.done
@@ -35,21 +35,21 @@ IsDamage whole fault.DiskFault = ⊥
 
 -- one more frame was read, behind this place
 abbrev pub ReadsOne : Meaning → ℕ → Format → List ℕ → ℕ → Played → Result (Unit {0}) AuditFault → Type 0
-ReadsOne clients file format bytes size new (Ok _) = SoFar clients file format bytes new × (size ≤ new.place)
+ReadsOne clients file format bytes size new (Ok _) = ReadSoFar clients file format bytes new × (size ≤ new.place)
 ReadsOne clients file format bytes size new (Err e) = IsDamage (whole_of clients file format bytes) e
 
 -- the frames of a file are read to a closed gate
-abbrev pub ReadsAll : Meaning → ℕ → Format → List ℕ → Result Played AuditFault → Type 0
-ReadsAll clients file format bytes (Ok p) = SoFar clients file format bytes p × (frame_at bytes p.place ≡ closed)
-ReadsAll clients file format bytes (Err e) = IsDamage (whole_of clients file format bytes) e
+abbrev pub ReadsFrames : Meaning → ℕ → Format → List ℕ → Result Played AuditFault → Type 0
+ReadsFrames clients file format bytes (Ok p) = ReadSoFar clients file format bytes p × (frame_at bytes p.place ≡ closed)
+ReadsFrames clients file format bytes (Err e) = IsDamage (whole_of clients file format bytes) e
 
 -- a journal was read, which leaves the room that it needs
-pub record IsRead (clients : Meaning) (whole : Standing) (p : Played) : Type 0 where
+pub record IsJournalRead (clients : Meaning) (whole : Standing) (p : Played) : Type 0 where
   pub of : IsOfLegal clients p.facts
   pub stands_for : whole ≡ journal of.done
   pub batches : p.batches ≡ length of.done
   pub entries : p.entries ≡ length (entries_of of.done)
 
-abbrev pub Reads : Meaning → Standing → Result Played AuditFault → Type 0
-Reads clients whole (Ok p) = IsRead clients whole p
-Reads clients whole (Err e) = IsDamage whole e
+abbrev pub ReadsStanding : Meaning → Standing → Result Played AuditFault → Type 0
+ReadsStanding clients whole (Ok p) = IsJournalRead clients whole p
+ReadsStanding clients whole (Err e) = IsDamage whole e

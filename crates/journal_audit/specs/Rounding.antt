@@ -47,7 +47,7 @@ abbrev pub in_round : Bool → Graph → ℕ → Id → Bool
 in_round of_good g k id = cond of_good (good g k id) (bad g k id)
 
 -- these are the messages of the graph, with their verdicts
-pub record IsGraph (g : Graph) (lines : List Line) : Type 0 where
+pub record IsGraphOfLines (g : Graph) (lines : List Line) : Type 0 where
   pub held_is : g.held ≡ held_in lines
   pub verdicts : AllByRecursion (λ l. l.answer ≡ g.verdict (held_of l)) lines
 
@@ -55,7 +55,7 @@ pub record IsGraph (g : Graph) (lines : List Line) : Type 0 where
 pub record AreMarked (of_good : Bool) (lines : List Line) (marks : List Bool) (count : ℕ) : Type 0 where
   pub long : length marks ≡ length lines
   pub counted : count ≡ count_by (λ b. b) marks
-  pub sound : (g : Graph) → IsGraph g lines → (id : Id) → is_marked (held_in lines) marks id ≡ true → in_round of_good g count id ≡ true
+  pub sound : (g : Graph) → IsGraphOfLines g lines → (id : Id) → is_marked (held_in lines) marks id ≡ true → in_round of_good g count id ≡ true
 
 -- no further message is good, or bad, by those that are marked
 abbrev pub AreStable : Bool → List Line → List Bool → Type 0

@@ -1,11 +1,11 @@
 //! The audit.
 ghost use Rattle.std.specs.Prelude.{◌≡◌, IsErrOf, Some};
 ghost use Rattle.std.specs.Option.{ForSome};
-ghost use Rattle.outside.specs.Disk.{Becomes};
-ghost use Rattle.outside.specs.Faults.{Rose};
+ghost use Rattle.outside.specs.Disk.{RelatesTold};
+ghost use Rattle.outside.specs.Faults.{CountRose};
 ghost use Rattle.outside.specs.Files.{File, read_files, Two};
-ghost use Rattle.outside.specs.Outside.{DiskRun, Looks};
-ghost use Rattle.journal_audit.specs.Answers.{IsAudited, LeavesSettled};
+ghost use Rattle.outside.specs.Outside.{DiskRun, OnlyReads};
+ghost use Rattle.journal_audit.specs.Answers.{IsAudited, AuditLeavesSettled};
 ghost use Rattle.journal_audit.specs.Files.{AnyImage, ReadsSame};
 ghost use Rattle.journal_audit.specs.declared.fault.AuditFault.TheVariants as fault;
 
@@ -24,9 +24,9 @@ fn audit_read<D: Disk, C: Clients>(
 ) -> Result<Report, AuditFault>
     ensures answer { ForSome (D.tells disk.old).files (λ two. IsAudited (C.meaning clients.now)
         (read_files two) result) }
-    ensures looks { Looks (D.tells disk.old) (D.tells disk.new) }
+    ensures looks { OnlyReads (D.tells disk.old) (D.tells disk.new) }
     ensures fault { IsErrOf result AuditFault.DiskFault
-        → Rose (D.tells disk.old).disk_faults (D.tells disk.new).disk_faults }
+        → CountRose (D.tells disk.old).disk_faults (D.tells disk.new).disk_faults }
 {
     let taken = take_file(alloc, disk)?;
     report_of(alloc, clients, &taken)
@@ -51,13 +51,13 @@ pub fn audit<D: Disk, C: Clients>(
 
     // At each moment a crash leaves what it might have left before.
     ensures any_moment { AnyImage (D.tells disk.old) (D.tells disk.new) }
-    ensures settled { LeavesSettled (D.tells disk.old).files (D.tells disk.new).files result }
+    ensures settled { AuditLeavesSettled (D.tells disk.old).files (D.tells disk.new).files result }
 
     // Whatever it answers, the files read as before.
-    ensures reads { Becomes ReadsSame (D.tells disk.old).files (D.tells disk.new).files }
+    ensures reads { RelatesTold ReadsSame (D.tells disk.old).files (D.tells disk.new).files }
     ensures run { DiskRun (D.tells disk.old) (D.tells disk.new) }
     ensures fault { IsErrOf result AuditFault.DiskFault
-        → Rose (D.tells disk.old).disk_faults (D.tells disk.new).disk_faults }
+        → CountRose (D.tells disk.old).disk_faults (D.tells disk.new).disk_faults }
 {
     sync_both(disk)?;
     audit_read(alloc, disk, clients)

@@ -7,7 +7,7 @@ ghost use Rattle.sync_ids.specs.declared.lists.TheConstants.{MAX_IDS};
 ghost use Rattle.journal_audit.specs.Lines.{held_in};
 ghost use Rattle.journal_audit.specs.Looks.{ids_at, is_line_sendable, is_offered, is_owed, is_sent};
 ghost use Rattle.journal_audit.specs.Looks.{picked, seen_of};
-ghost use Rattle.journal_audit.specs.Plain.{IsSound, shares};
+ghost use Rattle.journal_audit.specs.Plain.{IsPlainSound, shares};
 
 use crate::facts::PlainFacts;
 use crate::levels::Levels;
@@ -100,7 +100,7 @@ fn owed_at(facts: &PlainFacts, contact: u8, n: u32) -> Option<MessageId>
 
 // The id of the message of this number, where it is to be sent to the contact.
 fn sent_at(facts: &PlainFacts, contact: u8, mode: Mode, now: u64, n: u32) -> Option<MessageId>
-    requires { IsSound facts.now }
+    requires { IsPlainSound facts.now }
     ensures { result ≡ picked (is_sent (seen_of facts.now) contact mode now)
         (slice_get (held_in facts.now.messages.lines) n) }
 {
@@ -115,7 +115,7 @@ fn sent_at(facts: &PlainFacts, contact: u8, mode: Mode, now: u64, n: u32) -> Opt
 
 // The id of the message of this number, where it is to be offered to the contact.
 fn offered_at(facts: &PlainFacts, contact: u8, now: u64, n: u32) -> Option<MessageId>
-    requires { IsSound facts.now }
+    requires { IsPlainSound facts.now }
     ensures { result ≡ picked (is_offered (seen_of facts.now) contact now)
         (slice_get (held_in facts.now.messages.lines) n) }
 {
@@ -163,7 +163,7 @@ pub(crate) fn first_sent(
     now: u64,
     from: u32,
 ) -> Option<MessageId>
-    requires { IsSound facts.now }
+    requires { IsPlainSound facts.now }
     ensures { result ≡ first_id (ids_where (is_sent (seen_of facts.now) contact mode now)
         (drop from (held_in facts.now.messages.lines))) }
 {
@@ -184,7 +184,7 @@ pub(crate) fn offered_ids(
     now: u64,
     from: u32,
 ) -> Result<Vec<MessageId>, AllocError>
-    requires { IsSound facts.now }
+    requires { IsPlainSound facts.now }
     ensures { IfOk result (λ ids. ids.items ≡ take MAX_IDS (ids_where
         (is_offered (seen_of facts.now) contact now)
         (drop from (held_in facts.now.messages.lines)))) }

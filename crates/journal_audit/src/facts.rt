@@ -2,7 +2,7 @@
 ghost use Rattle.std.specs.Prelude.{◌≡◌, IfOk};
 ghost use Rattle.sync_rules.specs.Clients.{Meaning};
 ghost use Rattle.sync_rules.specs.Facts.{nothing};
-ghost use Rattle.journal_audit.specs.Plain.{IsSound, Knows, facts_of};
+ghost use Rattle.journal_audit.specs.Plain.{IsPlainSound, KnowsMeanings, facts_of};
 
 use crate::cursors::Cursors;
 use crate::groups::Groups;
@@ -48,8 +48,8 @@ impl PlainFacts {
     /// The facts of a journal that has no entry.
     pub(crate) fn new(alloc: Global) -> Result<PlainFacts, AllocError>
         ensures facts { IfOk result (λ p. facts_of p ≡ nothing) }
-        ensures sound { IfOk result (λ p. IsSound p) }
-        ensures knows { IfOk result (λ p. (clients : Meaning) → Knows clients p) }
+        ensures sound { IfOk result (λ p. IsPlainSound p) }
+        ensures knows { IfOk result (λ p. (clients : Meaning) → KnowsMeanings clients p) }
     {
         Ok(PlainFacts {
             start: Start::Empty,

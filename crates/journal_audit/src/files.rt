@@ -2,15 +2,15 @@
 ghost use Rattle.std.specs.Prelude.{◌≡◌, ◌<◌, ◌≤◌, List, ℕ, IfErr, IfOk, IfSome, IsErrOf, OnOk, Some};
 ghost use Rattle.std.specs.Prelude.{take, ◌⊎◌};
 ghost use Rattle.std.specs.Option.{ForSome, option_map};
-ghost use Rattle.outside.specs.Disk.{Becomes};
-ghost use Rattle.outside.specs.Faults.{HasCause, Rose};
+ghost use Rattle.outside.specs.Disk.{RelatesTold};
+ghost use Rattle.outside.specs.Faults.{HasCause, CountRose};
 ghost use Rattle.outside.specs.Files.{Two, file_of, read_files};
 ghost use Rattle.outside.specs.Frames.{format_in, is_open, journal_file};
-ghost use Rattle.outside.specs.Outside.{DiskRun, Looks};
+ghost use Rattle.outside.specs.Outside.{DiskRun, OnlyReads};
 ghost use Rattle.journal_audit.specs.declared.fault.AuditFault.TheVariants as fault;
 ghost use Rattle.sync_rules.specs.Clients.{Meaning};
-ghost use Rattle.journal_audit.specs.Answers.{IsTaken};
-ghost use Rattle.journal_audit.specs.Files.{AnyImage, IsFound, IsHeaderOf, ReadsSame, SyncsBoth};
+ghost use Rattle.journal_audit.specs.Answers.{IsFileTaken};
+ghost use Rattle.journal_audit.specs.Files.{AnyImage, IsFileFound, IsHeaderOf, ReadsSame, SyncsBoth};
 
 use crate::AuditFault;
 use entry_codec::{Format, format_of};
@@ -20,9 +20,9 @@ use std::alloc::Global;
 /// Syncs both files, file 0 first: after it a crash leaves what a read gives. Whatever it answers,
 /// the files read as before.
 pub(crate) fn sync_both<D: Disk>(disk: &mut D) -> Result<(), Failed>
-    ensures settled { OnOk result (Becomes SyncsBoth (D.tells disk.old).files
+    ensures settled { OnOk result (RelatesTold SyncsBoth (D.tells disk.old).files
         (D.tells disk.new).files) }
-    ensures reads { Becomes ReadsSame (D.tells disk.old).files (D.tells disk.new).files }
+    ensures reads { RelatesTold ReadsSame (D.tells disk.old).files (D.tells disk.new).files }
     ensures any_moment { AnyImage (D.tells disk.old) (D.tells disk.new) }
     ensures run { DiskRun (D.tells disk.old) (D.tells disk.new) }
     ensures fault { HasCause (D.tells disk.old).disk_faults (D.tells disk.new).disk_faults result }
@@ -72,7 +72,7 @@ pub(crate) fn read_header<D: Disk>(disk: &mut D, file: u8) -> Result<Option<Head
     requires { file < 2 }
     ensures header { IfOk result
         (λ h. ForSome (D.tells disk.old).files (λ two. IsHeaderOf (file_of two file).now h)) }
-    ensures looks { Looks (D.tells disk.old) (D.tells disk.new) }
+    ensures looks { OnlyReads (D.tells disk.old) (D.tells disk.new) }
     ensures fault { HasCause (D.tells disk.old).disk_faults (D.tells disk.new).disk_faults result }
 {
     let mut bytes = [0u8; 14];
@@ -106,9 +106,9 @@ pub(crate) fn read_file<D: Disk>(
     requires { file < 2 }
     ensures bytes { IfOk result
         (λ bytes. ForSome (D.tells disk.old).files (λ two. bytes.items ≡ (file_of two file).now)) }
-    ensures looks { Looks (D.tells disk.old) (D.tells disk.new) }
+    ensures looks { OnlyReads (D.tells disk.old) (D.tells disk.new) }
     ensures fault { IsErrOf result AuditFault.DiskFault
-        → Rose (D.tells disk.old).disk_faults (D.tells disk.new).disk_faults }
+        → CountRose (D.tells disk.old).disk_faults (D.tells disk.new).disk_faults }
     ensures undamaged { IfErr result (λ e. e ≡ AuditFault.DiskFault ⊎ e ≡ AuditFault.Memory) }
 {
     let len = disk.len(file)? as usize;
@@ -121,11 +121,11 @@ pub(crate) fn read_file<D: Disk>(
 
 // The journal's file, and its format.
 fn find<D: Disk>(disk: &mut D) -> Result<(u8, u8), AuditFault>
-    ensures found { ForSome (D.tells disk.old).files (λ two. IsFound (read_files two) result) }
+    ensures found { ForSome (D.tells disk.old).files (λ two. IsFileFound (read_files two) result) }
     ensures two_files { IfOk result (λ found. found.0 < 2) }
-    ensures looks { Looks (D.tells disk.old) (D.tells disk.new) }
+    ensures looks { OnlyReads (D.tells disk.old) (D.tells disk.new) }
     ensures fault { IsErrOf result AuditFault.DiskFault
-        → Rose (D.tells disk.old).disk_faults (D.tells disk.new).disk_faults }
+        → CountRose (D.tells disk.old).disk_faults (D.tells disk.new).disk_faults }
 {
     let first = read_header(disk, 0)?;
     let second = read_header(disk, 1)?;
@@ -149,11 +149,11 @@ pub(crate) struct Taken {
 /// Reads the journal's file: the one with an open header, of two the one with the greater
 /// generation, of two equal ones file 0.
 pub(crate) fn take_file<D: Disk>(alloc: Global, disk: &mut D) -> Result<Taken, AuditFault>
-    ensures taken { ForSome (D.tells disk.old).files (λ two. (clients : Meaning) → IsTaken clients
+    ensures taken { ForSome (D.tells disk.old).files (λ two. (clients : Meaning) → IsFileTaken clients
         (read_files two) result) }
-    ensures looks { Looks (D.tells disk.old) (D.tells disk.new) }
+    ensures looks { OnlyReads (D.tells disk.old) (D.tells disk.new) }
     ensures fault { IsErrOf result AuditFault.DiskFault
-        → Rose (D.tells disk.old).disk_faults (D.tells disk.new).disk_faults }
+        → CountRose (D.tells disk.old).disk_faults (D.tells disk.new).disk_faults }
 {
     let (file, number) = find(disk)?;
     let Some(format) = format_of(number) else {

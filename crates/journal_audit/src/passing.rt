@@ -1,8 +1,8 @@
 //! How far a contact is served.
 ghost use Rattle.std.specs.Prelude.{◌≡◌, ℕ, cond, nat_lt, IfSome};
-ghost use Rattle.journal_audit.specs.Changes.{Becomes};
+ghost use Rattle.journal_audit.specs.Changes.{BecomesFacts};
 ghost use Rattle.journal_audit.specs.Numbers.{from_of, until_of};
-ghost use Rattle.journal_audit.specs.Plain.{IsSound, Passes, facts_of};
+ghost use Rattle.journal_audit.specs.Plain.{IsPlainSound, PassesUntil, facts_of};
 
 use crate::due::is_shared;
 use crate::facts::PlainFacts;
@@ -23,8 +23,8 @@ impl PlainFacts {
 
     // Until when the message of this number need not be looked at, where it is not due now.
     fn passes(&self, contact: u8, n: u32, now: u64) -> Option<u64>
-        requires { IsSound self.now }
-        ensures { IfSome result (λ until. Passes self.now contact n until) }
+        requires { IsPlainSound self.now }
+        ensures { IfSome result (λ until. PassesUntil self.now contact n until) }
     {
         let line = self.messages.get(n)?;
         let row = self.rows.row(contact, &line.id);
@@ -40,8 +40,8 @@ impl PlainFacts {
 
     // The contact is served up to no message, where its time has come.
     fn start_over(&mut self, contact: u8, now: u64)
-        requires { IsSound self.old }
-        ensures { Becomes self.old self.new (facts_of self.old) }
+        requires { IsPlainSound self.old }
+        ensures { BecomesFacts self.old self.new (facts_of self.old) }
     {
         if now >= self.cursors.until(contact) {
             self.cursors.set(contact, 0, u64::MAX);
@@ -50,8 +50,8 @@ impl PlainFacts {
 
     // Passes the message of this number, where it is the next one and not due. Whether it was passed.
     fn pass(&mut self, contact: u8, n: u32, now: u64) -> bool
-        requires { IsSound self.old }
-        ensures { Becomes self.old self.new (facts_of self.old) }
+        requires { IsPlainSound self.old }
+        ensures { BecomesFacts self.old self.new (facts_of self.old) }
     {
         if n >= self.messages.len() || self.cursors.from(contact) != n {
             return false;
@@ -66,8 +66,8 @@ impl PlainFacts {
     // Passes the next messages that are not due to the contact at this time, up to the first that may
     // be.
     fn pass_next(&mut self, contact: u8, now: u64)
-        requires { IsSound self.old }
-        ensures { Becomes self.old self.new (facts_of self.old) }
+        requires { IsPlainSound self.old }
+        ensures { BecomesFacts self.old self.new (facts_of self.old) }
     {
         for n in self.cursors.from(contact)..self.messages.len() {
             if !self.pass(contact, n, now) {
@@ -79,8 +79,8 @@ impl PlainFacts {
     /// Passes what is not due to the contact of an output at its time, so that the test of the batch
     /// need not look at it. The facts stay.
     pub(crate) fn pass_for(&mut self, entries: &[Entry])
-        requires { IsSound self.old }
-        ensures { Becomes self.old self.new (facts_of self.old) }
+        requires { IsPlainSound self.old }
+        ensures { BecomesFacts self.old self.new (facts_of self.old) }
     {
         if let Some(Entry::Out(session, now, _)) = entries.first() {
             let contact = self.contact_of(*session);

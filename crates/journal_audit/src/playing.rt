@@ -6,9 +6,9 @@ ghost use Rattle.sync_rules.specs.Clients.{Meaning};
 ghost use Rattle.sync_rules.specs.Facts.{after_all};
 ghost use Rattle.sync_rules.specs.Allows.{allows, is_opening, is_rows, is_settled, is_settling};
 ghost use Rattle.sync_rules.specs.Allows.{is_settling_kind};
-ghost use Rattle.journal_audit.specs.Changes.{BecomesKnown, Fits};
-ghost use Rattle.journal_audit.specs.Plain.{IsSound, Knows, facts_of};
-ghost use Rattle.journal_audit.specs.Playing.{all_go, AllFit, goes, IsOfLegal, Plays};
+ghost use Rattle.journal_audit.specs.Changes.{BecomesKnown, MayTakeEntry};
+ghost use Rattle.journal_audit.specs.Plain.{IsPlainSound, KnowsMeanings, facts_of};
+ghost use Rattle.journal_audit.specs.Playing.{all_go, AllFit, goes, IsOfLegal, PlaysEntries};
 
 use crate::facts::PlainFacts;
 use crate::restoring::suits_rows;
@@ -52,8 +52,8 @@ fn is_opening(start: Start) -> bool
 
 /// Whether no step is open.
 pub(crate) fn is_settled(facts: &PlainFacts) -> bool
-    requires { IsSound facts.now }
-    ensures { (clients : Meaning) → Knows clients facts.now → result ≡ is_settled clients
+    requires { IsPlainSound facts.now }
+    ensures { (clients : Meaning) → KnowsMeanings clients facts.now → result ≡ is_settled clients
         (facts_of facts.now) }
 {
     next_step(facts).is_none()
@@ -61,8 +61,8 @@ pub(crate) fn is_settled(facts: &PlainFacts) -> bool
 
 // Whether an entry is a row or a wanted id that suits, or else the next step.
 fn goes(facts: &PlainFacts, rows: bool, entry: &Entry) -> bool
-    requires { IsSound facts.now }
-    ensures test { (clients : Meaning) → Knows clients facts.now → result ≡ goes clients rows
+    requires { IsPlainSound facts.now }
+    ensures test { (clients : Meaning) → KnowsMeanings clients facts.now → result ≡ goes clients rows
         (facts_of facts.now) entry.now }
 {
     if rows {
@@ -82,9 +82,9 @@ fn play<C: Clients>(
     rows: bool,
     entries: Vec<Entry>,
 ) -> Result<bool, AllocError>
-    requires sound { IsSound facts.old }
-    requires knows { Knows (C.meaning clients.now) facts.old }
-    ensures { IfOk result (Plays (C.meaning clients.now) facts.old facts.new
+    requires sound { IsPlainSound facts.old }
+    requires knows { KnowsMeanings (C.meaning clients.now) facts.old }
+    ensures { IfOk result (PlaysEntries (C.meaning clients.now) facts.old facts.new
         (all_go (C.meaning clients.now) rows (facts_of facts.old) entries.items) entries.items) }
 {
     for entry in entries {
@@ -104,8 +104,8 @@ fn take_all<C: Clients>(
     known: &Option<MessageId>,
     entries: Vec<Entry>,
 ) -> Result<(), AllocError>
-    requires sound { IsSound facts.old }
-    requires knows { Knows (C.meaning clients.now) facts.old }
+    requires sound { IsPlainSound facts.old }
+    requires knows { KnowsMeanings (C.meaning clients.now) facts.old }
     requires named { IsOfAll known.now entries.items }
     requires fit { AllFit (facts_of facts.old) entries.items }
     ensures { OnOk result (BecomesKnown (C.meaning clients.now) facts.new
@@ -124,9 +124,9 @@ fn admit_steps<C: Clients>(
     clients: &C,
     entries: Vec<Entry>,
 ) -> Result<bool, AllocError>
-    requires sound { IsSound facts.old }
-    requires knows { Knows (C.meaning clients.now) facts.old }
-    ensures { IfOk result (Plays (C.meaning clients.now) facts.old facts.new
+    requires sound { IsPlainSound facts.old }
+    requires knows { KnowsMeanings (C.meaning clients.now) facts.old }
+    ensures { IfOk result (PlaysEntries (C.meaning clients.now) facts.old facts.new
         (is_settling (C.meaning clients.now) (facts_of facts.old) entries.items) entries.items) }
 {
     if entries.len() > MAX_STEPS {
@@ -142,9 +142,9 @@ fn admit_rows<C: Clients>(
     clients: &C,
     entries: Vec<Entry>,
 ) -> Result<bool, AllocError>
-    requires sound { IsSound facts.old }
-    requires knows { Knows (C.meaning clients.now) facts.old }
-    ensures { IfOk result (Plays (C.meaning clients.now) facts.old facts.new
+    requires sound { IsPlainSound facts.old }
+    requires knows { KnowsMeanings (C.meaning clients.now) facts.old }
+    ensures { IfOk result (PlaysEntries (C.meaning clients.now) facts.old facts.new
         (is_rows (C.meaning clients.now) (facts_of facts.old) entries.items) entries.items) }
 {
     if !is_opening(facts.start) || !is_settled(facts) {
@@ -164,8 +164,8 @@ fn allows_other<C: Clients>(
     batch: &Batch,
     id: Option<MessageId>,
 ) -> Result<bool, AllocError>
-    requires sound { IsSound facts.now }
-    requires knows { Knows (C.meaning clients.now) facts.now }
+    requires sound { IsPlainSound facts.now }
+    requires knows { KnowsMeanings (C.meaning clients.now) facts.now }
     requires kind { is_settling_kind batch.now ≡ false }
     requires plain { is_rows_kind batch.now ≡ false }
     requires named { IsOfAll id batch.now }
@@ -187,7 +187,7 @@ fn admit_passed<C: Clients>(
     requires legal { IsOfLegal (C.meaning clients.now) facts.old }
     requires kind { is_settling_kind batch ≡ false }
     requires plain { is_rows_kind batch ≡ false }
-    ensures { IfOk result (Plays (C.meaning clients.now) facts.old facts.new
+    ensures { IfOk result (PlaysEntries (C.meaning clients.now) facts.old facts.new
         (allows (C.meaning clients.now) (facts_of facts.old) batch) batch) }
 {
     let id = id_brought(batch.entries());
@@ -209,7 +209,7 @@ fn admit_other<C: Clients>(
     requires legal { IsOfLegal (C.meaning clients.now) facts.old }
     requires kind { is_settling_kind batch ≡ false }
     requires plain { is_rows_kind batch ≡ false }
-    ensures { IfOk result (Plays (C.meaning clients.now) facts.old facts.new
+    ensures { IfOk result (PlaysEntries (C.meaning clients.now) facts.old facts.new
         (allows (C.meaning clients.now) (facts_of facts.old) batch) batch) }
 {
     facts.pass_for(batch.entries());
@@ -225,7 +225,7 @@ pub(crate) fn admit<C: Clients>(
     batch: Batch,
 ) -> Result<bool, AllocError>
     requires { IsOfLegal (C.meaning clients.now) facts.old }
-    ensures { IfOk result (Plays (C.meaning clients.now) facts.old facts.new
+    ensures { IfOk result (PlaysEntries (C.meaning clients.now) facts.old facts.new
         (allows (C.meaning clients.now) (facts_of facts.old) batch) batch) }
 {
     if begins_settling(batch.entries()) {

@@ -3,7 +3,7 @@ ghost use Rattle.std.specs.Prelude.{◌≡◌, ◌+◌, ◌*◌, ◌<◌, ◌≤
 ghost use Rattle.entry_codec.specs.Standing.{step_bytes};
 ghost use Rattle.outside.specs.Frames.{closed, frame_at};
 ghost use Rattle.journal_audit.specs.Frames.{IsOpenAt};
-ghost use Rattle.journal_audit.specs.Reading.{Reads, ReadsAll, ReadsOne, SoFar, whole_of};
+ghost use Rattle.journal_audit.specs.Reading.{ReadsStanding, ReadsFrames, ReadsOne, ReadSoFar, whole_of};
 
 use crate::AuditFault;
 use crate::facts::PlainFacts;
@@ -53,7 +53,7 @@ fn play_frame<C: Clients>(
     played: &mut Played,
     size: usize,
 ) -> Result<(), AuditFault>
-    requires so_far { SoFar (C.meaning clients.now) file format bytes.now played.old }
+    requires so_far { ReadSoFar (C.meaning clients.now) file format bytes.now played.old }
     requires frame { IsOpenAt bytes.now played.old.place size }
     ensures { ReadsOne (C.meaning clients.now) file format bytes.now (played.old.place + 5 + size)
         played.new result }
@@ -87,7 +87,7 @@ fn play_all<C: Clients>(
     format: Format,
     bytes: &[u8],
 ) -> Result<Played, AuditFault>
-    ensures { ReadsAll (C.meaning clients.now) file format bytes.now result }
+    ensures { ReadsFrames (C.meaning clients.now) file format bytes.now result }
 {
     let mut played = Played {
         facts: PlainFacts::new(alloc)?,
@@ -131,7 +131,7 @@ pub(crate) fn read<C: Clients>(
     format: Format,
     bytes: &[u8],
 ) -> Result<Played, AuditFault>
-    ensures { Reads (C.meaning clients.now) (whole_of (C.meaning clients.now) file format
+    ensures { ReadsStanding (C.meaning clients.now) (whole_of (C.meaning clients.now) file format
         bytes.now) result }
 {
     let played = play_all(alloc, clients, file, format, bytes)?;

@@ -1,9 +1,9 @@
 //! What an audit reports.
 ghost use Rattle.std.specs.Prelude.{◌≡◌, IfOk};
-ghost use Rattle.journal_audit.specs.Answers.{Reports};
-ghost use Rattle.journal_audit.specs.Plain.{IsSound};
+ghost use Rattle.journal_audit.specs.Answers.{ReportsFrames};
+ghost use Rattle.journal_audit.specs.Plain.{IsPlainSound};
 ghost use Rattle.journal_audit.specs.Reading.{whole_of};
-ghost use Rattle.journal_audit.specs.Telling.{Tells};
+ghost use Rattle.journal_audit.specs.Telling.{TellsReport};
 
 use crate::AuditFault;
 use crate::files::Taken;
@@ -32,8 +32,8 @@ pub struct Report {
 
 // What is told of a journal that was played.
 fn tell(alloc: Global, played: &Played) -> Result<Report, AllocError>
-    requires { IsSound played.now.facts }
-    ensures { IfOk result (Tells played.now) }
+    requires { IsPlainSound played.now.facts }
+    ensures { IfOk result (TellsReport played.now) }
 {
     let messages = &played.facts.messages;
     Ok(Report {
@@ -51,7 +51,7 @@ pub(crate) fn report_of<C: Clients>(
     clients: &C,
     taken: &Taken,
 ) -> Result<Report, AuditFault>
-    ensures { Reports (C.meaning clients.now) (whole_of (C.meaning clients.now) taken.now.file
+    ensures { ReportsFrames (C.meaning clients.now) (whole_of (C.meaning clients.now) taken.now.file
         taken.now.format taken.now.bytes.items) result }
 {
     let bytes = taken.bytes.as_slice();

@@ -8,7 +8,7 @@ ghost use Rattle.sync_rules.specs.Rounds.{Graph};
 ghost use Rattle.sync_rules.specs.Steps.{is_beside, is_elsewhere};
 ghost use Rattle.journal_audit.specs.Lines.{AreLines, held_in};
 ghost use Rattle.journal_audit.specs.Rounding.{AreMarked, AreStable, is_bad_by, is_good_by};
-ghost use Rattle.journal_audit.specs.Rounding.{is_marked, is_next, is_next_at, IsGraph};
+ghost use Rattle.journal_audit.specs.Rounding.{is_marked, is_next, is_next_at, IsGraphOfLines};
 ghost use Rattle.journal_audit.specs.Rounding.{round_count};
 
 use crate::messages::{Line, Messages};
@@ -159,7 +159,7 @@ pub(crate) fn round_count(
     of_good: bool,
 ) -> Result<u32, AllocError>
     requires { AreLines messages.now }
-    ensures { IfOk result (λ n. (g : Graph) → IsGraph g messages.now.lines
+    ensures { IfOk result (λ n. (g : Graph) → IsGraphOfLines g messages.now.lines
         → n ≡ round_count of_good g (held_in messages.now.lines)) }
 {
     let mut marks = Vec::new(alloc);

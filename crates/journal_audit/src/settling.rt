@@ -5,7 +5,7 @@ ghost use Rattle.sync_rules.specs.Clients.{Meaning};
 ghost use Rattle.sync_rules.specs.Steps.{is_failing, is_served, next, step_accepted, step_open};
 ghost use Rattle.journal_audit.specs.Lines.{held_of};
 ghost use Rattle.journal_audit.specs.Looks.{first_at, step_at, step_of_line};
-ghost use Rattle.journal_audit.specs.Plain.{IsSound, Knows, facts_of};
+ghost use Rattle.journal_audit.specs.Plain.{IsPlainSound, KnowsMeanings, facts_of};
 
 use crate::facts::PlainFacts;
 use crate::messages::Line;
@@ -15,7 +15,7 @@ use sync_rules::{Entry, Judgement};
 
 // Whether a dependency of a message of this group makes the message invalid.
 fn is_failing(facts: &PlainFacts, group: &GroupId, id: &MessageId) -> bool
-    requires { IsSound facts.now }
+    requires { IsPlainSound facts.now }
     ensures { result ≡ is_failing (facts_of facts.now) group.now id.now }
 {
     let Some(n) = facts.messages.find(id) else {
@@ -30,7 +30,7 @@ fn is_failing(facts: &PlainFacts, group: &GroupId, id: &MessageId) -> bool
 
 /// Whether a dependency of a message of this group is served.
 pub(crate) fn is_served(facts: &PlainFacts, group: &GroupId, id: &MessageId) -> bool
-    requires { IsSound facts.now }
+    requires { IsPlainSound facts.now }
     ensures { result ≡ is_served (facts_of facts.now) group.now id.now }
 {
     let Some(n) = facts.messages.find(id) else {
@@ -42,7 +42,7 @@ pub(crate) fn is_served(facts: &PlainFacts, group: &GroupId, id: &MessageId) -> 
 
 // Whether any of these makes a message of this group invalid.
 fn fails(facts: &PlainFacts, group: &GroupId, deps: &[MessageId]) -> bool
-    requires { IsSound facts.now }
+    requires { IsPlainSound facts.now }
     ensures { result ≡ list_any (is_failing (facts_of facts.now) group.now) deps.now }
 {
     deps.iter().any(|id| is_failing(facts, group, id))
@@ -50,7 +50,7 @@ fn fails(facts: &PlainFacts, group: &GroupId, deps: &[MessageId]) -> bool
 
 // Whether each of these is served to a message of this group.
 fn all_served(facts: &PlainFacts, group: &GroupId, deps: &[MessageId]) -> bool
-    requires { IsSound facts.now }
+    requires { IsPlainSound facts.now }
     ensures { result ≡ list_all (is_served (facts_of facts.now) group.now) deps.now }
 {
     deps.iter().all(|id| is_served(facts, group, id))
@@ -58,7 +58,7 @@ fn all_served(facts: &PlainFacts, group: &GroupId, deps: &[MessageId]) -> bool
 
 // The step of an accepted message.
 fn step_accepted(facts: &PlainFacts, line: &Line, deps: &[MessageId]) -> Option<Entry>
-    requires { IsSound facts.now }
+    requires { IsPlainSound facts.now }
     ensures { result ≡ step_accepted (facts_of facts.now) (held_of line.now) deps.now }
 {
     let group = line.message.group();
@@ -73,7 +73,7 @@ fn step_accepted(facts: &PlainFacts, line: &Line, deps: &[MessageId]) -> Option<
 
 // The step of a message that is judged and has not ended.
 fn step_open(facts: &PlainFacts, line: &Line) -> Option<Entry>
-    requires { IsSound facts.now }
+    requires { IsPlainSound facts.now }
     ensures { result ≡ step_open (facts_of facts.now) (held_of line.now) line.now.answer }
 {
     match &line.answer {
@@ -84,7 +84,7 @@ fn step_open(facts: &PlainFacts, line: &Line) -> Option<Entry>
 
 // The step of a message.
 fn step_of(facts: &PlainFacts, line: &Line) -> Option<Entry>
-    requires { IsSound facts.now }
+    requires { IsPlainSound facts.now }
     ensures { result ≡ step_of_line (facts_of facts.now) line.now }
 {
     if !line.judged {
@@ -98,7 +98,7 @@ fn step_of(facts: &PlainFacts, line: &Line) -> Option<Entry>
 
 // The step of the message of this number.
 fn step_at(facts: &PlainFacts, n: u32) -> Option<Entry>
-    requires { IsSound facts.now }
+    requires { IsPlainSound facts.now }
     ensures { result ≡ step_at (facts_of facts.now) (slice_get facts.now.messages.lines n) }
 {
     step_of(facts, facts.messages.get(n)?)
@@ -106,7 +106,7 @@ fn step_at(facts: &PlainFacts, n: u32) -> Option<Entry>
 
 // The first step of the messages of these numbers.
 fn first_step(facts: &PlainFacts, numbers: &BTreeSet<u32>) -> Option<Entry>
-    requires { IsSound facts.now }
+    requires { IsPlainSound facts.now }
     ensures { result ≡ first_at (facts_of facts.now) facts.now.messages.lines numbers.now.keys }
 {
     for n in numbers {
@@ -119,8 +119,8 @@ fn first_step(facts: &PlainFacts, numbers: &BTreeSet<u32>) -> Option<Entry>
 
 /// The next step. It is looked for among the messages that may have one.
 pub(crate) fn next_step(facts: &PlainFacts) -> Option<Entry>
-    requires { IsSound facts.now }
-    ensures { (clients : Meaning) → Knows clients facts.now → result ≡ next clients
+    requires { IsPlainSound facts.now }
+    ensures { (clients : Meaning) → KnowsMeanings clients facts.now → result ≡ next clients
         (facts_of facts.now) }
 {
     first_step(facts, facts.waiting.as_set())

@@ -9,10 +9,10 @@ ghost use Rattle.sync_rules.specs.Facts.{after, change_row, change_rows, contact
 ghost use Rattle.sync_rules.specs.Facts.{latency_of, start_after, wanted_from, with_want};
 ghost use Rattle.sync_rules.specs.Steps.{verdict_in};
 ghost use Rattle.sync_rules.specs.declared.entries.Entry.TheVariants as entry;
-ghost use Rattle.journal_audit.specs.Changes.{AreNamed, Becomes, BecomesKnown, CanHold, Fits};
+ghost use Rattle.journal_audit.specs.Changes.{AreNamed, BecomesFacts, BecomesKnown, MayHoldMessage, MayTakeEntry};
 ghost use Rattle.journal_audit.specs.Changes.{FitsOut, with_rows, with_wanted};
 ghost use Rattle.journal_audit.specs.Numbers.{has, has_for};
-ghost use Rattle.journal_audit.specs.Plain.{IsSound, Knows, facts_of, rest_after};
+ghost use Rattle.journal_audit.specs.Plain.{IsPlainSound, KnowsMeanings, facts_of, rest_after};
 ghost use Rattle.journal_audit.specs.Rows.{changed_by};
 
 use crate::facts::PlainFacts;
@@ -93,9 +93,9 @@ impl PlainFacts {
     // ---- contacts, groups and levels
 
     fn take_contact(&mut self, alloc: Global, contact: u8) -> Result<(), AllocError>
-        requires sound { IsSound self.old }
-        requires fits { Fits (facts_of self.old) (entry.Contact contact) }
-        ensures { OnOk result (Becomes self.old self.new (rest_after (facts_of self.old)
+        requires sound { IsPlainSound self.old }
+        requires fits { MayTakeEntry (facts_of self.old) (entry.Contact contact) }
+        ensures { OnOk result (BecomesFacts self.old self.new (rest_after (facts_of self.old)
             (entry.Contact contact))) }
     {
         self.wants.open(alloc, contact)?;
@@ -104,8 +104,8 @@ impl PlainFacts {
     }
 
     fn take_group(&mut self, def: GroupDef) -> Result<(), AllocError>
-        requires { IsSound self.old }
-        ensures { OnOk result (Becomes self.old self.new (rest_after (facts_of self.old)
+        requires { IsPlainSound self.old }
+        ensures { OnOk result (BecomesFacts self.old self.new (rest_after (facts_of self.old)
             (entry.Group def))) }
     {
         self.groups.add(def)?;
@@ -113,9 +113,9 @@ impl PlainFacts {
     }
 
     fn take_level(&mut self, contact: u8, group: GroupId, level: Level) -> Result<(), AllocError>
-        requires sound { IsSound self.old }
-        requires fits { Fits (facts_of self.old) (entry.Level contact group level) }
-        ensures { OnOk result (Becomes self.old self.new (rest_after (facts_of self.old)
+        requires sound { IsPlainSound self.old }
+        requires fits { MayTakeEntry (facts_of self.old) (entry.Level contact group level) }
+        ensures { OnOk result (BecomesFacts self.old self.new (rest_after (facts_of self.old)
             (entry.Level contact group level))) }
     {
         self.levels.set(contact, group, level)?;
@@ -134,10 +134,10 @@ impl PlainFacts {
         from: Origin,
         message: Message,
     ) -> Result<MessageId, AllocError>
-        requires sound { IsSound self.old }
-        requires knows { Knows (C.meaning clients.now) self.old }
+        requires sound { IsPlainSound self.old }
+        requires knows { KnowsMeanings (C.meaning clients.now) self.old }
         requires named { IsIdOf known.now message }
-        requires fits { CanHold (facts_of self.old) message }
+        requires fits { MayHoldMessage (facts_of self.old) message }
         ensures held { OnOk result (BecomesKnown (C.meaning clients.now) self.new
             (rest_after (facts_of self.old) (entry.Kept from message))) }
         ensures id { IfOk result (λ id. id ≡ message_id_of message) }
@@ -168,10 +168,10 @@ impl PlainFacts {
         session: u32,
         message: Message,
     ) -> Result<(), AllocError>
-        requires sound { IsSound self.old }
-        requires knows { Knows (C.meaning clients.now) self.old }
+        requires sound { IsPlainSound self.old }
+        requires knows { KnowsMeanings (C.meaning clients.now) self.old }
         requires named { IsIdOf known.now message }
-        requires fits { CanHold (facts_of self.old) message }
+        requires fits { MayHoldMessage (facts_of self.old) message }
         ensures { OnOk result (BecomesKnown (C.meaning clients.now) self.new
             (rest_after (facts_of self.old) (entry.Arrive session message))) }
     {
@@ -183,9 +183,9 @@ impl PlainFacts {
 
     // A message is judged.
     fn take_judged(&mut self, id: &MessageId) -> Result<(), AllocError>
-        requires sound { IsSound self.old }
+        requires sound { IsPlainSound self.old }
         requires fits { is_held (facts_of self.old).held id.now ≡ true }
-        ensures { OnOk result (Becomes self.old self.new (rest_after (facts_of self.old)
+        ensures { OnOk result (BecomesFacts self.old self.new (rest_after (facts_of self.old)
             (entry.Judged id.now))) }
     {
         let Some(n) = self.messages.find(id) else {
@@ -197,9 +197,9 @@ impl PlainFacts {
 
     // A message is invalid.
     fn take_invalid(&mut self, id: &MessageId) -> Result<(), AllocError>
-        requires sound { IsSound self.old }
+        requires sound { IsPlainSound self.old }
         requires fits { is_held (facts_of self.old).held id.now ≡ true }
-        ensures { OnOk result (Becomes self.old self.new (rest_after (facts_of self.old)
+        ensures { OnOk result (BecomesFacts self.old self.new (rest_after (facts_of self.old)
             (entry.Invalid id.now))) }
     {
         let Some(n) = self.messages.find(id) else {
@@ -212,9 +212,9 @@ impl PlainFacts {
 
     // A message is delivered.
     fn take_delivered(&mut self, id: &MessageId) -> Result<(), AllocError>
-        requires sound { IsSound self.old }
+        requires sound { IsPlainSound self.old }
         requires fits { is_held (facts_of self.old).held id.now ≡ true }
-        ensures { OnOk result (Becomes self.old self.new (rest_after (facts_of self.old)
+        ensures { OnOk result (BecomesFacts self.old self.new (rest_after (facts_of self.old)
             (entry.Deliver id.now))) }
     {
         let Some(n) = self.messages.find(id) else {
@@ -254,9 +254,9 @@ impl PlainFacts {
         id: MessageId,
         change: &RowChange,
     ) -> Result<(), AllocError>
-        requires sound { IsSound self.old }
+        requires sound { IsPlainSound self.old }
         requires held { is_held (facts_of self.old).held id ≡ true }
-        ensures { OnOk result (Becomes self.old self.new (with_rows (facts_of self.old)
+        ensures { OnOk result (BecomesFacts self.old self.new (with_rows (facts_of self.old)
             (change_row self.old.rows contact id (changed_by change.now)))) }
     {
         let Some(n) = self.messages.find(&id) else {
@@ -275,9 +275,9 @@ impl PlainFacts {
         ids: &[MessageId],
         change: &RowChange,
     ) -> Result<(), AllocError>
-        requires sound { IsSound self.old }
+        requires sound { IsPlainSound self.old }
         requires held { list_all (is_held (facts_of self.old).held) ids.now ≡ true }
-        ensures { OnOk result (Becomes self.old self.new (with_rows (facts_of self.old)
+        ensures { OnOk result (BecomesFacts self.old self.new (with_rows (facts_of self.old)
             (change_rows self.old.rows contact ids.now (changed_by change.now)))) }
     {
         for id in ids {
@@ -288,8 +288,8 @@ impl PlainFacts {
 
     // An id comes to be wanted from a contact, where it is not held and not wanted yet.
     fn want(&mut self, alloc: Global, contact: u8, id: MessageId) -> Result<(), AllocError>
-        requires { IsSound self.old }
-        ensures { OnOk result (Becomes self.old self.new (with_wanted (facts_of self.old)
+        requires { IsPlainSound self.old }
+        ensures { OnOk result (BecomesFacts self.old self.new (with_wanted (facts_of self.old)
             (fin_map.insert self.old.wants contact (with_want
             (is_held (facts_of self.old).held id) (wanted_from self.old.wants contact) id)))) }
     {
@@ -306,9 +306,9 @@ impl PlainFacts {
         now: u64,
         what: Out,
     ) -> Result<(), AllocError>
-        requires sound { IsSound self.old }
+        requires sound { IsPlainSound self.old }
         requires fits { FitsOut (facts_of self.old) what }
-        ensures { OnOk result (Becomes self.old self.new (rest_after (facts_of self.old)
+        ensures { OnOk result (BecomesFacts self.old self.new (rest_after (facts_of self.old)
             (entry.Out session now what))) }
     {
         let contact = self.contact_of(session);
@@ -334,10 +334,10 @@ impl PlainFacts {
         from: Origin,
         message: Message,
     ) -> Result<(), AllocError>
-        requires sound { IsSound self.old }
-        requires knows { Knows (C.meaning clients.now) self.old }
+        requires sound { IsPlainSound self.old }
+        requires knows { KnowsMeanings (C.meaning clients.now) self.old }
         requires named { IsIdOf known.now message }
-        requires fits { CanHold (facts_of self.old) message }
+        requires fits { MayHoldMessage (facts_of self.old) message }
         ensures { OnOk result (BecomesKnown (C.meaning clients.now) self.new
             (rest_after (facts_of self.old) (entry.Kept from message))) }
     {
@@ -352,9 +352,9 @@ impl PlainFacts {
         id: MessageId,
         change: &RowChange,
     ) -> Result<(), AllocError>
-        requires sound { IsSound self.old }
+        requires sound { IsPlainSound self.old }
         requires held { is_held (facts_of self.old).held id ≡ true }
-        ensures { OnOk result (Becomes self.old self.new (with_rows (facts_of self.old)
+        ensures { OnOk result (BecomesFacts self.old self.new (with_rows (facts_of self.old)
             (change_row self.old.rows (contact_of (facts_of self.old).sessions session) id
             (changed_by change.now)))) }
     {
@@ -364,9 +364,9 @@ impl PlainFacts {
 
     // This is kept of a held message for a contact.
     fn take_tried(&mut self, tried: Tried) -> Result<(), AllocError>
-        requires sound { IsSound self.old }
+        requires sound { IsPlainSound self.old }
         requires held { is_held (facts_of self.old).held tried.id ≡ true }
-        ensures { OnOk result (Becomes self.old self.new (rest_after (facts_of self.old)
+        ensures { OnOk result (BecomesFacts self.old self.new (rest_after (facts_of self.old)
             (entry.Tried tried))) }
     {
         let contact = tried.contact;
@@ -377,8 +377,8 @@ impl PlainFacts {
 
     // An id was offered on a session.
     fn take_offered(&mut self, alloc: Global, session: u32, id: MessageId) -> Result<(), AllocError>
-        requires { IsSound self.old }
-        ensures { OnOk result (Becomes self.old self.new (rest_after (facts_of self.old)
+        requires { IsPlainSound self.old }
+        ensures { OnOk result (BecomesFacts self.old self.new (rest_after (facts_of self.old)
             (entry.Offered session id))) }
     {
         let contact = self.contact_of(session);
@@ -387,8 +387,8 @@ impl PlainFacts {
 
     // Sessions began.
     fn take_session(&mut self, session: Session) -> Result<(), AllocError>
-        requires { IsSound self.old }
-        ensures { OnOk result (Becomes self.old self.new (rest_after (facts_of self.old)
+        requires { IsPlainSound self.old }
+        ensures { OnOk result (BecomesFacts self.old self.new (rest_after (facts_of self.old)
             (entry.Session session))) }
     {
         self.sessions.begin(session)
@@ -396,8 +396,8 @@ impl PlainFacts {
 
     // A record is taken on a session.
     fn take_record(&mut self, session: u32, taken: u64) -> Result<(), AllocError>
-        requires { IsSound self.old }
-        ensures { OnOk result (Becomes self.old self.new (rest_after (facts_of self.old)
+        requires { IsPlainSound self.old }
+        ensures { OnOk result (BecomesFacts self.old self.new (rest_after (facts_of self.old)
             (entry.Take session taken))) }
     {
         let _ = taken;
@@ -406,8 +406,8 @@ impl PlainFacts {
 
     // Sessions began and are dropped.
     fn take_brief(&mut self, sessions: u32) -> Result<(), AllocError>
-        requires { IsSound self.old }
-        ensures { OnOk result (Becomes self.old self.new (rest_after (facts_of self.old)
+        requires { IsPlainSound self.old }
+        ensures { OnOk result (BecomesFacts self.old self.new (rest_after (facts_of self.old)
             (entry.Brief sessions))) }
     {
         self.sessions.skip(sessions)
@@ -421,10 +421,10 @@ impl PlainFacts {
         known: &Option<MessageId>,
         entry: Entry,
     ) -> Result<(), AllocError>
-        requires sound { IsSound self.old }
-        requires knows { Knows (C.meaning clients.now) self.old }
+        requires sound { IsPlainSound self.old }
+        requires knows { KnowsMeanings (C.meaning clients.now) self.old }
         requires named { IsOfEntry known.now entry }
-        requires fits { Fits (facts_of self.old) entry }
+        requires fits { MayTakeEntry (facts_of self.old) entry }
         ensures { OnOk result (BecomesKnown (C.meaning clients.now) self.new
             (rest_after (facts_of self.old) entry)) }
     {
@@ -460,10 +460,10 @@ impl PlainFacts {
         known: &Option<MessageId>,
         entry: Entry,
     ) -> Result<(), AllocError>
-        requires sound { IsSound self.old }
-        requires knows { Knows (C.meaning clients.now) self.old }
+        requires sound { IsPlainSound self.old }
+        requires knows { KnowsMeanings (C.meaning clients.now) self.old }
         requires named { IsOfEntry known.now entry }
-        requires fits { Fits (facts_of self.old) entry }
+        requires fits { MayTakeEntry (facts_of self.old) entry }
         ensures { OnOk result (BecomesKnown (C.meaning clients.now) self.new
             (after (facts_of self.old) entry)) }
     {

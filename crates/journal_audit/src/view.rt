@@ -1,6 +1,6 @@
 //! What the test of a batch sees of the facts.
 ghost use Rattle.std.specs.Prelude.{◌≡◌};
-ghost use Rattle.journal_audit.specs.Plain.{IsSound};
+ghost use Rattle.journal_audit.specs.Plain.{IsPlainSound};
 
 use crate::due::{first_sent, offered_ids, owed_ids};
 use crate::facts::PlainFacts;
@@ -18,7 +18,7 @@ pub(crate) struct FactsView<'a> {
 
 impl<'a> Model for FactsView<'a> {
     ghost use Rattle.journal_audit.specs.declared.facts.PlainFacts.{PlainFacts};
-    ghost use Rattle.journal_audit.specs.Plain.{IsSound};
+    ghost use Rattle.journal_audit.specs.Plain.{IsPlainSound};
 
     ghost Value = { PlainFacts };
 
@@ -28,13 +28,13 @@ impl<'a> Model for FactsView<'a> {
 
     ghost view = { λ v. v.facts.now };
 
-    ghost invariant = { λ v. IsSound v.facts.now };
+    ghost invariant = { λ v. IsPlainSound v.facts.now };
 }
 
 impl<'a> FactsView<'a> {
     /// A view of these facts.
     pub(crate) fn over(facts: &'a PlainFacts) -> FactsView<'a>
-        requires { IsSound facts.now }
+        requires { IsPlainSound facts.now }
         ensures { result ≡ facts.now }
     {
         FactsView { facts }

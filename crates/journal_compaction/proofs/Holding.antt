@@ -1,14 +1,14 @@
 -- The files stand for the journal, as long as the other file has no open header.
 use Rattle.std.proofs.Common.{◌≡◌, ℕ, ◌-◌, ◌<◌, true, false, List, Some, Result, Err, inl, inr, refl, sym, ap, subst}
 use Rattle.std.proofs.Common.{◌∙◌, arith}
-use Rattle.outside.specs.Disk.{Becomes}
+use Rattle.outside.specs.Disk.{RelatesTold}
 use Rattle.outside.specs.Files.{Two, File, IsFileImage, NothingPending, file_of, read_files}
 use Rattle.outside.specs.Frames.{HasFrames, format_in, generation_in, is_open, journal_file}
 use Rattle.outside.specs.Links.{sent_of}
 use Rattle.outside.specs.Outside.{DiskRun, Moment, MomentsAre, Outside}
-use Rattle.outside.specs.Steps.{FileMoment, Passed, other_of}
+use Rattle.outside.specs.Steps.{FileMoment, PassedMoments, other_of}
 use Rattle.outside.proofs.CallSteps.{becomes_then, becomes_told, moments_map, moments_none, moments_then, now_images}
-use Rattle.frame_journal.specs.Create.{BeforeOrShut, Prepares}
+use Rattle.frame_journal.specs.Create.{BeforeOrShut, PreparesJournal}
 use Rattle.frame_journal.specs.Journal.{JournalValue}
 use Rattle.sync_rules.specs.declared.entries.Entry.{Entry}
 use Rattle.sync_rules.specs.Clients.{Meaning}
@@ -26,9 +26,9 @@ use Rattle.journal_migration.proofs.Sides.{settled_second, stands_own, two_same}
 use Rattle.journal_migration.proofs.Shut.{own_still, pending_still}
 use Rattle.journal_compaction.specs.declared.fault.CompactionFault.{CompactionFault}
 use Rattle.journal_compaction.specs.declared.fault.CompactionFault.TheVariants as fault
-use Rattle.journal_compaction.specs.Compacting.{Compacts, CompactsSo, StandsForEither}
+use Rattle.journal_compaction.specs.Compacting.{CompactsJournal, FilesHoldCompacted, StandsForEither}
 use Rattle.journal_compaction.specs.Faults.{fault_of}
-use Rattle.journal_compaction.specs.Writing.{IsIdle, LeavesIdle, StaysIdle, StaysShut}
+use Rattle.journal_compaction.specs.Writing.{IsFileIdle, LeavesIdle, StaysIdle, StaysShut}
 use Rattle.journal_compaction.proofs.Working.{passed_before}
 
 -- a moment whose files stand for the journal
@@ -90,7 +90,7 @@ module _ (clients : Meaning) (m : JournalValue) (j : List (List Entry)) (two : T
       record { stands_for = ap (stands clients) all ∙ holds.stands_for; nothing_sent = at.sent }))
 
   -- until the other file's gate is opened
-  pub stays_either : (o o' : Outside) → Passed two o o' (1 - own) (BeforeOrShut (file_of two (1 - own)).now)
+  pub stays_either : (o o' : Outside) → PassedMoments two o o' (1 - own) (BeforeOrShut (file_of two (1 - own)).now)
       → MomentsAre o o' (StandsForEither clients j (sent_of o.links.told))
   stays_either o o' passed =
       let Q : List ℕ → Type 0 = BeforeOrShut (file_of two (1 - own)).now in
@@ -110,7 +110,7 @@ module _ (clients : Meaning) (m : JournalValue) (j : List (List Entry)) (two : T
 
   -- ---- the journal is held on
 
-  pub holds_on : (two' : Two File) → other_of two' (1 - own) ≡ other_of two (1 - own) → IsIdle (1 - own) two'
+  pub holds_on : (two' : Two File) → other_of two' (1 - own) ≡ other_of two (1 - own) → IsFileIdle (1 - own) two'
       → HoldsSecond clients m j two'
   holds_on two' other idle =
       let this = own_still two two' own few other in
@@ -147,32 +147,32 @@ module _ (clients : Meaning) (m : JournalValue) (j : List (List Entry)) (two : T
 
   -- no call on the disk was made
   pub memory_unmade : (o : Outside) (result : Result JournalValue CompactionFault) → o.files ≡ Some two
-      → result ≡ Err fault.Memory → Compacts clients m j o o result
+      → result ≡ Err fault.Memory → CompactsJournal clients m j o o result
   memory_unmade o result told is =
-      subst (λ (r : Result JournalValue CompactionFault). Compacts clients m j o o r) (sym is)
+      subst (λ (r : Result JournalValue CompactionFault). CompactsJournal clients m j o o r) (sym is)
       (record { moments = unmade clients m j two few holds o told; ends = λ two' told'. one_told o two' told told' })
 
-  pub full_unmade : (o : Outside) → o.files ≡ Some two → Compacts clients m j o o (Err fault.Full)
+  pub full_unmade : (o : Outside) → o.files ≡ Some two → CompactsJournal clients m j o o (Err fault.Full)
   full_unmade o told =
       record { moments = unmade clients m j two few holds o told; ends = λ two' told'. one_told o two' told told' }
 
   -- a call on the disk failed before the gate was opened
   pub begun_failed : (o o' : Outside) (result : Result JournalValue CompactionFault) → o.files ≡ Some two
       → EndsOrStays (1 - m.file) o o' → result ≡ Err fault.DiskFault
-      → Compacts clients m j o o' result
+      → CompactsJournal clients m j o o' result
   begun_failed o o' result told stays is =
-      subst (λ (r : Result JournalValue CompactionFault). Compacts clients m j o o' r) (sym is)
+      subst (λ (r : Result JournalValue CompactionFault). CompactsJournal clients m j o o' r) (sym is)
       (record { moments = stays_either clients m j two few holds o o' (stays two told); ends = λ two' told'. tt })
 
 -- ---- the other file is begun and written
 
 -- the other file was begun, and then has no open header
 pub stays_then : (file generation : ℕ) (o0 o1 o2 : Outside) → EndsOrStays file o0 o1 → DiskRun o0 o1
-    → Becomes (Prepares file 2 generation) o0.files o1.files → StaysShut file o1 o2
+    → RelatesTold (PreparesJournal file 2 generation) o0.files o1.files → StaysShut file o1 o2
     → EndsOrStays file o0 o2
 stays_then file generation o0 o1 o2 first run becomes second two told =
     let Q : List ℕ → Type 0 = BeforeOrShut (file_of two file).now in
-    let mid = becomes_told (Prepares file 2 generation) o0.files o1.files two told becomes in
+    let mid = becomes_told (PreparesJournal file 2 generation) o0.files o1.files two told becomes in
     let shut = passed_before (λ left. is_open left ≡ false) two mid.0 file o0 o1 o2 mid.2.other run.same_links
     (second mid.0 mid.1) in
     moments_then o0 o1 o2 (FileMoment Q two (sent_of o0.links.told) file) (first two told)
@@ -184,13 +184,13 @@ stays_then file generation o0 o1 o2 first run becomes second two told =
 module _ (clients : Meaning) (m : JournalValue) (j : List (List Entry)) (two : Two File) (few : m.file < 2)
     (holds : HoldsSecond clients m j two) where
   written_so : (file generation : ℕ) (o0 o1 o2 : Outside) (e : MigrationFault) → file ≡ 1 - m.file
-      → o0.files ≡ Some two → Becomes (Prepares file 2 generation) o0.files o1.files
+      → o0.files ≡ Some two → RelatesTold (PreparesJournal file 2 generation) o0.files o1.files
       → LeavesIdle {A = Unit {0}} file o1.files o2.files (Err e) → (two' : Two File) → o2.files ≡ Some two'
-      → CompactsSo clients m j (Err (fault_of e)) two'
+      → FilesHoldCompacted clients m j (Err (fault_of e)) two'
   written_so file generation o0 o1 o2 migration.DiskFault is told becomes idle two' told' = tt
   written_so file generation o0 o1 o2 migration.Memory is told becomes idle two' told' =
-      let all : Becomes (StaysIdle file) o0.files o2.files =
-      becomes_then (Prepares file 2 generation) (StaysIdle file) (StaysIdle file) o0.files o1.files o2.files
+      let all : RelatesTold (StaysIdle file) o0.files o2.files =
+      becomes_then (PreparesJournal file 2 generation) (StaysIdle file) (StaysIdle file) o0.files o1.files o2.files
       (λ a b c x y. record { other = y.other ∙ x.other; idle = y.idle }) becomes idle in
       let new = becomes_told (StaysIdle file) o0.files o2.files two told all in
       let both : Some new.0 ≡ Some two' = sym new.1 ∙ told' in
@@ -202,14 +202,14 @@ module _ (clients : Meaning) (m : JournalValue) (j : List (List Entry)) (two : T
 
   pub written_failed : (file generation : ℕ) (o0 o1 o2 : Outside) (e : MigrationFault)
       (result : Result JournalValue CompactionFault) → file ≡ 1 - m.file → o0.files ≡ Some two
-      → EndsOrStays file o0 o1 → DiskRun o0 o1 → Becomes (Prepares file 2 generation) o0.files o1.files
+      → EndsOrStays file o0 o1 → DiskRun o0 o1 → RelatesTold (PreparesJournal file 2 generation) o0.files o1.files
       → StaysShut file o1 o2
       → LeavesIdle {A = Unit {0}} file o1.files o2.files (Err e) → result ≡ Err (fault_of e)
-      → Compacts clients m j o0 o2 result
+      → CompactsJournal clients m j o0 o2 result
   written_failed file generation o0 o1 o2 e result is told begun run becomes shut idle answer =
       let stays : EndsOrStays (1 - m.file) o0 o2 =
       subst (λ (k : ℕ). EndsOrStays k o0 o2) is (stays_then file generation o0 o1 o2 begun run becomes shut) in
-      subst (λ (r : Result JournalValue CompactionFault). Compacts clients m j o0 o2 r) (sym answer)
+      subst (λ (r : Result JournalValue CompactionFault). CompactsJournal clients m j o0 o2 r) (sym answer)
       (record {
         moments = stays_either clients m j two few holds o0 o2 (stays two told);
         ends = λ two' told'. written_so file generation o0 o1 o2 e is told becomes idle two' told';

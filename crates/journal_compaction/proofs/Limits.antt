@@ -8,7 +8,7 @@ use Rattle.journal_migration.specs.declared.fault.MigrationFault.{MigrationFault
 use Rattle.journal_migration.specs.declared.fault.MigrationFault.TheVariants as migration
 use Rattle.journal_compaction.specs.declared.fault.CompactionFault.{CompactionFault}
 use Rattle.journal_compaction.specs.declared.plan.Plan.{Plan}
-use Rattle.journal_compaction.specs.Compacting.{Weighs, compacted_len}
+use Rattle.journal_compaction.specs.Compacting.{WeighsAccount, compacted_len}
 use Rattle.journal_compaction.specs.Faults.{fault_of}
 use Rattle.journal_compaction.specs.Paging.{frames_len}
 use Rattle.journal_compaction.specs.Planning.{IsPlan, plan_len, plan_pages}
@@ -28,13 +28,13 @@ module _ (clients : Meaning) (f : Facts) (p : Plan) (limit len : ℕ) (few : lim
 
 -- a fault while it was written
 weighs_fault : (clients : Meaning) (f : Facts) (limit : ℕ) (e : MigrationFault) → compacted_len clients f ≤ limit
-    → Weighs clients f limit (Err (fault_of e))
+    → WeighsAccount clients f limit (Err (fault_of e))
 weighs_fault clients f limit migration.Memory within = tt
 weighs_fault clients f limit migration.DiskFault within = within
 
 pub fault_weighs : (clients : Meaning) (f : Facts) (limit : ℕ) (e : MigrationFault)
     (result : Result JournalValue CompactionFault) → compacted_len clients f ≤ limit → result ≡ Err (fault_of e)
-    → Weighs clients f limit result
+    → WeighsAccount clients f limit result
 fault_weighs clients f limit e result within is =
-    subst (λ (r : Result JournalValue CompactionFault). Weighs clients f limit r) (sym is)
+    subst (λ (r : Result JournalValue CompactionFault). WeighsAccount clients f limit r) (sym is)
     (weighs_fault clients f limit e within)

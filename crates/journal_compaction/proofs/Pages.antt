@@ -10,7 +10,7 @@ use Rattle.entry_codec.proofs.Growing.{all_push}
 use Rattle.journal_compaction.specs.declared.items.Item.{Item}
 use Rattle.journal_compaction.specs.Items.{bytes_of}
 use Rattle.journal_compaction.specs.Paging.{closed_page, frames_len, left_after, page_for, pages, written_for}
-use Rattle.journal_compaction.specs.Writing.{Adding, Written}
+use Rattle.journal_compaction.specs.Writing.{WritesPayloads, Written}
 use Rattle.journal_compaction.proofs.Weighing.{frames-append}
 use Rattle.journal_compaction.proofs.Working.{adding_none, adding_then}
 
@@ -28,7 +28,7 @@ module _ (f : Facts) (most : ℕ) (items rest : List Item) (i : Item) (left : �
   -- an item more
   pub written_more : (left' : ℕ) (page' : List ℕ) (n2 : JournalValue) (o2 : Option (Two File))
       → left' ≡ left_after most left i → page' ≡ page_for left page i ++ bytes_of f i
-      → Adding n1 n2 (written_for left page i) o1 o2 → Written f most items rest left' page' n0 n2 o0 o2
+      → WritesPayloads n1 n2 (written_for left page i) o1 o2 → Written f most items rest left' page' n0 n2 o0 o2
   written_more left' page' n2 o2 same alike adding =
       let next = pages f most (left_after most left i) (page_for left page i ++ bytes_of f i) rest in
       let here : pages f most left' page' rest ≡ next = λ k. pages f most (same k) (alike k) rest in
@@ -73,10 +73,10 @@ module _ (f : Facts) (most : ℕ) (items rest : List Item) (left : ℕ) (page : 
             (closed_page page),
       )
 
-  pub written_all : (n2 : JournalValue) (o2 : Option (Two File)) → Adding n1 n2 (closed_page page) o1 o2
-      → Adding n0 n2 (pages f most 0 [] items) o0 o2
+  pub written_all : (n2 : JournalValue) (o2 : Option (Two File)) → WritesPayloads n1 n2 (closed_page page) o1 o2
+      → WritesPayloads n0 n2 (pages f most 0 [] items) o0 o2
   written_all n2 o2 adding =
-      subst (λ (ps : List (List ℕ)). Adding n0 n2 ps o0 o2) last
+      subst (λ (ps : List (List ℕ)). WritesPayloads n0 n2 ps o0 o2) last
       (adding_then n0 n1 n2 so_far.added (closed_page page) o0 o1 o2 so_far.adding adding)
 
 -- what holds of the items so far holds of one more

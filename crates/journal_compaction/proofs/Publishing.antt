@@ -4,14 +4,14 @@ use Rattle.std.proofs.Common.{Err, inl, inr, refl, sym, ap, subst, ◌∙◌, ar
 use Rattle.std.specs.List.{AllByRecursion}
 use Rattle.std.specs.Option.{ForSome}
 use Rattle.outside.specs.declared.limits.TheConstants.{MAX_JOURNAL}
-use Rattle.outside.specs.Disk.{Becomes}
+use Rattle.outside.specs.Disk.{RelatesTold}
 use Rattle.outside.specs.Files.{Two, File, NothingPending, file_of, read_files, settled}
 use Rattle.outside.specs.Frames.{HasFrames, format_in, generation_in, is_open}
 use Rattle.outside.specs.Links.{sent_of}
 use Rattle.outside.specs.Outside.{DiskRun, MomentsAre, Outside}
-use Rattle.outside.specs.Steps.{FileMoment, Passed, other_of}
+use Rattle.outside.specs.Steps.{FileMoment, PassedMoments, other_of}
 use Rattle.outside.proofs.CallSteps.{becomes_told, moments_map, moments_then, told_back}
-use Rattle.frame_journal.specs.Create.{Prepares, Publishes, ShutOrOpened, opened}
+use Rattle.frame_journal.specs.Create.{PreparesJournal, PublishesHeader, ShutOrOpened, opened}
 use Rattle.frame_journal.specs.Journal.{JournalValue, fresh}
 use Rattle.sync_rules.specs.declared.entries.Entry.{Entry}
 use Rattle.sync_rules.specs.Clients.{Meaning}
@@ -39,11 +39,11 @@ use Rattle.journal_migration.proofs.Sides.{read_file, settled_first, settled_one
 use Rattle.journal_compaction.specs.declared.fault.CompactionFault.{CompactionFault}
 use Rattle.journal_compaction.specs.declared.fault.CompactionFault.TheVariants as fault
 use Rattle.journal_compaction.specs.declared.plan.Plan.{Plan}
-use Rattle.journal_compaction.specs.Cited.{CitedLaws}
-use Rattle.journal_compaction.specs.Compacting.{Compacts, IsCompacted, StandsForEither}
+use Rattle.journal_compaction.specs.Cited.{CompactionLaws}
+use Rattle.journal_compaction.specs.Compacting.{CompactsJournal, IsCompacted, StandsForEither}
 use Rattle.journal_compaction.specs.Faults.{fault_of}
 use Rattle.journal_compaction.specs.Planning.{AreWritten, IsPlan, plan_pages}
-use Rattle.journal_compaction.specs.Writing.{Adding, Adds, LeavesIdle, StaysShut, Works}
+use Rattle.journal_compaction.specs.Writing.{WritesPayloads, AppendsPayloads, LeavesIdle, StaysShut, IsWriterShut}
 use Rattle.journal_compaction.proofs.Filling.{written}
 use Rattle.journal_compaction.proofs.Holding.{own_kept, shut_stands, stays_either, stays_then, written_failed}
 use Rattle.journal_compaction.proofs.Sections.{brief_within, plan_end, plan_written}
@@ -67,8 +67,8 @@ pub record IsWritten (clients : Meaning) (f : Facts) (m n : JournalValue) (two n
       (written (names_of f) (brief_of clients f))
 
 pub written_now : (clients : Meaning) (f : Facts) (p : Plan) (m n0 n : JournalValue) (two mid now : Two File)
-    → IsPlan clients f p → Prepares n0.file 2 (m.generation + 1) two mid
-    → n0.end ≡ 15 → n.file ≡ n0.file → Adds n0.file n0.end (plan_pages f p) mid now → Works n now
+    → IsPlan clients f p → PreparesJournal n0.file 2 (m.generation + 1) two mid
+    → n0.end ≡ 15 → n.file ≡ n0.file → AppendsPayloads n0.file n0.end (plan_pages f p) mid now → IsWriterShut n now
     → IsWritten clients f m n two now
 written_now clients f p m n0 n two mid now plan prepares begun file adds works =
     let header = prepares.gate ∷ marked (m.generation + 1) in
@@ -88,7 +88,7 @@ written_now clients f p m n0 n two mid now plan prepares begun file adds works =
 
 -- ---- the opened header
 
-module _ (laws : CitedLaws) (clients : Meaning) (f : Facts) (m n : JournalValue) (j : List (List Entry))
+module _ (laws : CompactionLaws) (clients : Meaning) (f : Facts) (m n : JournalValue) (j : List (List Entry))
     (two now : Two File) (few : m.file < 2) (many : m.generation + 1 < 2 ^ 64)
     (holds : HoldsSecond clients m j two) (same : facts j ≡ f) (still : IsSettled clients f)
     (made : IsCompacted clients f m n)
@@ -155,7 +155,7 @@ module _ (laws : CitedLaws) (clients : Meaning) (f : Facts) (m n : JournalValue)
 
   -- at each moment of the opening the files stand for the journal or for its brief account
   pub opening_either : (o0 o o' : Outside) → o.links ≡ o0.links
-      → Passed now o o' n.file (ShutOrOpened (file_of now n.file).now)
+      → PassedMoments now o o' n.file (ShutOrOpened (file_of now n.file).now)
       → MomentsAre o o' (StandsForEither clients j (sent_of o0.links.told))
   opening_either o0 o o' links passed =
       let Q : List ℕ → Type 0 = ShutOrOpened (file_of now n.file).now in
@@ -180,7 +180,7 @@ module _ (laws : CitedLaws) (clients : Meaning) (f : Facts) (m n : JournalValue)
       ]) at
 
   -- and then they hold it in the other file
-  pub second_so : (two' : Two File) → Publishes n.file now two' → HoldsSecond clients n (brief j) two'
+  pub second_so : (two' : Two File) → PublishesHeader n.file now two' → HoldsSecond clients n (brief j) two'
   second_so two' publishes =
       let before = (file_of now n.file).now in
       let g = m.generation + 1 in
@@ -221,28 +221,28 @@ module _ (laws : CitedLaws) (clients : Meaning) (f : Facts) (m n : JournalValue)
 -- the other file was prepared, and a writer of it begun
 pub record Begun (m n0 : JournalValue) (o0 o1 : Outside) : Type 0 where
   pub value : n0 ≡ fresh (1 - m.file) 2 (m.generation + 1)
-  pub prepared : Becomes (Prepares (1 - m.file) 2 (m.generation + 1)) o0.files o1.files
+  pub prepared : RelatesTold (PreparesJournal (1 - m.file) 2 (m.generation + 1)) o0.files o1.files
   pub stays : EndsOrStays (1 - m.file) o0 o1
   pub run : DiskRun o0 o1
 
 pub begun_so : (m n0 : JournalValue) (file generation : ℕ) (o0 o1 : Outside) → file ≡ m.file
     → generation ≡ m.generation → n0 ≡ fresh (1 - file) 2 (generation + 1)
-    → Becomes (Prepares (1 - file) 2 (generation + 1)) o0.files o1.files → EndsOrStays (1 - file) o0 o1
+    → RelatesTold (PreparesJournal (1 - file) 2 (generation + 1)) o0.files o1.files → EndsOrStays (1 - file) o0 o1
     → DiskRun o0 o1 → Begun m n0 o0 o1
 begun_so m n0 file generation o0 o1 one other value prepared stays run = record {
   value = value ∙ (λ i. fresh (1 - one i) 2 (other i + 1));
   prepared =
-      subst (λ (k : ℕ). Becomes (Prepares (1 - k) 2 (m.generation + 1)) o0.files o1.files) one
-      (subst (λ (g : ℕ). Becomes (Prepares (1 - file) 2 (g + 1)) o0.files o1.files) other prepared);
+      subst (λ (k : ℕ). RelatesTold (PreparesJournal (1 - k) 2 (m.generation + 1)) o0.files o1.files) one
+      (subst (λ (g : ℕ). RelatesTold (PreparesJournal (1 - file) 2 (g + 1)) o0.files o1.files) other prepared);
   stays = subst (λ (k : ℕ). EndsOrStays (1 - k) o0 o1) one stays;
   run = run;
 }
 
 -- the writer may write
-pub works_begun : (m n0 : JournalValue) (o0 o1 : Outside) → Begun m n0 o0 o1 → ForSome o1.files (Works n0)
+pub works_begun : (m n0 : JournalValue) (o0 o1 : Outside) → Begun m n0 o0 o1 → ForSome o1.files (IsWriterShut n0)
 works_begun m n0 o0 o1 begun x told =
     let before = told_back o0 o1 x begun.run.same_told told in
-    let new = becomes_told (Prepares (1 - m.file) 2 (m.generation + 1)) o0.files o1.files before.0 before.1
+    let new = becomes_told (PreparesJournal (1 - m.file) 2 (m.generation + 1)) o0.files o1.files before.0 before.1
     begun.prepared in
     let both : Some new.0 ≡ Some x = sym new.1 ∙ told in
     let one : new.0 ≡ x = cc in
@@ -250,7 +250,7 @@ works_begun m n0 o0 o1 begun x told =
     let frames : HasFrames (file_of new.0 (1 - m.file)).now (prepares.gate ∷ marked (m.generation + 1)) [] =
     subst (λ (b : List ℕ). HasFrames b (prepares.gate ∷ marked (m.generation + 1)) [])
     (sym (ap (λ (f : File). f.now) prepares.bytes)) (begun_frames prepares.gate (m.generation + 1)) in
-    let there : Works (fresh (1 - m.file) 2 (m.generation + 1)) new.0 = record {
+    let there : IsWriterShut (fresh (1 - m.file) 2 (m.generation + 1)) new.0 = record {
       at_rest = prepares.at_rest;
       shut = record {
         gate = prepares.gate;
@@ -262,14 +262,14 @@ works_begun m n0 o0 o1 begun x told =
         end_is = refl;
       };
     } in
-    subst (Works n0) one (subst (λ (v : JournalValue). Works v new.0) (sym begun.value) there)
+    subst (IsWriterShut n0) one (subst (λ (v : JournalValue). IsWriterShut v new.0) (sym begun.value) there)
 
 -- no memory was found while it was written, or a call on the disk failed
 pub write_failed : (clients : Meaning) (m n0 : JournalValue) (j : List (List Entry)) (two : Two File)
     (o0 o1 o2 : Outside) (e : MigrationFault) (result : Result JournalValue CompactionFault)
     → m.file < 2 → HoldsSecond clients m j two → o0.files ≡ Some two → Begun m n0 o0 o1 → StaysShut n0.file o1 o2
     → LeavesIdle {A = Unit {0}} n0.file o1.files o2.files (Err e)
-    → result ≡ Err (fault_of e) → Compacts clients m j o0 o2 result
+    → result ≡ Err (fault_of e) → CompactsJournal clients m j o0 o2 result
 write_failed clients m n0 j two o0 o1 o2 e result few holds told begun shut idle is =
     let file : n0.file ≡ 1 - m.file = ap (λ (v : JournalValue). v.file) begun.value in
     written_failed clients m j two few holds (1 - m.file) (m.generation + 1) o0 o1 o2 e result refl told begun.stays
@@ -280,7 +280,7 @@ write_failed clients m n0 j two o0 o1 o2 e result few holds told begun shut idle
 -- what the writer is then
 pub compacted_so : (clients : Meaning) (f : Facts) (p : Plan) (m n0 n : JournalValue) (o0 o1 : Outside)
     (o o' : Option (Two File)) → IsPlan clients f p → Begun m n0 o0 o1
-    → Adding n0 n (plan_pages f p) o o' → IsCompacted clients f m n
+    → WritesPayloads n0 n (plan_pages f p) o o' → IsCompacted clients f m n
 compacted_so clients f p m n0 n o0 o1 o o' plan begun adding = record {
   file_is = adding.grows.file_is ∙ ap (λ (v : JournalValue). v.file) begun.value;
   format_is = adding.grows.format_is ∙ ap (λ (v : JournalValue). v.format) begun.value;
@@ -288,15 +288,15 @@ compacted_so clients f p m n0 n o0 o1 o o' plan begun adding = record {
   end_is = omega (arith, adding.grows.end_is, ap (λ (v : JournalValue). v.end) begun.value, plan_end clients f p plan);
 }
 
-module _ (laws : CitedLaws) (clients : Meaning) (f : Facts) (p : Plan) (m n0 n : JournalValue) (j : List (List Entry))
+module _ (laws : CompactionLaws) (clients : Meaning) (f : Facts) (p : Plan) (m n0 n : JournalValue) (j : List (List Entry))
     (two : Two File) (o0 o1 o2 o3 : Outside) (told : o0.files ≡ Some two)
     (few : m.file < 2) (many : m.generation + 1 < 2 ^ 64) (holds : HoldsSecond clients m j two) (same : facts j ≡ f)
     (still : IsSettled clients f)
     (plan : IsPlan clients f p) (within : AreWritten f p)
     (room : journal_end kind.Short (brief_of clients f) + room_of kind.Short f ≤ MAX_JOURNAL)
-    (begun : Begun m n0 o0 o1) (adding : Adding n0 n (plan_pages f p) o1.files o2.files)
-    (works : ForSome o2.files (Works n)) (shut : StaysShut n0.file o1 o2) (run : DiskRun o1 o2)
-    (passed : (t : Two File) → o2.files ≡ Some t → Passed t o2 o3 n.file (ShutOrOpened (file_of t n.file).now)) where
+    (begun : Begun m n0 o0 o1) (adding : WritesPayloads n0 n (plan_pages f p) o1.files o2.files)
+    (works : ForSome o2.files (IsWriterShut n)) (shut : StaysShut n0.file o1 o2) (run : DiskRun o1 o2)
+    (passed : (t : Two File) → o2.files ≡ Some t → PassedMoments t o2 o3 n.file (ShutOrOpened (file_of t n.file).now)) where
   file_begun : n0.file ≡ 1 - m.file
   file_begun = ap (λ (v : JournalValue). v.file) begun.value
 
@@ -306,10 +306,10 @@ module _ (laws : CitedLaws) (clients : Meaning) (f : Facts) (p : Plan) (m n0 n :
   -- the files before the gate is opened
   now_written : (now : Two File) × (o2.files ≡ Some now) × IsWritten clients f m n two now
   now_written =
-      let mid = becomes_told (Prepares (1 - m.file) 2 (m.generation + 1)) o0.files o1.files two told begun.prepared in
-      let new = becomes_told (Adds n0.file n0.end (plan_pages f p)) o1.files o2.files mid.0 mid.1 adding.adds in
-      let prepares : Prepares n0.file 2 (m.generation + 1) two mid.0 =
-      subst (λ (k : ℕ). Prepares k 2 (m.generation + 1) two mid.0) (sym file_begun) mid.2 in (
+      let mid = becomes_told (PreparesJournal (1 - m.file) 2 (m.generation + 1)) o0.files o1.files two told begun.prepared in
+      let new = becomes_told (AppendsPayloads n0.file n0.end (plan_pages f p)) o1.files o2.files mid.0 mid.1 adding.adds in
+      let prepares : PreparesJournal n0.file 2 (m.generation + 1) two mid.0 =
+      subst (λ (k : ℕ). PreparesJournal k 2 (m.generation + 1) two mid.0) (sym file_begun) mid.2 in (
         new.0,
         new.1,
         written_now clients f p m n0 n two mid.0 new.0 plan prepares (ap (λ (v : JournalValue). v.end) begun.value)
@@ -331,18 +331,18 @@ module _ (laws : CitedLaws) (clients : Meaning) (f : Facts) (p : Plan) (m n0 n :
 
   -- the gate was not opened, or was and that is not known
   pub open_failed : (result : Result JournalValue CompactionFault) → result ≡ Err fault.DiskFault
-      → Compacts clients m j o0 o3 result
+      → CompactsJournal clients m j o0 o3 result
   open_failed result is =
-      subst (λ (r : Result JournalValue CompactionFault). Compacts clients m j o0 o3 r) (sym is)
+      subst (λ (r : Result JournalValue CompactionFault). CompactsJournal clients m j o0 o3 r) (sym is)
       (record { moments = all_moments; ends = λ two' told'. tt })
 
   -- the other file has the journal
-  pub opened_so : Becomes (Publishes n.file) o2.files o3.files → Compacts clients m j o0 o3 (Ok n)
+  pub opened_so : RelatesTold (PublishesHeader n.file) o2.files o3.files → CompactsJournal clients m j o0 o3 (Ok n)
   opened_so becomes = record {
     moments = all_moments;
     ends = λ two' told'.
         let now = now_written in
-        let new = becomes_told (Publishes n.file) o2.files o3.files now.0 now.1 becomes in
+        let new = becomes_told (PublishesHeader n.file) o2.files o3.files now.0 now.1 becomes in
         let both : Some new.0 ≡ Some two' = sym new.1 ∙ told' in
         let one : new.0 ≡ two' = cc in
         subst (HoldsSecond clients n (brief j)) one

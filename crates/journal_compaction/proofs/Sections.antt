@@ -20,7 +20,7 @@ use Rattle.journal_compaction.specs.declared.items.Item.TheVariants as item
 use Rattle.journal_compaction.specs.declared.plan.Plan.{Plan}
 use Rattle.journal_compaction.specs.Items.{IsItem, entry_of, is_alone, is_peer, is_told, kept_entry}
 use Rattle.journal_compaction.specs.Paging.{frames_len, pages}
-use Rattle.journal_compaction.specs.Planning.{ArePlanned, AreWritten, IsPlan, plan_len, plan_pages}
+use Rattle.journal_compaction.specs.Planning.{AreItemsKnown, AreWritten, IsPlan, plan_len, plan_pages}
 use Rattle.journal_compaction.proofs.Filling.{alone_written, filled_written, written, written-append}
 use Rattle.journal_compaction.proofs.Spelled.{end_written}
 use Rattle.journal_compaction.proofs.Weighing.{all_len, frames-append}
@@ -121,7 +121,7 @@ module _ (clients : Meaning) (f : Facts) (p : Plan) (plan : IsPlan clients f p) 
         all_len f MAX_ROWS p.peers.items,
       )
 
-  pub are_planned : ArePlanned f p
+  pub are_planned : AreItemsKnown f p
   are_planned = record { head = plan.head.there; told = plan.told.there; peers = plan.peers.there }
 
 -- ---- entries within their limits

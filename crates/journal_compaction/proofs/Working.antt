@@ -4,36 +4,36 @@ use Rattle.std.proofs.Common.{inr, refl, sym, ap, subst, ◌∙◌, arith, appen
 use Rattle.std.specs.Prelude.{◌==◌}
 use Rattle.std.specs.Option.{ForSome}
 use Rattle.std.proofs.lemmas.Bool.{eqb-false}
-use Rattle.outside.specs.Disk.{Becomes}
+use Rattle.outside.specs.Disk.{RelatesTold}
 use Rattle.outside.specs.Files.{Two, File, IsFileImage, file_of}
 use Rattle.outside.specs.Frames.{HasFrames, IsAtRest, is_open}
 use Rattle.outside.specs.Links.{Links, sent_of}
 use Rattle.outside.specs.Outside.{DiskRun, Moment, MomentsAre, Outside}
-use Rattle.outside.specs.Steps.{FileMoment, Passed, other_of}
+use Rattle.outside.specs.Steps.{FileMoment, PassedMoments, other_of}
 use Rattle.outside.proofs.CallSteps.{becomes_map, becomes_none, becomes_then, becomes_told, image_file, image_other}
 use Rattle.outside.proofs.CallSteps.{moments_map, moments_none, moments_then, now_images, told_back}
-use Rattle.frame_journal.specs.Append.{Appends, BeforeOrWith, IsFramed, framed_of, payload_of}
+use Rattle.frame_journal.specs.Append.{AppendsFrame, BeforeOrWith, IsFramed, framed_of, payload_of}
 use Rattle.frame_journal.specs.Journal.{JournalValue}
 use Rattle.frame_journal.proofs.AppendSteps.{end_more}
 use Rattle.journal_migration.proofs.Copied.{framed_length, framed_so, payload_framed, shut_header}
 use Rattle.journal_migration.proofs.Sides.{image_only}
 use Rattle.journal_compaction.specs.Paging.{frames_len}
-use Rattle.journal_compaction.specs.Writing.{Adding, Adds, IsIdle, StaysIdle, StaysShut, Works}
+use Rattle.journal_compaction.specs.Writing.{WritesPayloads, AppendsPayloads, IsFileIdle, StaysIdle, StaysShut, IsWriterShut}
 use Rattle.journal_compaction.proofs.Weighing.{one_frame}
 use Rattle.journal_compaction.proofs.Weighing as weighing
 
 -- ---- what is added
 
-adds_none : (file end : ℕ) (two : Two File) → Adds file end [] two two
+adds_none : (file end : ℕ) (two : Two File) → AppendsPayloads file end [] two two
 adds_none file end two = record {
   other = refl;
   frames = λ header payloads frames is. subst (HasFrames (file_of two file).now header) (sym (append-nil payloads))
       frames;
 }
 
-adds_then : (file end : ℕ) (first second : List (List ℕ)) (a b c : Two File) → Adds file end first a b
-    → Adds file (end + frames_len first) second b c
-    → Adds file end (first ++ second) a c
+adds_then : (file end : ℕ) (first second : List (List ℕ)) (a b c : Two File) → AppendsPayloads file end first a b
+    → AppendsPayloads file (end + frames_len first) second b c
+    → AppendsPayloads file end (first ++ second) a c
 adds_then file end first second a b c one two = record {
   other = two.other ∙ one.other;
   frames = λ header payloads frames is.
@@ -42,17 +42,17 @@ adds_then file end first second a b c one two = record {
       (omega (arith, weighing.end_more payloads first, is)));
 }
 
-pub adding_none : (n : JournalValue) (o : Option (Two File)) → Adding n n [] o o
+pub adding_none : (n : JournalValue) (o : Option (Two File)) → WritesPayloads n n [] o o
 adding_none n o = record {
   grows = record { file_is = refl; format_is = refl; generation_is = refl; end_is = omega arith };
-  adds = becomes_none (Adds n.file n.end []) o (adds_none n.file n.end);
+  adds = becomes_none (AppendsPayloads n.file n.end []) o (adds_none n.file n.end);
 }
 
 pub adding_then : (n0 n1 n2 : JournalValue) (first second : List (List ℕ)) (o0 o1 o2 : Option (Two File))
-    → Adding n0 n1 first o0 o1 → Adding n1 n2 second o1 o2
-    → Adding n0 n2 (first ++ second) o0 o2
+    → WritesPayloads n0 n1 first o0 o1 → WritesPayloads n1 n2 second o1 o2
+    → WritesPayloads n0 n2 (first ++ second) o0 o2
 adding_then n0 n1 n2 first second o0 o1 o2 one two =
-    let At : ℕ → ℕ → Type 0 = λ file end. Becomes (Adds file end second) o1 o2 in
+    let At : ℕ → ℕ → Type 0 = λ file end. RelatesTold (AppendsPayloads file end second) o1 o2 in
     let there : At n0.file (n0.end + frames_len first) =
     subst (λ end. At n0.file end) one.grows.end_is (subst (λ file. At file n1.end) one.grows.file_is two.adds) in
     record {
@@ -63,15 +63,15 @@ adding_then n0 n1 n2 first second o0 o1 o2 one two =
         end_is = omega (arith, one.grows.end_is, two.grows.end_is, weighing.frames-append first second);
       };
       adds =
-          becomes_then (Adds n0.file n0.end first) (Adds n0.file (n0.end + frames_len first) second)
-          (Adds n0.file n0.end (first ++ second)) o0 o1 o2
+          becomes_then (AppendsPayloads n0.file n0.end first) (AppendsPayloads n0.file (n0.end + frames_len first) second)
+          (AppendsPayloads n0.file n0.end (first ++ second)) o0 o1 o2
           (λ a b c x y. adds_then n0.file n0.end first second a b c x y) one.adds there;
     }
 
 -- a frame more
 pub adding_one : (n n' : JournalValue) (p framed : List ℕ) (len : ℕ) (o o' : Option (Two File)) → framed ≡ framed_of p
-    → n' ≡ record n { end = n.end + length framed; len = len } → Becomes (Appends n.file n.end framed) o o'
-    → Adding n n' (p ∷ []) o o'
+    → n' ≡ record n { end = n.end + length framed; len = len } → RelatesTold (AppendsFrame n.file n.end framed) o o'
+    → WritesPayloads n n' (p ∷ []) o o'
 adding_one n n' p framed len o o' is moved becomes =
     let same : payload_of framed ≡ p = ap payload_of is ∙ payload_framed p in
     let long : length framed ≡ 5 + length p = ap length is ∙ framed_length p in
@@ -84,7 +84,7 @@ adding_one n n' p framed len o o' is moved becomes =
         end_is = omega (arith, end, long, one_frame p);
       };
       adds =
-          becomes_map (Appends n.file n.end framed) (Adds n.file n.end (p ∷ [])) o o'
+          becomes_map (AppendsFrame n.file n.end framed) (AppendsPayloads n.file n.end (p ∷ [])) o o'
           (λ a b appends. record {
             other = appends.other;
             frames = λ header payloads frames end_is.
@@ -95,19 +95,19 @@ adding_one n n' p framed len o o' is moved becomes =
 
 -- ---- the writer's file
 
-pub idle_so : (n : JournalValue) (two : Two File) → Works n two → IsIdle n.file two
+pub idle_so : (n : JournalValue) (two : Two File) → IsWriterShut n two → IsFileIdle n.file two
 idle_so n two works = record {
   settled = works.at_rest.settled;
   shut = shut_header (file_of two n.file).now works.shut.gate works.shut.behind works.shut.payloads works.shut.frames
       works.shut.closed;
 }
 
-pub idle_works : (n : JournalValue) (o : Option (Two File)) → ForSome o (Works n) → ForSome o (IsIdle n.file)
+pub idle_works : (n : JournalValue) (o : Option (Two File)) → ForSome o (IsWriterShut n) → ForSome o (IsFileIdle n.file)
 idle_works n o works two told = idle_so n two (works two told)
 
-works_more : (n n' : JournalValue) (framed : List ℕ) (two two' : Two File) → IsFramed framed → Works n two
-    → Appends n.file n.end framed two two'
-    → n'.file ≡ n.file → n'.end ≡ n.end + length framed → Works n' two'
+works_more : (n n' : JournalValue) (framed : List ℕ) (two two' : Two File) → IsFramed framed → IsWriterShut n two
+    → AppendsFrame n.file n.end framed two two'
+    → n'.file ≡ n.file → n'.end ≡ n.end + length framed → IsWriterShut n' two'
 works_more n n' framed two two' is works appends file end =
     let Rests : ℕ → ℕ → Type 0 = λ t e. IsAtRest two' t e in
     record {
@@ -137,25 +137,25 @@ framed_is p framed is some few = framed_so p framed is (some, few)
 pub works_one : (n n' : JournalValue) (p framed : List ℕ) (len : ℕ) (o o' : Outside) → framed ≡ framed_of p
     → 1 ≤ length p → length p ≤ 65536
     → n' ≡ record n { end = n.end + length framed; len = len } → DiskRun o o'
-    → Becomes (Appends n.file n.end framed) o.files o'.files → ForSome o.files (Works n)
-    → ForSome o'.files (Works n')
+    → RelatesTold (AppendsFrame n.file n.end framed) o.files o'.files → ForSome o.files (IsWriterShut n)
+    → ForSome o'.files (IsWriterShut n')
 works_one n n' p framed len o o' is some few moved run becomes works x told =
     let before = told_back o o' x run.same_told told in
-    let new = becomes_told (Appends n.file n.end framed) o.files o'.files before.0 before.1 becomes in
+    let new = becomes_told (AppendsFrame n.file n.end framed) o.files o'.files before.0 before.1 becomes in
     let both : Some new.0 ≡ Some x = sym new.1 ∙ told in
     let one : new.0 ≡ x = cc in
-    subst (Works n') one
+    subst (IsWriterShut n') one
     (works_more n n' framed before.0 new.0 (framed_is p framed is some few) (works before.0 before.1) new.2
     (ap (λ (v : JournalValue). v.file) moved) (ap (λ (v : JournalValue). v.end) moved))
 
-pub rest_so : (n : JournalValue) (o : Option (Two File)) → ForSome o (Works n)
+pub rest_so : (n : JournalValue) (o : Option (Two File)) → ForSome o (IsWriterShut n)
     → ForSome o (λ two. IsAtRest two n.file n.end)
 rest_so n o works two told = (works two told).at_rest
 
 -- ---- moments
 
 -- no call was made
-pub shut_none : (file : ℕ) (o : Outside) → ForSome o.files (IsIdle file) → StaysShut file o o
+pub shut_none : (file : ℕ) (o : Outside) → ForSome o.files (IsFileIdle file) → StaysShut file o o
 shut_none file o idle two told =
     let Q : List ℕ → Type 0 = λ left. is_open left ≡ false in
     moments_none o (FileMoment Q two (sent_of o.links.told) file)
@@ -170,9 +170,9 @@ shut_none file o idle two told =
     })
 
 -- a frame was written, or was not
-pub shut_one : (n : JournalValue) (framed : List ℕ) (o o' : Outside) → ForSome o.files (Works n)
+pub shut_one : (n : JournalValue) (framed : List ℕ) (o o' : Outside) → ForSome o.files (IsWriterShut n)
     → ((two : Two File) → o.files ≡ Some two
-    → Passed two o o' n.file (BeforeOrWith (file_of two n.file).now n.end framed)) → StaysShut n.file o o'
+    → PassedMoments two o o' n.file (BeforeOrWith (file_of two n.file).now n.end framed)) → StaysShut n.file o o'
 shut_one n framed o o' works passed two told =
     let w = works two told in
     let bytes = (file_of two n.file).now in
@@ -199,7 +199,7 @@ moment_before Q two mid sent file m same moment = record {
 }
 
 pub passed_before : (Q : List ℕ → Type 0) (two mid : Two File) (file : ℕ) (o0 o1 o2 : Outside)
-    → other_of mid file ≡ other_of two file → o1.links ≡ o0.links → Passed mid o1 o2 file Q
+    → other_of mid file ≡ other_of two file → o1.links ≡ o0.links → PassedMoments mid o1 o2 file Q
     → MomentsAre o1 o2 (FileMoment Q two (sent_of o0.links.told) file)
 passed_before Q two mid file o0 o1 o2 same links passed =
     let there : MomentsAre o1 o2 (FileMoment Q two (sent_of o1.links.told) file) =
@@ -208,11 +208,11 @@ passed_before Q two mid file o0 o1 o2 same links passed =
     subst (λ (l : Links). MomentsAre o1 o2 (FileMoment Q two (sent_of l.told) file)) links there
 
 pub shut_then : (n n' : JournalValue) (added : List (List ℕ)) (o0 o1 o2 : Outside) → StaysShut n.file o0 o1
-    → DiskRun o0 o1 → Adding n n' added o0.files o1.files → StaysShut n'.file o1 o2
+    → DiskRun o0 o1 → WritesPayloads n n' added o0.files o1.files → StaysShut n'.file o1 o2
     → StaysShut n.file o0 o2
 shut_then n n' added o0 o1 o2 first run adding second two told =
     let Q : List ℕ → Type 0 = λ left. is_open left ≡ false in
-    let mid = becomes_told (Adds n.file n.end added) o0.files o1.files two told adding.adds in
+    let mid = becomes_told (AppendsPayloads n.file n.end added) o0.files o1.files two told adding.adds in
     let there : StaysShut n.file o1 o2 = subst (λ (k : ℕ). StaysShut k o1 o2) adding.grows.file_is second in
     moments_then o0 o1 o2 (FileMoment Q two (sent_of o0.links.told) n.file) (first two told)
     (passed_before Q two mid.0 n.file o0 o1 o2 mid.2.other run.same_links (there mid.0 mid.1))
@@ -220,14 +220,14 @@ shut_then n n' added o0 o1 o2 first run adding second two told =
 -- ---- want of memory
 
 -- nothing was written
-pub idle_none : (n : JournalValue) (o : Option (Two File)) → ForSome o (Works n) → Becomes (StaysIdle n.file) o o
+pub idle_none : (n : JournalValue) (o : Option (Two File)) → ForSome o (IsWriterShut n) → RelatesTold (StaysIdle n.file) o o
 idle_none n None works = tt
 idle_none n (Some two) works = record { other = refl; idle = idle_so n two (works two refl) }
 
 -- frames were written before
 pub idle_later : (n n' : JournalValue) (added : List (List ℕ)) (o0 o1 o2 : Option (Two File))
-    → Adding n n' added o0 o1 → Becomes (StaysIdle n'.file) o1 o2 → Becomes (StaysIdle n.file) o0 o2
+    → WritesPayloads n n' added o0 o1 → RelatesTold (StaysIdle n'.file) o1 o2 → RelatesTold (StaysIdle n.file) o0 o2
 idle_later n n' added o0 o1 o2 adding idle =
-    becomes_then (Adds n.file n.end added) (StaysIdle n.file) (StaysIdle n.file) o0 o1 o2
+    becomes_then (AppendsPayloads n.file n.end added) (StaysIdle n.file) (StaysIdle n.file) o0 o1 o2
     (λ a b c x y. record { other = y.other ∙ x.other; idle = y.idle }) adding.adds
-    (subst (λ (k : ℕ). Becomes (StaysIdle k) o1 o2) adding.grows.file_is idle)
+    (subst (λ (k : ℕ). RelatesTold (StaysIdle k) o1 o2) adding.grows.file_is idle)

@@ -3,7 +3,7 @@ use Rattle.brief_account.specs.Laws.{BriefIsByFacts, BriefKeepsFacts}
 use Rattle.entry_codec.specs.Laws.{AllowedNames}
 use Rattle.entry_codec.specs.StandingLaws.{JournalsStand}
 
-pub record CitedLaws : Type 0 where
+pub record CompactionLaws : Type 0 where
   pub stand : JournalsStand
   pub names : AllowedNames
   pub keeps : BriefKeepsFacts

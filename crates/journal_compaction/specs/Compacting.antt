@@ -31,11 +31,11 @@ pub record IsCompacted (clients : Meaning) (f : Facts) (m n : JournalValue) : Ty
 -- Full comes exactly where the brief account and its room pass the limit. Nothing is said of want of memory, which
 -- may come
 -- before the account is known.
-abbrev pub Weighs : Meaning → Facts → (limit : ℕ) → Result JournalValue CompactionFault → Type 0
-Weighs clients f limit (Ok n) = compacted_len clients f ≤ limit
-Weighs clients f limit (Err fault.Full) = limit < compacted_len clients f
-Weighs clients f limit (Err fault.Memory) = Unit {0}
-Weighs clients f limit (Err fault.DiskFault) = compacted_len clients f ≤ limit
+abbrev pub WeighsAccount : Meaning → Facts → (limit : ℕ) → Result JournalValue CompactionFault → Type 0
+WeighsAccount clients f limit (Ok n) = compacted_len clients f ≤ limit
+WeighsAccount clients f limit (Err fault.Full) = limit < compacted_len clients f
+WeighsAccount clients f limit (Err fault.Memory) = Unit {0}
+WeighsAccount clients f limit (Err fault.DiskFault) = compacted_len clients f ≤ limit
 
 -- a moment whose files stand for the journal or for its brief account, nothing more being sent
 pub record StandsForEither (clients : Meaning) (j : List (List Entry)) (sent : List (List ℕ))
@@ -44,16 +44,16 @@ pub record StandsForEither (clients : Meaning) (j : List (List Entry)) (sent : L
   pub nothing_sent : m.sent ≡ sent
 
 -- what the files hold at the end, by the answer
-abbrev pub CompactsSo : Meaning → JournalValue → List (List Entry) → Result JournalValue CompactionFault → Two File
+abbrev pub FilesHoldCompacted : Meaning → JournalValue → List (List Entry) → Result JournalValue CompactionFault → Two File
     → Type 0
-CompactsSo clients m j (Ok n) two = HoldsSecond clients n (brief j) two
-CompactsSo clients m j (Err fault.Full) two = HoldsSecond clients m j two
-CompactsSo clients m j (Err fault.Memory) two = HoldsSecond clients m j two
-CompactsSo clients m j (Err fault.DiskFault) two = Unit {0}
+FilesHoldCompacted clients m j (Ok n) two = HoldsSecond clients n (brief j) two
+FilesHoldCompacted clients m j (Err fault.Full) two = HoldsSecond clients m j two
+FilesHoldCompacted clients m j (Err fault.Memory) two = HoldsSecond clients m j two
+FilesHoldCompacted clients m j (Err fault.DiskFault) two = Unit {0}
 
 -- at each moment the files stand for the journal or for its brief account, and at the end they hold what the answer
 -- says
-pub record Compacts (clients : Meaning) (m : JournalValue) (j : List (List Entry)) (old new : Outside)
+pub record CompactsJournal (clients : Meaning) (m : JournalValue) (j : List (List Entry)) (old new : Outside)
     (result : Result JournalValue CompactionFault) : Type 0 where
   pub moments : MomentsAre old new (StandsForEither clients j (sent_of old.links.told))
-  pub ends : (two : Two File) → new.files ≡ Some two → CompactsSo clients m j result two
+  pub ends : (two : Two File) → new.files ≡ Some two → FilesHoldCompacted clients m j result two

@@ -20,7 +20,7 @@ pub record IsPlan (clients : Meaning) (f : Facts) (p : Plan) : Type 0 where
   pub peers : AreItems f is_peer p.peers.items (peer_entries f f.contacts)
 
 -- what the items of a plan name is there
-pub record ArePlanned (f : Facts) (p : Plan) : Type 0 where
+pub record AreItemsKnown (f : Facts) (p : Plan) : Type 0 where
   pub head : AllByRecursion (IsItem f) p.head.items
   pub told : AllByRecursion (IsItem f) p.told.items
   pub peers : AllByRecursion (IsItem f) p.peers.items

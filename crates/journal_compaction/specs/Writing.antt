@@ -1,11 +1,11 @@
 -- A writer of frames into a prepared file.
 use Rattle.std.specs.Prelude.{◌≡◌, ℕ, ◌+◌, ◌≤◌, ◌*◌, false, List, [], ◌++◌, length, Option, Some, Result, Ok, Err}
 use Rattle.outside.specs.declared.limits.TheConstants.{MAX_FRAME}
-use Rattle.outside.specs.Disk.{Becomes}
+use Rattle.outside.specs.Disk.{RelatesTold}
 use Rattle.outside.specs.Files.{Two, File, NothingPending, file_of}
 use Rattle.outside.specs.Frames.{HasFrames, IsAtRest, end_of, is_open}
 use Rattle.outside.specs.Outside.{Outside}
-use Rattle.outside.specs.Steps.{Passed, other_of}
+use Rattle.outside.specs.Steps.{PassedMoments, other_of}
 use Rattle.frame_journal.specs.Journal.{JournalValue}
 use Rattle.sync_rules.specs.Facts.{Facts}
 use Rattle.journal_migration.specs.Copying.{IsShut}
@@ -15,47 +15,47 @@ use Rattle.journal_compaction.specs.declared.items.Item.{Item}
 use Rattle.journal_compaction.specs.Paging.{frames_len, pages}
 
 -- nothing is pending in the writer's file, which is shut at the writer's end
-pub record Works (n : JournalValue) (two : Two File) : Type 0 where
+pub record IsWriterShut (n : JournalValue) (two : Two File) : Type 0 where
   pub at_rest : IsAtRest two n.file n.end
   pub shut : IsShut (file_of two n.file).now n.end
 
 -- frames with these payloads come behind those that the file has; the other file is as before
-pub record Adds (file end : ℕ) (added : List (List ℕ)) (old new : Two File) : Type 0 where
+pub record AppendsPayloads (file end : ℕ) (added : List (List ℕ)) (old new : Two File) : Type 0 where
   pub other : other_of new file ≡ other_of old file
   pub frames : (header : List ℕ) (payloads : List (List ℕ)) → HasFrames (file_of old file).now header payloads
       → end ≡ end_of payloads → HasFrames (file_of new file).now header (payloads ++ added)
 
 -- a writer moved on by frames with these payloads
-pub record Grows (n n' : JournalValue) (added : List (List ℕ)) : Type 0 where
+pub record MovesWriterOn (n n' : JournalValue) (added : List (List ℕ)) : Type 0 where
   pub file_is : n'.file ≡ n.file
   pub format_is : n'.format ≡ n.format
   pub generation_is : n'.generation ≡ n.generation
   pub end_is : n'.end ≡ n.end + frames_len added
 
 -- frames with these payloads were written
-pub record Adding (n n' : JournalValue) (added : List (List ℕ)) (old new : Option (Two File)) : Type 0 where
-  pub grows : Grows n n' added
-  pub adds : Becomes (Adds n.file n.end added) old new
+pub record WritesPayloads (n n' : JournalValue) (added : List (List ℕ)) (old new : Option (Two File)) : Type 0 where
+  pub grows : MovesWriterOn n n' added
+  pub adds : RelatesTold (AppendsPayloads n.file n.end added) old new
 
 -- at each moment the file has no open header, and the other is as it was
 abbrev pub StaysShut : (file : ℕ) → Outside → Outside → Type 0
 StaysShut file old new = (two : Two File) → old.files ≡ Some two
-    → Passed two old new file (λ left. is_open left ≡ false)
+    → PassedMoments two old new file (λ left. is_open left ≡ false)
 
 -- nothing is pending in the file, which has no open header
-pub record IsIdle (file : ℕ) (two : Two File) : Type 0 where
+pub record IsFileIdle (file : ℕ) (two : Two File) : Type 0 where
   pub settled : NothingPending two file
   pub shut : is_open (file_of two file).now ≡ false
 
 -- the file is left so, and the other is as before
 pub record StaysIdle (file : ℕ) (old new : Two File) : Type 0 where
   pub other : other_of new file ≡ other_of old file
-  pub idle : IsIdle file new
+  pub idle : IsFileIdle file new
 
 -- that is so where no memory was found
 abbrev pub LeavesIdle : {A : Type 0} → (file : ℕ) → (old new : Option (Two File)) → Result A MigrationFault → Type 0
 LeavesIdle file old new (Ok a) = Unit {0}
-LeavesIdle file old new (Err fault.Memory) = Becomes (StaysIdle file) old new
+LeavesIdle file old new (Err fault.Memory) = RelatesTold (StaysIdle file) old new
 LeavesIdle file old new (Err fault.DiskFault) = Unit {0}
 
 -- ---- the payload that is being filled
@@ -71,4 +71,4 @@ pub record Written (f : Facts) (most : ℕ) (items rest : List Item) (left : ℕ
     (old new : Option (Two File)) : Type 0 where
   pub added : List (List ℕ)
   pub goes_on : added ++ pages f most left page rest ≡ pages f most 0 [] items
-  pub adding : Adding n n' added old new
+  pub adding : WritesPayloads n n' added old new

@@ -1,7 +1,7 @@
 //! The brief account written into the other file, and published.
 ghost use Rattle.std.specs.Prelude.{◌≡◌, ◌-◌, ◌^◌, ◌<◌, ◌≤◌, IfOk, IsErrOf, Some, List};
 ghost use Rattle.std.specs.Option.{ForSome};
-ghost use Rattle.outside.specs.Faults.{Rose};
+ghost use Rattle.outside.specs.Faults.{CountRose};
 ghost use Rattle.outside.specs.Files.{Two, File};
 ghost use Rattle.outside.specs.Outside.{DiskRun};
 ghost use Rattle.sync_rules.specs.declared.entries.Entry.{Entry};
@@ -9,7 +9,7 @@ ghost use Rattle.sync_rules.specs.Facts.{facts};
 ghost use Rattle.sync_rules.specs.Steps.{IsSettled};
 ghost use Rattle.journal_migration.specs.Migrating.{HoldsSecond};
 ghost use Rattle.journal_migration.specs.Starting.{IsSettledBoth};
-ghost use Rattle.journal_compaction.specs.Compacting.{Compacts, IsCompacted, Weighs};
+ghost use Rattle.journal_compaction.specs.Compacting.{CompactsJournal, IsCompacted, WeighsAccount};
 
 use crate::CompactionFault;
 use crate::laws::cite_laws;
@@ -47,16 +47,16 @@ pub fn compact<D: Disk, C: Clients>(
     requires still { IsSettled (C.meaning clients.now) state.now.facts }
     ensures next { IfOk result
         (IsCompacted (C.meaning clients.now) state.now.facts journal.now) }
-    ensures room { Weighs (C.meaning clients.now) state.now.facts limit result }
+    ensures room { WeighsAccount (C.meaning clients.now) state.now.facts limit result }
     ensures unasked { IsErrOf result CompactionFault.Full → disk.new ≡ disk.old }
     ensures compacts { (j : List (List Entry)) (two : Two File)
         → (D.tells disk.old).files ≡ Some two → facts j ≡ state.now.facts
         → HoldsSecond (C.meaning clients.now) journal.now j two
-        → Compacts (C.meaning clients.now) journal.now j (D.tells disk.old) (D.tells disk.new)
+        → CompactsJournal (C.meaning clients.now) journal.now j (D.tells disk.old) (D.tells disk.new)
         result }
     ensures run { DiskRun (D.tells disk.old) (D.tells disk.new) }
     ensures fault { IsErrOf result CompactionFault.DiskFault
-        → Rose (D.tells disk.old).disk_faults (D.tells disk.new).disk_faults }
+        → CountRose (D.tells disk.old).disk_faults (D.tells disk.new).disk_faults }
 {
     cite_laws();
     let file = journal.file();

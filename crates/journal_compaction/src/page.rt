@@ -1,11 +1,11 @@
 //! The payload that is being filled.
 ghost use Rattle.std.specs.Prelude.{◌≡◌, ◌+◌, ◌-◌, ◌≤◌, [], cond, length, IfOk, IsErrOf, OnErr, OnOk};
 ghost use Rattle.std.specs.Option.{ForSome};
-ghost use Rattle.outside.specs.Faults.{Rose};
+ghost use Rattle.outside.specs.Faults.{CountRose};
 ghost use Rattle.outside.specs.Outside.{DiskRun};
 ghost use Rattle.frame_journal.specs.Append.{framed_of};
 ghost use Rattle.journal_compaction.specs.Paging.{closed_page, frames_len};
-ghost use Rattle.journal_compaction.specs.Writing.{Adding, LeavesIdle, StaysShut, Works};
+ghost use Rattle.journal_compaction.specs.Writing.{WritesPayloads, LeavesIdle, StaysShut, IsWriterShut};
 
 use frame_journal::Journal;
 use journal_migration::MigrationFault;
@@ -57,19 +57,19 @@ impl Page {
         requires few { length self.old.payload.items ≤ MAX_FRAME }
         requires room { writer.old.end + frames_len (cond stays [] (closed_page
             self.old.payload.items)) ≤ MAX_JOURNAL }
-        requires works { ForSome (D.tells disk.old).files (Works writer.old) }
+        requires works { ForSome (D.tells disk.old).files (IsWriterShut writer.old) }
         ensures left { OnOk result
             (self.new.payload.items ≡ cond stays self.old.payload.items []) }
-        ensures adding { OnOk result (Adding writer.old writer.new
+        ensures adding { OnOk result (WritesPayloads writer.old writer.new
             (cond stays [] (closed_page self.old.payload.items)) (D.tells disk.old).files
             (D.tells disk.new).files) }
-        ensures works { OnOk result (ForSome (D.tells disk.new).files (Works writer.new)) }
+        ensures works { OnOk result (ForSome (D.tells disk.new).files (IsWriterShut writer.new)) }
         ensures shut { StaysShut writer.old.file (D.tells disk.old) (D.tells disk.new) }
         ensures idle { LeavesIdle writer.old.file (D.tells disk.old).files
             (D.tells disk.new).files result }
         ensures run { DiskRun (D.tells disk.old) (D.tells disk.new) }
         ensures fault { IsErrOf result MigrationFault.DiskFault
-            → Rose (D.tells disk.old).disk_faults (D.tells disk.new).disk_faults }
+            → CountRose (D.tells disk.old).disk_faults (D.tells disk.new).disk_faults }
     {
         if stays || self.payload.as_slice().is_empty() {
             return Ok(());

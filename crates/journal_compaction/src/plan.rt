@@ -9,7 +9,7 @@ ghost use Rattle.brief_account.specs.Brief.{want_entries};
 ghost use Rattle.journal_state.specs.Telling.{TellsWithin, told_entries};
 ghost use Rattle.journal_compaction.specs.Items.{AddsItems, AreItems, id_at, is_alone, is_peer};
 ghost use Rattle.journal_compaction.specs.Items.{is_told, is_visible, item_told};
-ghost use Rattle.journal_compaction.specs.Planning.{ArePlanned, IsPlan, plan_len};
+ghost use Rattle.journal_compaction.specs.Planning.{AreItemsKnown, IsPlan, plan_len};
 
 use crate::items::Item;
 use crate::paging::items_len;
@@ -43,7 +43,7 @@ impl Plan {
     /// Where a journal with this account ends, and the room behind it for the steps that are left;
     /// the number stands still at 2^64 - 1.
     pub(crate) fn len(&self, state: &State) -> u64
-        requires { ArePlanned state.now.facts self.now }
+        requires { AreItemsKnown state.now.facts self.now }
         ensures { result ≡ min (plan_len state.now.facts self.now) (2 ^ 64 - 1) }
     {
         let head = items_len(state, self.head.as_slice(), MAX_STEPS);

@@ -2,14 +2,14 @@
 ghost use Rattle.std.specs.Prelude.{◌≡◌, ◌+◌, ◌-◌, ◌≤◌, ◌++◌, [], length, IfOk, IsErrOf, OnErr, OnOk};
 ghost use Rattle.std.specs.List.{AllByRecursion};
 ghost use Rattle.std.specs.Option.{ForSome};
-ghost use Rattle.outside.specs.Faults.{Rose};
+ghost use Rattle.outside.specs.Faults.{CountRose};
 ghost use Rattle.outside.specs.Outside.{DiskRun};
 ghost use Rattle.entry_codec.specs.Spelling.{IsEntry};
 ghost use Rattle.journal_compaction.specs.Items.{IsItem, bytes_of, entry_of};
 ghost use Rattle.journal_compaction.specs.Paging.{frames_len, left_after, page_for, pages};
 ghost use Rattle.journal_compaction.specs.Paging.{written_for};
-ghost use Rattle.journal_compaction.specs.Planning.{ArePlanned, AreWritten, plan_pages};
-ghost use Rattle.journal_compaction.specs.Writing.{Adding, HasSpace, LeavesIdle, StaysShut, Works};
+ghost use Rattle.journal_compaction.specs.Planning.{AreItemsKnown, AreWritten, plan_pages};
+ghost use Rattle.journal_compaction.specs.Writing.{WritesPayloads, HasSpace, LeavesIdle, StaysShut, IsWriterShut};
 
 use crate::items::{Item, append_item};
 use crate::page::Page;
@@ -39,22 +39,22 @@ fn write_item<D: Disk>(
     requires space { HasSpace left page.old.payload.items }
     requires room { writer.old.end + frames_len (written_for left page.old.payload.items item)
         ≤ MAX_JOURNAL }
-    requires works { ForSome (D.tells disk.old).files (Works writer.old) }
+    requires works { ForSome (D.tells disk.old).files (IsWriterShut writer.old) }
     ensures left { IfOk result (λ more. more ≡ left_after most left item) }
     ensures page { OnOk result (page.new.payload.items
         ≡ page_for left page.old.payload.items item ++ bytes_of state.now.facts item) }
     ensures space { IfOk result (λ more. HasSpace more page.new.payload.items) }
     ensures within { OnOk result (IsEntry (entry_of state.now.facts item)) }
-    ensures adding { OnOk result (Adding writer.old writer.new
+    ensures adding { OnOk result (WritesPayloads writer.old writer.new
         (written_for left page.old.payload.items item) (D.tells disk.old).files
         (D.tells disk.new).files) }
-    ensures works { OnOk result (ForSome (D.tells disk.new).files (Works writer.new)) }
+    ensures works { OnOk result (ForSome (D.tells disk.new).files (IsWriterShut writer.new)) }
     ensures shut { StaysShut writer.old.file (D.tells disk.old) (D.tells disk.new) }
     ensures idle { LeavesIdle writer.old.file (D.tells disk.old).files (D.tells disk.new).files
         result }
     ensures run { DiskRun (D.tells disk.old) (D.tells disk.new) }
     ensures fault { IsErrOf result MigrationFault.DiskFault
-        → Rose (D.tells disk.old).disk_faults (D.tells disk.new).disk_faults }
+        → CountRose (D.tells disk.old).disk_faults (D.tells disk.new).disk_faults }
 {
     page.flush(disk, writer, joins(left, item))?;
     append_item(state, item, &mut page.payload)?;
@@ -76,20 +76,20 @@ pub(crate) fn write_items<D: Disk>(
     requires empty { page.old.payload.items ≡ [] }
     requires room { writer.old.end + frames_len (pages state.now.facts most 0 [] items.now)
         ≤ MAX_JOURNAL }
-    requires works { ForSome (D.tells disk.old).files (Works writer.old) }
+    requires works { ForSome (D.tells disk.old).files (IsWriterShut writer.old) }
     ensures empty { OnOk result (page.new.payload.items ≡ []) }
     ensures within { OnOk result
         (AllByRecursion (λ i. IsEntry (entry_of state.now.facts i)) items.now) }
-    ensures adding { OnOk result (Adding writer.old writer.new
+    ensures adding { OnOk result (WritesPayloads writer.old writer.new
         (pages state.now.facts most 0 [] items.now) (D.tells disk.old).files
         (D.tells disk.new).files) }
-    ensures works { OnOk result (ForSome (D.tells disk.new).files (Works writer.new)) }
+    ensures works { OnOk result (ForSome (D.tells disk.new).files (IsWriterShut writer.new)) }
     ensures shut { StaysShut writer.old.file (D.tells disk.old) (D.tells disk.new) }
     ensures idle { LeavesIdle writer.old.file (D.tells disk.old).files (D.tells disk.new).files
         result }
     ensures run { DiskRun (D.tells disk.old) (D.tells disk.new) }
     ensures fault { IsErrOf result MigrationFault.DiskFault
-        → Rose (D.tells disk.old).disk_faults (D.tells disk.new).disk_faults }
+        → CountRose (D.tells disk.old).disk_faults (D.tells disk.new).disk_faults }
 {
     let mut left = 0usize;
     'items: for item in items {
@@ -106,21 +106,21 @@ pub(crate) fn write_plan<D: Disk>(
     writer: &mut Journal,
     page: &mut Page,
 ) -> Result<(), MigrationFault>
-    requires planned { ArePlanned state.now.facts plan.now }
+    requires planned { AreItemsKnown state.now.facts plan.now }
     requires empty { page.old.payload.items ≡ [] }
     requires room { writer.old.end + frames_len (plan_pages state.now.facts plan.now)
         ≤ MAX_JOURNAL }
-    requires works { ForSome (D.tells disk.old).files (Works writer.old) }
+    requires works { ForSome (D.tells disk.old).files (IsWriterShut writer.old) }
     ensures within { OnOk result (AreWritten state.now.facts plan.now) }
-    ensures adding { OnOk result (Adding writer.old writer.new
+    ensures adding { OnOk result (WritesPayloads writer.old writer.new
         (plan_pages state.now.facts plan.now) (D.tells disk.old).files (D.tells disk.new).files) }
-    ensures works { OnOk result (ForSome (D.tells disk.new).files (Works writer.new)) }
+    ensures works { OnOk result (ForSome (D.tells disk.new).files (IsWriterShut writer.new)) }
     ensures shut { StaysShut writer.old.file (D.tells disk.old) (D.tells disk.new) }
     ensures idle { LeavesIdle writer.old.file (D.tells disk.old).files (D.tells disk.new).files
         result }
     ensures run { DiskRun (D.tells disk.old) (D.tells disk.new) }
     ensures fault { IsErrOf result MigrationFault.DiskFault
-        → Rose (D.tells disk.old).disk_faults (D.tells disk.new).disk_faults }
+        → CountRose (D.tells disk.old).disk_faults (D.tells disk.new).disk_faults }
 {
     write_items(disk, state, plan.head.as_slice(), MAX_STEPS, writer, page)?;
     write_items(disk, state, plan.told.as_slice(), MAX_STEPS, writer, page)?;

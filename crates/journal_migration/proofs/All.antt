@@ -7,18 +7,18 @@ use Rattle.frame_journal.specs.Journal.{JournalValue}
 use Rattle.sync_rules.specs.declared.entries.Entry.{Entry}
 use Rattle.sync_rules.specs.Clients.{Meaning}
 use Rattle.sync_rules.specs.Facts.{Facts}
-use Rattle.journal_migration.specs.Copying.{Copies, CopiesAll, CopiesAllSo, CopiesNext, CopiesSo, IsPair, IsSamePair, counted_to}
-use Rattle.journal_migration.specs.Migrating.{HoldsFirst, Keeps}
+use Rattle.journal_migration.specs.Copying.{CopiesBatches, CopiesAll, CopiesAllSo, CopiesNext, CopiesSo, IsPair, IsSamePair, counted_to}
+use Rattle.journal_migration.specs.Migrating.{HoldsFirst, KeepsJournal}
 use Rattle.journal_migration.specs.declared.fault.MigrationFault.{MigrationFault}
 use Rattle.journal_migration.specs.declared.fault.MigrationFault.TheVariants as fault
 use Rattle.journal_migration.proofs.Keeping.{keeps_looks, keeps_map, keeps_then}
 
 -- no frame yet
 pub copied_none : (clients : Meaning) (f : Facts) (generation : ℕ) (j : List (List Entry)) (r n : JournalValue) (count : ℕ) (o : Outside) (two : Two File) → o.files ≡ Some two → IsPair r n
-    → Copies clients f generation j r n count two → Keeps clients j (Copies clients f generation j r n count) o o
+    → CopiesBatches clients f generation j r n count two → KeepsJournal clients j (CopiesBatches clients f generation j r n count) o o
 copied_none clients f generation j r n count o two told pair copies =
-    keeps_map clients j (λ t. t ≡ two) (Copies clients f generation j r n count) o o
-    (λ t is. subst (Copies clients f generation j r n count) (sym is) copies)
+    keeps_map clients j (λ t. t ≡ two) (CopiesBatches clients f generation j r n count) o o
+    (λ t is. subst (CopiesBatches clients f generation j r n count) (sym is) copies)
     (keeps_looks clients j r.file generation o o two pair.reads copies.holds told (looks_none o))
 
 pub pair_still : (r n : JournalValue) → IsSamePair r r n n
@@ -40,13 +40,13 @@ fault_so clients f generation j file own r n count fault.Memory two same so = su
 fault_so clients f generation j file own r n count fault.DiskFault two same so = tt
 
 module _ (clients : Meaning) (f : Facts) (generation : ℕ) (j : List (List Entry)) (r r1 r2 n n1 n2 : JournalValue) (count : ℕ) (o0 o1 o2 : Outside) (two : Two File) (told : o0.files ≡ Some two)
-    (run : DiskRun o0 o1) (same : IsSamePair r r1 n n1) (so_far : Keeps clients j (Copies clients f generation j r1 n1 count) o0 o1) where
+    (run : DiskRun o0 o1) (same : IsSamePair r r1 n n1) (so_far : KeepsJournal clients j (CopiesBatches clients f generation j r1 n1 count) o0 o1) where
   abbrev pub Later : Result (Option ℕ) MigrationFault → Type 0
-  Later result = (mid : Two File) → o1.files ≡ Some mid → Copies clients f generation j r1 n1 count mid → CopiesNext clients f generation j r1.file r2 n2 count o1 o2 result
+  Later result = (mid : Two File) → o1.files ≡ Some mid → CopiesBatches clients f generation j r1 n1 count mid → CopiesNext clients f generation j r1.file r2 n2 count o1 o2 result
 
-  further : (result : Result (Option ℕ) MigrationFault) → Later result → Keeps clients j (CopiesSo clients f generation j r1.file r2 n2 count result) o0 o2
+  further : (result : Result (Option ℕ) MigrationFault) → Later result → KeepsJournal clients j (CopiesSo clients f generation j r1.file r2 n2 count result) o0 o2
   further result later =
-      keeps_then clients j (Copies clients f generation j r1 n1 count) (CopiesSo clients f generation j r1.file r2 n2 count result) o0 o1 o2 two told run so_far later
+      keeps_then clients j (CopiesBatches clients f generation j r1 n1 count) (CopiesSo clients f generation j r1.file r2 n2 count result) o0 o1 o2 two told run so_far later
 
   -- a frame failed
   pub all_failed : (e : MigrationFault) → Later (Err e) → (result : Result (Unit {0}) MigrationFault) → result ≡ Err e → CopiesAll clients generation j r.file r2 n2 o0 o2 result
@@ -62,6 +62,6 @@ module _ (clients : Meaning) (f : Facts) (generation : ℕ) (j : List (List Entr
       (λ t so. record { f = f; count = count; copies = so.0; at_end = so.1 }) (further (Ok None) later)
 
   -- a frame more
-  pub all_further : (brought new : ℕ) → new ≡ counted_to (count + brought) → Later (Ok (Some brought)) → Keeps clients j (Copies clients f generation j r2 n2 new) o0 o2
+  pub all_further : (brought new : ℕ) → new ≡ counted_to (count + brought) → Later (Ok (Some brought)) → KeepsJournal clients j (CopiesBatches clients f generation j r2 n2 new) o0 o2
   all_further brought new is later =
-      subst (λ (k : ℕ). Keeps clients j (Copies clients f generation j r2 n2 k) o0 o2) (sym is) (further (Ok (Some brought)) later)
+      subst (λ (k : ℕ). KeepsJournal clients j (CopiesBatches clients f generation j r2 n2 k) o0 o2) (sym is) (further (Ok (Some brought)) later)

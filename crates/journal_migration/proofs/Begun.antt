@@ -1,11 +1,11 @@
 -- A copy that is begun: nothing is copied yet.
 use Rattle.std.proofs.Common.{◌≡◌, ℕ, ◌+◌, ◌-◌, ◌<◌, List, [], ◌∷◌, Some, refl, sym, ap, subst, ◌∙◌}
-use Rattle.outside.specs.Disk.{Becomes}
+use Rattle.outside.specs.Disk.{RelatesTold}
 use Rattle.outside.specs.Files.{Two, File, file_of, read_files}
 use Rattle.outside.specs.Frames.{HasFrames, format_in}
-use Rattle.outside.specs.Outside.{Looks, Outside}
+use Rattle.outside.specs.Outside.{OnlyReads, Outside}
 use Rattle.outside.proofs.CallSteps.{becomes_told}
-use Rattle.frame_journal.specs.Create.{Prepares}
+use Rattle.frame_journal.specs.Create.{PreparesJournal}
 use Rattle.frame_journal.specs.Journal.{JournalValue, fresh}
 use Rattle.sync_rules.specs.declared.entries.Entry.{Entry}
 use Rattle.sync_rules.specs.Clients.{Meaning}
@@ -14,8 +14,8 @@ use Rattle.entry_codec.specs.declared.naming.Format.TheVariants as kind
 use Rattle.entry_codec.specs.Naming.{format_of}
 use Rattle.entry_codec.specs.Fronts.{Front}
 use Rattle.entry_codec.proofs.FrontLaws.{front_start}
-use Rattle.journal_migration.specs.Copying.{Copies, marked}
-use Rattle.journal_migration.specs.Migrating.{HoldsFirst, Keeps}
+use Rattle.journal_migration.specs.Copying.{CopiesBatches, marked}
+use Rattle.journal_migration.specs.Migrating.{HoldsFirst, KeepsJournal}
 use Rattle.journal_migration.specs.Starting.{EndsOrStays}
 use Rattle.journal_migration.proofs.Copied.{shut_header}
 use Rattle.journal_migration.proofs.Keeping.{begun_still, keeps_looks, keeps_then}
@@ -23,7 +23,7 @@ use Rattle.journal_migration.proofs.Shut.{begun_frames, own_still}
 use Rattle.journal_migration.proofs.Sides.{holds_on, read_file}
 
 pub copies_begun : (clients : Meaning) (f : Facts) (generation : ℕ) (j : List (List Entry)) (file : ℕ) (r n : JournalValue) (two two' : Two File) → file < 2 → HoldsFirst clients file generation j two
-    → facts j ≡ f → r.file ≡ file → r.end ≡ 15 → n ≡ fresh (1 - file) 2 (generation + 1) → Prepares (1 - file) 2 (generation + 1) two two' → Copies clients f generation j r n 0 two'
+    → facts j ≡ f → r.file ≡ file → r.end ≡ 15 → n ≡ fresh (1 - file) 2 (generation + 1) → PreparesJournal (1 - file) 2 (generation + 1) two two' → CopiesBatches clients f generation j r n 0 two'
 copies_begun clients f generation j file r n two two' few holds same reader begun writer prepares =
     let header = prepares.gate ∷ marked (generation + 1) in
     let frames : HasFrames (file_of two' (1 - file)).now header [] =
@@ -48,23 +48,23 @@ copies_begun clients f generation j file r n two two' few holds same reader begu
     }
 
 module _ (clients : Meaning) (f : Facts) (generation : ℕ) (j : List (List Entry)) (file : ℕ) (r n : JournalValue) (o0 o1 o2 : Outside) (two : Two File) (told : o0.files ≡ Some two) (few : file < 2)
-    (holds : HoldsFirst clients file generation j two) (looks : Looks o0 o1) (stays : EndsOrStays (1 - file) o1 o2) where
+    (holds : HoldsFirst clients file generation j two) (looks : OnlyReads o0 o1) (stays : EndsOrStays (1 - file) o1 o2) where
   there : o1.files ≡ Some two
   there = looks.same_files ∙ told
 
   -- at each moment until the other file is prepared the files stand for the journal
-  pub begun_so : (P : Two File → Type 0) → ((t : Two File) → o2.files ≡ Some t → P t) → Keeps clients j P o0 o2
+  pub begun_so : (P : Two File → Type 0) → ((t : Two File) → o2.files ≡ Some t → P t) → KeepsJournal clients j P o0 o2
   begun_so P ends =
       keeps_then clients j (λ t. t ≡ two) P o0 o1 o2 two told looks.run (keeps_looks clients j file generation o0 o1 two few holds told looks)
       (λ mid at same. record { moments = begun_still clients j file generation two o1 o2 few holds (stays two there); ends = ends })
 
   -- and then all is ready for the first frame
-  pub begun_copies : facts j ≡ f → r.file ≡ file → r.end ≡ 15 → n ≡ fresh (1 - file) 2 (generation + 1) → Becomes (Prepares (1 - file) 2 (generation + 1)) o1.files o2.files
-      → Keeps clients j (Copies clients f generation j r n 0) o0 o2
+  pub begun_copies : facts j ≡ f → r.file ≡ file → r.end ≡ 15 → n ≡ fresh (1 - file) 2 (generation + 1) → RelatesTold (PreparesJournal (1 - file) 2 (generation + 1)) o1.files o2.files
+      → KeepsJournal clients j (CopiesBatches clients f generation j r n 0) o0 o2
   begun_copies same reader begun writer becomes =
-      begun_so (Copies clients f generation j r n 0)
+      begun_so (CopiesBatches clients f generation j r n 0)
       (λ t end.
-      let new = becomes_told (Prepares (1 - file) 2 (generation + 1)) o1.files o2.files two there becomes in
+      let new = becomes_told (PreparesJournal (1 - file) 2 (generation + 1)) o1.files o2.files two there becomes in
       let both : Some new.0 ≡ Some t = sym new.1 ∙ end in
       let one : new.0 ≡ t = cc in
-      subst (Copies clients f generation j r n 0) one (copies_begun clients f generation j file r n two new.0 few holds same reader begun writer new.2))
+      subst (CopiesBatches clients f generation j r n 0) one (copies_begun clients f generation j file r n two new.0 few holds same reader begun writer new.2))

@@ -5,17 +5,17 @@ use Rattle.std.specs.Int.{w32, to_be_bytes}
 use Rattle.std.proofs.lemmas.Bool.{ne_eqb}
 use Rattle.std.proofs.lemmas.Bool.Decides.{nat_tests}
 use Rattle.std.proofs.Math.Seq.{take-append_seam, drop-append_seam}
-use Rattle.outside.specs.Disk.{Becomes}
+use Rattle.outside.specs.Disk.{RelatesTold}
 use Rattle.outside.specs.Files.{Two, File, NothingPending, file_of, read_files}
 use Rattle.outside.specs.Frames.{HasFrames, IsPayload, closed, frame_at, is_open}
 use Rattle.outside.specs.Frames as frames_of
 use Rattle.outside.specs.Links.{sent_of}
-use Rattle.outside.specs.Outside.{Looks, MomentsAre, Outside}
-use Rattle.outside.specs.Steps.{FileMoment, Passed, other_of}
+use Rattle.outside.specs.Outside.{OnlyReads, MomentsAre, Outside}
+use Rattle.outside.specs.Steps.{FileMoment, PassedMoments, other_of}
 use Rattle.outside.proofs.CallSteps.{becomes_told, moments_map}
-use Rattle.frame_journal.specs.Append.{Appends, BeforeOrWith, IsFramed, framed_of, payload_of}
+use Rattle.frame_journal.specs.Append.{AppendsFrame, BeforeOrWith, IsFramed, framed_of, payload_of}
 use Rattle.frame_journal.specs.Journal.{JournalValue}
-use Rattle.frame_journal.specs.Next.{IsNext, NextFrame}
+use Rattle.frame_journal.specs.Next.{IsNextFrame, NextFrame}
 use Rattle.sync_rules.specs.declared.entries.Entry.{Entry}
 use Rattle.sync_rules.specs.Clients.{Meaning}
 use Rattle.sync_rules.specs.Facts.{Facts, facts, nothing}
@@ -25,9 +25,9 @@ use Rattle.entry_codec.specs.Fronts.{Front}
 use Rattle.entry_codec.proofs.FrontLaws.{front_more}
 use Rattle.entry_codec.proofs.Growing.{facts_push, journal_end_push, payloads_push}
 use Rattle.entry_codec.proofs.LawProofs.{batch_len_same}
-use Rattle.journal_migration.specs.Cited.{CitedLaws}
-use Rattle.journal_migration.specs.Copying.{Copies, CopiesNext, CopiesSo, IsAtEnd, IsPair, IsRespelled, brought_by, counted_to, marked}
-use Rattle.journal_migration.specs.Migrating.{HoldsFirst, Keeps, StandsStill}
+use Rattle.journal_migration.specs.Cited.{MigrationLaws}
+use Rattle.journal_migration.specs.Copying.{CopiesBatches, CopiesNext, CopiesSo, IsAtLastGate, IsPair, IsRespelled, brought_by, counted_to, marked}
+use Rattle.journal_migration.specs.Migrating.{HoldsFirst, KeepsJournal, StandsStill}
 use Rattle.journal_migration.specs.declared.fault.MigrationFault.{MigrationFault}
 use Rattle.journal_migration.specs.declared.fault.MigrationFault.TheVariants as fault
 use Rattle.journal_migration.proofs.Brought.{all_held}
@@ -75,8 +75,8 @@ shut_header bytes gate rest ps frames shut = ap is_open frames.whole ∙ not_sec
 -- ---- no frame was copied
 
 module _ (clients : Meaning) (f : Facts) (generation : ℕ) (j : List (List Entry)) (r r' n : JournalValue) (count : ℕ) (o o1 : Outside) (two : Two File) (told : o.files ≡ Some two)
-    (pair : IsPair r n) (copies : Copies clients f generation j r n count two) (looks : Looks o o1) where
-  looked : Keeps clients j (λ t. t ≡ two) o o1
+    (pair : IsPair r n) (copies : CopiesBatches clients f generation j r n count two) (looks : OnlyReads o o1) where
+  looked : KeepsJournal clients j (λ t. t ≡ two) o o1
   looked = keeps_looks clients j r.file generation o o1 two pair.reads copies.holds told looks
 
   -- the reader is at the closed gate
@@ -84,19 +84,19 @@ module _ (clients : Meaning) (f : Facts) (generation : ℕ) (j : List (List Entr
   copied_all same shut =
       keeps_map clients j (λ t. t ≡ two) (CopiesSo clients f generation j r.file r' n count (Ok None)) o o1
       (λ t is.
-      let At : Two File → JournalValue → Type 0 = λ t v. Copies clients f generation j v n count t × IsAtEnd v t in
+      let At : Two File → JournalValue → Type 0 = λ t v. CopiesBatches clients f generation j v n count t × IsAtLastGate v t in
       let here : At two r = (copies, ap (λ (b : List ℕ). frame_at b (r.end - 1)) (read_file two r.file) ∙ shut) in
       subst (λ (v : JournalValue). At t v) (sym same) (subst (λ (s : Two File). At s r) (sym is) here)) looked
 
 -- ---- a frame was written
 
 module _ (clients : Meaning) (f : Facts) (generation : ℕ) (j : List (List Entry)) (r n : JournalValue) (count : ℕ) (o o' : Outside) (two : Two File) (told : o.files ≡ Some two)
-    (pair : IsPair r n) (copies : Copies clients f generation j r n count two) (framed : List ℕ) where
-  passed_on : Passed two o o' n.file (BeforeOrWith (file_of two n.file).now n.end framed) → Passed two o o' (1 - r.file) (BeforeOrWith (file_of two n.file).now n.end framed)
-  passed_on = subst (λ (t : ℕ). Passed two o o' t (BeforeOrWith (file_of two n.file).now n.end framed)) pair.writes
+    (pair : IsPair r n) (copies : CopiesBatches clients f generation j r n count two) (framed : List ℕ) where
+  passed_on : PassedMoments two o o' n.file (BeforeOrWith (file_of two n.file).now n.end framed) → PassedMoments two o o' (1 - r.file) (BeforeOrWith (file_of two n.file).now n.end framed)
+  passed_on = subst (λ (t : ℕ). PassedMoments two o o' t (BeforeOrWith (file_of two n.file).now n.end framed)) pair.writes
 
   -- at each moment the files stand for the journal
-  pub written_still : Passed two o o' n.file (BeforeOrWith (file_of two n.file).now n.end framed) → MomentsAre o o' (StandsStill clients j (sent_of o.links.told))
+  pub written_still : PassedMoments two o o' n.file (BeforeOrWith (file_of two n.file).now n.end framed) → MomentsAre o o' (StandsStill clients j (sent_of o.links.told))
   written_still passed =
       let Q : List ℕ → Type 0 = BeforeOrWith (file_of two n.file).now n.end framed in
       let sent = sent_of o.links.told in
@@ -114,15 +114,15 @@ pub record Written (f : Facts) (r r' n n' : JournalValue) (count brought : ℕ) 
   pub few : length f.held < 2 ^ 32
   pub next : NextFrame (file_of two r.file).now r r' to
   pub respelled : IsRespelled (take count (names_of f)) to framed brought
-  pub appends : Appends n.file n.end framed two two'
+  pub appends : AppendsFrame n.file n.end framed two two'
   pub end_is : n'.end ≡ n.end + length framed
   pub file_is : n'.file ≡ n.file
 
 counted : (count brought all more held : ℕ) → count ≡ all → brought ≡ counted_to more → held ≡ all + more → held < 2 ^ 32 → counted_to (count + brought) ≡ held
 counted count brought all more held is by sum few = grind (arith, nat_tests)
 
-pub written_copies : CitedLaws → (clients : Meaning) (f : Facts) (generation : ℕ) (j : List (List Entry)) (r r' n n' : JournalValue) (count brought : ℕ) (to framed : List ℕ) (two two' : Two File)
-    → IsPair r n → Copies clients f generation j r n count two → Written f r r' n n' count brought to framed two two' → Copies clients f generation j r' n' (counted_to (count + brought)) two'
+pub written_copies : MigrationLaws → (clients : Meaning) (f : Facts) (generation : ℕ) (j : List (List Entry)) (r r' n n' : JournalValue) (count brought : ℕ) (to framed : List ℕ) (two two' : Two File)
+    → IsPair r n → CopiesBatches clients f generation j r n count two → Written f r r' n n' count brought to framed two two' → CopiesBatches clients f generation j r' n' (counted_to (count + brought)) two'
 written_copies laws clients f generation j r r' n n' count brought to framed two two' pair copies w =
     let own = r.file in
     let other = 1 - own in
@@ -183,7 +183,7 @@ written_copies laws clients f generation j r r' n n' count brought to framed two
 -- ---- what copying a frame answers
 
 copied_by : (clients : Meaning) (f : Facts) (generation : ℕ) (j : List (List Entry)) (r r' n n' : JournalValue) (count : ℕ) (o o1 : Outside) (two : Two File) → o.files ≡ Some two → IsPair r n
-    → Copies clients f generation j r n count two → Looks o o1 → (e : MigrationFault) → CopiesNext clients f generation j r.file r' n' count o o1 (Err e)
+    → CopiesBatches clients f generation j r n count two → OnlyReads o o1 → (e : MigrationFault) → CopiesNext clients f generation j r.file r' n' count o o1 (Err e)
 copied_by clients f generation j r r' n n' count o o1 two told pair copies looks fault.Memory =
     keeps_map clients j (λ t. t ≡ two) (CopiesSo clients f generation j r.file r' n' count (Err fault.Memory)) o o1
     (λ t is. subst (HoldsFirst clients r.file generation j) (sym is) copies.holds) (keeps_looks clients j r.file generation o o1 two pair.reads copies.holds told looks)
@@ -193,7 +193,7 @@ copied_by clients f generation j r r' n n' count o o1 two told pair copies looks
 
 -- nothing was written
 pub copied_not : (clients : Meaning) (f : Facts) (generation : ℕ) (j : List (List Entry)) (r r' n n' : JournalValue) (count : ℕ) (o o1 : Outside) (two : Two File) → o.files ≡ Some two → IsPair r n
-    → Copies clients f generation j r n count two → Looks o o1 → (e : MigrationFault) (result : Result (Option ℕ) MigrationFault) → result ≡ Err e
+    → CopiesBatches clients f generation j r n count two → OnlyReads o o1 → (e : MigrationFault) (result : Result (Option ℕ) MigrationFault) → result ≡ Err e
     → CopiesNext clients f generation j r.file r' n' count o o1 result
 copied_not clients f generation j r r' n n' count o o1 two told pair copies looks e result is =
     subst (λ (x : Result (Option ℕ) MigrationFault). CopiesNext clients f generation j r.file r' n' count o o1 x) (sym is)
@@ -201,8 +201,8 @@ copied_not clients f generation j r r' n n' count o o1 two told pair copies look
 
 -- the disk failed at the frame
 pub copied_cut : (clients : Meaning) (f : Facts) (generation : ℕ) (j : List (List Entry)) (r r' n n' : JournalValue) (count : ℕ) (framed : List ℕ) (o o1 o2 : Outside) (two : Two File)
-    → o.files ≡ Some two → IsPair r n → Copies clients f generation j r n count two → Looks o o1
-    → ((t : Two File) → o1.files ≡ Some t → Passed t o1 o2 n.file (BeforeOrWith (file_of t n.file).now n.end framed))
+    → o.files ≡ Some two → IsPair r n → CopiesBatches clients f generation j r n count two → OnlyReads o o1
+    → ((t : Two File) → o1.files ≡ Some t → PassedMoments t o1 o2 n.file (BeforeOrWith (file_of t n.file).now n.end framed))
     → (result : Result (Option ℕ) MigrationFault) → result ≡ Err fault.DiskFault → CopiesNext clients f generation j r.file r' n' count o o2 result
 copied_cut clients f generation j r r' n n' count framed o o1 o2 two told pair copies looks passed result is =
     let P : Two File → Type 0 = CopiesSo clients f generation j r.file r' n' count (Err fault.DiskFault) in
@@ -215,10 +215,10 @@ copied_cut clients f generation j r r' n n' count framed o o1 o2 two told pair c
     }))
 
 -- a frame more was copied
-pub copied_one : CitedLaws → (clients : Meaning) (f : Facts) (generation : ℕ) (j : List (List Entry)) (r r' n n' : JournalValue) (count brought : ℕ) (to framed : List ℕ) (o o1 o2 : Outside) (two : Two File)
-    → o.files ≡ Some two → IsPair r n → Copies clients f generation j r n count two → Looks o o1
-    → ((t : Two File) → o1.files ≡ Some t → Passed t o1 o2 n.file (BeforeOrWith (file_of t n.file).now n.end framed))
-    → Becomes (Appends n.file n.end framed) o1.files o2.files → length f.held < 2 ^ 32 → NextFrame (file_of two r.file).now r r' to
+pub copied_one : MigrationLaws → (clients : Meaning) (f : Facts) (generation : ℕ) (j : List (List Entry)) (r r' n n' : JournalValue) (count brought : ℕ) (to framed : List ℕ) (o o1 o2 : Outside) (two : Two File)
+    → o.files ≡ Some two → IsPair r n → CopiesBatches clients f generation j r n count two → OnlyReads o o1
+    → ((t : Two File) → o1.files ≡ Some t → PassedMoments t o1 o2 n.file (BeforeOrWith (file_of t n.file).now n.end framed))
+    → RelatesTold (AppendsFrame n.file n.end framed) o1.files o2.files → length f.held < 2 ^ 32 → NextFrame (file_of two r.file).now r r' to
     → IsRespelled (take count (names_of f)) to framed brought → n'.end ≡ n.end + length framed → n'.file ≡ n.file
     → CopiesNext clients f generation j r.file r' n' count o o2 (Ok (Some brought))
 copied_one laws clients f generation j r r' n n' count brought to framed o o1 o2 two told pair copies looks passed becomes few next respelled end_is file_is =
@@ -228,7 +228,7 @@ copied_one laws clients f generation j r r' n n' count brought to framed o o1 o2
     (λ mid at same. record {
       moments = written_still clients f generation j r n count o1 o2 two there pair copies framed (passed two there);
       ends = λ t end.
-          let new = becomes_told (Appends n.file n.end framed) o1.files o2.files two there becomes in
+          let new = becomes_told (AppendsFrame n.file n.end framed) o1.files o2.files two there becomes in
           let both : Some new.0 ≡ Some t = sym new.1 ∙ end in
           let one : new.0 ≡ t = cc in
           subst P one
@@ -238,8 +238,8 @@ copied_one laws clients f generation j r r' n n' count brought to framed o o1 o2
 
 -- ---- answers of the reader
 
-pub next_false : (bytes : List ℕ) (r r' : JournalValue) (to : List ℕ) (more : Bool) → more ≡ false → IsNext bytes r r' to (Ok more) → (frame_at bytes (r.end - 1) ≡ closed) × (r' ≡ r)
-next_false bytes r r' to more is next = let P : Bool → Type 0 = λ b. IsNext bytes r r' to (Ok b) in subst P is next
+pub next_false : (bytes : List ℕ) (r r' : JournalValue) (to : List ℕ) (more : Bool) → more ≡ false → IsNextFrame bytes r r' to (Ok more) → (frame_at bytes (r.end - 1) ≡ closed) × (r' ≡ r)
+next_false bytes r r' to more is next = let P : Bool → Type 0 = λ b. IsNextFrame bytes r r' to (Ok b) in subst P is next
 
-pub next_true : (bytes : List ℕ) (r r' : JournalValue) (to : List ℕ) (more : Bool) → more ≡ true → IsNext bytes r r' to (Ok more) → NextFrame bytes r r' to
-next_true bytes r r' to more is next = let P : Bool → Type 0 = λ b. IsNext bytes r r' to (Ok b) in subst P is next
+pub next_true : (bytes : List ℕ) (r r' : JournalValue) (to : List ℕ) (more : Bool) → more ≡ true → IsNextFrame bytes r r' to (Ok more) → NextFrame bytes r r' to
+next_true bytes r r' to more is next = let P : Bool → Type 0 = λ b. IsNextFrame bytes r r' to (Ok b) in subst P is next

@@ -3,19 +3,19 @@ use Rattle.std.proofs.Common.{◌≡◌, ℕ, ◌-◌, ◌<◌, false, List, Som
 use Rattle.outside.specs.Files.{Two, File, IsFileImage, file_of, read_files}
 use Rattle.outside.specs.Frames.{is_open}
 use Rattle.outside.specs.Links.{Links, sent_of}
-use Rattle.outside.specs.Outside.{DiskRun, IsNow, Looks, Moment, MomentsAre, Outside}
-use Rattle.outside.specs.Steps.{FileMoment, Passed, other_of}
+use Rattle.outside.specs.Outside.{DiskRun, IsNow, OnlyReads, Moment, MomentsAre, Outside}
+use Rattle.outside.specs.Steps.{FileMoment, PassedMoments, other_of}
 use Rattle.outside.proofs.CallSteps.{moments_map, moments_then, told_on}
 use Rattle.frame_journal.specs.Create.{BeforeOrShut}
 use Rattle.sync_rules.specs.declared.entries.Entry.{Entry}
 use Rattle.sync_rules.specs.Clients.{Meaning}
 use Rattle.entry_codec.specs.Standing.{stands}
-use Rattle.journal_migration.specs.Migrating.{HoldsFirst, Keeps, StandsStill}
+use Rattle.journal_migration.specs.Migrating.{HoldsFirst, KeepsJournal, StandsStill}
 use Rattle.journal_migration.proofs.Sides.{image_only, own_file, read_file, settled_one, shut_stands, two_same}
 
 -- one run behind another
-pub keeps_then : (clients : Meaning) (j : List (List Entry)) (P Q : Two File → Type 0) (o0 o1 o2 : Outside) (two : Two File) → o0.files ≡ Some two → DiskRun o0 o1 → Keeps clients j P o0 o1
-    → ((mid : Two File) → o1.files ≡ Some mid → P mid → Keeps clients j Q o1 o2) → Keeps clients j Q o0 o2
+pub keeps_then : (clients : Meaning) (j : List (List Entry)) (P Q : Two File → Type 0) (o0 o1 o2 : Outside) (two : Two File) → o0.files ≡ Some two → DiskRun o0 o1 → KeepsJournal clients j P o0 o1
+    → ((mid : Two File) → o1.files ≡ Some mid → P mid → KeepsJournal clients j Q o1 o2) → KeepsJournal clients j Q o0 o2
 keeps_then clients j P Q o0 o1 o2 two told run first later =
     let mid = told_on o0 o1 two run.same_told told in
     let second = later mid.0 mid.1 (first.ends mid.0 mid.1) in
@@ -27,12 +27,12 @@ keeps_then clients j P Q o0 o1 o2 two told run first later =
       ends = second.ends;
     }
 
-pub keeps_map : (clients : Meaning) (j : List (List Entry)) (P Q : Two File → Type 0) (o o' : Outside) → ((two : Two File) → P two → Q two) → Keeps clients j P o o' → Keeps clients j Q o o'
+pub keeps_map : (clients : Meaning) (j : List (List Entry)) (P Q : Two File → Type 0) (o o' : Outside) → ((two : Two File) → P two → Q two) → KeepsJournal clients j P o o' → KeepsJournal clients j Q o o'
 keeps_map clients j P Q o o' by keeps = record { moments = keeps.moments; ends = λ two told. by two (keeps.ends two told) }
 
 -- calls that only read
 pub keeps_looks : (clients : Meaning) (j : List (List Entry)) (own generation : ℕ) (o o' : Outside) (two : Two File) → own < 2 → HoldsFirst clients own generation j two → o.files ≡ Some two
-    → Looks o o' → Keeps clients j (λ t. t ≡ two) o o'
+    → OnlyReads o o' → KeepsJournal clients j (λ t. t ≡ two) o o'
 keeps_looks clients j own generation o o' two few holds told looks = record {
   moments =
       moments_map o o' (IsNow two o.links) (StandsStill clients j (sent_of o.links.told))
@@ -74,7 +74,7 @@ same_still clients j own generation two few holds Q sent m moment same =
 
 -- the other file is cleared and prepared
 pub begun_still : (clients : Meaning) (j : List (List Entry)) (own generation : ℕ) (two : Two File) (o o' : Outside) → own < 2 → HoldsFirst clients own generation j two
-    → Passed two o o' (1 - own) (BeforeOrShut (file_of two (1 - own)).now) → MomentsAre o o' (StandsStill clients j (sent_of o.links.told))
+    → PassedMoments two o o' (1 - own) (BeforeOrShut (file_of two (1 - own)).now) → MomentsAre o o' (StandsStill clients j (sent_of o.links.told))
 begun_still clients j own generation two o o' few holds passed =
     let Q : List ℕ → Type 0 = BeforeOrShut (file_of two (1 - own)).now in
     let sent = sent_of o.links.told in

@@ -10,9 +10,9 @@ use Rattle.outside.specs.Files.{Two, File, NothingPending, file_of, read_files, 
 use Rattle.outside.specs.Frames.{HasFrames, format_in, frame_of, generation_in, is_open, journal_file}
 use Rattle.outside.specs.Links.{sent_of}
 use Rattle.outside.specs.Outside.{MomentsAre, Outside}
-use Rattle.outside.specs.Steps.{FileMoment, Passed, other_of}
+use Rattle.outside.specs.Steps.{FileMoment, PassedMoments, other_of}
 use Rattle.outside.proofs.CallSteps.{moments_map}
-use Rattle.frame_journal.specs.Create.{Publishes, ShutOrOpened, opened}
+use Rattle.frame_journal.specs.Create.{PublishesHeader, ShutOrOpened, opened}
 use Rattle.frame_journal.specs.Journal.{JournalValue}
 use Rattle.sync_rules.specs.declared.entries.Entry.{Entry}
 use Rattle.sync_rules.specs.Clients.{Meaning}
@@ -26,7 +26,7 @@ use Rattle.entry_codec.specs.StandingLaws.{HoldsJournal}
 use Rattle.entry_codec.specs.Spelling.{IsEntry}
 use Rattle.entry_codec.proofs.FormatKinds.{short_journal}
 use Rattle.entry_codec.proofs.FrontLaws.{found_open}
-use Rattle.journal_migration.specs.Cited.{CitedLaws}
+use Rattle.journal_migration.specs.Cited.{MigrationLaws}
 use Rattle.journal_migration.specs.Copying.{CopiesWhole, IsPair, marked}
 use Rattle.journal_migration.specs.Migrating.{HoldsSecond, StandsStill}
 use Rattle.journal_migration.proofs.Fronts.{gate_whole}
@@ -78,7 +78,7 @@ greater_found m (suc (suc n)) g few this other old new = absurd (omega (arith, f
 
 -- ---- what the files then hold
 
-module _ (laws : CitedLaws) (clients : Meaning) (generation : ℕ) (j : List (List Entry)) (r n : JournalValue) (two : Two File) (pair : IsPair r n) (few : generation + 1 < 2 ^ 64)
+module _ (laws : MigrationLaws) (clients : Meaning) (generation : ℕ) (j : List (List Entry)) (r n : JournalValue) (two : Two File) (pair : IsPair r n) (few : generation + 1 < 2 ^ 64)
     (whole : CopiesWhole clients generation j r n two) where
   all_there : (whole.copies.done ≡ j) × (r.end + room_of kind.Whole (facts whole.copies.done) ≤ MAX_JOURNAL)
   all_there =
@@ -116,11 +116,11 @@ module _ (laws : CitedLaws) (clients : Meaning) (generation : ℕ) (j : List (Li
       }
 
   -- at each moment of the opening the files stand for the journal
-  pub opening_still : (o o' : Outside) → Passed two o o' n.file (ShutOrOpened (file_of two n.file).now) → MomentsAre o o' (StandsStill clients j (sent_of o.links.told))
+  pub opening_still : (o o' : Outside) → PassedMoments two o o' n.file (ShutOrOpened (file_of two n.file).now) → MomentsAre o o' (StandsStill clients j (sent_of o.links.told))
   opening_still o o' passed =
       let Q : List ℕ → Type 0 = ShutOrOpened (file_of two n.file).now in
       let sent = sent_of o.links.told in
-      let there : Passed two o o' (1 - r.file) Q = subst (λ (t : ℕ). Passed two o o' t Q) pair.writes passed in
+      let there : PassedMoments two o o' (1 - r.file) Q = subst (λ (t : ℕ). PassedMoments two o o' t Q) pair.writes passed in
       moments_map o o' (FileMoment Q two sent (1 - r.file)) (StandsStill clients j sent)
       (λ m moment. elim moment.this [
         | inl shut ↦ shut_still clients j r.file generation two pair.reads whole.copies.holds Q sent m moment shut
@@ -133,7 +133,7 @@ module _ (laws : CitedLaws) (clients : Meaning) (generation : ℕ) (j : List (Li
       ]) there
 
   -- and then they hold it in the other file
-  pub second_so : (two' : Two File) → Publishes n.file two two' → n.generation ≡ generation + 1 → HoldsSecond clients n j two'
+  pub second_so : (two' : Two File) → PublishesHeader n.file two two' → n.generation ≡ generation + 1 → HoldsSecond clients n j two'
   second_so two' publishes second =
       let before = (file_of two n.file).now in
       let other : other_of two' (1 - r.file) ≡ other_of two (1 - r.file) = subst (λ (t : ℕ). other_of two' t ≡ other_of two t) pair.writes publishes.other in

@@ -2,7 +2,7 @@
 use Rattle.sync_rules.specs.Allows.{AllowsIsAllowed}
 use Rattle.entry_codec.specs.StandingLaws.{JournalsStand, LegalHasNames}
 
-pub record CitedLaws : Type 0 where
+pub record MigrationLaws : Type 0 where
   pub stand : JournalsStand
   pub names : LegalHasNames
   pub decided : AllowsIsAllowed

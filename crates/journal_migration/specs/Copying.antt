@@ -16,7 +16,7 @@ use Rattle.entry_codec.specs.declared.naming.Format.TheVariants as kind
 use Rattle.entry_codec.specs.Fronts.{Front}
 use Rattle.entry_codec.specs.Payloads.{batch_in, journal_end, payloads, spellings}
 use Rattle.entry_codec.specs.Spelling.{IsEntry}
-use Rattle.journal_migration.specs.Migrating.{HoldsFirst, Keeps, other_number}
+use Rattle.journal_migration.specs.Migrating.{HoldsFirst, KeepsJournal, other_number}
 use Rattle.journal_migration.specs.declared.fault.MigrationFault.{MigrationFault}
 use Rattle.journal_migration.specs.declared.fault.MigrationFault.TheVariants as fault
 
@@ -83,7 +83,7 @@ pub record IsShut (bytes : List ℕ) (end : ℕ) : Type 0 where
   pub end_is : end ≡ end_of payloads
 
 -- nothing is pending in either file, the reader knows the length of its own, and the writer's is shut at its end
-pub record Works (r n : JournalValue) (two : Two File) : Type 0 where
+pub record AreBothShut (r n : JournalValue) (two : Two File) : Type 0 where
   pub first_settled : NothingPending two 0
   pub second_settled : NothingPending two 1
   pub long : length (file_of two r.file).now ≡ r.len
@@ -97,7 +97,7 @@ marked generation = 66 ∷ 83 ∷ 80 ∷ 74 ∷ 2 ∷ to_be_bytes w64 generation
 -- The files hold a journal of format 1 in the reader's file, and these facts are the journal's. The reader has come to the gate
 -- behind some batches of it, a front; they stand in the writer's file in format 2, behind a closed gate and what else a header
 -- has. So many messages are held behind them.
-pub record Copies (clients : Meaning) (f : Facts) (generation : ℕ) (j : List (List Entry)) (r n : JournalValue) (count : ℕ) (two : Two File) : Type 0 where
+pub record CopiesBatches (clients : Meaning) (f : Facts) (generation : ℕ) (j : List (List Entry)) (r n : JournalValue) (count : ℕ) (two : Two File) : Type 0 where
   pub holds : HoldsFirst clients r.file generation j two
   pub facts_are : facts j ≡ f
   pub done : List (List Entry)
@@ -111,21 +111,21 @@ pub record Copies (clients : Meaning) (f : Facts) (generation : ℕ) (j : List (
   pub counted : count ≡ length (facts done).held
 
 -- the reader is at the closed gate behind all frames
-abbrev pub IsAtEnd : JournalValue → Two File → Type 0
-IsAtEnd r two = frame_at (file_of (read_files two) r.file) (r.end - 1) ≡ closed
+abbrev pub IsAtLastGate : JournalValue → Two File → Type 0
+IsAtLastGate r two = frame_at (file_of (read_files two) r.file) (r.end - 1) ≡ closed
 
 -- ---- a frame copied
 
 abbrev pub CopiesSo : Meaning → Facts → (generation : ℕ) → List (List Entry) → (file : ℕ) → (r n : JournalValue) → (count : ℕ) → Result (Option ℕ) MigrationFault → Two File → Type 0
-CopiesSo clients f generation j file r n count (Ok (Some brought)) two = Copies clients f generation j r n (counted_to (count + brought)) two
-CopiesSo clients f generation j file r n count (Ok None) two = Copies clients f generation j r n count two × IsAtEnd r two
+CopiesSo clients f generation j file r n count (Ok (Some brought)) two = CopiesBatches clients f generation j r n (counted_to (count + brought)) two
+CopiesSo clients f generation j file r n count (Ok None) two = CopiesBatches clients f generation j r n count two × IsAtLastGate r two
 CopiesSo clients f generation j file r n count (Err fault.Memory) two = HoldsFirst clients file generation j two
 CopiesSo clients f generation j file r n count (Err fault.DiskFault) two = Unit {0}
 
 -- at each moment the files stand for the journal, and at the end a frame more is copied, or there is none
 abbrev pub CopiesNext : Meaning → Facts → (generation : ℕ) → List (List Entry) → (file : ℕ) → (r n : JournalValue) → (count : ℕ) → (old new : Outside) → Result (Option ℕ) MigrationFault
     → Type 0
-CopiesNext clients f generation j file r n count old new result = Keeps clients j (CopiesSo clients f generation j file r n count result) old new
+CopiesNext clients f generation j file r n count old new result = KeepsJournal clients j (CopiesSo clients f generation j file r n count result) old new
 
 -- ---- all frames
 
@@ -133,8 +133,8 @@ CopiesNext clients f generation j file r n count old new result = Keeps clients 
 pub record CopiesWhole (clients : Meaning) (generation : ℕ) (j : List (List Entry)) (r n : JournalValue) (two : Two File) : Type 0 where
   pub f : Facts
   pub count : ℕ
-  pub copies : Copies clients f generation j r n count two
-  pub at_end : IsAtEnd r two
+  pub copies : CopiesBatches clients f generation j r n count two
+  pub at_end : IsAtLastGate r two
 
 abbrev pub CopiesAllSo : Meaning → (generation : ℕ) → List (List Entry) → (file : ℕ) → (r n : JournalValue) → Result (Unit {0}) MigrationFault → Two File → Type 0
 CopiesAllSo clients generation j file r n (Ok u) two = CopiesWhole clients generation j r n two
@@ -142,4 +142,4 @@ CopiesAllSo clients generation j file r n (Err fault.Memory) two = HoldsFirst cl
 CopiesAllSo clients generation j file r n (Err fault.DiskFault) two = Unit {0}
 
 abbrev pub CopiesAll : Meaning → (generation : ℕ) → List (List Entry) → (file : ℕ) → (r n : JournalValue) → (old new : Outside) → Result (Unit {0}) MigrationFault → Type 0
-CopiesAll clients generation j file r n old new result = Keeps clients j (CopiesAllSo clients generation j file r n result) old new
+CopiesAll clients generation j file r n old new result = KeepsJournal clients j (CopiesAllSo clients generation j file r n result) old new

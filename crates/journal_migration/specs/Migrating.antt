@@ -5,7 +5,7 @@ use Rattle.outside.specs.declared.limits.TheConstants.{MAX_JOURNAL}
 use Rattle.outside.specs.Files.{Two, File, NothingPending, file_of, read_files}
 use Rattle.outside.specs.Frames.{HasFrames, format_in, generation_in, journal_file}
 use Rattle.outside.specs.Links.{sent_of}
-use Rattle.outside.specs.Disk.{Becomes}
+use Rattle.outside.specs.Disk.{RelatesTold}
 use Rattle.outside.specs.Outside.{Moment, MomentsAre, Outside}
 use Rattle.frame_journal.specs.Journal.{JournalValue}
 use Rattle.sync_rules.specs.declared.entries.Entry.{Entry}
@@ -54,19 +54,19 @@ pub record StandsStill (clients : Meaning) (j : List (List Entry)) (sent : List 
   pub nothing_sent : m.sent ≡ sent
 
 -- at each moment the files stand for the journal, and at the end they are so
-pub record Keeps (clients : Meaning) (j : List (List Entry)) (P : Two File → Type 0) (old new : Outside) : Type 0 where
+pub record KeepsJournal (clients : Meaning) (j : List (List Entry)) (P : Two File → Type 0) (old new : Outside) : Type 0 where
   pub moments : MomentsAre old new (StandsStill clients j (sent_of old.links.told))
   pub ends : (two : Two File) → new.files ≡ Some two → P two
 
 -- what the files hold at the end, by the answer
-abbrev pub MigratesSo : Meaning → (file generation : ℕ) → List (List Entry) → Result JournalValue MigrationFault → Two File → Type 0
-MigratesSo clients file generation j (Ok n) two = HoldsSecond clients n j two
-MigratesSo clients file generation j (Err fault.Memory) two = HoldsFirst clients file generation j two
-MigratesSo clients file generation j (Err fault.DiskFault) two = Unit {0}
+abbrev pub FilesHoldMigrated : Meaning → (file generation : ℕ) → List (List Entry) → Result JournalValue MigrationFault → Two File → Type 0
+FilesHoldMigrated clients file generation j (Ok n) two = HoldsSecond clients n j two
+FilesHoldMigrated clients file generation j (Err fault.Memory) two = HoldsFirst clients file generation j two
+FilesHoldMigrated clients file generation j (Err fault.DiskFault) two = Unit {0}
 
 -- at each moment the files stand for the journal, and at the end they hold it in the format that the answer says
-abbrev pub Migrates : Meaning → (file generation : ℕ) → List (List Entry) → (old new : Outside) → Result JournalValue MigrationFault → Type 0
-Migrates clients file generation j old new result = Keeps clients j (MigratesSo clients file generation j result) old new
+abbrev pub MigratesJournal : Meaning → (file generation : ℕ) → List (List Entry) → (old new : Outside) → Result JournalValue MigrationFault → Type 0
+MigratesJournal clients file generation j old new result = KeepsJournal clients j (FilesHoldMigrated clients file generation j result) old new
 
 -- this file is as before
 abbrev pub KeepsFile : (file : ℕ) → Two File → Two File → Type 0
@@ -74,12 +74,12 @@ KeepsFile file old new = file_of new file ≡ file_of old file
 
 -- This file is only read. Where a call on the disk failed this is not said.
 abbrev pub ReadsOnly : {A : Type 0} → (file : ℕ) → (old new : Option (Two File)) → Result A MigrationFault → Type 0
-ReadsOnly file old new (Ok a) = Becomes (KeepsFile file) old new
-ReadsOnly file old new (Err fault.Memory) = Becomes (KeepsFile file) old new
+ReadsOnly file old new (Ok a) = RelatesTold (KeepsFile file) old new
+ReadsOnly file old new (Err fault.Memory) = RelatesTold (KeepsFile file) old new
 ReadsOnly file old new (Err fault.DiskFault) = Unit {0}
 
 -- a journal in the other file, in format 2 and with the next generation, that ends no later
-pub record IsNext (file generation end : ℕ) (n : JournalValue) : Type 0 where
+pub record IsNextJournal (file generation end : ℕ) (n : JournalValue) : Type 0 where
   pub file_is : n.file ≡ other_number file
   pub format_is : n.format ≡ 2
   pub generation_is : n.generation ≡ generation + 1

@@ -2,7 +2,7 @@
 use Rattle.std.specs.Prelude.{◌≡◌, ℕ, Some}
 use Rattle.outside.specs.Files.{Two, File, NothingPending, file_of}
 use Rattle.outside.specs.Outside.{Outside}
-use Rattle.outside.specs.Steps.{Passed}
+use Rattle.outside.specs.Steps.{PassedMoments}
 use Rattle.frame_journal.specs.Create.{BeforeOrShut}
 
 -- nothing is pending in either file
@@ -12,4 +12,4 @@ pub record IsSettledBoth (two : Two File) : Type 0 where
 
 -- at each moment the file is as it was, or has no open header
 abbrev pub EndsOrStays : (file : ℕ) → Outside → Outside → Type 0
-EndsOrStays file old new = (two : Two File) → old.files ≡ Some two → Passed two old new file (BeforeOrShut (file_of two file).now)
+EndsOrStays file old new = (two : Two File) → old.files ≡ Some two → PassedMoments two old new file (BeforeOrShut (file_of two file).now)

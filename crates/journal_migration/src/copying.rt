@@ -2,13 +2,13 @@
 ghost use Rattle.std.specs.Prelude.{◌≡◌, ◌<◌, ◌≤◌, ◌+◌, IfOk, IsErrOf, OnOk, Some, List, ℕ, true};
 ghost use Rattle.std.specs.Prelude.{OnErr};
 ghost use Rattle.std.specs.Option.{ForSome};
-ghost use Rattle.outside.specs.Faults.{Rose};
+ghost use Rattle.outside.specs.Faults.{CountRose};
 ghost use Rattle.outside.specs.Files.{Two, File};
 ghost use Rattle.outside.specs.Outside.{DiskRun};
 ghost use Rattle.sync_rules.specs.declared.entries.Entry.{Entry};
 ghost use Rattle.sync_rules.specs.Clients.{Meaning};
-ghost use Rattle.journal_migration.specs.Copying.{Copies, CopiesAll, CopiesNext, IsFurther};
-ghost use Rattle.journal_migration.specs.Copying.{IsPair, IsSamePair, Works};
+ghost use Rattle.journal_migration.specs.Copying.{CopiesBatches, CopiesAll, CopiesNext, IsFurther};
+ghost use Rattle.journal_migration.specs.Copying.{IsPair, IsSamePair, AreBothShut};
 ghost use Rattle.journal_migration.specs.Migrating.{ReadsOnly};
 
 use crate::MigrationFault;
@@ -31,21 +31,21 @@ fn copy_next<D: Disk>(
     payload: &mut Vec<u8>,
 ) -> Result<Option<u32>, MigrationFault>
     requires pair { IsPair reader.old writer.old }
-    requires works { ForSome (D.tells disk.old).files (Works reader.old writer.old) }
+    requires works { ForSome (D.tells disk.old).files (AreBothShut reader.old writer.old) }
     ensures pair { OnOk result (IsPair reader.new writer.new) }
-    ensures works { OnOk result (ForSome (D.tells disk.new).files (Works reader.new writer.new)) }
+    ensures works { OnOk result (ForSome (D.tells disk.new).files (AreBothShut reader.new writer.new)) }
     ensures on { IfOk result (λ some. IsFurther some reader.old reader.new) }
     ensures same { OnOk result (IsSamePair reader.old reader.new writer.old writer.new) }
     ensures copies { (clients : Meaning) (generation : ℕ) (j : List (List Entry)) (two : Two File)
         → (D.tells disk.old).files ≡ Some two
-        → Copies clients state.now.facts generation j reader.old writer.old count two
+        → CopiesBatches clients state.now.facts generation j reader.old writer.old count two
         → CopiesNext clients state.now.facts generation j reader.old.file reader.new writer.new count
         (D.tells disk.old) (D.tells disk.new) result }
     ensures own { ReadsOnly reader.old.file (D.tells disk.old).files (D.tells disk.new).files
         result }
     ensures run { DiskRun (D.tells disk.old) (D.tells disk.new) }
     ensures fault { IsErrOf result MigrationFault.DiskFault
-        → Rose (D.tells disk.old).disk_faults (D.tells disk.new).disk_faults }
+        → CountRose (D.tells disk.old).disk_faults (D.tells disk.new).disk_faults }
 {
     cite_laws();
     state.show_sound();
@@ -67,20 +67,20 @@ pub(crate) fn copy_all<D: Disk>(
     writer: &mut Journal,
 ) -> Result<(), MigrationFault>
     requires pair { IsPair reader.old writer.old }
-    requires works { ForSome (D.tells disk.old).files (Works reader.old writer.old) }
+    requires works { ForSome (D.tells disk.old).files (AreBothShut reader.old writer.old) }
     ensures pair { OnOk result (IsPair reader.new writer.new) }
     ensures same { OnOk result (IsSamePair reader.old reader.new writer.old writer.new) }
-    ensures works { OnOk result (ForSome (D.tells disk.new).files (Works reader.new writer.new)) }
+    ensures works { OnOk result (ForSome (D.tells disk.new).files (AreBothShut reader.new writer.new)) }
     ensures copies { (clients : Meaning) (generation : ℕ) (j : List (List Entry)) (two : Two File)
         → (D.tells disk.old).files ≡ Some two
-        → Copies clients state.now.facts generation j reader.old writer.old 0 two
+        → CopiesBatches clients state.now.facts generation j reader.old writer.old 0 two
         → CopiesAll clients generation j reader.old.file reader.new writer.new
         (D.tells disk.old) (D.tells disk.new) result }
     ensures own { ReadsOnly reader.old.file (D.tells disk.old).files (D.tells disk.new).files
         result }
     ensures run { DiskRun (D.tells disk.old) (D.tells disk.new) }
     ensures fault { IsErrOf result MigrationFault.DiskFault
-        → Rose (D.tells disk.old).disk_faults (D.tells disk.new).disk_faults }
+        → CountRose (D.tells disk.old).disk_faults (D.tells disk.new).disk_faults }
 {
     let mut payload = Vec::new(alloc);
     let mut count = 0u32;

@@ -1,16 +1,16 @@
 //! The other file prepared, the frames copied, and the copy published.
 ghost use Rattle.std.specs.Prelude.{◌≡◌, ◌-◌, ◌^◌, ◌<◌, ◌≤◌, IfOk, IsErrOf, OnOk, Some, List, ℕ};
 ghost use Rattle.std.specs.Option.{ForSome};
-ghost use Rattle.outside.specs.Faults.{HasCause, Rose};
+ghost use Rattle.outside.specs.Faults.{HasCause, CountRose};
 ghost use Rattle.outside.specs.Files.{Two, File};
 ghost use Rattle.outside.specs.Outside.{DiskRun};
-ghost use Rattle.outside.specs.Disk.{Becomes};
-ghost use Rattle.frame_journal.specs.Create.{Prepares};
+ghost use Rattle.outside.specs.Disk.{RelatesTold};
+ghost use Rattle.frame_journal.specs.Create.{PreparesJournal};
 ghost use Rattle.frame_journal.specs.Journal.{fresh};
 ghost use Rattle.sync_rules.specs.declared.entries.Entry.{Entry};
 ghost use Rattle.sync_rules.specs.Clients.{Meaning};
 ghost use Rattle.sync_rules.specs.Facts.{facts};
-ghost use Rattle.journal_migration.specs.Migrating.{HoldsFirst, IsNext, Migrates};
+ghost use Rattle.journal_migration.specs.Migrating.{HoldsFirst, IsNextJournal, MigratesJournal};
 ghost use Rattle.journal_migration.specs.Migrating.{ReadsOnly};
 ghost use Rattle.journal_migration.specs.Starting.{EndsOrStays, IsSettledBoth};
 
@@ -42,15 +42,15 @@ pub fn migrate<D: Disk>(
     requires file { file < 2 }
     requires generation { generation < 2 ^ 64 - 1 }
     requires settled { ForSome (D.tells disk.old).files IsSettledBoth }
-    ensures next { IfOk result (λ n. IsNext file generation end n) }
+    ensures next { IfOk result (λ n. IsNextJournal file generation end n) }
     ensures migrates { (clients : Meaning) (j : List (List Entry)) (two : Two File)
         → (D.tells disk.old).files ≡ Some two → facts j ≡ state.now.facts
         → HoldsFirst clients file generation j two
-        → Migrates clients file generation j (D.tells disk.old) (D.tells disk.new) result }
+        → MigratesJournal clients file generation j (D.tells disk.old) (D.tells disk.new) result }
     ensures own { ReadsOnly file (D.tells disk.old).files (D.tells disk.new).files result }
     ensures run { DiskRun (D.tells disk.old) (D.tells disk.new) }
     ensures fault { IsErrOf result MigrationFault.DiskFault
-        → Rose (D.tells disk.old).disk_faults (D.tells disk.new).disk_faults }
+        → CountRose (D.tells disk.old).disk_faults (D.tells disk.new).disk_faults }
 {
     cite_laws();
     let mut reader = Journal::start(disk)?;
@@ -73,7 +73,7 @@ pub fn begin<D: Disk>(disk: &mut D, file: u8, generation: u64) -> Result<Journal
     requires file { file < 2 }
     requires settled { ForSome (D.tells disk.old).files IsSettledBoth }
     ensures value { IfOk result (λ n. n ≡ fresh file 2 generation) }
-    ensures prepared { OnOk result (Becomes (Prepares file 2 generation) (D.tells disk.old).files
+    ensures prepared { OnOk result (RelatesTold (PreparesJournal file 2 generation) (D.tells disk.old).files
         (D.tells disk.new).files) }
     ensures moments { EndsOrStays file (D.tells disk.old) (D.tells disk.new) }
     ensures run { DiskRun (D.tells disk.old) (D.tells disk.new) }

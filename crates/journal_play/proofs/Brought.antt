@@ -11,11 +11,11 @@ use Rattle.sync_rules.specs.Lists.{same_id, firsts}
 use Rattle.sync_rules.specs.Facts.{Facts, Held, Id, after, after_all, after_batches, facts, nothing, known_of, arrived, contact_of, held_at, is_invisible, level_at, wanted_from}
 use Rattle.sync_rules.specs.Sessions.{taken, taken_message_of, one_if}
 use Rattle.sync_rules.specs.Legal.{IsSettling, AllSettling}
-use Rattle.sync_rules.specs.Hearing.{Hears, take_batch, one_session}
+use Rattle.sync_rules.specs.Hearing.{HearsRecord, take_batch, one_session}
 use Rattle.sync_rules.proofs.StepLaws.{IsSettlingEntry, next_is_settling}
 use Rattle.sync_rules.proofs.Settling.{after_batches-append}
 use Rattle.sync_rules.proofs.WorkLaws.{facts-push}
-use Rattle.journal_play.specs.Playing.{Plays}
+use Rattle.journal_play.specs.Playing.{PlaysRecords}
 use Rattle.journal_play.specs.Fates.{is_brought, with_record, with_records}
 use Rattle.journal_play.proofs.Takes.{Alike, AllQuiet, alike_then, alike_all, quiet_if, quiet_acks, quiet_requests, quiet_offers, map_push, contact_is, welcome_by}
 use Rattle.sync_rules.specs.declared.limits.TheConstants.{MAX_WANTED}
@@ -113,7 +113,7 @@ all_settling_brings clients def messages f (x ∷ bs) s b =
 -- ---- a journal that takes records
 
 hears_brings : (clients : Meaning) (def : GroupValue) (messages : List MessageValue) (old : List (List Entry)) (k : ℕ) (r : Record) (new : List (List Entry))
-    → Hears clients old 0 k r new → Brings def messages (facts old) → Brings def (with_record (group_id_of def) messages r) (facts new)
+    → HearsRecord clients old 0 k r new → Brings def messages (facts old) → Brings def (with_record (group_id_of def) messages r) (facts new)
 hears_brings clients def messages old k r new is b =
     let group : Id = group_id_of def in
     let taking : List Entry = take_batch old 0 k r in
@@ -126,13 +126,13 @@ hears_brings clients def messages old k r new is b =
     (all_settling_brings clients def (with_record group messages r) (after_all (facts old) taking) more settling (record_brings def messages k (facts old) b r))
 
 plays_brings_more : (clients : Meaning) (def : GroupValue) (messages : List MessageValue) (j : List (List Entry)) (k : ℕ) (records : List Record) (later : List (List Entry))
-    → Plays clients j k records later → Brings def messages (facts j) → Brings def (with_records (group_id_of def) messages records) (facts later)
+    → PlaysRecords clients j k records later → Brings def messages (facts j) → Brings def (with_records (group_id_of def) messages records) (facts later)
 plays_brings_more clients def messages j k [] later p b = subst (λ (x : List (List Entry)). Brings def messages (facts x)) p b
 plays_brings_more clients def messages j k (r ∷ records) later p b =
     plays_brings_more clients def (with_record (group_id_of def) messages r) p.0 (k + 1) records later p.3 (hears_brings clients def messages j k r p.0 p.2 b)
 
 -- the messages that records brought to a journal of one session are what it holds
 pub plays_brings : (clients : Meaning) (def : GroupValue) (records : List Record) (later : List (List Entry))
-    → Plays clients (one_session def) 0 records later → Brings def (with_records (group_id_of def) [] records) (facts later)
+    → PlaysRecords clients (one_session def) 0 records later → Brings def (with_records (group_id_of def) [] records) (facts later)
 plays_brings clients def records later p =
     plays_brings_more clients def [] (one_session def) 0 records later p (record { groups = refl; levels = refl; sessions = refl; held = refl })

@@ -21,9 +21,9 @@ use Rattle.sync_rules.specs.Steps.{verdict_in, is_ended, fate, IsSettled, kind_o
 use Rattle.sync_rules.specs.Sessions.{taken, taken_message, taken_message_of, is_welcome, one_if}
 use Rattle.sync_rules.specs.Legal.{Legal, IsSettling, AllSettling}
 use Rattle.sync_rules.specs.Rounds.{Graph, good, bad, graph_of}
-use Rattle.sync_rules.specs.Laws.{Decides}
+use Rattle.sync_rules.specs.Laws.{DecidesStates}
 use Rattle.sync_rules.specs.EntryTests.{delivers, invalidates, ends}
-use Rattle.sync_rules.specs.Hearing.{Hears, IsHearing, take_batch, one_session}
+use Rattle.sync_rules.specs.Hearing.{HearsRecord, IsHearing, take_batch, one_session}
 use Rattle.sync_rules.proofs.Elements.{In-push_cases, same_id_itself, tally, tally-is}
 use Rattle.sync_rules.proofs.StepLaws.{IsSettlingEntry, next_is_settling}
 use Rattle.sync_rules.proofs.RoundLaws.{disjoint, Grows, good_grows, bad_grows}
@@ -35,7 +35,7 @@ use Rattle.sync_rules.proofs.Settling.{settled_law, goes_on_both, after_batches-
 use Rattle.sync_rules.proofs.WorkLaws.{facts-push, settles_legal}
 use Rattle.sync_rules.proofs.HearLaws.{one_session_hears, Stays, stays_all, stays_batches}
 use Rattle.journal_play.specs.Texts.{told, unended, text_of}
-use Rattle.journal_play.specs.Playing.{Plays, IsTextOf}
+use Rattle.journal_play.specs.Playing.{PlaysRecords, IsTextOf}
 use Rattle.journal_play.specs.Fates.{is_brought, with_record, with_records, brought, graph_with, is_good, is_bad, is_decided, state_of, state_line, SaysFates}
 use Rattle.journal_play.proofs.Steps.{delivered_held, bad_held, good_held, invalid_held, no_two, of_group, verdict_of}
 use Rattle.journal_play.proofs.Texts.{text-append}
@@ -88,7 +88,7 @@ taken_takes f g (record_kind.Versions versions) = refl
 taken_takes f g (record_kind.Priority nonce) = refl
 
 hears_on : (clients : Meaning) (old : List (List Entry)) (k : ℕ) (r : Record) (new : List (List Entry)) → IsHearing clients old 0 0 k → IsRecord r
-    → Hears clients old 0 k r new → IsHearing clients new 0 0 (k + 1)
+    → HearsRecord clients old 0 k r new → IsHearing clients new 0 0 (k + 1)
 hears_on clients old k r new h within is =
     let f : Facts = facts old in
     let taking : List Entry = take_batch old 0 k r in
@@ -125,7 +125,7 @@ record IsSound (clients : Meaning) (j : List (List Entry)) : Type 0 where
   pub settled : IsSettled clients (facts j)
 
 plays_on : (clients : Meaning) (j : List (List Entry)) (k : ℕ) (records : List Record) (later : List (List Entry)) → IsHearing clients j 0 0 k
-    → Plays clients j k records later → IsSound clients later
+    → PlaysRecords clients j k records later → IsSound clients later
 plays_on clients j k [] later h p = subst (IsSound clients) p (record { legal = h.legal; settled = h.settled })
 plays_on clients j k (r ∷ records) later h p = plays_on clients p.0 (k + 1) records later (hears_on clients j k r p.0 h p.1 p.2) p.3
 
@@ -179,7 +179,7 @@ is_invalid_by false true j e = absurd (let x : Some fate_kind.Delivered ≡ Some
 is_invalid_by false false true e = absurd (let x : Some fate_kind.Pending ≡ Some fate_kind.Invalid = e in cc)
 is_invalid_by false false false e = absurd (let x : Some fate_kind.Unknown ≡ Some fate_kind.Invalid = e in cc)
 
-module _ (clients : Meaning) (f : Facts) (sound : SoundFacts clients f) (decides : Decides clients f) (id : Id) where
+module _ (clients : Meaning) (f : Facts) (sound : SoundFacts clients f) (decides : DecidesStates clients f) (id : Id) where
   n : ℕ
   n = length f.held
 
@@ -293,7 +293,7 @@ says clients kind def records text known is =
     let f : Facts = facts j in
     let s = plays_on clients (one_session def) 0 records j (one_session_hears clients def (ap is_some known)) is.plays in
     let sound : SoundFacts clients f = legal_sound clients j s.legal in
-    let decides : Decides clients f = settled_law clients j s.legal s.settled in
+    let decides : DecidesStates clients f = settled_law clients j s.legal s.settled in
     let messages : List MessageValue = brought (group_id_of def) records in
     let held : List Held = map (arrived 0) messages in
     let b : Brings def messages f = plays_brings clients def records j is.plays in

@@ -19,7 +19,7 @@ use Rattle.message_graph.specs.declared.nodes.Step.TheVariants as graph_step
 use Rattle.message_graph.specs.Nodes.{next, number_of, fate_of}
 use Rattle.journal_play.specs.declared.kept.Head.{Head}
 use Rattle.journal_play.specs.declared.kept.Fresh.{Fresh}
-use Rattle.journal_play.specs.Playing.{Played, Story, StandsFor, HasPlayed, IsTextOf, head_of, shown_of}
+use Rattle.journal_play.specs.Playing.{Played, Story, StoryStandsFor, HasPlayed, IsTextOf, head_of, shown_of}
 use Rattle.journal_play.specs.Keeping.{holding, taking, stepping, IsStepped, with_head, taking_in, fresh_in, IsFresh, ended_as, ShowsStep, ReachesShown, open_line, open_text, pending_line, pending_text}
 use Rattle.journal_play.proofs.Steps.{at_map, message_there, reaches_step, reaches_itself}
 use Rattle.journal_play.proofs.Takes.{map_push, take_stands, hears, begins, after_record}
@@ -89,7 +89,7 @@ delivered_shown_at clients just s n old new is ended =
 
 -- ---- settling
 
-pub shown_itself : (clients : Meaning) (def : GroupValue) (k : ℕ) (j : List (List Entry)) (story : Story) (play : Played) → shown_of story ≡ play → StandsFor clients def k j story
+pub shown_itself : (clients : Meaning) (def : GroupValue) (k : ℕ) (j : List (List Entry)) (story : Story) (play : Played) → shown_of story ≡ play → StoryStandsFor clients def k j story
     → ReachesShown clients def k j story play
 shown_itself clients def k j story play shows s = record { story = story; reaches = reaches_itself clients def k j story s; shows = shows; same = refl }
 
@@ -131,7 +131,7 @@ begins_shown clients def kind group heads nodes text g h n t known = record {
 
 pub hears_shown : (clients : Meaning) (def : GroupValue) (records : List Record) (old mid now : Played) (r : Record) (just : Option Fresh) → HasPlayed clients def records old → IsRecord r
     → mid ≡ taking_in old r → just ≡ fresh_in old r
-    → ((story : Story) (d : GroupValue) (k : ℕ) (j : List (List Entry)) → shown_of story ≡ mid → IsFresh just story → StandsFor clients d k j story → ReachesShown clients d k j story now)
+    → ((story : Story) (d : GroupValue) (k : ℕ) (j : List (List Entry)) → shown_of story ≡ mid → IsFresh just story → StoryStandsFor clients d k j story → ReachesShown clients d k j story now)
     → next now.nodes ≡ None → HasPlayed clients def (records ++ r ∷ []) now
 hears_shown clients def records old mid now r just p within taken is_just reaches none =
     let k : ℕ = length records in
@@ -139,7 +139,7 @@ hears_shown clients def records old mid now r just p within taken is_just reache
     let shows : shown_of story ≡ mid = taken_shown p.story r ∙ ap (λ (q : Played). taking_in q r) p.shows ∙ sym taken in
     let fresh_is_just : fresh_in (shown_of p.story) r ≡ just = ap (λ (q : Played). fresh_in q r) p.shows ∙ sym is_just in
     let fresh : IsFresh just story = subst (λ (o : Option Fresh). IsFresh o story) fresh_is_just (taken_fresh p.story r) in
-    let stands : StandsFor clients def (k + 1) (after_record p.told.journal k r) story =
+    let stands : StoryStandsFor clients def (k + 1) (after_record p.told.journal k r) story =
     take_stands clients def k p.told.journal p.story p.told.stands p.told.settled r within in
     let reached : ReachesShown clients def (k + 1) (after_record p.told.journal k r) story now = reaches story def (k + 1) (after_record p.told.journal k r) shows fresh stands in
     let none' : next reached.story.nodes ≡ None = ap (λ (q : Played). next q.nodes) reached.shows ∙ none in

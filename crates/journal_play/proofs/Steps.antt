@@ -15,7 +15,7 @@ use Rattle.sync_rules.specs.Lists.{same_id, is_among, In}
 use Rattle.sync_rules.specs.Facts.{Facts, Held, Known, Id, held_at, is_held, after, facts, entries_of, group_at, known_of, arrived}
 use Rattle.sync_rules.specs.Steps.{verdict_in, verdict_for, verdict_by, next, kind_of_def}
 use Rattle.sync_rules.specs.Rounds.{Graph, good, good_next, bad, bad_first, bad_more}
-use Rattle.sync_rules.specs.Hearing.{Settles}
+use Rattle.sync_rules.specs.Hearing.{SettlesJournal}
 use Rattle.sync_rules.proofs.Elements.{same_id-is, same_id_itself, tally}
 use Rattle.sync_rules.proofs.RoundLaws.{disjoint}
 use Rattle.sync_rules.proofs.Sound.{SoundFacts, graph, contains-more, held_at-In, has_delivery, has_refusal}
@@ -29,8 +29,8 @@ use Rattle.message_graph.specs.declared.nodes.Step.TheVariants as graph_step
 use Rattle.message_graph.specs.Nodes as nodes
 use Rattle.message_graph.proofs.NodeLaws.{next_judge, next_end, there_within}
 use Rattle.journal_play.specs.Texts.{Line, told, line_of, line_at, text_of}
-use Rattle.journal_play.specs.Playing.{Story, node_of, judged_of, Mirrors, StandsFor}
-use Rattle.journal_play.specs.Keeping.{stepping, Reaches, IsStepped}
+use Rattle.journal_play.specs.Playing.{Story, node_of, judged_of, MirrorsFacts, StoryStandsFor}
+use Rattle.journal_play.specs.Keeping.{stepping, SettlesToStory, IsStepped}
 use Rattle.message_graph.specs.Nodes.{step_number}
 use Rattle.journal_play.proofs.Same.{IsOneGroup, entry_of, id_at, next_same}
 use Rattle.journal_play.proofs.Changes.{judged_node, invalid_node, delivered_node}
@@ -138,7 +138,7 @@ verdict_of clients def kind groups m known one of_it =
 -- ---- a step
 
 module _ (clients : Meaning) (def : GroupValue) (k : ℕ) (f : Facts) (es : List Entry) (play : Story)
-    (m : Mirrors clients def k f es play) (sound : SoundFacts clients f)
+    (m : MirrorsFacts clients def k f es play) (sound : SoundFacts clients f)
     (n : ℕ) (msg : MessageValue) (there : slice_get play.messages n ≡ Some msg) where
   held_there : slice_get f.held n ≡ Some (arrived 0 msg)
   held_there = ap (λ (hs : List Held). slice_get hs n) m.held ∙ at_map (arrived 0) play.messages n msg there
@@ -160,7 +160,7 @@ module _ (clients : Meaning) (def : GroupValue) (k : ℕ) (f : Facts) (es : List
   verdict : verdict_in clients f.groups msg ≡ clients.verdict play.kind msg
   verdict = verdict_of clients def play.kind f.groups msg m.kind m.groups (of_group clients def f m.groups sound (arrived 0 msg) inside)
 
-  pub judged_mirrors : Mirrors clients def k (after f (entry.Judged (message_id_of msg))) (es ++ entry.Judged (message_id_of msg) ∷ []) (stepping clients (graph_step.Judge n) msg play)
+  pub judged_mirrors : MirrorsFacts clients def k (after f (entry.Judged (message_id_of msg))) (es ++ entry.Judged (message_id_of msg) ∷ []) (stepping clients (graph_step.Judge n) msg play)
   judged_mirrors =
       let same : told (es ++ entry.Judged (message_id_of msg) ∷ []) ≡ told es =
       told-push es (entry.Judged (message_id_of msg)) ∙ append-nil (told es) in
@@ -195,7 +195,7 @@ module _ (clients : Meaning) (def : GroupValue) (k : ℕ) (f : Facts) (es : List
   line_held : (x : Fate) → list_all (λ (line : Line). is_held f.held line.1) (told es ++ (x, message_id_of msg) ∷ []) ≡ true
   line_held x = all-push f.held (told es) (x, message_id_of msg) m.within (ap is_some found)
 
-  pub invalid_mirrors : Mirrors clients def k (after f (entry.Invalid (message_id_of msg))) (es ++ entry.Invalid (message_id_of msg) ∷ []) (stepping clients (graph_step.Invalid n) msg play)
+  pub invalid_mirrors : MirrorsFacts clients def k (after f (entry.Invalid (message_id_of msg))) (es ++ entry.Invalid (message_id_of msg) ∷ []) (stepping clients (graph_step.Invalid n) msg play)
   invalid_mirrors =
       let more : told (es ++ entry.Invalid (message_id_of msg) ∷ []) ≡ told es ++ (fate_kind.Invalid, message_id_of msg) ∷ [] =
       told-push es (entry.Invalid (message_id_of msg)) in
@@ -221,7 +221,7 @@ module _ (clients : Meaning) (def : GroupValue) (k : ℕ) (f : Facts) (es : List
       ap (fin_set.contains f.invalid) d.same ∙ open_now.1
 
   pub delivered_mirrors : next clients f ≡ Some (entry.Deliver (message_id_of msg)) →
-      Mirrors clients def k (after f (entry.Deliver (message_id_of msg))) (es ++ entry.Deliver (message_id_of msg) ∷ []) (stepping clients (graph_step.Deliver n) msg play)
+      MirrorsFacts clients def k (after f (entry.Deliver (message_id_of msg))) (es ++ entry.Deliver (message_id_of msg) ∷ []) (stepping clients (graph_step.Deliver n) msg play)
   delivered_mirrors e =
       let more : told (es ++ entry.Deliver (message_id_of msg) ∷ []) ≡ told es ++ (fate_kind.Delivered, message_id_of msg) ∷ [] =
       told-push es (entry.Deliver (message_id_of msg)) in
@@ -244,10 +244,10 @@ module _ (clients : Meaning) (def : GroupValue) (k : ℕ) (f : Facts) (es : List
 pub record IsBatch (clients : Meaning) (def : GroupValue) (k : ℕ) (f : Facts) (es : List Entry) (play : Story) : Type 0 where
   pub made : Entry
   pub is_next : next clients f ≡ Some made
-  pub mirrors : Mirrors clients def k (after f made) (es ++ made ∷ []) play
+  pub mirrors : MirrorsFacts clients def k (after f made) (es ++ made ∷ []) play
 
 pub step_mirrors : (clients : Meaning) (def : GroupValue) (k : ℕ) (f : Facts) (es : List Entry) (play : Story)
-    → Mirrors clients def k f es play → SoundFacts clients f → (s : Step) → nodes.next play.nodes ≡ Some s
+    → MirrorsFacts clients def k f es play → SoundFacts clients f → (s : Step) → nodes.next play.nodes ≡ Some s
     → (msg : MessageValue) → slice_get play.messages (step_number s) ≡ Some msg → IsBatch clients def k f es (stepping clients s msg play)
 step_mirrors clients def k f es play m sound (graph_step.Judge n) e msg at = record {
   made = entry.Judged (message_id_of msg);
@@ -275,7 +275,7 @@ entries-push [] b = append-nil b
 entries-push (x ∷ j) b = ap (λ (es : List Entry). x ++ es) (entries-push j b) ∙ sym (append_assoc x (entries_of j) b)
 
 -- a message at the number of the next step
-pub message_there : (clients : Meaning) (def : GroupValue) (k : ℕ) (f : Facts) (es : List Entry) (play : Story) → Mirrors clients def k f es play
+pub message_there : (clients : Meaning) (def : GroupValue) (k : ℕ) (f : Facts) (es : List Entry) (play : Story) → MirrorsFacts clients def k f es play
     → (s : Step) → nodes.next play.nodes ≡ Some s → (msg : MessageValue) × (slice_get play.messages (step_number s) ≡ Some msg)
 message_there clients def k f es play m s e =
     let t = next_there play.nodes s e in
@@ -284,23 +284,23 @@ message_there clients def k f es play m s e =
     let held = of_map (node_of clients f) (map (arrived 0) play.messages) (step_number s) t.0 node in
     of_map (arrived 0) play.messages (step_number s) held.0 held.1
 
-pub reaches_step : (clients : Meaning) (def : GroupValue) (k : ℕ) (old : List (List Entry)) (play now : Story) → Reaches clients def k old play
-    → (s : Step) → nodes.next play.nodes ≡ Some s → IsStepped clients s play now → Reaches clients def k old now
+pub reaches_step : (clients : Meaning) (def : GroupValue) (k : ℕ) (old : List (List Entry)) (play now : Story) → SettlesToStory clients def k old play
+    → (s : Step) → nodes.next play.nodes ≡ Some s → IsStepped clients s play now → SettlesToStory clients def k old now
 reaches_step clients def k old play now r s e stepped =
     let j : List (List Entry) = r.journal in
     let at = message_there clients def k (facts j) (entries_of j) play r.stands.mirrors s e in
     let b = step_mirrors clients def k (facts j) (entries_of j) play r.stands.mirrors (legal_sound clients j r.stands.legal) s e at.0 at.1 in
     let j' : List (List Entry) = j ++ (b.made ∷ []) ∷ [] in
-    let one : Settles clients j j' = settles_step clients j j b.made (settles_itself clients j) b.is_next in
-    let first : Mirrors clients def k (facts j') (entries_of j ++ b.made ∷ []) (stepping clients s at.0 play) =
-    subst (λ (f : Facts). Mirrors clients def k f (entries_of j ++ b.made ∷ []) (stepping clients s at.0 play)) (sym (facts-push j (b.made ∷ []))) b.mirrors in
-    let second : Mirrors clients def k (facts j') (entries_of j') (stepping clients s at.0 play) =
-    subst (λ (es : List Entry). Mirrors clients def k (facts j') es (stepping clients s at.0 play)) (sym (entries-push j (b.made ∷ []))) first in
+    let one : SettlesJournal clients j j' = settles_step clients j j b.made (settles_itself clients j) b.is_next in
+    let first : MirrorsFacts clients def k (facts j') (entries_of j ++ b.made ∷ []) (stepping clients s at.0 play) =
+    subst (λ (f : Facts). MirrorsFacts clients def k f (entries_of j ++ b.made ∷ []) (stepping clients s at.0 play)) (sym (facts-push j (b.made ∷ []))) b.mirrors in
+    let second : MirrorsFacts clients def k (facts j') (entries_of j') (stepping clients s at.0 play) =
+    subst (λ (es : List Entry). MirrorsFacts clients def k (facts j') es (stepping clients s at.0 play)) (sym (entries-push j (b.made ∷ []))) first in
     record {
       journal = j';
       settles = settles_step clients old j b.made r.settles b.is_next;
-      stands = record { legal = settles_legal clients j j' one r.stands.legal; mirrors = subst (λ (p : Story). Mirrors clients def k (facts j') (entries_of j') p) (sym (stepped at.0 at.1)) second };
+      stands = record { legal = settles_legal clients j j' one r.stands.legal; mirrors = subst (λ (p : Story). MirrorsFacts clients def k (facts j') (entries_of j') p) (sym (stepped at.0 at.1)) second };
     }
 
-pub reaches_itself : (clients : Meaning) (def : GroupValue) (k : ℕ) (j : List (List Entry)) (play : Story) → StandsFor clients def k j play → Reaches clients def k j play
+pub reaches_itself : (clients : Meaning) (def : GroupValue) (k : ℕ) (j : List (List Entry)) (play : Story) → StoryStandsFor clients def k j play → SettlesToStory clients def k j play
 reaches_itself clients def k j play s = record { journal = j; settles = settles_itself clients j; stands = s }

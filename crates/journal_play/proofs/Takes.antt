@@ -21,7 +21,7 @@ use Rattle.sync_rules.specs.Lists.{same_id, is_among, has_repeat, firsts}
 use Rattle.sync_rules.specs.Facts.{Facts, Held, Id, held_at, is_held, after, after_all, facts, entries_of, group_at, known_of, arrived, contact_of, level_at, is_invisible, takes_of, count_or, session_at, wanted_from, row_at}
 use Rattle.sync_rules.specs.Steps.{verdict_in, IsSettled, kind_of_def}
 use Rattle.sync_rules.specs.Sessions.{taken, taken_message, taken_message_of, taken_acks, taken_requests, taken_offers, taken_offer, is_welcome, one_if, is_shown, is_remembered, room_after}
-use Rattle.sync_rules.specs.Hearing.{Hears, take_batch, one_session}
+use Rattle.sync_rules.specs.Hearing.{HearsRecord, take_batch, one_session}
 use Rattle.sync_rules.proofs.Elements.{same_id-is, same_id_itself, same_id_swap}
 use Rattle.sync_rules.proofs.Sound.{SoundFacts}
 use Rattle.sync_rules.proofs.Runs.{legal_sound}
@@ -34,9 +34,9 @@ use Rattle.message_graph.specs.declared.nodes.Node.{Node}
 use Rattle.message_graph.specs.Nodes as nodes
 use Rattle.message_graph.proofs.NodeLaws.{number_of-node_named}
 use Rattle.journal_play.specs.Texts.{Line, told_by, told, text_of}
-use Rattle.journal_play.specs.Playing.{Plays, Story, node_of, answer_shown, Mirrors, StandsFor, IsStoryOf}
+use Rattle.journal_play.specs.Playing.{PlaysRecords, Story, node_of, answer_shown, MirrorsFacts, StoryStandsFor, IsStoryOf}
 use Rattle.message_graph.specs.Nodes.{ending_by}
-use Rattle.journal_play.specs.Keeping.{holding, taking, taking_message, Reaches}
+use Rattle.journal_play.specs.Keeping.{holding, taking, taking_message, SettlesToStory}
 use Rattle.journal_play.proofs.Same.{node_named-held, next_same, entry_of, id_at}
 use Rattle.journal_play.proofs.Changes.{ids_of}
 use Rattle.journal_play.proofs.Steps.{one_group, of_group, delivered_held, entries-push}
@@ -55,7 +55,7 @@ pub record Alike (f g : Facts) : Type 0 where
   pub delivered : g.delivered ≡ f.delivered
 
 pub alike_mirrors : (clients : Meaning) (def : GroupValue) (k k' : ℕ) (f g : Facts) (es es' : List Entry) (play : Story)
-    → Alike f g → takes_of g.takes 0 ≡ k' → told es' ≡ told es → Mirrors clients def k f es play → Mirrors clients def k' g es' play
+    → Alike f g → takes_of g.takes 0 ≡ k' → told es' ≡ told es → MirrorsFacts clients def k f es play → MirrorsFacts clients def k' g es' play
 alike_mirrors clients def k k' f g es es' play a takes same m = record {
   kind = m.kind;
   group = m.group;
@@ -143,8 +143,8 @@ one_more_take takes s =
     ∙ ap (λ b. count_or (cond b (Some (takes_of takes s + 1)) (fin_map.get takes s))) (unsigned_tied s s ∙ nat_eq_equiv.refl s)
 
 -- the Take entry and quiet ones
-quiet_mirrors : (clients : Meaning) (def : GroupValue) (k : ℕ) (f : Facts) (es ts : List Entry) (play : Story) → Mirrors clients def k f es play → AllQuiet ts
-    → Mirrors clients def (k + 1) (after_all f (entry.Take 0 k ∷ ts)) (es ++ entry.Take 0 k ∷ ts) play
+quiet_mirrors : (clients : Meaning) (def : GroupValue) (k : ℕ) (f : Facts) (es ts : List Entry) (play : Story) → MirrorsFacts clients def k f es play → AllQuiet ts
+    → MirrorsFacts clients def (k + 1) (after_all f (entry.Take 0 k ∷ ts)) (es ++ entry.Take 0 k ∷ ts) play
 quiet_mirrors clients def k f es ts play m q =
     let g : Facts = after f (entry.Take 0 k) in
     let first : Alike f g = record { groups = refl; levels = refl; sessions = refl; held = refl; judged = refl; invalid = refl; delivered = refl } in
@@ -181,9 +181,9 @@ once-push (h ∷ hs) x once none =
     let here : is_among (ids_of (hs ++ x ∷ [])) h.id ≡ false = none_among hs x h.id both.0 (same_id_swap x.id h.id ∙ apart.0) in
     (λ i. here i || once-push hs x both.1 apart.1 i)
 
-arrive_mirrors : (clients : Meaning) (def : GroupValue) (k : ℕ) (f : Facts) (es : List Entry) (play : Story) → Mirrors clients def k f es play
+arrive_mirrors : (clients : Meaning) (def : GroupValue) (k : ℕ) (f : Facts) (es : List Entry) (play : Story) → MirrorsFacts clients def k f es play
     → SoundFacts clients f → (msg : MessageValue) → held_at f.held (message_id_of msg) ≡ None
-    → Mirrors clients def k (after f (entry.Arrive 0 msg)) (es ++ entry.Arrive 0 msg ∷ []) (holding play msg)
+    → MirrorsFacts clients def k (after f (entry.Arrive 0 msg)) (es ++ entry.Arrive 0 msg ∷ []) (holding play msg)
 arrive_mirrors clients def k f es play m sound msg none =
     let id : Id = message_id_of msg in
     let x : Held = arrived (contact_of f.sessions 0) msg in
@@ -279,22 +279,22 @@ module _ (def : GroupValue) (f : Facts) (groups : f.groups ≡ known_of def ∷ 
 -- ---- a record
 
 module _ (clients : Meaning) (def : GroupValue) (k : ℕ) (f : Facts) (es : List Entry) (play : Story)
-    (m : Mirrors clients def k f es play) (sound : SoundFacts clients f) where
+    (m : MirrorsFacts clients def k f es play) (sound : SoundFacts clients f) where
   module _ (msg : MessageValue) where
     -- what is taken, by whether the message is of the group, and what is held under its id
     abbrev pub Goes : Bool → Option Held → Bool → Bool → Type 0
     Goes welcome o of_it known =
-        Mirrors clients def (k + 1) (after_all f (entry.Take 0 k ∷ cond welcome (taken_message_of f 0 (contact_of f.sessions 0) msg o) []))
+        MirrorsFacts clients def (k + 1) (after_all f (entry.Take 0 k ∷ cond welcome (taken_message_of f 0 (contact_of f.sessions 0) msg o) []))
         (es ++ entry.Take 0 k ∷ cond welcome (taken_message_of f 0 (contact_of f.sessions 0) msg o) [])
         (cond of_it (cond known play (holding play msg)) play)
 
     arrives : held_at f.held (message_id_of msg) ≡ None → Goes true None true false
     arrives none =
         let g : Facts = after f (entry.Take 0 k) in
-        let first : Mirrors clients def (k + 1) g (es ++ entry.Take 0 k ∷ []) play = quiet_mirrors clients def k f es [] play m tt in
-        let second : Mirrors clients def (k + 1) (after g (entry.Arrive 0 msg)) ((es ++ entry.Take 0 k ∷ []) ++ entry.Arrive 0 msg ∷ []) (holding play msg) =
+        let first : MirrorsFacts clients def (k + 1) g (es ++ entry.Take 0 k ∷ []) play = quiet_mirrors clients def k f es [] play m tt in
+        let second : MirrorsFacts clients def (k + 1) (after g (entry.Arrive 0 msg)) ((es ++ entry.Take 0 k ∷ []) ++ entry.Arrive 0 msg ∷ []) (holding play msg) =
         arrive_mirrors clients def (k + 1) g (es ++ entry.Take 0 k ∷ []) play first sound msg none in
-        subst (λ (l : List Entry). Mirrors clients def (k + 1) (after g (entry.Arrive 0 msg)) l (holding play msg))
+        subst (λ (l : List Entry). MirrorsFacts clients def (k + 1) (after g (entry.Arrive 0 msg)) l (holding play msg))
         (append_assoc es (entry.Take 0 k ∷ []) (entry.Arrive 0 msg ∷ [])) second
 
     by_cases : (b : Bool) (o : Option Held) → held_at f.held (message_id_of msg) ≡ o → Goes b o b (is_some o)
@@ -304,7 +304,7 @@ module _ (clients : Meaning) (def : GroupValue) (k : ℕ) (f : Facts) (es : List
         let shown : Bool = not (is_invisible (level_at f.levels (contact_of f.sessions 0) h.message.group)) in
         quiet_mirrors clients def k f es (one_if shown (entry.Again 0 (message_id_of msg))) play m (quiet_if shown (entry.Again 0 (message_id_of msg)) tt)
 
-    message_mirrors : Mirrors clients def (k + 1) (after_all f (entry.Take 0 k ∷ taken_message f 0 (contact_of f.sessions 0) msg))
+    message_mirrors : MirrorsFacts clients def (k + 1) (after_all f (entry.Take 0 k ∷ taken_message f 0 (contact_of f.sessions 0) msg))
         (es ++ entry.Take 0 k ∷ taken_message f 0 (contact_of f.sessions 0) msg) (taking_message play msg)
     message_mirrors =
         let o : Option Held = held_at f.held (message_id_of msg) in
@@ -315,7 +315,7 @@ module _ (clients : Meaning) (def : GroupValue) (k : ℕ) (f : Facts) (es : List
         let P : Bool → Type 0 = λ w. Goes w o b (is_some (nodes.number_of play.nodes (message_id_of msg))) in
         subst P (sym (welcome_by def f m.groups m.levels m.sessions msg.group b (ap (same_id msg.group) (sym m.group)))) second
 
-  pub take_mirrors : (r : Record) → Mirrors clients def (k + 1) (after_all f (entry.Take 0 k ∷ taken f 0 r)) (es ++ entry.Take 0 k ∷ taken f 0 r) (taking play r)
+  pub take_mirrors : (r : Record) → MirrorsFacts clients def (k + 1) (after_all f (entry.Take 0 k ∷ taken f 0 r)) (es ++ entry.Take 0 k ∷ taken f 0 r) (taking play r)
   take_mirrors (record_kind.Ack ids) = quiet_mirrors clients def k f es (taken f 0 (record_kind.Ack ids)) play m (quiet_acks f 0 (contact_of f.sessions 0) (firsts ids))
   take_mirrors (record_kind.Message msg) = message_mirrors msg
   take_mirrors (record_kind.Offer ids) =
@@ -327,15 +327,15 @@ module _ (clients : Meaning) (def : GroupValue) (k : ℕ) (f : Facts) (es : List
 
 -- ---- journals
 
-pub take_stands : (clients : Meaning) (def : GroupValue) (k : ℕ) (j : List (List Entry)) (play : Story) → StandsFor clients def k j play
-    → IsSettled clients (facts j) → (r : Record) → IsRecord r → StandsFor clients def (k + 1) (j ++ take_batch j 0 k r ∷ []) (taking play r)
+pub take_stands : (clients : Meaning) (def : GroupValue) (k : ℕ) (j : List (List Entry)) (play : Story) → StoryStandsFor clients def k j play
+    → IsSettled clients (facts j) → (r : Record) → IsRecord r → StoryStandsFor clients def (k + 1) (j ++ take_batch j 0 k r ∷ []) (taking play r)
 take_stands clients def k j play s settled r within =
     let b : List Entry = take_batch j 0 k r in
     let sound : SoundFacts clients (facts j) = legal_sound clients j s.legal in
-    let first : Mirrors clients def (k + 1) (after_all (facts j) b) (entries_of j ++ b) (taking play r) =
+    let first : MirrorsFacts clients def (k + 1) (after_all (facts j) b) (entries_of j ++ b) (taking play r) =
     take_mirrors clients def k (facts j) (entries_of j) play s.mirrors sound r in
-    let second : Mirrors clients def (k + 1) (facts (j ++ b ∷ [])) (entries_of j ++ b) (taking play r) =
-    subst (λ (f : Facts). Mirrors clients def (k + 1) f (entries_of j ++ b) (taking play r)) (sym (facts-push j b)) first in
+    let second : MirrorsFacts clients def (k + 1) (facts (j ++ b ∷ [])) (entries_of j ++ b) (taking play r) =
+    subst (λ (f : Facts). MirrorsFacts clients def (k + 1) f (entries_of j ++ b) (taking play r)) (sym (facts-push j b)) first in
     record {
       legal = goes_on_both clients nothing j (b ∷ []) s.legal (
         (
@@ -350,11 +350,11 @@ take_stands clients def k j play s settled r within =
         ),
         tt,
       );
-      mirrors = subst (λ (es : List Entry). Mirrors clients def (k + 1) (facts (j ++ b ∷ [])) es (taking play r)) (sym (entries-push j b)) second;
+      mirrors = subst (λ (es : List Entry). MirrorsFacts clients def (k + 1) (facts (j ++ b ∷ [])) es (taking play r)) (sym (entries-push j b)) second;
     }
 
 -- no step of what is kept, no step of the journal
-pub settled_by : (clients : Meaning) (def : GroupValue) (k : ℕ) (j : List (List Entry)) (play : Story) → StandsFor clients def k j play
+pub settled_by : (clients : Meaning) (def : GroupValue) (k : ℕ) (j : List (List Entry)) (play : Story) → StoryStandsFor clients def k j play
     → nodes.next play.nodes ≡ None → IsSettled clients (facts j)
 settled_by clients def k j play s none =
     let f : Facts = facts j in
@@ -363,14 +363,14 @@ settled_by clients def k j play s none =
     ∙ ap (option_map (entry_of (id_at f.held))) (ap nodes.next (sym s.mirrors.nodes) ∙ none)
 
 plays_more : (clients : Meaning) (j : List (List Entry)) (k : ℕ) (records : List Record) (j' j'' : List (List Entry)) (r : Record)
-    → Plays clients j k records j' → IsRecord r → Hears clients j' 0 (k + length records) r j'' → Plays clients j k (records ++ r ∷ []) j''
+    → PlaysRecords clients j k records j' → IsRecord r → HearsRecord clients j' 0 (k + length records) r j'' → PlaysRecords clients j k (records ++ r ∷ []) j''
 plays_more clients j k [] j' j'' r p within h =
-    let at : Hears clients j 0 k r j'' =
-    subst (λ (n : ℕ). Hears clients j 0 n r j'') (omega arith) (subst (λ (x : List (List Entry)). Hears clients x 0 (k + 0) r j'') (sym p) h) in
+    let at : HearsRecord clients j 0 k r j'' =
+    subst (λ (n : ℕ). HearsRecord clients j 0 n r j'') (omega arith) (subst (λ (x : List (List Entry)). HearsRecord clients x 0 (k + 0) r j'') (sym p) h) in
     (j'', within, at, refl)
 plays_more clients j k (x ∷ records) j' j'' r p within h =
-    let at : Hears clients j' 0 ((k + 1) + length records) r j'' =
-    (let e : k + length (x ∷ records) ≡ (k + 1) + length records = omega arith in subst (λ (n : ℕ). Hears clients j' 0 n r j'') e h) in
+    let at : HearsRecord clients j' 0 ((k + 1) + length records) r j'' =
+    (let e : k + length (x ∷ records) ≡ (k + 1) + length records = omega arith in subst (λ (n : ℕ). HearsRecord clients j' 0 n r j'') e h) in
     (p.0, p.1, p.2, plays_more clients p.0 (k + 1) records j' j'' r p.3 within at)
 
 -- the record that comes next is taken
@@ -378,20 +378,20 @@ abbrev pub after_record : List (List Entry) → ℕ → Record → List (List En
 after_record j k r = j ++ take_batch j 0 k r ∷ []
 
 pub hears : (clients : Meaning) (def : GroupValue) (records : List Record) (old now : Story) (r : Record) (p : IsStoryOf clients def records old) → IsRecord r
-    → Reaches clients def (length records + 1) (after_record p.journal (length records) r) now
+    → SettlesToStory clients def (length records + 1) (after_record p.journal (length records) r) now
     → nodes.next now.nodes ≡ None → IsStoryOf clients def (records ++ r ∷ []) now
 hears clients def records old now r p within reached none =
     let k : ℕ = length records in
     let j : List (List Entry) = p.journal in
     let settled : IsSettled clients (facts reached.journal) = settled_by clients def (k + 1) reached.journal now reached.stands none in
     let count : length (records ++ r ∷ []) ≡ k + 1 = length-append records (r ∷ []) in
-    let heard : Hears clients j 0 (0 + k) r reached.journal =
+    let heard : HearsRecord clients j 0 (0 + k) r reached.journal =
     (let zero_more : k ≡ 0 + k = omega arith in
-    subst (λ (n : ℕ). Hears clients j 0 n r reached.journal) zero_more (record { settles = reached.settles; settled = settled })) in
+    subst (λ (n : ℕ). HearsRecord clients j 0 n r reached.journal) zero_more (record { settles = reached.settles; settled = settled })) in
     record {
       journal = reached.journal;
       plays = plays_more clients (one_session def) 0 records j reached.journal r p.plays within heard;
-      stands = subst (λ (n : ℕ). StandsFor clients def n reached.journal now) (sym count) reached.stands;
+      stands = subst (λ (n : ℕ). StoryStandsFor clients def n reached.journal now) (sym count) reached.stands;
       settled = settled;
     }
 

@@ -9,7 +9,7 @@ use Rattle.sync_rules.specs.declared.states.Fate as state
 use Rattle.sync_rules.specs.declared.states.Fate.TheVariants as fate_kind
 use Rattle.sync_rules.specs.Clients.{Meaning}
 use Rattle.sync_rules.specs.Lists.{same_id}
-use Rattle.sync_rules.specs.Hearing.{Settles}
+use Rattle.sync_rules.specs.Hearing.{SettlesJournal}
 use Rattle.message_graph.specs.declared.nodes.Node.{Node}
 use Rattle.message_graph.specs.declared.nodes.Ending.{Ending}
 use Rattle.message_graph.specs.declared.nodes.Ending.TheVariants as ending
@@ -23,7 +23,7 @@ use Rattle.sync_words.specs.StreamTexts.{try_text}
 use Rattle.journal_play.specs.declared.kept.Head.{Head}
 use Rattle.journal_play.specs.declared.kept.Fresh.{Fresh}
 use Rattle.journal_play.specs.Texts.{line_of}
-use Rattle.journal_play.specs.Playing.{Played, Story, head_of, judged_of, shown_of, StandsFor}
+use Rattle.journal_play.specs.Playing.{Played, Story, head_of, judged_of, shown_of, StoryStandsFor}
 
 -- one more message is held
 abbrev pub holding : Story → MessageValue → Story
@@ -66,10 +66,10 @@ abbrev pub IsStepped : Meaning → Step → Story → Story → Type 0
 IsStepped clients s old new = (m : MessageValue) → slice_get old.messages (step_number s) ≡ Some m → new ≡ stepping clients s m old
 
 -- settling alone leads from this journal to one that has this story
-pub record Reaches (clients : Meaning) (def : GroupValue) (k : ℕ) (old : List (List Entry)) (play : Story) : Type 0 where
+pub record SettlesToStory (clients : Meaning) (def : GroupValue) (k : ℕ) (old : List (List Entry)) (play : Story) : Type 0 where
   pub journal : List (List Entry)
-  pub settles : Settles clients old journal
-  pub stands : StandsFor clients def k journal play
+  pub settles : SettlesJournal clients old journal
+  pub stands : StoryStandsFor clients def k journal play
 
 -- ---- the messages that have no end
 
@@ -146,15 +146,15 @@ ShowsStep clients just s old new =
     → shown_of (stepping clients s m story) ≡ new
 
 -- the nodes after a step
-abbrev pub IsDone : Step → List Node → List Node → Type 0
-IsDone (step.Judge n) old new = (answer : Judged) × (new ≡ with_answer n answer old)
-IsDone (step.Invalid n) old new = new ≡ with_ending n ending.Invalid old
-IsDone (step.Deliver n) old new = new ≡ with_ending n ending.Delivered old
+abbrev pub IsStepDone : Step → List Node → List Node → Type 0
+IsStepDone (step.Judge n) old new = (answer : Judged) × (new ≡ with_answer n answer old)
+IsStepDone (step.Invalid n) old new = new ≡ with_ending n ending.Invalid old
+IsStepDone (step.Deliver n) old new = new ≡ with_ending n ending.Delivered old
 
 -- settling alone leads from this journal to one whose story is shown, with the messages of the story that it began with
 pub record ReachesShown (clients : Meaning) (def : GroupValue) (k : ℕ) (old : List (List Entry)) (start : Story) (play : Played) : Type 0 where
   pub story : Story
-  pub reaches : Reaches clients def k old story
+  pub reaches : SettlesToStory clients def k old story
   pub shows : shown_of story ≡ play
   pub same : story.messages ≡ start.messages
 

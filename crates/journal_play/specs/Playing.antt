@@ -13,7 +13,7 @@ use Rattle.sync_rules.specs.Clients.{Meaning}
 use Rattle.sync_rules.specs.Lists.{is_among, has_repeat}
 use Rattle.sync_rules.specs.Facts.{Facts, Held, Id, facts, entries_of, known_of, arrived, takes_of, is_held}
 use Rattle.sync_rules.specs.Steps.{IsSettled, kind_of_def, answer_of}
-use Rattle.sync_rules.specs.Hearing.{Hears, one_session}
+use Rattle.sync_rules.specs.Hearing.{HearsRecord, one_session}
 use Rattle.sync_rules.specs.Legal.{Legal}
 use Rattle.message_graph.specs.declared.nodes.Node.{Node}
 use Rattle.message_graph.specs.declared.nodes.Judged.{Judged}
@@ -24,15 +24,15 @@ use Rattle.journal_play.specs.declared.kept.Head.{Head}
 use Rattle.journal_play.specs.Texts.{told, text_of, play_text}
 
 -- a journal takes records on its session 0, the first as that of number k, and is settled after each
-abbrev pub Plays : Meaning → List (List Entry) → ℕ → List Record → List (List Entry) → Type 0
-Plays clients journal k [] later = journal ≡ later
-Plays clients journal k (r ∷ rs) later =
-    (between : List (List Entry)) × IsRecord r × Hears clients journal 0 k r between × Plays clients between (k + 1) rs later
+abbrev pub PlaysRecords : Meaning → List (List Entry) → ℕ → List Record → List (List Entry) → Type 0
+PlaysRecords clients journal k [] later = journal ≡ later
+PlaysRecords clients journal k (r ∷ rs) later =
+    (between : List (List Entry)) × IsRecord r × HearsRecord clients journal 0 k r between × PlaysRecords clients between (k + 1) rs later
 
 -- the text is that of a journal that begins with contact 0, this group, Visible to it, and one session, and takes these records
 pub record IsTextOf (clients : Meaning) (def : GroupValue) (records : List Record) (text : List ℕ) : Type 0 where
   pub journal : List (List Entry)
-  pub plays : Plays clients (one_session def) 0 records journal
+  pub plays : PlaysRecords clients (one_session def) 0 records journal
   pub printed : text ≡ play_text journal
 
 -- ---- what is played
@@ -63,7 +63,7 @@ abbrev pub node_of : Meaning → Facts → Held → Node
 node_of clients f h = record { name = h.id; group = 0; answer = answer_shown (answer_of clients f h); ending = ending_of f h.id }
 
 -- a story suits the facts and the entries of a journal whose session has taken k records
-pub record Mirrors (clients : Meaning) (def : GroupValue) (k : ℕ) (f : Facts) (entries : List Entry) (play : Story) : Type 0 where
+pub record MirrorsFacts (clients : Meaning) (def : GroupValue) (k : ℕ) (f : Facts) (entries : List Entry) (play : Story) : Type 0 where
   pub kind : kind_of_def clients def ≡ Some play.kind
   pub group : play.group ≡ group_id_of def
   pub groups : f.groups ≡ known_of def ∷ []
@@ -79,15 +79,15 @@ pub record Mirrors (clients : Meaning) (def : GroupValue) (k : ℕ) (f : Facts) 
   pub within : list_all (λ line. is_held f.held line.1) (told entries) ≡ true
 
 -- a story is that of a legal journal whose session has taken k records
-pub record StandsFor (clients : Meaning) (def : GroupValue) (k : ℕ) (journal : List (List Entry)) (play : Story) : Type 0 where
+pub record StoryStandsFor (clients : Meaning) (def : GroupValue) (k : ℕ) (journal : List (List Entry)) (play : Story) : Type 0 where
   pub legal : Legal clients journal
-  pub mirrors : Mirrors clients def k (facts journal) (entries_of journal) play
+  pub mirrors : MirrorsFacts clients def k (facts journal) (entries_of journal) play
 
 -- a story is that of a settled journal of this group that has taken these records
 pub record IsStoryOf (clients : Meaning) (def : GroupValue) (records : List Record) (play : Story) : Type 0 where
   pub journal : List (List Entry)
-  pub plays : Plays clients (one_session def) 0 records journal
-  pub stands : StandsFor clients def (length records) journal play
+  pub plays : PlaysRecords clients (one_session def) 0 records journal
+  pub stands : StoryStandsFor clients def (length records) journal play
   pub settled : IsSettled clients (facts journal)
 
 -- ---- what is kept in memory

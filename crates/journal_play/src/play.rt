@@ -8,13 +8,13 @@ ghost use Rattle.sync_rules.specs.Clients.{Meaning};
 ghost use Rattle.sync_rules.specs.Steps.{kind_of_def};
 ghost use Rattle.sync_rules.specs.declared.entries.Entry.{Entry};
 ghost use Rattle.sync_rules.specs.declared.states.Fate.TheVariants as fate_kind;
-ghost use Rattle.message_graph.specs.Nodes.{after_step, Ends, next, number_of, step_number};
+ghost use Rattle.message_graph.specs.Nodes.{after_step, EndsNode, next, number_of, step_number};
 ghost use Rattle.journal_play.specs.declared.kept.Head.{Head};
-ghost use Rattle.journal_play.specs.Keeping.{ended_as, fresh_in, fresh_one, IsDone, IsFresh};
+ghost use Rattle.journal_play.specs.Keeping.{ended_as, fresh_in, fresh_one, IsStepDone, IsFresh};
 ghost use Rattle.journal_play.specs.Keeping.{IsJudged, open_line, open_text};
 ghost use Rattle.journal_play.specs.Keeping.{ReachesShown, ShowsStep, taking_in, taking_one};
 ghost use Rattle.journal_play.specs.Keeping.{with_head};
-ghost use Rattle.journal_play.specs.Playing.{HasPlayed, IsTextOf, judged_of, shown_of, StandsFor};
+ghost use Rattle.journal_play.specs.Playing.{HasPlayed, IsTextOf, judged_of, shown_of, StoryStandsFor};
 ghost use Rattle.journal_play.specs.Playing.{Story};
 
 use crate::kept::{Fresh, Head};
@@ -182,7 +182,7 @@ impl Play {
     ) -> Result<(), AllocError>
         ensures reaches { OnOk result ((story : Story) (def : GroupValue) (k : ℕ)
             (j : List (List Entry)) → shown_of story ≡ self.old
-            → IsFresh just.now story → StandsFor (C.meaning clients.now) def k j story
+            → IsFresh just.now story → StoryStandsFor (C.meaning clients.now) def k j story
             → ReachesShown (C.meaning clients.now) def k j story self.new) }
         ensures settled { OnOk result (next self.new.nodes ≡ None) }
     {
@@ -208,7 +208,7 @@ impl Play {
         requires { next self.old.nodes ≡ Some step }
         ensures shows { OnOk result (ShowsStep (C.meaning clients.now) just.now step self.old
             self.new) }
-        ensures done { OnOk result (IsDone step self.old.nodes self.new.nodes) }
+        ensures done { OnOk result (IsStepDone step self.old.nodes self.new.nodes) }
     {
         match step {
             Step::Judge(n) => self.judge(alloc, clients, just, n),
@@ -243,7 +243,7 @@ impl Play {
     // Ends the message of that number, as the step says, and adds its line.
     fn end(&mut self, step: Step, n: u32, state: sync_rules::Fate) -> Result<(), AllocError>
         requires next { next self.old.nodes ≡ Some step }
-        requires ends { Ends step }
+        requires ends { EndsNode step }
         requires number { step_number step ≡ n }
         requires state { state ≢ fate_kind.Unknown }
         ensures ended { OnOk result ((h : Head) → slice_get self.old.heads n ≡ Some h

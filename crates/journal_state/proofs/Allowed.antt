@@ -9,7 +9,7 @@ use Rattle.sync_rules.specs.Facts.{Held, Id, session_at}
 use Rattle.sync_rules.specs.Steps.{answer_of}
 use Rattle.sync_rules.specs.Sessions.{due, due_by, ids_where, may_share, shared_ids}
 use Rattle.journal_state.specs.Parts.{shared_among}
-use Rattle.journal_state.specs.Whole.{Knows, StateValue, shared_of}
+use Rattle.journal_state.specs.Whole.{KnowsJudgements, StateValue, shared_of}
 
 -- ---- what is due
 
@@ -17,10 +17,10 @@ shared_along : (g : Held → Option Judgement) (hs : List Held) → shared_among
 shared_along g [] = refl
 shared_along g (h ∷ hs) = ap (λ (ids : List Id). cond (may_share (g h)) (h.id ∷ ids) ids) (shared_along g hs)
 
-pub shared_is : (clients : Meaning) (v : StateValue) → Knows clients v → shared_of v ≡ shared_ids clients v.facts
+pub shared_is : (clients : Meaning) (v : StateValue) → KnowsJudgements clients v → shared_of v ≡ shared_ids clients v.facts
 shared_is clients v k = ap (shared_among v.facts.held) k ∙ shared_along (answer_of clients v.facts) v.facts.held
 
-pub due_known : (clients : Meaning) (v : StateValue) (s : Session) (now : ℕ) → Knows clients v → due_by v.facts (shared_of v) s now ≡ due clients v.facts s now
+pub due_known : (clients : Meaning) (v : StateValue) (s : Session) (now : ℕ) → KnowsJudgements clients v → due_by v.facts (shared_of v) s now ≡ due clients v.facts s now
 due_known clients v s now k = ap (λ (ids : List Id). due_by v.facts ids s now) (shared_is clients v k)
 
 -- ---- a session

@@ -22,7 +22,7 @@ use Rattle.sync_rules.specs.declared.states.Start.{Start}
 use Rattle.sync_rules.specs.declared.states.Start.TheVariants as start
 use Rattle.batch_tests.specs.Alone.{is_rows_kind}
 use Rattle.journal_state.specs.Room.{rows_room, wants_room}
-use Rattle.journal_state.specs.Taking.{CanHold, CanMark, CanSend, CanTake, CanTakeAll, CanTakeKind, HasContactRoom, HasNextNumbers, HasRoom, HasRows, Takes, noted}
+use Rattle.journal_state.specs.Taking.{CanHold, CanMark, CanSend, CanTake, CanTakeAll, CanTakeKind, HasContactRoom, HasNextNumbers, HasRoom, HasRowsOfSession, TakesEntry, noted}
 use Rattle.journal_state.specs.Whole.{StateValue}
 use Rattle.journal_state.specs.Sound.{AreApart}
 use Rattle.journal_state.proofs.Sending.{due_can}
@@ -41,7 +41,7 @@ record Among (f : Facts) (t : StateValue) (contact left most : ℕ) : Type 0 whe
   wanted : length (wanted_from t.facts.wanted contact) ≤ most
 
 -- after one more entry, that changes none of these
-module _ (f : Facts) (t next : StateValue) (contact left most more : ℕ) (e : Entry) (a : Among f t contact (left + 1) most) (k : Takes t next e) where
+module _ (f : Facts) (t next : StateValue) (contact left most more : ℕ) (e : Entry) (a : Among f t contact (left + 1) most) (k : TakesEntry t next e) where
   goes_on : (after t.facts e).held ≡ t.facts.held → (after t.facts e).sessions ≡ t.facts.sessions → (after t.facts e).groups ≡ t.facts.groups
       → length (wanted_from (after t.facts e).wanted contact) ≤ more → Among f next contact left more
   goes_on held sessions groups wanted = record {
@@ -56,7 +56,7 @@ module _ (f : Facts) (t next : StateValue) (contact left most more : ℕ) (e : E
 
 module _ (f : Facts) (session : ℕ) (known : is_some (session_at f.sessions session) ≡ true) where
   -- the session is there, and its contact has room
-  has_rows : (t : StateValue) (left most : ℕ) → Among f t (contact_of f.sessions session) left most → HasRows t session
+  has_rows : (t : StateValue) (left most : ℕ) → Among f t (contact_of f.sessions session) left most → HasRowsOfSession t session
   has_rows t left most a = record {
     known = ap (λ (ss : List Session). is_some (session_at ss session)) a.sessions ∙ known;
     rows =
@@ -353,7 +353,7 @@ can_batch clients s (entry.Want contact id ∷ rest) a kind plain r few apart fr
 abbrev begun_so : StateValue → Start → StateValue
 begun_so s x = record s { facts = record s.facts { start = x } }
 
-rows_noted : (s : StateValue) (x : Start) (n : ℕ) → HasRows s n → HasRows (begun_so s x) n
+rows_noted : (s : StateValue) (x : Start) (n : ℕ) → HasRowsOfSession s n → HasRowsOfSession (begun_so s x) n
 rows_noted s x n h = record { known = h.known; rows = h.rows }
 
 mark_noted : (s : StateValue) (x : Start) (n : ℕ) (id : Id) → CanMark s n id → CanMark (begun_so s x) n id

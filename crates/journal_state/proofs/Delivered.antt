@@ -19,7 +19,7 @@ use Rattle.journal_state.specs.Left.{one_if_delivered, sum_of}
 use Rattle.journal_state.specs.Parts.{Parts, answer_of_node, answers_of, facts_of, is_invalid, is_judged, name_at, ids_where, rows_in, shared_among, wants_in}
 use Rattle.journal_state.specs.Whole.{IsState, is_delivered_in, may_go}
 use Rattle.journal_state.specs.Changes.{delivered_parts}
-use Rattle.journal_state.specs.Delivery.{goes_to, Readies}
+use Rattle.journal_state.specs.Delivery.{goes_to, ReadiesMessage}
 use Rattle.journal_state.specs.Taking.{moved}
 use Rattle.journal_state.proofs.Places.{id_swap, id_is, id_itself}
 use Rattle.journal_state.proofs.Listed.{id_there}
@@ -169,7 +169,7 @@ module _ (p : Parts) (s : IsState p) (n : ℕ) (y : Node) (h : Held) (at : slice
       ∙ ap is_delivered_in (sym (named_changed end_delivered (λ x. refl) p.nodes n y at apart d))))
 
   module _ (share outgoing : Bool) (lets : slice_get p.shares n ≡ Some share) (opens : outgoing ≡ (is_author h.origin || share))
-      (t : retry.Table) (r : Readies p.retry t (goes_to p.table.levels h.message.group outgoing) p.table.contacts n) where
+      (t : retry.Table) (r : ReadiesMessage p.retry t (goes_to p.table.levels h.message.group outgoing) p.table.contacts n) where
     shared_now : is_among (shared_among p.held (answers_of (nodes.with_ending n ending.Delivered p.nodes) p.shares)) h.id ≡ share
     shared_now =
         ap (λ (os : List (Option Judgement)). is_among (shared_among p.held os) h.id) (answers_kept p.nodes p.shares n ending.Delivered)
@@ -256,7 +256,7 @@ module _ (p : Parts) (s : IsState p) (n : ℕ) (y : Node) (h : Held) (at : slice
       free_rows = λ contact k beyond.
           r.apart contact k (λ q. let below : n < length p.held = within_list p.held n h there in absurd (omega (arith, below, q, beyond)))
           ∙ s.free_rows contact k beyond;
-      free_wants = λ contact beyond. ap (λ (ws : List retry.Wants). (slice_index_or ws contact retry.no_wants).ids) r.wants ∙ s.free_wants contact beyond;
+      free_wants = λ contact beyond. ap (λ (ws : List retry.WantedFromContact). (slice_index_or ws contact retry.no_wants).ids) r.wants ∙ s.free_wants contact beyond;
       hidden = s.hidden;
       shown = s.shown;
       ready = λ contact k x known here. ready_now contact k x known here (nat_eq k n) refl;
@@ -271,5 +271,5 @@ module _ (p : Parts) (s : IsState p) (n : ℕ) (y : Node) (h : Held) (at : slice
         ap fin_set.from_list (names_same end_delivered (λ x. refl) is_invalid p.nodes n y at (sym (ap nodes.is_invalid open_now))) in
         let rows : rows_in t p.held ≡ rows_in p.retry p.held = rows_same p.retry t p.held (readied_row p.retry t (goes_to p.table.levels h.message.group outgoing) p.table.contacts n r) in
         let wants : wants_in t p.table.contacts ≡ wants_in p.retry p.table.contacts =
-        wants_same p.retry t (λ contact. ap (λ (ws : List retry.Wants). (slice_index_or ws contact retry.no_wants).ids) r.wants) p.table.contacts in
+        wants_same p.retry t (λ contact. ap (λ (ws : List retry.WantedFromContact). (slice_index_or ws contact retry.no_wants).ids) r.wants) p.table.contacts in
         λ i. record (facts_of p) { judged = judged_same i; invalid = invalid_same i; delivered = ids_more i; rows = rows i; wanted = wants i }

@@ -16,7 +16,7 @@ use Rattle.visibility_table.specs.Table as levels
 use Rattle.journal_state.specs.Begun.{Begun}
 use Rattle.journal_state.specs.Parts.{Parts, facts_of, wants_in}
 use Rattle.journal_state.specs.Taking.{moved}
-use Rattle.journal_state.specs.Whole.{IsState, Knows, value_of}
+use Rattle.journal_state.specs.Whole.{IsState, KnowsJudgements, value_of}
 use Rattle.journal_state.proofs.Seen.{there}
 use Rattle.journal_state.proofs.Next.{many_nodes}
 use Rattle.journal_state.proofs.Wants.{wants_found}
@@ -26,7 +26,7 @@ use Rattle.journal_state.proofs.Wants.{wants_found}
 add_one : (n : ℕ) → n + 1 ≡ suc n
 add_one n = omega arith
 
-module _ (p : Parts) (s : IsState p) (c : ℕ) (t : levels.Table) (made : t ≡ levels.after_entry p.table (entry.Contact c)) (space : ℕ) where
+module _ (p : Parts) (s : IsState p) (c : ℕ) (t : levels.TableOfLevels) (made : t ≡ levels.after_entry p.table (entry.Contact c)) (space : ℕ) where
   contact_then : IsState (record p { table = levels.after_entry p.table (entry.Contact c); space = space })
   contact_then = record {
     named = s.named;
@@ -45,7 +45,7 @@ module _ (p : Parts) (s : IsState p) (c : ℕ) (t : levels.Table) (made : t ≡ 
   }
 
   pub contact_state : IsState (record p { table = t; space = space })
-  contact_state = subst (λ (x : levels.Table). IsState (record p { table = x; space = space })) (sym made) contact_then
+  contact_state = subst (λ (x : levels.TableOfLevels). IsState (record p { table = x; space = space })) (sym made) contact_then
 
   contact_wants : c ≡ p.table.contacts
       → wants_in p.retry (p.table.contacts + 1) ≡ (moved (facts_of p) (entry.Contact c)).wanted
@@ -55,7 +55,7 @@ module _ (p : Parts) (s : IsState p) (c : ℕ) (t : levels.Table) (made : t ≡ 
 
   pub contact_facts : c ≡ p.table.contacts → facts_of (record p { table = t; space = space }) ≡ moved (facts_of p) (entry.Contact c)
   contact_facts is =
-      ap (λ (x : levels.Table). facts_of (record p { table = x; space = space })) made
+      ap (λ (x : levels.TableOfLevels). facts_of (record p { table = x; space = space })) made
       ∙ (λ i. record (moved (facts_of p) (entry.Contact c)) { wanted = contact_wants is i })
 
 -- ---- a group
@@ -114,7 +114,7 @@ module _ (p : Parts) (s : IsState p) where
       inside (x ∷ hs) zero h at = omega arith
       inside (x ∷ hs) (suc n) h at = let later = inside hs n h at in omega (arith, later)
 
-module _ (p : Parts) (s : IsState p) (def : GroupValue) (t : levels.Table)
+module _ (p : Parts) (s : IsState p) (def : GroupValue) (t : levels.TableOfLevels)
     (made : t ≡ record p.table { groups = p.table.groups ++ known_of def ∷ []; spare = p.table.spare - 1 }) (space : ℕ) where
   group_then : IsState (record p { table = record p.table { groups = p.table.groups ++ known_of def ∷ []; spare = p.table.spare - 1 }; space = space })
   group_then = record {
@@ -136,10 +136,10 @@ module _ (p : Parts) (s : IsState p) (def : GroupValue) (t : levels.Table)
   }
 
   pub group_state : IsState (record p { table = t; space = space })
-  group_state = subst (λ (x : levels.Table). IsState (record p { table = x; space = space })) (sym made) group_then
+  group_state = subst (λ (x : levels.TableOfLevels). IsState (record p { table = x; space = space })) (sym made) group_then
 
   pub group_facts : facts_of (record p { table = t; space = space }) ≡ moved (facts_of p) (entry.Group def)
-  group_facts = ap (λ (x : levels.Table). facts_of (record p { table = x; space = space })) made
+  group_facts = ap (λ (x : levels.TableOfLevels). facts_of (record p { table = x; space = space })) made
 
   -- what is judged of a held message is as before
   pub group_answers : (clients : Meaning) → map (answer_of clients (facts_of p)) p.held ≡ map (answer_of clients (moved (facts_of p) (entry.Group def))) p.held
@@ -147,7 +147,7 @@ module _ (p : Parts) (s : IsState p) (def : GroupValue) (t : levels.Table)
       ap (λ (o : Option Known). cond (fin_set.contains (facts_of p).judged h.id) (Some (verdict_for clients o h.message)) None)
       (sym (known_more p.table.groups (known_of def ∷ []) h.message.group (group_known p s n h at))))
 
-  pub group_knows : (clients : Meaning) → Knows clients (value_of p) → Knows clients (value_of (record p { table = t; space = space }))
+  pub group_knows : (clients : Meaning) → KnowsJudgements clients (value_of p) → KnowsJudgements clients (value_of (record p { table = t; space = space }))
   group_knows clients k = k ∙ (group_answers clients ∙ ap (λ (f : Facts). map (answer_of clients f) f.held) (sym group_facts))
 
 -- ---- a session and a record

@@ -15,7 +15,7 @@ use Rattle.message_graph.specs.declared.nodes.Step.{Step}
 use Rattle.message_graph.specs.declared.nodes.Step.TheVariants as step
 use Rattle.message_graph.specs.Nodes as nodes
 use Rattle.journal_state.specs.Parts.{Parts, facts_of}
-use Rattle.journal_state.specs.Whole.{IsState, Knows, id_at, value_of}
+use Rattle.journal_state.specs.Whole.{IsState, KnowsJudgements, id_at, value_of}
 use Rattle.message_graph.specs.Nodes.{step_number}
 use Rattle.journal_state.specs.Stepping.{entry_of}
 use Rattle.journal_state.proofs.Listed.{id_there}
@@ -130,7 +130,7 @@ judge_by p s n b (Some (step.Invalid m)) e f = absurd (let wrong : entry.Invalid
 judge_by p s n b (Some (step.Deliver m)) e f = absurd (let wrong : entry.Deliver (id_at p.held m) ≡ entry.Judged (id_at p.held n) = cc in cc)
 
 -- where the next entry judges the message of a number, so does the graph's next step
-pub judge_next : (clients : Meaning) (p : Parts) (s : IsState p) → Knows clients (value_of p) → (n : ℕ) → n < length p.held
+pub judge_next : (clients : Meaning) (p : Parts) (s : IsState p) → KnowsJudgements clients (value_of p) → (n : ℕ) → n < length p.held
     → next clients (facts_of p) ≡ Some (entry.Judged (id_at p.held n)) → nodes.next p.nodes ≡ Some (step.Judge n)
 judge_next clients p s k n b e = judge_by p s n b (nodes.next p.nodes) refl (found_next clients p s k (nodes.next p.nodes) refl ∙ e)
 
@@ -144,7 +144,7 @@ invalid_by p s n b (Some (step.Invalid m)) e f =
     ap (λ k. Some (step.Invalid k)) (same_place p s m n a b ids)
 invalid_by p s n b (Some (step.Deliver m)) e f = absurd (let wrong : entry.Deliver (id_at p.held m) ≡ entry.Invalid (id_at p.held n) = cc in cc)
 
-pub invalid_next : (clients : Meaning) (p : Parts) (s : IsState p) → Knows clients (value_of p) → (n : ℕ) → n < length p.held
+pub invalid_next : (clients : Meaning) (p : Parts) (s : IsState p) → KnowsJudgements clients (value_of p) → (n : ℕ) → n < length p.held
     → next clients (facts_of p) ≡ Some (entry.Invalid (id_at p.held n)) → nodes.next p.nodes ≡ Some (step.Invalid n)
 invalid_next clients p s k n b e = invalid_by p s n b (nodes.next p.nodes) refl (found_next clients p s k (nodes.next p.nodes) refl ∙ e)
 
@@ -158,6 +158,6 @@ deliver_by p s n b (Some (step.Deliver m)) e f =
     let a : m < length p.held = (let below : m < length p.nodes = next_within p.nodes (step.Deliver m) e in omega (arith, below, many_nodes p s)) in
     ap (λ k. Some (step.Deliver k)) (same_place p s m n a b ids)
 
-pub deliver_next : (clients : Meaning) (p : Parts) (s : IsState p) → Knows clients (value_of p) → (n : ℕ) → n < length p.held
+pub deliver_next : (clients : Meaning) (p : Parts) (s : IsState p) → KnowsJudgements clients (value_of p) → (n : ℕ) → n < length p.held
     → next clients (facts_of p) ≡ Some (entry.Deliver (id_at p.held n)) → nodes.next p.nodes ≡ Some (step.Deliver n)
 deliver_next clients p s k n b e = deliver_by p s n b (nodes.next p.nodes) refl (found_next clients p s k (nodes.next p.nodes) refl ∙ e)

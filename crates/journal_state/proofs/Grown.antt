@@ -7,7 +7,7 @@ use Rattle.sync_rules.specs.Views.{place_of}
 use Rattle.retry_table.specs.Table as retry
 use Rattle.journal_state.specs.Parts.{Parts, facts_of, rows_in, wants_in}
 use Rattle.journal_state.specs.Whole.{IsState}
-use Rattle.journal_state.specs.Delivery.{Grows}
+use Rattle.journal_state.specs.Delivery.{GrowsRoom}
 use Rattle.journal_state.proofs.Rows.{row_by, row_found, lean_in, rows_are}
 
 -- ---- tables that stand for the same
@@ -50,17 +50,17 @@ same_kept [] more n = none_more more n
 same_kept (k ∷ rows) more zero = refl
 same_kept (k ∷ rows) more (suc n) = same_kept rows more n
 
-pub same_table : (t : retry.Table) → Grows t t
+pub same_table : (t : retry.Table) → GrowsRoom t t
 same_table t = record { kept = λ contact n. refl; wants = λ contact. refl; room = λ contact. omega arith }
 
-pub grows_on : (a b c : retry.Table) → Grows a b → Grows b c → Grows a c
+pub grows_on : (a b c : retry.Table) → GrowsRoom a b → GrowsRoom b c → GrowsRoom a c
 grows_on a b c g h = record {
   kept = λ contact n. h.kept contact n ∙ g.kept contact n;
   wants = λ contact. h.wants contact ∙ g.wants contact;
   room = λ contact. omega (arith, g.room contact, h.room contact);
 }
 
-module _ (old new : retry.Table) (contact numbers room : ℕ) (r : retry.Reserves old new contact numbers room) where
+module _ (old new : retry.Table) (contact numbers room : ℕ) (r : retry.ReservesRows old new contact numbers room) where
   kept_by : (c n : ℕ) (b : Bool) → nat_eq c contact ≡ b → retry.kept_at new c n ≡ retry.kept_at old c n
   kept_by c n true e =
       let same : c ≡ contact = eqb-true c contact e in
@@ -72,8 +72,8 @@ module _ (old new : retry.Table) (contact numbers room : ℕ) (r : retry.Reserve
   wants_by : (c : ℕ) (b : Bool) → nat_eq c contact ≡ b → (retry.wants_of new c).ids ≡ (retry.wants_of old c).ids
   wants_by c true e =
       let same : c ≡ contact = eqb-true c contact e in
-      ap (λ x. (retry.wants_of new x).ids) same ∙ (ap (λ (w : retry.Wants). w.ids) r.wants ∙ ap (λ x. (retry.wants_of old x).ids) (sym same))
-  wants_by c false e = ap (λ (w : retry.Wants). w.ids) (r.other_wants c (let ne : c ≢ contact = (λ q. grind (arith, e, q)) in ne))
+      ap (λ x. (retry.wants_of new x).ids) same ∙ (ap (λ (w : retry.WantedFromContact). w.ids) r.wants ∙ ap (λ x. (retry.wants_of old x).ids) (sym same))
+  wants_by c false e = ap (λ (w : retry.WantedFromContact). w.ids) (r.other_wants c (let ne : c ≢ contact = (λ q. grind (arith, e, q)) in ne))
 
   room_by : (c : ℕ) (b : Bool) → nat_eq c contact ≡ b → length (retry.rows_of old c) ≤ length (retry.rows_of new c)
   room_by c true e =
@@ -87,14 +87,14 @@ module _ (old new : retry.Table) (contact numbers room : ℕ) (r : retry.Reserve
       omega (arith, same)
 
   -- a contact that has more room keeps the same
-  pub reserved : Grows old new
+  pub reserved : GrowsRoom old new
   reserved = record {
     kept = λ c n. kept_by c n (nat_eq c contact) refl;
     wants = λ c. wants_by c (nat_eq c contact) refl;
     room = λ c. room_by c (nat_eq c contact) refl;
   }
 
-pub grown_state : (p : Parts) → IsState p → (t : retry.Table) → Grows p.retry t → IsState (record p { retry = t })
+pub grown_state : (p : Parts) → IsState p → (t : retry.Table) → GrowsRoom p.retry t → IsState (record p { retry = t })
 grown_state p s t g = record {
   named = s.named;
   grouped = s.grouped;
@@ -111,7 +111,7 @@ grown_state p s t g = record {
   ready = λ contact n h known at. ap (λ (k : retry.KeptRow). k.ready) (g.kept contact n) ∙ s.ready contact n h known at;
 }
 
-pub grown_facts : (p : Parts) (t : retry.Table) → Grows p.retry t → facts_of (record p { retry = t }) ≡ facts_of p
+pub grown_facts : (p : Parts) (t : retry.Table) → GrowsRoom p.retry t → facts_of (record p { retry = t }) ≡ facts_of p
 grown_facts p t g =
     let rows : rows_in t p.held ≡ rows_in p.retry p.held = rows_same p.retry t p.held (λ contact n. ap (λ (k : retry.KeptRow). k.row) (g.kept contact n)) in
     let wants : wants_in t p.table.contacts ≡ wants_in p.retry p.table.contacts = wants_same p.retry t g.wants p.table.contacts in

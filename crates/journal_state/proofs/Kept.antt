@@ -75,7 +75,7 @@ within_held (y ∷ xs) zero x at = omega arith
 within_held (y ∷ xs) (suc n) x at = let later = within_held xs n x at in omega (arith, later)
 
 module _ (p : Parts) (s : IsState p) (contact n : ℕ) (h : Held) (at : slice_get p.held n ≡ Some h) (change : Row → Row) (t : retry.Table)
-    (k : retry.Keeps p.retry t contact n (retry.with_row change (retry.kept_at p.retry contact n))) (within : n < length (retry.rows_of p.retry contact)) where
+    (k : retry.KeepsRow p.retry t contact n (retry.with_row change (retry.kept_at p.retry contact n))) (within : n < length (retry.rows_of p.retry contact)) where
   own_row : (c : ℕ) → (retry.kept_at t c n).row ≡ cond (nat_eq c contact && true) (change (row_at (rows_in p.retry p.held) contact h.id)) (row_at (rows_in p.retry p.held) c h.id)
   own_row c =
       elim (nat_eq c contact) as (λ b. nat_eq c contact ≡ b → (retry.kept_at t c n).row ≡ cond (b && true) (change (row_at (rows_in p.retry p.held) contact h.id)) (row_at (rows_in p.retry p.held) c h.id)) [
@@ -117,7 +117,7 @@ module _ (p : Parts) (s : IsState p) (contact n : ℕ) (h : Held) (at : slice_ge
       (lean_put (rows_in p.retry p.held) (contact, h.id) (change (row_at (rows_in p.retry p.held) contact h.id)) (lean_in p.retry p.held)) each_row
 
   same_wants : (c : ℕ) → (retry.wants_of t c).ids ≡ (retry.wants_of p.retry c).ids
-  same_wants c = ap (λ (ws : List retry.Wants). (retry.wants_of (record p.retry { wants = ws }) c).ids) k.wants
+  same_wants c = ap (λ (ws : List retry.WantedFromContact). (retry.wants_of (record p.retry { wants = ws }) c).ids) k.wants
 
   same_ready : (c m : ℕ) → (retry.kept_at t c m).ready ≡ (retry.kept_at p.retry c m).ready
   same_ready c m = either c contact

@@ -24,7 +24,7 @@ one_less ns n end y at open_now =
     let sums = sum_changed left_at (λ (x : Node). record x { ending = Some end }) n ns y at in
     omega (arith, none, sums)
 
-pub ended_less : (ns : List Node) (s : Step) → nodes.next ns ≡ Some s → nodes.Ends s → left_in (nodes.after_step s ns) + 1 ≡ left_in ns
+pub ended_less : (ns : List Node) (s : Step) → nodes.next ns ≡ Some s → nodes.EndsNode s → left_in (nodes.after_step s ns) + 1 ≡ left_in ns
 ended_less ns (step.Judge n) e ends = absurd ends
 ended_less ns (step.Invalid n) e ends = let f : IsNextNode ns (step.Invalid n) = node_found ns (step.Invalid n) e in one_less ns n ending.Invalid f.node f.at f.tells.2
 ended_less ns (step.Deliver n) e ends = let f : IsNextNode ns (step.Deliver n) = node_found ns (step.Deliver n) e in one_less ns n ending.Delivered f.node f.at f.tells.2

@@ -34,7 +34,7 @@ use Rattle.journal_state.specs.Levelling.{levelled, levelled_at, SetsLevels}
 use Rattle.journal_state.proofs.Places.{id_is, id_itself, id_swap}
 use Rattle.journal_state.proofs.Pairs.{hits, hits_is, pair_total}
 use Rattle.journal_state.specs.Room.{room_in}
-use Rattle.journal_state.specs.Taking.{Spends, moved}
+use Rattle.journal_state.specs.Taking.{SpendsRoom, moved}
 use Rattle.journal_state.proofs.Tables.{either, kept_here, kept_there, kept_length, room_spent, one_less}
 
 -- ---- rows
@@ -44,7 +44,7 @@ set_same [] n d = refl
 set_same (x ∷ xs) zero d = refl
 set_same (x ∷ xs) (suc n) d = ap (λ ys. x ∷ ys) (set_same xs n d)
 
-pub keeps_same : (t : retry.Table) (contact n : ℕ) → retry.Keeps t t contact n (retry.kept_at t contact n)
+pub keeps_same : (t : retry.Table) (contact n : ℕ) → retry.KeepsRow t t contact n (retry.kept_at t contact n)
 keeps_same t contact n = record { here = sym (set_same (retry.rows_of t contact) n retry.no_kept); others = λ other apart. refl; wants = refl }
 
 pub levels_none : (t : retry.Table) (contact : ℕ) (level : ℕ → retry.KeptRow → retry.KeptRow) → SetsLevels t t contact [] level
@@ -66,7 +66,7 @@ any_more test (y ∷ xs) x = by (test y) (list_any test xs) (list_any test (xs +
 pub levels_more : (old mid new : retry.Table) (contact : ℕ) (xs : List ℕ) (x : ℕ) (level : ℕ → retry.KeptRow → retry.KeptRow)
     → ((n : ℕ) (k : retry.KeptRow) → level n (level n k) ≡ level n k)
     → SetsLevels old mid contact xs level → x < length (retry.rows_of old contact)
-    → retry.Keeps mid new contact x (level x (retry.kept_at mid contact x)) → SetsLevels old new contact (xs ++ x ∷ []) level
+    → retry.KeepsRow mid new contact x (level x (retry.kept_at mid contact x)) → SetsLevels old new contact (xs ++ x ∷ []) level
 levels_more old mid new contact xs x level twice l within k = record {
   here = λ n. by n (nat_eq n x) refl ∙ sym (ap (λ b. cond b (level n (retry.kept_at old contact n)) (retry.kept_at old contact n)) (any_more (nat_eq n) xs x));
   many = kept_length mid new contact x (level x (retry.kept_at mid contact x)) k contact ∙ l.many;
@@ -110,12 +110,12 @@ levelled_twice group shared held shares n k = by (slice_get held n) (slice_index
     by (Some h) share = twice (same_id h.message.group group) _
 
 pub levels_room : (space : ℕ) (old new : retry.Table) (contact : ℕ) (xs : List ℕ) (level : ℕ → retry.KeptRow → retry.KeptRow) → SetsLevels old new contact xs level
-    → Spends (room_in space old) (room_in (space - 1) new)
+    → SpendsRoom (room_in space old) (room_in (space - 1) new)
 levels_room space old new contact xs level l = room_spent space (space - 1) old new (one_less space)
     (λ c. either c contact
     (λ e. subst (λ x. length (retry.rows_of old x) ≤ length (retry.rows_of new x)) (sym e) (let m = l.many in omega (arith, m)))
     (λ apart. let m = ap (λ (ks : List retry.KeptRow). length ks) (l.others c apart) in omega (arith, m)))
-    (λ c. let m = ap (λ (ws : List retry.Wants). (retry.wants_of (record old { wants = ws }) c).room) l.wants in omega (arith, m))
+    (λ c. let m = ap (λ (ws : List retry.WantedFromContact). (retry.wants_of (record old { wants = ws }) c).room) l.wants in omega (arith, m))
 
 -- ---- levels
 
@@ -233,7 +233,7 @@ and_false : (b : Bool) → (b && false) ≡ false
 and_false true = refl
 and_false false = refl
 
-module _ (p : Parts) (s : IsState p) (honest : Honest p.nodes p.shares) (c : ℕ) (g : Id) (l : Level) (t : levels.Table)
+module _ (p : Parts) (s : IsState p) (honest : Honest p.nodes p.shares) (c : ℕ) (g : Id) (l : Level) (t : levels.TableOfLevels)
     (made : t ≡ levels.after_entry p.table (entry.Level c g l)) (new : retry.Table)
     (r : SetsLevels p.retry new c p.delivered (levelled_at g (is_level_shared l) p.held p.shares)) (space : ℕ) where
   -- a message is among those that may be shared where its mark says so
@@ -354,7 +354,7 @@ module _ (p : Parts) (s : IsState p) (honest : Honest p.nodes p.shares) (c : ℕ
     free_rows = λ contact n beyond. either contact c
         (λ e. ap (λ x. retry.kept_at new x n) e ∙ free_here n beyond)
         (λ apart. ap (λ (ks : List retry.KeptRow). retry.kept_in ks n) (r.others contact apart) ∙ s.free_rows contact n beyond);
-    free_wants = λ contact beyond. ap (λ (ws : List retry.Wants). (retry.wants_of (record p.retry { wants = ws }) contact).ids) r.wants ∙ s.free_wants contact beyond;
+    free_wants = λ contact beyond. ap (λ (ws : List retry.WantedFromContact). (retry.wants_of (record p.retry { wants = ws }) contact).ids) r.wants ∙ s.free_wants contact beyond;
     hidden = level_hidden met;
     shown = level_shown known;
     ready = λ contact n h below at. either contact c
@@ -364,12 +364,12 @@ module _ (p : Parts) (s : IsState p) (honest : Honest p.nodes p.shares) (c : ℕ
   }
 
   pub level_state : c < p.table.contacts → is_some (group_at p.table.groups g) ≡ true → IsState (record p { table = t; retry = new; space = space })
-  level_state met known = subst (λ (x : levels.Table). IsState (record p { table = x; retry = new; space = space })) (sym made) (level_then met known)
+  level_state met known = subst (λ (x : levels.TableOfLevels). IsState (record p { table = x; retry = new; space = space })) (sym made) (level_then met known)
 
   pub level_facts : facts_of (record p { table = t; retry = new; space = space }) ≡ moved (facts_of p) (entry.Level c g l)
   level_facts =
-      ap (λ (x : levels.Table). facts_of (record p { table = x; retry = new; space = space })) made
+      ap (λ (x : levels.TableOfLevels). facts_of (record p { table = x; retry = new; space = space })) made
       ∙ (λ i. record (moved (facts_of p) (entry.Level c g l)) {
         rows = rows_same new p.retry p.held level_row i;
-        wanted = wants_same new p.retry p.table.contacts (λ contact. ap (λ (ws : List retry.Wants). (retry.wants_of (record p.retry { wants = ws }) contact).ids) r.wants) i;
+        wanted = wants_same new p.retry p.table.contacts (λ contact. ap (λ (ws : List retry.WantedFromContact). (retry.wants_of (record p.retry { wants = ws }) contact).ids) r.wants) i;
       })

@@ -5,7 +5,7 @@ use Rattle.sync_rules.specs.Facts.{Row, one_more_try}
 use Rattle.retry_table.specs.Table as retry
 use Rattle.journal_state.specs.declared.marks.Mark.{Mark}
 use Rattle.journal_state.specs.declared.marks.Mark.TheVariants as mark
-use Rattle.journal_state.specs.Delivery.{Readies}
+use Rattle.journal_state.specs.Delivery.{ReadiesMessage}
 use Rattle.journal_state.specs.Inside.{IsLimited, LimitsRows}
 use Rattle.journal_state.specs.Marks.{marked}
 use Rattle.journal_state.proofs.Tables.{either, kept_here, kept_there}
@@ -38,7 +38,7 @@ pub limits_same : (old new : retry.Table) → ((contact n : ℕ) → (retry.kept
 limits_same old new same l contact n = subst IsLimited (sym (same contact n)) (l contact n)
 
 -- one row is another
-pub limits_kept : (old new : retry.Table) (contact n : ℕ) (kept : retry.KeptRow) → retry.Keeps old new contact n kept → n < length (retry.rows_of old contact)
+pub limits_kept : (old new : retry.Table) (contact n : ℕ) (kept : retry.KeptRow) → retry.KeepsRow old new contact n kept → n < length (retry.rows_of old contact)
     → IsLimited kept.row → LimitsRows old → LimitsRows new
 limits_kept old new contact n kept k within own l c m = either c contact
     (λ e. either m n
@@ -52,7 +52,7 @@ row_readied : (goes : Bool) (w : retry.KeptRow) → (cond goes (retry.with_ready
 row_readied true w = refl
 row_readied false w = refl
 
-pub readied_row : (old new : retry.Table) (goes : ℕ → Bool) (contacts n : ℕ) → Readies old new goes contacts n → (contact k : ℕ)
+pub readied_row : (old new : retry.Table) (goes : ℕ → Bool) (contacts n : ℕ) → ReadiesMessage old new goes contacts n → (contact k : ℕ)
     → (retry.kept_at new contact k).row ≡ (retry.kept_at old contact k).row
 readied_row old new goes contacts n r contact k = either k n own (λ away. ap (λ (w : retry.KeptRow). w.row) (r.apart contact k away))
   where

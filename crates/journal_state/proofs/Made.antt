@@ -17,9 +17,9 @@ use Rattle.message_graph.specs.declared.nodes.Step.TheVariants as step
 use Rattle.message_graph.specs.Nodes as nodes
 use Rattle.retry_table.specs.Table as retry
 use Rattle.journal_state.specs.Parts.{Parts, answer_of_node, answers_of, facts_of}
-use Rattle.journal_state.specs.Whole.{StateValue, IsState, Knows, id_at, value_of}
+use Rattle.journal_state.specs.Whole.{StateValue, IsState, KnowsJudgements, id_at, value_of}
 use Rattle.journal_state.specs.Changes.{delivered_parts}
-use Rattle.journal_state.specs.Delivery.{goes_to, Grows, Readies}
+use Rattle.journal_state.specs.Delivery.{goes_to, GrowsRoom, ReadiesMessage}
 use Rattle.journal_state.specs.Taking.{moved}
 use Rattle.journal_state.proofs.Listed.{id_there}
 use Rattle.journal_state.proofs.Found.{IsNext, next_found, judge_next, invalid_next, deliver_next}
@@ -31,7 +31,7 @@ use Rattle.journal_state.proofs.Delivered.{delivered_state, delivered_facts}
 
 -- the next step is of this kind, and of the message of that number
 abbrev pub Claims : (Id → Entry) → ℕ → StateValue → Type 0
-Claims kind n v = (n < length v.facts.held) × ((clients : Meaning) × (Knows clients v × (next clients v.facts ≡ Some (kind (id_at v.facts.held n)))))
+Claims kind n v = (n < length v.facts.held) × ((clients : Meaning) × (KnowsJudgements clients v × (next clients v.facts ≡ Some (kind (id_at v.facts.held n)))))
 
 pub judge_node : (p : Parts) → IsState p → (v : StateValue) → value_of p ≡ v → (n : ℕ) → Claims entry.Judged n v → nodes.next p.nodes ≡ Some (step.Judge n)
 judge_node p s v view n claim = let k : Claims entry.Judged n (value_of p) = subst (Claims entry.Judged n) (sym view) claim in judge_next k.1.0 p s k.1.1.0 n k.0 k.1.1.1
@@ -48,7 +48,7 @@ shown_as f o h x is shows = let both : Some (f h) ≡ Some x = sym (ap (option_m
 
 -- the same answers are the clients' after a step that judges nothing
 same_known : (p : Parts) (clients : Meaning) (answers : List (Option Judgement)) (f : Facts) (hs : List Held) → answers ≡ answers_of p.nodes p.shares
-    → map (answer_of clients f) hs ≡ map (answer_of clients (facts_of p)) p.held → Knows clients (value_of p) → answers ≡ map (answer_of clients f) hs
+    → map (answer_of clients f) hs ≡ map (answer_of clients (facts_of p)) p.held → KnowsJudgements clients (value_of p) → answers ≡ map (answer_of clients f) hs
 same_known p clients answers f hs same others k = same ∙ (k ∙ sym others)
 
 -- ---- judged
@@ -67,12 +67,12 @@ module _ (p : Parts) (s : IsState p) (n : ℕ) (e : nodes.next p.nodes ≡ Some 
       ∙ (judged_facts p s n f.node f.message f.at f.there f.tells.1 j share a shows
       ∙ ap (λ (d : Id). moved (facts_of p) (entry.Judged d)) (sym (id_there p.held n f.message f.there)))
 
-  pub judged_known : (clients : Meaning) → Knows clients (value_of p) → (m : MessageValue) → option_map (λ (h : Held). h.message) (slice_get p.held n) ≡ Some m
-      → a ≡ verdict_in clients p.table.groups m → Knows clients (value_of (record p { nodes = ns; shares = slice_set p.shares n share }))
+  pub judged_known : (clients : Meaning) → KnowsJudgements clients (value_of p) → (m : MessageValue) → option_map (λ (h : Held). h.message) (slice_get p.held n) ≡ Some m
+      → a ≡ verdict_in clients p.table.groups m → KnowsJudgements clients (value_of (record p { nodes = ns; shares = slice_set p.shares n share }))
   judged_known clients k m m_is says =
       let f : IsNext p (step.Judge n) = next_found p s (step.Judge n) e in
       let message : f.message.message ≡ m = shown_as (λ (h : Held). h.message) (slice_get p.held n) f.message m f.there m_is in
-      subst (λ (xs : List Node). Knows clients (value_of (record p { nodes = xs; shares = slice_set p.shares n share }))) (sym is)
+      subst (λ (xs : List Node). KnowsJudgements clients (value_of (record p { nodes = xs; shares = slice_set p.shares n share }))) (sym is)
       (judged_knows p s n f.node f.message f.at f.there f.tells.1 j share a shows clients k (ap (verdict_in clients p.table.groups) message ∙ sym says))
 
 -- ---- invalid
@@ -90,7 +90,7 @@ module _ (p : Parts) (s : IsState p) (n : ℕ) (e : nodes.next p.nodes ≡ Some 
       ∙ (invalid_facts p s n f.node f.message f.at f.there f.tells.1.0 f.tells.1.1 f.tells.2
       ∙ ap (λ (d : Id). moved (facts_of p) (entry.Invalid d)) (sym (id_there p.held n f.message f.there)))
 
-  pub refused_known : (clients : Meaning) → Knows clients (value_of p) → Knows clients (value_of (record p { nodes = ns }))
+  pub refused_known : (clients : Meaning) → KnowsJudgements clients (value_of p) → KnowsJudgements clients (value_of (record p { nodes = ns }))
   refused_known clients k =
       same_known p clients (answers_of ns p.shares) (facts_of (record p { nodes = ns })) p.held
       (ap (λ (xs : List Node). answers_of xs p.shares) is ∙ answers_kept p.nodes p.shares n ending.Invalid)
@@ -106,7 +106,7 @@ got (y ∷ xs) (suc n) x within is = got xs n x (omega arith) is
 module _ (p : Parts) (s : IsState p) (n : ℕ) (e : nodes.next p.nodes ≡ Some (step.Deliver n)) (m : MessageValue) (m_is : option_map (λ (h : Held). h.message) (slice_get p.held n) ≡ Some m)
     (group : Id) (group_is : group ≡ m.group) (o : Origin) (o_is : option_map (λ (h : Held). h.origin) (slice_get p.held n) ≡ Some o)
     (share : Bool) (share_is : share ≡ slice_index_or p.shares n share) (outgoing : Bool) (out_is : outgoing ≡ (is_author o || share))
-    (t : retry.Table) (g : Grows p.retry t) (u : retry.Table) (r : Readies t u (goes_to p.table.levels group outgoing) p.table.contacts n)
+    (t : retry.Table) (g : GrowsRoom p.retry t) (u : retry.Table) (r : ReadiesMessage t u (goes_to p.table.levels group outgoing) p.table.contacts n)
     (ns : List Node) (ns_is : ns ≡ nodes.with_ending n ending.Delivered p.nodes) (ds : List ℕ) (ds_is : ds ≡ p.delivered ++ n ∷ []) where
   next_now : IsNext p (step.Deliver n)
   next_now = next_found p s (step.Deliver n) e
@@ -120,10 +120,10 @@ module _ (p : Parts) (s : IsState p) (n : ℕ) (e : nodes.next p.nodes ≡ Some 
   opens_now : (h : Held) → slice_get p.held n ≡ Some h → outgoing ≡ (is_author h.origin || share)
   opens_now h there = out_is ∙ ap (λ (x : Origin). is_author x || share) (sym (shown_as (λ (w : Held). w.origin) (slice_get p.held n) h o there o_is))
 
-  readies_now : (h : Held) → slice_get p.held n ≡ Some h → Readies t u (goes_to p.table.levels h.message.group outgoing) p.table.contacts n
+  readies_now : (h : Held) → slice_get p.held n ≡ Some h → ReadiesMessage t u (goes_to p.table.levels h.message.group outgoing) p.table.contacts n
   readies_now h there =
       let same : group ≡ h.message.group = group_is ∙ ap (λ (x : MessageValue). x.group) (sym (shown_as (λ (w : Held). w.message) (slice_get p.held n) h m there m_is)) in
-      subst (λ (d : Id). Readies t u (goes_to p.table.levels d outgoing) p.table.contacts n) same r
+      subst (λ (d : Id). ReadiesMessage t u (goes_to p.table.levels d outgoing) p.table.contacts n) same r
 
   pub delivered_then : IsState (record p { nodes = ns; delivered = ds; retry = u })
   delivered_then =

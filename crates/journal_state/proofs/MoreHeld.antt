@@ -23,7 +23,7 @@ use Rattle.visibility_table.specs.Table as levels
 use Rattle.journal_state.specs.Left.{delivered_among, one_if_delivered}
 use Rattle.journal_state.specs.Parts.{Parts, answer_of_node, answers_of, facts_of, is_invalid, is_judged, name_at, names_where, rows_in, shared_among, wants_in}
 use Rattle.journal_state.specs.Unwanted.{UnwantsBelow}
-use Rattle.journal_state.specs.Whole.{IsState, Knows, is_delivered_in, may_go, value_of}
+use Rattle.journal_state.specs.Whole.{IsState, KnowsJudgements, is_delivered_in, may_go, value_of}
 use Rattle.journal_state.proofs.Places.{id_itself, id_swap}
 use Rattle.journal_state.specs.Sound.{AreApart}
 use Rattle.journal_state.proofs.Apart.{first_apart, passes, set_named}
@@ -357,7 +357,7 @@ module _ (p : Parts) (s : IsState p) (h : Held) (group : ℕ) (t : retry.Table) 
       verdict : Meaning → Judgement
       verdict clients = verdict_in clients (facts_of p).groups h.message
 
-  pub held_knows : (clients : Meaning) → Knows clients (value_of p) → Knows clients (value_of (held_parts p h group t space))
+  pub held_knows : (clients : Meaning) → KnowsJudgements clients (value_of p) → KnowsJudgements clients (value_of (held_parts p h group t space))
   held_knows clients k =
       answers_held
       ∙ ((λ i. k i ++ sym (unjudged clients) i ∷ [])

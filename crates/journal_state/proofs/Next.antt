@@ -23,7 +23,7 @@ use Rattle.message_graph.specs.declared.nodes.Step.TheVariants as graph_step
 use Rattle.message_graph.specs.Nodes as nodes
 use Rattle.visibility_table.specs.Table as levels
 use Rattle.journal_state.specs.Parts.{Parts, answer_of_node, facts_of, is_invalid}
-use Rattle.journal_state.specs.Whole.{IsState, Knows, id_at, is_delivered_in, value_of}
+use Rattle.journal_state.specs.Whole.{IsState, KnowsJudgements, id_at, is_delivered_in, value_of}
 use Rattle.message_graph.specs.Nodes.{step_number}
 use Rattle.journal_state.specs.Stepping.{entry_of}
 use Rattle.journal_state.specs.Sound.{AreApart}
@@ -35,7 +35,7 @@ not-cond : (b : Bool) → not b ≡ cond b false true
 not-cond true = refl
 not-cond false = refl
 
-module _ (clients : Meaning) (p : Parts) (s : IsState p) (k : Knows clients (value_of p)) where
+module _ (clients : Meaning) (p : Parts) (s : IsState p) (k : KnowsJudgements clients (value_of p)) where
   each : Each clients (facts_of p) p.table.groups p.nodes p.held
   each = paired clients (facts_of p) p.table.groups p.nodes p.shares p.held s.named k (λ n h node a b. s.grouped n h node a b)
 
@@ -177,7 +177,7 @@ next_within ns s e = let within = first_number ns 0 ns s e in omega (arith, with
 
 -- ---- what the graph answers
 
-pub found_next : (clients : Meaning) (p : Parts) (s : IsState p) (k : Knows clients (value_of p)) (o : Option Step) → o ≡ nodes.next p.nodes
+pub found_next : (clients : Meaning) (p : Parts) (s : IsState p) (k : KnowsJudgements clients (value_of p)) (o : Option Step) → o ≡ nodes.next p.nodes
     → option_map (entry_of (id_at p.held)) o ≡ next clients (facts_of p)
 found_next clients p s k o e = ap (option_map (entry_of (id_at p.held))) e ∙ sym (next_same clients p s k)
 
@@ -189,6 +189,6 @@ none_left : (name : ℕ → Id) (o : Option Step) (x : Option Entry) (b : Bool) 
 none_left name None x b e f = (λ t. sym f, λ n. e)
 none_left name (Some y) x b e f = (λ t. absurd (false≢true (sym e ∙ t)), λ n. absurd (let wrong : Some (entry_of name y) ≡ None = f ∙ n in cc))
 
-pub settled_same : (clients : Meaning) (p : Parts) (s : IsState p) (k : Knows clients (value_of p)) (o : Option Step) (b : Bool) → o ≡ nodes.next p.nodes → b ≡ is_none o
+pub settled_same : (clients : Meaning) (p : Parts) (s : IsState p) (k : KnowsJudgements clients (value_of p)) (o : Option Step) (b : Bool) → o ≡ nodes.next p.nodes → b ≡ is_none o
     → IsTrue b ↔ IsSettled clients (facts_of p)
 settled_same clients p s k o b e f = none_left (id_at p.held) o (next clients (facts_of p)) b f (found_next clients p s k o e)

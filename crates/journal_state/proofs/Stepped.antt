@@ -18,7 +18,7 @@ use Rattle.message_graph.specs.declared.nodes.Ending.TheVariants as ending
 use Rattle.message_graph.specs.Nodes as nodes
 use Rattle.journal_state.specs.Left.{one_if_delivered}
 use Rattle.journal_state.specs.Parts.{Parts, answer_of_node, answers_of, facts_of, is_invalid, is_judged, name_at, ids_where, shared_among}
-use Rattle.journal_state.specs.Whole.{IsState, Knows, is_delivered_in, may_go, value_of}
+use Rattle.journal_state.specs.Whole.{IsState, KnowsJudgements, is_delivered_in, may_go, value_of}
 use Rattle.journal_state.specs.Changes.{judged_parts, invalid_parts}
 use Rattle.journal_state.specs.Taking.{moved}
 use Rattle.journal_state.proofs.Places.{id_is}
@@ -175,7 +175,7 @@ module _ (p : Parts) (s : IsState p) (n : ℕ) (y : Node) (h : Held) (at : slice
       })
 
   -- what is kept of the clients' judgements is theirs, where this one is
-  pub judged_knows : (clients : Meaning) → Knows clients (value_of p) → verdict_in clients (facts_of p).groups h.message ≡ a → Knows clients (value_of (judged_parts p n j share))
+  pub judged_knows : (clients : Meaning) → KnowsJudgements clients (value_of p) → verdict_in clients (facts_of p).groups h.message ≡ a → KnowsJudgements clients (value_of (judged_parts p n j share))
   judged_knows clients k verdict =
       answers_step
       ∙ ((λ i. set (k i) n (Some (sym verdict i)))

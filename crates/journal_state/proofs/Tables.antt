@@ -4,7 +4,7 @@ use Rattle.std.proofs.lemmas.Bool.{false≢true}
 use Rattle.std.proofs.lemmas.List.{length-set, length-replicate}
 use Rattle.retry_table.specs.Table as retry
 use Rattle.journal_state.specs.Room.{KeepsRoom, room_in, rows_room, wants_room}
-use Rattle.journal_state.specs.Taking.{Spends}
+use Rattle.journal_state.specs.Taking.{SpendsRoom}
 
 eq_self : (n : ℕ) → nat_eq n n ≡ true
 eq_self n = grind arith
@@ -52,7 +52,7 @@ pub rows_room_is : (space : ℕ) (table : retry.Table) (contact : ℕ) → rows_
 rows_room_is space table contact = at_map (λ (ks : List retry.KeptRow). length ks) table.rows contact []
 
 pub wants_room_is : (space : ℕ) (table : retry.Table) (contact : ℕ) → wants_room (room_in space table) contact ≡ (retry.wants_of table contact).room
-wants_room_is space table contact = at_map (λ (w : retry.Wants). w.room) table.wants contact retry.no_wants
+wants_room_is space table contact = at_map (λ (w : retry.WantedFromContact). w.room) table.wants contact retry.no_wants
 
 -- ---- the same rows and wanted ids
 
@@ -60,7 +60,7 @@ pub record SameKept (old new : retry.Table) : Type 0 where
   pub rows : (contact n : ℕ) → retry.kept_at new contact n ≡ retry.kept_at old contact n
   pub wants : (contact : ℕ) → (retry.wants_of new contact).ids ≡ (retry.wants_of old contact).ids
 
-module _ (old new : retry.Table) (contact numbers room : ℕ) (r : retry.Reserves old new contact numbers room) where
+module _ (old new : retry.Table) (contact numbers room : ℕ) (r : retry.ReservesRows old new contact numbers room) where
   pub same_reserved : SameKept old new
   same_reserved = record {
     rows = λ c n. either c contact
@@ -69,8 +69,8 @@ module _ (old new : retry.Table) (contact numbers room : ℕ) (r : retry.Reserve
         ∙ (padded (retry.rows_of old contact) retry.no_kept (numbers - length (retry.rows_of old contact)) n ∙ ap (λ x. retry.kept_at old x n) (sym e))))
         (λ apart. ap (λ (ks : List retry.KeptRow). retry.kept_in ks n) (r.other_rows c apart));
     wants = λ c. either c contact
-        (λ e. ap (λ x. (retry.wants_of new x).ids) e ∙ (ap (λ (w : retry.Wants). w.ids) r.wants ∙ ap (λ x. (retry.wants_of old x).ids) (sym e)))
-        (λ apart. ap (λ (w : retry.Wants). w.ids) (r.other_wants c apart));
+        (λ e. ap (λ x. (retry.wants_of new x).ids) e ∙ (ap (λ (w : retry.WantedFromContact). w.ids) r.wants ∙ ap (λ x. (retry.wants_of old x).ids) (sym e)))
+        (λ apart. ap (λ (w : retry.WantedFromContact). w.ids) (r.other_wants c apart));
   }
 
   reserved_length : length (retry.rows_of new contact) ≡ length (retry.rows_of old contact) + (numbers - length (retry.rows_of old contact))
@@ -83,7 +83,7 @@ module _ (old new : retry.Table) (contact numbers room : ℕ) (r : retry.Reserve
   reserved_rows = omega (arith, reserved_length)
 
   pub reserved_wants : room ≤ (retry.wants_of new contact).room
-  reserved_wants = let e : (retry.wants_of new contact).room ≡ max (retry.wants_of old contact).room room = ap (λ (w : retry.Wants). w.room) r.wants in omega (arith, e)
+  reserved_wants = let e : (retry.wants_of new contact).room ≡ max (retry.wants_of old contact).room room = ap (λ (w : retry.WantedFromContact). w.room) r.wants in omega (arith, e)
 
   pub more_rows : (c : ℕ) → length (retry.rows_of old c) ≤ length (retry.rows_of new c)
   more_rows c = either c contact
@@ -93,12 +93,12 @@ module _ (old new : retry.Table) (contact numbers room : ℕ) (r : retry.Reserve
   pub more_wants : (c : ℕ) → (retry.wants_of old c).room ≤ (retry.wants_of new c).room
   more_wants c = either c contact
       (λ e. subst (λ x. (retry.wants_of old x).room ≤ (retry.wants_of new x).room) (sym e)
-      (let m : (retry.wants_of new contact).room ≡ max (retry.wants_of old contact).room room = ap (λ (w : retry.Wants). w.room) r.wants in omega (arith, m)))
-      (λ apart. let e = ap (λ (w : retry.Wants). w.room) (r.other_wants c apart) in omega (arith, e))
+      (let m : (retry.wants_of new contact).room ≡ max (retry.wants_of old contact).room room = ap (λ (w : retry.WantedFromContact). w.room) r.wants in omega (arith, m)))
+      (λ apart. let e = ap (λ (w : retry.WantedFromContact). w.room) (r.other_wants c apart) in omega (arith, e))
 
 -- ---- one row changed
 
-module _ (old new : retry.Table) (contact n : ℕ) (kept : retry.KeptRow) (k : retry.Keeps old new contact n kept) where
+module _ (old new : retry.Table) (contact n : ℕ) (kept : retry.KeptRow) (k : retry.KeepsRow old new contact n kept) where
   pub kept_here : n < length (retry.rows_of old contact) → retry.kept_at new contact n ≡ kept
   kept_here within = ap (λ (ks : List retry.KeptRow). retry.kept_in ks n) k.here ∙ set_here (retry.rows_of old contact) n kept retry.no_kept within
 
@@ -123,7 +123,7 @@ pub record NoLess (old new : retry.Table) : Type 0 where
   pub rows : (contact : ℕ) → length (retry.rows_of old contact) ≤ length (retry.rows_of new contact)
   pub wants : (contact : ℕ) → (retry.wants_of old contact).room ≤ (retry.wants_of new contact).room
 
-pub no_less : {A E : Type 0} (r : Result A E) (old new : retry.Table) (contact numbers room : ℕ) → OnOk r (retry.Reserves old new contact numbers room) → OnErr r (new ≡ old) → NoLess old new
+pub no_less : {A E : Type 0} (r : Result A E) (old new : retry.Table) (contact numbers room : ℕ) → OnOk r (retry.ReservesRows old new contact numbers room) → OnErr r (new ≡ old) → NoLess old new
 no_less (Ok x) old new contact numbers room r e = record {
   same = same_reserved old new contact numbers room r;
   rows = more_rows old new contact numbers room r;
@@ -146,7 +146,7 @@ room_kept space more old new le rows wants = record {
 
 pub room_spent : (space more : ℕ) (old new : retry.Table) → space ≤ more + 1
     → ((contact : ℕ) → length (retry.rows_of old contact) ≤ length (retry.rows_of new contact))
-    → ((contact : ℕ) → (retry.wants_of old contact).room ≤ (retry.wants_of new contact).room + 1) → Spends (room_in space old) (room_in more new)
+    → ((contact : ℕ) → (retry.wants_of old contact).room ≤ (retry.wants_of new contact).room + 1) → SpendsRoom (room_in space old) (room_in more new)
 room_spent space more old new le rows wants = record {
   entries = le;
   rows = λ c. let a = rows_room_is space old c in let b = rows_room_is more new c in let h = rows c in omega (arith, a, b, h);
@@ -157,5 +157,5 @@ pub one_less : (n : ℕ) → n ≤ (n - 1) + 1
 one_less n = omega arith
 
 -- a table that is as before
-pub room_one : (space : ℕ) (t : retry.Table) → Spends (room_in space t) (room_in (space - 1) t)
+pub room_one : (space : ℕ) (t : retry.Table) → SpendsRoom (room_in space t) (room_in (space - 1) t)
 room_one space t = room_spent space (space - 1) t t (one_less space) (λ c. omega arith) (λ c. omega arith)

@@ -2,7 +2,7 @@
 use Rattle.std.proofs.Common.{◌≡◌, List, [], ◌∷◌, ◌++◌, length, refl, sym, ◌∙◌, ap, subst, append_assoc, arith}
 use Rattle.sync_rules.specs.declared.entries.Entry.{Entry}
 use Rattle.sync_rules.specs.Facts.{Facts, after, after_all}
-use Rattle.journal_state.specs.Taking.{CanTake, CanTakeAll, Takes, TakesAll}
+use Rattle.journal_state.specs.Taking.{CanTake, CanTakeAll, TakesEntry, TakesAll}
 use Rattle.journal_state.specs.Whole.{StateValue}
 
 -- so many entries are taken, and these are left
@@ -21,7 +21,7 @@ after_more f (x ∷ es) e = after_more (after f x) es e
 pub underway_can : (old new : StateValue) (done left rest all : List Entry) (e : Entry) → IsUnderway old new done left all → left ≡ e ∷ rest → CanTake new e
 underway_can old new done left rest all e u same = (subst (CanTakeAll new) same u.can).0
 
-pub underway_more : (old mid new : StateValue) (done left rest all : List Entry) (e : Entry) → IsUnderway old mid done left all → left ≡ e ∷ rest → Takes mid new e
+pub underway_more : (old mid new : StateValue) (done left rest all : List Entry) (e : Entry) → IsUnderway old mid done left all → left ≡ e ∷ rest → TakesEntry mid new e
     → IsUnderway old new (done ++ e ∷ []) rest all
 underway_more old mid new done left rest all e u same t = record {
   taken = record {

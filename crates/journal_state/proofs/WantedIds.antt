@@ -13,7 +13,7 @@ use Rattle.journal_state.specs.Whole.{IsState}
 use Rattle.sync_rules.specs.Facts.{is_held}
 use Rattle.sync_rules.specs.Views.{IsFound}
 use Rattle.journal_state.specs.Room.{room_in}
-use Rattle.journal_state.specs.Taking.{Spends}
+use Rattle.journal_state.specs.Taking.{SpendsRoom}
 use Rattle.journal_state.proofs.Tables.{either, room_spent}
 use Rattle.journal_state.proofs.Kept.{with_table}
 
@@ -33,13 +33,13 @@ unwants_more k old mid new id u c = record {
   rows = c.rows ∙ u.rows;
   wants = λ contact below. either contact k
       (λ e. ap (λ x. (retry.wants_of new x).ids) e
-      ∙ (ap (λ (w : retry.Wants). w.ids) c.here ∙ (ap (without id) (u.beyond k (omega arith)) ∙ ap (λ x. without id (retry.wants_of old x).ids) (sym e))))
-      (λ apart. ap (λ (w : retry.Wants). w.ids) (c.others contact apart) ∙ u.wants contact (less contact k below apart));
-  beyond = λ contact beyond. ap (λ (w : retry.Wants). w.ids) (c.others contact (λ e. omega arith)) ∙ u.beyond contact (omega arith);
+      ∙ (ap (λ (w : retry.WantedFromContact). w.ids) c.here ∙ (ap (without id) (u.beyond k (omega arith)) ∙ ap (λ x. without id (retry.wants_of old x).ids) (sym e))))
+      (λ apart. ap (λ (w : retry.WantedFromContact). w.ids) (c.others contact apart) ∙ u.wants contact (less contact k below apart));
+  beyond = λ contact beyond. ap (λ (w : retry.WantedFromContact). w.ids) (c.others contact (λ e. omega arith)) ∙ u.beyond contact (omega arith);
   room = λ contact. either contact k
       (λ e. ap (λ x. (retry.wants_of new x).room) e
-      ∙ (ap (λ (w : retry.Wants). w.room) c.here ∙ (u.room k ∙ ap (λ x. (retry.wants_of old x).room) (sym e))))
-      (λ apart. ap (λ (w : retry.Wants). w.room) (c.others contact apart) ∙ u.room contact);
+      ∙ (ap (λ (w : retry.WantedFromContact). w.room) c.here ∙ (u.room k ∙ ap (λ x. (retry.wants_of old x).room) (sym e))))
+      (λ apart. ap (λ (w : retry.WantedFromContact). w.room) (c.others contact apart) ∙ u.room contact);
 }
   where
     less : (a b : ℕ) → a < b + 1 → (a ≡ b → ⊥) → a < b
@@ -65,17 +65,17 @@ pub ids_more : (old mid new : retry.Table) (contact : ℕ) (xs : List Id) (x : I
 ids_more old mid new contact xs x a b = record {
   here =
       b.here
-      ∙ (ap (λ (w : retry.Wants). record w { ids = without x w.ids }) a.here
+      ∙ (ap (λ (w : retry.WantedFromContact). record w { ids = without x w.ids }) a.here
       ∙ ap (λ (ids : List Id). record (retry.wants_of old contact) { ids = ids }) (sym (each_more xs x (retry.wants_of old contact).ids)));
   others = λ other apart. b.others other apart ∙ a.others other apart;
   rows = b.rows ∙ a.rows;
 }
 
-pub ids_of_wants : (old new : retry.Table) (contact : ℕ) (w : retry.Wants) → retry.ChangesWants old new contact w → (retry.wants_of old contact).room ≤ w.room + 1
+pub ids_of_wants : (old new : retry.Table) (contact : ℕ) (w : retry.WantedFromContact) → retry.ChangesWants old new contact w → (retry.wants_of old contact).room ≤ w.room + 1
     → ChangesIds old new contact w.ids
 ids_of_wants old new contact w c room = record {
-  here = ap (λ (x : retry.Wants). x.ids) c.here;
-  room = subst (λ n. (retry.wants_of old contact).room ≤ n + 1) (sym (ap (λ (x : retry.Wants). x.room) c.here)) room;
+  here = ap (λ (x : retry.WantedFromContact). x.ids) c.here;
+  room = subst (λ n. (retry.wants_of old contact).room ≤ n + 1) (sym (ap (λ (x : retry.WantedFromContact). x.room) c.here)) room;
   others = c.others;
   rows = c.rows;
 }
@@ -113,7 +113,7 @@ module _ (p : Parts) (s : IsState p) (contact : ℕ) (ids : List Id) (t : retry.
       inside : nat_lt contact p.table.contacts ≡ true
       inside = grind (arith, below)
   got_new q false e =
-      ap (λ (w : retry.Wants). cond (nat_lt q p.table.contacts) (Some w.ids) None)
+      ap (λ (w : retry.WantedFromContact). cond (nat_lt q p.table.contacts) (Some w.ids) None)
       (k.others q (λ same. false≢true (sym e ∙ (ap (λ x. nat_eq x contact) same ∙ grind arith))))
 
   ids_wanted : wants_in t p.table.contacts ≡ fin_map.insert (wants_in p.retry p.table.contacts) contact ids
@@ -131,7 +131,7 @@ module _ (p : Parts) (s : IsState p) (contact : ℕ) (ids : List Id) (t : retry.
   ids_state = with_table p s t p.space
       (λ c n. ap (λ (x : retry.KeptRow). x.ready) (kept_by_ids c n))
       (λ c n beyond. kept_by_ids c n ∙ s.free_rows c n beyond)
-      (λ c beyond. ap (λ (w : retry.Wants). w.ids) (k.others c (λ e. omega arith)) ∙ s.free_wants c beyond)
+      (λ c beyond. ap (λ (w : retry.WantedFromContact). w.ids) (k.others c (λ e. omega arith)) ∙ s.free_wants c beyond)
 
   pub ids_facts : facts_of (record p { retry = t; space = p.space }) ≡ record (facts_of p) { wanted = fin_map.insert (wants_in p.retry p.table.contacts) contact ids }
   ids_facts = λ i. record (facts_of p) {
@@ -141,12 +141,12 @@ module _ (p : Parts) (s : IsState p) (contact : ℕ) (ids : List Id) (t : retry.
 
 -- ---- room, and what a look-up tells
 
-pub ids_room : (space : ℕ) (old new : retry.Table) (contact : ℕ) (ids : List Id) → ChangesIds old new contact ids → Spends (room_in space old) (room_in space new)
+pub ids_room : (space : ℕ) (old new : retry.Table) (contact : ℕ) (ids : List Id) → ChangesIds old new contact ids → SpendsRoom (room_in space old) (room_in space new)
 ids_room space old new contact ids k = room_spent space space old new (omega arith)
     (λ c. let e = ap (λ (rows : List (List retry.KeptRow)). length (slice_index_or rows c [])) k.rows in omega (arith, e))
     (λ c. either c contact
     (λ e. subst (λ x. (retry.wants_of old x).room ≤ (retry.wants_of new x).room + 1) (sym e) k.room)
-    (λ apart. let e = ap (λ (w : retry.Wants). w.room) (k.others c apart) in omega (arith, e)))
+    (λ apart. let e = ap (λ (w : retry.WantedFromContact). w.room) (k.others c apart) in omega (arith, e)))
 
 pub found_held : (held : List Held) (id : Id) (o : Option ℕ) → IsFound held id o → is_some o ≡ is_held held id
 found_held held id None found = sym (ap (λ (x : Option Held). is_some x) found)

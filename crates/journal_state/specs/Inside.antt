@@ -45,7 +45,7 @@ abbrev pub IsHonest : List Node → List Bool → Type 0
 IsHonest ns shares = (n : ℕ) (node : Node) → slice_get ns n ≡ Some node → slice_get shares n ≡ Some true → may_share (answer_of_node node.answer true) ≡ true
 
 -- the parts are those of one journal, and there is room in each
-pub record IsWhole (s : Inside) : Type 0 where
+pub record IsInsideWhole (s : Inside) : Type 0 where
   pub state : IsState (parts s)
   pub roomy : IsRoomy s
   -- there are at most MAX_CONTACTS contacts, and each session is with one of them

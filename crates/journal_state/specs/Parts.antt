@@ -20,7 +20,7 @@ use Rattle.journal_state.specs.Begun.{Begun}
 -- rows and wanted ids
 pub record Parts : Type 0 where
   pub start : Start
-  pub table : levels.Table
+  pub table : levels.TableOfLevels
   pub held : List Held
   pub begun : Begun
   pub nodes : List Node

@@ -14,7 +14,7 @@ use Rattle.sync_rules.specs.Clients.{Meaning}
 use Rattle.sync_rules.specs.Lists.{firsts}
 use Rattle.sync_rules.specs.Facts.{Facts, Id, after, after_all, contact_of, group_at, held_at, is_held, session_at, start_after, takes_of, wanted_from}
 use Rattle.journal_state.specs.Room.{Room, rows_room, wants_room}
-use Rattle.journal_state.specs.Whole.{StateValue, Knows}
+use Rattle.journal_state.specs.Whole.{StateValue, KnowsJudgements}
 
 -- ---- room for a batch
 
@@ -53,13 +53,13 @@ pub record CanHold (f : Facts) (m : MessageValue) : Type 0 where
   pub few : length f.held < 2 ^ 32 - 1
 
 -- a session whose contact has room for the rows of all held messages
-pub record HasRows (s : StateValue) (session : ℕ) : Type 0 where
+pub record HasRowsOfSession (s : StateValue) (session : ℕ) : Type 0 where
   pub known : is_some (session_at s.facts.sessions session) ≡ true
   pub rows : length s.facts.held ≤ rows_room s.room (contact_of s.facts.sessions session)
 
 -- a held message of a session whose contact has room
 pub record CanMark (s : StateValue) (session : ℕ) (id : Id) : Type 0 where
-  pub on : HasRows s session
+  pub on : HasRowsOfSession s session
   pub held : is_held s.facts.held id ≡ true
 
 -- what is sent is of held messages, each named once
@@ -88,7 +88,7 @@ CanTakeKind s (entry.Offered n id) =
     × (length (wanted_from s.facts.wanted (contact_of s.facts.sessions n)) < 2 ^ 32 - 1)
 CanTakeKind s (entry.Seen n id) = CanMark s n id
 CanTakeKind s (entry.Asked n id) = CanMark s n id
-CanTakeKind s (entry.Out n now what) = HasRows s n × CanSend s.facts what
+CanTakeKind s (entry.Out n now what) = HasRowsOfSession s n × CanSend s.facts what
 CanTakeKind s (entry.Brief n) = s.facts.begun ≡ 0
 CanTakeKind s (entry.Kept from m) = CanHold s.facts m
 CanTakeKind s (entry.Tried t) = ⊥
@@ -99,26 +99,26 @@ pub record CanTake (s : StateValue) (e : Entry) : Type 0 where
   pub kind : CanTakeKind s e
 
 -- one entry takes room for one, and one wanted id at most
-pub record Spends (old new : Room) : Type 0 where
+pub record SpendsRoom (old new : Room) : Type 0 where
   pub entries : old.entries ≤ new.entries + 1
   pub rows : (contact : ℕ) → rows_room old contact ≤ rows_room new contact
   pub wants : (contact : ℕ) → wants_room old contact ≤ wants_room new contact + 1
 
 -- a state took an entry: its facts are those after it, it knows the judgements as before, and room for one is gone
-pub record Takes (old new : StateValue) (e : Entry) : Type 0 where
+pub record TakesEntry (old new : StateValue) (e : Entry) : Type 0 where
   pub facts : new.facts ≡ after old.facts e
-  pub knows : (clients : Meaning) → Knows clients old → Knows clients new
-  pub room : Spends old.room new.room
+  pub knows : (clients : Meaning) → KnowsJudgements clients old → KnowsJudgements clients new
+  pub room : SpendsRoom old.room new.room
 
 -- the facts after an entry, but that the journal began as before
 abbrev pub moved : Facts → Entry → Facts
 moved f e = record (after f e) { start = f.start }
 
 -- a state took an entry but for how the journal began: it knows the judgements as before, and room for one is gone
-pub record Moves (old new : StateValue) (e : Entry) : Type 0 where
+pub record TakesButBeginning (old new : StateValue) (e : Entry) : Type 0 where
   pub facts : new.facts ≡ moved old.facts e
-  pub knows : (clients : Meaning) → Knows clients old → Knows clients new
-  pub room : Spends old.room new.room
+  pub knows : (clients : Meaning) → KnowsJudgements clients old → KnowsJudgements clients new
+  pub room : SpendsRoom old.room new.room
 
 -- a state that noted of an entry how the journal began
 abbrev pub noted : StateValue → Entry → StateValue
@@ -129,9 +129,9 @@ noted s e = record s { facts = record s.facts { start = start_after s.facts.star
 -- each entry can be taken after those before it
 abbrev pub CanTakeAll : StateValue → List Entry → Type 0
 CanTakeAll s [] = Unit {0}
-CanTakeAll s (e ∷ es) = CanTake s e × ((next : StateValue) → Takes s next e → CanTakeAll next es)
+CanTakeAll s (e ∷ es) = CanTake s e × ((next : StateValue) → TakesEntry s next e → CanTakeAll next es)
 
 -- a state took all entries
 pub record TakesAll (old new : StateValue) (es : List Entry) : Type 0 where
   pub facts : new.facts ≡ after_all old.facts es
-  pub knows : (clients : Meaning) → Knows clients old → Knows clients new
+  pub knows : (clients : Meaning) → KnowsJudgements clients old → KnowsJudgements clients new

@@ -49,8 +49,8 @@ abbrev pub id_at : List Held → ℕ → Id
 id_at held n = slice_index_or (map (λ h. h.id) held) n []
 
 -- the judgement that is kept of each held message is that of its client
-abbrev pub Knows : Meaning → StateValue → Type 0
-Knows clients s = s.answers ≡ map (answer_of clients s.facts) s.facts.held
+abbrev pub KnowsJudgements : Meaning → StateValue → Type 0
+KnowsJudgements clients s = s.answers ≡ map (answer_of clients s.facts) s.facts.held
 
 -- how the node of an id ended
 abbrev pub is_delivered_in : Option Node → Bool

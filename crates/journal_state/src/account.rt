@@ -13,7 +13,7 @@ ghost use Rattle.retry_table.specs.Table.{tried_of};
 ghost use Rattle.journal_state.specs.Taking.{CanHold};
 ghost use Rattle.journal_state.specs.Telling.{told_entries, told_entry, told_number, told_step};
 ghost use Rattle.journal_state.specs.Telling.{TellsSteps, TellsTo, TellsWithin};
-ghost use Rattle.journal_state.specs.Whole.{Knows};
+ghost use Rattle.journal_state.specs.Whole.{KnowsJudgements};
 
 use crate::state::State;
 use message_graph::Step;
@@ -66,7 +66,7 @@ impl State {
     /// A state that has the groups of this one and nothing else.
     fn groups_alone(&self, alloc: Global) -> Result<State, AllocError>
         ensures facts { IfOk result (λ s. s.facts ≡ with_groups self.now.facts.groups) }
-        ensures knows { IfOk result (λ s. (clients : Meaning) → Knows clients s) }
+        ensures knows { IfOk result (λ s. (clients : Meaning) → KnowsJudgements clients s) }
     {
         let table = self.table.groups_alone(alloc)?;
         State::over(alloc, self.graph.hasher(), table)
@@ -82,13 +82,13 @@ impl State {
         n: u32,
         told: &mut Vec<Told>,
     ) -> Result<(), AllocError>
-        requires knows { Knows (C.meaning clients.now) self.old }
+        requires knows { KnowsJudgements (C.meaning clients.now) self.old }
         requires within { n < length other.now.facts.held }
         requires told { TellsTo (C.meaning clients.now) other.now.facts self.old.facts n
             told.old.items }
         ensures told { OnOk result (TellsTo (C.meaning clients.now) other.now.facts self.new.facts
             (n + 1) told.new.items) }
-        ensures knows { Knows (C.meaning clients.now) self.new }
+        ensures knows { KnowsJudgements (C.meaning clients.now) self.new }
     {
         other.show_sound();
         self.keep_copy(alloc, other.id_at(n), other.message(n), other.origin(n))?;
@@ -109,7 +109,7 @@ impl State {
         requires can { CanHold self.old.facts message.now }
         ensures facts { OnOk result
             (self.new.facts ≡ after self.old.facts (Entry.Kept from message.now)) }
-        ensures knows { (clients : Meaning) → Knows clients self.old → Knows clients self.new }
+        ensures knows { (clients : Meaning) → KnowsJudgements clients self.old → KnowsJudgements clients self.new }
     {
         let copy = message.copy(alloc)?;
         self.reserve_entries(1)?;
@@ -125,10 +125,10 @@ impl State {
         clients: &C,
         told: &mut Vec<Told>,
     ) -> Result<(), AllocError>
-        requires { Knows (C.meaning clients.now) self.old }
+        requires { KnowsJudgements (C.meaning clients.now) self.old }
         ensures steps { OnOk result (TellsSteps (C.meaning clients.now) self.old.facts
             self.new.facts told.old.items told.new.items) }
-        ensures knows { Knows (C.meaning clients.now) self.new }
+        ensures knows { KnowsJudgements (C.meaning clients.now) self.new }
     {
         'steps: while let Some(step) = self.next_told() {
             self.step(alloc, clients)?;
@@ -139,7 +139,7 @@ impl State {
 
     /// What is told of the next step. `None` comes exactly where the journal is settled.
     fn next_told(&self) -> Option<Told>
-        ensures step { (clients : Meaning) → Knows clients self.now
+        ensures step { (clients : Meaning) → KnowsJudgements clients self.now
             → option_map (told_entry self.now.facts.held) result ≡ next clients self.now.facts }
         ensures within { IfSome result (λ t. told_number t < length self.now.facts.held) }
     {
@@ -165,7 +165,7 @@ impl State {
     pub fn forget(&mut self)
         ensures facts { self.new.facts ≡ without_sessions self.old.facts }
         ensures answers { self.new.answers ≡ self.old.answers }
-        ensures knows { (clients : Meaning) → Knows clients self.old → Knows clients self.new }
+        ensures knows { (clients : Meaning) → KnowsJudgements clients self.old → KnowsJudgements clients self.new }
     {
         self.start = Start::Opening;
         self.sessions.forget();

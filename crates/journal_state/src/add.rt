@@ -2,7 +2,7 @@
 //! of a brief account.
 ghost use Rattle.std.specs.Prelude.{◌≡◌, ◌≢◌, ◌^◌, ◌<◌, ◌≤◌, true, length, None, Some, is_some};
 ghost use Rattle.sync_rules.specs.Facts.{session_at};
-ghost use Rattle.journal_state.specs.Taking.{CanTake, Moves};
+ghost use Rattle.journal_state.specs.Taking.{CanTake, TakesButBeginning};
 
 use crate::state::State;
 use sync_ids::GroupDef;
@@ -12,7 +12,7 @@ impl State {
     /// One more contact, which has the next number.
     pub(crate) fn take_contact(&mut self, contact: u8)
         requires { CanTake self.old (Entry.Contact contact) }
-        ensures { Moves self.old self.new (Entry.Contact contact) }
+        ensures { TakesButBeginning self.old self.new (Entry.Contact contact) }
     {
         self.space -= 1;
         self.table.apply(&Entry::Contact(contact));
@@ -21,7 +21,7 @@ impl State {
     /// One more group, whose id is new.
     pub(crate) fn take_group(&mut self, def: GroupDef)
         requires { CanTake self.old (Entry.Group def) }
-        ensures { Moves self.old self.new (Entry.Group def) }
+        ensures { TakesButBeginning self.old self.new (Entry.Group def) }
     {
         self.space -= 1;
         self.table.add_group(def);
@@ -31,7 +31,7 @@ impl State {
     pub(crate) fn take_session(&mut self, session: Session)
         requires can { CanTake self.old (Entry.Session session) }
         requires started { self.old.facts.start ≢ Start.Empty }
-        ensures { Moves self.old self.new (Entry.Session session) }
+        ensures { TakesButBeginning self.old self.new (Entry.Session session) }
     {
         self.space -= 1;
         self.sessions.begin(&session);
@@ -40,7 +40,7 @@ impl State {
     /// One more record on a session.
     pub(crate) fn take_record(&mut self, session: u32, k: u64)
         requires { CanTake self.old (Entry.Take session k) }
-        ensures { Moves self.old self.new (Entry.Take session k) }
+        ensures { TakesButBeginning self.old self.new (Entry.Take session k) }
     {
         self.space -= 1;
         self.sessions.take(session);
@@ -51,7 +51,7 @@ impl State {
     pub(crate) fn take_brief(&mut self, sessions: u32)
         requires can { CanTake self.old (Entry.Brief sessions) }
         requires started { self.old.facts.start ≢ Start.Empty }
-        ensures { Moves self.old self.new (Entry.Brief sessions) }
+        ensures { TakesButBeginning self.old self.new (Entry.Brief sessions) }
     {
         self.sessions.skip(sessions);
     }

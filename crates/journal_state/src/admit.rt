@@ -7,7 +7,7 @@ ghost use Rattle.sync_rules.specs.Allows.{allows, is_settling_kind, is_some_of};
 ghost use Rattle.sync_rules.specs.Allows.{same_entry, settles};
 ghost use Rattle.journal_state.specs.Stepping.{PlaysFront};
 ghost use Rattle.journal_state.specs.Taking.{HasNextNumbers};
-ghost use Rattle.journal_state.specs.Whole.{Knows};
+ghost use Rattle.journal_state.specs.Whole.{KnowsJudgements};
 
 use crate::state::State;
 use batch_tests::id_brought;
@@ -45,7 +45,7 @@ impl State {
         clients: &C,
         entry: &Entry,
     ) -> Result<bool, AllocError>
-        requires { Knows (C.meaning clients.now) self.old }
+        requires { KnowsJudgements (C.meaning clients.now) self.old }
         ensures answer { IfOk result
             (λ yes. yes ≡ is_some_of same_entry (next (C.meaning clients.now) self.old.facts)
             entry.now) }
@@ -55,7 +55,7 @@ impl State {
             → self.new.facts ≡ after self.old.facts entry.now) }
         ensures refused { IfOk result (λ yes. yes ≡ false → self.new.facts ≡ self.old.facts) }
         ensures err { OnErr result (self.new.facts ≡ self.old.facts) }
-        ensures knows { Knows (C.meaning clients.now) self.new }
+        ensures knows { KnowsJudgements (C.meaning clients.now) self.new }
     {
         let Some(step) = self.open_step() else {
             return Ok(false);
@@ -76,14 +76,14 @@ impl State {
         clients: &C,
         entries: &[Entry],
     ) -> Result<bool, AllocError>
-        requires { Knows (C.meaning clients.now) self.old }
+        requires { KnowsJudgements (C.meaning clients.now) self.old }
         ensures answer { IfOk result (λ yes. yes ≡ settles (C.meaning clients.now) self.old.facts
             entries.now) }
         ensures taken { IfOk result (λ yes. yes ≡ true
             → self.new.facts ≡ after_all self.old.facts entries.now) }
         ensures front { PlaysFront (C.meaning clients.now) self.old.facts self.new.facts
             entries.now }
-        ensures knows { Knows (C.meaning clients.now) self.new }
+        ensures knows { KnowsJudgements (C.meaning clients.now) self.new }
     {
         for entry in entries {
             if !self.play_one(alloc, clients, entry)? {
@@ -101,7 +101,7 @@ impl State {
         clients: &C,
         batch: Batch,
     ) -> Result<bool, AllocError>
-        requires knows { Knows (C.meaning clients.now) self.old }
+        requires knows { KnowsJudgements (C.meaning clients.now) self.old }
         requires kind { is_settling_kind batch ≡ false }
         requires plain { is_rows_kind batch ≡ false }
         requires numbers { HasNextNumbers self.old.facts }
@@ -111,7 +111,7 @@ impl State {
             → self.new.facts ≡ after_all self.old.facts batch) }
         ensures refused { IfOk result (λ yes. yes ≡ false → self.new.facts ≡ self.old.facts) }
         ensures err { OnErr result (self.new.facts ≡ self.old.facts) }
-        ensures knows { Knows (C.meaning clients.now) self.new }
+        ensures knows { KnowsJudgements (C.meaning clients.now) self.new }
     {
         let id = id_brought(batch.entries());
         if !self.allows_batch(alloc, clients, &batch, id)? {
@@ -134,7 +134,7 @@ impl State {
         clients: &C,
         batch: Batch,
     ) -> Result<bool, AllocError>
-        requires knows { Knows (C.meaning clients.now) self.old }
+        requires knows { KnowsJudgements (C.meaning clients.now) self.old }
         requires numbers { HasNextNumbers self.old.facts }
         ensures answer { IfOk result (λ yes. yes ≡ allows (C.meaning clients.now) self.old.facts
             batch) }
@@ -144,7 +144,7 @@ impl State {
             → PlaysFront (C.meaning clients.now) self.old.facts self.new.facts batch) }
         ensures err { OnErr result (PlaysFront (C.meaning clients.now) self.old.facts
             self.new.facts batch) }
-        ensures knows { Knows (C.meaning clients.now) self.new }
+        ensures knows { KnowsJudgements (C.meaning clients.now) self.new }
     {
         let entries = batch.entries();
         if begins_rows(entries) {

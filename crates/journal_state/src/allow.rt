@@ -9,7 +9,7 @@ ghost use Rattle.sync_rules.specs.Steps.{IsSettled};
 ghost use Rattle.sync_rules.specs.declared.entries.Entry.TheVariants as entry;
 ghost use Rattle.session_core.specs.Known.{IsOfAll};
 ghost use Rattle.journal_state.specs.Allowing.{due_of};
-ghost use Rattle.journal_state.specs.Whole.{Knows};
+ghost use Rattle.journal_state.specs.Whole.{KnowsJudgements};
 
 use crate::state::State;
 use batch_tests::{JournalView, allows};
@@ -72,10 +72,10 @@ impl State {
     /// of the clients: what a settled journal may be extended by. `None` comes exactly where
     /// nothing is due, also where there is no session. It fails only for want of memory.
     pub fn due_on(&self, alloc: Global, session: u32, now: u64) -> Result<Option<Out>, AllocError>
-        ensures due { (clients : Meaning) → Knows clients self.now
+        ensures due { (clients : Meaning) → KnowsJudgements clients self.now
             → IfOk result (λ what. what ≡ due_of clients self.now.facts
             (session_at self.now.facts.sessions session) now) }
-        ensures allowed { (clients : Meaning) → Knows clients self.now
+        ensures allowed { (clients : Meaning) → KnowsJudgements clients self.now
             → IsSettled clients self.now.facts → IfOk result (λ what. IfSome what
             (λ w. Allowed clients self.now.facts (entry.Out session now w ∷ []))) }
     {
@@ -94,7 +94,7 @@ impl State {
         clients: &C,
         batch: &Batch,
     ) -> Result<bool, AllocError>
-        requires knows { Knows (C.meaning clients.now) self.now }
+        requires knows { KnowsJudgements (C.meaning clients.now) self.now }
         requires kind { is_settling_kind batch.now ≡ false }
         requires plain { is_account_kind batch.now ≡ false }
         ensures { IfOk result (λ yes. yes ≡ allows (C.meaning clients.now) self.now.facts
@@ -113,7 +113,7 @@ impl State {
         batch: &Batch,
         id: Option<MessageId>,
     ) -> Result<bool, AllocError>
-        requires knows { Knows (C.meaning clients.now) self.now }
+        requires knows { KnowsJudgements (C.meaning clients.now) self.now }
         requires kind { is_settling_kind batch.now ≡ false }
         requires plain { is_account_kind batch.now ≡ false }
         requires named { IsOfAll id batch.now }
@@ -131,7 +131,7 @@ impl State {
         batch: &Batch,
         id: Option<MessageId>,
     ) -> Result<bool, AllocError>
-        requires knows { Knows (C.meaning clients.now) self.now }
+        requires knows { KnowsJudgements (C.meaning clients.now) self.now }
         requires kind { is_settling_kind batch.now ≡ false }
         requires plain { is_rows_kind batch.now ≡ false }
         requires named { IsOfAll id batch.now }

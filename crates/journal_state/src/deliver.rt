@@ -5,9 +5,9 @@ ghost use Rattle.sync_rules.specs.Clients.{Meaning};
 ghost use Rattle.sync_rules.specs.Sessions.{is_author};
 ghost use Rattle.sync_rules.specs.Steps.{next};
 ghost use Rattle.retry_table.specs.Table.{rows_of};
-ghost use Rattle.journal_state.specs.Delivery.{goes_to, Grows, HasRows, ReadiesOne, Readies};
+ghost use Rattle.journal_state.specs.Delivery.{goes_to, GrowsRoom, HasRowsAtContacts, ReadiesOne, ReadiesMessage};
 ghost use Rattle.journal_state.specs.Taking.{moved};
-ghost use Rattle.journal_state.specs.Whole.{id_at, Knows};
+ghost use Rattle.journal_state.specs.Whole.{id_at, KnowsJudgements};
 
 use crate::state::State;
 use message_graph::Step;
@@ -40,7 +40,7 @@ fn goes_to(table: &Levels, group: &GroupId, outgoing: bool, contact: u8) -> bool
 
 /// Makes room for the rows of all numbers below `numbers` at a contact, if a message goes there.
 fn reserve_row(retry: &mut Retry, contact: u8, numbers: u32, goes: bool) -> Result<(), AllocError>
-    ensures same { Grows retry.old retry.new }
+    ensures same { GrowsRoom retry.old retry.new }
     ensures room { OnOk result (goes ≡ true → numbers ≤ length (rows_of retry.new contact)) }
 {
     if !goes {
@@ -59,8 +59,8 @@ fn reserve_rows(
     numbers: u32,
 ) -> Result<(), AllocError>
     requires few { table.now.contacts ≤ MAX_CONTACTS }
-    ensures same { Grows retry.old retry.new }
-    ensures room { OnOk result (HasRows retry.new (goes_to table.now.levels group.now outgoing)
+    ensures same { GrowsRoom retry.old retry.new }
+    ensures room { OnOk result (HasRowsAtContacts retry.new (goes_to table.now.levels group.now outgoing)
         table.now.contacts numbers) }
 {
     for place in 0..table.contacts() {
@@ -85,9 +85,9 @@ fn ready_one(retry: &mut Retry, contact: u8, n: u32, goes: bool)
 /// Makes a message ready for each contact that is known and that it goes to.
 fn make_ready(retry: &mut Retry, table: &Levels, group: &GroupId, outgoing: bool, n: u32)
     requires few { table.now.contacts ≤ MAX_CONTACTS }
-    requires rows { HasRows retry.old (goes_to table.now.levels group.now outgoing)
+    requires rows { HasRowsAtContacts retry.old (goes_to table.now.levels group.now outgoing)
         table.now.contacts (n + 1) }
-    ensures { Readies retry.old retry.new (goes_to table.now.levels group.now outgoing)
+    ensures { ReadiesMessage retry.old retry.new (goes_to table.now.levels group.now outgoing)
         table.now.contacts n }
 {
     for place in 0..table.contacts() {
@@ -103,7 +103,7 @@ impl State {
     pub(crate) fn deliver(&mut self, n: u32) -> Result<(), AllocError>
         requires held { n < length self.old.facts.held }
         requires next { (clients : Meaning)
-            × (Knows clients self.old
+            × (KnowsJudgements clients self.old
             × (next clients self.old.facts ≡ Some (Entry.Deliver (id_at self.old.facts.held n)))) }
         ensures facts { OnOk result
             (self.new.facts ≡ moved self.old.facts (Entry.Deliver (id_at self.old.facts.held n))) }

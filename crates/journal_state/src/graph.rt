@@ -3,7 +3,7 @@ ghost use Rattle.std.specs.Prelude.{◌≡◌, ◌+◌, ◌-◌, ◌^◌, ◌<�
 ghost use Rattle.std.specs.Prelude.{OnOk, OnErr, None, Some, slice_get};
 ghost use Rattle.std.specs.Option.{option_map};
 ghost use Rattle.message_graph.specs.Nodes.{after_step, fate_of, fresh, next, number_of};
-ghost use Rattle.message_graph.specs.Nodes.{with_answer, Ends};
+ghost use Rattle.message_graph.specs.Nodes.{with_answer, EndsNode};
 ghost use Rattle.journal_state.specs.Left.{left_in};
 
 use message_graph::{Fate, Graph, Judged, Step};
@@ -113,7 +113,7 @@ impl CountedGraph {
     /// Makes the next step, which is no judgement; takes no memory.
     pub(crate) fn apply(&mut self, step: Step)
         requires next { next self.old.nodes ≡ Some step }
-        requires ends { Ends step }
+        requires ends { EndsNode step }
         ensures { self.new ≡ record self.old { nodes = after_step step self.old.nodes } }
     {
         self.graph.apply(step);

@@ -6,8 +6,8 @@ ghost use Rattle.sync_rules.specs.declared.limits.TheConstants.{MAX_CONTACTS};
 ghost use Rattle.sync_rules.specs.Clients.{Meaning};
 ghost use Rattle.sync_rules.specs.Facts.{group_at, held_at, wanted_by_none};
 ghost use Rattle.journal_state.specs.Unwanted.{UnwantsBelow};
-ghost use Rattle.journal_state.specs.Taking.{CanHold, Spends};
-ghost use Rattle.journal_state.specs.Whole.{Knows};
+ghost use Rattle.journal_state.specs.Taking.{CanHold, SpendsRoom};
+ghost use Rattle.journal_state.specs.Whole.{KnowsJudgements};
 
 use crate::state::State;
 use retry_table::Retry;
@@ -40,8 +40,8 @@ impl State {
           wanted = wanted_by_none self.old.facts.wanted (message_id_of message);
         } }
         ensures number { result ≡ length self.old.facts.held }
-        ensures knows { (clients : Meaning) → Knows clients self.old → Knows clients self.new }
-        ensures room { Spends self.old.room self.new.room }
+        ensures knows { (clients : Meaning) → KnowsJudgements clients self.old → KnowsJudgements clients self.new }
+        ensures room { SpendsRoom self.old.room self.new.room }
     {
         let group = self.table.group(&message.group()).unwrap();
         self.space -= 1;

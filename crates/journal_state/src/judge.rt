@@ -5,7 +5,7 @@ ghost use Rattle.sync_rules.specs.Sessions.{may_share};
 ghost use Rattle.sync_rules.specs.Steps.{next, verdict_in};
 ghost use Rattle.journal_state.specs.Parts.{answer_of_node};
 ghost use Rattle.journal_state.specs.Taking.{moved};
-ghost use Rattle.journal_state.specs.Whole.{id_at, Knows};
+ghost use Rattle.journal_state.specs.Whole.{id_at, KnowsJudgements};
 
 use crate::state::State;
 use message_graph::{Judged, Names, Step};
@@ -70,13 +70,13 @@ impl State {
         clients: &C,
         n: u32,
     ) -> Result<(), AllocError>
-        requires knows { Knows (C.meaning clients.now) self.old }
+        requires knows { KnowsJudgements (C.meaning clients.now) self.old }
         requires held { n < length self.old.facts.held }
         requires next { next (C.meaning clients.now) self.old.facts ≡ Some
             (Entry.Judged (id_at self.old.facts.held n)) }
         ensures facts { OnOk result
             (self.new.facts ≡ moved self.old.facts (Entry.Judged (id_at self.old.facts.held n))) }
-        ensures knows { Knows (C.meaning clients.now) self.new }
+        ensures knows { KnowsJudgements (C.meaning clients.now) self.new }
         ensures err { OnErr result ((self.new.facts ≡ self.old.facts)
             × (self.new.answers ≡ self.old.answers)) }
     {
@@ -92,11 +92,11 @@ impl State {
     pub(crate) fn refuse(&mut self, n: u32)
         requires held { n < length self.old.facts.held }
         requires next { (clients : Meaning)
-            × (Knows clients self.old
+            × (KnowsJudgements clients self.old
             × (next clients self.old.facts ≡ Some (Entry.Invalid (id_at self.old.facts.held n)))) }
         ensures facts { self.new.facts ≡ moved self.old.facts
             (Entry.Invalid (id_at self.old.facts.held n)) }
-        ensures knows { (clients : Meaning) → Knows clients self.old → Knows clients self.new }
+        ensures knows { (clients : Meaning) → KnowsJudgements clients self.old → KnowsJudgements clients self.new }
     {
         self.graph.apply(Step::Invalid(n));
     }

@@ -2,9 +2,9 @@
 ghost use Rattle.std.specs.Prelude.{◌≡◌, ◌<◌, ◌≤◌, true, false, length, nat_lt};
 ghost use Rattle.std.specs.List.{list_all};
 ghost use Rattle.sync_rules.specs.Facts.{is_level_shared};
-ghost use Rattle.retry_table.specs.Table.{rows_of, kept_at, with_ready, Keeps};
+ghost use Rattle.retry_table.specs.Table.{rows_of, kept_at, with_ready, KeepsRow};
 ghost use Rattle.journal_state.specs.Levelling.{levelled_at, SetsLevels};
-ghost use Rattle.journal_state.specs.Taking.{CanTake, Moves};
+ghost use Rattle.journal_state.specs.Taking.{CanTake, TakesButBeginning};
 
 use crate::messages::Messages;
 use crate::state::State;
@@ -24,7 +24,7 @@ fn is_shared(level: Level) -> bool
 /// Says of a message whether it is ready.
 fn set_ready(retry: &mut Retry, contact: u8, number: u32, ready: bool)
     requires { number < length (rows_of retry.old contact) }
-    ensures { Keeps retry.old retry.new contact number
+    ensures { KeepsRow retry.old retry.new contact number
         (with_ready ready (kept_at retry.old contact number)) }
 {
     if ready {
@@ -48,7 +48,7 @@ fn level_one(
     requires rows { number < length (rows_of retry.old contact) }
     requires held { number < length messages.now.held }
     requires share { number < length shares.now }
-    ensures { Keeps retry.old retry.new contact number
+    ensures { KeepsRow retry.old retry.new contact number
         (levelled_at group.now shared messages.now.held shares.now number
         (kept_at retry.old contact number)) }
 {
@@ -88,7 +88,7 @@ impl State {
     /// A group's level for a contact that has room for the rows of all held messages.
     pub(crate) fn take_level(&mut self, contact: u8, group: GroupId, level: Level)
         requires { CanTake self.old (Entry.Level contact group level) }
-        ensures { Moves self.old self.new (Entry.Level contact group level) }
+        ensures { TakesButBeginning self.old self.new (Entry.Level contact group level) }
     {
         self.space -= 1;
         self.table.apply(&Entry::Level(contact, group, level));

@@ -1,7 +1,7 @@
 //! What is noted of a held message for a contact.
 ghost use Rattle.std.specs.Prelude.{◌≡◌, ◌<◌, ◌≤◌, true, length};
 ghost use Rattle.std.specs.List.{list_all};
-ghost use Rattle.retry_table.specs.Table.{rows_of, kept_at, with_row, Keeps};
+ghost use Rattle.retry_table.specs.Table.{rows_of, kept_at, with_row, KeepsRow};
 ghost use Rattle.sync_rules.specs.Facts.{change_row, change_rows, is_held};
 ghost use Rattle.journal_state.specs.Marks.{marked};
 ghost use Rattle.journal_state.specs.Room.{rows_room, KeepsRoom};
@@ -32,7 +32,7 @@ pub(crate) enum Mark {
 /// Notes it in the row of the message of this number.
 pub(crate) fn mark_row(retry: &mut Retry, contact: u8, n: u32, mark: Mark)
     requires { n < length (rows_of retry.old contact) }
-    ensures { Keeps retry.old retry.new contact n
+    ensures { KeepsRow retry.old retry.new contact n
         (with_row (marked mark) (kept_at retry.old contact n)) }
 {
     match mark {

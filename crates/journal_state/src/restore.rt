@@ -9,7 +9,7 @@ ghost use Rattle.sync_rules.specs.Views.{IsPlace};
 ghost use Rattle.retry_table.specs.Table.{row_restored};
 ghost use Rattle.journal_state.specs.Room.{rows_room};
 ghost use Rattle.journal_state.specs.Stepping.{PlaysFront};
-ghost use Rattle.journal_state.specs.Whole.{Knows};
+ghost use Rattle.journal_state.specs.Whole.{KnowsJudgements};
 
 use crate::start::is_opening;
 use crate::state::State;
@@ -145,7 +145,7 @@ impl State {
             → self.new.facts ≡ after_all self.old.facts entries.now) }
         ensures front { (clients : Meaning)
             → PlaysFront clients self.old.facts self.new.facts entries.now }
-        ensures knows { (clients : Meaning) → Knows clients self.old → Knows clients self.new }
+        ensures knows { (clients : Meaning) → KnowsJudgements clients self.old → KnowsJudgements clients self.new }
     {
         for entry in entries {
             if !self.restore_one(entry)? {
@@ -159,13 +159,13 @@ impl State {
     /// stands for the journal as before with a front of the batch that suits. It fails only for
     /// want of memory.
     pub(crate) fn admit_rows(&mut self, entries: &[Entry]) -> Result<bool, AllocError>
-        ensures answer { (clients : Meaning) → Knows clients self.old
+        ensures answer { (clients : Meaning) → KnowsJudgements clients self.old
             → IfOk result (λ yes. yes ≡ is_rows clients self.old.facts entries.now) }
         ensures taken { IfOk result (λ yes. yes ≡ true
             → self.new.facts ≡ after_all self.old.facts entries.now) }
         ensures front { (clients : Meaning)
             → PlaysFront clients self.old.facts self.new.facts entries.now }
-        ensures knows { (clients : Meaning) → Knows clients self.old → Knows clients self.new }
+        ensures knows { (clients : Meaning) → KnowsJudgements clients self.old → KnowsJudgements clients self.new }
     {
         if !is_opening(self.start) {
             return Ok(false);

@@ -59,11 +59,11 @@ impl Model for State {
 
     ghost coded = { state_code };
 
-    ghost use Rattle.journal_state.specs.Inside.{parts, IsWhole};
+    ghost use Rattle.journal_state.specs.Inside.{parts, IsInsideWhole};
 
     ghost view = { λ s. value_of (parts s) };
 
-    ghost invariant = { λ s. IsWhole s };
+    ghost invariant = { λ s. IsInsideWhole s };
 }
 
 impl State {

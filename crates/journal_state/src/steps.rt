@@ -6,7 +6,7 @@ ghost use Rattle.sync_rules.specs.Facts.{after};
 ghost use Rattle.sync_rules.specs.Left.{left_of};
 ghost use Rattle.sync_rules.specs.Clients.{Meaning};
 ghost use Rattle.sync_rules.specs.Steps.{next, IsSettled};
-ghost use Rattle.journal_state.specs.Whole.{id_at, Knows};
+ghost use Rattle.journal_state.specs.Whole.{id_at, KnowsJudgements};
 ghost use Rattle.message_graph.specs.Nodes.{step_number};
 ghost use Rattle.journal_state.specs.Stepping.{entry_of, stepped};
 
@@ -19,7 +19,7 @@ impl State {
     /// The next step of the journal: that of the first held message, in order of arrival, that has
     /// one. `None` comes exactly where the journal is settled.
     pub fn next_step(&self) -> Option<Entry>
-        ensures { (clients : Meaning) → Knows clients self.now
+        ensures { (clients : Meaning) → KnowsJudgements clients self.now
             → result ≡ next clients self.now.facts }
     {
         let step = self.open_step()?;
@@ -29,7 +29,7 @@ impl State {
     /// The next step by the number of its message. `None` comes exactly where the journal is
     /// settled.
     pub(crate) fn open_step(&self) -> Option<Step>
-        ensures next { (clients : Meaning) → Knows clients self.now
+        ensures next { (clients : Meaning) → KnowsJudgements clients self.now
             → option_map (entry_of (id_at self.now.facts.held)) result ≡ next clients
             self.now.facts }
         ensures within { IfSome result (λ s. step_number s < length self.now.facts.held) }
@@ -44,12 +44,12 @@ impl State {
         alloc: Global,
         clients: &C,
     ) -> Result<Option<Entry>, AllocError>
-        requires knows { Knows (C.meaning clients.now) self.old }
+        requires knows { KnowsJudgements (C.meaning clients.now) self.old }
         ensures step { IfOk result (λ e. e ≡ next (C.meaning clients.now) self.old.facts) }
         ensures facts { IfOk result (λ e. self.new.facts ≡ stepped self.old.facts e) }
         ensures left { IfOk result (λ e. IfSome e
             (λ _. left_of self.new.facts + 1 ≤ left_of self.old.facts)) }
-        ensures knows { Knows (C.meaning clients.now) self.new }
+        ensures knows { KnowsJudgements (C.meaning clients.now) self.new }
         ensures err { OnErr result ((self.new.facts ≡ self.old.facts)
             × (self.new.answers ≡ self.old.answers)) }
     {
@@ -70,13 +70,13 @@ impl State {
         step: Step,
         entry: &Entry,
     ) -> Result<(), AllocError>
-        requires knows { Knows (C.meaning clients.now) self.old }
+        requires knows { KnowsJudgements (C.meaning clients.now) self.old }
         requires within { step_number step < length self.old.facts.held }
         requires entry { entry.now ≡ entry_of (id_at self.old.facts.held) step }
         requires next { next (C.meaning clients.now) self.old.facts ≡ Some entry.now }
         ensures facts { OnOk result (self.new.facts ≡ after self.old.facts entry.now) }
         ensures left { OnOk result (left_of self.new.facts + 1 ≤ left_of self.old.facts) }
-        ensures knows { Knows (C.meaning clients.now) self.new }
+        ensures knows { KnowsJudgements (C.meaning clients.now) self.new }
         ensures err { OnErr result ((self.new.facts ≡ self.old.facts)
             × (self.new.answers ≡ self.old.answers)) }
     {
@@ -104,7 +104,7 @@ impl State {
 
     /// Whether the journal is settled.
     pub fn is_settled(&self) -> bool
-        ensures { (clients : Meaning) → Knows clients self.now
+        ensures { (clients : Meaning) → KnowsJudgements clients self.now
             → (IsTrue result ↔ IsSettled clients self.now.facts) }
     {
         self.graph.next().is_none()

@@ -6,9 +6,9 @@ ghost use Rattle.sync_rules.specs.Legal.{Allowed};
 ghost use Rattle.sync_rules.specs.Allows.{is_account_kind, is_settling_kind};
 ghost use Rattle.batch_tests.specs.Alone.{is_rows_kind};
 ghost use Rattle.session_core.specs.Known.{IsIdOf, IsOfAll, IsOfEntry};
-ghost use Rattle.journal_state.specs.Taking.{CanTake, CanTakeAll, HasNextNumbers, HasRoom, Moves};
-ghost use Rattle.journal_state.specs.Taking.{Takes, TakesAll};
-ghost use Rattle.journal_state.specs.Whole.{Knows};
+ghost use Rattle.journal_state.specs.Taking.{CanTake, CanTakeAll, HasNextNumbers, HasRoom, TakesButBeginning};
+ghost use Rattle.journal_state.specs.Taking.{TakesEntry, TakesAll};
+ghost use Rattle.journal_state.specs.Whole.{KnowsJudgements};
 
 use crate::marks::Mark;
 use crate::state::State;
@@ -27,7 +27,7 @@ impl State {
         requires room { HasRoom self.old batch }
         requires numbers { HasNextNumbers self.old.facts }
         ensures facts { self.new.facts ≡ after_all self.old.facts batch }
-        ensures knows { (clients : Meaning) → Knows clients self.old → Knows clients self.new }
+        ensures knows { (clients : Meaning) → KnowsJudgements clients self.old → KnowsJudgements clients self.new }
     {
         self.take_known(batch, None);
     }
@@ -43,7 +43,7 @@ impl State {
         requires room { HasRoom self.old batch }
         requires numbers { HasNextNumbers self.old.facts }
         ensures facts { self.new.facts ≡ after_all self.old.facts batch }
-        ensures knows { (clients : Meaning) → Knows clients self.old → Knows clients self.new }
+        ensures knows { (clients : Meaning) → KnowsJudgements clients self.old → KnowsJudgements clients self.new }
     {
         self.take_batch(batch, id);
     }
@@ -57,7 +57,7 @@ impl State {
         requires room { HasRoom self.old batch }
         requires numbers { HasNextNumbers self.old.facts }
         ensures facts { self.new.facts ≡ after_all self.old.facts batch }
-        ensures knows { (clients : Meaning) → Knows clients self.old → Knows clients self.new }
+        ensures knows { (clients : Meaning) → KnowsJudgements clients self.old → KnowsJudgements clients self.new }
     {
         self.show_sound();
         self.take_all(&id, batch.into_entries());
@@ -78,7 +78,7 @@ impl State {
     pub(crate) fn take_entry(&mut self, known: &Option<MessageId>, entry: Entry)
         requires can { CanTake self.old entry }
         requires named { IsOfEntry known.now entry }
-        ensures { Takes self.old self.new entry }
+        ensures { TakesEntry self.old self.new entry }
     {
         self.note(&entry);
         self.take_noted(known, entry);
@@ -89,7 +89,7 @@ impl State {
         requires can { CanTake self.old entry }
         requires named { IsOfEntry known.now entry }
         requires started { self.old.facts.start ≢ Start.Empty }
-        ensures { Moves self.old self.new entry }
+        ensures { TakesButBeginning self.old self.new entry }
     {
         match entry {
             Entry::Contact(contact) => self.take_contact(contact),
@@ -115,7 +115,7 @@ impl State {
     fn take_author(&mut self, known: &Option<MessageId>, message: Message)
         requires can { CanTake self.old (Entry.Author message) }
         requires named { IsIdOf known.now message }
-        ensures { Moves self.old self.new (Entry.Author message) }
+        ensures { TakesButBeginning self.old self.new (Entry.Author message) }
     {
         let id = id_known(known, &message);
         self.hold(id, message, Origin::Author);
@@ -125,7 +125,7 @@ impl State {
     fn take_kept(&mut self, known: &Option<MessageId>, from: Origin, message: Message)
         requires can { CanTake self.old (Entry.Kept from message) }
         requires named { IsIdOf known.now message }
-        ensures { Moves self.old self.new (Entry.Kept from message) }
+        ensures { TakesButBeginning self.old self.new (Entry.Kept from message) }
     {
         let id = id_known(known, &message);
         self.hold(id, message, from);
@@ -135,7 +135,7 @@ impl State {
     fn take_arrival(&mut self, known: &Option<MessageId>, session: u32, message: Message)
         requires can { CanTake self.old (Entry.Arrive session message) }
         requires named { IsIdOf known.now message }
-        ensures { Moves self.old self.new (Entry.Arrive session message) }
+        ensures { TakesButBeginning self.old self.new (Entry.Arrive session message) }
     {
         let contact = self.known_session(session).contact;
         let id = id_known(known, &message);
@@ -146,7 +146,7 @@ impl State {
     /// A held message was sent or offered again.
     fn take_again(&mut self, session: u32, id: MessageId)
         requires { CanTake self.old (Entry.Again session id) }
-        ensures { Moves self.old self.new (Entry.Again session id) }
+        ensures { TakesButBeginning self.old self.new (Entry.Again session id) }
     {
         let contact = self.known_session(session).contact;
         self.mark(contact, &id, Mark::Heard);
@@ -155,7 +155,7 @@ impl State {
     /// A held message was acknowledged.
     fn take_seen(&mut self, session: u32, id: MessageId)
         requires { CanTake self.old (Entry.Seen session id) }
-        ensures { Moves self.old self.new (Entry.Seen session id) }
+        ensures { TakesButBeginning self.old self.new (Entry.Seen session id) }
     {
         let contact = self.known_session(session).contact;
         self.mark(contact, &id, Mark::Seen);
@@ -164,7 +164,7 @@ impl State {
     /// A held message was requested.
     fn take_asked(&mut self, session: u32, id: MessageId)
         requires { CanTake self.old (Entry.Asked session id) }
-        ensures { Moves self.old self.new (Entry.Asked session id) }
+        ensures { TakesButBeginning self.old self.new (Entry.Asked session id) }
     {
         let contact = self.known_session(session).contact;
         self.mark(contact, &id, Mark::Asked);
@@ -173,7 +173,7 @@ impl State {
     /// A message that is not held was offered.
     fn take_offered(&mut self, session: u32, id: MessageId)
         requires { CanTake self.old (Entry.Offered session id) }
-        ensures { Moves self.old self.new (Entry.Offered session id) }
+        ensures { TakesButBeginning self.old self.new (Entry.Offered session id) }
     {
         let contact = self.known_session(session).contact;
         self.want(contact, id);
@@ -182,7 +182,7 @@ impl State {
     /// An output was sent.
     fn take_out(&mut self, session: u32, now: u64, out: Out)
         requires { CanTake self.old (Entry.Out session now out) }
-        ensures { Moves self.old self.new (Entry.Out session now out) }
+        ensures { TakesButBeginning self.old self.new (Entry.Out session now out) }
     {
         let on = self.known_session(session);
         match out {

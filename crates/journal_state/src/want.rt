@@ -6,7 +6,7 @@ ghost use Rattle.journal_state.specs.Unwanted.{ChangesIds};
 ghost use Rattle.journal_state.specs.Room.{wants_room};
 ghost use Rattle.std.specs.FinMap as fin_map;
 ghost use Rattle.sync_rules.specs.Facts.{is_held, wanted_from};
-ghost use Rattle.journal_state.specs.Taking.{Spends};
+ghost use Rattle.journal_state.specs.Taking.{SpendsRoom};
 
 use crate::state::State;
 use retry_table::Retry;
@@ -48,7 +48,7 @@ impl State {
               (wanted_from self.old.facts.wanted contact) id);
         } }
         ensures answers { self.new.answers ≡ self.old.answers }
-        ensures room { Spends self.old.room self.new.room }
+        ensures room { SpendsRoom self.old.room self.new.room }
     {
         let held = self.find(&id).is_some();
         want_id(&mut self.retry, contact, id, held);
@@ -62,7 +62,7 @@ impl State {
               (without_each ids.now (wanted_from self.old.facts.wanted contact));
         } }
         ensures answers { self.new.answers ≡ self.old.answers }
-        ensures room { Spends self.old.room self.new.room }
+        ensures room { SpendsRoom self.old.room self.new.room }
     {
         unwant_ids(&mut self.retry, contact, ids);
     }

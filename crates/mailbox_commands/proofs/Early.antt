@@ -15,11 +15,11 @@ use Rattle.sync_store.specs.Store.{StoreValue}
 use Rattle.sync_words.specs.declared.outcome.Outcome.{Outcome}
 use Rattle.sync_words.specs.declared.outcome.Outcome.TheVariants as outcome
 use Rattle.store_commands.specs.Load.{HasFacts, IsLoaded, LoadKeeps, LoadedBy}
-use Rattle.store_commands.specs.Show.{Keeps, Rests}
-use Rattle.mailbox_commands.specs.Errands.{MayBegin, mailbox_test}
-use Rattle.mailbox_commands.specs.Running.{StopsBy, StopsEarly, StopsEnds}
+use Rattle.store_commands.specs.Show.{KeepsFiles, LeavesFilesSo}
+use Rattle.mailbox_commands.specs.Errands.{MayBeginWith, mailbox_test}
+use Rattle.mailbox_commands.specs.Running.{ErrandStopsBy, StopsEarly, ErrandStopsWhere}
 
-none_by : (old new : Outside) (came : Outcome) → LoadedBy old new (Err came) → StopsBy old new came
+none_by : (old new : Outside) (came : Outcome) → LoadedBy old new (Err came) → ErrandStopsBy old new came
 none_by old new outcome.DiskFault by = by
 none_by old new outcome.NoStore by = tt
 none_by old new (outcome.Damaged place) by = tt
@@ -27,7 +27,7 @@ none_by old new outcome.Memory by = tt
 none_by old new _ by = absurd by
 
 none_ends : (contact : ℕ) (standing : Standing) (old new : Outside) (came : Outcome) → LoadedBy old new (Err came)
-    → IsLoaded standing (Err came) → StopsEnds standing contact came
+    → IsLoaded standing (Err came) → ErrandStopsWhere standing contact came
 none_ends contact standing old new outcome.DiskFault by loaded = tt
 none_ends contact standing old new outcome.NoStore by loaded = loaded
 none_ends contact standing old new (outcome.Damaged place) by loaded = loaded
@@ -36,7 +36,7 @@ none_ends contact standing old new _ by loaded = absurd by
 
 -- no store was loaded
 pub early_none : (clients : Meaning) (contact : ℕ) (old new : Outside) (out out' : Stream) (came : Outcome)
-    → DiskRun old new → ((two : Two File) → old.files ≡ Some two → Rests (LoadKeeps (Err came) two) two old new)
+    → DiskRun old new → ((two : Two File) → old.files ≡ Some two → LeavesFilesSo (LoadKeeps (Err came) two) two old new)
     → LoadedBy old new (Err came)
     → ((two : Two File) → old.files ≡ Some two → IsLoaded (stands clients (read_files two)) (Err came))
     → IsIdle out out' → StopsEarly clients contact old new out out' came
@@ -53,7 +53,7 @@ early_none clients contact old new out out' came run rests by loaded idle = reco
 -- a store was loaded, and a test failed over it
 pub early_refused : (clients : Meaning) (contact : ℕ) (old new : Outside) (out out' : Stream) (s : StoreValue)
     (why : Refused) → DiskRun old new
-    → ((two : Two File) → old.files ≡ Some two → Rests (LoadKeeps (Ok s) two) two old new)
+    → ((two : Two File) → old.files ≡ Some two → LeavesFilesSo (LoadKeeps (Ok s) two) two old new)
     → ((two : Two File) → old.files ≡ Some two → HasFacts (stands clients (read_files two)) s)
     → mailbox_test s.state.facts contact ≡ Some why → IsIdle out out'
     → StopsEarly clients contact old new out out' (outcome.Refused why)
@@ -75,7 +75,7 @@ early_refused clients contact old new out out' s why run rests loaded tested idl
 
 -- a store was loaded over which the tests hold, and the input was not read whole
 module _ (clients : Meaning) (contact : ℕ) (old new : Outside) (out out' : Stream) (s : StoreValue) (run : DiskRun old new)
-    (rests : (two : Two File) → old.files ≡ Some two → Rests (LoadKeeps (Ok s) two) two old new)
+    (rests : (two : Two File) → old.files ≡ Some two → LeavesFilesSo (LoadKeeps (Ok s) two) two old new)
     (loaded : (two : Two File) → old.files ≡ Some two → HasFacts (stands clients (read_files two)) s)
     (tested : mailbox_test s.state.facts contact ≡ None) (idle : IsIdle out out') where
   pub early_read_fault : StopsEarly clients contact old new out out' outcome.ReadFault
@@ -132,11 +132,11 @@ few_when f is =
     ] refl is
 
 -- where the tests hold, a session may begin
-pub tested_begins : (f : Facts) (contact : ℕ) → mailbox_test f contact ≡ None → MayBegin f contact
+pub tested_begins : (f : Facts) (contact : ℕ) → mailbox_test f contact ≡ None → MayBeginWith f contact
 tested_begins f contact is =
     elim (nat_lt contact f.contacts) as (λ b. nat_lt contact f.contacts ≡ b
     → (if b then (if nat_lt f.begun MAX_SESSIONS then None else Some refused.TooManySessions)
-    else Some refused.UnknownContact) ≡ None → MayBegin f contact) [
+    else Some refused.UnknownContact) ≡ None → MayBeginWith f contact) [
       | true ↦ λ known w. record { known = ltb-true contact f.contacts known; few = few_when f w }
       | false ↦ λ known w. absurd (let no : Some refused.UnknownContact ≡ None = w in cc)
     ] refl is

@@ -3,7 +3,7 @@ use Rattle.std.proofs.Common.{◌≡◌, ◌⊎◌, ℕ, ◌+◌, ◌<◌, ◌�
 use Rattle.std.proofs.Common.{subst, inl, inr, arith, Some, None, Result, Ok, Err}
 use Rattle.std.specs.Prelude.{IsErrAnd}
 use Rattle.outside.specs.declared.limits.TheConstants.{MAX_JOURNAL}
-use Rattle.outside.specs.Faults.{Rose}
+use Rattle.outside.specs.Faults.{CountRose}
 use Rattle.outside.specs.Files.{Two, File, read_files}
 use Rattle.outside.specs.Host.{ReadsClock}
 use Rattle.outside.specs.Links.{Links, sent_of}
@@ -21,7 +21,7 @@ use Rattle.entry_codec.specs.declared.naming.Format.TheVariants as kind
 use Rattle.entry_codec.specs.Payloads.{journal_end, payload_len}
 use Rattle.entry_codec.specs.Standing.{Standing, journal, room_of, stands}
 use Rattle.sync_store.specs.Commits.{needed}
-use Rattle.sync_store.specs.Fitting.{Fits}
+use Rattle.sync_store.specs.Fitting.{FitsFiles}
 use Rattle.sync_store.specs.Moments.{IsBetween, JournalMoment}
 use Rattle.sync_store.specs.Runs.{LeadsBy}
 use Rattle.sync_store.specs.Store.{StoreValue, format_meant, written_in}
@@ -32,14 +32,14 @@ use Rattle.sync_words.specs.Outcomes.{came_to}
 use Rattle.mailbox_core.specs.Rooms.{AreRoomy}
 use Rattle.store_commands.specs.Commit.{ComesAnew, ExtendsBy, HasLastGeneration, SettledAnew, SettlesAnew, WasSpent, needed_by}
 use Rattle.store_commands.specs.Load.{MayExtend}
-use Rattle.store_commands.specs.Show.{ReadsAs, Rests}
+use Rattle.store_commands.specs.Show.{FilesReadSame, LeavesFilesSo}
 use Rattle.store_commands.proofs.Stood.{fits_format, last_here, spent_here}
-use Rattle.mailbox_commands.specs.Errands.{Errand, ErrandOn, IsCut, IsRun, MayBegin, mailbox_test}
-use Rattle.mailbox_commands.specs.Running.{DoesErrand, DoesSo, ErrandBy, ErrandEnds, ErrandTold, FilesRun, MayRun, PrintsOut, RunsErrand, is_whole}
+use Rattle.mailbox_commands.specs.Errands.{Errand, ErrandOn, IsErrandCutShort, IsRun, MayBeginWith, mailbox_test}
+use Rattle.mailbox_commands.specs.Running.{DoesErrand, DoesSo, ErrandBy, ErrandEnds, ErrandTold, FilesRun, MayRunErrand, PrintsOut, RunsErrand, is_whole}
 
 -- ---- causes
 
-rose_before : (a b c : ℕ) → a ≤ b → Rose b c → Rose a c
+rose_before : (a b c : ℕ) → a ≤ b → CountRose b c → CountRose a c
 rose_before a b c later rose = omega arith
 
 failed_by : (comes : Outcome) (o o2 : Outside) (out out' : Stream) (came : Outcome) → IsIdle out out' → ExtendsBy o o2 (Err came)
@@ -74,7 +74,7 @@ printed_by comes text o o2 out out' _ p = absurd p
 
 -- ---- settling
 
-settles_from : (clients : Meaning) (s : StoreValue) (two : Two File) (j more : List (List Entry)) → Fits clients s j two
+settles_from : (clients : Meaning) (s : StoreValue) (two : Two File) (j more : List (List Entry)) → FitsFiles clients s j two
     → AllSettling clients s.state.facts more → AllSettling clients (facts j) more
 settles_from clients s two j more fits settling =
     subst (λ (g : Facts). AllSettling clients g more) (sym fits.facts_are) settling
@@ -88,7 +88,7 @@ one_told o o1 two two1 same files files1 =
     ap read_files one
 
 unsettled_ends : (clients : Meaning) (errand : Errand) (j : List (List Entry)) (s s1 : StoreValue) (out out' : Stream)
-    (came : Outcome) (two two1 : Two File) → Fits clients s j two
+    (came : Outcome) (two two1 : Two File) → FitsFiles clients s j two
     → (came ≡ outcome.Full → read_files two1 ≡ read_files two) → SettledAnew clients s s1 (Err came)
     → ErrandEnds clients errand j two two1 out out' came
 unsettled_ends clients errand j s s1 out out' outcome.Full two two1 fits still answer =
@@ -134,7 +134,7 @@ weighed s j batch short ends same =
 module _ (clients : Meaning) (errand : Errand) (s s1 s2 : StoreValue) (o o1 o2 : Outside) (u : Unit {0})
     (r : Result (Unit {0}) Outcome) (run : DiskRun o o1) (settled : SettlesAnew clients s s1 o o1 (Ok u))
     (does : DoesErrand clients errand s1 s2 o1 o2 r) (limited : s.limit ≡ MAX_JOURNAL) (two : Two File)
-    (files : o.files ≡ Some two) (j : List (List Entry)) (fits : Fits clients s j two) where
+    (files : o.files ≡ Some two) (j : List (List Entry)) (fits : FitsFiles clients s j two) where
   -- the facts of the settled journal
   begun : s1.state.facts ≡ after_batches (facts j) settled.more
   begun = settled.comes.facts ∙ ap (λ (g : Facts). after_batches g settled.more) (sym fits.facts_are)
@@ -169,16 +169,16 @@ module _ (clients : Meaning) (errand : Errand) (s s1 s2 : StoreValue) (o o1 o2 :
   }) (both two files j fits).moments
 
   -- the journal that the disk fits once it is settled
-  settled_fits : (two1 : Two File) → o1.files ≡ Some two1 → Fits clients s1 (j ++ settled.more) two1
+  settled_fits : (two1 : Two File) → o1.files ≡ Some two1 → FitsFiles clients s1 (j ++ settled.more) two1
   settled_fits two1 files1 =
       let at = (settled.comes.leads two files j fits).ends settled.answer.0 two1 files1 in
-      subst (λ (w : List (List Entry)). Fits clients s1 w two1) at.1 at.2
+      subst (λ (w : List (List Entry)). FitsFiles clients s1 w two1) at.1 at.2
 
   last_fits : s2.closed ≡ false → (two2 : Two File) → o2.files ≡ Some two2
-      → Fits clients s2 (j ++ (settled.more ++ does.more)) two2
+      → FitsFiles clients s2 (j ++ (settled.more ++ does.more)) two2
   last_fits still two2 files2 =
       let at = (both two files j fits).ends still two2 files2 in
-      subst (λ (w : List (List Entry)). Fits clients s2 w two2) at.1 at.2
+      subst (λ (w : List (List Entry)). FitsFiles clients s2 w two2) at.1 at.2
 
   -- the store is in format 2 at the end
   last_short : written_in s2 ≡ kind.Short
@@ -196,7 +196,7 @@ module _ (clients : Meaning) (errand : Errand) (s s1 s2 : StoreValue) (o o1 o2 :
 
   errand_run : s2.closed ≡ false → IsSettled clients s2.state.facts → errand.whole s1.state.facts does.more
       → (text : List ℕ)
-      → ((two1 : Two File) (j1 : List (List Entry)) → Fits clients s1 j1 two1 → text ≡ errand.text j1 does.more)
+      → ((two1 : Two File) (j1 : List (List Entry)) → FitsFiles clients s1 j1 two1 → text ≡ errand.text j1 does.more)
       → (P : List ℕ → Type 0) → P text → (two2 : Two File) → o2.files ≡ Some two2 → IsRun clients errand j two2 P
   errand_run still still_settled whole text is P printed two2 files2 =
       let fits2 = last_fits still two2 files2 in
@@ -218,7 +218,7 @@ module _ (clients : Meaning) (errand : Errand) (s s1 s2 : StoreValue) (o o1 o2 :
 
   -- there was no room for the next batch
   errand_cut : s2.closed ≡ false → (next : List Entry) → errand.next s1.state.facts does.more next
-      → s2.limit < needed s2 next → (two2 : Two File) → o2.files ≡ Some two2 → IsCut clients errand j two2
+      → s2.limit < needed s2 next → (two2 : Two File) → o2.files ≡ Some two2 → IsErrandCutShort clients errand j two2
   errand_cut still next follows over two2 files2 =
       let fits2 = last_fits still two2 files2 in
       let limit : s2.limit ≡ MAX_JOURNAL = does.comes.runs.limit ∙ settled.comes.limit ∙ limited in
@@ -241,7 +241,7 @@ module _ (clients : Meaning) (errand : Errand) (s s1 s2 : StoreValue) (o o1 o2 :
 cut_ends : (clients : Meaning) (errand : Errand) (s s1 s2 : StoreValue) (o o1 o2 : Outside) (out out' : Stream)
     (u : Unit {0}) (came : Outcome) → DiskRun o o1 → SettlesAnew clients s s1 o o1 (Ok u)
     → DoesErrand clients errand s1 s2 o1 o2 (Err came) → s.limit ≡ MAX_JOURNAL → (two : Two File)
-    → o.files ≡ Some two → (j : List (List Entry)) → Fits clients s j two → (two2 : Two File) → o2.files ≡ Some two2
+    → o.files ≡ Some two → (j : List (List Entry)) → FitsFiles clients s j two → (two2 : Two File) → o2.files ≡ Some two2
     → ErrandEnds clients errand j two two2 out out' came
 cut_ends clients errand s s1 s2 o o1 o2 out out' u outcome.Full run settled does limited two files j fits two2 files2 =
     inl (errand_cut clients errand s s1 s2 o o1 o2 u (Err outcome.Full) run settled does limited two files j fits
@@ -285,7 +285,7 @@ printed_ends clients errand j out out' comes text _ two two2 ran p = absurd p
 pub errand_printed : (clients : Meaning) (errand : Errand) (s s1 s2 : StoreValue) (o o1 o2 : Outside) (out out' : Stream)
     (u v : Unit {0}) (text : List ℕ) (came : Outcome) → s.limit ≡ MAX_JOURNAL → DiskRun o o1
     → SettlesAnew clients s s1 o o1 (Ok u) → (does : DoesErrand clients errand s1 s2 o1 o2 (Ok v))
-    → ((two1 : Two File) (j1 : List (List Entry)) → Fits clients s1 j1 two1 → text ≡ errand.text j1 does.more)
+    → ((two1 : Two File) (j1 : List (List Entry)) → FitsFiles clients s1 j1 two1 → text ≡ errand.text j1 does.more)
     → PrintsOut errand.comes text out out' came → RunsErrand clients errand s o o2 out out' came
 errand_printed clients errand s s1 s2 o o1 o2 out out' u v text came limited run settled does is printed = record {
   run = run_then o o1 o2 run does.comes.runs.run;
@@ -312,7 +312,7 @@ pub record LeavesAsIs (two : Two File) (o o1 : Outside) : Type 0 where
   pub sent : sent_of o1.links.told ≡ sent_of o.links.told
   pub later : o.disk_faults ≤ o1.disk_faults
 
-pub loaded_as_is : (two : Two File) (o o1 : Outside) → DiskRun o o1 → o.files ≡ Some two → Rests (ReadsAs two) two o o1
+pub loaded_as_is : (two : Two File) (o o1 : Outside) → DiskRun o o1 → o.files ≡ Some two → LeavesFilesSo (FilesReadSame two) two o o1
     → LeavesAsIs two o o1
 loaded_as_is two o o1 run files rests =
     let told1 = told_on o o1 two run.same_told files in
@@ -423,7 +423,7 @@ errand_on r x is clients errand s o o' out out' =
 
 -- what the tests say of a session stays so while a journal is settled
 pub still_begins : (clients : Meaning) (contact : ℕ) (s s1 : StoreValue) (o o1 : Outside) (more : List (List Entry))
-    → MayBegin s.state.facts contact → ComesAnew clients s s1 o o1 more → MayBegin s1.state.facts contact
+    → MayBeginWith s.state.facts contact → ComesAnew clients s s1 o o1 more → MayBeginWith s1.state.facts contact
 still_begins clients contact s s1 o o1 more may comes =
     let stay = all_settling_only clients s.state.facts more comes.settling in
     let same : s1.state.facts.contacts ≡ s.state.facts.contacts =

@@ -2,7 +2,7 @@
 use Rattle.std.proofs.Common.{◌≡◌, ◌⊎◌, ℕ, ◌+◌, ◌<◌, ◌≤◌, false, arith, is_some, List, [], ◌∷◌, ◌++◌, refl, sym, ap, ◌∙◌, subst, inl, inr, Result, Ok, Err, None, Some}
 use Rattle.std.specs.Prelude.{IsErrAnd, Option}
 use Rattle.outside.specs.declared.limits.TheConstants.{MAX_JOURNAL}
-use Rattle.outside.specs.Faults.{Rose}
+use Rattle.outside.specs.Faults.{CountRose}
 use Rattle.outside.specs.Files.{Two, File}
 use Rattle.outside.specs.Host.{ReadsClock}
 use Rattle.outside.specs.Links.{Links}
@@ -18,7 +18,7 @@ use Rattle.sync_rules.specs.Facts.{Facts, after, after_batches, facts, session_a
 use Rattle.sync_rules.specs.Growth.{output_of}
 use Rattle.sync_rules.specs.Legal.{GoesOn, IsDue}
 use Rattle.sync_rules.specs.Output.{sent}
-use Rattle.sync_store.specs.Fitting.{Fits}
+use Rattle.sync_store.specs.Fitting.{FitsFiles}
 use Rattle.sync_store.specs.Store.{StoreValue}
 use Rattle.sync_store.specs.declared.fault.StoreFault.{StoreFault}
 use Rattle.sync_store.specs.declared.fault.StoreFault.TheVariants as fault
@@ -30,11 +30,11 @@ use Rattle.sync_words.specs.declared.outcome.Outcome.TheVariants as outcome
 use Rattle.sync_words.specs.Outcomes.{came_to}
 use Rattle.store_commands.specs.Commit.{SettlesAnew}
 use Rattle.store_commands.specs.Load.{LoadKeeps, LoadedBy, MayExtend}
-use Rattle.store_commands.specs.Show.{PrintsText, Rests}
+use Rattle.store_commands.specs.Show.{PrintsText, LeavesFilesSo}
 use Rattle.mailbox_commands.specs.declared.sending.Sending.{Sending}
 use Rattle.mailbox_commands.specs.Errands.{mailbox_test}
 use Rattle.mailbox_commands.specs.Running.{DoesErrand, LacksRoom, RunsErrand, StopsEarly}
-use Rattle.mailbox_commands.specs.Sending.{HasSentMail, SendsMail, SendsNext, TellsSent, WritesAll, WritesWhole, out_errand}
+use Rattle.mailbox_commands.specs.Sending.{HasSentMail, SendsMail, SendsNextBatch, TellsSent, WritesAll, WritesWhole, out_errand}
 use Rattle.mailbox_commands.proofs.Errands.{errand_loaded, errand_printed, loaded_as_is, read_as_is}
 use Rattle.mailbox_commands.proofs.Taken.{prints_plain}
 
@@ -142,7 +142,7 @@ module _ (clients : Meaning) (asked : Sending) (now : ℕ) (s s' : StoreValue) (
     bytes = tt;
   }
 
-  pub sent_disk : Wrote (Err fault.DiskFault) → Rose o.disk_faults o'.disk_faults → Sent (Err outcome.DiskFault)
+  pub sent_disk : Wrote (Err fault.DiskFault) → CountRose o.disk_faults o'.disk_faults → Sent (Err outcome.DiskFault)
   sent_disk has rose = record {
     does = record { more = has.more; comes = has.comes; some = has.answer.1; answer = tt; by = rose };
     bytes = tt;
@@ -153,7 +153,7 @@ module _ (clients : Meaning) (asked : Sending) (now : ℕ) (s s' : StoreValue) (
 -- the bytes are those of all that the session sends
 text_is : OutputsAreSent → (clients : Meaning) (asked : Sending) (now : ℕ) (s1 s2 : StoreValue) (o1 o2 : Outside)
     (to to' given : List ℕ) (v : Unit {0}) → (tells : TellsSent clients asked now s1 s2 o1 o2 to to' (Ok v)) → to ≡ []
-    → given ≡ to' → (two1 : Two File) (j1 : Batches) → Fits clients s1 j1 two1
+    → given ≡ to' → (two1 : Two File) (j1 : Batches) → FitsFiles clients s1 j1 two1
     → given ≡ spelled (sent (j1 ++ tells.does.more) (facts j1).begun)
 text_is law clients asked now s1 s2 o1 o2 to to' given v tells empty same two1 j1 fits =
     let more : Batches = tells.does.more in
@@ -206,7 +206,7 @@ module _ (clients : Meaning) (asked : Sending) (old new : Outside) (out out' : S
 -- from the files, where the clock was read
 pub mailed_read : (clients : Meaning) (asked : Sending) (now : ℕ) (o o1 oc o2 : Outside) (out out' : Stream)
     (s : StoreValue) (came : Outcome) → DiskRun o o1
-    → ((two : Two File) → o.files ≡ Some two → Rests (LoadKeeps (Ok s) two) two o o1) → MayExtend clients s oc.files
+    → ((two : Two File) → o.files ≡ Some two → LeavesFilesSo (LoadKeeps (Ok s) two) two o o1) → MayExtend clients s oc.files
     → mailbox_test s.state.facts asked.contact ≡ None → QuietCall o1 oc → ReadsClock now o1.links oc.links
     → RunsErrand clients (out_errand clients asked now) s oc o2 out out' came
     → HasSentMail clients asked o o2 out out' came

@@ -4,7 +4,7 @@ use Rattle.std.specs.Prelude.{IsErrAnd}
 use Rattle.std.specs.Global.{Vec}
 use Rattle.std.specs.Io.KnownBytes.{Appends}
 use Rattle.outside.specs.declared.limits.TheConstants.{MAX_JOURNAL}
-use Rattle.outside.specs.Faults.{Rose}
+use Rattle.outside.specs.Faults.{CountRose}
 use Rattle.outside.specs.Files.{Two, File}
 use Rattle.outside.specs.Outside.{DiskRun, Outside}
 use Rattle.outside.specs.Streams.{Stream, IsIdle}
@@ -14,7 +14,7 @@ use Rattle.sync_rules.specs.declared.entries.Entry.{Entry}
 use Rattle.sync_rules.specs.declared.entries.Entry.TheVariants as entry
 use Rattle.sync_rules.specs.Clients.{Meaning}
 use Rattle.sync_rules.specs.Facts.{Facts, after, after_all, after_batches, facts, takes_of}
-use Rattle.sync_rules.specs.Hearing.{Settles}
+use Rattle.sync_rules.specs.Hearing.{SettlesJournal}
 use Rattle.sync_rules.specs.Legal.{AllSettling}
 use Rattle.sync_rules.specs.Steps.{IsSettled}
 use Rattle.sync_rules.proofs.Continuing.{facts-append, legal-append}
@@ -36,11 +36,11 @@ use Rattle.sync_words.specs.declared.outcome.Outcome.TheVariants as outcome
 use Rattle.sync_words.specs.Outcomes.{came_to}
 use Rattle.store_commands.specs.Commit.{SettlesAnew}
 use Rattle.store_commands.specs.Load.{LoadKeeps, LoadedBy, MayExtend}
-use Rattle.store_commands.specs.Show.{PrintsText, Rests}
+use Rattle.store_commands.specs.Show.{PrintsText, LeavesFilesSo}
 use Rattle.mailbox_commands.specs.Errands.{mailbox_test}
 use Rattle.mailbox_commands.specs.Laws.{MailIsBoxed}
 use Rattle.mailbox_commands.specs.Running.{DoesErrand, FailsToPrint, LacksRoom, PrintsOut, RunsErrand, StopsEarly}
-use Rattle.mailbox_commands.specs.Taking.{HasTakenMail, IsInput, IsMail, IsNextTake, ReadsNext, TakesMail, TellsEnd, in_errand, outcome_at, taken_text}
+use Rattle.mailbox_commands.specs.Taking.{HasTakenMail, IsInput, IsMail, IsNextTake, ReadsNextBatch, TakesMail, TellsEnd, in_errand, outcome_at, taken_text}
 use Rattle.mailbox_commands.proofs.Errands.{errand_loaded, errand_printed, loaded_as_is}
 
 abbrev Batches : Type 0
@@ -136,7 +136,7 @@ module _ (clients : Meaning) (contact : ℕ) (f : Facts) (rs : List Record) (mor
       record {
         next = at.next;
         follows =
-            subst (λ (xs : List Record). ReadsNext clients contact xs f more at.next) are (inr (record {
+            subst (λ (xs : List Record). ReadsNextBatch clients contact xs f more at.next) are (inr (record {
               rest = reads.rest;
               is = reads.is;
               later =
@@ -178,7 +178,7 @@ module _ (clients : Meaning) (contact : ℕ) (bytes : List ℕ) (s s' : StoreVal
   pub does_memory : HasReadBox clients contact bytes s s' (Err fault.Memory) o o' → Does (Err outcome.Memory)
   does_memory has = record { more = has.more; comes = has.comes; some = has.answer.1; answer = tt; by = tt }
 
-  pub does_disk : HasReadBox clients contact bytes s s' (Err fault.DiskFault) o o' → Rose o.disk_faults o'.disk_faults
+  pub does_disk : HasReadBox clients contact bytes s s' (Err fault.DiskFault) o o' → CountRose o.disk_faults o'.disk_faults
       → Does (Err outcome.DiskFault)
   does_disk has rose = record { more = has.more; comes = has.comes; some = has.answer.1; answer = tt; by = rose }
 
@@ -305,7 +305,7 @@ taken_printed clients contact bytes s s1 s2 o o1 o2 out out' u v end came limite
 -- from the files, where the input was read
 pub taken_read : (clients : Meaning) (contact : ℕ) (o o1 o2 : Outside) (input input' out out' : Stream) (s : StoreValue)
     (items bytes : List ℕ) (came : Outcome) → DiskRun o o1
-    → ((two : Two File) → o.files ≡ Some two → Rests (LoadKeeps (Ok s) two) two o o1) → MayExtend clients s o1.files
+    → ((two : Two File) → o.files ≡ Some two → LeavesFilesSo (LoadKeeps (Ok s) two) two o o1) → MayExtend clients s o1.files
     → mailbox_test s.state.facts contact ≡ None → IsMail input input' items → bytes ≡ items
     → RunsErrand clients (in_errand clients contact bytes) s o1 o2 out out' came
     → HasTakenMail clients contact o o2 input input' out out' came

@@ -27,7 +27,7 @@ mailbox_test f contact =
     else Some refused.UnknownContact
 
 -- a session with a contact may begin
-pub record MayBegin (f : Facts) (contact : ℕ) : Type 0 where
+pub record MayBeginWith (f : Facts) (contact : ℕ) : Type 0 where
   pub known : contact < f.contacts
   pub few : f.begun < MAX_SESSIONS
 
@@ -79,7 +79,7 @@ pub record IsRun (clients : Meaning) (errand : Errand) (j : List (List Entry)) (
 
 -- The files stand, in format 2, for the journal, all of its settling, and some of the errand, and there is no room for the batch
 -- that comes next.
-pub record IsCut (clients : Meaning) (errand : Errand) (j : List (List Entry)) (two : Two File) : Type 0 where
+pub record IsErrandCutShort (clients : Meaning) (errand : Errand) (j : List (List Entry)) (two : Two File) : Type 0 where
   pub first : List (List Entry)
   pub rest : List (List Entry)
   pub next : List Entry

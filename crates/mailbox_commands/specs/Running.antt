@@ -1,7 +1,7 @@
 -- What the running of an errand comes to: from a loaded store, and from the files.
 use Rattle.std.specs.Prelude.{◌≡◌, ◌⊎◌, ℕ, ◌<◌, Bool, true, false, List, Option, Some, None, Result, Ok, Err}
 use Rattle.std.specs.Io.KnownBytes.{Appends}
-use Rattle.outside.specs.Faults.{Rose}
+use Rattle.outside.specs.Faults.{CountRose}
 use Rattle.outside.specs.Files.{Two, File, read_files}
 use Rattle.outside.specs.Links.{sent_of}
 use Rattle.outside.specs.Outside.{DiskRun, IsNow, Moment, MomentsAre, Outside}
@@ -13,15 +13,15 @@ use Rattle.sync_rules.specs.Facts.{Facts, facts}
 use Rattle.sync_rules.specs.Steps.{IsSettled}
 use Rattle.entry_codec.specs.Standing.{Standing, no_store, damaged, journal, stands}
 use Rattle.sync_store.specs.Commits.{needed}
-use Rattle.sync_store.specs.Fitting.{Fits}
+use Rattle.sync_store.specs.Fitting.{FitsFiles}
 use Rattle.sync_store.specs.Moments.{JournalMoment}
 use Rattle.sync_store.specs.Store.{IsStore, StoreValue}
 use Rattle.sync_words.specs.declared.outcome.Outcome.{Outcome}
 use Rattle.sync_words.specs.declared.outcome.Outcome.TheVariants as outcome
-use Rattle.mailbox_core.specs.Rooms.{ComesTo}
+use Rattle.mailbox_core.specs.Rooms.{StoreComesTo}
 use Rattle.store_commands.specs.Commit.{ExtendsBy, HasLastGeneration, WasSpent}
-use Rattle.store_commands.specs.Show.{Keeps, Rests}
-use Rattle.mailbox_commands.specs.Errands.{Errand, ErrandOn, IsCut, IsRun, mailbox_test}
+use Rattle.store_commands.specs.Show.{KeepsFiles, LeavesFilesSo}
+use Rattle.mailbox_commands.specs.Errands.{Errand, ErrandOn, IsErrandCutShort, IsRun, mailbox_test}
 
 -- ---- an errand on a settled store
 
@@ -48,7 +48,7 @@ DoesSo clients errand f s more (Err _) = ⊥
 pub record DoesErrand (clients : Meaning) (errand : Errand) (s s' : StoreValue) (o o' : Outside)
     (result : Result (Unit {0}) Outcome) : Type 0 where
   pub more : List (List Entry)
-  pub comes : ComesTo clients s s' o o' more
+  pub comes : StoreComesTo clients s s' o o' more
   pub some : errand.some s.state.facts more
   pub answer : DoesSo clients errand s.state.facts s' more result
   pub by : ExtendsBy o o' result
@@ -61,13 +61,13 @@ PrintsOut comes text out out' outcome.Done = (comes ≡ outcome.Done) × Appends
 PrintsOut comes text out out' (outcome.Inside place) = (comes ≡ outcome.Inside place) × Appends out.bytes out'.bytes text
 PrintsOut comes text out out' (outcome.Bad place why) = (comes ≡ outcome.Bad place why) × Appends out.bytes out'.bytes text
 PrintsOut comes text out out' (outcome.NoVersion place) = (comes ≡ outcome.NoVersion place) × Appends out.bytes out'.bytes text
-PrintsOut comes text out out' outcome.WriteFault = Rose out.faults out'.faults × GetsFront out out' text
+PrintsOut comes text out out' outcome.WriteFault = CountRose out.faults out'.faults × GetsFront out out' text
 PrintsOut comes text out out' outcome.Memory = IsIdle out out'
 PrintsOut comes text out out' _ = ⊥
 
 -- a text did not go out, or a front of it
 abbrev pub FailsToPrint : List ℕ → (out out' : Stream) → Outcome → Type 0
-FailsToPrint text out out' outcome.WriteFault = Rose out.faults out'.faults × GetsFront out out' text
+FailsToPrint text out out' outcome.WriteFault = CountRose out.faults out'.faults × GetsFront out out' text
 FailsToPrint text out out' outcome.Memory = IsIdle out out'
 FailsToPrint text out out' _ = ⊥
 
@@ -84,8 +84,8 @@ ErrandBy comes old new out out' outcome.Done = comes ≡ outcome.Done
 ErrandBy comes old new out out' (outcome.Inside place) = comes ≡ outcome.Inside place
 ErrandBy comes old new out out' (outcome.Bad place why) = comes ≡ outcome.Bad place why
 ErrandBy comes old new out out' (outcome.NoVersion place) = comes ≡ outcome.NoVersion place
-ErrandBy comes old new out out' outcome.WriteFault = Rose out.faults out'.faults
-ErrandBy comes old new out out' outcome.DiskFault = Rose old.disk_faults new.disk_faults × IsIdle out out'
+ErrandBy comes old new out out' outcome.WriteFault = CountRose out.faults out'.faults
+ErrandBy comes old new out out' outcome.DiskFault = CountRose old.disk_faults new.disk_faults × IsIdle out out'
 ErrandBy comes old new out out' outcome.Full = IsIdle out out'
 ErrandBy comes old new out out' outcome.Memory = IsIdle out out'
 ErrandBy comes old new out out' _ = ⊥
@@ -108,7 +108,7 @@ ErrandEnds clients errand j two two' out out' (outcome.Inside place) = IsRun cli
 ErrandEnds clients errand j two two' out out' (outcome.Bad place why) = IsRun clients errand j two' (Appends out.bytes out'.bytes)
 ErrandEnds clients errand j two two' out out' (outcome.NoVersion place) = IsRun clients errand j two' (Appends out.bytes out'.bytes)
 ErrandEnds clients errand j two two' out out' outcome.WriteFault = IsRun clients errand j two' (GetsFront out out')
-ErrandEnds clients errand j two two' out out' outcome.Full = IsCut clients errand j two' ⊎ WasSpent two two'
+ErrandEnds clients errand j two two' out out' outcome.Full = IsErrandCutShort clients errand j two' ⊎ WasSpent two two'
 ErrandEnds clients errand j two two' out out' _ = Unit {0}
 
 -- Each moment stands for the journal with settling and some of the errand, and in the end the files are so, which were `two`
@@ -124,7 +124,7 @@ pub record RunsErrand (clients : Meaning) (errand : Errand) (s : StoreValue) (ol
     (came : Outcome) : Type 0 where
   pub run : DiskRun old new
   pub by : ErrandBy errand.comes old new out out' came
-  pub told : (two : Two File) → old.files ≡ Some two → (j : List (List Entry)) → Fits clients s j two
+  pub told : (two : Two File) → old.files ≡ Some two → (j : List (List Entry)) → FitsFiles clients s j two
       → ErrandTold clients errand j two old new out out' came
 
 -- ---- from the files that were told
@@ -136,7 +136,7 @@ pub record IsTested (contact : ℕ) (standing : Standing) (answer : Option Refus
   pub tested : mailbox_test (facts before) contact ≡ answer
 
 -- they hold over it, and it has this
-pub record MayRun (contact : ℕ) (standing : Standing) (P : List (List Entry) → Type 0) : Type 0 where
+pub record MayRunErrand (contact : ℕ) (standing : Standing) (P : List (List Entry) → Type 0) : Type 0 where
   pub before : List (List Entry)
   pub stood : standing ≡ journal before
   pub tested : mailbox_test (facts before) contact ≡ None
@@ -147,10 +147,10 @@ pub record FilesTold (clients : Meaning) (contact : ℕ) (errand : Errand) (two 
     (out out' : Stream) (came : Outcome) : Type 0 where
   pub moments : MomentsAre old new
       (λ m. IsNow two old.links m
-      ⊎ MayRun contact (stands clients (read_files two))
+      ⊎ MayRunErrand contact (stands clients (read_files two))
       (λ j. JournalMoment clients (ErrandOn clients errand j) (sent_of old.links.told) m))
   pub ends : (two' : Two File) → new.files ≡ Some two'
-      → MayRun contact (stands clients (read_files two)) (λ j. ErrandEnds clients errand j two two' out out' came)
+      → MayRunErrand contact (stands clients (read_files two)) (λ j. ErrandEnds clients errand j two two' out out' came)
   pub spent : HasLastGeneration (read_files two) → is_whole came ≡ false
 
 -- a store was loaded over which the tests hold, and the errand was run
@@ -162,33 +162,33 @@ pub record FilesRun (clients : Meaning) (contact : ℕ) (errand : Errand) (old n
 -- ---- a command that ended before its errand
 
 -- the causes
-abbrev pub StopsBy : (old new : Outside) → Outcome → Type 0
-StopsBy old new outcome.NoStore = Unit {0}
-StopsBy old new (outcome.Damaged place) = Unit {0}
-StopsBy old new (outcome.Refused why) = Unit {0}
-StopsBy old new outcome.DiskFault = Rose old.disk_faults new.disk_faults
-StopsBy old new outcome.Memory = Unit {0}
-StopsBy old new outcome.ReadFault = Unit {0}
-StopsBy old new outcome.TooMuch = Unit {0}
-StopsBy old new _ = ⊥
+abbrev pub ErrandStopsBy : (old new : Outside) → Outcome → Type 0
+ErrandStopsBy old new outcome.NoStore = Unit {0}
+ErrandStopsBy old new (outcome.Damaged place) = Unit {0}
+ErrandStopsBy old new (outcome.Refused why) = Unit {0}
+ErrandStopsBy old new outcome.DiskFault = CountRose old.disk_faults new.disk_faults
+ErrandStopsBy old new outcome.Memory = Unit {0}
+ErrandStopsBy old new outcome.ReadFault = Unit {0}
+ErrandStopsBy old new outcome.TooMuch = Unit {0}
+ErrandStopsBy old new _ = ⊥
 
 -- by what the files stood for
-abbrev pub StopsEnds : Standing → ℕ → Outcome → Type 0
-StopsEnds standing contact outcome.NoStore = standing ≡ no_store
-StopsEnds standing contact (outcome.Damaged place) = standing ≡ damaged place.file place.at
-StopsEnds standing contact (outcome.Refused why) = IsTested contact standing (Some why)
-StopsEnds standing contact outcome.ReadFault = IsTested contact standing None
-StopsEnds standing contact outcome.TooMuch = IsTested contact standing None
-StopsEnds standing contact _ = Unit {0}
+abbrev pub ErrandStopsWhere : Standing → ℕ → Outcome → Type 0
+ErrandStopsWhere standing contact outcome.NoStore = standing ≡ no_store
+ErrandStopsWhere standing contact (outcome.Damaged place) = standing ≡ damaged place.file place.at
+ErrandStopsWhere standing contact (outcome.Refused why) = IsTested contact standing (Some why)
+ErrandStopsWhere standing contact outcome.ReadFault = IsTested contact standing None
+ErrandStopsWhere standing contact outcome.TooMuch = IsTested contact standing None
+ErrandStopsWhere standing contact _ = Unit {0}
 
 -- what is so where the files are told: nothing was taken or sent
-pub record StopsTold (clients : Meaning) (contact : ℕ) (two : Two File) (old new : Outside) (came : Outcome) : Type 0 where
-  pub rests : Rests (Keeps came two) two old new
-  pub ends : StopsEnds (stands clients (read_files two)) contact came
+pub record ErrandStopsTold (clients : Meaning) (contact : ℕ) (two : Two File) (old new : Outside) (came : Outcome) : Type 0 where
+  pub rests : LeavesFilesSo (KeepsFiles came two) two old new
+  pub ends : ErrandStopsWhere (stands clients (read_files two)) contact came
 
 -- nothing was taken or sent, and nothing printed
 pub record StopsEarly (clients : Meaning) (contact : ℕ) (old new : Outside) (out out' : Stream) (came : Outcome) : Type 0 where
   pub run : DiskRun old new
-  pub by : StopsBy old new came
+  pub by : ErrandStopsBy old new came
   pub quiet : IsIdle out out'
-  pub told : (two : Two File) → old.files ≡ Some two → StopsTold clients contact two old new came
+  pub told : (two : Two File) → old.files ≡ Some two → ErrandStopsTold clients contact two old new came

@@ -1,7 +1,7 @@
 -- What `mailbox out` does: it commits what is due to a contact, and writes the bytes of all that the session sends.
 use Rattle.std.specs.Prelude.{◌≡◌, ◌⊎◌, ℕ, ◌<◌, ◌≤◌, List, [], ◌∷◌, ◌++◌, length, is_some, Result, Ok, Err}
 use Rattle.outside.specs.Calls.{CallsGoOn}
-use Rattle.outside.specs.Disk.{Becomes}
+use Rattle.outside.specs.Disk.{RelatesTold}
 use Rattle.outside.specs.Host.{ReadsClock}
 use Rattle.outside.specs.Outside.{Outside}
 use Rattle.outside.specs.Streams.{Stream}
@@ -30,7 +30,7 @@ pub record WritesAll (clients : Meaning) (f later : Facts) (session now most : �
   pub sends : SendsAll clients f later session now most made more
 
 -- this batch is that of the output which is due next, by the later facts, and fewer were made than were asked for
-pub record SendsNext (clients : Meaning) (f later : Facts) (session now most : ℕ) (more : List (List Entry))
+pub record SendsNextBatch (clients : Meaning) (f later : Facts) (session now most : ℕ) (more : List (List Entry))
     (next : List Entry) : Type 0 where
   pub sends : SendsSome clients f session now most more
   pub fewer : length sends.outs < most
@@ -49,7 +49,7 @@ abbrev pub WritesNext : Meaning → Sending → ℕ → Facts → List (List Ent
 WritesNext clients asked now f more next =
     ((more ≡ []) × (next ≡ first_batch (batch_session f.begun asked.contact asked.latency)))
     ⊎ BeginsThen f (batch_session f.begun asked.contact asked.latency) more
-    (λ g rest. SendsNext clients g (after_batches f more) f.begun now asked.count rest next)
+    (λ g rest. SendsNextBatch clients g (after_batches f more) f.begun now asked.count rest next)
 
 -- What is due at a time is committed on a session of its own, up to the number that is asked for. The text is the bytes of all
 -- that the session sends.
@@ -80,7 +80,7 @@ pub record ReadsOnce (now : ℕ) (old new : Outside) : Type 0 where
   pub clock : ReadsClock now old.links new.links
   pub same_told : is_some new.files ≡ is_some old.files
   pub later : old.disk_faults ≤ new.disk_faults
-  pub calls : Becomes CallsGoOn old.calls new.calls
+  pub calls : RelatesTold CallsGoOn old.calls new.calls
 
 -- the clock was read, and what is due then was committed and written as far as the outcome says
 pub record SendsMail (clients : Meaning) (asked : Sending) (old new : Outside) (out out' : Stream) (came : Outcome)

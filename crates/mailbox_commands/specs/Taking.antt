@@ -3,7 +3,7 @@ use Rattle.std.specs.Prelude.{◌≡◌, ◌⊎◌, ℕ, ◌+◌, ◌≤◌, Lis
 use Rattle.std.specs.Fmt.{decimal}
 use Rattle.std.specs.Global.{Vec}
 use Rattle.std.specs.Io.KnownBytes.{Consumes, IsAtEnd}
-use Rattle.outside.specs.Faults.{Rose}
+use Rattle.outside.specs.Faults.{CountRose}
 use Rattle.outside.specs.Outside.{DiskRun, Outside}
 use Rattle.outside.specs.Streams.{Stream, IsIdle}
 use Rattle.sync_ids.specs.declared.records.Record.{Record}
@@ -42,8 +42,8 @@ IsNextTake last session next f k [] more = ⊥
 IsNextTake last session next f k (r ∷ rs) more = (more ≡ []) × (next ≡ next_take last session k r)
 
 -- the next batch of the reading of records: that with which the session begins, or the next record's
-abbrev pub ReadsNext : Meaning → ℕ → List Record → Facts → List (List Entry) → List Entry → Type 0
-ReadsNext clients contact records f more next =
+abbrev pub ReadsNextBatch : Meaning → ℕ → List Record → Facts → List (List Entry) → List Entry → Type 0
+ReadsNextBatch clients contact records f more next =
     ((more ≡ []) × (next ≡ first_batch (box_session f.begun contact)))
     ⊎ ReadsTo clients contact (IsNextTake (after_batches f more) f.begun next) f records more
 
@@ -52,7 +52,7 @@ abbrev pub in_errand : Meaning → ℕ → List ℕ → Errand
 in_errand clients contact bytes = record {
   some = λ f more. ReadsSome clients contact f (box_records bytes) more;
   whole = λ f more. ReadsTo clients contact AllTaken f (box_records bytes) more;
-  next = λ f more next. ReadsNext clients contact (box_records bytes) f more next;
+  next = λ f more next. ReadsNextBatch clients contact (box_records bytes) f more next;
   comes = outcome_at (box_ending bytes);
   text = λ settled more. taken_text (length (box_records bytes));
 }
@@ -79,7 +79,7 @@ pub record IsTooMuch (input input' : Stream) : Type 0 where
 abbrev pub IsInput : (input input' : Stream) → Result (Vec ℕ) Outcome → Type 0
 IsInput input input' (Ok bytes) = IsMail input input' bytes.items
 IsInput input input' (Err outcome.TooMuch) = IsTooMuch input input'
-IsInput input input' (Err outcome.ReadFault) = Rose input.faults input'.faults
+IsInput input input' (Err outcome.ReadFault) = CountRose input.faults input'.faults
 IsInput input input' (Err outcome.Memory) = Unit {0}
 IsInput input input' (Err came) = ⊥
 
@@ -102,7 +102,7 @@ HasTakenMail clients contact old new input input' out out' (outcome.Damaged plac
 HasTakenMail clients contact old new input input' out out' (outcome.Refused why) =
     StopsEarly clients contact old new out out' (outcome.Refused why) × IsIdle input input'
 HasTakenMail clients contact old new input input' out out' outcome.ReadFault =
-    StopsEarly clients contact old new out out' outcome.ReadFault × Rose input.faults input'.faults
+    StopsEarly clients contact old new out out' outcome.ReadFault × CountRose input.faults input'.faults
 HasTakenMail clients contact old new input input' out out' outcome.TooMuch =
     StopsEarly clients contact old new out out' outcome.TooMuch × IsTooMuch input input'
 HasTakenMail clients contact old new input input' out out' outcome.DiskFault =

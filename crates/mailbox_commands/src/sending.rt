@@ -5,7 +5,7 @@ ghost use Rattle.sync_rules.specs.Steps.{IsSettled};
 ghost use Rattle.sync_store.specs.Ready.{IsReady};
 ghost use Rattle.sync_words.specs.Outcomes.{came_to};
 ghost use Rattle.store_commands.specs.Load.{MayExtend};
-ghost use Rattle.mailbox_commands.specs.Errands.{MayBegin};
+ghost use Rattle.mailbox_commands.specs.Errands.{MayBeginWith};
 ghost use Rattle.mailbox_commands.specs.Running.{DoesErrand, RunsErrand};
 ghost use Rattle.mailbox_commands.specs.Sending.{HasSentMail, TellsSent, out_errand};
 
@@ -65,7 +65,7 @@ fn send_loaded<D: Disk, W: Sink, C: Clients>(
     clients: &C,
 ) -> Result<(), Outcome>
     requires ready { MayExtend (C.meaning clients.now) store (D.tells disk.old).files }
-    requires begins { MayBegin store.state.facts asked.contact }
+    requires begins { MayBeginWith store.state.facts asked.contact }
     requires latency { 1 ≤ asked.latency }
     ensures { RunsErrand (C.meaning clients.now) (out_errand (C.meaning clients.now) asked now)
         store (D.tells disk.old) (D.tells disk.new) (W.tells out.old) (W.tells out.new)
@@ -93,7 +93,7 @@ fn send_due<D: Disk, C: Clients>(
 ) -> Result<(), Outcome>
     requires ready { IsReady (C.meaning clients.now) store.old (D.tells disk.old).files }
     requires settled { IsSettled (C.meaning clients.now) store.old.state.facts }
-    requires begins { MayBegin store.old.state.facts asked.contact }
+    requires begins { MayBeginWith store.old.state.facts asked.contact }
     requires latency { 1 ≤ asked.latency }
     ensures { TellsSent (C.meaning clients.now) asked now store.old store.new
         (D.tells disk.old) (D.tells disk.new) to.old.items to.new.items result }

@@ -7,7 +7,7 @@ ghost use Rattle.sync_store.specs.Ready.{IsReady};
 ghost use Rattle.sync_words.specs.Outcomes.{came_to};
 ghost use Rattle.mailbox_core.specs.Files.{box_ending, box_records};
 ghost use Rattle.store_commands.specs.Load.{MayExtend};
-ghost use Rattle.mailbox_commands.specs.Errands.{MayBegin};
+ghost use Rattle.mailbox_commands.specs.Errands.{MayBeginWith};
 ghost use Rattle.mailbox_commands.specs.Running.{DoesErrand, PrintedSo, PrintsOut, RunsErrand, ended_as};
 ghost use Rattle.mailbox_commands.specs.Taking.{HasTakenMail, IsInput, TellsEnd, in_errand, outcome_at};
 ghost use Rattle.mailbox_commands.specs.Taking.{taken_text};
@@ -73,7 +73,7 @@ fn take_loaded<D: Disk, W: Sink, C: Clients>(
     clients: &C,
 ) -> Result<(), Outcome>
     requires ready { MayExtend (C.meaning clients.now) store (D.tells disk.old).files }
-    requires begins { MayBegin store.state.facts contact }
+    requires begins { MayBeginWith store.state.facts contact }
     ensures { RunsErrand (C.meaning clients.now) (in_errand (C.meaning clients.now) contact
         bytes.now) store (D.tells disk.old) (D.tells disk.new) (W.tells out.old) (W.tells out.new)
         (came_to result) }
@@ -97,7 +97,7 @@ fn take_records<D: Disk, C: Clients>(
 ) -> Result<BoxEnd, Outcome>
     requires ready { IsReady (C.meaning clients.now) store.old (D.tells disk.old).files }
     requires settled { IsSettled (C.meaning clients.now) store.old.state.facts }
-    requires begins { MayBegin store.old.state.facts contact }
+    requires begins { MayBeginWith store.old.state.facts contact }
     ensures does { DoesErrand (C.meaning clients.now) (in_errand (C.meaning clients.now) contact
         bytes.now) store.old store.new (D.tells disk.old) (D.tells disk.new) (ended_as result) }
     ensures end { IfOk result (TellsEnd bytes.now) }

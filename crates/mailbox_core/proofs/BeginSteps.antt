@@ -22,7 +22,7 @@ use Rattle.mailbox_core.specs.declared.ends.BoxEnd.{BoxEnd}
 use Rattle.mailbox_core.specs.Files.{box_ending, box_records}
 use Rattle.mailbox_core.specs.Reading.{HasReadBox, ReadsSo, ReadsTo}
 use Rattle.mailbox_core.specs.Sending.{batch_session}
-use Rattle.mailbox_core.specs.Steps.{BeginsSo, HasBegun, HasCommitted, HasReadAll, IsOpenFor, Left, RestSo, left_of, next_on}
+use Rattle.mailbox_core.specs.Steps.{BeginsSo, HasBegunSession, HasCommitted, HasReadRest, IsOpenFor, RecordsLeft, RestSo, left_of, next_on}
 use Rattle.mailbox_core.specs.Taking.{AllTaken, NoRoomFor, SomeTaken, TakesTo, first_batch}
 use Rattle.mailbox_core.proofs.Committed.{needed_stays}
 use Rattle.mailbox_core.proofs.Lefts.{left_first}
@@ -77,7 +77,7 @@ module _ (clients : Meaning) (contact latency : ℕ) (s s' : StoreValue) (o o' :
       ∙ found_pushed s.state.facts.sessions (batch_session s.state.facts.begun contact latency) s.state.facts.begun refl
 
   pub has_begun : (u : Unit {0}) (session : Session) → HasCommitted clients s s' its (Ok u) o o'
-      → session_at s'.state.facts.sessions s.state.facts.begun ≡ Some session → HasBegun clients contact latency s s'
+      → session_at s'.state.facts.sessions s.state.facts.begun ≡ Some session → HasBegunSession clients contact latency s s'
       (Ok session) o o'
   has_begun u session has found = record {
     more = its ∷ [];
@@ -102,7 +102,7 @@ module _ (clients : Meaning) (contact latency : ℕ) (s s' : StoreValue) (o o' :
       }
 
   pub not_begun : (e : StoreFault) → s.closed ≡ false → HasCommitted clients s s' its (Err e) o o'
-      → HasBegun clients contact latency s s' (Err e) o o'
+      → HasBegunSession clients contact latency s s' (Err e) o o'
   not_begun fault.Closed opened has =
       let closed : s.closed ≡ true = has.answer.0 in absurd (let e : true ≡ false = sym closed ∙ opened in cc)
   not_begun fault.Full opened has =
@@ -129,7 +129,7 @@ of_its_batch clients s s' batch first result o o' is has =
 -- no memory was found for it
 pub begun_starved : ImagesStand → (clients : Meaning) (contact latency : ℕ) (s : StoreValue) (o : Outside) → IsStore s
     → s.closed ≡ false
-    → HasBegun clients contact latency s s (Err fault.Memory) o o
+    → HasBegunSession clients contact latency s s (Err fault.Memory) o o
 begun_starved images clients contact latency s o store opened = record {
   more = [];
   comes = comes_none images clients s o store;
@@ -169,7 +169,7 @@ module _ (clients : Meaning) (contact : ℕ) (bytes : List ℕ) (s : StoreValue)
   )
 
   pub box_not_begun : (s' : StoreValue) (e : StoreFault) (o' : Outside) → IsSettled clients s.state.facts
-      → HasBegun clients contact 1 s s' (Err e) o o'
+      → HasBegunSession clients contact 1 s s' (Err e) o o'
       → HasReadBox clients contact bytes s s' (Err e) o o'
   box_not_begun s' e o' settled has = record {
     more = has.more;
@@ -178,12 +178,12 @@ module _ (clients : Meaning) (contact : ℕ) (bytes : List ℕ) (s : StoreValue)
   }
 
   module _ (s1 s2 : StoreValue) (session : Session) (o1 o2 : Outside)
-      (begun : HasBegun clients contact 1 s s1 (Ok session) o o1) where
+      (begun : HasBegunSession clients contact 1 s s1 (Ok session) o o1) where
     facts_there : s1.state.facts ≡ after s.state.facts (entry.Session (batch_session s.state.facts.begun contact 1))
     facts_there = begun.comes.runs.facts begun.answer.0 ∙ ap (after_batches s.state.facts) begun.answer.1
 
     -- what is taken from there on is taken behind the session
-    behind : (P : Facts → ℕ → List Record → Batches → Type 0) (left : Left) (rest : Batches) → left.records
+    behind : (P : Facts → ℕ → List Record → Batches → Type 0) (left : RecordsLeft) (rest : Batches) → left.records
         ≡ box_records bytes
         → TakesTo clients session.number P s1.state.facts (next_on s1 session.number) left.records rest
         → ReadsTo clients contact P s.state.facts (box_records bytes) (begun.more ++ rest)
@@ -216,14 +216,14 @@ module _ (clients : Meaning) (contact : ℕ) (bytes : List ℕ) (s : StoreValue)
         → ReadsTo clients contact (SomeTaken clients s.state.facts.begun) s.state.facts (box_records bytes)
         (begun.more ++ more)
     some_behind more t =
-        behind (SomeTaken clients s.state.facts.begun) (left_of fresh bytes) more (ap (λ (l : Left). l.records) whole)
+        behind (SomeTaken clients s.state.facts.begun) (left_of fresh bytes) more (ap (λ (l : RecordsLeft). l.records) whole)
         (subst (λ (n : ℕ). From (SomeTaken clients n) more) begun.answer.2 t)
 
     full_behind : (more : Batches) → From (NoRoomFor session.number s2) more
         → ReadsTo clients contact (NoRoomFor s.state.facts.begun s2) s.state.facts (box_records bytes)
         (begun.more ++ more)
     full_behind more t =
-        behind (NoRoomFor s.state.facts.begun s2) (left_of fresh bytes) more (ap (λ (l : Left). l.records) whole)
+        behind (NoRoomFor s.state.facts.begun s2) (left_of fresh bytes) more (ap (λ (l : RecordsLeft). l.records) whole)
         (subst (λ (n : ℕ). From (NoRoomFor n s2) more) begun.answer.2 t)
 
     reads_so : (more : Batches) (result : Result BoxEnd StoreFault) → RestSo clients session.number s1 s2
@@ -232,16 +232,16 @@ module _ (clients : Meaning) (contact : ℕ) (bytes : List ℕ) (s : StoreValue)
     reads_so more (Ok end) so = (
       so.0,
       so.1,
-      behind AllTaken (left_of fresh bytes) more (ap (λ (l : Left). l.records) whole) so.2,
-      so.3 ∙ ap (λ (l : Left). length l.records) whole,
-      so.4 ∙ ap (λ (l : Left). l.ending) whole,
+      behind AllTaken (left_of fresh bytes) more (ap (λ (l : RecordsLeft). l.records) whole) so.2,
+      so.3 ∙ ap (λ (l : RecordsLeft). length l.records) whole,
+      so.4 ∙ ap (λ (l : RecordsLeft). l.ending) whole,
     )
     reads_so more (Err fault.Closed) so = so
     reads_so more (Err fault.Full) so = (so.0, so.1, inr (full_behind more so.2))
     reads_so more (Err fault.Memory) so = (so.0, inr (some_behind more so.1))
     reads_so more (Err fault.DiskFault) so = (so.0, inr (some_behind more so.1))
 
-    pub box_read : (result : Result BoxEnd StoreFault) → HasReadAll clients session.number s1 s2 (left_of fresh bytes)
+    pub box_read : (result : Result BoxEnd StoreFault) → HasReadRest clients session.number s1 s2 (left_of fresh bytes)
         result o1 o2
         → HasReadBox clients contact bytes s s2 result o o2
     box_read result has = record {
@@ -250,8 +250,8 @@ module _ (clients : Meaning) (contact : ℕ) (bytes : List ℕ) (s : StoreValue)
       answer = reads_so has.more result has.answer;
     }
 
-    pub box_read_at : (left : Left) (result : Result BoxEnd StoreFault) → left ≡ left_of fresh bytes
-        → HasReadAll clients session.number s1 s2 left result o1 o2
+    pub box_read_at : (left : RecordsLeft) (result : Result BoxEnd StoreFault) → left ≡ left_of fresh bytes
+        → HasReadRest clients session.number s1 s2 left result o1 o2
         → HasReadBox clients contact bytes s s2 result o o2
     box_read_at left result is has =
-        box_read result (subst (λ (l : Left). HasReadAll clients session.number s1 s2 l result o1 o2) is has)
+        box_read result (subst (λ (l : RecordsLeft). HasReadRest clients session.number s1 s2 l result o1 o2) is has)

@@ -11,13 +11,13 @@ use Rattle.sync_rules.specs.Facts.{after_all}
 use Rattle.sync_rules.specs.Legal.{Allowed}
 use Rattle.sync_store.specs.declared.fault.StoreFault.{StoreFault}
 use Rattle.sync_store.specs.declared.fault.StoreFault.TheVariants as fault
-use Rattle.sync_store.specs.Commits.{Commits, Stays, Unasked, needed}
-use Rattle.sync_store.specs.Fitting.{Fits, ImagesStand}
-use Rattle.sync_store.specs.Moments.{Adds}
+use Rattle.sync_store.specs.Commits.{AnswersCommit, KeepsStore, UnaskedDisk, needed}
+use Rattle.sync_store.specs.Fitting.{FitsFiles, ImagesStand}
+use Rattle.sync_store.specs.Moments.{RunsCommit}
 use Rattle.sync_store.specs.Runs.{AddsBatch, ExtendsSo, HasExtended, committed_by}
 use Rattle.sync_store.specs.Store.{IsStore, StoreValue, format_meant, written_in}
 use Rattle.sync_store.proofs.Runs.{runs_commit}
-use Rattle.mailbox_core.specs.Rooms.{AreRoomy, ComesTo, needed_in}
+use Rattle.mailbox_core.specs.Rooms.{AreRoomy, StoreComesTo, needed_in}
 use Rattle.mailbox_core.specs.Steps.{HasCommitted}
 use Rattle.mailbox_core.proofs.Rooms.{needed_is, settling_roomy}
 
@@ -25,22 +25,22 @@ pub true≢false : {P : Type 0} (b : Bool) → b ≡ true → b ≡ false → P
 true≢false b is not = absurd (let e : true ≡ false = sym is ∙ not in cc)
 
 -- the sum of a store that all is as before of is that from before
-pub needed_stays : (s new : StoreValue) (batch : List Entry) → Stays s new → needed new batch ≡ needed s batch
+pub needed_stays : (s new : StoreValue) (batch : List Entry) → KeepsStore s new → needed new batch ≡ needed s batch
 needed_stays s new batch stays = λ i.
     stays.end i + 5 + payload_len (format_meant (stays.format i)) batch + room_of (format_meant (stays.format i))
     (after_all (stays.facts i) batch)
 
 -- a batch found its room
 pub one_roomy : (clients : Meaning) (s : StoreValue) (j : List (List Entry)) (two : Two File) (batch : List Entry)
-    → Fits clients s j two
+    → FitsFiles clients s j two
     → needed s batch ≤ s.limit → needed_in (written_in s) j batch ≤ s.limit
 one_roomy clients s j two batch fits within = omega (arith, needed_is clients s j two batch fits, within)
 
 -- ---- a commit
 
 commit_roomy : (clients : Meaning) (s new : StoreValue) (batch : List Entry) (result : Result (Unit {0}) StoreFault)
-    → Commits s new batch result
-    → (two : Two File) (j : List (List Entry)) → Fits clients s j two → AreRoomy (written_in s) s.limit j
+    → AnswersCommit s new batch result
+    → (two : Two File) (j : List (List Entry)) → FitsFiles clients s j two → AreRoomy (written_in s) s.limit j
     (committed_by batch result)
 commit_roomy clients s new batch (Ok u) commits two j fits =
     (λ kind. one_roomy clients s j two batch fits commits.1, tt)
@@ -54,10 +54,10 @@ commit_roomy clients s new batch (Err fault.Memory) commits two j fits = tt
 pub has_committed : ImagesStand → (clients : Meaning) (s new : StoreValue) (batch : List Entry)
     (result : Result (Unit {0}) StoreFault)
     (D : Type 0) (tells : D → Outside) (d d' : D) → IsStore new → s.closed ≡ false → Allowed clients s.state.facts batch
-    → Commits s new batch result → Unasked result d d' → DiskRun (tells d) (tells d') → MakesCalls 4 result (tells d)
+    → AnswersCommit s new batch result → UnaskedDisk result d d' → DiskRun (tells d) (tells d') → MakesCalls 4 result (tells d)
     (tells d')
-    → ((two : Two File) → (tells d).files ≡ Some two → (j : List (List Entry)) → Fits clients s j two
-    → Adds clients batch result new (tells d) (tells d') j)
+    → ((two : Two File) → (tells d).files ≡ Some two → (j : List (List Entry)) → FitsFiles clients s j two
+    → RunsCommit clients batch result new (tells d) (tells d') j)
     → HasCommitted clients s new batch result (tells d) (tells d')
 has_committed images clients s new batch result D tells d d' store opened allowed commits unasked run made adds = record {
   comes = record {
@@ -82,7 +82,7 @@ extend_needed clients s new batch b rest (Err fault.DiskFault) so = so.1
 extend_roomy : (clients : Meaning) (s new : StoreValue) (batch : List Entry) (more : List (List Entry))
     (result : Result (Unit {0}) StoreFault)
     → AddsBatch clients s.state.facts batch more → ExtendsSo clients s new batch more result
-    → (two : Two File) (j : List (List Entry)) → Fits clients s j two → AreRoomy (written_in s) s.limit j more
+    → (two : Two File) (j : List (List Entry)) → FitsFiles clients s j two → AreRoomy (written_in s) s.limit j more
 extend_roomy clients s new batch [] result adds so two j fits = tt
 extend_roomy clients s new batch (b ∷ rest) result adds so two j fits = (
   λ kind. subst (λ (x : List Entry). needed_in (written_in s) j x ≤ s.limit) (sym adds.0)
@@ -92,7 +92,7 @@ extend_roomy clients s new batch (b ∷ rest) result adds so two j fits = (
 
 pub comes_extended : (clients : Meaning) (s new : StoreValue) (batch : List Entry)
     (result : Result (Unit {0}) StoreFault) (o o' : Outside)
-    (has : HasExtended clients s new batch result o o') → ComesTo clients s new o o' has.more
+    (has : HasExtended clients s new batch result o o') → StoreComesTo clients s new o o' has.more
 comes_extended clients s new batch result o o' has = record {
   runs = has.runs;
   roomy = λ two told j fits. extend_roomy clients s new batch has.more result has.adds has.answer two j fits;

@@ -8,7 +8,7 @@ use Rattle.sync_rules.specs.declared.entries.Session.{Session}
 use Rattle.sync_rules.specs.Clients.{Meaning}
 use Rattle.sync_rules.specs.Facts.{Facts, after, after_batches, facts, session_at, takes_of}
 use Rattle.sync_rules.specs.Growth.{output_of}
-use Rattle.sync_rules.specs.Hearing.{Hears}
+use Rattle.sync_rules.specs.Hearing.{HearsRecord}
 use Rattle.sync_rules.specs.Legal.{AllSettling, Legal}
 use Rattle.sync_rules.specs.Steps.{IsSettled}
 use Rattle.sync_rules.proofs.Continuing.{facts-append, legal-append}
@@ -40,7 +40,7 @@ next_free clients j legal = none_above (facts j).begun (facts j).sessions (legal
 
 record_heard : (clients : Meaning) (session k : ℕ) (j : Batches) (r : Record) (more : Batches) → TakesRecord clients
     (facts j) session k r more
-    → IsSettled clients (after_batches (facts j) more) → Hears clients j session k r (j ++ more)
+    → IsSettled clients (after_batches (facts j) more) → HearsRecord clients j session k r (j ++ more)
 record_heard clients session k j r more takes settled =
     let its : List Entry = next_take (facts j) session k r in
     record {

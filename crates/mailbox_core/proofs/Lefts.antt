@@ -12,7 +12,7 @@ use Rattle.record_stream.specs.Reading.{AwaitsBytes, ReaderState, ReadsOn, fresh
 use Rattle.sync_ids.specs.declared.records.Record.{Record}
 use Rattle.mailbox_core.specs.declared.ends.BoxEnding.TheVariants as box
 use Rattle.mailbox_core.specs.Files.{box_ending, box_records, ending_behind, ends_as, is_foreign, records_to_take}
-use Rattle.mailbox_core.specs.Steps.{Left, left_of}
+use Rattle.mailbox_core.specs.Steps.{RecordsLeft, left_of}
 
 abbrev items_in : ReaderState → List ℕ → List Item
 items_in r piece = items r.place (r.bytes ++ (piece ++ []))
@@ -29,7 +29,7 @@ left_first bytes = λ i. record {
 }
 
 -- behind a record
-pub record BehindOne (place : ℕ) (r : Record) (left left' : Left) : Type 0 where
+pub record BehindOne (place : ℕ) (r : Record) (left left' : RecordsLeft) : Type 0 where
   pub records : left.records ≡ r ∷ cond (is_foreign r) [] left'.records
   pub ending : left.ending ≡ cond (is_foreign r) (box.NoVersion place) left'.ending
 

@@ -14,8 +14,8 @@ use Rattle.sync_store.specs.Store.{StoreValue}
 use Rattle.mailbox_core.specs.declared.ends.BoxEnding.{BoxEnding}
 use Rattle.mailbox_core.specs.declared.ends.BoxEnding.TheVariants as box
 use Rattle.mailbox_core.specs.Files.{is_foreign}
-use Rattle.mailbox_core.specs.Rooms.{ComesTo}
-use Rattle.mailbox_core.specs.Steps.{HasRead, HasReadAll, HasTaken, IsAt, IsOpenFor, Left, StopsSo, TakesSo, next_on}
+use Rattle.mailbox_core.specs.Rooms.{StoreComesTo}
+use Rattle.mailbox_core.specs.Steps.{HasReadItem, HasReadRest, HasTakenRecord, IsAt, IsOpenFor, RecordsLeft, StopsSo, TakesSo, next_on}
 use Rattle.mailbox_core.specs.Taking.{AllTaken, NoRoomFor, SomeTaken, TakesTo}
 use Rattle.mailbox_core.proofs.Lefts.{BehindOne}
 use Rattle.mailbox_core.proofs.Rooms.{comes_none, comes_then}
@@ -26,10 +26,10 @@ Batches = List (List Entry)
 
 -- ---- one item
 
-module _ (clients : Meaning) (session : ℕ) (s s' : StoreValue) (left left' : Left) (o o' : Outside) where
+module _ (clients : Meaning) (session : ℕ) (s s' : StoreValue) (left left' : RecordsLeft) (o o' : Outside) where
   -- a record that does not end the reading was taken
   pub read_one : (place : ℕ) (r : Record) (u : Unit {0}) → BehindOne place r left left' → is_foreign r ≡ false
-      → HasTaken clients session r s s' (Ok u) o o' → HasRead clients session s s' left left' (Ok None) o o'
+      → HasTakenRecord clients session r s s' (Ok u) o o' → HasReadItem clients session s s' left left' (Ok None) o o'
   read_one place r u behind own has =
       let records : left.records ≡ r ∷ left'.records = behind.records ∙ ap (λ b. r ∷ cond b [] left'.records) own in
       let facts : s'.state.facts ≡ after_batches s.state.facts has.more = has.comes.runs.facts has.answer.0 in
@@ -55,7 +55,7 @@ module _ (clients : Meaning) (session : ℕ) (s s' : StoreValue) (left left' : L
 
   -- one that ends it was taken
   pub read_last : (place : ℕ) (r : Record) (u : Unit {0}) → BehindOne place r left left' → is_foreign r ≡ true
-      → HasTaken clients session r s s' (Ok u) o o' → HasRead clients session s s' left left'
+      → HasTakenRecord clients session r s s' (Ok u) o o' → HasReadItem clients session s s' left left'
       (Ok (Some (box.NoVersion place))) o o'
   read_last place r u behind foreign has =
       let records : left.records ≡ r ∷ [] = behind.records ∙ ap (λ b. r ∷ cond b [] left'.records) foreign in
@@ -78,8 +78,8 @@ module _ (clients : Meaning) (session : ℕ) (s s' : StoreValue) (left left' : L
 
   -- one was not taken
   pub read_stopped : (place : ℕ) (r : Record) (e : StoreFault) → BehindOne place r left left'
-      → HasTaken clients session r s s' (Err e) o o'
-      → HasRead clients session s s' left left' (Err e) o o'
+      → HasTakenRecord clients session r s s' (Err e) o o'
+      → HasReadItem clients session s s' left left' (Err e) o o'
   read_stopped place r e behind has = record {
     more = has.more;
     comes = has.comes;
@@ -100,28 +100,28 @@ module _ (clients : Meaning) (session : ℕ) (s s' : StoreValue) (left left' : L
 
 -- ---- items that take nothing
 
-module _ (images : ImagesStand) (clients : Meaning) (session : Session) (s : StoreValue) (left left' : Left)
+module _ (images : ImagesStand) (clients : Meaning) (session : Session) (s : StoreValue) (left left' : RecordsLeft)
     (o : Outside)
     (able : IsOpenFor clients session s o) where
   -- a skipped one
-  pub read_past : left ≡ left' → HasRead clients session.number s s left left' (Ok None) o o
+  pub read_past : left ≡ left' → HasReadItem clients session.number s s left left' (Ok None) o o
   read_past same = record {
     more = [];
     comes = comes_none images clients s o able.is_store;
     answer = (
       able.ready.still_open,
-      subst (λ (l : Left). TakesTo clients session.number (IsAt s.state.facts (next_on s session.number) l.records)
+      subst (λ (l : RecordsLeft). TakesTo clients session.number (IsAt s.state.facts (next_on s session.number) l.records)
           s.state.facts (next_on s session.number) left.records [])
           same (at_here clients session.number s.state.facts (next_on s session.number) left.records),
-      ap (λ (l : Left). l.ending) same,
+      ap (λ (l : RecordsLeft). l.ending) same,
     );
   }
 
   -- none is left
   pub read_end : (e : BoxEnding) → left ≡ record { records = []; ending = e }
-      → HasRead clients session.number s s left left' (Ok (Some e)) o o
+      → HasReadItem clients session.number s s left left' (Ok (Some e)) o o
   read_end e none =
-      let many : length left.records ≡ 0 = ap (λ (l : Left). length l.records) none in
+      let many : length left.records ≡ 0 = ap (λ (l : RecordsLeft). length l.records) none in
       record {
         more = [];
         comes = comes_none images clients s o able.is_store;
@@ -129,14 +129,14 @@ module _ (images : ImagesStand) (clients : Meaning) (session : Session) (s : Sto
           able.ready.still_open,
           subst (λ (rs : List Record). TakesTo clients session.number AllTaken s.state.facts (next_on s session.number)
               rs [])
-              (sym (ap (λ (l : Left). l.records) none)) (refl, refl),
+              (sym (ap (λ (l : RecordsLeft). l.records) none)) (refl, refl),
           omega (arith, many),
-          sym (ap (λ (l : Left). l.ending) none),
+          sym (ap (λ (l : RecordsLeft). l.ending) none),
         );
       }
 
   -- no memory was found for it
-  pub read_starved : HasRead clients session.number s s left left' (Err fault.Memory) o o
+  pub read_starved : HasReadItem clients session.number s s left left' (Err fault.Memory) o o
   read_starved = record {
     more = [];
     comes = comes_none images clients s o able.is_store;
@@ -147,16 +147,16 @@ module _ (images : ImagesStand) (clients : Meaning) (session : Session) (s : Sto
 -- ---- one item after the other
 
 -- some items were read, and the reading goes on
-pub record Underway (clients : Meaning) (session : ℕ) (s s' : StoreValue) (left left' : Left) (o o' : Outside)
+pub record Underway (clients : Meaning) (session : ℕ) (s s' : StoreValue) (left left' : RecordsLeft) (o o' : Outside)
     : Type 0 where
   pub more : Batches
-  pub comes : ComesTo clients s s' o o' more
+  pub comes : StoreComesTo clients s s' o o' more
   pub still_open : s'.closed ≡ false
   pub came : TakesTo clients session (IsAt s'.state.facts (next_on s' session) left'.records) s.state.facts
       (next_on s session) left.records more
   pub same_ending : left.ending ≡ left'.ending
 
-pub way_begins : ImagesStand → (clients : Meaning) (session : Session) (s : StoreValue) (left : Left) (o : Outside)
+pub way_begins : ImagesStand → (clients : Meaning) (session : Session) (s : StoreValue) (left : RecordsLeft) (o : Outside)
     → IsOpenFor clients session s o
     → Underway clients session.number s s left left o o
 way_begins images clients session s left o able = record {
@@ -167,7 +167,7 @@ way_begins images clients session s left o able = record {
   same_ending = refl;
 }
 
-module _ (clients : Meaning) (session : ℕ) (s0 s s' : StoreValue) (left0 left left' : Left) (o0 o o' : Outside)
+module _ (clients : Meaning) (session : ℕ) (s0 s s' : StoreValue) (left0 left left' : RecordsLeft) (o0 o o' : Outside)
     (way : Underway clients session s0 s left0 left o0 o) where
   onward : (P : Facts → ℕ → List Record → Batches → Type 0) (more : Batches) → TakesTo clients session P s.state.facts
       (next_on s session) left.records more
@@ -176,7 +176,7 @@ module _ (clients : Meaning) (session : ℕ) (s0 s s' : StoreValue) (left0 left 
       then_on clients session P s0.state.facts s.state.facts (next_on s0 session) (next_on s session)
       left0.records left.records way.more more way.came t
 
-  pub way_goes_on : HasRead clients session s s' left left' (Ok None) o o'
+  pub way_goes_on : HasReadItem clients session s s' left left' (Ok None) o o'
       → Underway clients session s0 s' left0 left' o0 o'
   way_goes_on has = record {
     more = way.more ++ has.more;
@@ -186,10 +186,10 @@ module _ (clients : Meaning) (session : ℕ) (s0 s s' : StoreValue) (left0 left 
     same_ending = way.same_ending ∙ has.answer.2;
   }
 
-  pub way_ends : (e : BoxEnding) → HasRead clients session s s' left left' (Ok (Some e)) o o'
+  pub way_ends : (e : BoxEnding) → HasReadItem clients session s s' left left' (Ok (Some e)) o o'
       → IsSettled clients s'.state.facts → (taken : ℕ)
       → taken ≡ next_on s' session - next_on s0 session
-      → HasReadAll clients session s0 s' left0 (Ok (record { taken = taken; ending = e })) o0 o'
+      → HasReadRest clients session s0 s' left0 (Ok (record { taken = taken; ending = e })) o0 o'
   way_ends e has settled taken is =
       let here : next_on s session + length left.records ≡ next_on s0 session + length left0.records =
       counted clients session s0.state.facts s.state.facts (next_on s0 session) (next_on s session)
@@ -207,7 +207,7 @@ module _ (clients : Meaning) (session : ℕ) (s0 s s' : StoreValue) (left0 left 
         );
       }
 
-  pub way_within : (e : BoxEnding) → HasRead clients session s s' left left' (Ok (Some e)) o o' → next_on s0 session
+  pub way_within : (e : BoxEnding) → HasReadItem clients session s s' left left' (Ok (Some e)) o o' → next_on s0 session
       ≤ next_on s' session
   way_within e has =
       let here : next_on s session + length left.records ≡ next_on s0 session + length left0.records =
@@ -223,8 +223,8 @@ module _ (clients : Meaning) (session : ℕ) (s0 s s' : StoreValue) (left0 left 
   way_stops_so fault.Memory more so = (so.0, onward (SomeTaken clients session) more so.1)
   way_stops_so fault.DiskFault more so = (so.0, onward (SomeTaken clients session) more so.1)
 
-  pub way_stops : (e : StoreFault) → HasRead clients session s s' left left' (Err e) o o'
-      → HasReadAll clients session s0 s' left0 (Err e) o0 o'
+  pub way_stops : (e : StoreFault) → HasReadItem clients session s s' left left' (Err e) o o'
+      → HasReadRest clients session s0 s' left0 (Err e) o0 o'
   way_stops e has = record {
     more = way.more ++ has.more;
     comes = comes_then clients s0 s s' o0 o o' way.more has.more way.still_open way.comes has.comes;

@@ -14,17 +14,17 @@ use Rattle.sync_rules.specs.Clients.{Meaning}
 use Rattle.sync_rules.specs.Facts.{Facts, after_all}
 use Rattle.sync_rules.specs.Legal.{AllSettling, IsSettlingBatch}
 use Rattle.sync_rules.proofs.StepLaws.{IsSettlingEntry, next_is_settling}
-use Rattle.sync_store.specs.Commits.{Stays, needed}
-use Rattle.sync_store.specs.Fitting.{Fits, ImagesStand}
+use Rattle.sync_store.specs.Commits.{KeepsStore, needed}
+use Rattle.sync_store.specs.Fitting.{FitsFiles, ImagesStand}
 use Rattle.sync_store.specs.Store.{IsStore, StoreValue, format_meant, written_in}
 use Rattle.sync_store.proofs.Runs.{runs_none, runs_then}
-use Rattle.mailbox_core.specs.Rooms.{AreRoomy, ComesTo, needed_in}
+use Rattle.mailbox_core.specs.Rooms.{AreRoomy, StoreComesTo, needed_in}
 
 -- ---- the sum
 
 -- by a store's fields it is that by the journal that its disk fits
 pub needed_is : (clients : Meaning) (s : StoreValue) (j : List (List Entry)) (two : Two File) (batch : List Entry)
-    → Fits clients s j two
+    → FitsFiles clients s j two
     → needed s batch ≡ needed_in (written_in s) j batch
 needed_is clients s j two batch fits = λ i.
     fits.end_is i + 5 + payload_len (written_in s) batch + room_of (written_in s)
@@ -66,14 +66,14 @@ roomy_both format limit j (x ∷ xs) ys a b = (
 
 pub comes_then : (clients : Meaning) (s0 s1 s2 : StoreValue) (o0 o1 o2 : Outside) (xs ys : List (List Entry))
     → s1.closed ≡ false
-    → ComesTo clients s0 s1 o0 o1 xs → ComesTo clients s1 s2 o1 o2 ys → ComesTo clients s0 s2 o0 o2 (xs ++ ys)
+    → StoreComesTo clients s0 s1 o0 o1 xs → StoreComesTo clients s1 s2 o1 o2 ys → StoreComesTo clients s0 s2 o0 o2 (xs ++ ys)
 comes_then clients s0 s1 s2 o0 o1 o2 xs ys still first second = record {
   runs = runs_then clients s0 s1 s2 o0 o1 o2 xs ys still first.runs second.runs;
   roomy = λ two told j fits.
       let there = told_on o0 o1 two first.runs.run.same_told told in
       let mid = (first.runs.leads two told j fits).ends still there.0 there.1 in
       let later : AreRoomy (written_in s1) s1.limit (j ++ xs) ys =
-      second.roomy there.0 there.1 (j ++ xs) (subst (λ (k : List (List Entry)). Fits clients s1 k there.0) mid.1 mid.2)
+      second.roomy there.0 there.1 (j ++ xs) (subst (λ (k : List (List Entry)). FitsFiles clients s1 k there.0) mid.1 mid.2)
       in
       let by_format : AreRoomy (written_in s0) s1.limit (j ++ xs) ys =
       subst (λ (k : Format). AreRoomy k s1.limit (j ++ xs) ys) (ap format_meant first.runs.format) later in
@@ -83,7 +83,7 @@ comes_then clients s0 s1 s2 o0 o1 o2 xs ys still first second = record {
 
 -- ---- none
 
-pub stays_itself : (s : StoreValue) → Stays s s
+pub stays_itself : (s : StoreValue) → KeepsStore s s
 stays_itself s = record {
   facts = refl;
   answers = refl;
@@ -96,7 +96,7 @@ stays_itself s = record {
 }
 
 pub comes_none : ImagesStand → (clients : Meaning) (s : StoreValue) (o : Outside) → IsStore s
-    → ComesTo clients s s o o []
+    → StoreComesTo clients s s o o []
 comes_none images clients s o store = record {
   runs = runs_none images clients s s o store (stays_itself s);
   roomy = λ two told j fits. tt;

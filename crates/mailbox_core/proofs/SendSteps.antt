@@ -23,9 +23,9 @@ use Rattle.sync_store.specs.Commits.{needed}
 use Rattle.sync_store.specs.Fitting.{ImagesStand}
 use Rattle.sync_store.specs.Ready.{IsReady}
 use Rattle.sync_store.specs.Store.{IsStore, StoreValue}
-use Rattle.mailbox_core.specs.Rooms.{ComesTo}
-use Rattle.mailbox_core.specs.Sending.{AreDue, HasWrittenBox, IsQuiet, SendsAll, SendsSome, SendsUntilFull, WritesSo, WritesSome, batch_session, out_batch, out_batches}
-use Rattle.mailbox_core.specs.Steps.{BeginsSo, HasBegun, HasCommitted, HasPut, HasPutAll, IsOpenFor, PutsAllSo, PutsOut, PutsSo}
+use Rattle.mailbox_core.specs.Rooms.{StoreComesTo}
+use Rattle.mailbox_core.specs.Sending.{AreDue, HasWrittenBox, IsSessionQuiet, SendsAll, SendsSome, SendsUntilFull, WritesSo, WritesSome, batch_session, out_batch, out_batches}
+use Rattle.mailbox_core.specs.Steps.{BeginsSo, HasBegunSession, HasCommitted, HasPut, HasPutAll, IsOpenFor, PutsAllSo, CommitsDue, PutsSo}
 use Rattle.mailbox_core.specs.Taking.{BeginsThen, first_batch}
 use Rattle.mailbox_core.proofs.Committed.{needed_stays}
 use Rattle.mailbox_core.proofs.Rooms.{comes_none, comes_then}
@@ -43,7 +43,7 @@ due_is clients f (Some s) now what e = sym e
 
 pub quiet_is : (clients : Meaning) (f : Facts) (session : Session) (now : ℕ) → session_at f.sessions session.number
     ≡ Some session
-    → None ≡ due_of clients f (session_at f.sessions session.number) now → IsQuiet clients f session.number now
+    → None ≡ due_of clients f (session_at f.sessions session.number) now → IsSessionQuiet clients f session.number now
 quiet_is clients f session now found none = record {
   begun = session;
   found = found;
@@ -174,7 +174,7 @@ able_put clients session now s s' o o' what u able has ready store =
 pub record Underway (clients : Meaning) (session now : ℕ) (s s' : StoreValue) (to to' : List ℕ) (made : ℕ)
     (o o' : Outside) : Type 0 where
   pub outs : List Out
-  pub comes : ComesTo clients s s' o o' (out_batches session now outs)
+  pub comes : StoreComesTo clients s s' o o' (out_batches session now outs)
   pub still_open : s'.closed ≡ false
   pub due : AreDue clients s.state.facts session now outs
   pub counted : made ≡ length outs
@@ -214,13 +214,13 @@ module _ (clients : Meaning) (session now : ℕ) (s0 s s' : StoreValue) (to0 to 
   pub way_goes_on : HasPut clients session now s s' to to' (Ok true) o o' → Underway clients session now s0 s' to0 to'
       (made + 1) o0 o'
   way_goes_on has =
-      let puts : PutsOut clients s.state.facts session now has.more = has.answer.1 in
+      let puts : CommitsDue clients s.state.facts session now has.more = has.answer.1 in
       let before : Batches = out_batches session now way.outs in
       let all : before ++ has.more ≡ out_batches session now (way.outs ++ puts.what ∷ []) =
       ap (λ (bs : Batches). before ++ bs) puts.is ∙ sym (batches-append session now way.outs (puts.what ∷ [])) in
       record {
         outs = way.outs ++ puts.what ∷ [];
-        comes = subst (λ (bs : Batches). ComesTo clients s0 s' o0 o' bs) all
+        comes = subst (λ (bs : Batches). StoreComesTo clients s0 s' o0 o' bs) all
             (comes_then clients s0 s s' o0 o o' before has.more way.still_open way.comes has.comes);
         still_open = has.answer.0;
         due = due_more puts.what puts.due;
@@ -274,7 +274,7 @@ module _ (clients : Meaning) (session now : ℕ) (s0 s s' : StoreValue) (to0 to 
   unfolding sends
   way_ends most few has settled = record {
     more = out_batches session now way.outs;
-    comes = subst (λ (bs : Batches). ComesTo clients s0 s' o0 o' bs) (no_more has.more has.answer.2)
+    comes = subst (λ (bs : Batches). StoreComesTo clients s0 s' o0 o' bs) (no_more has.more has.answer.2)
         (comes_then clients s0 s s' o0 o o' (out_batches session now way.outs)
         has.more way.still_open way.comes has.comes);
     answer = (
@@ -285,7 +285,7 @@ module _ (clients : Meaning) (session now : ℕ) (s0 s s' : StoreValue) (to0 to 
     );
   }
 
-  sends_more : (most : ℕ) (more : Batches) → made < most → PutsOut clients s.state.facts session now more
+  sends_more : (most : ℕ) (more : Batches) → made < most → CommitsDue clients s.state.facts session now more
       → SendsSome clients s0.state.facts session now most (out_batches session now way.outs ++ more)
   sends_more most more few puts = record {
     outs = way.outs ++ puts.what ∷ [];
@@ -368,7 +368,7 @@ module _ (clients : Meaning) (contact latency now count : ℕ) (s : StoreValue) 
       (so.0, inr (record { rest = []; is = so.1; later = nothing_sent }), refl)
 
   pub box_not_begun : (s' : StoreValue) (e : StoreFault) (o' : Outside) → IsSettled clients s.state.facts
-      → HasBegun clients contact latency s s' (Err e) o o'
+      → HasBegunSession clients contact latency s s' (Err e) o o'
       → HasWrittenBox clients contact latency now count s s' to to (Err e) o o'
   box_not_begun s' e o' settled has = record {
     more = has.more;
@@ -377,7 +377,7 @@ module _ (clients : Meaning) (contact latency now count : ℕ) (s : StoreValue) 
   }
 
   module _ (s1 s2 : StoreValue) (session : Session) (o1 o2 : Outside) (first bytes : List ℕ)
-      (begun : HasBegun clients contact latency s s1 (Ok session) o o1) where
+      (begun : HasBegunSession clients contact latency s s1 (Ok session) o o1) where
     facts_there : s1.state.facts ≡ begins
     facts_there = begun.comes.runs.facts begun.answer.0 ∙ ap (after_batches s.state.facts) begun.answer.1
 

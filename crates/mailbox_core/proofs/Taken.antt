@@ -18,13 +18,13 @@ use Rattle.sync_rules.proofs.Continuing.{continues_batches}
 use Rattle.sync_rules.proofs.StepKinds.{all_settling_only, takes_one}
 use Rattle.sync_store.specs.declared.fault.StoreFault.{StoreFault}
 use Rattle.sync_store.specs.declared.fault.StoreFault.TheVariants as fault
-use Rattle.sync_store.specs.Commits.{Stays, needed}
+use Rattle.sync_store.specs.Commits.{KeepsStore, needed}
 use Rattle.sync_store.specs.Fitting.{ImagesStand}
 use Rattle.sync_store.specs.Ready.{IsReady}
 use Rattle.sync_store.specs.Runs.{AddsBatch, ExtendsSo, HasExtended}
 use Rattle.sync_store.specs.Store.{IsStore, StoreValue}
-use Rattle.mailbox_core.specs.Rooms.{ComesTo}
-use Rattle.mailbox_core.specs.Steps.{HasTaken, IsAt, IsOpenFor, TakesSo, next_on}
+use Rattle.mailbox_core.specs.Rooms.{StoreComesTo}
+use Rattle.mailbox_core.specs.Steps.{HasTakenRecord, IsAt, IsOpenFor, TakesSo, next_on}
 use Rattle.mailbox_core.specs.Taking.{SomeTaken, TakesRecord, TakesTo, next_take}
 use Rattle.mailbox_core.proofs.Committed.{comes_extended, needed_stays}
 use Rattle.mailbox_core.proofs.Rooms.{comes_none}
@@ -118,7 +118,7 @@ module _ (clients : Meaning) (session k : ℕ) (r : Record) (s s' : StoreValue) 
       )
   taken_so allowed opened settled more (Err fault.Closed) facts adds so = absurd so
   taken_so allowed opened settled more (Err fault.Full) facts adds so =
-      let stays : Stays s s' = so.2 in
+      let stays : KeepsStore s s' = so.2 in
       let same : its ≡ next_take s'.state.facts session (next_on s session) r =
       ap (λ (f : Facts). next_take f session (next_on s session) r) (sym stays.facts) in
       let sum : needed s' (next_take s'.state.facts session (next_on s session) r) ≡ needed s batch =
@@ -143,7 +143,7 @@ take_may clients session k r s o batch able within numbered is =
 -- no memory was found for it
 pub taken_starved : ImagesStand → (clients : Meaning) (session : Session) (r : Record) (s : StoreValue) (o : Outside)
     → IsOpenFor clients session s o
-    → HasTaken clients session.number r s s (Err fault.Memory) o o
+    → HasTakenRecord clients session.number r s s (Err fault.Memory) o o
 taken_starved images clients session r s o able = record {
   more = [];
   comes = comes_none images clients s o able.is_store;
@@ -156,7 +156,7 @@ pub has_taken : (clients : Meaning) (session : Session) (k : ℕ) (r : Record) (
     (result : Result (Unit {0}) StoreFault) → IsOpenFor clients session s o → k ≡ next_on s session.number → batch
     ≡ take_of s.state.facts session k r
     → Allowed clients s.state.facts batch → HasExtended clients s s' batch result o o'
-    → HasTaken clients session.number r s s' result o o'
+    → HasTakenRecord clients session.number r s s' result o o'
 has_taken clients session k r s s' batch o o' result able numbered is allowed has = record {
   more = has.more;
   comes = comes_extended clients s s' batch result o o' has;
@@ -176,7 +176,7 @@ found_later f g more session is found =
 
 pub still_able : (clients : Meaning) (session : Session) (s s' : StoreValue) (o o' : Outside) (more : List (List Entry))
     → IsOpenFor clients session s o
-    → ComesTo clients s s' o o' more → s'.closed ≡ false → (s'.closed ≡ false → IsReady clients s' o'.files)
+    → StoreComesTo clients s s' o o' more → s'.closed ≡ false → (s'.closed ≡ false → IsReady clients s' o'.files)
     → IsStore s' → IsSettled clients s'.state.facts
     → IsOpenFor clients session s' o'
 still_able clients session s s' o o' more able comes opened ready store settled = record {
@@ -188,7 +188,7 @@ still_able clients session s s' o o' more able comes opened ready store settled 
 
 pub able_taken : (clients : Meaning) (session : Session) (r : Record) (s s' : StoreValue) (o o' : Outside)
     (result : Result (Unit {0}) StoreFault)
-    → IsOpenFor clients session s o → HasTaken clients session.number r s s' result o o' →
+    → IsOpenFor clients session s o → HasTakenRecord clients session.number r s s' result o o' →
     (s'.closed ≡ false → IsReady clients s' o'.files) → IsStore s'
     → OnOk result (IsOpenFor clients session s' o')
 able_taken clients session r s s' o o' (Ok u) able has ready store =

@@ -13,7 +13,7 @@ use Rattle.sync_store.specs.Store.{StoreValue}
 use Rattle.mailbox_laws.specs.Boxes.{box_session}
 use Rattle.mailbox_core.specs.declared.ends.BoxEnd.{BoxEnd}
 use Rattle.mailbox_core.specs.Files.{box_ending, box_records}
-use Rattle.mailbox_core.specs.Rooms.{ComesTo}
+use Rattle.mailbox_core.specs.Rooms.{StoreComesTo}
 use Rattle.mailbox_core.specs.Taking.{AllTaken, BeginsThen, NoRoomFor, SomeTaken, TakesTo, first_batch}
 
 -- Behind a journal of these facts the session of a file begins, and its records are taken up to a place that has P. A
@@ -56,5 +56,5 @@ pub record HasReadBox (clients : Meaning) (contact : ℕ) (bytes : List ℕ) (s 
     (result : Result BoxEnd StoreFault)
     (o o' : Outside) : Type 0 where
   pub more : List (List Entry)
-  pub comes : ComesTo clients s s' o o' more
+  pub comes : StoreComesTo clients s s' o o' more
   pub answer : ReadsSo clients contact bytes s.state.facts s' more result

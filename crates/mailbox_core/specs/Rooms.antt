@@ -9,7 +9,7 @@ use Rattle.sync_rules.specs.Facts.{after_all, facts}
 use Rattle.entry_codec.specs.declared.naming.Format.{Format}
 use Rattle.entry_codec.specs.Payloads.{journal_end, payload_len}
 use Rattle.entry_codec.specs.Standing.{room_of}
-use Rattle.sync_store.specs.Fitting.{Fits}
+use Rattle.sync_store.specs.Fitting.{FitsFiles}
 use Rattle.sync_store.specs.Runs.{RunsBy}
 use Rattle.sync_store.specs.Store.{StoreValue, written_in}
 
@@ -29,7 +29,7 @@ AreRoomy format limit j (b ∷ bs) =
 
 -- A store came by these batches to this one, as `RunsBy` has it, and whatever journal the disk fitted, each found its
 -- room.
-pub record ComesTo (clients : Meaning) (s s' : StoreValue) (o o' : Outside) (more : List (List Entry)) : Type 0 where
+pub record StoreComesTo (clients : Meaning) (s s' : StoreValue) (o o' : Outside) (more : List (List Entry)) : Type 0 where
   pub runs : RunsBy clients s s' o o' more
-  pub roomy : (two : Two File) → o.files ≡ Some two → (j : List (List Entry)) → Fits clients s j two
+  pub roomy : (two : Two File) → o.files ≡ Some two → (j : List (List Entry)) → FitsFiles clients s j two
       → AreRoomy (written_in s) s.limit j more

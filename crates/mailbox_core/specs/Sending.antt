@@ -17,7 +17,7 @@ use Rattle.sync_store.specs.declared.fault.StoreFault.{StoreFault}
 use Rattle.sync_store.specs.declared.fault.StoreFault.TheVariants as fault
 use Rattle.sync_store.specs.Commits.{needed}
 use Rattle.sync_store.specs.Store.{StoreValue}
-use Rattle.mailbox_core.specs.Rooms.{ComesTo}
+use Rattle.mailbox_core.specs.Rooms.{StoreComesTo}
 use Rattle.mailbox_core.specs.Taking.{BeginsThen, first_batch}
 
 -- the session of this number on which a file is written: in batch mode, of this latency
@@ -43,7 +43,7 @@ AreDue clients f session now (what ∷ outs) =
     session now outs
 
 -- nothing is due on a session, which there is
-pub record IsQuiet (clients : Meaning) (f : Facts) (session now : ℕ) : Type 0 where
+pub record IsSessionQuiet (clients : Meaning) (f : Facts) (session now : ℕ) : Type 0 where
   pub begun : Session
   pub found : session_at f.sessions session ≡ Some begun
   pub nothing : due clients f begun now ≡ None
@@ -60,7 +60,7 @@ pub record SendsAll (clients : Meaning) (f later : Facts) (session now most made
     : Type 0 where
   pub sends : SendsSome clients f session now most more
   pub counted : made ≡ length sends.outs
-  pub ends : (made ≡ most) ⊎ IsQuiet clients later session now
+  pub ends : (made ≡ most) ⊎ IsSessionQuiet clients later session now
 
 -- fewer were made, and for the next one, which is due, there is no room in this store
 pub record SendsUntilFull (clients : Meaning) (f : Facts) (s : StoreValue) (session now most : ℕ)
@@ -111,5 +111,5 @@ WritesSo clients contact latency now count f s more to to' (Err fault.DiskFault)
 pub record HasWrittenBox (clients : Meaning) (contact latency now count : ℕ) (s s' : StoreValue) (to to' : List ℕ)
     (result : Result ℕ StoreFault) (o o' : Outside) : Type 0 where
   pub more : List (List Entry)
-  pub comes : ComesTo clients s s' o o' more
+  pub comes : StoreComesTo clients s s' o o' more
   pub answer : WritesSo clients contact latency now count s.state.facts s' more to to' result

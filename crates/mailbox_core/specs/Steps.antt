@@ -16,15 +16,15 @@ use Rattle.sync_rules.specs.Legal.{IsDue}
 use Rattle.sync_rules.specs.Steps.{IsSettled}
 use Rattle.sync_store.specs.declared.fault.StoreFault.{StoreFault}
 use Rattle.sync_store.specs.declared.fault.StoreFault.TheVariants as fault
-use Rattle.sync_store.specs.Commits.{Commits, needed}
+use Rattle.sync_store.specs.Commits.{AnswersCommit, needed}
 use Rattle.sync_store.specs.Ready.{IsReady}
 use Rattle.sync_store.specs.Runs.{committed_by}
 use Rattle.sync_store.specs.Store.{IsStore, StoreValue}
 use Rattle.mailbox_core.specs.declared.ends.BoxEnd.{BoxEnd}
 use Rattle.mailbox_core.specs.declared.ends.BoxEnding.{BoxEnding}
 use Rattle.mailbox_core.specs.Files.{ending_behind, records_to_take}
-use Rattle.mailbox_core.specs.Rooms.{ComesTo}
-use Rattle.mailbox_core.specs.Sending.{IsQuiet, SendsAll, SendsSome, SendsUntilFull, batch_session, out_batch}
+use Rattle.mailbox_core.specs.Rooms.{StoreComesTo}
+use Rattle.mailbox_core.specs.Sending.{IsSessionQuiet, SendsAll, SendsSome, SendsUntilFull, batch_session, out_batch}
 use Rattle.mailbox_core.specs.Taking.{AllTaken, NoRoomFor, SomeTaken, TakesRecord, TakesTo, first_batch, next_take}
 
 -- a settled store that is ready and has this session
@@ -40,8 +40,8 @@ pub record IsOpenFor (clients : Meaning) (session : Session) (s : StoreValue) (o
 pub record HasCommitted (clients : Meaning) (s s' : StoreValue) (batch : List Entry)
     (result : Result (Unit {0}) StoreFault)
     (o o' : Outside) : Type 0 where
-  pub comes : ComesTo clients s s' o o' (committed_by batch result)
-  pub answer : Commits s s' batch result
+  pub comes : StoreComesTo clients s s' o o' (committed_by batch result)
+  pub answer : AnswersCommit s s' batch result
 
 -- ---- a session begins
 
@@ -56,10 +56,10 @@ BeginsSo contact latency f s more (Err fault.DiskFault) =
     (s.closed ≡ true) × (more ≡ first_batch (batch_session f.begun contact latency) ∷ [])
 
 -- a session was begun, as far as the answer says
-pub record HasBegun (clients : Meaning) (contact latency : ℕ) (s s' : StoreValue) (result : Result Session StoreFault)
+pub record HasBegunSession (clients : Meaning) (contact latency : ℕ) (s s' : StoreValue) (result : Result Session StoreFault)
     (o o' : Outside) : Type 0 where
   pub more : List (List Entry)
-  pub comes : ComesTo clients s s' o o' more
+  pub comes : StoreComesTo clients s s' o o' more
   pub answer : BeginsSo contact latency s.state.facts s' more result
 
 -- ---- one record
@@ -84,22 +84,22 @@ TakesSo clients session r s s' more (Err fault.DiskFault) =
     (s'.closed ≡ true) × ((more ≡ []) ⊎ TakesRecord clients s.state.facts session (next_on s session) r more)
 
 -- a record was taken on a session, and the journal settled behind it, as far as the answer says
-pub record HasTaken (clients : Meaning) (session : ℕ) (r : Record) (s s' : StoreValue)
+pub record HasTakenRecord (clients : Meaning) (session : ℕ) (r : Record) (s s' : StoreValue)
     (result : Result (Unit {0}) StoreFault)
     (o o' : Outside) : Type 0 where
   pub more : List (List Entry)
-  pub comes : ComesTo clients s s' o o' more
+  pub comes : StoreComesTo clients s s' o o' more
   pub answer : TakesSo clients session r s s' more result
 
 -- ---- what is left of a file
 
 -- the records that are to be taken, and how the reading ends
-pub record Left : Type 0 where
+pub record RecordsLeft : Type 0 where
   pub records : List Record
   pub ending : BoxEnding
 
 -- what is left in a reader and in the bytes that are to come
-abbrev pub left_of : ReaderState → List ℕ → Left
+abbrev pub left_of : ReaderState → List ℕ → RecordsLeft
 left_of r piece = record {
   records = records_to_take (items r.place (r.bytes ++ (piece ++ [])));
   ending = ending_behind (items r.place (r.bytes ++ (piece ++ []))) (ending r.place (r.bytes ++ (piece ++ [])));
@@ -122,7 +122,7 @@ IsAt g l qs f k rs more = (f ≡ g) × (k ≡ l) × (rs ≡ qs) × (more ≡ [])
 
 -- Where there is no answer yet, an item was read, and taken where it is a record; else how the reading ends, with all
 -- records taken.
-abbrev pub NextSo : Meaning → ℕ → StoreValue → StoreValue → Left → Left → List (List Entry) → Result (Option BoxEnding)
+abbrev pub NextSo : Meaning → ℕ → StoreValue → StoreValue → RecordsLeft → RecordsLeft → List (List Entry) → Result (Option BoxEnding)
     StoreFault → Type 0
 NextSo clients session s s' left left' more (Ok None) =
     (s'.closed ≡ false)
@@ -136,13 +136,13 @@ NextSo clients session s s' left left' more (Ok (Some e)) =
 NextSo clients session s s' left left' more (Err e) = StopsSo clients session s s' left.records more e
 
 -- the next item of a file was read
-pub record HasRead (clients : Meaning) (session : ℕ) (s s' : StoreValue) (left left' : Left)
+pub record HasReadItem (clients : Meaning) (session : ℕ) (s s' : StoreValue) (left left' : RecordsLeft)
     (result : Result (Option BoxEnding) StoreFault) (o o' : Outside) : Type 0 where
   pub more : List (List Entry)
-  pub comes : ComesTo clients s s' o o' more
+  pub comes : StoreComesTo clients s s' o o' more
   pub answer : NextSo clients session s s' left left' more result
 
-abbrev pub RestSo : Meaning → ℕ → StoreValue → StoreValue → Left → List (List Entry) → Result BoxEnd StoreFault → Type 0
+abbrev pub RestSo : Meaning → ℕ → StoreValue → StoreValue → RecordsLeft → List (List Entry) → Result BoxEnd StoreFault → Type 0
 RestSo clients session s s' left more (Ok end) =
     (s'.closed ≡ false) × IsSettled clients s'.state.facts
     × TakesTo clients session AllTaken s.state.facts (next_on s session) left.records more
@@ -150,17 +150,17 @@ RestSo clients session s s' left more (Ok end) =
 RestSo clients session s s' left more (Err e) = StopsSo clients session s s' left.records more e
 
 -- what was left of a file was read
-pub record HasReadAll (clients : Meaning) (session : ℕ) (s s' : StoreValue) (left : Left)
+pub record HasReadRest (clients : Meaning) (session : ℕ) (s s' : StoreValue) (left : RecordsLeft)
     (result : Result BoxEnd StoreFault)
     (o o' : Outside) : Type 0 where
   pub more : List (List Entry)
-  pub comes : ComesTo clients s s' o o' more
+  pub comes : StoreComesTo clients s s' o o' more
   pub answer : RestSo clients session s s' left more result
 
 -- ---- one output
 
 -- this output is due, and is committed
-pub record PutsOut (clients : Meaning) (f : Facts) (session now : ℕ) (more : List (List Entry)) : Type 0 where
+pub record CommitsDue (clients : Meaning) (f : Facts) (session now : ℕ) (more : List (List Entry)) : Type 0 where
   pub what : Out
   pub due : IsDue clients f (session_at f.sessions session) now what
   pub is : more ≡ out_batch session now what ∷ []
@@ -174,23 +174,23 @@ pub record LacksRoomForOut (clients : Meaning) (session now : ℕ) (s : StoreVal
 abbrev pub PutsSo : Meaning → ℕ → ℕ → StoreValue → StoreValue → List (List Entry) → List ℕ → List ℕ
     → Result Bool StoreFault → Type 0
 PutsSo clients session now s s' more to to' (Ok true) =
-    (s'.closed ≡ false) × PutsOut clients s.state.facts session now more ×
+    (s'.closed ≡ false) × CommitsDue clients s.state.facts session now more ×
     (to' ≡ to ++ spelled (output_of s.state.facts session more))
 PutsSo clients session now s s' more to to' (Ok false) =
-    (s'.closed ≡ false) × IsQuiet clients s'.state.facts session now × (more ≡ []) × (to' ≡ to)
+    (s'.closed ≡ false) × IsSessionQuiet clients s'.state.facts session now × (more ≡ []) × (to' ≡ to)
 PutsSo clients session now s s' more to to' (Err fault.Closed) = ⊥
 PutsSo clients session now s s' more to to' (Err fault.Full) =
     (s'.closed ≡ false) × IsSettled clients s'.state.facts × (more ≡ []) × LacksRoomForOut clients session now s'
 PutsSo clients session now s s' more to to' (Err fault.Memory) = (s'.closed ≡ false) × (more ≡ [])
 PutsSo clients session now s s' more to to' (Err fault.DiskFault) =
-    (s'.closed ≡ true) × PutsOut clients s.state.facts session now more
+    (s'.closed ≡ true) × CommitsDue clients s.state.facts session now more
 
 -- what is due was committed, as far as the answer says, and its bytes appended
 pub record HasPut (clients : Meaning) (session now : ℕ) (s s' : StoreValue) (to to' : List ℕ)
     (result : Result Bool StoreFault)
     (o o' : Outside) : Type 0 where
   pub more : List (List Entry)
-  pub comes : ComesTo clients s s' o o' more
+  pub comes : StoreComesTo clients s s' o o' more
   pub answer : PutsSo clients session now s s' more to to' result
 
 abbrev pub PutsAllSo : Meaning → ℕ → ℕ → ℕ → StoreValue → StoreValue → List (List Entry) → List ℕ → List ℕ
@@ -213,5 +213,5 @@ pub record HasPutAll (clients : Meaning) (session now most : ℕ) (s s' : StoreV
     (result : Result ℕ StoreFault)
     (o o' : Outside) : Type 0 where
   pub more : List (List Entry)
-  pub comes : ComesTo clients s s' o o' more
+  pub comes : StoreComesTo clients s s' o o' more
   pub answer : PutsAllSo clients session now most s s' more to to' result

@@ -1,6 +1,6 @@
 //! A file that is read into a store.
 ghost use Rattle.std.specs.Prelude.{◌≡◌, ◌+◌, ◌<◌, Err, None, false, true, length, IfOk, IsErrOf, OnOk};
-ghost use Rattle.outside.specs.Faults.{Rose};
+ghost use Rattle.outside.specs.Faults.{CountRose};
 ghost use Rattle.outside.specs.Outside.{DiskRun};
 ghost use Rattle.sync_rules.specs.declared.limits.TheConstants.{MAX_SESSIONS};
 ghost use Rattle.sync_rules.specs.Steps.{IsSettled};
@@ -8,7 +8,7 @@ ghost use Rattle.sync_store.specs.Ready.{IsReady};
 ghost use Rattle.sync_store.specs.Store.{IsStore};
 ghost use Rattle.mailbox_core.specs.Files.{is_foreign};
 ghost use Rattle.mailbox_core.specs.Reading.{HasReadBox};
-ghost use Rattle.mailbox_core.specs.Steps.{HasRead, HasReadAll, HasTaken, IsOpenFor, left_of};
+ghost use Rattle.mailbox_core.specs.Steps.{HasReadItem, HasReadRest, HasTakenRecord, IsOpenFor, left_of};
 
 use crate::ends::{BoxEnd, BoxEnding, ends_as};
 use crate::steps::begin;
@@ -51,7 +51,7 @@ pub fn read_box<D: Disk, C: Clients>(
         → IsReady (C.meaning clients.now) store.new (D.tells disk.new).files }
     ensures is_store { IsStore store.new }
     ensures fault { IsErrOf result StoreFault.DiskFault
-        → Rose (D.tells disk.old).disk_faults (D.tells disk.new).disk_faults }
+        → CountRose (D.tells disk.old).disk_faults (D.tells disk.new).disk_faults }
 {
     if store.is_closed() {
         return Err(StoreFault::Closed);
@@ -82,13 +82,13 @@ fn take_all<D: Disk, C: Clients>(
     piece: &mut Piece,
 ) -> Result<BoxEnd, StoreFault>
     requires able { IsOpenFor (C.meaning clients.now) session.now store.old (D.tells disk.old) }
-    ensures read { HasReadAll (C.meaning clients.now) session.now.number store.old store.new
+    ensures read { HasReadRest (C.meaning clients.now) session.now.number store.old store.new
         (left_of reader.old piece.old) result (D.tells disk.old) (D.tells disk.new) }
     ensures ready { store.new.closed ≡ false
         → IsReady (C.meaning clients.now) store.new (D.tells disk.new).files }
     ensures is_store { IsStore store.new }
     ensures fault { IsErrOf result StoreFault.DiskFault
-        → Rose (D.tells disk.old).disk_faults (D.tells disk.new).disk_faults }
+        → CountRose (D.tells disk.old).disk_faults (D.tells disk.new).disk_faults }
 {
     images_stand();
     let before = store.state().takes(session.number);
@@ -112,7 +112,7 @@ fn take_next<D: Disk, C: Clients>(
     piece: &mut Piece,
 ) -> Result<Option<BoxEnding>, StoreFault>
     requires able { IsOpenFor (C.meaning clients.now) session.now store.old (D.tells disk.old) }
-    ensures read { HasRead (C.meaning clients.now) session.now.number store.old store.new
+    ensures read { HasReadItem (C.meaning clients.now) session.now.number store.old store.new
         (left_of reader.old piece.old) (left_of reader.new piece.new) result (D.tells disk.old)
         (D.tells disk.new) }
     ensures able { OnOk result (IsOpenFor (C.meaning clients.now) session.now store.new
@@ -123,7 +123,7 @@ fn take_next<D: Disk, C: Clients>(
         → IsReady (C.meaning clients.now) store.new (D.tells disk.new).files }
     ensures is_store { IsStore store.new }
     ensures fault { IsErrOf result StoreFault.DiskFault
-        → Rose (D.tells disk.old).disk_faults (D.tells disk.new).disk_faults }
+        → CountRose (D.tells disk.old).disk_faults (D.tells disk.new).disk_faults }
 {
     images_stand();
     match reader.next_in(piece)? {
@@ -161,7 +161,7 @@ fn take_one<D: Disk, C: Clients>(
     rec: Record,
 ) -> Result<(), StoreFault>
     requires able { IsOpenFor (C.meaning clients.now) session.now store.old (D.tells disk.old) }
-    ensures taken { HasTaken (C.meaning clients.now) session.now.number rec store.old store.new
+    ensures taken { HasTakenRecord (C.meaning clients.now) session.now.number rec store.old store.new
         result (D.tells disk.old) (D.tells disk.new) }
     ensures able { OnOk result (IsOpenFor (C.meaning clients.now) session.now store.new
         (D.tells disk.new)) }
@@ -169,7 +169,7 @@ fn take_one<D: Disk, C: Clients>(
         → IsReady (C.meaning clients.now) store.new (D.tells disk.new).files }
     ensures is_store { IsStore store.new }
     ensures fault { IsErrOf result StoreFault.DiskFault
-        → Rose (D.tells disk.old).disk_faults (D.tells disk.new).disk_faults }
+        → CountRose (D.tells disk.old).disk_faults (D.tells disk.new).disk_faults }
 {
     images_stand();
     records_are_within(&rec);

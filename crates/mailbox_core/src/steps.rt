@@ -1,6 +1,6 @@
 //! A session that begins on a store, and a batch that is committed to it.
 ghost use Rattle.std.specs.Prelude.{◌≡◌, ◌∷◌, ◌<◌, ◌≤◌, [], false, IfOk, IsErrOf};
-ghost use Rattle.outside.specs.Faults.{Rose};
+ghost use Rattle.outside.specs.Faults.{CountRose};
 ghost use Rattle.outside.specs.Outside.{DiskRun};
 ghost use Rattle.sync_rules.specs.Allows.{is_account_kind, is_settling_kind};
 ghost use Rattle.sync_rules.specs.declared.limits.TheConstants.{MAX_SESSIONS};
@@ -8,7 +8,7 @@ ghost use Rattle.sync_rules.specs.Legal.{Allowed};
 ghost use Rattle.sync_rules.specs.Steps.{IsSettled};
 ghost use Rattle.sync_store.specs.Ready.{IsReady};
 ghost use Rattle.sync_store.specs.Store.{IsStore};
-ghost use Rattle.mailbox_core.specs.Steps.{HasBegun, HasCommitted, IsOpenFor};
+ghost use Rattle.mailbox_core.specs.Steps.{HasBegunSession, HasCommitted, IsOpenFor};
 
 use outside::Disk;
 use std::alloc::Global;
@@ -34,7 +34,7 @@ pub(crate) fn commit<D: Disk, C: Clients>(
         → IsReady (C.meaning clients.now) store.new (D.tells disk.new).files }
     ensures is_store { IsStore store.new }
     ensures fault { IsErrOf result StoreFault.DiskFault
-        → Rose (D.tells disk.old).disk_faults (D.tells disk.new).disk_faults }
+        → CountRose (D.tells disk.old).disk_faults (D.tells disk.new).disk_faults }
 {
     images_stand();
     store.commit(disk, clients, batch)
@@ -55,7 +55,7 @@ pub(crate) fn begin<D: Disk, C: Clients>(
     requires known { contact < store.old.state.facts.contacts }
     requires few { store.old.state.facts.begun < MAX_SESSIONS }
     requires latency { 1 ≤ latency }
-    ensures begun { HasBegun (C.meaning clients.now) contact latency store.old store.new result
+    ensures begun { HasBegunSession (C.meaning clients.now) contact latency store.old store.new result
         (D.tells disk.old) (D.tells disk.new) }
     ensures opened { IfOk result (λ session. IsOpenFor (C.meaning clients.now) session store.new
         (D.tells disk.new)) }
@@ -63,7 +63,7 @@ pub(crate) fn begin<D: Disk, C: Clients>(
         → IsReady (C.meaning clients.now) store.new (D.tells disk.new).files }
     ensures is_store { IsStore store.new }
     ensures fault { IsErrOf result StoreFault.DiskFault
-        → Rose (D.tells disk.old).disk_faults (D.tells disk.new).disk_faults }
+        → CountRose (D.tells disk.old).disk_faults (D.tells disk.new).disk_faults }
 {
     images_stand();
     steps();

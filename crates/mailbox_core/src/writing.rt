@@ -1,6 +1,6 @@
 //! A file that is written from a store.
 ghost use Rattle.std.specs.Prelude.{◌≡◌, ◌<◌, ◌≤◌, Err, false, true, IfOk, IsErrOf, OnOk};
-ghost use Rattle.outside.specs.Faults.{Rose};
+ghost use Rattle.outside.specs.Faults.{CountRose};
 ghost use Rattle.outside.specs.Outside.{DiskRun};
 ghost use Rattle.sync_rules.specs.declared.limits.TheConstants.{MAX_SESSIONS};
 ghost use Rattle.sync_rules.specs.Steps.{IsSettled};
@@ -52,7 +52,7 @@ pub fn write_box<D: Disk, C: Clients>(
         → IsReady (C.meaning clients.now) store.new (D.tells disk.new).files }
     ensures is_store { IsStore store.new }
     ensures fault { IsErrOf result StoreFault.DiskFault
-        → Rose (D.tells disk.old).disk_faults (D.tells disk.new).disk_faults }
+        → CountRose (D.tells disk.old).disk_faults (D.tells disk.new).disk_faults }
 {
     if store.is_closed() {
         return Err(StoreFault::Closed);
@@ -85,7 +85,7 @@ fn put_all<D: Disk, C: Clients>(
         → IsReady (C.meaning clients.now) store.new (D.tells disk.new).files }
     ensures is_store { IsStore store.new }
     ensures fault { IsErrOf result StoreFault.DiskFault
-        → Rose (D.tells disk.old).disk_faults (D.tells disk.new).disk_faults }
+        → CountRose (D.tells disk.old).disk_faults (D.tells disk.new).disk_faults }
 {
     images_stand();
     let mut made = 0;
@@ -117,7 +117,7 @@ fn put_next<D: Disk, C: Clients>(
         → IsReady (C.meaning clients.now) store.new (D.tells disk.new).files }
     ensures is_store { IsStore store.new }
     ensures fault { IsErrOf result StoreFault.DiskFault
-        → Rose (D.tells disk.old).disk_faults (D.tells disk.new).disk_faults }
+        → CountRose (D.tells disk.old).disk_faults (D.tells disk.new).disk_faults }
 {
     images_stand();
     steps();

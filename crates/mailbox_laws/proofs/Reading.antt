@@ -7,8 +7,8 @@ use Rattle.sync_rules.specs.declared.entries.Entry.TheVariants as entry
 use Rattle.sync_rules.specs.declared.entries.Session.{Session}
 use Rattle.sync_rules.specs.Clients.{Meaning}
 use Rattle.sync_rules.specs.Consistency.{HasHeld, HasSessions}
-use Rattle.sync_rules.specs.Facts.{Extends, Facts, after, contact_in, contact_of, facts, session_at}
-use Rattle.sync_rules.specs.Hearing.{Hears, Settles, take_batch}
+use Rattle.sync_rules.specs.Facts.{ExtendsJournal, Facts, after, contact_in, contact_of, facts, session_at}
+use Rattle.sync_rules.specs.Hearing.{HearsRecord, SettlesJournal, take_batch}
 use Rattle.sync_rules.specs.Heard.{heard}
 use Rattle.sync_rules.specs.Legal.{Legal}
 use Rattle.sync_rules.specs.Lists.{In}
@@ -26,27 +26,27 @@ use Rattle.mailbox_laws.proofs.Standing.{Stands, stands_heard, stands_same, stan
 
 -- ---- journals extend one another
 
-settles_extends : (clients : Meaning) (old new : List (List Entry)) → Settles clients old new → Extends new old
+settles_extends : (clients : Meaning) (old new : List (List Entry)) → SettlesJournal clients old new → ExtendsJournal new old
 settles_extends clients old new s = (s.more, s.extends)
 
 hears_extends : (clients : Meaning) (session k : ℕ) (r : Record) (old new : List (List Entry))
-    → Hears clients old session k r new → Extends new old
+    → HearsRecord clients old session k r new → ExtendsJournal new old
 hears_extends clients session k r old new h =
     let pushed : List (List Entry) = old ++ take_batch old session k r ∷ [] in
     extends_then new pushed old (settles_extends clients pushed new h.settles) (take_batch old session k r ∷ [], refl)
 
 pub all_extends : (clients : Meaning) (session k : ℕ) (old : List (List Entry)) (records : List Record)
     (new : List (List Entry))
-    → HearsAll clients session k old records new → Extends new old
+    → HearsAll clients session k old records new → ExtendsJournal new old
 all_extends clients session k old [] new e =
-    subst (λ (j : List (List Entry)). Extends j old) (sym e) (extends_itself old)
+    subst (λ (j : List (List Entry)). ExtendsJournal j old) (sym e) (extends_itself old)
 all_extends clients session k old (r ∷ rs) new h =
     extends_then new h.0 old (all_extends clients session (k + 1) h.0 rs new h.2)
     (hears_extends clients session k r old h.0 h.1)
 
 box_extends : (clients : Meaning) (contact : ℕ) (old : List (List Entry)) (records : List Record)
     (new : List (List Entry))
-    (box : ReadsBox clients contact old records new) → Extends new box.before
+    (box : ReadsBox clients contact old records new) → ExtendsJournal new box.before
 box_extends clients contact old records new box =
     extends_then new (with_box contact box.before) box.before
     (all_extends clients (facts box.before).begun 0 (with_box contact box.before) records new box.hears)
@@ -54,9 +54,9 @@ box_extends clients contact old records new box =
 
 pub boxes_extend : (clients : Meaning) (contact : ℕ) (old : List (List Entry)) (files : List (List Record))
     (new : List (List Entry))
-    → ReadsBoxes clients contact old files new → Extends new old
+    → ReadsBoxes clients contact old files new → ExtendsJournal new old
 boxes_extend clients contact old [] new e =
-    subst (λ (j : List (List Entry)). Extends j old) (sym e) (extends_itself old)
+    subst (λ (j : List (List Entry)). ExtendsJournal j old) (sym e) (extends_itself old)
 boxes_extend clients contact old (records ∷ rest) new b =
     extends_then new b.0 old (boxes_extend clients contact b.0 rest new b.2)
     (extends_then b.0 (b.1).before old (box_extends clients contact old records b.0 b.1)
@@ -103,7 +103,7 @@ boxes_settled clients contact old (records ∷ rest) new some b =
 -- settling before a file is read is part of reading it
 pub box_later : (clients : Meaning) (contact : ℕ) (old mid : List (List Entry)) (records : List Record)
     (new : List (List Entry))
-    → Settles clients old mid → ReadsBox clients contact mid records new → ReadsBox clients contact old records new
+    → SettlesJournal clients old mid → ReadsBox clients contact mid records new → ReadsBox clients contact old records new
 box_later clients contact old mid records new s box = record {
   before = box.before;
   settles = settles_then clients old mid box.before s box.settles;
@@ -155,7 +155,7 @@ module _ (clients : Meaning) (contact : ℕ) (s : Facts) (all : List Record) (ow
         let settled_so : Stands contact s (done ++ r ∷ []) (facts mid) =
         stands_settled contact s (facts pushed) (facts mid) (done ++ r ∷ [])
         (settles_only clients pushed mid (h.1).settles) taken_so in
-        let longer : Extends mid old = hears_extends clients session k r old mid h.1 in
+        let longer : ExtendsJournal mid old = hears_extends clients session k r old mid h.1 in
         let stays : Stays (facts old) (facts mid) session =
         subst (λ (g : Facts). Stays (facts old) g session) (sym (facts_of_longer mid old longer))
         (stays_batches (facts old) longer.0 session known) in

@@ -7,7 +7,7 @@ use Rattle.sync_rules.specs.declared.entries.Mode.TheVariants as mode_kind
 use Rattle.sync_rules.specs.declared.entries.Session.{Session}
 use Rattle.sync_rules.specs.Clients.{Meaning}
 use Rattle.sync_rules.specs.Facts.{facts}
-use Rattle.sync_rules.specs.Hearing.{Hears, Settles}
+use Rattle.sync_rules.specs.Hearing.{HearsRecord, SettlesJournal}
 use Rattle.sync_rules.specs.Steps.{IsSettled}
 
 -- the session of this number on which a file is read: in batch mode, of latency 1
@@ -24,13 +24,13 @@ with_box contact journal = journal ++ (entry.Session (box_session (facts journal
 abbrev pub HearsAll : Meaning → ℕ → ℕ → List (List Entry) → List Record → List (List Entry) → Type 0
 HearsAll clients session k old [] new = new ≡ old
 HearsAll clients session k old (r ∷ rs) new =
-    (mid : List (List Entry)) × Hears clients old session k r mid × HearsAll clients session (k + 1) mid rs new
+    (mid : List (List Entry)) × HearsRecord clients old session k r mid × HearsAll clients session (k + 1) mid rs new
 
 -- one file: the journal is settled, a session begins, and the records of the file are taken on it
 pub record ReadsBox (clients : Meaning) (contact : ℕ) (old : List (List Entry)) (records : List Record)
     (new : List (List Entry)) : Type 0 where
   pub before : List (List Entry)
-  pub settles : Settles clients old before
+  pub settles : SettlesJournal clients old before
   pub settled : IsSettled clients (facts before)
   pub hears : HearsAll clients (facts before).begun 0 (with_box contact before) records new
 

@@ -4,7 +4,7 @@ use Rattle.outside.specs.Files.{IsImage}
 use Rattle.outside.specs.HostTold.{host_told}
 use Rattle.outside.specs.LinksTold as told
 use Rattle.outside.specs.MemHost.{MemHostValue}
-use Rattle.outside.specs.Runs.{Told}
+use Rattle.outside.specs.Runs.{TellsAll}
 use Rattle.sync_rules.specs.Clients.{Meaning}
 use Rattle.commands.specs.declared.command.Command.TheVariants as command
 use Rattle.commands.specs.Reading.{Asked}
@@ -13,7 +13,7 @@ use Rattle.sync_top.specs.Sound.{AlwaysOpens}
 use Rattle.memory_run.specs.Opens.{OpensInMemory, files_by, first_calls}
 
 -- a host in memory tells all
-abbrev all_told : (host : MemHostValue) → Told (host_told host)
+abbrev all_told : (host : MemHostValue) → TellsAll (host_told host)
 all_told host = record {
   two = files_by host host.disk.calls;
   files_are = refl;

@@ -5,8 +5,8 @@ use Rattle.std.proofs.lemmas.Bool.{cases_eq, eq-eqb, eqb-true, false_from_ne_tru
 use Rattle.message_graph.specs.declared.nodes.Node.{Node}
 use Rattle.message_graph.specs.declared.index.Slot.{Slot}
 use Rattle.message_graph.specs.declared.index.Edge.{Edge}
-use Rattle.message_graph.specs.Links.{Links, IsLinked, place_of, holder_at, holder_if, first_for, first_place, edge_at, named}
-use Rattle.message_graph.specs.Waits.{Waits}
+use Rattle.message_graph.specs.Links.{WaitIndex, IsLinked, place_of, holder_at, holder_if, first_for, first_place, edge_at, named}
+use Rattle.message_graph.specs.Waits.{NodeWaits}
 use Rattle.message_graph.specs.Whole.{IsGraph, first_held, number_if}
 use Rattle.message_graph.proofs.Linked.{holders_of, places_of}
 use Rattle.message_graph.proofs.Changes.{dependencies_there, node_there}
@@ -38,7 +38,7 @@ first_unlisted names (e ∷ edges) waiter other apart =
 
 -- ---- who holds the name of the first edge
 
-pub holder_first : (links : Links) → ((place : ℕ) → place < length links.names → place_of links.names (get_or links.names place []) ≡ Some place)
+pub holder_first : (links : WaitIndex) → ((place : ℕ) → place < length links.names → place_of links.names (get_or links.names place []) ≡ Some place)
     → (kept : List Edge) → ((edge : ℕ) → edge < length kept → get_or (places_of kept) edge 0 < length links.names) → (waiter : ℕ)
     → holder_at links.holders (first_place kept waiter) ≡ holder_if links (first_for (map (named links.names) kept) waiter)
 holder_first links apart [] places waiter = refl
@@ -51,7 +51,7 @@ holder_first links apart (e ∷ kept) places waiter =
     ]
 
 -- the same, of the parts of an index
-pub holder_in : (names : List (List ℕ)) (slots : List Slot) (kept : List Edge) → IsLinked names slots kept → (links : Links) → names ≡ links.names
+pub holder_in : (names : List (List ℕ)) (slots : List Slot) (kept : List Edge) → IsLinked names slots kept → (links : WaitIndex) → names ≡ links.names
     → holders_of slots ≡ links.holders → map (named names) kept ≡ links.edges
     → (waiter : ℕ) → holder_at (holders_of slots) (first_place kept waiter) ≡ holder_if links (first_for links.edges waiter)
 holder_in names slots kept linked links names_are holders_are edges_are waiter =
@@ -65,7 +65,7 @@ holder_in names slots kept linked links names_are holders_are edges_are waiter =
 
 -- ---- the nodes
 
-module _ (nodes : List Node) (links : Links) (states : Waits) (spare : ℕ) (g : IsGraph nodes links states spare) where
+module _ (nodes : List Node) (links : WaitIndex) (states : NodeWaits) (spare : ℕ) (g : IsGraph nodes links states spare) where
   number_is : (o : Option (List ℕ)) → holder_if links o ≡ number_if nodes o
   number_is None = refl
   number_is (Some name) = g.holders name

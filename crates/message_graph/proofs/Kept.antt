@@ -10,8 +10,8 @@ use Rattle.message_graph.specs.declared.states.Waiting.{Waiting}
 use Rattle.message_graph.specs.declared.states.Waiting.TheVariants as waiting
 use Rattle.message_graph.specs.declared.states.News.TheVariants as news
 use Rattle.message_graph.specs.Nodes.{same_name, node_named, number_of, is_invalid, is_delivered, fresh, with_answer, with_ending}
-use Rattle.message_graph.specs.Waits.{Waits, missing, waiting_open, waiting_by, waiting_of, told_times, wait_at, group_at}
-use Rattle.message_graph.specs.Links.{Links, Numbers, holder_of, edge_at, count_before, first_for}
+use Rattle.message_graph.specs.Waits.{NodeWaits, missing, waiting_open, waiting_by, waiting_of, told_times, wait_at, group_at}
+use Rattle.message_graph.specs.Links.{WaitIndex, Numbers, holder_of, edge_at, count_before, first_for}
 use Rattle.message_graph.specs.Whole.{occurrences, dependencies, dependencies_at, IsGraph, ending_news}
 use Rattle.message_graph.proofs.Positions.{place_pushed}
 use Rattle.message_graph.proofs.Linked.{same_refl, same_equal}
@@ -30,7 +30,7 @@ or_false true = refl
 or_false false = refl
 
 -- who waits is a node
-pub waiters_inside : (nodes : List Node) (links : Links) (states : Waits) (spare : ℕ) → IsGraph nodes links states spare → (edge : ℕ) → edge < length links.edges → (edge_at links.edges edge).1 < length nodes
+pub waiters_inside : (nodes : List Node) (links : WaitIndex) (states : NodeWaits) (spare : ℕ) → IsGraph nodes links states spare → (edge : ℕ) → edge < length links.edges → (edge_at links.edges edge).1 < length nodes
 waiters_inside nodes links states spare g edge h =
     let e = edge_at links.edges edge in
     dependent_within nodes e.1 e.0 (subst (λ n. 1 ≤ n) (g.edges e.0 e.1) (counted links.edges edge (length links.edges) h))
@@ -41,7 +41,7 @@ same_waits waits f nodes len h =
     ext_get_or waiting.Ended waits (map f nodes) (len ∙ sym (length-map nodes f)) (λ k l.
     let there = node_there nodes k (subst (λ n. k < n) len l) in h k there.0 there.1 ∙ sym (wait_there f nodes k there.0 there.1))
 
-pub many_waits : (nodes : List Node) (links : Links) (states : Waits) (spare : ℕ) → IsGraph nodes links states spare → length states.waits ≡ length nodes
+pub many_waits : (nodes : List Node) (links : WaitIndex) (states : NodeWaits) (spare : ℕ) → IsGraph nodes links states spare → length states.waits ≡ length nodes
 many_waits nodes links states spare g = ap length g.waits ∙ length-map nodes (waiting_of (node_named nodes))
 
 -- what the end of a node does to those that miss it
@@ -58,9 +58,9 @@ ending_told held after node ending.Delivered goes d group names =
           (fewer_failed held after node.name (Some node) now d group (λ i. not (other i) || is_invalid node.ending) (λ i. not (other i) || false)) names
     ] refl
 
-module _ (nodes : List Node) (links : Links) (states : Waits) (spare : ℕ) (g : IsGraph nodes links states spare) where
+module _ (nodes : List Node) (links : WaitIndex) (states : NodeWaits) (spare : ℕ) (g : IsGraph nodes links states spare) where
   -- a node ended, and those that wait for it were told
-  pub end_kept : (n : ℕ) (node : Node) (e : Ending) (after : Waits) → slice_get nodes n ≡ Some node → HasAnswer node → length after.waits ≡ length states.waits → after.room ≡ states.room
+  pub end_kept : (n : ℕ) (node : Node) (e : Ending) (after : NodeWaits) → slice_get nodes n ≡ Some node → HasAnswer node → length after.waits ≡ length states.waits → after.room ≡ states.room
       → ((k : ℕ) → wait_at after.waits k ≡ told_times (ending_news e) (group_at (with_ending n e nodes) k) (count_before links.edges node.name k (length links.edges)) (wait_at (set states.waits n waiting.Ended) k))
       → IsGraph (with_ending n e nodes) links after spare
   end_kept n node e after at has len room told =
@@ -109,7 +109,7 @@ module _ (nodes : List Node) (links : Links) (states : Waits) (spare : ℕ) (g :
       }
 
   -- a node was judged
-  pub judged_kept : (n : ℕ) (node : Node) (answer : Judged) (after : Links) (later : Waits) → slice_get nodes n ≡ Some node → node.answer ≡ None
+  pub judged_kept : (n : ℕ) (node : Node) (answer : Judged) (after : WaitIndex) (later : NodeWaits) → slice_get nodes n ≡ Some node → node.answer ≡ None
       → ((name : List ℕ) → holder_of after name ≡ holder_of links name) → after.numbers ≡ links.numbers → after.edges ≡ links.edges ++ map (λ name. (name, n)) (dependencies (Some answer)) → spare ≤ after.room
       → later.waits ≡ set states.waits n (waiting_open (node_named nodes) node.group answer) → later.room ≡ states.room
       → IsGraph (with_answer n answer nodes) after later spare
@@ -172,7 +172,7 @@ module _ (nodes : List Node) (links : Links) (states : Waits) (spare : ℕ) (g :
       plus_none k = omega arith
 
   -- a node was held under a new name, and those that wait for it were told
-  pub hold_kept : (name : List ℕ) (group : ℕ) (after : Links) (later : Waits) → number_of nodes name ≡ None → length nodes < 2 ^ 32 - 1 → 0 < spare
+  pub hold_kept : (name : List ℕ) (group : ℕ) (after : WaitIndex) (later : NodeWaits) → number_of nodes name ≡ None → length nodes < 2 ^ 32 - 1 → 0 < spare
       → ((other : List ℕ) → holder_of after other ≡ (if same_name other name then Some (length nodes) else holder_of links other)) → after.numbers.count ≡ links.numbers.count + 1 → links.numbers.room ≤ after.numbers.room + 1 → after.edges ≡ links.edges → links.room ≤ after.room + 1
       → length later.waits ≡ length nodes + 1 → later.room + 1 ≡ states.room
       → ((k : ℕ) → wait_at later.waits k ≡ told_times (news.Arrived group) (group_at (nodes ++ fresh name group ∷ []) k) (count_before after.edges name k (length after.edges)) (wait_at (states.waits ++ waiting.Unjudged ∷ []) k))

@@ -6,8 +6,8 @@ use Rattle.message_graph.specs.declared.index.Edge.{Edge}
 use Rattle.message_graph.specs.Nodes.{same_name}
 
 -- a name that a node waits for, and the node's number
-abbrev pub Link : Type 0
-Link = List ℕ × ℕ
+abbrev pub WaitEdge : Type 0
+WaitEdge = List ℕ × ℕ
 
 -- how many nodes there are, and for how many more there is room
 pub record Numbers : Type 0 where
@@ -15,7 +15,7 @@ pub record Numbers : Type 0 where
   pub room : ℕ
 
 -- an index: all names, the number of the node that holds each, the nodes' numbers, the edges, and the room for more names and more edges
-pub record Links : Type 0 where
+pub record WaitIndex : Type 0 where
   pub names : List (List ℕ)
   pub holders : List (Option ℕ)
   pub numbers : Numbers
@@ -32,7 +32,7 @@ holder_at holders None = None
 holder_at holders (Some place) = slice_index_or holders place None
 
 -- the number of the node that holds a name
-abbrev pub holder_of : Links → List ℕ → Option ℕ
+abbrev pub holder_of : WaitIndex → List ℕ → Option ℕ
 holder_of links name = holder_at links.holders (place_of links.names name)
 
 -- an edge's name and waiter; past the end there are none
@@ -65,7 +65,7 @@ first_place [] waiter = None
 first_place (edge ∷ edges) waiter = if waiter == edge.waiter then Some edge.place else first_place edges waiter
 
 -- who holds a name, if there is one
-abbrev pub holder_if : Links → Option (List ℕ) → Option ℕ
+abbrev pub holder_if : WaitIndex → Option (List ℕ) → Option ℕ
 holder_if links None = None
 holder_if links (Some name) = holder_of links name
 

@@ -140,7 +140,7 @@ step_number (step.Invalid number) = number
 step_number (step.Deliver number) = number
 
 -- whether a step ends its node
-abbrev pub Ends : Step → Type 0
-Ends (step.Judge number) = ⊥
-Ends (step.Invalid number) = Unit {0}
-Ends (step.Deliver number) = Unit {0}
+abbrev pub EndsNode : Step → Type 0
+EndsNode (step.Judge number) = ⊥
+EndsNode (step.Invalid number) = Unit {0}
+EndsNode (step.Deliver number) = Unit {0}

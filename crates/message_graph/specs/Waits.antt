@@ -13,7 +13,7 @@ use Rattle.message_graph.specs.declared.states.News.TheVariants as news
 use Rattle.message_graph.specs.Nodes.{fails, serves}
 
 -- what the nodes wait for, and for how many more there is room
-pub record Waits : Type 0 where
+pub record NodeWaits : Type 0 where
   pub waits : List Waiting
   pub room : ℕ
 

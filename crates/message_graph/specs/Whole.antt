@@ -10,8 +10,8 @@ use Rattle.message_graph.specs.declared.nodes.Step.TheVariants as step
 use Rattle.message_graph.specs.declared.states.News.{News}
 use Rattle.message_graph.specs.declared.states.News.TheVariants as news
 use Rattle.message_graph.specs.Nodes.{same_name, node_named, number_of}
-use Rattle.message_graph.specs.Waits.{Waits, waiting_of}
-use Rattle.message_graph.specs.Links.{Links, holder_of, count_before, first_for}
+use Rattle.message_graph.specs.Waits.{NodeWaits, waiting_of}
+use Rattle.message_graph.specs.Links.{WaitIndex, holder_of, count_before, first_for}
 
 -- how often a name stands in a list
 abbrev pub occurrences : List ℕ → List (List ℕ) → ℕ
@@ -49,17 +49,17 @@ ending_news ending.Invalid = news.Failed
 ending_news ending.Delivered = news.Delivered
 
 -- an unjudged node has not ended
-abbrev pub IsInOrder : Node → Type 0
-IsInOrder node = node.answer ≡ None → node.ending ≡ None
+abbrev pub IsNodeInOrder : Node → Type 0
+IsNodeInOrder node = node.answer ≡ None → node.ending ≡ None
 
-pub record IsGraph (nodes : List Node) (links : Links) (states : Waits) (spare : ℕ) : Type 0 where
+pub record IsGraph (nodes : List Node) (links : WaitIndex) (states : NodeWaits) (spare : ℕ) : Type 0 where
   pub few : length nodes < 2 ^ 32
   pub holders : (name : List ℕ) → holder_of links name ≡ number_of nodes name
   pub own : (number : ℕ) (node : Node) → slice_get nodes number ≡ Some node → number_of nodes node.name ≡ Some number
   pub waits : states.waits ≡ map (waiting_of (node_named nodes)) nodes
   pub edges : (name : List ℕ) (waiter : ℕ) → count_before links.edges name waiter (length links.edges) ≡ occurrences name (dependencies_at nodes waiter)
   pub firsts : (waiter : ℕ) → first_for links.edges waiter ≡ slice_get (dependencies_at nodes waiter) 0
-  pub order : (number : ℕ) (node : Node) → slice_get nodes number ≡ Some node → IsInOrder node
+  pub order : (number : ℕ) (node : Node) → slice_get nodes number ≡ Some node → IsNodeInOrder node
   pub count : links.numbers.count ≡ length nodes
   pub numbers : spare ≤ links.numbers.room
   pub room : spare ≤ links.room

@@ -3,7 +3,7 @@ ghost use Rattle.std.specs.Prelude.{◌≡◌, ◌+◌, ◌-◌, ◌^◌, ◌<�
 ghost use Rattle.std.specs.Prelude.{map, IsTrue, IfOk, OnOk, OnErr, None, Some, slice_get};
 ghost use Rattle.std.specs.Option.{option_map};
 ghost use Rattle.message_graph.specs.Nodes.{number_of, next, fresh, fate_of, with_answer};
-ghost use Rattle.message_graph.specs.Nodes.{with_ending, after_step, Ends};
+ghost use Rattle.message_graph.specs.Nodes.{with_ending, after_step, EndsNode};
 ghost use Rattle.message_graph.specs.Whole.{ending_step, ending_news, first_held};
 
 use crate::index::Index;
@@ -169,7 +169,7 @@ impl Graph {
     /// Makes the next step, which is no judgement; takes no memory.
     pub fn apply(&mut self, step: Step)
         requires next { next self.old.nodes ≡ Some step }
-        requires ends { Ends step }
+        requires ends { EndsNode step }
         ensures { self.new ≡ record self.old { nodes = after_step step self.old.nodes } }
     {
         match step {

@@ -72,9 +72,9 @@ pub(crate) struct Index {
 impl Model for Index {
     ghost use Rattle.std.specs.Prelude.{◌-◌, ◌^◌, length, map, min, vec_capacity};
     ghost use Rattle.indexmap.specs.IndexSet.{spare};
-    ghost use Rattle.message_graph.specs.Links.{Links, named, IsLinked, IsPlaced};
+    ghost use Rattle.message_graph.specs.Links.{WaitIndex, named, IsLinked, IsPlaced};
 
-    ghost Value = { Links };
+    ghost Value = { WaitIndex };
 
     ghost view = { λ i. record {
       names = i.names.keys;

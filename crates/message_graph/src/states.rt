@@ -37,9 +37,9 @@ pub(crate) struct States {
 impl Model for States {
     ghost use Rattle.std.specs.Prelude.{◌≡◌, ◌-◌, ◌≤◌, ◌++◌, length, map, replicate, false};
     ghost use Rattle.std.specs.Prelude.{vec_capacity};
-    ghost use Rattle.message_graph.specs.Waits.{Waits, has_step};
+    ghost use Rattle.message_graph.specs.Waits.{NodeWaits, has_step};
 
-    ghost Value = { Waits };
+    ghost Value = { NodeWaits };
 
     ghost view = { λ s. record {
       waits = s.waits.items;

@@ -2,7 +2,7 @@
 use Rattle.std.proofs.Common.{◌≡◌, ℕ, zero, suc, ◌+◌, ◌≤◌, [], ◌∷◌, Result, Ok, Err, refl, sym, ap, ◌∙◌, arith, add-zero}
 use Rattle.outside.specs.Faults.{one_more}
 use Rattle.outside.specs.Calls.{Calls, CallsGoOn, OneCall, NoCall, more_calls}
-use Rattle.outside.specs.Disk.{Becomes}
+use Rattle.outside.specs.Disk.{RelatesTold}
 use Rattle.outside.specs.Outside.{Outside, Moment, DiskCall, LinkCall, MakesJust, MakesAtMost, MakesCalls}
 use Rattle.outside.specs.MemDisk.{MemDiskValue, hosted, with_call, calls_of}
 use Rattle.outside.proofs.CallSteps.{becomes_none, becomes_map, becomes_then, go_on_none, go_on_then}
@@ -107,15 +107,15 @@ calls_then m n (Err _) o0 o1 o2 first second = record { just = tt; most = most_t
 
 -- ---- no call
 
-pub no_call_none : (o : Outside) → Becomes NoCall o.calls o.calls
+pub no_call_none : (o : Outside) → RelatesTold NoCall o.calls o.calls
 no_call_none o = becomes_none NoCall o.calls (λ a. record { goes_on = go_on_none a; made = refl })
 
-pub no_call_then : (o0 o1 o2 : Outside) → Becomes NoCall o0.calls o1.calls → Becomes NoCall o1.calls o2.calls → Becomes NoCall o0.calls o2.calls
+pub no_call_then : (o0 o1 o2 : Outside) → RelatesTold NoCall o0.calls o1.calls → RelatesTold NoCall o1.calls o2.calls → RelatesTold NoCall o0.calls o2.calls
 no_call_then o0 o1 o2 first second =
     becomes_then NoCall NoCall NoCall o0.calls o1.calls o2.calls
     (λ a b c f s. record { goes_on = go_on_then a b c f.goes_on s.goes_on; made = s.made ∙ f.made }) first second
 
-pub no_call_goes_on : (o o' : Outside) → Becomes NoCall o.calls o'.calls → Becomes CallsGoOn o.calls o'.calls
+pub no_call_goes_on : (o o' : Outside) → RelatesTold NoCall o.calls o'.calls → RelatesTold CallsGoOn o.calls o'.calls
 no_call_goes_on o o' none = becomes_map NoCall CallsGoOn o.calls o'.calls (λ a b n. n.goes_on) none
 
 -- ---- a host in memory

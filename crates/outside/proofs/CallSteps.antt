@@ -4,11 +4,11 @@ use Rattle.std.proofs.Common.{refl, sym, ap, ◌∙◌, subst, inl, inr, arith, 
 use Rattle.outside.specs.declared.failed.Failed.{Failed}
 use Rattle.outside.specs.Files.{Two, File, IsFileImage, IsImage, file_of, with_file, settled}
 use Rattle.outside.specs.Links.{Links, sent_of}
-use Rattle.outside.specs.Outside.{Outside, Moment, IsNow, Elapses, DiskCall, LinkCall, MomentsAre, DiskRun, Looks}
+use Rattle.outside.specs.Outside.{Outside, Moment, IsNow, LetsTimePass, DiskCall, LinkCall, MomentsAre, DiskRun, OnlyReads}
 use Rattle.outside.specs.Calls.{Calls, CallsGoOn, OneCall, NoCall}
 use Rattle.outside.specs.Changes.{Change}
-use Rattle.outside.specs.Disk.{Becomes, Writes, Cuts, Syncs, after_write, after_cut, overwritten}
-use Rattle.outside.specs.Steps.{other_of, FileMoment, Reached, Passed}
+use Rattle.outside.specs.Disk.{RelatesTold, WritesFile, CutsFile, SyncsFile, after_write, after_cut, overwritten}
+use Rattle.outside.specs.Steps.{other_of, FileMoment, ReachedFile, PassedMoments}
 
 pub file_of-with_file : {A : Type 0} (two : Two A) (file : ℕ) (a : A) → file_of (with_file two file a) file ≡ a
 file_of-with_file two zero a = refl
@@ -39,7 +39,7 @@ pub moments_none : (o : Outside) (P : Moment → Type 0) → ((m : Moment) → o
 moments_none o P now = record { later = omega arith; each = now; before = λ t m _ w. inl w }
 
 -- one call more of any kind, by its own moments; and one on the disk
-pub moments_during : (o0 o o' : Outside) (during P : Moment → Type 0) → MomentsAre o0 o P → Elapses o o' during → ((m : Moment) → during m → P m) → MomentsAre o0 o' P
+pub moments_during : (o0 o o' : Outside) (during P : Moment → Type 0) → MomentsAre o0 o P → LetsTimePass o o' during → ((m : Moment) → during m → P m) → MomentsAre o0 o' P
 moments_during o0 o o' during P run time own = record {
   later = omega (arith, run.later, time.later);
   each = λ m w. elim (time.nothing_else o0.clock m run.later w) [ inl old ↦ run.each m old | inr new ↦ own m new ];
@@ -73,18 +73,18 @@ moments_then o0 o1 o2 P first second = record {
 }
 
 -- ---- the calls made of a disk
-pub becomes_none : {A : Type 0} (step : A → A → Type 0) (o : Option A) → ((a : A) → step a a) → Becomes step o o
+pub becomes_none : {A : Type 0} (step : A → A → Type 0) (o : Option A) → ((a : A) → step a a) → RelatesTold step o o
 becomes_none step None stay = tt
 becomes_none step (Some a) stay = stay a
 
-pub becomes_map : {A : Type 0} (step step' : A → A → Type 0) (old new : Option A) → ((a b : A) → step a b → step' a b) → Becomes step old new → Becomes step' old new
+pub becomes_map : {A : Type 0} (step step' : A → A → Type 0) (old new : Option A) → ((a b : A) → step a b → step' a b) → RelatesTold step old new → RelatesTold step' old new
 becomes_map step step' None None weaker becomes = tt
 becomes_map step step' None (Some b) weaker becomes = absurd becomes
 becomes_map step step' (Some a) None weaker becomes = absurd becomes
 becomes_map step step' (Some a) (Some b) weaker becomes = weaker a b becomes
 
 pub becomes_then : {A : Type 0} (first second both : A → A → Type 0) (o0 o1 o2 : Option A) → ((a b c : A) → first a b → second b c → both a c)
-    → Becomes first o0 o1 → Becomes second o1 o2 → Becomes both o0 o2
+    → RelatesTold first o0 o1 → RelatesTold second o1 o2 → RelatesTold both o0 o2
 becomes_then first second both None None None joined f s = tt
 becomes_then first second both None None (Some c) joined f s = absurd s
 becomes_then first second both None (Some b) o2 joined f s = absurd f
@@ -105,17 +105,17 @@ go_on_then a b c first second = record {
   later = omega (arith, first.later, second.later);
 }
 
-pub calls_none : (o : Outside) → Becomes CallsGoOn o.calls o.calls
+pub calls_none : (o : Outside) → RelatesTold CallsGoOn o.calls o.calls
 calls_none o = becomes_none CallsGoOn o.calls go_on_none
 
-pub calls_then : (o0 o1 o2 : Outside) → Becomes CallsGoOn o0.calls o1.calls → Becomes CallsGoOn o1.calls o2.calls → Becomes CallsGoOn o0.calls o2.calls
+pub calls_then : (o0 o1 o2 : Outside) → RelatesTold CallsGoOn o0.calls o1.calls → RelatesTold CallsGoOn o1.calls o2.calls → RelatesTold CallsGoOn o0.calls o2.calls
 calls_then o0 o1 o2 first second = becomes_then CallsGoOn CallsGoOn CallsGoOn o0.calls o1.calls o2.calls go_on_then first second
 
 -- one call more of the disk, and one on a link or the clock
-pub calls_call : (o0 o o' : Outside) → Becomes CallsGoOn o0.calls o.calls → DiskCall o o' → Becomes CallsGoOn o0.calls o'.calls
+pub calls_call : (o0 o o' : Outside) → RelatesTold CallsGoOn o0.calls o.calls → DiskCall o o' → RelatesTold CallsGoOn o0.calls o'.calls
 calls_call o0 o o' run call = calls_then o0 o o' run (becomes_map OneCall CallsGoOn o.calls o'.calls (λ a b one. one.goes_on) call.calls)
 
-pub calls_link : (during : Moment → Type 0) (o0 o o' : Outside) → Becomes CallsGoOn o0.calls o.calls → LinkCall during o o' → Becomes CallsGoOn o0.calls o'.calls
+pub calls_link : (during : Moment → Type 0) (o0 o o' : Outside) → RelatesTold CallsGoOn o0.calls o.calls → LinkCall during o o' → RelatesTold CallsGoOn o0.calls o'.calls
 calls_link during o0 o o' run call = calls_then o0 o o' run (becomes_map NoCall CallsGoOn o.calls o'.calls (λ a b none. none.goes_on) call.calls)
 
 -- ---- what no run of calls on a disk changes
@@ -142,10 +142,10 @@ run_then o0 o1 o2 first second = record {
 pub now_images : (o o' : Outside) (two : Two File) → o'.files ≡ Some two → o'.links ≡ o.links → (m : Moment) → o'.moments o'.clock m → IsNow two o.links m
 now_images o o' two files links m w = subst (λ (l : Links). IsNow two l m) links (o'.now_is two m files w)
 
-pub looks_none : (o : Outside) → Looks o o
+pub looks_none : (o : Outside) → OnlyReads o o
 looks_none o = record { same_files = refl; run = run_none o; moments = λ two files. moments_none o _ (now_images o o two files refl) }
 
-pub looks_call : (o0 o o' : Outside) → Looks o0 o → DiskCall o o' → o'.files ≡ o.files → o.disk_faults ≤ o'.disk_faults → Looks o0 o'
+pub looks_call : (o0 o o' : Outside) → OnlyReads o0 o → DiskCall o o' → o'.files ≡ o.files → o.disk_faults ≤ o'.disk_faults → OnlyReads o0 o'
 looks_call o0 o o' looks call same later = record {
   same_files = same ∙ looks.same_files;
   run = run_call o0 o o' looks.run call later;
@@ -154,7 +154,7 @@ looks_call o0 o o' looks call same later = record {
       (now_images o0 o' two (same ∙ looks.same_files ∙ files) (call.same_links ∙ looks.run.same_links));
 }
 
-pub looks_then : (o0 o1 o2 : Outside) → Looks o0 o1 → Looks o1 o2 → Looks o0 o2
+pub looks_then : (o0 o1 o2 : Outside) → OnlyReads o0 o1 → OnlyReads o1 o2 → OnlyReads o0 o2
 looks_then o0 o1 o2 first second = record {
   same_files = second.same_files ∙ first.same_files;
   run = run_then o0 o1 o2 first.run second.run;
@@ -175,20 +175,20 @@ file_moment two o0 o file Q f files links has m w =
       nothing_sent = now.sent ∙ ap (λ (l : Links). sent_of l.told) links;
     }
 
-pub begun : (two : Two File) (o : Outside) (file : ℕ) (Q : List ℕ → Type 0) → o.files ≡ Some two → ((c : List ℕ) → IsFileImage (file_of two file) c → Q c) → Reached two o o file Q (file_of two file)
+pub begun : (two : Two File) (o : Outside) (file : ℕ) (Q : List ℕ → Type 0) → o.files ≡ Some two → ((c : List ℕ) → IsFileImage (file_of two file) c → Q c) → ReachedFile two o o file Q (file_of two file)
 begun two o file Q files has =
     let same = files ∙ ap Some (sym (with_file-file_of two file)) in
     record { files = same; links = refl; moments = moments_none o _ (file_moment two o o file Q (file_of two file) same refl has) }
 
 -- one call more, after which the file is f'
-pub reached_call : (two : Two File) (o0 o o' : Outside) (file : ℕ) (Q : List ℕ → Type 0) (f f' : File) → Reached two o0 o file Q f → DiskCall o o' → o'.files ≡ Some (with_file two file f')
-    → ((c : List ℕ) → IsFileImage f' c → Q c) → Reached two o0 o' file Q f'
+pub reached_call : (two : Two File) (o0 o o' : Outside) (file : ℕ) (Q : List ℕ → Type 0) (f f' : File) → ReachedFile two o0 o file Q f → DiskCall o o' → o'.files ≡ Some (with_file two file f')
+    → ((c : List ℕ) → IsFileImage f' c → Q c) → ReachedFile two o0 o' file Q f'
 reached_call two o0 o o' file Q f f' run call files has =
     let links = call.same_links ∙ run.links in
     record { files = files; links = links; moments = moments_call o0 o o' _ run.moments call (file_moment two o0 o' file Q f' files links has) }
 
 -- what becomes of told files
-pub becomes_told : {A : Type 0} (step : A → A → Type 0) (old new : Option A) (a : A) → old ≡ Some a → Becomes step old new → (b : A) × (new ≡ Some b) × step a b
+pub becomes_told : {A : Type 0} (step : A → A → Type 0) (old new : Option A) (a : A) → old ≡ Some a → RelatesTold step old new → (b : A) × (new ≡ Some b) × step a b
 becomes_told step None new a told becomes = cc
 becomes_told step (Some x) None a told becomes = absurd becomes
 becomes_told step (Some x) (Some y) a told becomes =
@@ -202,22 +202,22 @@ told_as o' two two' f file e g = e ∙ ap Some g
 rewritten : (two : Two File) (file : ℕ) (f : File) (change : File → File) → with_file (with_file two file f) file (change (file_of (with_file two file f) file)) ≡ with_file two file (change f)
 rewritten two file f change = with_file-with_file two file f _ ∙ ap (λ g. with_file two file (change g)) (file_of-with_file two file f)
 
-pub wrote_ok : (two : Two File) (o0 o o' : Outside) (file : ℕ) (Q : List ℕ → Type 0) (f : File) (at : ℕ) (bytes : List ℕ) (u : Unit {0}) → Reached two o0 o file Q f → DiskCall o o'
-    → Becomes (Writes file at bytes (Ok u)) o.files o'.files
+pub wrote_ok : (two : Two File) (o0 o o' : Outside) (file : ℕ) (Q : List ℕ → Type 0) (f : File) (at : ℕ) (bytes : List ℕ) (u : Unit {0}) → ReachedFile two o0 o file Q f → DiskCall o o'
+    → RelatesTold (WritesFile file at bytes (Ok u)) o.files o'.files
     → ((now c : List ℕ) → IsFileImage (after_write f at (length bytes) now) c → Q c)
-    → Reached two o0 o' file Q (after_write f at (length bytes) (overwritten f.now at bytes))
+    → ReachedFile two o0 o' file Q (after_write f at (length bytes) (overwritten f.now at bytes))
 wrote_ok two o0 o o' file Q f at bytes u run call becomes has =
-    let told = becomes_told (Writes file at bytes (Ok u)) o.files o'.files (with_file two file f) run.files becomes in
+    let told = becomes_told (WritesFile file at bytes (Ok u)) o.files o'.files (with_file two file f) run.files becomes in
     let change : File → File = λ g. after_write g at (length bytes) (overwritten g.now at bytes) in
     reached_call two o0 o o' file Q f (change f) run call (told.1 ∙ ap Some (told.2 ∙ rewritten two file f change)) (has (overwritten f.now at bytes))
 
-pub wrote_err : (two : Two File) (o0 o o' : Outside) (file : ℕ) (Q : List ℕ → Type 0) (f : File) (at : ℕ) (bytes : List ℕ) (e : Failed) → Reached two o0 o file Q f → DiskCall o o'
-    → Becomes (Writes file at bytes (Err e)) o.files o'.files
+pub wrote_err : (two : Two File) (o0 o o' : Outside) (file : ℕ) (Q : List ℕ → Type 0) (f : File) (at : ℕ) (bytes : List ℕ) (e : Failed) → ReachedFile two o0 o file Q f → DiskCall o o'
+    → RelatesTold (WritesFile file at bytes (Err e)) o.files o'.files
     → ((c : List ℕ) → IsFileImage f c → Q c)
     → ((now c : List ℕ) → IsFileImage (after_write f at (length bytes) now) c → Q c)
-    → Passed two o0 o' file Q
+    → PassedMoments two o0 o' file Q
 wrote_err two o0 o o' file Q f at bytes e run call becomes as_before has =
-    let told = becomes_told (Writes file at bytes (Err e)) o.files o'.files (with_file two file f) run.files becomes in
+    let told = becomes_told (WritesFile file at bytes (Err e)) o.files o'.files (with_file two file f) run.files becomes in
     elim told.2 [
       | inl same ↦ (reached_call two o0 o o' file Q f f run call (told.1 ∙ ap Some same) as_before).moments
       | inr torn ↦
@@ -225,39 +225,39 @@ wrote_err two o0 o o' file Q f at bytes e run call becomes as_before has =
           (reached_call two o0 o o' file Q f (change f) run call (told.1 ∙ ap Some (torn.2 ∙ rewritten two file f change)) (has torn.0)).moments
     ]
 
-pub synced_ok : (two : Two File) (o0 o o' : Outside) (file : ℕ) (Q : List ℕ → Type 0) (f : File) (u : Unit {0}) → Reached two o0 o file Q f → DiskCall o o'
-    → Becomes (Syncs file (Ok u)) o.files o'.files
+pub synced_ok : (two : Two File) (o0 o o' : Outside) (file : ℕ) (Q : List ℕ → Type 0) (f : File) (u : Unit {0}) → ReachedFile two o0 o file Q f → DiskCall o o'
+    → RelatesTold (SyncsFile file (Ok u)) o.files o'.files
     → ((c : List ℕ) → IsFileImage (settled f.now) c → Q c)
-    → Reached two o0 o' file Q (settled f.now)
+    → ReachedFile two o0 o' file Q (settled f.now)
 synced_ok two o0 o o' file Q f u run call becomes has =
-    let told = becomes_told (Syncs file (Ok u)) o.files o'.files (with_file two file f) run.files becomes in
+    let told = becomes_told (SyncsFile file (Ok u)) o.files o'.files (with_file two file f) run.files becomes in
     let change : File → File = λ g. settled g.now in
     reached_call two o0 o o' file Q f (settled f.now) run call (told.1 ∙ ap Some (told.2 ∙ rewritten two file f change)) has
 
-pub synced_err : (two : Two File) (o0 o o' : Outside) (file : ℕ) (Q : List ℕ → Type 0) (f : File) (e : Failed) → Reached two o0 o file Q f → DiskCall o o'
-    → Becomes (Syncs file (Err e)) o.files o'.files
+pub synced_err : (two : Two File) (o0 o o' : Outside) (file : ℕ) (Q : List ℕ → Type 0) (f : File) (e : Failed) → ReachedFile two o0 o file Q f → DiskCall o o'
+    → RelatesTold (SyncsFile file (Err e)) o.files o'.files
     → ((c : List ℕ) → IsFileImage f c → Q c)
-    → Passed two o0 o' file Q
+    → PassedMoments two o0 o' file Q
 synced_err two o0 o o' file Q f e run call becomes as_before =
-    let told = becomes_told (Syncs file (Err e)) o.files o'.files (with_file two file f) run.files becomes in
+    let told = becomes_told (SyncsFile file (Err e)) o.files o'.files (with_file two file f) run.files becomes in
     (reached_call two o0 o o' file Q f f run call (told.1 ∙ ap Some told.2) as_before).moments
 
-pub cut_ok : (two : Two File) (o0 o o' : Outside) (file : ℕ) (Q : List ℕ → Type 0) (f : File) (n : ℕ) (u : Unit {0}) → Reached two o0 o file Q f → DiskCall o o'
-    → Becomes (Cuts file n (Ok u)) o.files o'.files
+pub cut_ok : (two : Two File) (o0 o o' : Outside) (file : ℕ) (Q : List ℕ → Type 0) (f : File) (n : ℕ) (u : Unit {0}) → ReachedFile two o0 o file Q f → DiskCall o o'
+    → RelatesTold (CutsFile file n (Ok u)) o.files o'.files
     → ((now c : List ℕ) → IsFileImage (after_cut f n now) c → Q c)
-    → Reached two o0 o' file Q (after_cut f n (take n f.now))
+    → ReachedFile two o0 o' file Q (after_cut f n (take n f.now))
 cut_ok two o0 o o' file Q f n u run call becomes has =
-    let told = becomes_told (Cuts file n (Ok u)) o.files o'.files (with_file two file f) run.files becomes in
+    let told = becomes_told (CutsFile file n (Ok u)) o.files o'.files (with_file two file f) run.files becomes in
     let change : File → File = λ g. after_cut g n (take n g.now) in
     reached_call two o0 o o' file Q f (change f) run call (told.1 ∙ ap Some (told.2 ∙ rewritten two file f change)) (has (take n f.now))
 
-pub cut_err : (two : Two File) (o0 o o' : Outside) (file : ℕ) (Q : List ℕ → Type 0) (f : File) (n : ℕ) (e : Failed) → Reached two o0 o file Q f → DiskCall o o'
-    → Becomes (Cuts file n (Err e)) o.files o'.files
+pub cut_err : (two : Two File) (o0 o o' : Outside) (file : ℕ) (Q : List ℕ → Type 0) (f : File) (n : ℕ) (e : Failed) → ReachedFile two o0 o file Q f → DiskCall o o'
+    → RelatesTold (CutsFile file n (Err e)) o.files o'.files
     → ((c : List ℕ) → IsFileImage f c → Q c)
     → ((now c : List ℕ) → IsFileImage (after_cut f n now) c → Q c)
-    → Passed two o0 o' file Q
+    → PassedMoments two o0 o' file Q
 cut_err two o0 o o' file Q f n e run call becomes as_before has =
-    let told = becomes_told (Cuts file n (Err e)) o.files o'.files (with_file two file f) run.files becomes in
+    let told = becomes_told (CutsFile file n (Err e)) o.files o'.files (with_file two file f) run.files becomes in
     elim told.2 [
       | inl same ↦ (reached_call two o0 o o' file Q f f run call (told.1 ∙ ap Some same) as_before).moments
       | inr either ↦ elim either [
@@ -271,8 +271,8 @@ cut_err two o0 o o' file Q f n e run call becomes as_before has =
     ]
 
 -- a call that only reads
-pub looked : (two : Two File) (o0 o o' : Outside) (file : ℕ) (Q : List ℕ → Type 0) (f : File) → Reached two o0 o file Q f → DiskCall o o' → o'.files ≡ o.files
-    → ((c : List ℕ) → IsFileImage f c → Q c) → Reached two o0 o' file Q f
+pub looked : (two : Two File) (o0 o o' : Outside) (file : ℕ) (Q : List ℕ → Type 0) (f : File) → ReachedFile two o0 o file Q f → DiskCall o o' → o'.files ≡ o.files
+    → ((c : List ℕ) → IsFileImage f c → Q c) → ReachedFile two o0 o' file Q f
 looked two o0 o o' file Q f run call same as_before = reached_call two o0 o o' file Q f f run call (same ∙ run.files) as_before
 
 told_both : {A : Type 0} (o : Option A) → is_some o ≡ true → (a : A) × (o ≡ Some a)

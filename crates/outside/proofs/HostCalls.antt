@@ -7,16 +7,16 @@ use Rattle.outside.specs.declared.failed.Failed.{Failed}
 use Rattle.outside.specs.declared.host.Heard.{Heard}
 use Rattle.outside.specs.declared.host.Heard.TheVariants as heard
 use Rattle.outside.specs.Files.{Two, File, IsImage}
-use Rattle.outside.specs.Links.{Planned, Link, Reply, Answered, with_sent}
+use Rattle.outside.specs.Links.{Planned, ToldLink, Reply, Answered, with_sent}
 use Rattle.outside.specs.Outside.{Moment, DiskCall, LinkCall, QuietCall}
 use Rattle.outside.specs.Host.{SendsPart}
 use Rattle.outside.specs.Calls.{NoCall}
 use Rattle.outside.proofs.CallSteps.{go_on_none}
-use Rattle.outside.specs.MemDisk.{Change, dialled, sent, answered, hosted, MemDiskValue, Makes, KeptFile, kept_after, both_kept, changed, files_of, links_after, link_changed, answers_after, answers_changed, with_call, bytes_each, calls_of}
+use Rattle.outside.specs.MemDisk.{Change, dialled, sent, answered, hosted, MemDiskValue, MakesChange, KeptFile, kept_after, both_kept, changed, files_of, links_after, link_changed, answers_after, answers_changed, with_call, bytes_each, calls_of}
 use Rattle.outside.specs.MemMoments.{WasAt, files_at}
 use Rattle.outside.specs.MemLaws.{was_now}
 use Rattle.outside.proofs.MemSound.{kept_after-push, links_after-push}
-use Rattle.outside.specs.MemHost.{MemHostValue, Readings, links_of, IsWired, OnDisk, MakesDial, MakesSend, MakesAnswer, Replies}
+use Rattle.outside.specs.MemHost.{MemHostValue, Readings, links_of, AreLinksWired, OnDisk, MakesDial, MakesSend, MakesAnswer, RepliesOnLink}
 use Rattle.outside.specs.LinksTold.{sent_by, links_told}
 use Rattle.outside.specs.MemLaws.{each_told, each_heard}
 use Rattle.outside.specs.HostTold.{host_told}
@@ -36,7 +36,7 @@ on_err (Err _) e p = p
 -- a call that makes no link, sends nothing and hears nothing
 abbrev pub LeavesLinks : Option Change → Type 0
 LeavesLinks None = Unit {0}
-LeavesLinks (Some c) = ((links : List Link) → link_changed links c ≡ links) × ((heard : List (List Answered)) → answers_changed heard c ≡ heard)
+LeavesLinks (Some c) = ((links : List ToldLink) → link_changed links c ≡ links) × ((heard : List (List Answered)) → answers_changed heard c ≡ heard)
 
 pub answers_after-push : (heard : List (List Answered)) (calls : List Change) (c : Change) → answers_after heard (calls ++ c ∷ []) ≡ answers_changed (answers_after heard calls) c
 answers_after-push heard [] c = refl
@@ -51,7 +51,7 @@ answers_kept calls calls' None leaves e = ap (answers_after []) (e ∙ append-ni
 answers_kept calls calls' (Some c) leaves e = ap (answers_after []) e ∙ answers_after-push [] calls c ∙ leaves.1 (answers_after [] calls)
 
 -- what a call of the disk added to the list of calls
-made_more : {T E : Type 0} (fine failed : Option Change) (result : Result T E) (old new : MemDiskValue) → LeavesLinks fine → LeavesLinks failed → Makes fine failed result old new
+made_more : {T E : Type 0} (fine failed : Option Change) (result : Result T E) (old new : MemDiskValue) → LeavesLinks fine → LeavesLinks failed → MakesChange fine failed result old new
     → (more : Option Change) × LeavesLinks more × (new.calls ≡ old.calls ++ option_to_list more)
 made_more fine failed (Ok _) old new fine_leaves failed_leaves makes = (fine, fine_leaves, makes.outcome.calls)
 made_more fine failed (Err _) old new fine_leaves failed_leaves makes =
@@ -82,7 +82,7 @@ host_makes fine failed result old new fine_leaves failed_leaves on =
     (each_heard new.disk.calls _)
 
 -- the same of a host as it stands when its disk was called
-pub host_call : {T E : Type 0} (fine failed : Option Change) (result : Result T E) (v old : MemHostValue) (disk : MemDiskValue) → v ≡ old → LeavesLinks fine → LeavesLinks failed → Makes fine failed result v.disk disk
+pub host_call : {T E : Type 0} (fine failed : Option Change) (result : Result T E) (v old : MemHostValue) (disk : MemDiskValue) → v ≡ old → LeavesLinks fine → LeavesLinks failed → MakesChange fine failed result v.disk disk
     → DiskCall (host_told old) (host_told (record v { disk = disk }))
 host_call fine failed result v old disk same fine_leaves failed_leaves makes =
     subst (λ (h : MemHostValue). DiskCall (host_told h) (host_told (record v { disk = disk }))) same
@@ -90,11 +90,11 @@ host_call fine failed result v old disk same fine_leaves failed_leaves makes =
 
 -- ---- the bytes sent, as they are kept
 
-pub wired_on : (old new : MemDiskValue) (bytes : List (List ℕ)) (scripts : List (List Planned)) → links_of new ≡ links_of old → IsWired old bytes scripts → IsWired new bytes scripts
-wired_on old new bytes scripts same w = record { sent_is = w.sent_is ∙ ap (map (λ (l : Link). l.sent)) (sym same); few = w.few; scripted = w.scripted }
+pub wired_on : (old new : MemDiskValue) (bytes : List (List ℕ)) (scripts : List (List Planned)) → links_of new ≡ links_of old → AreLinksWired old bytes scripts → AreLinksWired new bytes scripts
+wired_on old new bytes scripts same w = record { sent_is = w.sent_is ∙ ap (map (λ (l : ToldLink). l.sent)) (sym same); few = w.few; scripted = w.scripted }
 
 pub wired_makes : {T E : Type 0} (fine failed : Option Change) (result : Result T E) (old new : MemDiskValue) (bytes : List (List ℕ)) (scripts : List (List Planned))
-    → LeavesLinks fine → LeavesLinks failed → Makes fine failed result old new → IsWired old bytes scripts → IsWired new bytes scripts
+    → LeavesLinks fine → LeavesLinks failed → MakesChange fine failed result old new → AreLinksWired old bytes scripts → AreLinksWired new bytes scripts
 wired_makes fine failed result old new bytes scripts fine_leaves failed_leaves makes w =
     let more = made_more fine failed result old new fine_leaves failed_leaves makes in
     wired_on old new bytes scripts (links_kept old.calls new.calls more.0 more.1 more.2) w
@@ -103,9 +103,9 @@ wired_makes fine failed result old new bytes scripts fine_leaves failed_leaves m
 pub no_links_yet : (old new : MemDiskValue) → new ≡ with_call hosted old → links_of new ≡ []
 no_links_yet old new e = ap links_of e ∙ links_after-push [] old.calls hosted
 
-pub wired_fresh : (old new : MemDiskValue) (bytes : List (List ℕ)) (scripts : List (List Planned)) → new ≡ with_call hosted old → bytes ≡ [] → length scripts ≡ 8 → IsWired new bytes scripts
+pub wired_fresh : (old new : MemDiskValue) (bytes : List (List ℕ)) (scripts : List (List Planned)) → new ≡ with_call hosted old → bytes ≡ [] → length scripts ≡ 8 → AreLinksWired new bytes scripts
 wired_fresh old new bytes scripts e none eight = record {
-  sent_is = none ∙ ap (map (λ (l : Link). l.sent)) (sym (no_links_yet old new e));
+  sent_is = none ∙ ap (map (λ (l : ToldLink). l.sent)) (sym (no_links_yet old new e));
   few = let long = ap length none in omega (arith, long);
   scripted = eight;
 }
@@ -115,31 +115,31 @@ dialled_is : (old new : MemDiskValue) (spec : List ℕ) → new ≡ with_call (d
 dialled_is old new spec e = ap links_of e ∙ links_after-push [] old.calls (dialled spec)
 
 pub wired_dialled : (old new : MemDiskValue) (spec : List ℕ) (bytes bytes' : List (List ℕ)) (scripts : List (List Planned)) → new ≡ with_call (dialled spec) old → bytes' ≡ bytes ++ [] ∷ []
-    → length (links_of old) < 8 → IsWired old bytes scripts → IsWired new bytes' scripts
+    → length (links_of old) < 8 → AreLinksWired old bytes scripts → AreLinksWired new bytes' scripts
 wired_dialled old new spec bytes bytes' scripts e more room w =
-    let sent_of_links : List Link → List (List ℕ) = map (λ l. l.sent) in
-    let as_many : length bytes ≡ length (links_of old) = ap length w.sent_is ∙ length-map (links_of old) (λ (l : Link). l.sent) in
+    let sent_of_links : List ToldLink → List (List ℕ) = map (λ l. l.sent) in
+    let as_many : length bytes ≡ length (links_of old) = ap length w.sent_is ∙ length-map (links_of old) (λ (l : ToldLink). l.sent) in
     record {
       sent_is =
           more ∙ ap (λ l. l ++ [] ∷ []) w.sent_is
-          ∙ sym (map-append (λ (l : Link). l.sent) (links_of old) (record { spec = spec; sent = [] } ∷ []))
+          ∙ sym (map-append (λ (l : ToldLink). l.sent) (links_of old) (record { spec = spec; sent = [] } ∷ []))
           ∙ ap sent_of_links (sym (dialled_is old new spec e));
       few = let long = ap length more in omega (arith, length-append bytes ([] ∷ []), room, as_many, long);
       scripted = w.scripted;
     }
 
 -- bytes sent
-sent_more : (link : ℕ) (bytes : List ℕ) (links : List Link) → map (λ (l : Link). l.sent) (with_sent link bytes links) ≡ set (map (λ (l : Link). l.sent) links) link (get_or (map (λ (l : Link). l.sent) links) link [] ++ bytes)
+sent_more : (link : ℕ) (bytes : List ℕ) (links : List ToldLink) → map (λ (l : ToldLink). l.sent) (with_sent link bytes links) ≡ set (map (λ (l : ToldLink). l.sent) links) link (get_or (map (λ (l : ToldLink). l.sent) links) link [] ++ bytes)
 sent_more link bytes [] = refl
 sent_more zero bytes (l ∷ links) = refl
 sent_more (suc link) bytes (l ∷ links) = ap (λ t. l.sent ∷ t) (sent_more link bytes links)
 
 pub wired_sent : (old new : MemDiskValue) (link : ℕ) (bytes : List ℕ) (vectors : List (Vec ℕ Global)) (v v' : Vec ℕ Global) (scripts : List (List Planned))
     → new ≡ with_call (sent link bytes) old → v ≡ get_or vectors link v → v'.items ≡ v.items ++ bytes → link < length (links_of old)
-    → IsWired old (bytes_each vectors) scripts → IsWired new (bytes_each (set vectors link v')) scripts
+    → AreLinksWired old (bytes_each vectors) scripts → AreLinksWired new (bytes_each (set vectors link v')) scripts
 wired_sent old new link bytes vectors v v' scripts e is_there more within w =
     let items : Vec ℕ Global → List ℕ = λ x. x.items in
-    let of : Link → List ℕ = λ l. l.sent in
+    let of : ToldLink → List ℕ = λ l. l.sent in
     let long : length vectors ≡ length (links_of old) = sym (length-map vectors items) ∙ ap length w.sent_is ∙ length-map (links_of old) of in
     let there : link < length vectors = omega (arith, within, long) in
     let here : v.items ≡ get_or (bytes_each vectors) link [] = ap items is_there ∙ sym (get_or-map items vectors link v [] there) in
@@ -156,22 +156,22 @@ wired_sent old new link bytes vectors v v' scripts e is_there more within w =
 
 -- nothing sent
 pub wired_unsent : (old new : MemDiskValue) (link : ℕ) (vectors : List (Vec ℕ Global)) (v v' : Vec ℕ Global) (scripts : List (List Planned)) → new ≡ old → v ≡ get_or vectors link v → v'.items ≡ v.items
-    → link < length (links_of old) → IsWired old (bytes_each vectors) scripts → IsWired new (bytes_each (set vectors link v')) scripts
+    → link < length (links_of old) → AreLinksWired old (bytes_each vectors) scripts → AreLinksWired new (bytes_each (set vectors link v')) scripts
 wired_unsent old new link vectors v v' scripts e is_there same within w =
     let items : Vec ℕ Global → List ℕ = λ x. x.items in
     let back : bytes_each (set vectors link v') ≡ bytes_each vectors =
     map-set items vectors link v' ∙ ap (set (bytes_each vectors) link) same ∙ sym (map-set items vectors link v)
     ∙ ap (λ x. bytes_each (set vectors link x)) is_there
     ∙ ap bytes_each (set-get_or vectors link v) in
-    subst (λ (d : MemDiskValue). IsWired d (bytes_each (set vectors link v')) scripts) (sym e)
-    (subst (λ (b : List (List ℕ)). IsWired old b scripts) (sym back) w)
+    subst (λ (d : MemDiskValue). AreLinksWired d (bytes_each (set vectors link v')) scripts) (sym e)
+    (subst (λ (b : List (List ℕ)). AreLinksWired old b scripts) (sym back) w)
 
 -- an answer heard, and the scripts left
 pub wired_answered : (old new : MemDiskValue) (link : ℕ) (a : Answered) (bytes : List (List ℕ)) (scripts scripts' : List (List Planned)) → new ≡ with_call (answered link a) old
-    → length scripts' ≡ length scripts → IsWired old bytes scripts → IsWired new bytes scripts'
+    → length scripts' ≡ length scripts → AreLinksWired old bytes scripts → AreLinksWired new bytes scripts'
 wired_answered old new link a bytes scripts scripts' e long w =
     let same : links_of new ≡ links_of old = ap links_of e ∙ links_after-push [] old.calls (answered link a) in
-    record { sent_is = w.sent_is ∙ ap (map (λ (l : Link). l.sent)) (sym same); few = w.few; scripted = long ∙ w.scripted }
+    record { sent_is = w.sent_is ∙ ap (map (λ (l : ToldLink). l.sent)) (sym same); few = w.few; scripted = long ∙ w.scripted }
 
 -- ---- time and files of a call on the links
 
@@ -225,7 +225,7 @@ send_moment : (old new : MemHostValue) (link n : ℕ) (bytes : List ℕ) → Aft
     → WasAt sent_by new.disk.start new.disk.calls (length new.disk.calls) m → SendsPart (host_told old) link bytes m
 send_moment old new link n bytes after m w =
     let now = was_now sent_by new.disk.start new.disk.calls m w in
-    let of : Link → List ℕ = λ l. l.sent in
+    let of : ToldLink → List ℕ = λ l. l.sent in
     record {
       image = λ two told.
           let same : files_at old.disk.start old.disk.calls ≡ two = cc in
@@ -285,7 +285,7 @@ dials_call spec (Err _) old new makes =
       | inr none ↦ quiet_call None old new tt (after_none old.disk new.disk none.disk)
     ]
 
-replies_call : (link room : ℕ) (reply : Reply) (old new : MemHostValue) → Replies link room reply old new → QuietCall (host_told old) (host_told new)
+replies_call : (link room : ℕ) (reply : Reply) (old new : MemHostValue) → RepliesOnLink link room reply old new → QuietCall (host_told old) (host_told new)
 replies_call link room reply old new r = quiet_call (Some (answered link _)) old new (λ _. refl) (after_one (answered link _) old.disk new.disk r.disk)
 
 pub answers_call : (link : ℕ) (answer : Heard) (buf : List ℕ) (old new : MemHostValue) → MakesAnswer link answer buf old new → QuietCall (host_told old) (host_told new)

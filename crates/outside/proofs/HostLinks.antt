@@ -8,11 +8,11 @@ use Rattle.outside.specs.declared.failed.Failed.{Failed}
 use Rattle.outside.specs.declared.host.Heard.{Heard}
 use Rattle.outside.specs.declared.host.Heard.TheVariants as heard
 use Rattle.outside.specs.Faults.{one_more}
-use Rattle.outside.specs.Links.{Links, Link, Reply, got, idle, ended, Answered, nothing_heard, hear_reply, hear_failure, changed_at, with_sent}
-use Rattle.outside.specs.Host.{LinkCause, Dials, MakesLink, Hears, hear, Sends, ReadsClock, Grows}
+use Rattle.outside.specs.Links.{Links, ToldLink, Reply, got, idle, ended, Answered, nothing_heard, hear_reply, hear_failure, changed_at, with_sent}
+use Rattle.outside.specs.Host.{LinkCause, DialsLink, MakesLink, HearsAnswer, hear, SendsOnLink, ReadsClock, GrowsReadings}
 use Rattle.outside.specs.MemDisk.{dialled, sent, answered, MemDiskValue, answers_after, with_call}
 use Rattle.outside.proofs.MemSound.{links_after-push}
-use Rattle.outside.specs.MemHost.{MemHostValue, Readings, last_of, first_readings, readings_told, next_reading, upcoming_of, plans_of, links_of, Raises, BeginsAgain, MakesDial, MakesAnswer, Replies, MakesSend, MakesReading}
+use Rattle.outside.specs.MemHost.{MemHostValue, Readings, last_of, first_readings, readings_told, next_reading, upcoming_of, plans_of, links_of, RaisesCount, BeginsAgain, MakesDial, MakesAnswer, RepliesOnLink, MakesSend, MakesReading}
 use Rattle.outside.specs.LinksTold.{heard_on, links_told}
 use Rattle.outside.specs.MemLaws.{as_many, length-changed_at}
 use Rattle.outside.specs.Planned.{AnswersAsPlanned}
@@ -21,7 +21,7 @@ use Rattle.outside.proofs.ClockSteps.{if_true, if_false}
 
 -- ---- counts
 
-pub raised_cause : {T E : Type 0} (link : ℕ) (old new : List ℕ) (e : E) → Raises link old new → LinkCause {T = T} link (λ i. slice_index old i) (λ i. slice_index new i) (Err e)
+pub raised_cause : {T E : Type 0} (link : ℕ) (old new : List ℕ) (e : E) → RaisesCount link old new → LinkCause {T = T} link (λ i. slice_index old i) (λ i. slice_index new i) (Err e)
 raised_cause link old new e r = record { later = r.later; failed = omega (arith, r.raised); others = r.others }
 
 pub same_cause : {T E : Type 0} (link : ℕ) (old new : List ℕ) (t : T) → new ≡ old → LinkCause {E = E} link (λ i. slice_index old i) (λ i. slice_index new i) (Ok t)
@@ -101,7 +101,7 @@ dial_made spec link old new number e silences =
           ∙ ap Some (heard_more (answers_after [] calls) F G (ap G as_many_is ∙ silences.begun) (λ i other. silences.others i (λ same. other (same ∙ sym as_many_is)))),
     )
 
-pub dials_links : (spec : List ℕ) (result : Result ℕ Failed) (old new : MemHostValue) → MakesDial spec result old new → Dials spec result (links_in old) (links_in new)
+pub dials_links : (spec : List ℕ) (result : Result ℕ Failed) (old new : MemHostValue) → MakesDial spec result old new → DialsLink spec result (links_in old) (links_in new)
 dials_links spec (Ok link) old new makes = record {
   made = dial_made spec link old new makes.outcome.number makes.outcome.disk makes.outcome.silences;
   same_readings = ap (λ (h : MemHostValue). readings_told h.clock) makes.rest;
@@ -125,7 +125,7 @@ dials_links spec (Err e) old new makes =
 
 -- ---- an answer
 
-replied : (link room : ℕ) (reply : Reply) (old new : MemHostValue) → Replies link room reply old new
+replied : (link room : ℕ) (reply : Reply) (old new : MemHostValue) → RepliesOnLink link room reply old new
     → Some (heard_on (answers_after [] new.disk.calls) (λ i. slice_index new.silences i)) ≡ option_map (changed_at link (hear_reply room reply)) (Some (heard_on (answers_after [] old.disk.calls) (λ i. slice_index old.silences i)))
 replied link room reply old new r =
     let calls = old.disk.calls in
@@ -136,13 +136,13 @@ replied link room reply old new r =
     ∙ ap (λ h. Some (heard_on h G)) (answers_after-push [] calls (answered link a))
     ∙ ap Some (heard_reply link room reply (answers_after [] calls) F G r.silences.begun r.silences.others)
 
-replied_told : (link room : ℕ) (reply : Reply) (old new : MemHostValue) → Replies link room reply old new → links_of new.disk ≡ links_of old.disk
+replied_told : (link room : ℕ) (reply : Reply) (old new : MemHostValue) → RepliesOnLink link room reply old new → links_of new.disk ≡ links_of old.disk
 replied_told link room reply old new r = ap links_of r.disk ∙ links_after-push [] old.disk.calls (answered link _)
 
 -- what an answer changes, where a function gives what was heard
 hears_reply : (link : ℕ) (answer : Heard) (buf : List ℕ) (reply : Reply) (old new : MemHostValue) → new.clock ≡ old.clock
     → AnswersAsPlanned link answer buf (plans_of old.scripts) (plans_of new.scripts)
-    → changed_at link (hear answer buf) ≡ changed_at link (hear_reply (length buf) reply) → Replies link (length buf) reply old new → Hears link answer buf (links_in old) (links_in new)
+    → changed_at link (hear answer buf) ≡ changed_at link (hear_reply (length buf) reply) → RepliesOnLink link (length buf) reply old new → HearsAnswer link answer buf (links_in old) (links_in new)
 hears_reply link answer buf reply old new clock planned same r = record {
   same_dialled = ap length (replied_told link (length buf) reply old new r);
   same_told = ap Some (replied_told link (length buf) reply old new r);
@@ -154,7 +154,7 @@ hears_reply link answer buf reply old new clock planned same r = record {
   others = λ i _. ap (λ l. slice_index l i) r.faults;
 }
 
-pub answers_links : (link : ℕ) (answer : Heard) (buf : List ℕ) (old new : MemHostValue) → MakesAnswer link answer buf old new → Hears link answer buf (links_in old) (links_in new)
+pub answers_links : (link : ℕ) (answer : Heard) (buf : List ℕ) (old new : MemHostValue) → MakesAnswer link answer buf old new → HearsAnswer link answer buf (links_in old) (links_in new)
 answers_links link (heard.Got n) buf old new makes = hears_reply link (heard.Got n) buf (got (take n buf)) old new (ap (λ (h : MemHostValue). h.clock) makes.rest) makes.outcome.plan refl makes.outcome
 answers_links link heard.Idle buf old new makes = hears_reply link heard.Idle buf idle old new (ap (λ (h : MemHostValue). h.clock) makes.rest) makes.outcome.plan refl makes.outcome
 answers_links link heard.End buf old new makes = hears_reply link heard.End buf ended old new (ap (λ (h : MemHostValue). h.clock) makes.rest) makes.outcome.plan refl makes.outcome
@@ -186,7 +186,7 @@ sent_heard old new link bytes e same =
     ∙ ap (λ h. Some (heard_on h (λ i. slice_index new.silences i))) (answers_after-push [] old.disk.calls (sent link bytes))
     ∙ ap (λ l. Some (heard_on (answers_after [] old.disk.calls) (λ i. slice_index l i))) same
 
-length-changed : (link : ℕ) (bytes : List ℕ) (links : List Link) → length (with_sent link bytes links) ≡ length links
+length-changed : (link : ℕ) (bytes : List ℕ) (links : List ToldLink) → length (with_sent link bytes links) ≡ length links
 length-changed link bytes links = length-changed_at link _ links
 
 -- what a send leaves, where these bytes went out
@@ -202,7 +202,7 @@ went_out old new link bytes e same = record {
   heard = sent_heard old new link bytes e same;
 }
 
-nothing_sent : (link : ℕ) (links : List Link) → with_sent link [] links ≡ links
+nothing_sent : (link : ℕ) (links : List ToldLink) → with_sent link [] links ≡ links
 nothing_sent link [] = refl
 nothing_sent zero (l ∷ links) = ap (λ b. record l { sent = b } ∷ links) (append-nil l.sent)
 nothing_sent (suc link) (l ∷ links) = ap (λ ls. l ∷ ls) (nothing_sent link links)
@@ -214,7 +214,7 @@ none_out old new link e same = record {
   heard = heard_on_same old.disk new.disk old.silences new.silences e same;
 }
 
-pub sends_links : (link : ℕ) (bytes : List ℕ) (result : Result (Unit {0}) Failed) (old new : MemHostValue) → MakesSend link bytes result old new → Sends link bytes result (links_in old) (links_in new)
+pub sends_links : (link : ℕ) (bytes : List ℕ) (result : Result (Unit {0}) Failed) (old new : MemHostValue) → MakesSend link bytes result old new → SendsOnLink link bytes result (links_in old) (links_in new)
 sends_links link bytes (Ok u) old new makes =
     let silent = ap (λ (h : MemHostValue). h.silences) makes.rest in
     let out = went_out old new link bytes makes.outcome.disk silent in
@@ -269,15 +269,15 @@ one_reading_more given made =
           ∙ ap (λ r. first_readings made given ++ r ∷ []) (sym reading)
     ] refl
 
-told_more : (clock : Readings) (made' : ℕ) → made' ≡ one_more clock.made → Grows (next_reading clock) (readings_told clock) (readings_told (record clock { made = made' }))
+told_more : (clock : Readings) (made' : ℕ) → made' ≡ one_more clock.made → GrowsReadings (next_reading clock) (readings_told clock) (readings_told (record clock { made = made' }))
 told_more clock made' e =
     let most = 2 ^ 64 - 1 in
-    elim (nat_lt made' most) as (λ b. nat_lt made' most ≡ b → Grows (next_reading clock) (readings_told clock) (if b then Some (first_readings made' clock.given) else None)) [
+    elim (nat_lt made' most) as (λ b. nat_lt made' most ≡ b → GrowsReadings (next_reading clock) (readings_told clock) (if b then Some (first_readings made' clock.given) else None)) [
       | true ↦ λ test.
           let below : made' < most = ltb-true made' most test in
           let before : nat_lt clock.made most ≡ true = lt-ltb clock.made most (omega (arith, e, below)) in
           let next : made' ≡ clock.made + 1 = omega (arith, e, below) in
-          subst (λ b. Grows (next_reading clock) (if b then Some (first_readings clock.made clock.given) else None) (Some (first_readings made' clock.given))) (sym before)
+          subst (λ b. GrowsReadings (next_reading clock) (if b then Some (first_readings clock.made clock.given) else None) (Some (first_readings made' clock.given))) (sym before)
           (ap (λ n. first_readings n clock.given) next ∙ one_reading_more clock.given clock.made)
       | false ↦ λ test. tt
     ] refl
@@ -292,8 +292,8 @@ reading_links reading old new makes =
       same_told = told_same old.disk new.disk same;
       same_heard = heard_on_same old.disk new.disk old.silences new.silences same (ap (λ (h : MemHostValue). h.silences) makes.rest);
       readings =
-          subst (λ (r : ℕ). Grows r (readings_told old.clock) (readings_told new.clock)) (sym makes.is_next)
-          (subst (λ (k : Readings). Grows (next_reading old.clock) (readings_told old.clock) (readings_told k)) (sym clock) (told_more old.clock (one_more old.clock.made) refl));
+          subst (λ (r : ℕ). GrowsReadings r (readings_told old.clock) (readings_told new.clock)) (sym makes.is_next)
+          (subst (λ (k : Readings). GrowsReadings (next_reading old.clock) (readings_told old.clock) (readings_told k)) (sym clock) (told_more old.clock (one_more old.clock.made) refl));
       same_planned = ap (λ (h : MemHostValue). Some (plans_of h.scripts)) makes.rest;
       upcoming = makes.upcoming;
     }

@@ -4,11 +4,11 @@ use Rattle.std.specs.Option.{option_to_list}
 use Rattle.outside.specs.declared.failed.Failed.{Failed}
 use Rattle.outside.specs.Faults.{HasCause}
 use Rattle.outside.specs.Files.{Two, File, file_of, with_file, settled}
-use Rattle.outside.specs.Disk.{Writes, Cuts, Syncs, IsTorn, after_write, after_cut, overwritten}
-use Rattle.outside.specs.Links.{Links, Link, HeardOn, sent_of, no_links}
+use Rattle.outside.specs.Disk.{WritesFile, CutsFile, SyncsFile, IsTorn, after_write, after_cut, overwritten}
+use Rattle.outside.specs.Links.{Links, ToldLink, HeardOn, sent_of, no_links}
 use Rattle.outside.specs.Outside.{Moment, DiskCall}
 use Rattle.outside.specs.Calls.{OneCall}
-use Rattle.outside.specs.MemDisk.{Change, wrote, wrote_not, cut, cut_not, synced, KeptFile, changed, kept_after, both_kept, files_of, bytes_of, MemDiskValue, disk_files, Makes, calls_of}
+use Rattle.outside.specs.MemDisk.{Change, wrote, wrote_not, cut, cut_not, synced, KeptFile, changed, kept_after, both_kept, files_of, bytes_of, MemDiskValue, disk_files, MakesChange, calls_of}
 use Rattle.outside.specs.MemMoments.{WasAt}
 use Rattle.outside.specs.MemLaws.{no_links_told, no_links_heard}
 use Rattle.outside.proofs.MemSound.{was_before, was_kept, kept_after-push}
@@ -66,14 +66,14 @@ passes sent_by start start' calls calls' more same_start one_more_call =
     subst (λ (s : Two (List ℕ)). Passes sent_by start s calls calls') (sym same_start) (subst (λ (l : List Change). Passes sent_by start start calls l) (sym one_more_call) base)
 
 -- the change that a call made, if any
-pub change_made : {T E : Type 0} (fine failed : Option Change) (result : Result T E) (old new : MemDiskValue) → Makes fine failed result old new
+pub change_made : {T E : Type 0} (fine failed : Option Change) (result : Result T E) (old new : MemDiskValue) → MakesChange fine failed result old new
     → (more : Option Change) × (new.calls ≡ old.calls ++ option_to_list more)
 change_made fine failed (Ok _) old new makes = (fine, makes.outcome.calls)
 change_made fine failed (Err _) old new makes =
     elim makes.outcome.outcome [ inl listed ↦ (failed, listed.calls) | inr untraced ↦ (None, untraced.calls ∙ sym (append-nil old.calls)) ]
 
 -- the calls go on with one more
-one_call : {T E : Type 0} (fine failed : Option Change) (result : Result T E) (old new : MemDiskValue) → Makes fine failed result old new → OneCall (calls_of old) (calls_of new)
+one_call : {T E : Type 0} (fine failed : Option Change) (result : Result T E) (old new : MemDiskValue) → MakesChange fine failed result old new → OneCall (calls_of old) (calls_of new)
 one_call fine failed result old new makes =
     let more = change_made fine failed result old new makes in
     record {
@@ -88,10 +88,10 @@ one_call fine failed result old new makes =
       made = makes.counts.made;
     }
 
-pub makes_told : {T E : Type 0} (sent_by : List Change → List (List ℕ)) (fine failed : Option Change) (result : Result T E) (old new : MemDiskValue) → Makes fine failed result old new
+pub makes_told : {T E : Type 0} (sent_by : List Change → List (List ℕ)) (fine failed : Option Change) (result : Result T E) (old new : MemDiskValue) → MakesChange fine failed result old new
     → (links links' : Links) → links' ≡ links
-    → (s : sent_by old.calls ≡ sent_of links.told) (t : (ls : List Link) → links.told ≡ Some ls → length ls ≡ links.dialled) (h : (hs : List HeardOn) → links.heard ≡ Some hs → length hs ≡ links.dialled)
-    → (s' : sent_by new.calls ≡ sent_of links'.told) (t' : (ls : List Link) → links'.told ≡ Some ls → length ls ≡ links'.dialled) (h' : (hs : List HeardOn) → links'.heard ≡ Some hs → length hs ≡ links'.dialled)
+    → (s : sent_by old.calls ≡ sent_of links.told) (t : (ls : List ToldLink) → links.told ≡ Some ls → length ls ≡ links.dialled) (h : (hs : List HeardOn) → links.heard ≡ Some hs → length hs ≡ links.dialled)
+    → (s' : sent_by new.calls ≡ sent_of links'.told) (t' : (ls : List ToldLink) → links'.told ≡ Some ls → length ls ≡ links'.dialled) (h' : (hs : List HeardOn) → links'.heard ≡ Some hs → length hs ≡ links'.dialled)
     → DiskCall (mem_told sent_by (calls_of old) links old.faults s t h) (mem_told sent_by (calls_of new) links' new.faults s' t' h')
 makes_told sent_by fine failed result old new makes links links' same s t h s' t' h' =
     let more = change_made fine failed result old new makes in
@@ -103,11 +103,11 @@ makes_told sent_by fine failed result old new makes links links' same s t h s' t
       time = record { later = pass.later; nothing_else = λ u m _ w. pass.nothing_else u m w; keeps = λ u m _ w. pass.keeps u m w };
     }
 
-pub makes_call : {T E : Type 0} (fine failed : Option Change) (result : Result T E) (old new : MemDiskValue) → Makes fine failed result old new → DiskCall (disk_told old) (disk_told new)
+pub makes_call : {T E : Type 0} (fine failed : Option Change) (result : Result T E) (old new : MemDiskValue) → MakesChange fine failed result old new → DiskCall (disk_told old) (disk_told new)
 makes_call fine failed result old new makes =
     makes_told (λ _. []) fine failed result old new makes no_links no_links refl refl no_links_told no_links_heard refl no_links_told no_links_heard
 
-pub makes_cause : {T E : Type 0} (fine failed : Option Change) (result : Result T E) (old new : MemDiskValue) → Makes fine failed result old new → HasCause old.faults new.faults result
+pub makes_cause : {T E : Type 0} (fine failed : Option Change) (result : Result T E) (old new : MemDiskValue) → MakesChange fine failed result old new → HasCause old.faults new.faults result
 makes_cause fine failed (Ok _) old new makes = record { later = omega (arith, makes.outcome.faults); failed = tt }
 makes_cause fine failed (Err _) old new makes = record { later = makes.outcome.later; failed = omega (arith, makes.outcome.faults) }
 
@@ -127,7 +127,7 @@ torn_same : (at n : ℕ) (bytes : List ℕ) → IsTorn at n bytes bytes
 torn_same at n bytes = record { before = refl; behind = refl; no_shorter = omega arith; no_longer = omega arith }
 
 -- a call that makes no change keeps the files
-pub looks_same : {T E : Type 0} (result : Result T E) (old new : MemDiskValue) → Makes None None result old new → files_of (disk_files new) ≡ files_of (disk_files old)
+pub looks_same : {T E : Type 0} (result : Result T E) (old new : MemDiskValue) → MakesChange None None result old new → files_of (disk_files new) ≡ files_of (disk_files old)
 looks_same (Ok _) old new makes =
     ap files_of (files_same old.start new.start old.calls new.calls makes.counts.start (makes.outcome.calls ∙ append-nil old.calls))
 looks_same (Err _) old new makes =
@@ -146,8 +146,8 @@ begins two file at within = let same = ap length (bytes_file two file) in omega 
 
 pub makes_write : (file at : ℕ) (bytes : List ℕ) (result : Result (Unit {0}) Failed) (old new : MemDiskValue)
     → at ≤ length (file_of (bytes_of (disk_files old)) file)
-    → Makes (Some (wrote file at bytes)) (Some (wrote_not file at bytes)) result old new
-    → Writes file at bytes result (files_of (disk_files old)) (files_of (disk_files new))
+    → MakesChange (Some (wrote file at bytes)) (Some (wrote_not file at bytes)) result old new
+    → WritesFile file at bytes result (files_of (disk_files old)) (files_of (disk_files new))
 makes_write file at bytes (Ok _) old new within makes =
     let two = disk_files old in
     let k = file_of two file in
@@ -171,8 +171,8 @@ makes_write file at bytes (Err _) old new within makes =
     ]
 
 pub makes_cut : (file n : ℕ) (result : Result (Unit {0}) Failed) (old new : MemDiskValue)
-    → Makes (Some (cut file n)) (Some (cut_not file n)) result old new
-    → Cuts file n result (files_of (disk_files old)) (files_of (disk_files new))
+    → MakesChange (Some (cut file n)) (Some (cut_not file n)) result old new
+    → CutsFile file n result (files_of (disk_files old)) (files_of (disk_files new))
 makes_cut file n (Ok _) old new makes =
     let two = disk_files old in
     one_file two (disk_files new) file _ _ (files_more old.start new.start old.calls new.calls (cut file n) makes.counts.start makes.outcome.calls)
@@ -187,8 +187,8 @@ makes_cut file n (Err _) old new makes =
     ]
 
 pub makes_sync : (file : ℕ) (result : Result (Unit {0}) Failed) (old new : MemDiskValue)
-    → Makes (Some (synced file)) None result old new
-    → Syncs file result (files_of (disk_files old)) (files_of (disk_files new))
+    → MakesChange (Some (synced file)) None result old new
+    → SyncsFile file result (files_of (disk_files old)) (files_of (disk_files new))
 makes_sync file (Ok _) old new makes =
     let two = disk_files old in
     one_file two (disk_files new) file _ _ (files_more old.start new.start old.calls new.calls (synced file) makes.counts.start makes.outcome.calls)

@@ -5,7 +5,7 @@ use Rattle.std.proofs.lemmas.List.{take-append-le}
 use Rattle.std.proofs.lemmas.Bool.{cases_lt}
 use Rattle.outside.specs.Files.{Two, IsFileImage, IsImage, file_of, with_file}
 use Rattle.outside.specs.Disk.{after_cut, overwritten}
-use Rattle.outside.specs.Links.{Link}
+use Rattle.outside.specs.Links.{ToldLink}
 use Rattle.outside.specs.Outside.{Moment}
 use Rattle.outside.specs.MemDisk.{Change, wrote, wrote_not, cut, cut_not, synced, dialled, sent}
 use Rattle.outside.specs.MemDisk.{answered, hosted, KeptFile, kept, changed, kept_after, both_kept}
@@ -123,7 +123,7 @@ pub kept_after-push : (two : Two KeptFile) (calls : List Change) (c : Change)
 kept_after-push two [] c = refl
 kept_after-push two (d ∷ calls) c = kept_after-push (changed two d) calls c
 
-pub links_after-push : (links : List Link) (calls : List Change) (c : Change)
+pub links_after-push : (links : List ToldLink) (calls : List Change) (c : Change)
     → links_after links (calls ++ c ∷ []) ≡ link_changed (links_after links calls) c
 links_after-push links [] c = refl
 links_after-push links (d ∷ calls) c = links_after-push (link_changed links d) calls c

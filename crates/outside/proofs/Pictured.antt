@@ -9,7 +9,7 @@ use Rattle.outside.specs.Files.{Two, File, IsFileImage, IsImage, is_written}
 use Rattle.outside.proofs.Images.{image_synced}
 use Rattle.outside.specs.MemDisk.{Change, wrote, wrote_not, cut, cut_not, synced, dialled, sent, answered, hosted, KeptFile, kept, changed, kept_after, both_kept, files_of, disk_files, MemDiskValue, change_of, fresh}
 use Rattle.outside.proofs.MemSound.{IsSound, start_sound}
-use Rattle.outside.specs.MemImage.{one_changed, one_after, PickOf, IsFilled, left_at, Pictures}
+use Rattle.outside.specs.MemImage.{one_changed, one_after, PickOf, IsFilled, left_at, PicturesDisk}
 
 chosen : {A : Type 0} (a b : Bool) (x y : A) → a ≡ true → b ≡ false → (if a && not b then x else y) ≡ x
 chosen true false x y p q = refl
@@ -97,7 +97,7 @@ derefed choice file s s' l l' a e f p =
 pub pictured : {E : Type 0} (choice : Pick) (v disk : MemDiskValue) (a b : List ℕ) (r : Result MemDiskValue E) → v ≡ disk
     → PickOf choice (one_after 0 (kept v.start.first) v.calls) a → PickOf choice (one_after 1 (kept v.start.second) v.calls) b
     → IfOk r (λ d. d ≡ fresh (record { first = a; second = b }))
-    → IfOk r (λ d. Pictures choice (disk_files disk) d) × IfOk r (λ d. IsImage (files_of (disk_files disk)) d.start)
+    → IfOk r (λ d. PicturesDisk choice (disk_files disk) d) × IfOk r (λ d. IsImage (files_of (disk_files disk)) d.start)
 pictured choice v disk a b (Ok d) same p q e =
     let picked = both_picked choice v a b p q in
     let image = both_image choice v a b picked.0 picked.1 in

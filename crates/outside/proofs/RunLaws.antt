@@ -9,13 +9,13 @@ use Rattle.outside.specs.declared.failed.Failed.{Failed}
 use Rattle.outside.specs.declared.host.Heard.{Heard}
 use Rattle.outside.specs.declared.host.Heard.TheVariants as heard
 use Rattle.outside.specs.Files.{Two, File, IsImage}
-use Rattle.outside.specs.Links.{Link, Links, Answered, HeardOn, nothing_heard, changed_at, with_sent, sent_of, Planned}
+use Rattle.outside.specs.Links.{ToldLink, Links, Answered, HeardOn, nothing_heard, changed_at, with_sent, sent_of, Planned}
 use Rattle.outside.specs.Outside.{Outside, Moment, IsNow, DiskCall, LinkCall, QuietCall, DiskRun}
-use Rattle.outside.specs.Disk.{Becomes}
+use Rattle.outside.specs.Disk.{RelatesTold}
 use Rattle.outside.proofs.CallSteps.{calls_none, calls_then, calls_call, calls_link}
 use Rattle.outside.specs.Planned.{AnswersAsPlanned, UsesReading}
-use Rattle.outside.specs.Host.{LinkCause, Dials, AsksNonce, Hears, hear, Sends, SendsPart, ReadsClock, Grows}
-use Rattle.outside.specs.Runs.{sent_at, heard_at, answers_at, reply_bytes, heard_bytes, IsFront, answered_by, ReadsOn, LinksGrow, HostRun, Told, OthersKeep, SendMoment}
+use Rattle.outside.specs.Host.{LinkCause, DialsLink, AsksNonce, HearsAnswer, hear, SendsOnLink, SendsPart, ReadsClock, GrowsReadings}
+use Rattle.outside.specs.Runs.{sent_at, heard_at, answers_at, reply_bytes, heard_bytes, IsFront, answered_by, ReadingsGoOn, LinksGrow, HostRun, TellsAll, OthersKeep, SendMoment}
 
 pub front_same : {A : Type 0} (a b : List A) → b ≡ a → IsFront a b
 front_same a b same = record { rest = []; whole = same ∙ sym (append-nil a) }
@@ -60,45 +60,45 @@ pushed_default (x ∷ xs) d zero = refl
 pushed_default (x ∷ xs) d (suc i) = pushed_default xs d i
 
 -- ---- bytes sent
-sent_same : (link : ℕ) (bytes : List ℕ) (links : List Link) → link < length links → slice_index_or (map (λ (l : Link). l.sent) (with_sent link bytes links)) link [] ≡ slice_index_or (map (λ (l : Link). l.sent) links) link [] ++ bytes
+sent_same : (link : ℕ) (bytes : List ℕ) (links : List ToldLink) → link < length links → slice_index_or (map (λ (l : ToldLink). l.sent) (with_sent link bytes links)) link [] ≡ slice_index_or (map (λ (l : ToldLink). l.sent) links) link [] ++ bytes
 sent_same link bytes [] within = absurd (omega arith)
 sent_same zero bytes (l ∷ links) within = refl
 sent_same (suc link) bytes (l ∷ links) within = sent_same link bytes links (omega arith)
 
-sent_other : (link : ℕ) (bytes : List ℕ) (links : List Link) (i : ℕ) → i ≢ link → slice_index_or (map (λ (l : Link). l.sent) (with_sent link bytes links)) i [] ≡ slice_index_or (map (λ (l : Link). l.sent) links) i []
+sent_other : (link : ℕ) (bytes : List ℕ) (links : List ToldLink) (i : ℕ) → i ≢ link → slice_index_or (map (λ (l : ToldLink). l.sent) (with_sent link bytes links)) i [] ≡ slice_index_or (map (λ (l : ToldLink). l.sent) links) i []
 sent_other link bytes [] i other = refl
 sent_other zero bytes (l ∷ links) zero other = absurd (other refl)
 sent_other zero bytes (l ∷ links) (suc i) other = refl
 sent_other (suc link) bytes (l ∷ links) zero other = refl
 sent_other (suc link) bytes (l ∷ links) (suc i) other = sent_other link bytes links i (λ same. other (ap suc same))
 
-sent_front : (link : ℕ) (bytes : List ℕ) (links : List Link) (i : ℕ) → IsFront (slice_index_or (map (λ (l : Link). l.sent) links) i []) (slice_index_or (map (λ (l : Link). l.sent) (with_sent link bytes links)) i [])
+sent_front : (link : ℕ) (bytes : List ℕ) (links : List ToldLink) (i : ℕ) → IsFront (slice_index_or (map (λ (l : ToldLink). l.sent) links) i []) (slice_index_or (map (λ (l : ToldLink). l.sent) (with_sent link bytes links)) i [])
 sent_front link bytes [] i = front_same _ _ refl
 sent_front zero bytes (l ∷ links) zero = record { rest = bytes; whole = refl }
 sent_front zero bytes (l ∷ links) (suc i) = front_same _ _ refl
 sent_front (suc link) bytes (l ∷ links) zero = front_same _ _ refl
 sent_front (suc link) bytes (l ∷ links) (suc i) = sent_front link bytes links i
 
-sent_pushed : (links : List Link) (spec : List ℕ) (i : ℕ) → slice_index_or (map (λ (l : Link). l.sent) (links ++ record { spec = spec; sent = [] } ∷ [])) i [] ≡ slice_index_or (map (λ (l : Link). l.sent) links) i []
+sent_pushed : (links : List ToldLink) (spec : List ℕ) (i : ℕ) → slice_index_or (map (λ (l : ToldLink). l.sent) (links ++ record { spec = spec; sent = [] } ∷ [])) i [] ≡ slice_index_or (map (λ (l : ToldLink). l.sent) links) i []
 sent_pushed [] spec zero = refl
 sent_pushed [] spec (suc i) = refl
 sent_pushed (l ∷ links) spec zero = refl
 sent_pushed (l ∷ links) spec (suc i) = sent_pushed links spec i
 
 -- the same where it is told or not
-pub sent_at-with_sent : (told : Option (List Link)) (links : List Link) (link : ℕ) (bytes : List ℕ) → told ≡ Some links → link < length links → sent_at (option_map (with_sent link bytes) told) link ≡ sent_at told link ++ bytes
+pub sent_at-with_sent : (told : Option (List ToldLink)) (links : List ToldLink) (link : ℕ) (bytes : List ℕ) → told ≡ Some links → link < length links → sent_at (option_map (with_sent link bytes) told) link ≡ sent_at told link ++ bytes
 sent_at-with_sent told links link bytes is_told within =
-    subst (λ (t : Option (List Link)). sent_at (option_map (with_sent link bytes) t) link ≡ sent_at t link ++ bytes) (sym is_told) (sent_same link bytes links within)
+    subst (λ (t : Option (List ToldLink)). sent_at (option_map (with_sent link bytes) t) link ≡ sent_at t link ++ bytes) (sym is_told) (sent_same link bytes links within)
 
-pub sent_at-other : (told : Option (List Link)) (link : ℕ) (bytes : List ℕ) (i : ℕ) → i ≢ link → sent_at (option_map (with_sent link bytes) told) i ≡ sent_at told i
+pub sent_at-other : (told : Option (List ToldLink)) (link : ℕ) (bytes : List ℕ) (i : ℕ) → i ≢ link → sent_at (option_map (with_sent link bytes) told) i ≡ sent_at told i
 sent_at-other None link bytes i other = refl
 sent_at-other (Some links) link bytes i other = sent_other link bytes links i other
 
-sent_at-front : (told : Option (List Link)) (link : ℕ) (bytes : List ℕ) (i : ℕ) → IsFront (sent_at told i) (sent_at (option_map (with_sent link bytes) told) i)
+sent_at-front : (told : Option (List ToldLink)) (link : ℕ) (bytes : List ℕ) (i : ℕ) → IsFront (sent_at told i) (sent_at (option_map (with_sent link bytes) told) i)
 sent_at-front None link bytes i = front_same _ _ refl
 sent_at-front (Some links) link bytes i = sent_front link bytes links i
 
-sent_at-pushed : (told : Option (List Link)) (spec : List ℕ) (i : ℕ) → sent_at (option_map (λ ls. ls ++ record { spec = spec; sent = [] } ∷ []) told) i ≡ sent_at told i
+sent_at-pushed : (told : Option (List ToldLink)) (spec : List ℕ) (i : ℕ) → sent_at (option_map (λ ls. ls ++ record { spec = spec; sent = [] } ∷ []) told) i ≡ sent_at told i
 sent_at-pushed None spec i = refl
 sent_at-pushed (Some links) spec i = sent_pushed links spec i
 
@@ -136,24 +136,24 @@ answers_at-front : (told : Option (List HeardOn)) (link : ℕ) (answer : Heard) 
 answers_at-front None link answer buf i = front_same _ _ refl
 answers_at-front (Some heard) link answer buf i = hears_front link answer buf heard i
 
-reads_same : (old new : Option (List ℕ)) → new ≡ old → ReadsOn old new
+reads_same : (old new : Option (List ℕ)) → new ≡ old → ReadingsGoOn old new
 reads_same None None same = tt
 reads_same (Some a) None same = tt
 reads_same None (Some b) same = cc
 reads_same (Some a) (Some b) same = front_same a b cc
 
-reads_then : (a b c : Option (List ℕ)) → ReadsOn a b → ReadsOn b c → ReadsOn a c
+reads_then : (a b c : Option (List ℕ)) → ReadingsGoOn a b → ReadingsGoOn b c → ReadingsGoOn a c
 reads_then a b None first second = tt
 reads_then a None (Some z) first second = absurd second
 reads_then None (Some y) (Some z) first second = absurd first
 reads_then (Some x) (Some y) (Some z) first second = front_then x y z first second
 
-reads_grown : (reading : ℕ) (old new : Option (List ℕ)) → Grows reading old new → ReadsOn old new
+reads_grown : (reading : ℕ) (old new : Option (List ℕ)) → GrowsReadings reading old new → ReadingsGoOn old new
 reads_grown reading old None grows = tt
 reads_grown reading None (Some new) grows = grows
 reads_grown reading (Some old) (Some new) grows = record { rest = reading ∷ []; whole = grows }
 
-becomes_some : {A : Type 0} (step : A → A → Type 0) (old new : Option A) → Becomes step old new → is_some new ≡ is_some old
+becomes_some : {A : Type 0} (step : A → A → Type 0) (old new : Option A) → RelatesTold step old new → is_some new ≡ is_some old
 becomes_some step None None becomes = refl
 becomes_some step None (Some b) becomes = absurd becomes
 becomes_some step (Some a) None becomes = absurd becomes
@@ -213,13 +213,13 @@ grow_rest old new dialled faults told heard sent answers readings planned upcomi
   readings = reads_same old.readings new.readings readings;
 }
 
-fronts_sent : (old new : Option (List Link)) → new ≡ old → (i : ℕ) → IsFront (sent_at old i) (sent_at new i)
+fronts_sent : (old new : Option (List ToldLink)) → new ≡ old → (i : ℕ) → IsFront (sent_at old i) (sent_at new i)
 fronts_sent old new same i = front_same _ _ (ap (λ t. sent_at t i) same)
 
 fronts_heard : (old new : Option (List HeardOn)) → new ≡ old → (i : ℕ) → IsFront (answers_at old i) (answers_at new i)
 fronts_heard old new same i = front_same _ _ (ap (λ t. answers_at t i) same)
 
-pub grow_dial : (spec : List ℕ) (result : Result ℕ Failed) (old new : Links) → Dials spec result old new → LinksGrow old new
+pub grow_dial : (spec : List ℕ) (result : Result ℕ Failed) (old new : Links) → DialsLink spec result old new → LinksGrow old new
 grow_dial spec (Ok link) old new d =
     grow_rest old new (omega (arith, d.made.1)) (counts_later old.dialled old.faults new.faults (Ok link) d.faults)
     (ap is_some d.made.2 ∙ is_some-option_map _ old.told)
@@ -244,7 +244,7 @@ grow_nonce link result old new a =
     (ap is_some a.same_planned)
     a.same_upcoming
 
-pub grow_hear : (link : ℕ) (answer : Heard) (buf : List ℕ) (old new : Links) → Hears link answer buf old new → LinksGrow old new
+pub grow_hear : (link : ℕ) (answer : Heard) (buf : List ℕ) (old new : Links) → HearsAnswer link answer buf old new → LinksGrow old new
 grow_hear link answer buf old new h =
     grow_rest old new (omega (arith, h.same_dialled))
     (λ i. elim (cases_eq i link) [ inl here ↦ subst (λ (k : ℕ). old.faults k ≤ new.faults k) (sym here) h.later | inr other ↦ omega (arith, h.others i other) ])
@@ -257,17 +257,17 @@ grow_hear link answer buf old new h =
     h.same_upcoming
 
 -- the bytes that went out in a send
-pub went_out : (link : ℕ) (bytes : List ℕ) (result : Result (Unit {0}) Failed) (old new : Links) → Sends link bytes result old new
+pub went_out : (link : ℕ) (bytes : List ℕ) (result : Result (Unit {0}) Failed) (old new : Links) → SendsOnLink link bytes result old new
     → (count : ℕ) × (new.told ≡ option_map (with_sent link (take count bytes)) old.told)
 went_out link bytes (Ok u) old new s =
     (length bytes, s.sent ∙ ap (λ b. option_map (with_sent link b) old.told) (sym (take_all (length bytes) bytes (omega arith))))
 went_out link bytes (Err e) old new s = s.sent
 
-pub grow_send : (link : ℕ) (bytes : List ℕ) (result : Result (Unit {0}) Failed) (old new : Links) → Sends link bytes result old new → LinksGrow old new
+pub grow_send : (link : ℕ) (bytes : List ℕ) (result : Result (Unit {0}) Failed) (old new : Links) → SendsOnLink link bytes result old new → LinksGrow old new
 grow_send link bytes result old new s =
     let out = went_out link bytes result old new s in
     grow_rest old new (omega (arith, s.same_dialled)) (counts_later link old.faults new.faults result s.faults) (ap is_some out.1 ∙ is_some-option_map _ old.told) (ap is_some s.same_heard)
-    (λ i. subst (λ (t : Option (List Link)). IsFront (sent_at old.told i) (sent_at t i)) (sym out.1) (sent_at-front old.told link (take out.0 bytes) i))
+    (λ i. subst (λ (t : Option (List ToldLink)). IsFront (sent_at old.told i) (sent_at t i)) (sym out.1) (sent_at-front old.told link (take out.0 bytes) i))
     (fronts_heard _ _ s.same_heard)
     s.same_readings
     (ap is_some s.same_planned)
@@ -327,28 +327,28 @@ some_of None None x same told = cc
 some_of None (Some b) x same told = cc
 some_of (Some a) b x same told = (a, refl)
 
-pub told_before : (o o' : Outside) → HostRun o o' → Told o' → Told o
+pub told_before : (o o' : Outside) → HostRun o o' → TellsAll o' → TellsAll o
 told_before o o' run told =
     let files = some_of o.files o'.files told.two run.same_files told.files_are in
     let links = some_of o.links.told o'.links.told told.links run.links.same_told told.links_are in
     let heard = some_of o.links.heard o'.links.heard told.heard run.links.same_heard told.heard_are in
     record { two = files.0; files_are = files.1; links = links.0; links_are = links.1; heard = heard.0; heard_are = heard.1 }
 
-pub told_after : (o o' : Outside) → HostRun o o' → Told o → Told o'
+pub told_after : (o o' : Outside) → HostRun o o' → TellsAll o → TellsAll o'
 told_after o o' run told =
     let files = some_of o'.files o.files told.two (sym run.same_files) told.files_are in
     let links = some_of o'.links.told o.links.told told.links (sym run.links.same_told) told.links_are in
     let heard = some_of o'.links.heard o.links.heard told.heard (sym run.links.same_heard) told.heard_are in
     record { two = files.0; files_are = files.1; links = links.0; links_are = links.1; heard = heard.0; heard_are = heard.1 }
 
-plans_same : (link : ℕ) (p q : Option (ℕ → List Planned)) → q ≡ p → Becomes (λ (p q : ℕ → List Planned). (i : ℕ) → i ≢ link → q i ≡ p i) p q
+plans_same : (link : ℕ) (p q : Option (ℕ → List Planned)) → q ≡ p → RelatesTold (λ (p q : ℕ → List Planned). (i : ℕ) → i ≢ link → q i ≡ p i) p q
 plans_same link None None same = tt
 plans_same link None (Some q) same = cc
 plans_same link (Some p) None same = cc
 plans_same link (Some p) (Some q) same = λ i _. let one : q ≡ p = cc in ap (λ (f : ℕ → List Planned). f i) one
 
-plans_then : (link : ℕ) (p q r : Option (ℕ → List Planned)) → Becomes (λ (p q : ℕ → List Planned). (i : ℕ) → i ≢ link → q i ≡ p i) p q
-    → Becomes (λ (p q : ℕ → List Planned). (i : ℕ) → i ≢ link → q i ≡ p i) q r → Becomes (λ (p q : ℕ → List Planned). (i : ℕ) → i ≢ link → q i ≡ p i) p r
+plans_then : (link : ℕ) (p q r : Option (ℕ → List Planned)) → RelatesTold (λ (p q : ℕ → List Planned). (i : ℕ) → i ≢ link → q i ≡ p i) p q
+    → RelatesTold (λ (p q : ℕ → List Planned). (i : ℕ) → i ≢ link → q i ≡ p i) q r → RelatesTold (λ (p q : ℕ → List Planned). (i : ℕ) → i ≢ link → q i ≡ p i) p r
 plans_then link None None None f g = tt
 plans_then link None None (Some r) f g = absurd g
 plans_then link None (Some q) r f g = absurd f
@@ -370,7 +370,7 @@ others_then link a b c first second = record {
   planned = plans_then link a.planned b.planned c.planned first.planned second.planned;
 }
 
-pub others_dial : (link : ℕ) (spec : List ℕ) (result : Result ℕ Failed) (old new : Links) → Dials spec result old new → OthersKeep link old new
+pub others_dial : (link : ℕ) (spec : List ℕ) (result : Result ℕ Failed) (old new : Links) → DialsLink spec result old new → OthersKeep link old new
 others_dial link spec (Ok made) old new d = record {
   sent = λ i _. ap (λ t. sent_at t i) d.made.2 ∙ sent_at-pushed old.told spec i;
   answers = λ i _. ap (λ t. answers_at t i) d.made.3 ∙ ap (λ (h : HeardOn). h.answers) (heard_at-pushed old.heard i);
@@ -389,8 +389,8 @@ others_nonce link other_link result old new a = record {
   planned = plans_same link old.planned new.planned a.same_planned;
 }
 
-plans_heard : (link : ℕ) (answer : Heard) (buf : List ℕ) (p q : Option (ℕ → List Planned)) → Becomes (AnswersAsPlanned link answer buf) p q
-    → Becomes (λ (p q : ℕ → List Planned). (i : ℕ) → i ≢ link → q i ≡ p i) p q
+plans_heard : (link : ℕ) (answer : Heard) (buf : List ℕ) (p q : Option (ℕ → List Planned)) → RelatesTold (AnswersAsPlanned link answer buf) p q
+    → RelatesTold (λ (p q : ℕ → List Planned). (i : ℕ) → i ≢ link → q i ≡ p i) p q
 plans_heard link answer buf None None becomes = tt
 plans_heard link answer buf None (Some q) becomes = becomes
 plans_heard link answer buf (Some p) None becomes = becomes
@@ -400,14 +400,14 @@ plans_heard link heard.End buf (Some p) (Some q) becomes = becomes.others
 plans_heard link heard.Failed buf (Some p) (Some q) becomes =
     elim becomes [ inl used ↦ used.others | inr same ↦ λ i _. ap (λ (f : ℕ → List Planned). f i) same ]
 
-pub others_hear : (link : ℕ) (answer : Heard) (buf : List ℕ) (old new : Links) → Hears link answer buf old new → OthersKeep link old new
+pub others_hear : (link : ℕ) (answer : Heard) (buf : List ℕ) (old new : Links) → HearsAnswer link answer buf old new → OthersKeep link old new
 others_hear link answer buf old new h = record {
   sent = λ i _. ap (λ t. sent_at t i) h.same_told;
   answers = λ i other. ap (λ t. answers_at t i) h.heard ∙ ap (λ (x : HeardOn). x.answers) (heard_at-other old.heard link (hear answer buf) i other);
   planned = plans_heard link answer buf old.planned new.planned h.planned;
 }
 
-pub others_send : (link : ℕ) (bytes : List ℕ) (result : Result (Unit {0}) Failed) (old new : Links) → Sends link bytes result old new → OthersKeep link old new
+pub others_send : (link : ℕ) (bytes : List ℕ) (result : Result (Unit {0}) Failed) (old new : Links) → SendsOnLink link bytes result old new → OthersKeep link old new
 others_send link bytes result old new s =
     let out = went_out link bytes result old new s in
     record {
@@ -424,12 +424,12 @@ others_read link reading old new r = record {
 }
 
 -- ---- what a call does on its own link, where links and what they heard are told
-pub sent_here : (o o' : Outside) (link : ℕ) (bytes : List ℕ) (u : Unit {0}) → Told o → link < o.links.dialled → Sends link bytes (Ok u) o.links o'.links → sent_at o'.links.told link ≡ sent_at o.links.told link ++ bytes
+pub sent_here : (o o' : Outside) (link : ℕ) (bytes : List ℕ) (u : Unit {0}) → TellsAll o → link < o.links.dialled → SendsOnLink link bytes (Ok u) o.links o'.links → sent_at o'.links.told link ≡ sent_at o.links.told link ++ bytes
 sent_here o o' link bytes u told within s =
     let inside : link < length told.links = omega (arith, within, o.all_told told.links told.links_are) in
     ap (λ t. sent_at t link) s.sent ∙ sent_at-with_sent o.links.told told.links link bytes told.links_are inside
 
-pub heard_here : (o o' : Outside) (link : ℕ) (answer : Heard) (buf : List ℕ) → Told o → link < o.links.dialled → Hears link answer buf o.links o'.links
+pub heard_here : (o o' : Outside) (link : ℕ) (answer : Heard) (buf : List ℕ) → TellsAll o → link < o.links.dialled → HearsAnswer link answer buf o.links o'.links
     → answers_at o'.links.heard link ≡ answers_at o.links.heard link ++ answered_by answer buf (heard_at o.links.heard link)
 heard_here o o' link answer buf told within h =
     let inside : link < length told.heard = omega (arith, within, o.all_heard told.heard told.heard_are) in
@@ -445,13 +445,13 @@ quiet_moments o o' two call same files m w =
     record { image = now.image; sent = now.sent ∙ ap sent_of same }
 
 -- the moments of a dial have nothing more on any link
-pub dial_moments : (o o' : Outside) (two : Two File) (spec : List ℕ) (result : Result ℕ Failed) → QuietCall o o' → Dials spec result o.links o'.links → o.files ≡ Some two → (m : Moment) → o'.moments o'.clock m
+pub dial_moments : (o o' : Outside) (two : Two File) (spec : List ℕ) (result : Result ℕ Failed) → QuietCall o o' → DialsLink spec result o.links o'.links → o.files ≡ Some two → (m : Moment) → o'.moments o'.clock m
     → IsImage two m.files × ((i : ℕ) → slice_index_or m.sent i [] ≡ sent_at o.links.told i)
 dial_moments o o' two spec result call dials files m w =
     let now = o'.now_is two m (call.same_files ∙ files) w in
     (now.image, λ i. ap (λ (s : List (List ℕ)). slice_index_or s i []) now.sent ∙ (others_dial (suc i) spec result o.links o'.links dials).sent i (omega arith))
 
-pub send_moments : (o : Outside) (told : Told o) (link : ℕ) (bytes : List ℕ) → link < o.links.dialled → (m : Moment) → SendsPart o link bytes m → SendMoment o told.two link bytes m
+pub send_moments : (o : Outside) (told : TellsAll o) (link : ℕ) (bytes : List ℕ) → link < o.links.dialled → (m : Moment) → SendsPart o link bytes m → SendMoment o told.two link bytes m
 send_moments o told link bytes within m part =
     let inside : link < length told.links = omega (arith, within, o.all_told told.links told.links_are) in
     record {

@@ -5,7 +5,7 @@ use Rattle.std.proofs.lemmas.List.{drop-drop, drop_all, drop_more, drop-append-l
 use Rattle.std.proofs.lemmas.List.Elements.{All-head, All-tail}
 use Rattle.outside.specs.declared.answer.Answer.{Answer}
 use Rattle.outside.specs.declared.answer.Answer.TheVariants as code
-use Rattle.outside.specs.Script.{planned_from, planned_of, plan, plan_from, left_in, IsFull, IsPlaceIn, IsReady}
+use Rattle.outside.specs.Script.{planned_from, planned_of, plan, plan_from, left_in, BringsBytes, IsPlaceIn, IsAnswerReady}
 use Rattle.outside.specs.Links.{Planned, piece}
 use Rattle.outside.specs.Planned.{pieces, plan_after}
 
@@ -41,17 +41,17 @@ plan_begins : (answers : List Answer) → plan_from 0 answers ≡ plan answers
 plan_begins [] = refl
 plan_begins (a ∷ answers) = refl
 
-full_place : (answers : List Answer) → All IsFull answers → IsPlaceIn 0 answers
+full_place : (answers : List Answer) → All BringsBytes answers → IsPlaceIn 0 answers
 full_place [] full = refl
-full_place (code.Bytes bytes ∷ rest) full = All-head IsFull (code.Bytes bytes) rest full
+full_place (code.Bytes bytes ∷ rest) full = All-head BringsBytes (code.Bytes bytes) rest full
 full_place (code.Idle ∷ rest) full = refl
 full_place (code.End ∷ rest) full = refl
 full_place (code.Fail ∷ rest) full = refl
 
-full_from : (n : ℕ) (answers : List Answer) → All IsFull answers → All IsFull (drop n answers)
+full_from : (n : ℕ) (answers : List Answer) → All BringsBytes answers → All BringsBytes (drop n answers)
 full_from zero answers full = full
 full_from (suc n) [] full = full
-full_from (suc n) (a ∷ answers) full = full_from n answers (All-tail IsFull a answers full)
+full_from (suc n) (a ∷ answers) full = full_from n answers (All-tail BringsBytes a answers full)
 
 -- the answers from a place on begin with the one there
 opened : (answers : List Answer) (next : ℕ) (answer : Answer) → next < length answers → answer ≡ get_or answers next answer → drop next answers ≡ answer ∷ drop (next + 1) answers
@@ -59,10 +59,10 @@ opened answers next answer within is_there = drop_more answers next answer withi
 
 -- what is kept after an answer was heard
 pub record IsBehind (answers : List Answer) (next at room next' at' : ℕ) : Type 0 where
-  pub ready : IsReady next' at' answers
+  pub ready : IsAnswerReady next' at' answers
   pub script : plan_from at' (drop next' answers) ≡ plan_after room (plan_from at (drop next answers))
 
-pub behind_part : (answers : List Answer) (next at room : ℕ) (answer : Answer) → IsReady next at answers → next < length answers → answer ≡ get_or answers next answer → room < left_in at answer
+pub behind_part : (answers : List Answer) (next at room : ℕ) (answer : Answer) → IsAnswerReady next at answers → next < length answers → answer ≡ get_or answers next answer → room < left_in at answer
     → IsBehind answers next at room next (at + room)
 behind_part answers next at room answer ready within is_there part =
     let open_is = opened answers next answer within is_there in
@@ -72,7 +72,7 @@ behind_part answers next at room answer ready within is_there part =
       script = ap (plan_from (at + room)) open_is ∙ heard.0 ∙ ap (λ l. plan_after room (plan_from at l)) (sym open_is);
     }
 
-pub behind_all : (answers : List Answer) (next at room : ℕ) (answer : Answer) → IsReady next at answers → next < length answers → answer ≡ get_or answers next answer → left_in at answer ≤ room
+pub behind_all : (answers : List Answer) (next at room : ℕ) (answer : Answer) → IsAnswerReady next at answers → next < length answers → answer ≡ get_or answers next answer → left_in at answer ≤ room
     → IsBehind answers next at room (next + 1) 0
 behind_all answers next at room answer ready within is_there all =
     let open_is = opened answers next answer within is_there in
@@ -82,7 +82,7 @@ behind_all answers next at room answer ready within is_there all =
       script = plan_begins (drop (next + 1) answers) ∙ heard ∙ ap (λ l. plan_after room (plan_from at l)) (sym open_is);
     }
 
-pub behind_none : (answers : List Answer) (next at room : ℕ) → IsReady next at answers → length answers ≤ next → IsBehind answers next at room next at
+pub behind_none : (answers : List Answer) (next at room : ℕ) → IsAnswerReady next at answers → length answers ≤ next → IsBehind answers next at room next at
 behind_none answers next at room ready end =
     let none : drop next answers ≡ [] = drop_all next answers end in
     record { ready = ready; script = ap (plan_from at) none ∙ ap (λ l. plan_after room (plan_from at l)) (sym none) }
@@ -97,7 +97,7 @@ plan_from-push at [] answer place = ap (λ n. planned_from n answer ++ []) place
 plan_from-push at (a ∷ answers) answer place =
     ap (λ l. planned_from at a ++ l) (plan-push answers answer) ∙ sym (append_assoc (planned_from at a) (plan answers) (planned_of answer))
 
-pub added : (answers answers' : List Answer) (next at : ℕ) (answer : Answer) (script : List Planned) → IsReady next at answers → answers' ≡ answers ++ answer ∷ []
+pub added : (answers answers' : List Answer) (next at : ℕ) (answer : Answer) (script : List Planned) → IsAnswerReady next at answers → answers' ≡ answers ++ answer ∷ []
     → plan_from at (drop next answers) ≡ script → plan_from at (drop next answers') ≡ script ++ planned_of answer
 added answers answers' next at answer script ready more is_script =
     ap (λ l. plan_from at (drop next l)) more

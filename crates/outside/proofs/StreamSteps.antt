@@ -5,9 +5,9 @@ use Rattle.std.specs.List.{list_any}
 use Rattle.std.proofs.KnownBytes.{Appends-trans, Consumes-trans}
 use Rattle.std.proofs.Math.Seq.{take-add, take-append_seam}
 use Rattle.std.proofs.lemmas.List.{take_more, take-append-le, take_all, drop-drop, drop_all}
-use Rattle.outside.specs.Faults.{is_listed, Rose}
+use Rattle.outside.specs.Faults.{is_listed, CountRose}
 use Rattle.outside.specs.Input.{ReadsPart, ReadsTooMuch}
-use Rattle.outside.specs.Streams.{Stream, Gets}
+use Rattle.outside.specs.Streams.{Stream, GetsText}
 
 pub appends_next : (a b c : Option (List ℕ)) (bytes : List ℕ) (done n : ℕ) → Appends a b (take done bytes) → Appends b c (take n (take (length bytes - done) (drop done bytes))) → Appends a c (take (done + n) bytes)
 appends_next a b c bytes done n p q =
@@ -17,7 +17,7 @@ appends_next a b c bytes done n p q =
     subst (Appends a c) joined (Appends-trans a b c _ _ p q)
 
 -- a front of a text was written, and then a call failed
-pub gets_part : (old new : Stream) (text : List ℕ) (done : ℕ) → Appends old.bytes new.bytes (take done text) → Rose old.faults new.faults → Gets old new text
+pub gets_part : (old new : Stream) (text : List ℕ) (done : ℕ) → Appends old.bytes new.bytes (take done text) → CountRose old.faults new.faults → GetsText old new text
 gets_part old new text done appended rose =
     (record { got = take done text; rest = drop done text; front = sym (take-append-drop done text); appended = appended }, inr rose)
 

@@ -4,14 +4,14 @@ use Rattle.outside.specs.declared.failed.Failed.{Failed}
 use Rattle.outside.specs.Files.{Two, File, file_of, with_file, settled}
 
 -- told before and after and so related, or not told before and after
-abbrev pub Becomes : {A : Type 0} → (A → A → Type 0) → Option A → Option A → Type 0
-Becomes step None None = Unit {0}
-Becomes step None (Some new) = ⊥
-Becomes step (Some old) None = ⊥
-Becomes step (Some old) (Some new) = step old new
+abbrev pub RelatesTold : {A : Type 0} → (A → A → Type 0) → Option A → Option A → Type 0
+RelatesTold step None None = Unit {0}
+RelatesTold step None (Some new) = ⊥
+RelatesTold step (Some old) None = ⊥
+RelatesTold step (Some old) (Some new) = step old new
 
 -- a read of n bytes into a buffer: as many as there are, or as it has room for
-pub record Reads (bytes : List ℕ) (at : ℕ) (buf : List ℕ) (n : ℕ) : Type 0 where
+pub record ReadsBytes (bytes : List ℕ) (at : ℕ) (buf : List ℕ) (n : ℕ) : Type 0 where
   pub count : n ≡ min (length buf) (length bytes - at)
   pub given : take n buf ≡ take n (drop at bytes)
 
@@ -39,23 +39,23 @@ abbrev pub after_cut : File → ℕ → List ℕ → File
 after_cut file n bytes = record file { now = bytes; least = min file.least n }
 
 -- A failed write may have reached any part of its range, or no part of the disk has heard of it.
-abbrev pub Writes : ℕ → ℕ → List ℕ → Result (Unit {0}) Failed → Two File → Two File → Type 0
-Writes file at bytes (Ok _) old new =
+abbrev pub WritesFile : ℕ → ℕ → List ℕ → Result (Unit {0}) Failed → Two File → Two File → Type 0
+WritesFile file at bytes (Ok _) old new =
     let f = file_of old file in
     new ≡ with_file old file (after_write f at (length bytes) (overwritten f.now at bytes))
-Writes file at bytes (Err _) old new =
+WritesFile file at bytes (Err _) old new =
     let f = file_of old file in
     (new ≡ old)
     ⊎ ((torn : List ℕ) × IsTorn at (length bytes) f.now torn × (new ≡ with_file old file (after_write f at (length bytes) torn)))
 
 -- A failed cut may have been made or not, and its length counts, or no part of the disk has heard of it.
-abbrev pub Cuts : ℕ → ℕ → Result (Unit {0}) Failed → Two File → Two File → Type 0
-Cuts file n (Ok _) old new = let f = file_of old file in new ≡ with_file old file (after_cut f n (take n f.now))
-Cuts file n (Err _) old new =
+abbrev pub CutsFile : ℕ → ℕ → Result (Unit {0}) Failed → Two File → Two File → Type 0
+CutsFile file n (Ok _) old new = let f = file_of old file in new ≡ with_file old file (after_cut f n (take n f.now))
+CutsFile file n (Err _) old new =
     let f = file_of old file in
     (new ≡ old) ⊎ (new ≡ with_file old file (after_cut f n (take n f.now))) ⊎ (new ≡ with_file old file (after_cut f n f.now))
 
 -- After a sync nothing is pending in the file; a failed one changes nothing.
-abbrev pub Syncs : ℕ → Result (Unit {0}) Failed → Two File → Two File → Type 0
-Syncs file (Ok _) old new = new ≡ with_file old file (settled (file_of old file).now)
-Syncs file (Err _) old new = new ≡ old
+abbrev pub SyncsFile : ℕ → Result (Unit {0}) Failed → Two File → Two File → Type 0
+SyncsFile file (Ok _) old new = new ≡ with_file old file (settled (file_of old file).now)
+SyncsFile file (Err _) old new = new ≡ old

@@ -7,13 +7,13 @@ abbrev pub one_more : ℕ → ℕ
 one_more n = min (n + 1) (2 ^ 64 - 1)
 
 -- the count rose, or stands at its end
-abbrev pub Rose : ℕ → ℕ → Type 0
-Rose before after = one_more before ≤ after
+abbrev pub CountRose : ℕ → ℕ → Type 0
+CountRose before after = one_more before ≤ after
 
 -- the count did not fall, and rose where the call failed
 pub record HasCause {T E : Type 0} (before after : ℕ) (result : Result T E) : Type 0 where
   pub later : before ≤ after
-  pub failed : OnErr result (Rose before after)
+  pub failed : OnErr result (CountRose before after)
 
 -- a list of calls, by their numbers, has this one
 abbrev pub is_listed : List ℕ → ℕ → Bool

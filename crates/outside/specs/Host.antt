@@ -4,17 +4,17 @@ use Rattle.std.specs.Option.{option_map}
 use Rattle.outside.specs.declared.failed.Failed.{Failed}
 use Rattle.outside.specs.declared.host.Heard.{Heard}
 use Rattle.outside.specs.declared.host.Heard.TheVariants as heard
-use Rattle.outside.specs.Faults.{Rose}
+use Rattle.outside.specs.Faults.{CountRose}
 use Rattle.outside.specs.Files.{Two, File, IsImage}
-use Rattle.outside.specs.Links.{Link, Links, got, idle, ended, HeardOn, nothing_heard, hear_reply, hear_failure, changed_at, with_sent, sent_of}
+use Rattle.outside.specs.Links.{ToldLink, Links, got, idle, ended, HeardOn, nothing_heard, hear_reply, hear_failure, changed_at, with_sent, sent_of}
 use Rattle.outside.specs.Outside.{Outside, Moment}
-use Rattle.outside.specs.Disk.{Becomes}
+use Rattle.outside.specs.Disk.{RelatesTold}
 use Rattle.outside.specs.Planned.{AnswersAsPlanned, UsesReading}
 
 -- the count of one link does not fall and rose where its call failed, and no other count changes
 pub record LinkCause {T E : Type 0} (link : ℕ) (old new : ℕ → ℕ) (result : Result T E) : Type 0 where
   pub later : old link ≤ new link
-  pub failed : OnErr result (Rose (old link) (new link))
+  pub failed : OnErr result (CountRose (old link) (new link))
   pub others : (i : ℕ) → i ≢ link → new i ≡ old i
 
 -- a dial makes the next link, or none
@@ -26,7 +26,7 @@ MakesLink spec (Ok link) old new =
     × (new.heard ≡ option_map (λ hs. hs ++ nothing_heard ∷ []) old.heard)
 MakesLink spec (Err _) old new = (new.dialled ≡ old.dialled) × (new.told ≡ old.told) × (new.heard ≡ old.heard)
 
-pub record Dials (spec : List ℕ) (result : Result ℕ Failed) (old new : Links) : Type 0 where
+pub record DialsLink (spec : List ℕ) (result : Result ℕ Failed) (old new : Links) : Type 0 where
   pub made : MakesLink spec result old new
   pub same_readings : new.readings ≡ old.readings
   pub same_planned : new.planned ≡ old.planned
@@ -51,28 +51,28 @@ hear heard.End buf = hear_reply (length buf) ended
 hear heard.Failed buf = hear_failure
 
 -- what is known of the number and the cause of an answer
-abbrev pub IsCaused : Heard → ℕ → ℕ → ℕ → Type 0
-IsCaused (heard.Got n) room before after = (0 < n) × (n ≤ room)
-IsCaused heard.Idle room before after = Unit {0}
-IsCaused heard.End room before after = Unit {0}
-IsCaused heard.Failed room before after = Rose before after
+abbrev pub IsAnswerCaused : Heard → ℕ → ℕ → ℕ → Type 0
+IsAnswerCaused (heard.Got n) room before after = (0 < n) × (n ≤ room)
+IsAnswerCaused heard.Idle room before after = Unit {0}
+IsAnswerCaused heard.End room before after = Unit {0}
+IsAnswerCaused heard.Failed room before after = CountRose before after
 
-pub record Hears (link : ℕ) (answer : Heard) (buf : List ℕ) (old new : Links) : Type 0 where
+pub record HearsAnswer (link : ℕ) (answer : Heard) (buf : List ℕ) (old new : Links) : Type 0 where
   pub same_dialled : new.dialled ≡ old.dialled
   pub same_told : new.told ≡ old.told
   pub heard : new.heard ≡ option_map (changed_at link (hear answer buf)) old.heard
   pub same_readings : new.readings ≡ old.readings
-  pub planned : Becomes (AnswersAsPlanned link answer buf) old.planned new.planned
+  pub planned : RelatesTold (AnswersAsPlanned link answer buf) old.planned new.planned
   pub same_upcoming : new.upcoming ≡ old.upcoming
   pub later : old.faults link ≤ new.faults link
   pub others : (i : ℕ) → i ≢ link → new.faults i ≡ old.faults i
 
 -- all bytes went out, or some front of them
-abbrev pub GoOut : ℕ → List ℕ → Result (Unit {0}) Failed → Option (List Link) → Option (List Link) → Type 0
+abbrev pub GoOut : ℕ → List ℕ → Result (Unit {0}) Failed → Option (List ToldLink) → Option (List ToldLink) → Type 0
 GoOut link bytes (Ok _) old new = new ≡ option_map (with_sent link bytes) old
 GoOut link bytes (Err _) old new = (n : ℕ) × (new ≡ option_map (with_sent link (take n bytes)) old)
 
-pub record Sends (link : ℕ) (bytes : List ℕ) (result : Result (Unit {0}) Failed) (old new : Links) : Type 0 where
+pub record SendsOnLink (link : ℕ) (bytes : List ℕ) (result : Result (Unit {0}) Failed) (old new : Links) : Type 0 where
   pub same_dialled : new.dialled ≡ old.dialled
   pub sent : GoOut link bytes result old.told new.told
   pub same_heard : new.heard ≡ old.heard
@@ -88,16 +88,16 @@ pub record SendsPart (old : Outside) (link : ℕ) (bytes : List ℕ) (moment : M
   pub sent : moment.sent ≡ sent_of (option_map (with_sent link (take count bytes)) old.links.told)
 
 -- readings that are told after one more were told before
-abbrev pub Grows : ℕ → Option (List ℕ) → Option (List ℕ) → Type 0
-Grows reading old None = Unit {0}
-Grows reading None (Some new) = ⊥
-Grows reading (Some old) (Some new) = new ≡ old ++ reading ∷ []
+abbrev pub GrowsReadings : ℕ → Option (List ℕ) → Option (List ℕ) → Type 0
+GrowsReadings reading old None = Unit {0}
+GrowsReadings reading None (Some new) = ⊥
+GrowsReadings reading (Some old) (Some new) = new ≡ old ++ reading ∷ []
 
 pub record ReadsClock (reading : ℕ) (old new : Links) : Type 0 where
   pub same_dialled : new.dialled ≡ old.dialled
   pub same_faults : new.faults ≡ old.faults
   pub same_told : new.told ≡ old.told
   pub same_heard : new.heard ≡ old.heard
-  pub readings : Grows reading old.readings new.readings
+  pub readings : GrowsReadings reading old.readings new.readings
   pub same_planned : new.planned ≡ old.planned
-  pub upcoming : Becomes (UsesReading reading) old.upcoming new.upcoming
+  pub upcoming : RelatesTold (UsesReading reading) old.upcoming new.upcoming

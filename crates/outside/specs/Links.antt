@@ -9,7 +9,7 @@ changed_at zero f (x ∷ xs) = f x ∷ xs
 changed_at (suc n) f (x ∷ xs) = x ∷ changed_at n f xs
 
 -- a link: the spec that it was dialled with, and the bytes sent so far
-pub record Link : Type 0 where
+pub record ToldLink : Type 0 where
   pub spec : List ℕ
   pub sent : List ℕ
 
@@ -52,19 +52,19 @@ pub data Planned : Type 0 where
 pub record Links : Type 0 where
   pub dialled : ℕ
   pub faults : ℕ → ℕ
-  pub told : Option (List Link)
+  pub told : Option (List ToldLink)
   pub heard : Option (List HeardOn)
   pub readings : Option (List ℕ)
   pub planned : Option (ℕ → List Planned)
   pub upcoming : Option (List ℕ)
 
 -- the bytes sent so far on each link; none where they are not told
-abbrev pub sent_of : Option (List Link) → List (List ℕ)
+abbrev pub sent_of : Option (List ToldLink) → List (List ℕ)
 sent_of None = []
 sent_of (Some links) = map (λ link. link.sent) links
 
 -- these bytes sent on this link
-abbrev pub with_sent : ℕ → List ℕ → List Link → List Link
+abbrev pub with_sent : ℕ → List ℕ → List ToldLink → List ToldLink
 with_sent link bytes links = changed_at link (λ l. record l { sent = l.sent ++ bytes }) links
 
 -- what a disk without links tells

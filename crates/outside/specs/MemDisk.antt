@@ -11,7 +11,7 @@ use Rattle.outside.specs.declared.reply.Reply.TheVariants as kept_as
 use Rattle.outside.specs.Faults.{one_more, is_listed}
 use Rattle.outside.specs.Files.{Two, File, file_of, with_file, settled}
 use Rattle.outside.specs.Disk.{after_write, after_cut, overwritten}
-use Rattle.outside.specs.Links.{Link, Reply, got, idle, ended, Answered, changed_at, with_sent}
+use Rattle.outside.specs.Links.{ToldLink, Reply, got, idle, ended, Answered, changed_at, with_sent}
 use Rattle.outside.specs.Calls.{Calls}
 pub use Rattle.outside.specs.Changes.{Change, wrote, wrote_not, cut, cut_not, synced, dialled, sent, answered, hosted}
 
@@ -91,7 +91,7 @@ abbrev pub bytes_of : Two KeptFile → Two (List ℕ)
 bytes_of two = record { first = two.first.file.now; second = two.second.file.now }
 
 -- the links after these calls; a host begins with none
-abbrev pub link_changed : List Link → Change → List Link
+abbrev pub link_changed : List ToldLink → Change → List ToldLink
 link_changed links (wrote _ _ _) = links
 link_changed links (wrote_not _ _ _) = links
 link_changed links (cut _ _) = links
@@ -102,7 +102,7 @@ link_changed links (sent link bytes) = with_sent link bytes links
 link_changed links (answered _ _) = links
 link_changed links hosted = []
 
-abbrev pub links_after : List Link → List Change → List Link
+abbrev pub links_after : List ToldLink → List Change → List ToldLink
 links_after links [] = links
 links_after links (c ∷ calls) = links_after (link_changed links c) calls
 
@@ -159,13 +159,13 @@ abbrev pub fails_next : MemDiskValue → Bool
 fails_next disk = is_stopped disk.stop disk.made || is_listed disk.failing disk.made
 
 -- what is due at the next call
-abbrev pub IsDue : MemDiskValue → Due → Type 0
-IsDue disk due.Fine = fails_next disk ≡ false
-IsDue disk due.Failure = (is_stopped disk.stop disk.made ≡ false) × (is_listed disk.failing disk.made ≡ true) × (fails_next disk ≡ true)
-IsDue disk due.Stop = (is_stopped disk.stop disk.made ≡ true) × (fails_next disk ≡ true)
+abbrev pub IsCallDue : MemDiskValue → Due → Type 0
+IsCallDue disk due.Fine = fails_next disk ≡ false
+IsCallDue disk due.Failure = (is_stopped disk.stop disk.made ≡ false) × (is_listed disk.failing disk.made ≡ true) × (fails_next disk ≡ true)
+IsCallDue disk due.Stop = (is_stopped disk.stop disk.made ≡ true) × (fails_next disk ≡ true)
 
 -- what stays at every call of a disk, and that it counts
-pub record Counts (old new : MemDiskValue) : Type 0 where
+pub record CountsCall (old new : MemDiskValue) : Type 0 where
   pub start : new.start ≡ old.start
   pub failing : new.failing ≡ old.failing
   pub stop : new.stop ≡ old.stop
@@ -192,14 +192,14 @@ pub record HasStopped (old new : MemDiskValue) : Type 0 where
   pub starved : new.starved ≡ old.starved
 
 -- a call that found no memory
-pub record Starved (old new : MemDiskValue) : Type 0 where
+pub record FoundNoMemory (old new : MemDiskValue) : Type 0 where
   pub going : is_stopped old.stop old.made ≡ false
   pub starved : new.starved ≡ one_more old.starved
 
 -- a call that stands not among the changes
 pub record LeftNoTrace (old new : MemDiskValue) : Type 0 where
   pub calls : new.calls ≡ old.calls
-  pub cause : HasStopped old new ⊎ Starved old new
+  pub cause : HasStopped old new ⊎ FoundNoMemory old new
 
 pub record HasFailed (failed : Option Change) (old new : MemDiskValue) : Type 0 where
   pub faults : new.faults ≡ one_more old.faults
@@ -207,8 +207,8 @@ pub record HasFailed (failed : Option Change) (old new : MemDiskValue) : Type 0 
   pub outcome : FailedAsListed failed old new ⊎ LeftNoTrace old new
 
 -- a call that makes the one change at Ok and the other at a failure
-pub record Makes {T E : Type 0} (fine failed : Option Change) (result : Result T E) (old new : MemDiskValue) : Type 0 where
-  pub counts : Counts old new
+pub record MakesChange {T E : Type 0} (fine failed : Option Change) (result : Result T E) (old new : MemDiskValue) : Type 0 where
+  pub counts : CountsCall old new
   pub outcome : MatchResult result (λ _. WasMade fine old new) (λ _. HasFailed failed old new)
 
 -- a disk of which no call was made

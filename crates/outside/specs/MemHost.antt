@@ -5,10 +5,10 @@ use Rattle.outside.specs.declared.limits.TheConstants.{LINKS}
 use Rattle.outside.specs.declared.failed.Failed.{Failed}
 use Rattle.outside.specs.declared.host.Heard.{Heard}
 use Rattle.outside.specs.Faults.{one_more, is_listed}
-use Rattle.outside.specs.Links.{Link, Reply, Planned}
+use Rattle.outside.specs.Links.{ToldLink, Reply, Planned}
 use Rattle.outside.specs.Planned.{reply_to, reply_in, UsesPlan, UsesReading}
-use Rattle.outside.specs.MemDisk.{Change, dialled, sent, answered, hosted, MemDiskValue, Makes, links_after, with_call, disk_files, files_of}
-use Rattle.outside.specs.MemImage.{Pictures}
+use Rattle.outside.specs.MemDisk.{Change, dialled, sent, answered, hosted, MemDiskValue, MakesChange, links_after, with_call, disk_files, files_of}
+use Rattle.outside.specs.MemImage.{PicturesDisk}
 use Rattle.outside.specs.Files.{IsImage}
 use Rattle.outside.specs.Script.{planned_of}
 use Rattle.outside.specs.declared.answer.Answer.{Answer}
@@ -77,7 +77,7 @@ pub record MemHostValue : Type 0 where
   pub starved : ℕ
 
 -- the links that were made
-abbrev pub links_of : MemDiskValue → List Link
+abbrev pub links_of : MemDiskValue → List ToldLink
 links_of disk = links_after [] disk.calls
 
 -- a host over this disk of which no call was made
@@ -109,19 +109,19 @@ abbrev pub LeavesBehind : (link room : ℕ) → (old new : List (List Planned)) 
 LeavesBehind link room old new = (reply : Option Reply) → reply_to room (script_of link old) ≡ reply → UsesPlan link room reply (plans_of old) (plans_of new)
 
 -- a link is to answer one thing more, behind all else
-pub record PlansMore (link : ℕ) (answer : Answer) (old new : List (List Planned)) : Type 0 where
+pub record PlansAnswer (link : ℕ) (answer : Answer) (old new : List (List Planned)) : Type 0 where
   pub more : script_of link new ≡ script_of link old ++ planned_of answer
   pub others : (i : ℕ) → i ≢ link → script_of i new ≡ script_of i old
 
 -- A host began anew over an image of its files: what was planned, heard, sent and read is gone.
-pub record Crashes (pick : Pick) (old new : MemHostValue) : Type 0 where
+pub record CrashesHost (pick : Pick) (old new : MemHostValue) : Type 0 where
   pub disk : MemDiskValue
-  pub pictured : Pictures pick (disk_files old.disk) disk
+  pub pictured : PicturesDisk pick (disk_files old.disk) disk
   pub image : IsImage (files_of (disk_files old.disk)) disk.start
   pub anew : new ≡ fresh_host disk
 
 -- what a host keeps of its links
-pub record IsWired (disk : MemDiskValue) (sent : List (List ℕ)) (scripts : List (List Planned)) : Type 0 where
+pub record AreLinksWired (disk : MemDiskValue) (sent : List (List ℕ)) (scripts : List (List Planned)) : Type 0 where
   pub sent_is : sent ≡ map (λ link. link.sent) (links_of disk)
   pub few : length sent ≤ LINKS
   pub scripted : length scripts ≡ LINKS
@@ -129,7 +129,7 @@ pub record IsWired (disk : MemDiskValue) (sent : List (List ℕ)) (scripts : Lis
 -- ---- counts
 
 -- one count of several rose by one
-pub record Raises (link : ℕ) (old new : List ℕ) : Type 0 where
+pub record RaisesCount (link : ℕ) (old new : List ℕ) : Type 0 where
   pub raised : slice_index new link ≡ one_more (slice_index old link)
   pub later : slice_index old link ≤ slice_index new link
   pub others : (i : ℕ) → i ≢ link → slice_index new i ≡ slice_index old i
@@ -143,7 +143,7 @@ pub record BeginsAgain (link : ℕ) (old new : List ℕ) : Type 0 where
 
 -- a call on the disk
 pub record OnDisk {T E : Type 0} (fine failed : Option Change) (result : Result T E) (old new : MemHostValue) : Type 0 where
-  pub makes : Makes fine failed result old.disk new.disk
+  pub makes : MakesChange fine failed result old.disk new.disk
   pub rest : new ≡ record old { disk = new.disk }
 
 -- a call on a link that found no memory
@@ -165,15 +165,15 @@ pub record DialDue (old new : MemHostValue) : Type 0 where
   pub disk : new.disk ≡ old.disk
   pub starved : new.starved ≡ old.starved
 
-pub record DialFailed (old new : MemHostValue) : Type 0 where
+pub record FailsDial (old new : MemHostValue) : Type 0 where
   pub silences : new.silences ≡ old.silences
-  pub faults : Raises (length (links_of old.disk)) old.faults new.faults
+  pub faults : RaisesCount (length (links_of old.disk)) old.faults new.faults
   pub cause : DialDue old new ⊎ FindsNone old new
 
 -- a dial fails exactly where the list has it or there was no memory
 pub record MakesDial (spec : List ℕ) (result : Result ℕ Failed) (old new : MemHostValue) : Type 0 where
   pub rest : new ≡ record old { disk = new.disk; silences = new.silences; faults = new.faults; dials = one_made old.dials; starved = new.starved }
-  pub outcome : MatchResult result (λ link. DialMade spec link old new) (λ _. DialFailed old new)
+  pub outcome : MatchResult result (λ link. DialMade spec link old new) (λ _. FailsDial old new)
 
 pub record NonceGiven (nonce : List ℕ) (old new : MemHostValue) : Type 0 where
   pub given : old.nonces ≡ nonce ∷ new.nonces
@@ -181,7 +181,7 @@ pub record NonceGiven (nonce : List ℕ) (old new : MemHostValue) : Type 0 where
 
 pub record NoNonce (link : ℕ) (old new : MemHostValue) : Type 0 where
   pub none : old.nonces ≡ []
-  pub faults : Raises link old.faults new.faults
+  pub faults : RaisesCount link old.faults new.faults
   pub rest : new ≡ record old { faults = new.faults }
 
 -- a nonce is the first that was given, and fails exactly where there is none
@@ -189,7 +189,7 @@ abbrev pub MakesNonce : ℕ → Result (List ℕ) Failed → MemHostValue → Me
 MakesNonce link result old new = MatchResult result (λ nonce. NonceGiven nonce old new) (λ _. NoNonce link old new)
 
 -- a link gave this answer, as its script says
-pub record Replies (link room : ℕ) (reply : Reply) (old new : MemHostValue) : Type 0 where
+pub record RepliesOnLink (link room : ℕ) (reply : Reply) (old new : MemHostValue) : Type 0 where
   pub plan : UsesPlan link room (Some reply) (plans_of old.scripts) (plans_of new.scripts)
   pub disk : new.disk ≡ with_call (answered link (record { failures = slice_index old.silences link; room = room; reply = reply })) old.disk
   pub silences : BeginsAgain link old.silences new.silences
@@ -202,14 +202,14 @@ pub record FailureDue (link room : ℕ) (old new : MemHostValue) : Type 0 where
   pub starved : new.starved ≡ old.starved
 
 pub record NoReply (link room : ℕ) (old new : MemHostValue) : Type 0 where
-  pub silences : Raises link old.silences new.silences
-  pub faults : Raises link old.faults new.faults
+  pub silences : RaisesCount link old.silences new.silences
+  pub faults : RaisesCount link old.faults new.faults
   pub cause : FailureDue link room old new ⊎ FindsNone old new
 
 -- a link answers as its script says, and fails exactly where that says so or there was no memory
 pub record MakesAnswer (link : ℕ) (answer : Heard) (buf : List ℕ) (old new : MemHostValue) : Type 0 where
   pub rest : new ≡ record old { disk = new.disk; scripts = new.scripts; silences = new.silences; faults = new.faults; starved = new.starved }
-  pub outcome : MatchOption (reply_in answer buf) (NoReply link (length buf) old new) (λ reply. Replies link (length buf) reply old new)
+  pub outcome : MatchOption (reply_in answer buf) (NoReply link (length buf) old new) (λ reply. RepliesOnLink link (length buf) reply old new)
 
 pub record SendMade (link : ℕ) (bytes : List ℕ) (old new : MemHostValue) : Type 0 where
   pub fine : is_due old.sends ≡ false
@@ -224,7 +224,7 @@ pub record SendDue (link : ℕ) (bytes : List ℕ) (old new : MemHostValue) : Ty
   pub starved : new.starved ≡ old.starved
 
 pub record SendFailed (link : ℕ) (bytes : List ℕ) (old new : MemHostValue) : Type 0 where
-  pub faults : Raises link old.faults new.faults
+  pub faults : RaisesCount link old.faults new.faults
   pub cause : SendDue link bytes old new ⊎ FindsNone old new
 
 -- a send fails exactly where the list has it or there was no memory

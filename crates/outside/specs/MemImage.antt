@@ -74,7 +74,7 @@ PickOf pick.Zero k bytes = IsFilled 0 k.file bytes
 PickOf pick.Ones k bytes = IsFilled 1 k.file bytes
 
 -- a fresh disk with the image of both files that was asked for
-pub record Pictures (chosen : Pick) (two : Two KeptFile) (disk : MemDiskValue) : Type 0 where
+pub record PicturesDisk (chosen : Pick) (two : Two KeptFile) (disk : MemDiskValue) : Type 0 where
   pub fresh : disk ≡ fresh disk.start
   pub first : PickOf chosen two.first disk.start.first
   pub second : PickOf chosen two.second disk.start.second

@@ -13,7 +13,7 @@ use Rattle.std.proofs.Math.Bool.{or-false}
 use Rattle.outside.specs.Files.{Two, File, IsFileImage, IsImage, settled, is_within, is_written}
 use Rattle.outside.specs.Files.{file_of, with_file, read_files}
 use Rattle.outside.specs.Disk.{after_write, after_cut, overwritten}
-use Rattle.outside.specs.Links.{Links, Link, Answered, HeardOn, sent_of, changed_at}
+use Rattle.outside.specs.Links.{Links, ToldLink, Answered, HeardOn, sent_of, changed_at}
 use Rattle.outside.specs.Outside.{Moment, IsNow}
 use Rattle.outside.specs.MemDisk.{Change, wrote, wrote_not, cut, cut_not, synced, dialled, sent}
 use Rattle.outside.specs.MemDisk.{answered, hosted, KeptFile, changed, kept_after, both_kept}
@@ -221,7 +221,7 @@ module _ (sent_by : List Change → List (List ℕ)) (start : Two (List ℕ)) (c
       }
 
 -- a disk in memory has no links
-pub no_links_told : (links : List Link) → Some [] ≡ Some links → length links ≡ 0
+pub no_links_told : (links : List ToldLink) → Some [] ≡ Some links → length links ≡ 0
 no_links_told links had = let same : [] ≡ links = cc in ap length (sym same)
 
 pub no_links_heard : (heard : List HeardOn) → Some [] ≡ Some heard → length heard ≡ 0
@@ -244,7 +244,7 @@ one_longer : {A B : Type 0} (xs : List A) (ys : List B) (x : A) (y : B) → leng
     → length (xs ++ x ∷ []) ≡ length (ys ++ y ∷ [])
 one_longer xs ys x y e = omega (arith, length-append xs (x ∷ []), length-append ys (y ∷ []))
 
-as_many_changed : (heard : List (List Answered)) (links : List Link) (c : Change)
+as_many_changed : (heard : List (List Answered)) (links : List ToldLink) (c : Change)
     → length heard ≡ length links → length (answers_changed heard c) ≡ length (link_changed links c)
 as_many_changed heard links (wrote _ _ _) e = e
 as_many_changed heard links (wrote_not _ _ _) e = e
@@ -257,14 +257,14 @@ as_many_changed heard links (sent link bytes) e = e ∙ sym (length-changed_at l
 as_many_changed heard links (answered link answer) e = length-changed_at link _ heard ∙ e
 as_many_changed heard links hosted e = refl
 
-pub as_many : (heard : List (List Answered)) (links : List Link) (calls : List Change)
+pub as_many : (heard : List (List Answered)) (links : List ToldLink) (calls : List Change)
     → length heard ≡ length links
     → length (answers_after heard calls) ≡ length (links_after links calls)
 as_many heard links [] e = e
 as_many heard links (c ∷ calls) e =
     as_many (answers_changed heard c) (link_changed links c) calls (as_many_changed heard links c e)
 
-pub each_told : (calls : List Change) (links : List Link) → Some (links_after [] calls) ≡ Some links
+pub each_told : (calls : List Change) (links : List ToldLink) → Some (links_after [] calls) ≡ Some links
     → length links ≡ length (links_after [] calls)
 each_told calls links had = let same : links_after [] calls ≡ links = cc in ap length (sym same)
 

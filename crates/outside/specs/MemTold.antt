@@ -1,6 +1,6 @@
 -- What a disk in memory tells, by the list of its calls.
 use Rattle.std.specs.Prelude.{◌≡◌, ℕ, List, [], length, refl, Some}
-use Rattle.outside.specs.Links.{Links, Link, HeardOn, sent_of, no_links}
+use Rattle.outside.specs.Links.{Links, ToldLink, HeardOn, sent_of, no_links}
 use Rattle.outside.specs.Outside.{Outside}
 use Rattle.outside.specs.Calls.{Calls}
 use Rattle.outside.specs.MemDisk.{MemDiskValue, Change, calls_of}
@@ -12,7 +12,7 @@ use Rattle.outside.specs.MemLaws.{no_links_heard}
 -- each link is told
 abbrev pub mem_told : (sent_by : List Change → List (List ℕ)) (calls : Calls) (links : Links) → ℕ
     → sent_by calls.changes ≡ sent_of links.told
-    → ((links' : List Link) → links.told ≡ Some links' → length links' ≡ links.dialled)
+    → ((links' : List ToldLink) → links.told ≡ Some links' → length links' ≡ links.dialled)
     → ((heard : List HeardOn) → links.heard ≡ Some heard → length heard ≡ links.dialled)
     → Outside
 mem_told sent_by calls links faults sent_is all_told all_heard = record {

@@ -1,9 +1,9 @@
 -- What an object tells of the outside: files, links, time, and what a crash at each moment would leave.
 use Rattle.std.specs.Prelude.{◌≡◌, ◌⊎◌, ℕ, ◌+◌, ◌≤◌, List, length, Option, Some, is_some, Result, OnOk}
 use Rattle.outside.specs.Calls.{Calls, CallsGoOn, OneCall, NoCall, more_calls}
-use Rattle.outside.specs.Disk.{Becomes}
+use Rattle.outside.specs.Disk.{RelatesTold}
 use Rattle.outside.specs.Files.{Two, File, IsImage, read_files}
-use Rattle.outside.specs.Links.{Links, HeardOn, Link, sent_of}
+use Rattle.outside.specs.Links.{Links, HeardOn, ToldLink, sent_of}
 
 -- a moment: files that a crash then would leave, and the bytes sent by then on each link
 pub record Moment : Type 0 where
@@ -32,11 +32,11 @@ pub record Outside : Type 1 where
   pub reads : (two : Two File) → files ≡ Some two → IsImage two (read_files two)
   -- a moment of now is one of those since any earlier value of the clock
   pub since : (t : ℕ) (m : Moment) → t ≤ clock → moments clock m → moments t m
-  pub all_told : (links' : List Link) → links.told ≡ Some links' → length links' ≡ links.dialled
+  pub all_told : (links' : List ToldLink) → links.told ≡ Some links' → length links' ≡ links.dialled
   pub all_heard : (heard : List HeardOn) → links.heard ≡ Some heard → length heard ≡ links.dialled
 
 -- Time goes on: a moment since an earlier value of the clock is one from before the call, or one of the call's own.
-pub record Elapses (old new : Outside) (during : Moment → Type 0) : Type 0 where
+pub record LetsTimePass (old new : Outside) (during : Moment → Type 0) : Type 0 where
   pub later : old.clock ≤ new.clock
   pub nothing_else : (t : ℕ) (m : Moment) → t ≤ old.clock → new.moments t m → old.moments t m ⊎ during m
   pub keeps : (t : ℕ) (m : Moment) → t ≤ old.clock → old.moments t m → new.moments t m
@@ -45,15 +45,15 @@ pub record Elapses (old new : Outside) (during : Moment → Type 0) : Type 0 whe
 pub record DiskCall (old new : Outside) : Type 0 where
   pub same_links : new.links ≡ old.links
   pub same_told : is_some new.files ≡ is_some old.files
-  pub calls : Becomes OneCall old.calls new.calls
-  pub time : Elapses old new (new.moments new.clock)
+  pub calls : RelatesTold OneCall old.calls new.calls
+  pub time : LetsTimePass old new (new.moments new.clock)
 
 -- a call on the links or the clock, with its own moments: the disk stays
 pub record LinkCall (during : Moment → Type 0) (old new : Outside) : Type 0 where
   pub same_files : new.files ≡ old.files
   pub same_faults : new.disk_faults ≡ old.disk_faults
-  pub calls : Becomes NoCall old.calls new.calls
-  pub time : Elapses old new during
+  pub calls : RelatesTold NoCall old.calls new.calls
+  pub time : LetsTimePass old new during
 
 -- the same of a call that sends nothing
 abbrev pub QuietCall : Outside → Outside → Type 0
@@ -70,10 +70,10 @@ pub record DiskRun (old new : Outside) : Type 0 where
   pub same_links : new.links ≡ old.links
   pub same_told : is_some new.files ≡ is_some old.files
   pub later : old.disk_faults ≤ new.disk_faults
-  pub calls : Becomes CallsGoOn old.calls new.calls
+  pub calls : RelatesTold CallsGoOn old.calls new.calls
 
 -- a run of calls that only read
-pub record Looks (old new : Outside) : Type 0 where
+pub record OnlyReads (old new : Outside) : Type 0 where
   pub same_files : new.files ≡ old.files
   pub run : DiskRun old new
   pub moments : (two : Two File) → old.files ≡ Some two → MomentsAre old new (IsNow two old.links)
@@ -81,10 +81,10 @@ pub record Looks (old new : Outside) : Type 0 where
 -- ---- how many calls of the disk a run makes, where they are told: just so many, or no more
 
 pub record MakesJust (n : ℕ) (old new : Outside) : Type 0 where
-  pub made : Becomes (λ (a b : Calls). b.made ≡ more_calls n a.made) old.calls new.calls
+  pub made : RelatesTold (λ (a b : Calls). b.made ≡ more_calls n a.made) old.calls new.calls
 
 pub record MakesAtMost (n : ℕ) (old new : Outside) : Type 0 where
-  pub made : Becomes (λ (a b : Calls). b.made ≤ a.made + n) old.calls new.calls
+  pub made : RelatesTold (λ (a b : Calls). b.made ≤ a.made + n) old.calls new.calls
 
 -- just so many where it succeeds, and no more where it fails
 pub record MakesCalls {T E : Type 0} (n : ℕ) (result : Result T E) (old new : Outside) : Type 0 where

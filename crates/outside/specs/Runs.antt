@@ -4,15 +4,15 @@ use Rattle.std.specs.List.{flat_map}
 use Rattle.outside.specs.declared.host.Heard.{Heard}
 use Rattle.outside.specs.declared.host.Heard.TheVariants as heard
 use Rattle.outside.specs.Files.{Two, File, IsImage}
-use Rattle.outside.specs.Links.{Link, Links, Reply, got, idle, ended, Answered, HeardOn, nothing_heard, sent_of, Planned}
+use Rattle.outside.specs.Links.{ToldLink, Links, Reply, got, idle, ended, Answered, HeardOn, nothing_heard, sent_of, Planned}
 use Rattle.outside.specs.Outside.{Outside, Moment}
 use Rattle.outside.specs.Calls.{CallsGoOn}
-use Rattle.outside.specs.Disk.{Becomes}
+use Rattle.outside.specs.Disk.{RelatesTold}
 
 -- ---- what is told of one link
 
 -- the bytes sent so far on the link of this number, what it heard, and the answers alone; none where they are not told
-abbrev pub sent_at : Option (List Link) → ℕ → List ℕ
+abbrev pub sent_at : Option (List ToldLink) → ℕ → List ℕ
 sent_at told link = slice_index_or (sent_of told) link []
 
 abbrev pub heard_at : Option (List HeardOn) → ℕ → HeardOn
@@ -45,10 +45,10 @@ answered_by heard.Failed buf h = []
 
 -- ---- what no run of calls lets fall
 -- readings that are told were told before, and are those told before and then more
-abbrev pub ReadsOn : Option (List ℕ) → Option (List ℕ) → Type 0
-ReadsOn old None = Unit {0}
-ReadsOn None (Some new) = ⊥
-ReadsOn (Some old) (Some new) = IsFront old new
+abbrev pub ReadingsGoOn : Option (List ℕ) → Option (List ℕ) → Type 0
+ReadingsGoOn old None = Unit {0}
+ReadingsGoOn None (Some new) = ⊥
+ReadingsGoOn (Some old) (Some new) = IsFront old new
 
 pub record LinksGrow (old new : Links) : Type 0 where
   pub dialled : old.dialled ≤ new.dialled
@@ -59,7 +59,7 @@ pub record LinksGrow (old new : Links) : Type 0 where
   pub same_upcoming : is_some new.upcoming ≡ is_some old.upcoming
   pub sent : (i : ℕ) → IsFront (sent_at old.told i) (sent_at new.told i)
   pub answers : (i : ℕ) → IsFront (answers_at old.heard i) (answers_at new.heard i)
-  pub readings : ReadsOn old.readings new.readings
+  pub readings : ReadingsGoOn old.readings new.readings
 
 -- what no run of calls of a host changes or lets fall
 pub record HostRun (old new : Outside) : Type 0 where
@@ -67,14 +67,14 @@ pub record HostRun (old new : Outside) : Type 0 where
   pub later : old.disk_faults ≤ new.disk_faults
   pub clock : old.clock ≤ new.clock
   pub links : LinksGrow old.links new.links
-  pub calls : Becomes CallsGoOn old.calls new.calls
+  pub calls : RelatesTold CallsGoOn old.calls new.calls
 
 -- ---- told-ness, back and on
 -- files, links and what they heard are told
-pub record Told (o : Outside) : Type 0 where
+pub record TellsAll (o : Outside) : Type 0 where
   pub two : Two File
   pub files_are : o.files ≡ Some two
-  pub links : List Link
+  pub links : List ToldLink
   pub links_are : o.links.told ≡ Some links
   pub heard : List HeardOn
   pub heard_are : o.links.heard ≡ Some heard
@@ -83,7 +83,7 @@ pub record Told (o : Outside) : Type 0 where
 pub record OthersKeep (link : ℕ) (old new : Links) : Type 0 where
   pub sent : (i : ℕ) → i ≢ link → sent_at new.told i ≡ sent_at old.told i
   pub answers : (i : ℕ) → i ≢ link → answers_at new.heard i ≡ answers_at old.heard i
-  pub planned : Becomes (λ (p q : ℕ → List Planned). (i : ℕ) → i ≢ link → q i ≡ p i) old.planned new.planned
+  pub planned : RelatesTold (λ (p q : ℕ → List Planned). (i : ℕ) → i ≢ link → q i ≡ p i) old.planned new.planned
 
 -- A moment of a send has a front of the bytes more on its link, and nothing more on the others.
 pub record SendMoment (o : Outside) (two : Two File) (link : ℕ) (bytes : List ℕ) (m : Moment) : Type 0 where

@@ -41,11 +41,11 @@ left_in at code.End = 0
 left_in at code.Fail = 0
 
 -- an answer with something to hear
-abbrev pub IsFull : Answer → Type 0
-IsFull (code.Bytes bytes) = 0 < length bytes.items
-IsFull code.Idle = Unit {0}
-IsFull code.End = Unit {0}
-IsFull code.Fail = Unit {0}
+abbrev pub BringsBytes : Answer → Type 0
+BringsBytes (code.Bytes bytes) = 0 < length bytes.items
+BringsBytes code.Idle = Unit {0}
+BringsBytes code.End = Unit {0}
+BringsBytes code.Fail = Unit {0}
 
 -- the first answer has bytes from this place on, or is none of bytes and heard from its begin
 abbrev pub IsPlaceIn : ℕ → List Answer → Type 0
@@ -55,7 +55,7 @@ IsPlaceIn at (code.Idle ∷ rest) = at ≡ 0
 IsPlaceIn at (code.End ∷ rest) = at ≡ 0
 IsPlaceIn at (code.Fail ∷ rest) = at ≡ 0
 
-pub record IsReady (next at : ℕ) (answers : List Answer) : Type 0 where
+pub record IsAnswerReady (next at : ℕ) (answers : List Answer) : Type 0 where
   pub within : next ≤ length answers
   pub place : IsPlaceIn at (drop next answers)
-  pub full : All IsFull answers
+  pub full : All BringsBytes answers

@@ -20,11 +20,11 @@ pub record FileMoment (Q : List ℕ → Type 0) (two : Two File) (sent : List (L
 
 -- ---- calls on one file
 -- A run from o0 on came to o: this file is f, the other is as it was, and every moment had Q.
-pub record Reached (two : Two File) (o0 o : Outside) (file : ℕ) (Q : List ℕ → Type 0) (f : File) : Type 0 where
+pub record ReachedFile (two : Two File) (o0 o : Outside) (file : ℕ) (Q : List ℕ → Type 0) (f : File) : Type 0 where
   pub files : o.files ≡ Some (with_file two file f)
   pub links : o.links ≡ o0.links
   pub moments : MomentsAre o0 o (FileMoment Q two (sent_of o0.links.told) file)
 
 -- every moment of a run had Q, wherever it ended
-abbrev pub Passed : Two File → Outside → Outside → ℕ → (List ℕ → Type 0) → Type 0
-Passed two o0 o file Q = MomentsAre o0 o (FileMoment Q two (sent_of o0.links.told) file)
+abbrev pub PassedMoments : Two File → Outside → Outside → ℕ → (List ℕ → Type 0) → Type 0
+PassedMoments two o0 o file Q = MomentsAre o0 o (FileMoment Q two (sent_of o0.links.told) file)

@@ -4,7 +4,7 @@ ghost use Rattle.std.specs.Option.{ForSome};
 ghost use Rattle.outside.specs.Faults.{HasCause};
 ghost use Rattle.outside.specs.Files.{file_of};
 ghost use Rattle.outside.specs.Outside.{Outside, DiskCall};
-ghost use Rattle.outside.specs.Disk.{Becomes, Reads, Writes, Cuts, Syncs};
+ghost use Rattle.outside.specs.Disk.{RelatesTold, ReadsBytes, WritesFile, CutsFile, SyncsFile};
 
 use crate::Failed;
 
@@ -42,7 +42,7 @@ pub trait Disk {
         ensures bound { IfOk result (λ n. n ≤ length buf.new) }
         ensures bytes { IfOk result
             (λ n. ForSome (tells self.old).files
-            (λ two. Reads (file_of two file).now at buf.new n)) };
+            (λ two. ReadsBytes (file_of two file).now at buf.new n)) };
 
     /// Writes from place `at` on, over what is there and past the end.
     fn write_at(&mut self, file: u8, at: u64, bytes: &[u8]) -> Result<(), Failed>
@@ -51,7 +51,7 @@ pub trait Disk {
             (λ two. at ≤ length (file_of two file).now) }
         ensures call { DiskCall (tells self.old) (tells self.new) }
         ensures cause { HasCause (tells self.old).disk_faults (tells self.new).disk_faults result }
-        ensures written { Becomes (Writes file at bytes.now result) (tells self.old).files
+        ensures written { RelatesTold (WritesFile file at bytes.now result) (tells self.old).files
             (tells self.new).files };
 
     /// Cuts the file to a length.
@@ -61,7 +61,7 @@ pub trait Disk {
             (λ two. len ≤ length (file_of two file).now) }
         ensures call { DiskCall (tells self.old) (tells self.new) }
         ensures cause { HasCause (tells self.old).disk_faults (tells self.new).disk_faults result }
-        ensures cut { Becomes (Cuts file len result) (tells self.old).files
+        ensures cut { RelatesTold (CutsFile file len result) (tells self.old).files
             (tells self.new).files };
 
     /// After it a crash leaves of this file what a read gives.
@@ -69,6 +69,6 @@ pub trait Disk {
         requires { file < 2 }
         ensures call { DiskCall (tells self.old) (tells self.new) }
         ensures cause { HasCause (tells self.old).disk_faults (tells self.new).disk_faults result }
-        ensures synced { Becomes (Syncs file result) (tells self.old).files
+        ensures synced { RelatesTold (SyncsFile file result) (tells self.old).files
             (tells self.new).files };
 }

@@ -1,7 +1,7 @@
 //! A disk with links and a clock.
 ghost use Rattle.std.specs.Prelude.{◌≡◌, ◌<◌, length};
 ghost use Rattle.outside.specs.Outside.{LinkCall, QuietCall};
-ghost use Rattle.outside.specs.Host.{Dials, AsksNonce, Hears, IsCaused, Sends, SendsPart};
+ghost use Rattle.outside.specs.Host.{DialsLink, AsksNonce, HearsAnswer, IsAnswerCaused, SendsOnLink, SendsPart};
 ghost use Rattle.outside.specs.Host.{ReadsClock};
 
 use crate::{Disk, Failed, LINKS};
@@ -26,7 +26,7 @@ pub trait Host: Disk {
     fn dial(&mut self, spec: &str) -> Result<u8, Failed>
         requires { (Self.tells self.old).links.dialled < LINKS }
         ensures call { QuietCall (Self.tells self.old) (Self.tells self.new) }
-        ensures links { Dials spec.now result (Self.tells self.old).links
+        ensures links { DialsLink spec.now result (Self.tells self.old).links
             (Self.tells self.new).links };
 
     /// Sixteen bytes for a link that no one else has.
@@ -41,9 +41,9 @@ pub trait Host: Disk {
         requires link { link < (Self.tells self.old).links.dialled }
         requires room { 0 < length buf.old }
         ensures call { QuietCall (Self.tells self.old) (Self.tells self.new) }
-        ensures links { Hears link result buf.new (Self.tells self.old).links
+        ensures links { HearsAnswer link result buf.new (Self.tells self.old).links
             (Self.tells self.new).links }
-        ensures answer { IsCaused result (length buf.new) ((Self.tells self.old).links.faults link)
+        ensures answer { IsAnswerCaused result (length buf.new) ((Self.tells self.old).links.faults link)
             ((Self.tells self.new).links.faults link) };
 
     /// Sends all bytes on a link. At `Failed` a front of them went out.
@@ -51,7 +51,7 @@ pub trait Host: Disk {
         requires { link < (Self.tells self.old).links.dialled }
         ensures call { LinkCall (SendsPart (Self.tells self.old) link bytes.now)
             (Self.tells self.old) (Self.tells self.new) }
-        ensures links { Sends link bytes.now result (Self.tells self.old).links
+        ensures links { SendsOnLink link bytes.now result (Self.tells self.old).links
             (Self.tells self.new).links };
 
     /// Ends a link on this side.

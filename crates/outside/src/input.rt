@@ -3,7 +3,7 @@ ghost use Rattle.std.specs.Prelude.{◌≡◌, ℕ, ◌+◌, ◌^◌, ◌<◌, �
 ghost use Rattle.std.specs.Prelude.{vec_len, IfOk, OnErr, IsErrOf};
 ghost use Rattle.std.specs.Io.KnownBytes.{ReadConsumes};
 ghost use Rattle.outside.specs.declared.input.InputFault.TheVariants.{Memory};
-ghost use Rattle.outside.specs.Faults.{HasCause, Rose};
+ghost use Rattle.outside.specs.Faults.{HasCause, CountRose};
 ghost use Rattle.outside.specs.Input.{ReadsInput};
 
 use crate::{Failed, Source};
@@ -41,7 +41,7 @@ pub fn read_input<S: Source>(input: &mut S, limit: u64, to: &mut Vec<u8>) -> Res
         result }
     ensures later { (S.tells input.old).faults ≤ (S.tells input.new).faults }
     ensures fault { IsErrOf result InputFault.ReadFault
-        → Rose (S.tells input.old).faults (S.tells input.new).faults }
+        → CountRose (S.tells input.old).faults (S.tells input.new).faults }
 {
     let most = limit as usize;
     'pieces: loop {

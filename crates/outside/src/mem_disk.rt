@@ -6,12 +6,12 @@ ghost use Rattle.std.specs.Option.{ForSome};
 ghost use Rattle.outside.specs.Faults.{HasCause, one_more};
 ghost use Rattle.outside.specs.Files.{file_of, with_file, IsImage};
 ghost use Rattle.outside.specs.Outside.{DiskCall};
-ghost use Rattle.outside.specs.Disk.{Becomes, Reads, Writes, Cuts, Syncs, overwritten};
+ghost use Rattle.outside.specs.Disk.{RelatesTold, ReadsBytes, WritesFile, CutsFile, SyncsFile, overwritten};
 ghost use Rattle.outside.specs.MemDisk.{two_of, fresh, disk_files, files_of, bytes_of, wrote};
 ghost use Rattle.outside.specs.MemDisk.{wrote_not, cut, cut_not, synced, dialled};
 ghost use Rattle.outside.specs.MemDisk.{sent as bytes_sent, answered, hosted, reply_of, with_call};
-ghost use Rattle.outside.specs.MemDisk.{bytes_each, fails_next, Makes};
-ghost use Rattle.outside.specs.MemImage.{Pictures};
+ghost use Rattle.outside.specs.MemDisk.{bytes_each, fails_next, MakesChange};
+ghost use Rattle.outside.specs.MemImage.{PicturesDisk};
 
 use crate::due::Due;
 use crate::failing::Failing;
@@ -141,7 +141,7 @@ impl MemDisk {
 
     /// A fresh disk with one of the images that a crash now may leave.
     pub fn image(&self, pick: Pick) -> Result<MemDisk, AllocError>
-        ensures picked { IfOk result (λ d. Pictures pick (disk_files self.now) d) }
+        ensures picked { IfOk result (λ d. PicturesDisk pick (disk_files self.now) d) }
         ensures image { IfOk result (λ d. IsImage (files_of (disk_files self.now)) d.start) }
     {
         let first = image_of(self.alloc, &self.start0, &self.calls, 0, pick)?;
@@ -152,11 +152,11 @@ impl MemDisk {
 
 // The calls of a disk.
 impl MemDisk {
-    ghost use Rattle.outside.specs.MemDisk.{IsDue};
+    ghost use Rattle.outside.specs.MemDisk.{IsCallDue};
 
     // Counts a call, and says what is due at it.
     fn due(&mut self) -> Due
-        ensures due { IsDue self.old result }
+        ensures due { IsCallDue self.old result }
         ensures counts { self.new ≡ record self.old { made = one_more self.old.made } }
         ensures later { self.old.made ≤ self.new.made }
     {
@@ -196,7 +196,7 @@ impl MemDisk {
 
     fn make_len(&mut self, file: u8) -> Result<u64, Failed>
         requires { file < 2 }
-        ensures makes { Makes None None result self.old self.new }
+        ensures makes { MakesChange None None result self.old self.new }
         ensures fails { is_err result ≡ fails_next self.old }
         ensures value { IfOk result
             (λ n. n ≡ length (file_of (files_of (disk_files self.old)) file).now) }
@@ -210,11 +210,11 @@ impl MemDisk {
 
     fn make_read(&mut self, file: u8, at: u64, buf: &mut [u8]) -> Result<usize, Failed>
         requires { file < 2 }
-        ensures makes { Makes None None result self.old self.new }
+        ensures makes { MakesChange None None result self.old self.new }
         ensures fails { is_err result ≡ fails_next self.old }
         ensures bound { IfOk result (λ n. n ≤ length buf.new) }
         ensures bytes { IfOk result
-            (λ n. Reads (file_of (files_of (disk_files self.old)) file).now at buf.new n) }
+            (λ n. ReadsBytes (file_of (files_of (disk_files self.old)) file).now at buf.new n) }
     {
         match self.due() {
             Due::Fine => Ok(read_from(self.file(file), at as usize, buf)),
@@ -226,7 +226,7 @@ impl MemDisk {
     fn make_write(&mut self, file: u8, at: u64, bytes: &[u8]) -> Result<(), Failed>
         requires file { file < 2 }
         requires place { at ≤ length (file_of (bytes_of (disk_files self.old)) file) }
-        ensures makes { Makes (Some (wrote file at bytes.now)) (Some (wrote_not file at bytes.now))
+        ensures makes { MakesChange (Some (wrote file at bytes.now)) (Some (wrote_not file at bytes.now))
             result self.old self.new }
     {
         match self.due() {
@@ -244,7 +244,7 @@ impl MemDisk {
 
     fn make_cut(&mut self, file: u8, len: u64) -> Result<(), Failed>
         requires { file < 2 }
-        ensures makes { Makes (Some (cut file len)) (Some (cut_not file len)) result self.old
+        ensures makes { MakesChange (Some (cut file len)) (Some (cut_not file len)) result self.old
             self.new }
     {
         match self.due() {
@@ -262,7 +262,7 @@ impl MemDisk {
 
     fn make_sync(&mut self, file: u8) -> Result<(), Failed>
         requires { file < 2 }
-        ensures makes { Makes (Some (synced file)) None result self.old self.new }
+        ensures makes { MakesChange (Some (synced file)) None result self.old self.new }
     {
         match self.due() {
             Due::Fine => match self.keep_sync(file) {
@@ -406,7 +406,7 @@ fn note(calls: &mut Vec<Call>, call: Call)
 // Reads as many bytes as there are from a place on, or as the buffer has room for.
 fn read_from(bytes: &[u8], at: usize, buf: &mut [u8]) -> usize
     ensures bound { result ≤ length buf.new }
-    ensures reads { Reads bytes.now at buf.new result }
+    ensures reads { ReadsBytes bytes.now at buf.new result }
 {
     let n = buf.len().min(bytes.len().saturating_sub(at));
     if n > 0 {
@@ -478,7 +478,7 @@ impl Disk for MemDisk {
 
         // It fails exactly where the list or the stop says so.
         ensures fails { is_err result ≡ fails_next self.old }
-        ensures makes { Makes None None result self.old self.new }
+        ensures makes { MakesChange None None result self.old self.new }
     {
         self.make_len(file)
     }
@@ -491,11 +491,11 @@ impl Disk for MemDisk {
         ensures bound { IfOk result (λ n. n ≤ length buf.new) }
         ensures bytes { IfOk result
             (λ n. ForSome (disk_told self.old).files
-            (λ two. Reads (file_of two file).now at buf.new n)) }
+            (λ two. ReadsBytes (file_of two file).now at buf.new n)) }
 
         // It fails exactly where the list or the stop says so.
         ensures fails { is_err result ≡ fails_next self.old }
-        ensures makes { Makes None None result self.old self.new }
+        ensures makes { MakesChange None None result self.old self.new }
     {
         self.make_read(file, at, buf)
     }
@@ -506,11 +506,11 @@ impl Disk for MemDisk {
             (λ two. at ≤ length (file_of two file).now) }
         ensures call { DiskCall (disk_told self.old) (disk_told self.new) }
         ensures cause { HasCause self.old.faults self.new.faults result }
-        ensures written { Becomes (Writes file at bytes.now result) (disk_told self.old).files
+        ensures written { RelatesTold (WritesFile file at bytes.now result) (disk_told self.old).files
             (disk_told self.new).files }
 
         // It fails exactly where the list or the stop says so, or there was no memory.
-        ensures makes { Makes (Some (wrote file at bytes.now)) (Some (wrote_not file at bytes.now))
+        ensures makes { MakesChange (Some (wrote file at bytes.now)) (Some (wrote_not file at bytes.now))
             result self.old self.new }
     {
         self.make_write(file, at, bytes)
@@ -522,11 +522,11 @@ impl Disk for MemDisk {
             (λ two. len ≤ length (file_of two file).now) }
         ensures call { DiskCall (disk_told self.old) (disk_told self.new) }
         ensures cause { HasCause self.old.faults self.new.faults result }
-        ensures cut { Becomes (Cuts file len result) (disk_told self.old).files
+        ensures cut { RelatesTold (CutsFile file len result) (disk_told self.old).files
             (disk_told self.new).files }
 
         // It fails exactly where the list or the stop says so, or there was no memory.
-        ensures makes { Makes (Some (cut file len)) (Some (cut_not file len)) result self.old
+        ensures makes { MakesChange (Some (cut file len)) (Some (cut_not file len)) result self.old
             self.new }
     {
         self.make_cut(file, len)
@@ -536,11 +536,11 @@ impl Disk for MemDisk {
         requires { file < 2 }
         ensures call { DiskCall (disk_told self.old) (disk_told self.new) }
         ensures cause { HasCause self.old.faults self.new.faults result }
-        ensures synced { Becomes (Syncs file result) (disk_told self.old).files
+        ensures synced { RelatesTold (SyncsFile file result) (disk_told self.old).files
             (disk_told self.new).files }
 
         // It fails exactly where the list or the stop says so, or there was no memory.
-        ensures makes { Makes (Some (synced file)) None result self.old self.new }
+        ensures makes { MakesChange (Some (synced file)) None result self.old self.new }
     {
         self.make_sync(file)
     }

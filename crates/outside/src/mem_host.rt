@@ -5,19 +5,19 @@ ghost use Rattle.std.specs.Prelude.{if◌then◌else◌, is_err, vec_len};
 ghost use Rattle.std.specs.Option.{option_map, ForSome};
 ghost use Rattle.outside.specs.Faults.{HasCause, one_more};
 ghost use Rattle.outside.specs.Files.{file_of};
-ghost use Rattle.outside.specs.Links.{Link, sent_of};
+ghost use Rattle.outside.specs.Links.{ToldLink, sent_of};
 ghost use Rattle.outside.specs.Outside.{DiskCall, LinkCall, QuietCall};
-ghost use Rattle.outside.specs.Disk.{Becomes, Reads, Writes, Cuts, Syncs};
-ghost use Rattle.outside.specs.Host.{Dials, AsksNonce, Hears, IsCaused, Sends, SendsPart};
+ghost use Rattle.outside.specs.Disk.{RelatesTold, ReadsBytes, WritesFile, CutsFile, SyncsFile};
+ghost use Rattle.outside.specs.Host.{DialsLink, AsksNonce, HearsAnswer, IsAnswerCaused, SendsOnLink, SendsPart};
 ghost use Rattle.outside.specs.Host.{ReadsClock};
 ghost use Rattle.outside.specs.Planned.{reply_to, reply_in};
 ghost use Rattle.outside.specs.MemDisk.{fails_next, wrote, wrote_not, cut, cut_not, synced};
 ghost use Rattle.outside.specs.MemDisk.{dialled, sent as bytes_sent, reply_of, with_call};
 ghost use Rattle.outside.specs.Script.{planned_of, FitsIn};
 ghost use Rattle.outside.specs.MemHost.{fresh_host, links_of, script_of, with_script};
-ghost use Rattle.outside.specs.MemHost.{PlansMore, LeavesBehind, Crashes, reading_added};
+ghost use Rattle.outside.specs.MemHost.{PlansAnswer, LeavesBehind, CrashesHost, reading_added};
 ghost use Rattle.outside.specs.MemHost.{reading_set, upcoming_of, OnDisk, MakesDial, MakesNonce};
-ghost use Rattle.outside.specs.MemHost.{MakesAnswer, MakesSend, MakesReading, Raises};
+ghost use Rattle.outside.specs.MemHost.{MakesAnswer, MakesSend, MakesReading, RaisesCount};
 
 use crate::clock::Clock;
 use crate::counts::raise_at;
@@ -66,7 +66,7 @@ impl Drop for MemHost {
 
 impl Model for MemHost {
     ghost use Rattle.outside.specs.MemDisk.{bytes_each};
-    ghost use Rattle.outside.specs.MemHost.{MemHostValue, IsWired};
+    ghost use Rattle.outside.specs.MemHost.{MemHostValue, AreLinksWired};
 
     ghost Value = { MemHostValue };
 
@@ -82,7 +82,7 @@ impl Model for MemHost {
       starved = h.starved;
     } };
 
-    ghost invariant = { λ h. IsWired h.disk (bytes_each h.sent.items) h.scripts.items };
+    ghost invariant = { λ h. AreLinksWired h.disk (bytes_each h.sent.items) h.scripts.items };
 }
 
 impl MemHost {
@@ -133,7 +133,7 @@ impl MemHost {
 
     /// Begins anew over one of the images that a crash now may leave, of which no call was made.
     pub fn crash(&mut self, pick: Pick) -> Result<(), AllocError>
-        ensures ok { OnOk result (Crashes pick self.old self.new) }
+        ensures ok { OnOk result (CrashesHost pick self.old self.new) }
         ensures no_links { OnOk result (links_of self.new.disk ≡ []) }
         ensures err { OnErr result (self.new ≡ self.old) }
     {
@@ -179,7 +179,7 @@ impl MemHost {
               scripts = with_script link
                   (script_of link self.old.scripts ++ planned_of answer) self.old.scripts;
             }) }
-        ensures planned { OnOk result (PlansMore link answer self.old.scripts self.new.scripts) }
+        ensures planned { OnOk result (PlansAnswer link answer self.old.scripts self.new.scripts) }
         ensures err { OnErr result (self.new ≡ self.old) }
     {
         let script = &mut self.scripts[link as usize];
@@ -336,7 +336,7 @@ impl MemHost {
         requires link { link < length (links_of self.old.disk) }
         requires room { 0 < length buf.old }
         ensures makes { MakesAnswer link result buf.new self.old self.new }
-        ensures answer { IsCaused result (length buf.new) (slice_index self.old.faults link)
+        ensures answer { IsAnswerCaused result (length buf.new) (slice_index self.old.faults link)
             (slice_index self.new.faults link) }
     {
         let place = link as usize;
@@ -361,7 +361,7 @@ impl MemHost {
             ≡ Some (reply_of reply) }
         requires fits { FitsIn (length buf.old) (Some (reply_of reply)) }
         ensures makes { MakesAnswer link result buf.new self.old self.new }
-        ensures answer { IsCaused result (length buf.new) (slice_index self.old.faults link)
+        ensures answer { IsAnswerCaused result (length buf.new) (slice_index self.old.faults link)
             (slice_index self.new.faults link) }
     {
         let place = link as usize;
@@ -387,8 +387,8 @@ impl MemHost {
           faults = self.new.faults;
           starved = one_more self.old.starved;
         } }
-        ensures silences { Raises link self.old.silences self.new.silences }
-        ensures faults { Raises link self.old.faults self.new.faults }
+        ensures silences { RaisesCount link self.old.silences self.new.silences }
+        ensures faults { RaisesCount link self.old.faults self.new.faults }
     {
         raise_at(&mut self.silences, link);
         raise_at(&mut self.faults, link);
@@ -437,7 +437,7 @@ fn put(reply: &Reply, buf: &mut [u8]) -> Heard
     requires room { 0 < length buf.old }
     requires fits { FitsIn (length buf.old) (Some (reply_of reply.now)) }
     ensures heard { reply_in result buf.new ≡ Some (reply_of reply.now) }
-    ensures answer { (before after : ℕ) → IsCaused result (length buf.new) before after }
+    ensures answer { (before after : ℕ) → IsAnswerCaused result (length buf.new) before after }
 {
     match reply {
         Reply::Got(bytes) => {
@@ -478,7 +478,7 @@ impl Disk for MemHost {
         ensures bound { IfOk result (λ n. n ≤ length buf.new) }
         ensures bytes { IfOk result
             (λ n. ForSome (host_told self.old).files
-            (λ two. Reads (file_of two file).now at buf.new n)) }
+            (λ two. ReadsBytes (file_of two file).now at buf.new n)) }
 
         // It fails exactly where the list or the stop of its disk says so.
         ensures fails { is_err result ≡ fails_next self.old.disk }
@@ -493,7 +493,7 @@ impl Disk for MemHost {
             (λ two. at ≤ length (file_of two file).now) }
         ensures call { DiskCall (host_told self.old) (host_told self.new) }
         ensures cause { HasCause self.old.disk.faults self.new.disk.faults result }
-        ensures written { Becomes (Writes file at bytes.now result) (host_told self.old).files
+        ensures written { RelatesTold (WritesFile file at bytes.now result) (host_told self.old).files
             (host_told self.new).files }
 
         // It fails exactly where its disk says so.
@@ -509,7 +509,7 @@ impl Disk for MemHost {
             (λ two. len ≤ length (file_of two file).now) }
         ensures call { DiskCall (host_told self.old) (host_told self.new) }
         ensures cause { HasCause self.old.disk.faults self.new.disk.faults result }
-        ensures cut { Becomes (Cuts file len result) (host_told self.old).files
+        ensures cut { RelatesTold (CutsFile file len result) (host_told self.old).files
             (host_told self.new).files }
 
         // It fails exactly where its disk says so.
@@ -523,7 +523,7 @@ impl Disk for MemHost {
         requires { file < 2 }
         ensures call { DiskCall (host_told self.old) (host_told self.new) }
         ensures cause { HasCause self.old.disk.faults self.new.disk.faults result }
-        ensures synced { Becomes (Syncs file result) (host_told self.old).files
+        ensures synced { RelatesTold (SyncsFile file result) (host_told self.old).files
             (host_told self.new).files }
 
         // It fails exactly where its disk says so.
@@ -539,7 +539,7 @@ impl Host for MemHost {
     fn dial(&mut self, spec: &str) -> Result<u8, Failed>
         requires { length (links_of self.old.disk) < LINKS }
         ensures call { QuietCall (host_told self.old) (host_told self.new) }
-        ensures links { Dials spec.now result (host_told self.old).links
+        ensures links { DialsLink spec.now result (host_told self.old).links
             (host_told self.new).links }
 
         // It fails exactly where the list says so, or there was no memory.
@@ -564,9 +564,9 @@ impl Host for MemHost {
         requires link { link < length (links_of self.old.disk) }
         requires room { 0 < length buf.old }
         ensures call { QuietCall (host_told self.old) (host_told self.new) }
-        ensures links { Hears link result buf.new (host_told self.old).links
+        ensures links { HearsAnswer link result buf.new (host_told self.old).links
             (host_told self.new).links }
-        ensures answer { IsCaused result (length buf.new) (slice_index self.old.faults link)
+        ensures answer { IsAnswerCaused result (length buf.new) (slice_index self.old.faults link)
             (slice_index self.new.faults link) }
 
         // It fails exactly where the script says so, or there was no memory.
@@ -579,7 +579,7 @@ impl Host for MemHost {
         requires { link < length (links_of self.old.disk) }
         ensures call { LinkCall (SendsPart (host_told self.old) link bytes.now)
             (host_told self.old) (host_told self.new) }
-        ensures links { Sends link bytes.now result (host_told self.old).links
+        ensures links { SendsOnLink link bytes.now result (host_told self.old).links
             (host_told self.new).links }
 
         // It fails exactly where the list says so, or there was no memory.

@@ -3,7 +3,7 @@ ghost use Rattle.std.specs.Prelude.{◌≡◌, [], ◌++◌, take, drop, MatchBo
 ghost use Rattle.std.specs.Option.{option_map};
 ghost use Rattle.outside.specs.MemDisk.{reply_of};
 ghost use Rattle.outside.specs.Script.{planned_of, plan_from, left_in};
-ghost use Rattle.outside.specs.Script.{FitsIn, IsFull, IsReady};
+ghost use Rattle.outside.specs.Script.{FitsIn, BringsBytes, IsAnswerReady};
 ghost use Rattle.outside.specs.Planned.{reply_to, plan_after};
 
 use crate::{Answer, Reply};
@@ -22,13 +22,13 @@ pub struct Script {
 impl Model for Script {
     ghost use Rattle.std.specs.Prelude.{List, drop};
     ghost use Rattle.outside.specs.Links.{Planned};
-    ghost use Rattle.outside.specs.Script.{plan_from, IsReady};
+    ghost use Rattle.outside.specs.Script.{plan_from, IsAnswerReady};
 
     ghost Value = { List Planned };
 
     ghost view = { λ s. plan_from s.at (drop s.next s.answers.items) };
 
-    ghost invariant = { λ s. IsReady s.next s.at s.answers.items };
+    ghost invariant = { λ s. IsAnswerReady s.next s.at s.answers.items };
 }
 
 impl Script {
@@ -82,8 +82,8 @@ impl Script {
 
 // The place behind the answer to a buffer of so many bytes.
 fn behind(answers: &[Answer], next: usize, at: usize, room: usize) -> (usize, usize)
-    requires { IsReady next at answers.now }
-    ensures ready { IsReady result.0 result.1 answers.now }
+    requires { IsAnswerReady next at answers.now }
+    ensures ready { IsAnswerReady result.0 result.1 answers.now }
     ensures script { plan_from result.1 (drop result.0 answers.now) ≡ plan_after room
         (plan_from at (drop next answers.now)) }
 {
@@ -109,7 +109,7 @@ fn left_in(answer: &Answer, at: usize) -> usize
 
 // Whether there is something to hear.
 fn is_full(answer: &Answer) -> bool
-    ensures { MatchBool result (IsFull answer.now) (planned_of answer.now ≡ []) }
+    ensures { MatchBool result (BringsBytes answer.now) (planned_of answer.now ≡ []) }
 {
     match answer {
         Answer::Bytes(bytes) => !bytes.is_empty(),

@@ -4,8 +4,8 @@ use Rattle.outside.specs.declared.host.Heard.{Heard}
 use Rattle.outside.specs.declared.host.Heard.TheVariants as heard
 
 -- bytes are some, and fit
-abbrev pub FitsIn : ℕ → Heard → Type 0
-FitsIn room (heard.Got n) = (0 < n) × (n ≤ room)
-FitsIn room heard.Idle = Unit {0}
-FitsIn room heard.End = Unit {0}
-FitsIn room heard.Failed = Unit {0}
+abbrev pub FitsBuffer : ℕ → Heard → Type 0
+FitsBuffer room (heard.Got n) = (0 < n) × (n ≤ room)
+FitsBuffer room heard.Idle = Unit {0}
+FitsBuffer room heard.End = Unit {0}
+FitsBuffer room heard.Failed = Unit {0}

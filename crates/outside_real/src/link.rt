@@ -1,6 +1,6 @@
 //! A link of whichever kind.
 ghost use Rattle.std.specs.Prelude.{◌<◌, length};
-ghost use Rattle.outside_real.specs.Heard.{FitsIn};
+ghost use Rattle.outside_real.specs.Heard.{FitsBuffer};
 
 use crate::socket::Socket;
 use crate::spec::{Spec, read_spec};
@@ -41,7 +41,7 @@ impl<R: Runtime + Net> Link<R> {
     /// Hears on the link, into the front of `buf`.
     pub fn hear(&mut self, buf: &mut [u8]) -> Heard
         requires { 0 < length buf.old }
-        ensures { FitsIn (length buf.new) result }
+        ensures { FitsBuffer (length buf.new) result }
     {
         match self {
             Link::Std(from) => std_link::hear(from, buf),

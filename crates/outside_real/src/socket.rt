@@ -1,7 +1,7 @@
 //! A link over a socket.
 ghost use Rattle.std.specs.Prelude.{◌<◌, length};
 ghost use Rattle.std.specs.Io.{WritesAtMost};
-ghost use Rattle.outside_real.specs.Heard.{FitsIn};
+ghost use Rattle.outside_real.specs.Heard.{FitsBuffer};
 
 use crate::inbox::Inbox;
 use crate::stream::Stream;
@@ -51,7 +51,7 @@ impl<R: Net> Socket<R> {
     /// Hears on the link, into the front of `buf`; `Idle` where nothing came for 100 ms.
     pub fn hear(&mut self, buf: &mut [u8]) -> Heard
         requires { 0 < length buf.old }
-        ensures { FitsIn (length buf.new) result }
+        ensures { FitsBuffer (length buf.new) result }
     {
         if !self.inbox.is_empty() {
             return Heard::Got(self.inbox.take(buf));

@@ -1,6 +1,6 @@
 //! A link over the standard input and output.
 ghost use Rattle.std.specs.Prelude.{◌<◌, length};
-ghost use Rattle.outside_real.specs.Heard.{FitsIn};
+ghost use Rattle.outside_real.specs.Heard.{FitsBuffer};
 
 use crate::streams::{read_once, write_full};
 use outside::{Failed, Heard};
@@ -10,7 +10,7 @@ use std::io::Read;
 /// Reads once, and waits until there is something to read.
 pub fn hear<S: Read>(from: &mut S, buf: &mut [u8]) -> Heard
     requires { 0 < length buf.old }
-    ensures { FitsIn (length buf.new) result }
+    ensures { FitsBuffer (length buf.new) result }
 {
     match read_once(from, buf) {
         Some(0) => Heard::End,

@@ -5,7 +5,7 @@ use Rattle.sync_rules.specs.Clients.{Meaning}
 use Rattle.sync_rules.specs.Facts.{Facts, after, after_all, facts}
 use Rattle.sync_rules.specs.Steps.{next}
 use Rattle.sync_rules.specs.Legal.{IsSettling}
-use Rattle.sync_rules.specs.Hearing.{Settles}
+use Rattle.sync_rules.specs.Hearing.{SettlesJournal}
 use Rattle.plain_rules.specs.Settling.{AddsSettling, with_last}
 use Rattle.sync_rules.specs.declared.limits.TheConstants.{MAX_STEPS}
 use Rattle.sync_rules.specs.Left.{left_of}
@@ -52,7 +52,7 @@ adds_up_to clients few most old j le a =
     let within : length a.batch ≤ few = a.few in
     record { batch = a.batch; stands = a.stands; some = a.some; few = omega (arith, within); settling = a.settling }
 
-pub adds_settles : (clients : Meaning) (most : ℕ) (old j : List (List Entry)) → most ≤ MAX_STEPS → AddsSettling clients most old j → Settles clients old j
+pub adds_settles : (clients : Meaning) (most : ℕ) (old j : List (List Entry)) → most ≤ MAX_STEPS → AddsSettling clients most old j → SettlesJournal clients old j
 adds_settles clients most old j le a =
     let within : length a.batch ≤ most = a.few in
     record { more = a.batch ∷ []; extends = a.stands; settling = ((a.some, omega (arith, within), a.settling), tt) }

@@ -13,7 +13,7 @@ use Rattle.sync_rules.specs.Clients.{Meaning}
 use Rattle.sync_rules.specs.Facts.{Facts, after, after_all, after_batches, nothing, facts, held_at, session_at, contact_of, takes_of, count_or, level_at, is_invisible}
 use Rattle.sync_rules.specs.Sessions.{taken_message, taken_message_of, is_welcome, one_if}
 use Rattle.sync_rules.specs.Legal.{IsSettling, AllSettling, Legal}
-use Rattle.sync_rules.specs.Hearing.{Hears, IsHearing, take_batch}
+use Rattle.sync_rules.specs.Hearing.{HearsRecord, IsHearing, take_batch}
 use Rattle.sync_rules.proofs.StepLaws.{IsSettlingEntry, next_is_settling}
 use Rattle.sync_rules.proofs.Settling.{goes_on_both, after_batches-append}
 use Rattle.sync_rules.proofs.WorkLaws.{facts-push, settles_legal}
@@ -79,7 +79,7 @@ module _ (clients : Meaning) (old : List (List Entry)) (session contact k : ℕ)
         tt,
       )
 
-  pub hears_on : (new : List (List Entry)) → Hears clients old session k (record_kind.Message m) new → IsHearing clients new session contact (k + 1)
+  pub hears_on : (new : List (List Entry)) → HearsRecord clients old session k (record_kind.Message m) new → IsHearing clients new session contact (k + 1)
   hears_on new is =
       let f : Facts = facts old in
       let taking : List Entry = take_batch old session k (record_kind.Message m) in

@@ -9,7 +9,7 @@ use Rattle.plain_rules.specs.Lines.{lines_of}
 use Rattle.plain_rules.specs.Wants.{WantsAre}
 
 -- what a plain view keeps stands for the batches
-pub record IsPlain (j : List (List Entry)) (held : List HeldLine) (wanted : List WantedLine) : Type 0 where
+pub record IsPlainView (j : List (List Entry)) (held : List HeldLine) (wanted : List WantedLine) : Type 0 where
   pub lines : held ≡ lines_of (facts j).held
   pub few_held : length held < 2 ^ 32
   pub wants : WantsAre (facts j) wanted

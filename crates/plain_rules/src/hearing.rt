@@ -4,8 +4,8 @@ ghost use Rattle.std.specs.Prelude.{◌≡◌, ◌+◌, is_some, true, IfOk, OnO
 ghost use Rattle.sync_ids.specs.Values.{IsMessage};
 ghost use Rattle.sync_ids.specs.declared.records.Record.TheVariants as record_kind;
 ghost use Rattle.sync_rules.specs.Clients.{Meaning};
-ghost use Rattle.sync_rules.specs.Facts.{contact_of, facts, Extends};
-ghost use Rattle.sync_rules.specs.Hearing.{Hears, IsHearing, one_session, take_batch};
+ghost use Rattle.sync_rules.specs.Facts.{contact_of, facts, ExtendsJournal};
+ghost use Rattle.sync_rules.specs.Hearing.{HearsRecord, IsHearing, one_session, take_batch};
 ghost use Rattle.sync_rules.specs.Legal.{Legal};
 ghost use Rattle.sync_rules.specs.Sessions.{is_welcome, taken_message};
 ghost use Rattle.sync_rules.specs.Steps.{kind_of_def};
@@ -91,12 +91,12 @@ pub fn hear_message<C: Clients>(
     message: Message,
 ) -> Result<(), AllocError>
     requires { IsHearing (C.meaning clients.now) j.old.items session contact k }
-    ensures heard { OnOk result (Hears (C.meaning clients.now) j.old.items session k
+    ensures heard { OnOk result (HearsRecord (C.meaning clients.now) j.old.items session k
         (record_kind.Message message) j.new.items) }
     ensures goes_on { OnOk result (IsHearing (C.meaning clients.now) j.new.items session contact
         (k + 1)) }
     ensures legal { Legal (C.meaning clients.now) j.new.items }
-    ensures extends { Extends j.new.items j.old.items }
+    ensures extends { ExtendsJournal j.new.items j.old.items }
 {
     messages_are_within(&message);
     let batch = take_message(alloc, j.as_slice(), session, contact, k, message)?;

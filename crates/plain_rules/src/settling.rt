@@ -2,7 +2,7 @@
 ghost use Rattle.plain_rules.specs.Settling.{AddsSettling, with_last};
 ghost use Rattle.std.specs.Prelude.{◌≡◌, ◌+◌, ◌<◌, ◌≤◌, ◌∷◌, ◌++◌, [], length, Some, OnOk, OnErr};
 ghost use Rattle.sync_rules.specs.Facts.{facts};
-ghost use Rattle.sync_rules.specs.Hearing.{Settles};
+ghost use Rattle.sync_rules.specs.Hearing.{SettlesJournal};
 ghost use Rattle.sync_rules.specs.Legal.{Legal};
 ghost use Rattle.sync_rules.specs.Steps.{IsSettled, next};
 
@@ -56,7 +56,7 @@ fn settle_batch<C: Clients>(
     first: Entry,
 ) -> Result<(), AllocError>
     requires { next (C.meaning clients.now) (facts j.old.items) ≡ Some first }
-    ensures settles { Settles (C.meaning clients.now) j.old.items j.new.items }
+    ensures settles { SettlesJournal (C.meaning clients.now) j.old.items j.new.items }
     ensures added { OnOk result (AddsSettling (C.meaning clients.now) MAX_STEPS j.old.items
         j.new.items) }
 {
@@ -78,7 +78,7 @@ pub fn settle_in<C: Clients>(
     j: &mut Vec<Batch>,
     clients: &C,
 ) -> Result<(), AllocError>
-    ensures settles { Settles (C.meaning clients.now) j.old.items j.new.items }
+    ensures settles { SettlesJournal (C.meaning clients.now) j.old.items j.new.items }
     ensures legal { Legal (C.meaning clients.now) j.old.items
         → Legal (C.meaning clients.now) j.new.items }
     ensures settled { OnOk result (IsSettled (C.meaning clients.now) (facts j.new.items)) }

@@ -52,13 +52,13 @@ pub struct PlainView<'a> {
 impl<'a> Model for PlainView<'a> {
     ghost use Rattle.std.specs.Prelude.{List, ℕ};
     ghost use Rattle.sync_rules.specs.declared.entries.Entry.{Entry};
-    ghost use Rattle.plain_rules.specs.Plain.{IsPlain};
+    ghost use Rattle.plain_rules.specs.Plain.{IsPlainView};
 
     ghost Value = { List (List Entry) × List (List ℕ) };
 
     ghost view = { λ v. (v.batches.now, v.shared.items) };
 
-    ghost invariant = { λ v. IsPlain v.batches.now v.held.items v.wanted.items };
+    ghost invariant = { λ v. IsPlainView v.batches.now v.held.items v.wanted.items };
 }
 
 // The parts, where they are few enough.

@@ -11,8 +11,8 @@ use Rattle.sync_ids.specs.Records.{IsRecord}
 use Rattle.sync_ids.specs.declared.records.Record.{Record}
 use Rattle.sync_ids.specs.declared.records.Record.TheVariants as record_kind
 use Rattle.record_grammar.specs.Spelling.{Skips, Spells, framed, header, joined, payload_of, spelling, type_of}
-use Rattle.record_grammar.specs.Reading.{Backs, HasWhole, decided_by, decided_header, decided_payload, decided_rest, found_at, found_in, found_payload, front_in, ids_in, ids_of, kind_of, message_of, refused_for, refused_ids, refused_length, timestamp_in}
-use Rattle.record_grammar.specs.Laws.{IsWhole}
+use Rattle.record_grammar.specs.Reading.{AnswersBytes, HasWhole, decided_by, decided_header, decided_payload, decided_rest, found_at, found_in, found_payload, front_in, ids_in, ids_of, kind_of, message_of, refused_for, refused_ids, refused_length, timestamp_in}
+use Rattle.record_grammar.specs.Laws.{IsWholeRecord}
 use Rattle.record_grammar.specs.declared.front.Front.{Front}
 use Rattle.record_grammar.specs.declared.front.Front.TheVariants as front
 use Rattle.record_grammar.specs.declared.front.Kind.{Kind}
@@ -165,7 +165,7 @@ used_of (found.Skipped t used) = used
 used_of found.More = 0
 used_of (found.Bad why) = 0
 
-whole_used : (bytes more : List ℕ) → IsWhole bytes → used_of (found_in (bytes ++ more)) ≡ length bytes
+whole_used : (bytes more : List ℕ) → IsWholeRecord bytes → used_of (found_in (bytes ++ more)) ≡ length bytes
 unfolding used_of
 whole_used bytes more (inl spelled) = ap used_of (spelled_found spelled.0 bytes more spelled.1)
 whole_used bytes more (inr skipped) = ap used_of (skipped_found skipped.0 bytes more skipped.1)
@@ -174,7 +174,7 @@ empty : (xs : List ℕ) → length xs ≡ 0 → xs ≡ []
 empty [] none = refl
 empty (x ∷ xs) none = absurd (omega arith)
 
-pub none_begins : (bytes more : List ℕ) → IsWhole bytes → IsWhole (bytes ++ more) → more ≡ []
+pub none_begins : (bytes more : List ℕ) → IsWholeRecord bytes → IsWholeRecord (bytes ++ more) → more ≡ []
 none_begins bytes more whole longer =
     let first : used_of (found_in (bytes ++ more)) ≡ length bytes = whole_used bytes more whole in
     let second : used_of (found_in ((bytes ++ more) ++ [])) ≡ length (bytes ++ more) = whole_used (bytes ++ more) [] longer in
@@ -216,7 +216,7 @@ front_stays (v ∷ b) x = go (v == 0) b where
 pub found_stays : (b x : List ℕ) → found_in b ≢ found.More → found_in (b ++ x) ≡ found_in b
 unfolding found_in
 found_stays b x decided = go (front_in b) refl (front_stays b x) (front_backs b) decided where
-  go : (f : Front) → front_in b ≡ f → ((front_in b ≡ front.More) ⊎ (front_in (b ++ x) ≡ front_in b)) → Backs b (front_in b) → found_at (front_in b) b ≢ found.More
+  go : (f : Front) → front_in b ≡ f → ((front_in b ≡ front.More) ⊎ (front_in (b ++ x) ≡ front_in b)) → AnswersBytes b (front_in b) → found_at (front_in b) b ≢ found.More
       → found_at (front_in (b ++ x)) (b ++ x) ≡ found_at (front_in b) b
   go f e (inl more) back decided = absurd (decided (rw more refl))
   go front.More e (inr same) back decided = absurd (decided (rw e refl))

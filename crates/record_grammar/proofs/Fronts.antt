@@ -3,7 +3,7 @@ use Rattle.std.proofs.Common.{◌≡◌, ◌≢◌, ◌⊎◌, inl, inr, ℕ, �
 use Rattle.std.specs.Prelude.{Option, Some, None, ◌==◌, nat_lt, if◌then◌else◌}
 use Rattle.std.proofs.lemmas.List.{length-take-le}
 use Rattle.std.proofs.lemmas.Bool.Decides.{nat_tests}
-use Rattle.record_grammar.specs.Reading.{Backs, decided_by, decided_header, decided_payload, decided_rest, front_in, kind_of, refused_for, refused_length, timestamp_in}
+use Rattle.record_grammar.specs.Reading.{AnswersBytes, decided_by, decided_header, decided_payload, decided_rest, front_in, kind_of, refused_for, refused_length, timestamp_in}
 use Rattle.record_grammar.specs.declared.front.Front.TheVariants as front
 use Rattle.record_grammar.specs.declared.front.Kind.{Kind}
 use Rattle.record_grammar.specs.declared.front.Kind.TheVariants as kind
@@ -61,7 +61,7 @@ refused_long k len e = go (nat_lt 49152 len) refl e where
   go false f e = grind (arith, nat_tests)
 
 whole_backs : (b : List ℕ) (t len : ℕ) → 4 + len ≤ length b → refused_length (kind_of t) len ≡ None
-    → Backs b (decided_payload (kind_of t) t (take len (drop 4 b)))
+    → AnswersBytes b (decided_payload (kind_of t) t (take len (drop 4 b)))
 whole_backs b t len fits passes =
     let p : List ℕ = take len (drop 4 b) in
     let len_p : length p ≡ len = length-take-le len (drop 4 b) (omega (arith, length-drop 4 b)) in
@@ -70,10 +70,10 @@ whole_backs b t len fits passes =
       | inr e ↦ rw e tt
     ]
 
-pub header_backs : (b : List ℕ) (t len : ℕ) → 4 ≤ length b → Backs b (decided_header (kind_of t) t len (drop 4 b))
+pub header_backs : (b : List ℕ) (t len : ℕ) → 4 ≤ length b → AnswersBytes b (decided_header (kind_of t) t len (drop 4 b))
 header_backs b t len whole = go (refused_length (kind_of t) len) refl (nat_lt (length (drop 4 b)) len) refl where
   go : (o : Option Reason) → refused_length (kind_of t) len ≡ o → (w : Bool) → nat_lt (length (drop 4 b)) len ≡ w
-      → Backs b (decided_by o (if w then front.More else decided_payload (kind_of t) t (take len (drop 4 b))))
+      → AnswersBytes b (decided_by o (if w then front.More else decided_payload (kind_of t) t (take len (drop 4 b))))
   go (Some why) e w f = tt
   go None e true f =
       let most : len ≤ 49152 = refused_long (kind_of t) len e in
@@ -84,11 +84,11 @@ header_backs b t len whole = go (refused_length (kind_of t) len) refl (nat_lt (l
       whole_backs b t len (omega (arith, length-drop 4 b)) e
 
 -- the answer for any bytes
-pub front_backs : (b : List ℕ) → Backs b (front_in b)
+pub front_backs : (b : List ℕ) → AnswersBytes b (front_in b)
 unfolding front_in
 front_backs [] = omega arith
 front_backs (v ∷ b) = go (v == 0) b where
-  go : (w : Bool) (b : List ℕ) → Backs (v ∷ b) (if w then decided_rest b else front.Bad reason.WrongVersion)
+  go : (w : Bool) (b : List ℕ) → AnswersBytes (v ∷ b) (if w then decided_rest b else front.Bad reason.WrongVersion)
   go false b = tt
   go true [] = omega arith
   go true (t ∷ []) = omega arith

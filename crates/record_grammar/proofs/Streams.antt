@@ -2,8 +2,8 @@
 use Rattle.std.proofs.Common.{◌≡◌, ◌≢◌, ℕ, zero, suc, ◌+◌, ◌-◌, ◌<◌, ◌≤◌, List, [], ◌∷◌, ◌++◌, length, take, drop, refl, sym, ap, ◌∙◌, arith, length-drop}
 use Rattle.std.specs.Prelude.{Option, Some, None, Result, Ok, Err, IfOk}
 use Rattle.std.proofs.lemmas.List.{drop-append-le, length-take-le}
-use Rattle.record_grammar.specs.Reading.{Backs, HasWhole, found_at, found_in, found_payload, front_in, kind_of}
-use Rattle.record_grammar.specs.Stream.{GoesOn, IsRest, Parsed, ending, ending_for, item_of, items, parsed, place_after, rest, rest_place, used_of, with_item}
+use Rattle.record_grammar.specs.Reading.{AnswersBytes, HasWhole, found_at, found_in, found_payload, front_in, kind_of}
+use Rattle.record_grammar.specs.Stream.{TellsStream, IsRest, Parsed, ending, ending_for, item_of, items, parsed, place_after, rest, rest_place, used_of, with_item}
 use Rattle.record_grammar.specs.declared.front.Front.{Front}
 use Rattle.record_grammar.specs.declared.front.Front.TheVariants as front
 use Rattle.record_grammar.specs.declared.front.Kind.{Kind}
@@ -31,7 +31,7 @@ payload_used kind.Other t p = refl
 pub item_used : (b : List ℕ) (place : ℕ) (i : Item) → item_of place (found_in b) ≡ Some i → (4 ≤ used_of (found_in b)) × (used_of (found_in b) ≤ length b)
 unfolding found_in
 item_used b place i is = go (front_in b) refl (front_backs b) is where
-  go : (f : Front) → front_in b ≡ f → Backs b (front_in b) → item_of place (found_at (front_in b) b) ≡ Some i
+  go : (f : Front) → front_in b ≡ f → AnswersBytes b (front_in b) → item_of place (found_at (front_in b) b) ≡ Some i
       → (4 ≤ used_of (found_at (front_in b) b)) × (used_of (found_at (front_in b) b) ≤ length b)
   go front.More e back is = let none : None ≡ Some i = rw e at is in cc
   go (front.Bad why) e back is = let none : None ≡ Some i = rw e at is in cc
@@ -150,7 +150,7 @@ refused_stays b why e place more =
     ((rest_ends place (b ++ more) long).0, whole ∙ bad_ends place b more why (sym e))
 
 -- what is decided about the front goes for the whole stream
-pub goes_on : (b : List ℕ) (f : Found) → f ≡ found_in b → GoesOn b f
+pub goes_on : (b : List ℕ) (f : Found) → f ≡ found_in b → TellsStream b f
 goes_on b (found.One r used) e = record {
   begins = λ place more decided. (goes_step b (found.One r used) place (item.One place r) more e decided refl).items_of;
   ends = λ place more decided. (goes_step b (found.One r used) place (item.One place r) more e decided refl).ends;
@@ -166,7 +166,7 @@ goes_on b (found.Skipped t used) e = record {
 goes_on b found.More e = record { begins = λ place more decided. absurd (decided refl); ends = λ place more decided. absurd (decided refl); unfinished = λ place more. (rest_ends place b (rw (← e) refl)).0; refused = λ place more why bad. cc }
 goes_on b (found.Bad why) e = record { begins = λ place more decided. refl; ends = λ place more decided. refl; unfinished = λ place more. cc; refused = λ place more other bad. (let same : why ≡ other = cc in rw (← same) (refused_stays b why e place more)) }
 
-pub GoesOn-IfOk : (b : List ℕ) (r : Result Found AllocError) → IfOk r (λ f. f ≡ found_in b) → IfOk r (λ f. GoesOn b f)
+pub GoesOn-IfOk : (b : List ℕ) (r : Result Found AllocError) → IfOk r (λ f. f ≡ found_in b) → IfOk r (λ f. TellsStream b f)
 GoesOn-IfOk b (Ok f) e = goes_on b f e
 GoesOn-IfOk b (Err x) e = tt
 

@@ -22,20 +22,20 @@ IsSpelled bytes found.More = length bytes < MAX_RECORD
 IsSpelled bytes (found.Bad why) = Unit {0}
 
 -- what spells a record is read as that record, whatever follows
-abbrev pub SpellingsReadBack : Type 0
-SpellingsReadBack = (r : Record) (bytes more : List ℕ) → Spells r bytes → found_in (bytes ++ more) ≡ found.One r (length bytes)
+abbrev pub RecordsReadBack : Type 0
+RecordsReadBack = (r : Record) (bytes more : List ℕ) → Spells r bytes → found_in (bytes ++ more) ≡ found.One r (length bytes)
 
 -- what is passed over is passed over, whatever follows
 abbrev pub SkippedReadBack : Type 0
 SkippedReadBack = (type_byte : ℕ) (bytes more : List ℕ) → Skips type_byte bytes → found_in (bytes ++ more) ≡ found.Skipped type_byte (length bytes)
 
 -- bytes that are a whole record or a whole skipped one
-abbrev pub IsWhole : List ℕ → Type 0
-IsWhole bytes = ((r : Record) × Spells r bytes) ⊎ ((type_byte : ℕ) × Skips type_byte bytes)
+abbrev pub IsWholeRecord : List ℕ → Type 0
+IsWholeRecord bytes = ((r : Record) × Spells r bytes) ⊎ ((type_byte : ℕ) × Skips type_byte bytes)
 
 -- no spelling, and no skipped record, is a proper prefix of another
-abbrev pub NoneBeginsAnother : Type 0
-NoneBeginsAnother = (bytes more : List ℕ) → IsWhole bytes → IsWhole (bytes ++ more) → more ≡ []
+abbrev pub NoRecordBeginsAnother : Type 0
+NoRecordBeginsAnother = (bytes more : List ℕ) → IsWholeRecord bytes → IsWholeRecord (bytes ++ more) → more ≡ []
 
 -- bytes that spell two records spell one
 abbrev pub SpellingsAreExact : Type 0

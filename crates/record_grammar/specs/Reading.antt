@@ -80,10 +80,10 @@ pub record HasWhole (bytes : List ℕ) (type_byte len : ℕ) : Type 0 where
   pub decided : decided_payload (kind_of type_byte) type_byte (take len (drop 4 bytes)) ≡ front.Whole type_byte len
 
 -- what an answer says of the bytes beside the answer itself
-abbrev pub Backs : List ℕ → Front → Type 0
-Backs bytes front.More = length bytes < MAX_RECORD
-Backs bytes (front.Bad why) = Unit {0}
-Backs bytes (front.Whole type_byte len) = HasWhole bytes type_byte len
+abbrev pub AnswersBytes : List ℕ → Front → Type 0
+AnswersBytes bytes front.More = length bytes < MAX_RECORD
+AnswersBytes bytes (front.Bad why) = Unit {0}
+AnswersBytes bytes (front.Whole type_byte len) = HasWhole bytes type_byte len
 
 -- n ids
 unfoldable pub ids_in : ℕ → List ℕ → List (List ℕ)

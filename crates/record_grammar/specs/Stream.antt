@@ -115,7 +115,7 @@ pub record GoesOnBehind (place : ℕ) (bytes : List ℕ) : Type 0 where
 
 -- An answer about the front of some bytes says what the stream that they begin has: whatever follows, its items are what
 -- the answer gives and those behind it, and it ends as what is behind it does. Behind a refusal there is nothing.
-pub record GoesOn (bytes : List ℕ) (f : Found) : Type 0 where
+pub record TellsStream (bytes : List ℕ) (f : Found) : Type 0 where
   pub begins : (place : ℕ) (more : List ℕ) → f ≢ found.More
       → items place (bytes ++ more) ≡ told place f ++ items (place_after place f) (drop (used_of f) bytes ++ more)
   pub ends : (place : ℕ) (more : List ℕ) → f ≢ found.More

@@ -1,6 +1,6 @@
 //! What stands at the front of some bytes, decided without taking memory.
 ghost use Rattle.std.specs.Prelude.{◌≡◌, ◌+◌, ◌≤◌, length, drop};
-ghost use Rattle.record_grammar.specs.Reading.{Backs, decided_header, decided_payload, front_in};
+ghost use Rattle.record_grammar.specs.Reading.{AnswersBytes, decided_header, decided_payload, front_in};
 ghost use Rattle.record_grammar.specs.Reading.{kind_of, refused_for, refused_ids, refused_length};
 ghost use Rattle.record_grammar.specs.Reading.{timestamp_in};
 
@@ -146,7 +146,7 @@ fn decided_header(kind: Kind, type_byte: u8, len: usize, rest: &[u8]) -> Front
 /// record is there. It takes no memory.
 pub fn front_of(bytes: &[u8]) -> Front
     ensures value { result ≡ front_in bytes.now }
-    ensures backed { Backs bytes.now result }
+    ensures backed { AnswersBytes bytes.now result }
 {
     if bytes.is_empty() {
         return Front::More;

@@ -1,15 +1,15 @@
 //! What holds of all spellings and of all streams. Each function's clause is the law; none does
 //! anything.
 ghost use Rattle.record_grammar.specs.Laws.{DecisionsStay, EndingsAreOfRests, FrontsHaveFronts};
-ghost use Rattle.record_grammar.specs.Laws.{ItemsAreLongest, NoneBeginsAnother, RecordsJoin};
+ghost use Rattle.record_grammar.specs.Laws.{ItemsAreLongest, NoRecordBeginsAnother, RecordsJoin};
 ghost use Rattle.record_grammar.specs.Laws.{RestsGiveNothing, SkippedReadBack};
 ghost use Rattle.record_grammar.specs.Laws.{SpelledRecordsAreStreams, SpelledRecordsReadBack};
-ghost use Rattle.record_grammar.specs.Laws.{SpellingsAreExact, SpellingsReadBack};
+ghost use Rattle.record_grammar.specs.Laws.{SpellingsAreExact, RecordsReadBack};
 ghost use Rattle.record_grammar.specs.Laws.{StreamsAreMadeOfItems, StreamsGoOn};
 
 /// What spells a record is read as that record, whatever follows.
 pub fn spellings_read_back()
-    ensures { SpellingsReadBack }
+    ensures { RecordsReadBack }
 {}
 
 /// What is passed over is passed over, whatever follows.
@@ -19,7 +19,7 @@ pub fn skipped_read_back()
 
 /// No whole record, and no skipped one, is a proper prefix of another.
 pub fn none_begins_another()
-    ensures { NoneBeginsAnother }
+    ensures { NoRecordBeginsAnother }
 {}
 
 /// Bytes that spell two records spell one.

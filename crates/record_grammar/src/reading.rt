@@ -1,7 +1,7 @@
 //! Reading a record.
 ghost use Rattle.std.specs.Prelude.{◌≡◌, ◌+◌, ◌^◌, ◌<◌, ◌≤◌, length, IfOk};
 ghost use Rattle.record_grammar.specs.Laws.{IsSpelled};
-ghost use Rattle.record_grammar.specs.Stream.{GoesOn};
+ghost use Rattle.record_grammar.specs.Stream.{TellsStream};
 ghost use Rattle.record_grammar.specs.Reading.{decided_payload, found_in, found_payload, ids_of};
 ghost use Rattle.record_grammar.specs.Reading.{kind_of, message_of, refused_length, timestamp_in};
 
@@ -118,7 +118,7 @@ fn record_of(alloc: Global, type_byte: u8, payload: &[u8]) -> Result<Found, Allo
 pub fn read_one(alloc: Global, bytes: &[u8]) -> Result<Found, AllocError>
     ensures exact { IfOk result (λ found. found ≡ found_in bytes.now) }
     ensures spelled { IfOk result (λ found. IsSpelled bytes.now found) }
-    ensures goes_on { IfOk result (λ found. GoesOn bytes.now found) }
+    ensures goes_on { IfOk result (λ found. TellsStream bytes.now found) }
 {
     match front_of(bytes) {
         Front::More => Ok(Found::More),

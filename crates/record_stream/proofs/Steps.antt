@@ -4,19 +4,19 @@ use Rattle.std.proofs.lemmas.List.{append_assoc, append-nil, drop_all, drop-appe
 use Rattle.std.specs.List.{copy_within}
 use Rattle.sync_ids.specs.declared.records.Record.{Record}
 use Rattle.record_grammar.specs.Reading.{found_in, front_in}
-use Rattle.record_grammar.specs.Stream.{GoesOn, IsRest, advanced, items, parsed}
+use Rattle.record_grammar.specs.Stream.{TellsStream, IsRest, advanced, items, parsed}
 use Rattle.record_grammar.specs.declared.front.Reason.{Reason}
 use Rattle.record_grammar.specs.declared.reading.Found.{Found}
 use Rattle.record_grammar.specs.declared.reading.Found.TheVariants as found
 use Rattle.record_grammar.specs.declared.stream.Item.TheVariants as item
-use Rattle.record_stream.specs.Reading.{AwaitsBytes, EndsBad, IsRefused, ReaderState, ReadsOn, after, fresh}
+use Rattle.record_stream.specs.Reading.{AwaitsBytes, EndsBad, IsStreamRefused, ReaderState, ReadsOn, after, fresh}
 
 pub rest_nil : IsRest []
 unfolding found_in front_in
 rest_nil = refl
 
 -- a refusal is for good
-pub refused_of : (place : ℕ) (b : List ℕ) (why : Reason) (f : Found) → f ≡ found_in b → f ≡ found.Bad why → GoesOn b f → IsRefused place b
+pub refused_of : (place : ℕ) (b : List ℕ) (why : Reason) (f : Found) → f ≡ found_in b → f ≡ found.Bad why → TellsStream b f → IsStreamRefused place b
 refused_of place b why f e is goes = record {
   why = why;
   bad = sym e ∙ is;
@@ -51,14 +51,14 @@ pub skipped_after : (buf : List ℕ) (start end place place' used : ℕ) (failed
     → record { place = place'; bytes = take (end - (start + used)) (drop (start + used) buf); failed = failed } ≡ after s (found.Skipped t used)
 skipped_after buf start end place place' used failed s t view ep = rw (← view, ep, bytes_after buf start end used) refl
 
-pub one_read : (s n : ReaderState) (r : Record) (used : ℕ) → GoesOn s.bytes (found.One r used) → n ≡ after s (found.One r used)
+pub one_read : (s n : ReaderState) (r : Record) (used : ℕ) → TellsStream s.bytes (found.One r used) → n ≡ after s (found.One r used)
     → ReadsOn [] s (item.One s.place r ∷ []) [] n
 one_read s n r used goes en = record {
   items_stay = λ more. rw en (goes.begins s.place more (λ m. cc));
   ending_stays = λ more. rw en (goes.ends s.place more (λ m. cc));
 }
 
-pub skipped_read : (s n : ReaderState) (t used : ℕ) → GoesOn s.bytes (found.Skipped t used) → n ≡ after s (found.Skipped t used)
+pub skipped_read : (s n : ReaderState) (t used : ℕ) → TellsStream s.bytes (found.Skipped t used) → n ≡ after s (found.Skipped t used)
     → ReadsOn [] s (item.Skipped s.place t (used - 4) ∷ []) [] n
 skipped_read s n t used goes en = record {
   items_stay = λ more. rw en (goes.begins s.place more (λ m. cc));
@@ -121,16 +121,16 @@ moved old now new len start end place failed s view en el ew em ordered within w
     rw same (record { view = rw (left, front) view; ordered = omega arith; within = omega arith; whole = omega arith })
 
 -- a reader that is not at a refusal has not failed
-pub not_failed : (place : ℕ) (b : List ℕ) (failed : Bool) → (failed ≡ true → IsRefused place b) → found.More ≡ found_in b → failed ≡ false
+pub not_failed : (place : ℕ) (b : List ℕ) (failed : Bool) → (failed ≡ true → IsStreamRefused place b) → found.More ≡ found_in b → failed ≡ false
 not_failed place b true refused e = let bad : found_in b ≡ found.Bad (refused refl).why = (refused refl).bad in cc
 not_failed place b false refused e = refl
 
-pub more_leaves : (s : ReaderState) → found.More ≡ found_in s.bytes → GoesOn s.bytes found.More → length s.bytes < 49156 → s.failed ≡ false
+pub more_leaves : (s : ReaderState) → found.More ≡ found_in s.bytes → TellsStream s.bytes found.More → length s.bytes < 49156 → s.failed ≡ false
     → (s ≡ s) × AwaitsBytes s × (s.failed ≡ false) × (found_in s.bytes ≡ found.More)
 more_leaves s e goes room going =
     (refl, record { rest = rw (← e) refl; nothing = goes.unfinished s.place refl; room = λ _. room }, going, sym e)
 
-pub bad_leaves : (place : ℕ) (b : List ℕ) (why : Reason) (f : Found) → f ≡ found_in b → f ≡ found.Bad why → GoesOn b f
+pub bad_leaves : (place : ℕ) (b : List ℕ) (why : Reason) (f : Found) → f ≡ found_in b → f ≡ found.Bad why → TellsStream b f
     → AwaitsBytes (record { place = place; bytes = b; failed = true }) × EndsBad (record { place = place; bytes = b; failed = true }) place why
 bad_leaves place b why f e is goes = (
   record {
@@ -152,7 +152,7 @@ waits_at_start = record { rest = rest_nil; nothing = refl; room = λ _. omega ar
 
 -- a reader that has failed stands at a refusal
 pub refused_ends : (s : ReaderState) (place : ℕ) (b : List ℕ) (failed : Bool) → record { place = place; bytes = b; failed = failed } ≡ s
-    → (failed ≡ true → IsRefused place b) → s.failed ≡ true → (why : Reason) × EndsBad s s.place why
+    → (failed ≡ true → IsStreamRefused place b) → s.failed ≡ true → (why : Reason) × EndsBad s s.place why
 refused_ends s place b failed view refused is =
     let was : failed ≡ true = ap (λ (r : ReaderState). r.failed) view ∙ is in
     let at = refused was in

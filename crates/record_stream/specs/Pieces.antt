@@ -12,9 +12,9 @@ pub record Hearing {L : Type 0} (heard : L → List Item → L → Type 0) (piec
   pub hears : (first : L) (before : List Item) → heard first before l → heard first (before ++ has) l'
 
 -- What is left after an item was taken: fewer bytes, held or of the piece. Where none was taken nothing is left of the piece.
-abbrev pub Leaves : Option Item → List ℕ → ReaderState → List ℕ → ReaderState → Type 0
-Leaves (Some i) piece old left new = length new.bytes + length left < length old.bytes + length piece
-Leaves None piece old left new = (left ≡ []) × AwaitsBytes new
+abbrev pub LeavesOfPiece : Option Item → List ℕ → ReaderState → List ℕ → ReaderState → Type 0
+LeavesOfPiece (Some i) piece old left new = length new.bytes + length left < length old.bytes + length piece
+LeavesOfPiece None piece old left new = (left ≡ []) × AwaitsBytes new
 
 -- What was read of a piece, and then of what was left of it with more behind it, was read of both as one piece.
 abbrev pub ReadingsJoin : Type 0

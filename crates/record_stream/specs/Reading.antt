@@ -26,18 +26,18 @@ after s found.More = s
 after s (found.Bad why) = record s { failed = true }
 
 -- the front of these bytes is no record, so that nothing that may follow gives an item or another ending
-pub record IsRefused (place : ℕ) (bytes : List ℕ) : Type 0 where
+pub record IsStreamRefused (place : ℕ) (bytes : List ℕ) : Type 0 where
   pub why : Reason
   pub bad : found_in bytes ≡ found.Bad why
   pub nothing : (more : List ℕ) → items place (bytes ++ more) ≡ []
   pub ends : (more : List ℕ) → ending place (bytes ++ more) ≡ ending_kind.Bad place why
 
 -- what every reader keeps: the bytes held lie within the buffer, and a reader has failed at a refusal only
-pub record IsSound (buffer : List ℕ) (start end place : ℕ) (failed : Bool) : Type 0 where
+pub record IsReaderSound (buffer : List ℕ) (start end place : ℕ) (failed : Bool) : Type 0 where
   pub whole : length buffer ≡ BUFFER_LEN
   pub ordered : start ≤ end
   pub within : end ≤ BUFFER_LEN
-  pub refused : failed ≡ true → IsRefused place (take (end - start) (drop start buffer))
+  pub refused : failed ≡ true → IsStreamRefused place (take (end - start) (drop start buffer))
 
 -- A reader that held these bytes took these of a piece and left those, and gave these items: whatever comes behind the
 -- piece, the items of all are those given and those of the rest, and the rest ends as all does.

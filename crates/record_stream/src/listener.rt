@@ -1,7 +1,7 @@
 //! Who hears the items of a stream.
 ghost use Rattle.std.specs.Prelude.{◌≡◌, [], ◌∷◌, ◌++◌, List, IfOk, OnOk, option_to_list};
 ghost use Rattle.record_grammar.specs.declared.stream.Item.{Item};
-ghost use Rattle.record_stream.specs.Pieces.{Hearing, Leaves};
+ghost use Rattle.record_stream.specs.Pieces.{Hearing, LeavesOfPiece};
 ghost use Rattle.record_stream.specs.Reading.{AwaitsBytes, ReadsOn};
 
 use crate::piece::Piece;
@@ -46,7 +46,7 @@ pub fn hear_piece<L: Listener>(
 fn next_item(reader: &mut Reader, piece: &mut Piece) -> Result<Option<Item>, AllocError>
     ensures reads { IfOk result
         (λ i. ReadsOn piece.old reader.old (option_to_list i) piece.new reader.new) }
-    ensures left { IfOk result (λ i. Leaves i piece.old reader.old piece.new reader.new) }
+    ensures left { IfOk result (λ i. LeavesOfPiece i piece.old reader.old piece.new reader.new) }
 {
     match reader.next_in(piece)? {
         Next::One(place, record) => Ok(Some(Item::One(place, record))),

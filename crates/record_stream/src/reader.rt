@@ -43,7 +43,7 @@ pub struct Reader {
 
 impl Model for Reader {
     ghost use Rattle.std.specs.Prelude.{◌-◌, take, drop};
-    ghost use Rattle.record_stream.specs.Reading.{IsSound, ReaderState};
+    ghost use Rattle.record_stream.specs.Reading.{IsReaderSound, ReaderState};
 
     ghost Value = { ReaderState };
 
@@ -54,7 +54,7 @@ impl Model for Reader {
       failed = r.failed;
     } };
 
-    ghost invariant = { λ r. IsSound r.buffer.items r.start r.end r.place r.failed };
+    ghost invariant = { λ r. IsReaderSound r.buffer.items r.start r.end r.place r.failed };
 }
 
 fn zeros(alloc: Global, len: usize) -> Result<Vec<u8>, AllocError>

@@ -9,7 +9,7 @@ use Rattle.due_tree.proofs.Places.{longer_at}
 use Rattle.sync_rules.specs.declared.entries.Mode.TheVariants as mode
 use Rattle.retry_table.specs.Table.{KeptRow, no_kept, kept_in}
 use Rattle.retry_table.specs.Due.{numbers_where, is_open, is_sent_at, is_offered_at}
-use Rattle.retry_table.specs.Queues.{is_awaited, is_timely, next_timely, Follows}
+use Rattle.retry_table.specs.Queues.{is_awaited, is_timely, next_timely, HasPassingRows}
 use Rattle.retry_table.specs.declared.blocks.Times.TheVariants as times
 
 pub longer_length : {X : Type 0} (xs : List X) (d : X) (count : ℕ) → length xs ≤ count → length (xs ++ replicate (count - length xs) d) ≡ count
@@ -24,9 +24,9 @@ longer_most xs d count = omega (arith, length-append xs (replicate (count - leng
 pub longer_small : {X : Type 0} (xs : List X) (d : X) (count most : ℕ) → length xs < most → count < most → length (xs ++ replicate (count - length xs) d) < most
 longer_small xs d count most h k = omega (arith, length-append xs (replicate (count - length xs) d), length-replicate (count - length xs) d)
 
-module _ (test : KeptRow → Bool) (rows : List KeptRow) (places : List Bool) (f : Follows test rows places) where
+module _ (test : KeptRow → Bool) (rows : List KeptRow) (places : List Bool) (f : HasPassingRows test rows places) where
   -- a row and its place are written
-  pub follows-set : (n : ℕ) (kept : KeptRow) (v : Bool) → n < length rows → v ≡ test kept → Follows test (set rows n kept) (set places n v)
+  pub follows-set : (n : ℕ) (kept : KeptRow) (v : Bool) → n < length rows → v ≡ test kept → HasPassingRows test (set rows n kept) (set places n v)
   follows-set n kept v within is =
       let there : n < length places = omega (arith, f.room) in
       record {
@@ -40,7 +40,7 @@ module _ (test : KeptRow → Bool) (rows : List KeptRow) (places : List Bool) (f
       }
 
   -- the set gets more places
-  pub follows-places : (count : ℕ) → count < 2 ^ 32 → Follows test rows (places ++ replicate (count - length places) false)
+  pub follows-places : (count : ℕ) → count < 2 ^ 32 → HasPassingRows test rows (places ++ replicate (count - length places) false)
   follows-places count fits = record {
     same = λ k. longer_at places (count - length places) k false ∙ f.same k;
     room = omega (arith, f.room, longer_least places false count);
@@ -48,7 +48,7 @@ module _ (test : KeptRow → Bool) (rows : List KeptRow) (places : List Bool) (f
   }
 
   -- there are more rows, of which nothing is known
-  pub follows-rows : (numbers : ℕ) → numbers ≤ length places → Follows test (rows ++ replicate (numbers - length rows) no_kept) places
+  pub follows-rows : (numbers : ℕ) → numbers ≤ length places → HasPassingRows test (rows ++ replicate (numbers - length rows) no_kept) places
   follows-rows numbers fits = record {
     same = λ k. f.same k ∙ ap test (sym (longer_at rows (numbers - length rows) k no_kept));
     room = omega (arith, f.room, length-append rows (replicate (numbers - length rows) no_kept), length-replicate (numbers - length rows) no_kept);
@@ -56,7 +56,7 @@ module _ (test : KeptRow → Bool) (rows : List KeptRow) (places : List Bool) (f
   }
 
 -- no rows and no places
-pub follows_none : (test : KeptRow → Bool) → test no_kept ≡ false → Follows test [] []
+pub follows_none : (test : KeptRow → Bool) → test no_kept ≡ false → HasPassingRows test [] []
 follows_none test none = record { same = λ k. sym none; room = omega arith; small = omega arith }
 
 -- ---- a search of one list and of another whose elements pass alike, also past the ends
@@ -108,10 +108,10 @@ module _ (rows : List KeptRow) where
   offers_found now = numbers_alike (is_timely times.ToOffer now) (is_offered_at now) no_kept no_kept refl refl rows rows 0 (λ n. offer_due now (kept_in rows n))
 
   module _ (places : List Bool) where
-    pub asked_found : (now : ℕ) → Follows is_awaited rows places → next_set 0 places ≡ position_from (is_sent_at mode.Interactive now) 0 rows
+    pub asked_found : (now : ℕ) → HasPassingRows is_awaited rows places → next_set 0 places ≡ position_from (is_sent_at mode.Interactive now) 0 rows
     asked_found now f = position_alike (λ is_in. is_in) (is_sent_at mode.Interactive now) false no_kept refl refl places rows 0 (λ n. f.same n)
 
-    pub owed_found : Follows (λ kept. kept.row.owed) rows places → numbers_where (λ is_in. is_in) 0 places ≡ numbers_where (λ kept. kept.row.owed) 0 rows
+    pub owed_found : HasPassingRows (λ kept. kept.row.owed) rows places → numbers_where (λ is_in. is_in) 0 places ≡ numbers_where (λ kept. kept.row.owed) 0 rows
     owed_found f = numbers_alike (λ is_in. is_in) (λ (kept : KeptRow). kept.row.owed) false no_kept refl refl places rows 0 (λ n. f.same n)
 
 -- what is found is within the list

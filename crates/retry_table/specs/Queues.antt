@@ -60,7 +60,7 @@ abbrev pub IsUntimely : Times → ℕ → List KeptRow → ℕ → ℕ → Type 
 IsUntimely what bound rows low high = (n : ℕ) → low ≤ n → n < high → is_timely what bound (kept_in rows n) ≡ false
 
 -- a set has each row that passes the test
-pub record Follows (test : KeptRow → Bool) (rows : List KeptRow) (set : List Bool) : Type 0 where
+pub record HasPassingRows (test : KeptRow → Bool) (rows : List KeptRow) (set : List Bool) : Type 0 where
   pub same : (n : ℕ) → slice_index_or set n false ≡ test (kept_in rows n)
   pub room : length rows ≤ length set
   pub small : length set < 2 ^ 32
@@ -68,6 +68,6 @@ pub record Follows (test : KeptRow → Bool) (rows : List KeptRow) (set : List B
 -- all four queues of a contact
 pub record AreQueues (rows : List KeptRow) (messages : List (Option ℕ)) (asked : List Bool) (offers : List (Option ℕ)) (owed : List Bool) : Type 0 where
   pub by_expiry : AreLeast times.ToSend rows messages
-  pub by_request : Follows is_awaited rows asked
+  pub by_request : HasPassingRows is_awaited rows asked
   pub by_offer : AreLeast times.ToOffer rows offers
-  pub by_debt : Follows (λ kept. kept.row.owed) rows owed
+  pub by_debt : HasPassingRows (λ kept. kept.row.owed) rows owed

@@ -11,26 +11,26 @@ pub record KeptRow : Type 0 where
   pub row : Row
 
 -- the ids wanted from one contact, in order, and for how many more there is room
-pub record Wants : Type 0 where
+pub record WantedFromContact : Type 0 where
   pub ids : List Id
   pub room : ℕ
 
 -- for each contact its rows and its wanted ids
 pub record Table : Type 0 where
   pub rows : List (List KeptRow)
-  pub wants : List Wants
+  pub wants : List WantedFromContact
 
 abbrev pub no_kept : KeptRow
 no_kept = record { ready = false; row = no_row }
 
-abbrev pub no_wants : Wants
+abbrev pub no_wants : WantedFromContact
 no_wants = record { ids = []; room = 0 }
 
 -- the rows of a contact: there is room for as many
 abbrev pub rows_of : Table → ℕ → List KeptRow
 rows_of table contact = slice_index_or table.rows contact []
 
-abbrev pub wants_of : Table → ℕ → Wants
+abbrev pub wants_of : Table → ℕ → WantedFromContact
 wants_of table contact = slice_index_or table.wants contact no_wants
 
 -- what is kept of the message of a number
@@ -74,11 +74,11 @@ pub record ChangesRows (old new : Table) (contact : ℕ) (rows : List KeptRow) :
   pub wants : new.wants ≡ old.wants
 
 -- this is kept of one message for one contact, and all else is as it was
-abbrev pub Keeps : Table → Table → ℕ → ℕ → KeptRow → Type 0
-Keeps old new contact n kept = ChangesRows old new contact (slice_set (rows_of old contact) n kept)
+abbrev pub KeepsRow : Table → Table → ℕ → ℕ → KeptRow → Type 0
+KeepsRow old new contact n kept = ChangesRows old new contact (slice_set (rows_of old contact) n kept)
 
 -- one contact has these wanted ids and this room, and all else is as it was
-pub record ChangesWants (old new : Table) (contact : ℕ) (wants : Wants) : Type 0 where
+pub record ChangesWants (old new : Table) (contact : ℕ) (wants : WantedFromContact) : Type 0 where
   pub here : wants_of new contact ≡ wants
   pub others : (other : ℕ) → other ≢ contact → wants_of new other ≡ wants_of old other
   pub rows : new.rows ≡ old.rows
@@ -88,12 +88,12 @@ abbrev pub with_numbers : ℕ → List KeptRow → List KeptRow
 with_numbers numbers rows = rows ++ replicate (numbers - length rows) no_kept
 
 -- room for so many more wanted ids
-abbrev pub with_room : ℕ → Wants → Wants
+abbrev pub with_room : ℕ → WantedFromContact → WantedFromContact
 with_room room wants = record wants { room = max wants.room room }
 
 -- one contact has room for the rows of these numbers and for so many more wanted ids; no row and no wanted id is another, and no room
 -- was taken away
-pub record Reserves (old new : Table) (contact numbers room : ℕ) : Type 0 where
+pub record ReservesRows (old new : Table) (contact numbers room : ℕ) : Type 0 where
   pub rows : rows_of new contact ≡ with_numbers numbers (rows_of old contact)
   pub other_rows : (other : ℕ) → other ≢ contact → rows_of new other ≡ rows_of old other
   pub wants : wants_of new contact ≡ with_room room (wants_of old contact)

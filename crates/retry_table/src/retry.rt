@@ -4,8 +4,8 @@ ghost use Rattle.std.specs.Prelude.{OnOk, OnErr, Some, length, slice_get, slice_
 ghost use Rattle.sync_rules.specs.Lists.{is_among, without};
 ghost use Rattle.sync_rules.specs.Facts.{row_seen, row_acked, row_asked, row_sent, row_offered};
 ghost use Rattle.retry_table.specs.Table.{no_wants, rows_of, wants_of, kept_at, with_row};
-ghost use Rattle.retry_table.specs.Table.{with_ready, row_owed, IsEmpty, Keeps, ChangesWants};
-ghost use Rattle.retry_table.specs.Table.{Reserves, row_heard, row_restored, tried_of};
+ghost use Rattle.retry_table.specs.Table.{with_ready, row_owed, IsEmpty, KeepsRow, ChangesWants};
+ghost use Rattle.retry_table.specs.Table.{ReservesRows, row_heard, row_restored, tried_of};
 ghost use Rattle.retry_table.specs.Due.{owed_in, message_in, offers_in, requests_in};
 
 use crate::queues::Queues;
@@ -80,7 +80,7 @@ impl Retry {
     /// calls of `want`, and never takes room away. It alone of all changes takes memory; after an
     /// error all is as before.
     pub fn reserve(&mut self, contact: u8, numbers: u32, wants: usize) -> Result<(), AllocError>
-        ensures ok { OnOk result (Reserves self.old self.new contact numbers wants) }
+        ensures ok { OnOk result (ReservesRows self.old self.new contact numbers wants) }
         ensures err { OnErr result (self.new ≡ self.old) }
     {
         let place = contact as usize;
@@ -105,7 +105,7 @@ impl Retry {
     /// Keeps this of a message.
     fn put(&mut self, contact: u8, n: u32, row: KeptRow)
         requires { n < length (rows_of self.old contact) }
-        ensures { Keeps self.old self.new contact n row }
+        ensures { KeepsRow self.old self.new contact n row }
     {
         self.rows[contact as usize].put(n as usize, row);
     }
@@ -113,7 +113,7 @@ impl Retry {
     /// An acknowledgement of the message is owed to the contact.
     pub fn owe(&mut self, contact: u8, n: u32)
         requires { n < length (rows_of self.old contact) }
-        ensures { Keeps self.old self.new contact n
+        ensures { KeepsRow self.old self.new contact n
             (with_row row_owed (kept_at self.old contact n)) }
     {
         self.put(contact, n, self.row(contact, n).owe());
@@ -122,7 +122,7 @@ impl Retry {
     /// The acknowledgement was sent.
     pub fn paid(&mut self, contact: u8, n: u32)
         requires { n < length (rows_of self.old contact) }
-        ensures { Keeps self.old self.new contact n
+        ensures { KeepsRow self.old self.new contact n
             (with_row row_acked (kept_at self.old contact n)) }
     {
         self.put(contact, n, self.row(contact, n).pay());
@@ -131,7 +131,7 @@ impl Retry {
     /// The contact asked for the message, which is due at once.
     pub fn ask(&mut self, contact: u8, n: u32)
         requires { n < length (rows_of self.old contact) }
-        ensures { Keeps self.old self.new contact n
+        ensures { KeepsRow self.old self.new contact n
             (with_row row_asked (kept_at self.old contact n)) }
     {
         self.put(contact, n, self.row(contact, n).ask());
@@ -140,7 +140,7 @@ impl Retry {
     /// The contact has the message.
     pub fn saw(&mut self, contact: u8, n: u32)
         requires { n < length (rows_of self.old contact) }
-        ensures { Keeps self.old self.new contact n
+        ensures { KeepsRow self.old self.new contact n
             (with_row row_seen (kept_at self.old contact n)) }
     {
         self.put(contact, n, self.row(contact, n).see());
@@ -149,7 +149,7 @@ impl Retry {
     /// The contact sent the message: it has it, and an acknowledgement is owed to it.
     pub fn hear(&mut self, contact: u8, n: u32)
         requires { n < length (rows_of self.old contact) }
-        ensures { Keeps self.old self.new contact n
+        ensures { KeepsRow self.old self.new contact n
             (with_row row_heard (kept_at self.old contact n)) }
     {
         self.put(contact, n, self.row(contact, n).see().owe());
@@ -159,7 +159,7 @@ impl Retry {
     /// milliseconds: no longer asked for, one try more, and a new expiry (BSP, "Retransmission").
     pub fn sent(&mut self, contact: u8, n: u32, now: u64, latency: u32)
         requires { n < length (rows_of self.old contact) }
-        ensures { Keeps self.old self.new contact n
+        ensures { KeepsRow self.old self.new contact n
             (with_row (row_sent now latency) (kept_at self.old contact n)) }
     {
         self.put(contact, n, self.row(contact, n).send(now, latency));
@@ -169,7 +169,7 @@ impl Retry {
     /// milliseconds: one try more, and a new expiry (BSP, "Retransmission").
     pub fn offered(&mut self, contact: u8, n: u32, now: u64, latency: u32)
         requires { n < length (rows_of self.old contact) }
-        ensures { Keeps self.old self.new contact n
+        ensures { KeepsRow self.old self.new contact n
             (with_row (row_offered now latency) (kept_at self.old contact n)) }
     {
         self.put(contact, n, self.row(contact, n).offer(now, latency));
@@ -180,7 +180,7 @@ impl Retry {
     pub fn restore(&mut self, tried: &Tried, n: u32)
         requires room { n < length (rows_of self.old tried.now.contact) }
         requires few { tried.now.tries ≤ 64 }
-        ensures { Keeps self.old self.new tried.now.contact n
+        ensures { KeepsRow self.old self.new tried.now.contact n
             (with_row (row_restored tried.now) (kept_at self.old tried.now.contact n)) }
     {
         self.put(tried.contact, n, self.row(tried.contact, n).restore(tried));
@@ -198,7 +198,7 @@ impl Retry {
     /// here or judged to be shared.
     pub fn ready(&mut self, contact: u8, n: u32)
         requires { n < length (rows_of self.old contact) }
-        ensures { Keeps self.old self.new contact n (with_ready true (kept_at self.old contact n)) }
+        ensures { KeepsRow self.old self.new contact n (with_ready true (kept_at self.old contact n)) }
     {
         self.put(contact, n, self.row(contact, n).make_ready(true));
     }
@@ -206,7 +206,7 @@ impl Retry {
     /// The message is not ready.
     pub fn unready(&mut self, contact: u8, n: u32)
         requires { n < length (rows_of self.old contact) }
-        ensures { Keeps self.old self.new contact n
+        ensures { KeepsRow self.old self.new contact n
             (with_ready false (kept_at self.old contact n)) }
     {
         self.put(contact, n, self.row(contact, n).make_ready(false));

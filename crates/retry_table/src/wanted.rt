@@ -22,9 +22,9 @@ pub(crate) struct Wanted {
 impl Model for Wanted {
     ghost use Rattle.std.specs.Prelude.{◌≤◌, ◌<◌, ◌^◌, length};
     ghost use Rattle.indexmap.specs.IndexSet.{spare};
-    ghost use Rattle.retry_table.specs.Table.{Wants};
+    ghost use Rattle.retry_table.specs.Table.{WantedFromContact};
 
-    ghost Value = { Wants };
+    ghost Value = { WantedFromContact };
 
     ghost view = { λ w. record { ids = w.ids.keys; room = w.room } };
 

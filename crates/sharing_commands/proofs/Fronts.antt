@@ -12,7 +12,7 @@ use Rattle.entry_codec.specs.Payloads.{journal_end, payload_len}
 use Rattle.entry_codec.specs.Standing.{room_of}
 use Rattle.entry_codec.proofs.Growing.{journal_end_push}
 use Rattle.sync_store.specs.declared.fault.StoreFault.TheVariants as fault
-use Rattle.sync_store.specs.Commits.{Commits, Stays, needed}
+use Rattle.sync_store.specs.Commits.{AnswersCommit, KeepsStore, needed}
 use Rattle.sync_store.specs.Fitting.{ImagesStand}
 use Rattle.sync_store.specs.Runs.{RunsBy}
 use Rattle.sync_store.specs.Store.{IsStore, StoreValue, format_meant, written_in}
@@ -22,12 +22,12 @@ use Rattle.sync_words.specs.declared.outcome.Outcome.TheVariants as outcome
 use Rattle.entry_codec.specs.declared.naming.Format.{Format}
 use Rattle.entry_codec.specs.declared.naming.Format.TheVariants as kind
 use Rattle.store_commands.specs.Commit.{needed_by}
-use Rattle.sharing_commands.specs.Adding.{AddsFront, AddsSo, IsFront, LacksRoom}
-use Rattle.sharing_commands.specs.Agreeing.{AreRoomy}
+use Rattle.sharing_commands.specs.Adding.{AddsFront, AddsSo, IsFrontAdded, LacksRoomForTarget}
+use Rattle.sharing_commands.specs.Agreeing.{EachFoundRoom}
 
 -- ---- none
 
-as_before : (s : StoreValue) → Stays s s
+as_before : (s : StoreValue) → KeepsStore s s
 as_before s = record {
   facts = refl;
   answers = refl;
@@ -81,7 +81,7 @@ true≢false : {P : Type 0} (b : Bool) → b ≡ true → b ≡ false → P
 true≢false b is not = absurd (let e : true ≡ false = sym is ∙ not in cc)
 
 module _ (clients : Meaning) (s s' : StoreValue) (o o' : Outside) (batch : List Entry) where
-  pub one_added : (u : Unit {0}) → RunsBy clients s s' o o' (batch ∷ []) → Commits s s' batch (Ok u) → AddsFront clients s s' o o' (batch ∷ []) (Ok u)
+  pub one_added : (u : Unit {0}) → RunsBy clients s s' o o' (batch ∷ []) → AnswersCommit s s' batch (Ok u) → AddsFront clients s s' o o' (batch ∷ []) (Ok u)
   one_added u runs commits = record {
     front = batch ∷ [];
     runs = runs;
@@ -90,7 +90,7 @@ module _ (clients : Meaning) (s s' : StoreValue) (o o' : Outside) (batch : List 
     answer = (commits.2.closed, refl);
   }
 
-  pub one_broken : RunsBy clients s s' o o' (batch ∷ []) → Commits s s' batch (Err fault.DiskFault) → AddsFront clients s s' o o' (batch ∷ []) (Err outcome.DiskFault)
+  pub one_broken : RunsBy clients s s' o o' (batch ∷ []) → AnswersCommit s s' batch (Err fault.DiskFault) → AddsFront clients s s' o o' (batch ∷ []) (Err outcome.DiskFault)
   one_broken runs commits = record {
     front = batch ∷ [];
     runs = runs;
@@ -99,7 +99,7 @@ module _ (clients : Meaning) (s s' : StoreValue) (o o' : Outside) (batch : List 
     answer = record { rest = []; parts = refl };
   }
 
-  pub one_left : RunsBy clients s s' o o' [] → Commits s s' batch (Err fault.Memory) → AddsFront clients s s' o o' (batch ∷ []) (Err outcome.Memory)
+  pub one_left : RunsBy clients s s' o o' [] → AnswersCommit s s' batch (Err fault.Memory) → AddsFront clients s s' o o' (batch ∷ []) (Err outcome.Memory)
   one_left runs commits = record {
     front = [];
     runs = runs;
@@ -108,7 +108,7 @@ module _ (clients : Meaning) (s s' : StoreValue) (o o' : Outside) (batch : List 
     answer = record { rest = batch ∷ []; parts = refl };
   }
 
-  pub one_refused : RunsBy clients s s' o o' [] → Commits s s' batch (Err fault.Full) → AddsFront clients s s' o o' (batch ∷ []) (Err outcome.Full)
+  pub one_refused : RunsBy clients s s' o o' [] → AnswersCommit s s' batch (Err fault.Full) → AddsFront clients s s' o o' (batch ∷ []) (Err outcome.Full)
   one_refused runs commits =
       let as_needed : needed s' batch ≡ needed s batch =
       λ i. commits.2.end i + 5 + payload_len (format_meant (commits.2.format i)) batch + room_of (format_meant (commits.2.format i)) (after_all (commits.2.facts i) batch) in
@@ -125,18 +125,18 @@ module _ (clients : Meaning) (s s' : StoreValue) (o o' : Outside) (batch : List 
 
 -- ---- some behind others
 
-roomy_both : (j xs ys : List (List Entry)) → AreRoomy j xs → AreRoomy (j ++ xs) ys → AreRoomy j (xs ++ ys)
-roomy_both j [] ys first second = subst (λ (k : List (List Entry)). AreRoomy k ys) (append-nil j) second
+roomy_both : (j xs ys : List (List Entry)) → EachFoundRoom j xs → EachFoundRoom (j ++ xs) ys → EachFoundRoom j (xs ++ ys)
+roomy_both j [] ys first second = subst (λ (k : List (List Entry)). EachFoundRoom k ys) (append-nil j) second
 roomy_both j (x ∷ xs) ys first second =
-    (first.0, roomy_both (j ++ x ∷ []) xs ys first.1 (subst (λ (k : List (List Entry)). AreRoomy k ys) (sym (append_assoc j (x ∷ []) xs)) second))
+    (first.0, roomy_both (j ++ x ∷ []) xs ys first.1 (subst (λ (k : List (List Entry)). EachFoundRoom k ys) (sym (append_assoc j (x ∷ []) xs)) second))
 
 -- there was room for a batch that was added
-pub room_at : (j front : List (List Entry)) (next : List Entry) (rest : List (List Entry)) → AreRoomy j (front ++ next ∷ rest) → needed_by (j ++ front) next ≤ MAX_JOURNAL
+pub room_at : (j front : List (List Entry)) (next : List Entry) (rest : List (List Entry)) → EachFoundRoom j (front ++ next ∷ rest) → needed_by (j ++ front) next ≤ MAX_JOURNAL
 room_at j [] next rest roomy = subst (λ (k : List (List Entry)). needed_by k next ≤ MAX_JOURNAL) (sym (append-nil j)) roomy.0
 room_at j (x ∷ xs) next rest roomy =
     subst (λ (k : List (List Entry)). needed_by k next ≤ MAX_JOURNAL) (append_assoc j (x ∷ []) xs) (room_at (j ++ x ∷ []) xs next rest roomy.1)
 
-more_front : (xs ys front back : List (List Entry)) → front ≡ xs → IsFront ys back → IsFront (xs ++ ys) (front ++ back)
+more_front : (xs ys front back : List (List Entry)) → front ≡ xs → IsFrontAdded ys back → IsFrontAdded (xs ++ ys) (front ++ back)
 more_front xs ys front back whole some = record {
   rest = some.rest;
   parts = ap (λ (z : List (List Entry)). xs ++ z) some.parts
@@ -144,7 +144,7 @@ more_front xs ys front back whole some = record {
       ∙ ap (λ (z : List (List Entry)). (z ++ back) ++ some.rest) (sym whole);
 }
 
-more_lacks : (s : StoreValue) (xs ys front back : List (List Entry)) → front ≡ xs → LacksRoom s ys back → LacksRoom s (xs ++ ys) (front ++ back)
+more_lacks : (s : StoreValue) (xs ys front back : List (List Entry)) → front ≡ xs → LacksRoomForTarget s ys back → LacksRoomForTarget s (xs ++ ys) (front ++ back)
 more_lacks s xs ys front back whole lacks = record {
   next = lacks.next;
   rest = lacks.rest;

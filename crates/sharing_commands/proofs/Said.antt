@@ -16,8 +16,8 @@ use Rattle.store_commands.specs.declared.commit.Settling.TheVariants as settling
 use Rattle.store_commands.specs.Entries.{HasAdded}
 use Rattle.store_commands.specs.Load.{HasFacts, LoadKeeps}
 use Rattle.store_commands.specs.Plans.{Plan, adds, refuses}
-use Rattle.store_commands.specs.Post.{IsPlanned}
-use Rattle.store_commands.specs.Show.{Rests}
+use Rattle.store_commands.specs.Post.{IsPlanOfPost}
+use Rattle.store_commands.specs.Show.{LeavesFilesSo}
 use Rattle.store_commands.proofs.EntryLemmas.{added_none, added_refused}
 use Rattle.store_commands.proofs.Follow.{MayAdd, message_follows}
 use Rattle.sharing_commands.specs.declared.saying.Speech.{Speech}
@@ -34,9 +34,9 @@ say_follows clients f s e is = by (sharing_test (group_at f.groups s.group)) is 
 -- ---- a message that may not be added
 
 pub said_fault : (clients : Meaning) (plan : Facts → Plan) (old new : Outside) (out out' : Stream) (s : StoreValue) → DiskRun old new
-    → ((two : Two File) → old.files ≡ Some two → Rests (LoadKeeps (Ok s) two) two old new)
+    → ((two : Two File) → old.files ≡ Some two → LeavesFilesSo (LoadKeeps (Ok s) two) two old new)
     → ((two : Two File) → old.files ≡ Some two → HasFacts (stands clients (read_files two)) s) → IsIdle out out'
-    → (came : Outcome) → IsPlanned (plan s.state.facts) (Err came) → HasAdded clients plan settling.BeforeAndAfter old new out out' came
+    → (came : Outcome) → IsPlanOfPost (plan s.state.facts) (Err came) → HasAdded clients plan settling.BeforeAndAfter old new out out' came
 said_fault clients plan old new out out' s run rests loaded quiet outcome.Memory is =
     added_none clients plan settling.BeforeAndAfter old new out out' outcome.Memory run (λ two told. rests two told) tt (λ two told. tt) quiet
 said_fault clients plan old new out out' s run rests loaded quiet (outcome.Refused why) is =

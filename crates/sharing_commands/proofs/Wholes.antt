@@ -2,7 +2,7 @@
 use Rattle.std.proofs.Common.{◌≡◌, ◌⊎◌, ℕ, ◌<◌, ◌≤◌, true, false, List, [], ◌∷◌, ◌++◌, refl, sym, ap, ◌∙◌}
 use Rattle.std.proofs.Common.{subst, inl, inr, append_assoc, append-nil, arith, Some, None, Result, Ok, Err}
 use Rattle.outside.specs.declared.limits.TheConstants.{MAX_JOURNAL}
-use Rattle.outside.specs.Faults.{Rose}
+use Rattle.outside.specs.Faults.{CountRose}
 use Rattle.outside.specs.Files.{Two, File, read_files}
 use Rattle.outside.specs.Links.{Links, sent_of}
 use Rattle.outside.specs.Outside.{DiskRun, IsNow, MomentsAre, Outside}
@@ -17,7 +17,7 @@ use Rattle.sync_rules.specs.Steps.{IsSettled}
 use Rattle.entry_codec.specs.declared.naming.Format.TheVariants as kind
 use Rattle.entry_codec.specs.Standing.{Standing, journal, stands}
 use Rattle.sync_store.specs.Commits.{needed}
-use Rattle.sync_store.specs.Fitting.{Fits}
+use Rattle.sync_store.specs.Fitting.{FitsFiles}
 use Rattle.sync_store.specs.Moments.{IsBetween, JournalMoment}
 use Rattle.sync_store.specs.Runs.{LeadsBy}
 use Rattle.sync_store.specs.Store.{StoreValue, format_meant, written_in}
@@ -34,15 +34,15 @@ use Rattle.store_commands.specs.Commit.{ComesAnew, ExtendsBy, HasLastGeneration,
 use Rattle.store_commands.proofs.Stood.{fits_format, last_here, spent_here}
 use Rattle.store_commands.specs.Entries.{AddsBy, is_added, is_late}
 use Rattle.store_commands.specs.Load.{HasFacts, IsLoaded, LoadedBy, LoadKeeps, MayExtend}
-use Rattle.store_commands.specs.Show.{Keeps, PrintsText, Rests}
-use Rattle.sharing_commands.specs.Adding.{AddsFront, AddsSo, AgreedEnds, Agrees, IsFront}
-use Rattle.sharing_commands.specs.Agreeing.{AgreesEnds, AgreesMoment, AgreesOn, AreRoomy, HasAgreed, IsAgreed, IsCut}
+use Rattle.store_commands.specs.Show.{KeepsFiles, PrintsText, LeavesFilesSo}
+use Rattle.sharing_commands.specs.Adding.{AddsFront, AddsSo, AgreedEnds, AgreesLevels, IsFrontAdded}
+use Rattle.sharing_commands.specs.Agreeing.{AgreesEnds, AgreesMoment, AgreesOn, EachFoundRoom, HasAgreed, IsAgreed, IsAgreementCut}
 use Rattle.sharing_commands.specs.Agreement.{agree_test, agreed_batches, agreed_text}
 use Rattle.sharing_commands.proofs.Fronts.{weighed}
 
 -- ---- causes
 
-rose_before : (a b c : ℕ) → a ≤ b → Rose b c → Rose a c
+rose_before : (a b c : ℕ) → a ≤ b → CountRose b c → CountRose a c
 rose_before a b c later rose = omega arith
 
 failed_by : (o o2 : Outside) (out out' : Stream) (came : Outcome) → IsIdle out out' → ExtendsBy o o2 (Err came) → AddsBy o o2 out out' came
@@ -83,7 +83,7 @@ printed_late out out' text _ p = absurd p
 
 -- ---- settling
 
-settles_from : (clients : Meaning) (s : StoreValue) (two : Two File) (j more : List (List Entry)) → Fits clients s j two → AllSettling clients s.state.facts more → AllSettling clients (facts j) more
+settles_from : (clients : Meaning) (s : StoreValue) (two : Two File) (j more : List (List Entry)) → FitsFiles clients s j two → AllSettling clients s.state.facts more → AllSettling clients (facts j) more
 settles_from clients s two j more fits settling = subst (λ (g : Facts). AllSettling clients g more) (sym fits.facts_are) settling
 
 -- files that are told of one outside read alike
@@ -93,7 +93,7 @@ one_told o o1 two two1 same files files1 =
     let one : two1 ≡ two = cc in
     ap read_files one
 
-not_settled_ends : (clients : Meaning) (contact : ℕ) (group : Id) (j : List (List Entry)) (s s1 : StoreValue) (out out' : Stream) (came : Outcome) (two two1 : Two File) → Fits clients s j two
+not_settled_ends : (clients : Meaning) (contact : ℕ) (group : Id) (j : List (List Entry)) (s s1 : StoreValue) (out out' : Stream) (came : Outcome) (two two1 : Two File) → FitsFiles clients s j two
     → (came ≡ outcome.Full → read_files two1 ≡ read_files two) → SettledAnew clients s s1 (Err came) → AgreedEnds clients contact group j out out' came two two1
 not_settled_ends clients contact group j s s1 out out' outcome.Full two two1 fits still answer = inr (last_here clients s j two fits answer.0, still refl)
 not_settled_ends clients contact group j s s1 out out' outcome.Memory two two1 fits still answer = tt
@@ -102,7 +102,7 @@ not_settled_ends clients contact group j s s1 out out' _ two two1 fits still ans
 
 -- migrating or settling that failed
 pub agrees_unsettled : (clients : Meaning) (contact : ℕ) (group : Id) (s s1 : StoreValue) (o o1 : Outside) (out out' : Stream) (came : Outcome) → IsIdle out out' → DiskRun o o1
-    → ExtendsBy o o1 (Err came) → (came ≡ outcome.Full → o1 ≡ o) → SettlesAnew clients s s1 o o1 (Err came) → Agrees clients contact group s o o1 out out' came
+    → ExtendsBy o o1 (Err came) → (came ≡ outcome.Full → o1 ≡ o) → SettlesAnew clients s s1 o o1 (Err came) → AgreesLevels clients contact group s o o1 out out' came
 agrees_unsettled clients contact group s s1 o o1 out out' came idle run by still settled = record {
   run = run;
   by = failed_by o o1 out out' came idle by;
@@ -121,7 +121,7 @@ agrees_unsettled clients contact group s s1 o o1 out out' came idle run by still
 
 -- ---- settling, and what the targets ask for
 
-front_of : (s : StoreValue) (all front : List (List Entry)) (r : Result (Unit {0}) Outcome) → AddsSo s all front r → IsFront all front
+front_of : (s : StoreValue) (all front : List (List Entry)) (r : Result (Unit {0}) Outcome) → AddsSo s all front r → IsFrontAdded all front
 front_of s all front (Ok u) so = record { rest = []; parts = sym so.1 ∙ sym (append-nil front) }
 front_of s all front (Err outcome.Full) so = record { rest = so.1.next ∷ so.1.rest; parts = so.1.parts }
 front_of s all front (Err outcome.Memory) so = so
@@ -130,7 +130,7 @@ front_of s all front (Err _) so = absurd so
 
 module _ (clients : Meaning) (contact : ℕ) (group : Id) (s s1 s2 : StoreValue) (o o1 o2 : Outside) (u : Unit {0}) (r : Result (Unit {0}) Outcome) (run : DiskRun o o1)
     (settled : SettlesAnew clients s s1 o o1 (Ok u)) (added : AddsFront clients s1 s2 o1 o2 (agreed_batches clients contact group s1.state.facts) r)
-    (two : Two File) (files : o.files ≡ Some two) (j : List (List Entry)) (fits : Fits clients s j two) where
+    (two : Two File) (files : o.files ≡ Some two) (j : List (List Entry)) (fits : FitsFiles clients s j two) where
   first : List (List Entry)
   first = settled.more
 
@@ -153,8 +153,8 @@ module _ (clients : Meaning) (contact : ℕ) (group : Id) (s s1 s2 : StoreValue)
   both : LeadsBy clients s s2 o o2 (settled.more ++ added.front)
   both = leads_both clients s s1 s2 o o1 o2 settled.more added.front settled.answer.0 run settled.comes.leads added.runs.leads
 
-  is_front : IsFront (agreed_batches clients contact group (after_batches (facts j) settled.more)) added.front
-  is_front = subst (λ (xs : List (List Entry)). IsFront xs added.front) all_is (front_of s2 (agreed_batches clients contact group s1.state.facts) added.front r added.answer)
+  is_front : IsFrontAdded (agreed_batches clients contact group (after_batches (facts j) settled.more)) added.front
+  is_front = subst (λ (xs : List (List Entry)). IsFrontAdded xs added.front) all_is (front_of s2 (agreed_batches clients contact group s1.state.facts) added.front r added.answer)
 
   between : (whole : List (List Entry)) → IsBetween j (settled.more ++ added.front) whole
       → IsBetween j (settled.more ++ agreed_batches clients contact group (after_batches (facts j) settled.more)) whole
@@ -181,18 +181,18 @@ module _ (clients : Meaning) (contact : ℕ) (group : Id) (s s1 s2 : StoreValue)
   }) (both two files j fits).moments
 
   -- the journal that the disk fits once it is settled
-  settled_fits : (two1 : Two File) → o1.files ≡ Some two1 → Fits clients s1 (j ++ settled.more) two1
+  settled_fits : (two1 : Two File) → o1.files ≡ Some two1 → FitsFiles clients s1 (j ++ settled.more) two1
   settled_fits two1 files1 =
       let at = (settled.comes.leads two files j fits).ends settled.answer.0 two1 files1 in
-      subst (λ (w : List (List Entry)). Fits clients s1 w two1) at.1 at.2
+      subst (λ (w : List (List Entry)). FitsFiles clients s1 w two1) at.1 at.2
 
-  last_fits : s2.closed ≡ false → (two2 : Two File) → o2.files ≡ Some two2 → Fits clients s2 (j ++ (settled.more ++ added.front)) two2
+  last_fits : s2.closed ≡ false → (two2 : Two File) → o2.files ≡ Some two2 → FitsFiles clients s2 (j ++ (settled.more ++ added.front)) two2
   last_fits still two2 files2 =
       let at = (both two files j fits).ends still two2 files2 in
-      subst (λ (w : List (List Entry)). Fits clients s2 w two2) at.1 at.2
+      subst (λ (w : List (List Entry)). FitsFiles clients s2 w two2) at.1 at.2
 
   -- there was room for what was added
-  front_roomy : s.limit ≡ MAX_JOURNAL → AreRoomy (j ++ settled.more) added.front
+  front_roomy : s.limit ≡ MAX_JOURNAL → EachFoundRoom (j ++ settled.more) added.front
   front_roomy limited =
       let told1 = told_on o o1 two run.same_told files in
       let fits1 = settled_fits told1.0 told1.1 in
@@ -203,8 +203,8 @@ module _ (clients : Meaning) (contact : ℕ) (group : Id) (s s1 s2 : StoreValue)
   last_short = ap format_meant added.runs.format ∙ settled.answer.2
 
   whole_roomy : s.limit ≡ MAX_JOURNAL → added.front ≡ agreed_batches clients contact group s1.state.facts
-      → AreRoomy (j ++ settled.more) (agreed_batches clients contact group (after_batches (facts j) settled.more))
-  whole_roomy limited whole = subst (AreRoomy (j ++ settled.more)) (whole ∙ all_is) (front_roomy limited)
+      → EachFoundRoom (j ++ settled.more) (agreed_batches clients contact group (after_batches (facts j) settled.more))
+  whole_roomy limited whole = subst (EachFoundRoom (j ++ settled.more)) (whole ∙ all_is) (front_roomy limited)
 
   -- all that the targets ask for was added
   pub agreed_whole : s.limit ≡ MAX_JOURNAL → s2.closed ≡ false → added.front ≡ agreed_batches clients contact group s1.state.facts
@@ -227,7 +227,7 @@ module _ (clients : Meaning) (contact : ℕ) (group : Id) (s s1 s2 : StoreValue)
   -- there was no room for the next batch
   pub agreed_cut : s.limit ≡ MAX_JOURNAL → s2.closed ≡ false → (next : List Entry) (rest : List (List Entry))
       → agreed_batches clients contact group s1.state.facts ≡ added.front ++ next ∷ rest → s2.limit < needed s2 next
-      → (two2 : Two File) → o2.files ≡ Some two2 → IsCut clients contact group j two2
+      → (two2 : Two File) → o2.files ≡ Some two2 → IsAgreementCut clients contact group j two2
   agreed_cut limited still next rest parts over two2 files2 =
       let fits2 = last_fits still two2 files2 in
       let limit : s2.limit ≡ MAX_JOURNAL = added.runs.limit ∙ settled.comes.limit ∙ limited in
@@ -250,7 +250,7 @@ module _ (clients : Meaning) (contact : ℕ) (group : Id) (s s1 s2 : StoreValue)
 
 cut_ends : (clients : Meaning) (contact : ℕ) (group : Id) (s s1 s2 : StoreValue) (o o1 o2 : Outside) (out out' : Stream) (u : Unit {0}) (came : Outcome) → DiskRun o o1
     → SettlesAnew clients s s1 o o1 (Ok u) → (added : AddsFront clients s1 s2 o1 o2 (agreed_batches clients contact group s1.state.facts) (Err came)) → s.limit ≡ MAX_JOURNAL
-    → (two : Two File) → o.files ≡ Some two → (j : List (List Entry)) → Fits clients s j two
+    → (two : Two File) → o.files ≡ Some two → (j : List (List Entry)) → FitsFiles clients s j two
     → (two2 : Two File) → o2.files ≡ Some two2 → AgreedEnds clients contact group j out out' came two two2
 cut_ends clients contact group s s1 s2 o o1 o2 out out' u outcome.Full run settled added limited two files j fits two2 files2 =
     inl (agreed_cut clients contact group s s1 s2 o o1 o2 u (Err outcome.Full) run settled added two files j fits limited added.answer.0 added.answer.1.next added.answer.1.rest
@@ -262,7 +262,7 @@ cut_ends clients contact group s s1 s2 o o1 o2 out out' u _ run settled added li
 pub agrees_stopped : (clients : Meaning) (contact : ℕ) (group : Id) (s s1 s2 : StoreValue) (o o1 o2 : Outside) (out out' : Stream) (u : Unit {0}) (came : Outcome) → IsIdle out out'
     → s.limit ≡ MAX_JOURNAL → DiskRun o o1 → SettlesAnew clients s s1 o o1 (Ok u)
     → AddsFront clients s1 s2 o1 o2 (agreed_batches clients contact group s1.state.facts) (Err came) → ExtendsBy o1 o2 (Err came)
-    → Agrees clients contact group s o o2 out out' came
+    → AgreesLevels clients contact group s o o2 out out' came
 agrees_stopped clients contact group s s1 s2 o o1 o2 out out' u came idle limited run settled added by =
     let whole = caused_later o o1 o2 came run.later by in
     record {
@@ -288,7 +288,7 @@ printed_ends clients contact group j out out' text _ two two2 agreed p = absurd 
 pub agrees_printed : (clients : Meaning) (contact : ℕ) (group : Id) (s s1 s2 : StoreValue) (o o1 o2 : Outside) (out out' : Stream) (u v : Unit {0}) (text : List ℕ) (came : Outcome)
     → s.limit ≡ MAX_JOURNAL → DiskRun o o1 → SettlesAnew clients s s1 o o1 (Ok u)
     → AddsFront clients s1 s2 o1 o2 (agreed_batches clients contact group s1.state.facts) (Ok v) → text ≡ agreed_text clients contact group s1.state.facts
-    → PrintsText text out out' came → Agrees clients contact group s o o2 out out' came
+    → PrintsText text out out' came → AgreesLevels clients contact group s o o2 out out' came
 agrees_printed clients contact group s s1 s2 o o1 o2 out out' u v text came limited run settled added is printed = record {
   run = run_then o o1 o2 run added.runs.run;
   by = printed_by o o2 out out' text came printed;
@@ -304,7 +304,7 @@ agrees_printed clients contact group s s1 s2 o o1 o2 out out' u v text came limi
 
 -- ---- from the files
 
-rest_moments : (clients : Meaning) (contact : ℕ) (group : Id) (standing : Standing) (came : Outcome) (P : Two File → Type 0) (two : Two File) (o o1 : Outside) → Rests P two o o1
+rest_moments : (clients : Meaning) (contact : ℕ) (group : Id) (standing : Standing) (came : Outcome) (P : Two File → Type 0) (two : Two File) (o o1 : Outside) → LeavesFilesSo P two o o1
     → MomentsAre o o1 (λ m. IsNow two o.links m ⊎ AgreesMoment clients contact group standing came (sent_of o.links.told) m)
 rest_moments clients contact group standing came P two o o1 rests = moments_map o o1 _ _ (λ m w. inl w) rests.moments
 
@@ -316,7 +316,7 @@ none_by old new out out' outcome.Memory idle by = idle
 none_by old new out out' _ idle by = absurd by
 
 none_ends : (clients : Meaning) (contact : ℕ) (group : Id) (standing : Standing) (two two' : Two File) (old new : Outside) (out out' : Stream) (came : Outcome)
-    → LoadedBy old new (Err came) → IsLoaded standing (Err came) → Keeps came two two' → AgreesEnds clients contact group standing two two' out out' came
+    → LoadedBy old new (Err came) → IsLoaded standing (Err came) → KeepsFiles came two two' → AgreesEnds clients contact group standing two two' out out' came
 none_ends clients contact group standing two two' old new out out' outcome.DiskFault by loaded same = tt
 none_ends clients contact group standing two two' old new out out' outcome.NoStore by loaded same = (loaded, same)
 none_ends clients contact group standing two two' old new out out' (outcome.Damaged place) by loaded same = (loaded, same)
@@ -331,7 +331,7 @@ none_unadded old new outcome.Memory by = refl
 none_unadded old new _ by = absurd by
 
 pub agreed_none : (clients : Meaning) (contact : ℕ) (group : Id) (old new : Outside) (out out' : Stream) (came : Outcome) → DiskRun old new
-    → ((two : Two File) → old.files ≡ Some two → Rests (LoadKeeps (Err came) two) two old new) → LoadedBy old new (Err came)
+    → ((two : Two File) → old.files ≡ Some two → LeavesFilesSo (LoadKeeps (Err came) two) two old new) → LoadedBy old new (Err came)
     → ((two : Two File) → old.files ≡ Some two → IsLoaded (stands clients (read_files two)) (Err came)) → IsIdle out out' → HasAgreed clients contact group old new out out' came
 agreed_none clients contact group old new out out' came run rests by loaded idle = record {
   run = run;
@@ -345,7 +345,7 @@ agreed_none clients contact group old new out out' came run rests by loaded idle
 }
 
 pub agreed_refused : (clients : Meaning) (contact : ℕ) (group : Id) (old new : Outside) (out out' : Stream) (s : StoreValue) (why : Refused) → DiskRun old new
-    → ((two : Two File) → old.files ≡ Some two → Rests (LoadKeeps (Ok s) two) two old new) → ((two : Two File) → old.files ≡ Some two → HasFacts (stands clients (read_files two)) s)
+    → ((two : Two File) → old.files ≡ Some two → LeavesFilesSo (LoadKeeps (Ok s) two) two old new) → ((two : Two File) → old.files ≡ Some two → HasFacts (stands clients (read_files two)) s)
     → agree_test s.state.facts contact group ≡ Some why → IsIdle out out' → HasAgreed clients contact group old new out out' (outcome.Refused why)
 agreed_refused clients contact group old new out out' s why run rests loaded tested idle = record {
   run = run;
@@ -361,7 +361,7 @@ agreed_refused clients contact group old new out out' s why run rests loaded tes
 
 -- the files before the agreement read as those before the load
 cut_first : (clients : Meaning) (contact : ℕ) (group : Id) (j : List (List Entry)) (two two1 two2 : Two File) → read_files two1 ≡ read_files two
-    → IsCut clients contact group j two2 ⊎ WasSpent two1 two2 → IsCut clients contact group j two2 ⊎ WasSpent two two2
+    → IsAgreementCut clients contact group j two2 ⊎ WasSpent two1 two2 → IsAgreementCut clients contact group j two2 ⊎ WasSpent two two2
 cut_first clients contact group j two two1 two2 same (inl cut) = inl cut
 cut_first clients contact group j two two1 two2 same (inr spent) = inr (subst HasLastGeneration same spent.0, spent.1 ∙ same)
 
@@ -388,12 +388,12 @@ by_later o o1 o2 out out' (outcome.Damaged place) later by = by
 by_later o o1 o2 out out' _ later by = absurd by
 
 -- the journal that the disk fits is the one that the files stood for
-same_journal : (clients : Meaning) (s : StoreValue) (two two1 : Two File) (j : List (List Entry)) → read_files two1 ≡ read_files two → Fits clients s j two1 → stands clients (read_files two) ≡ journal j
+same_journal : (clients : Meaning) (s : StoreValue) (two two1 : Two File) (j : List (List Entry)) → read_files two1 ≡ read_files two → FitsFiles clients s j two1 → stands clients (read_files two) ≡ journal j
 same_journal clients s two two1 j same fits = ap (stands clients) (sym same) ∙ fits.stands_for
 
 pub agreed_loaded : (clients : Meaning) (contact : ℕ) (group : Id) (o o1 o2 : Outside) (out out' : Stream) (s : StoreValue) (came : Outcome) → DiskRun o o1
-    → ((two : Two File) → o.files ≡ Some two → Rests (LoadKeeps (Ok s) two) two o o1) → MayExtend clients s o1.files → agree_test s.state.facts contact group ≡ None
-    → Agrees clients contact group s o1 o2 out out' came → HasAgreed clients contact group o o2 out out' came
+    → ((two : Two File) → o.files ≡ Some two → LeavesFilesSo (LoadKeeps (Ok s) two) two o o1) → MayExtend clients s o1.files → agree_test s.state.facts contact group ≡ None
+    → AgreesLevels clients contact group s o1 o2 out out' came → HasAgreed clients contact group o o2 out out' came
 agreed_loaded clients contact group o o1 o2 out out' s came run rests ready tested agreed = record {
   run = run_then o o1 o2 run agreed.run;
   by = by_later o o1 o2 out out' came run.later agreed.by;
@@ -429,8 +429,8 @@ passed P (Ok u) x is h = absurd is
 passed P (Err e) x is h = subst P (sym is) h
 
 module _ (r : Result (Unit {0}) Outcome) (x : Outcome) (is : IsErrAnd r (λ e. e ≡ x)) (clients : Meaning) (contact : ℕ) (group : Id) where
-  pub agrees_on : (s : StoreValue) (o o' : Outside) (out out' : Stream) → Agrees clients contact group s o o' out out' x → Agrees clients contact group s o o' out out' (came_to r)
-  agrees_on s o o' out out' = passed (λ (came : Outcome). Agrees clients contact group s o o' out out' came) r x is
+  pub agrees_on : (s : StoreValue) (o o' : Outside) (out out' : Stream) → AgreesLevels clients contact group s o o' out out' x → AgreesLevels clients contact group s o o' out out' (came_to r)
+  agrees_on s o o' out out' = passed (λ (came : Outcome). AgreesLevels clients contact group s o o' out out' came) r x is
 
   pub agreed_on : (o o' : Outside) (out out' : Stream) → HasAgreed clients contact group o o' out out' x → HasAgreed clients contact group o o' out out' (came_to r)
   agreed_on o o' out out' = passed (λ (came : Outcome). HasAgreed clients contact group o o' out out' came) r x is

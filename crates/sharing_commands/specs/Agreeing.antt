@@ -20,7 +20,7 @@ use Rattle.sync_words.specs.declared.outcome.Outcome.TheVariants as outcome
 use Rattle.entry_codec.specs.declared.naming.Format.TheVariants as kind
 use Rattle.store_commands.specs.Commit.{HasLastGeneration, IsInFormat, WasSpent, needed_by}
 use Rattle.store_commands.specs.Entries.{AddsBy, is_added, is_late}
-use Rattle.store_commands.specs.Show.{ReadsAs}
+use Rattle.store_commands.specs.Show.{FilesReadSame}
 use Rattle.sharing_commands.specs.Agreement.{agree_test, agreed_batches, agreed_text}
 
 -- ---- journals
@@ -39,9 +39,9 @@ pub record AgreesOn (clients : Meaning) (contact : ℕ) (group : Id) (j whole : 
   pub between : IsBetween j more whole
 
 -- there was room for each of these batches when it was committed
-abbrev pub AreRoomy : List (List Entry) → List (List Entry) → Type 0
-AreRoomy j [] = Unit {0}
-AreRoomy j (b ∷ bs) = (needed_by j b ≤ MAX_JOURNAL) × AreRoomy (j ++ b ∷ []) bs
+abbrev pub EachFoundRoom : List (List Entry) → List (List Entry) → Type 0
+EachFoundRoom j [] = Unit {0}
+EachFoundRoom j (b ∷ bs) = (needed_by j b ≤ MAX_JOURNAL) × EachFoundRoom (j ++ b ∷ []) bs
 
 -- The files stand, in format 2, for the journal, all of its settling, and all that the targets ask for; nothing is pending in
 -- them, so that each crash leaves this. The text is that of the targets.
@@ -50,7 +50,7 @@ pub record IsAgreed (clients : Meaning) (contact : ℕ) (group : Id) (j : List (
   pub settles : AllSettling clients (facts j) first
   pub settled : IsSettled clients (after_batches (facts j) first)
   pub short : IsInFormat kind.Short (read_files two)
-  pub roomy : AreRoomy (j ++ first) (agreed_batches clients contact group (after_batches (facts j) first))
+  pub roomy : EachFoundRoom (j ++ first) (agreed_batches clients contact group (after_batches (facts j) first))
   pub stands_for : stands clients (read_files two) ≡ journal (j ++ (first ++ agreed_batches clients contact group (after_batches (facts j) first)))
   pub first_settled : NothingPending two 0
   pub second_settled : NothingPending two 1
@@ -58,7 +58,7 @@ pub record IsAgreed (clients : Meaning) (contact : ℕ) (group : Id) (j : List (
 
 -- The files stand, in format 2, for the journal, all of its settling, and a front of what the targets ask for, and there is no
 -- room for the batch behind it.
-pub record IsCut (clients : Meaning) (contact : ℕ) (group : Id) (j : List (List Entry)) (two : Two File) : Type 0 where
+pub record IsAgreementCut (clients : Meaning) (contact : ℕ) (group : Id) (j : List (List Entry)) (two : Two File) : Type 0 where
   pub first : List (List Entry)
   pub front : List (List Entry)
   pub next : List Entry
@@ -92,10 +92,10 @@ AgreesMoment clients contact group standing came sent m =
 
 -- the outcome by what the files stood for
 abbrev pub AgreesEnds : Meaning → ℕ → Id → Standing → Two File → Two File → (out out' : Stream) → Outcome → Type 0
-AgreesEnds clients contact group standing two two' out out' outcome.NoStore = (standing ≡ no_store) × ReadsAs two two'
-AgreesEnds clients contact group standing two two' out out' (outcome.Damaged place) = (standing ≡ damaged place.file place.at) × ReadsAs two two'
-AgreesEnds clients contact group standing two two' out out' (outcome.Refused why) = IsDenied contact group standing why × ReadsAs two two'
-AgreesEnds clients contact group standing two two' out out' outcome.Full = MayAgree contact group standing (λ j. IsCut clients contact group j two' ⊎ WasSpent two two')
+AgreesEnds clients contact group standing two two' out out' outcome.NoStore = (standing ≡ no_store) × FilesReadSame two two'
+AgreesEnds clients contact group standing two two' out out' (outcome.Damaged place) = (standing ≡ damaged place.file place.at) × FilesReadSame two two'
+AgreesEnds clients contact group standing two two' out out' (outcome.Refused why) = IsDenied contact group standing why × FilesReadSame two two'
+AgreesEnds clients contact group standing two two' out out' outcome.Full = MayAgree contact group standing (λ j. IsAgreementCut clients contact group j two' ⊎ WasSpent two two')
 AgreesEnds clients contact group standing two two' out out' outcome.Done =
     MayAgree contact group standing (λ j. IsAgreed clients contact group j two' (Appends out.bytes out'.bytes))
 AgreesEnds clients contact group standing two two' out out' outcome.WriteFault =

@@ -35,7 +35,7 @@ last_level before id [] = before
 last_level before id (t ∷ ts) = last_level (cond (same_id (target_id t) id) t.level before) id ts
 
 -- what the batches of all targets leave of the levels
-pub record SetsLevels (contact : ℕ) (ts : List Target) (f later : Facts) : Type 0 where
+pub record SetsTargetLevels (contact : ℕ) (ts : List Target) (f later : Facts) : Type 0 where
   -- the contact's level of a group that is known then is that of the group's last target, or as before
   pub agreed : (id : Id) → is_some (group_at later.groups id) ≡ true → level_at later.levels contact id ≡ last_level (level_at f.levels contact id) id ts
   -- and of a group that is not known, as before
@@ -44,4 +44,4 @@ pub record SetsLevels (contact : ℕ) (ts : List Target) (f later : Facts) : Typ
   pub others : (other : ℕ) (id : Id) → other ≢ contact → level_at later.levels other id ≡ level_at f.levels other id
 
 abbrev pub TargetsSetLevels : Type 0
-TargetsSetLevels = (clients : Meaning) (contact : ℕ) (f : Facts) (ts : List Target) → SetsLevels contact ts f (after_batches f (all_batches clients contact f ts))
+TargetsSetLevels = (clients : Meaning) (contact : ℕ) (f : Facts) (ts : List Target) → SetsTargetLevels contact ts f (after_batches f (all_batches clients contact f ts))

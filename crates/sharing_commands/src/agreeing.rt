@@ -5,7 +5,7 @@ ghost use Rattle.sync_words.specs.Outcomes.{came_to};
 ghost use Rattle.store_commands.specs.Commit.{ExtendsBy};
 ghost use Rattle.store_commands.specs.Load.{MayExtend};
 ghost use Rattle.store_commands.specs.Show.{PrintsText};
-ghost use Rattle.sharing_commands.specs.Adding.{AddsFront, Agrees, KnowsContact};
+ghost use Rattle.sharing_commands.specs.Adding.{AddsFront, AgreesLevels, KnowsContact};
 ghost use Rattle.sharing_commands.specs.Agreeing.{HasAgreed};
 ghost use Rattle.sharing_commands.specs.Agreement.{agree_test, agreed_batches, agreed_text};
 
@@ -68,7 +68,7 @@ fn agree_loaded<D: Disk, W: Sink, C: Clients>(
 ) -> Result<(), Outcome>
     requires ready { MayExtend (C.meaning clients.now) store (D.tells disk.old).files }
     requires known { contact < store.state.facts.contacts }
-    ensures { Agrees (C.meaning clients.now) contact group.now store (D.tells disk.old)
+    ensures { AgreesLevels (C.meaning clients.now) contact group.now store (D.tells disk.old)
         (D.tells disk.new) (W.tells out.old) (W.tells out.new) (came_to result) }
 {
     let mut store = store;

@@ -3,7 +3,7 @@ ghost use Rattle.std.specs.Prelude.{◌≡◌, ◌≤◌, IfOk, MatchResult, Non
 ghost use Rattle.sync_rules.specs.Facts.{group_at};
 ghost use Rattle.sync_words.specs.Outcomes.{came_to};
 ghost use Rattle.store_commands.specs.Entries.{HasAdded};
-ghost use Rattle.store_commands.specs.Post.{IsPlanned};
+ghost use Rattle.store_commands.specs.Post.{IsPlanOfPost};
 ghost use Rattle.sharing_commands.specs.Sayings.{message_said, say_plan, sharing_test};
 
 use crate::previous::previous_own;
@@ -67,7 +67,7 @@ fn plan_saying<C: Clients>(
     speech: Speech,
 ) -> Result<PlannedPost, Outcome>
     requires { speech.timestamp ≤ MAX_TIMESTAMP }
-    ensures { IsPlanned (say_plan (C.meaning clients.now) speech store.now.state.facts) result }
+    ensures { IsPlanOfPost (say_plan (C.meaning clients.now) speech store.now.state.facts) result }
 {
     if let Some(why) = refusal(store, &speech.group) {
         return Err(Outcome::Refused(why));

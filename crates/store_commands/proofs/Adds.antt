@@ -1,7 +1,7 @@
 -- Settling, a batch, and settling again, as moments and as journals.
 use Rattle.std.proofs.Common.{◌≡◌, ◌≢◌, ℕ, ◌+◌, ◌<◌, ◌≤◌, false, List, [], ◌∷◌, ◌++◌, refl, sym, ap, ◌∙◌, subst, inl, inr, append_assoc, append-nil, arith, Some, Result, Ok, Err}
 use Rattle.outside.specs.declared.limits.TheConstants.{MAX_JOURNAL}
-use Rattle.outside.specs.Faults.{Rose}
+use Rattle.outside.specs.Faults.{CountRose}
 use Rattle.outside.specs.Files.{Two, File}
 use Rattle.outside.specs.Links.{Links, sent_of}
 use Rattle.outside.specs.Outside.{Outside, Moment, MomentsAre, DiskRun}
@@ -20,14 +20,14 @@ use Rattle.entry_codec.specs.Payloads.{journal_end, payload_len}
 use Rattle.entry_codec.specs.Standing.{journal, room_of}
 use Rattle.sync_store.specs.Commits.{needed}
 use Rattle.sync_store.specs.Store.{StoreValue, format_meant, written_in}
-use Rattle.sync_store.specs.Fitting.{Fits}
+use Rattle.sync_store.specs.Fitting.{FitsFiles}
 use Rattle.sync_store.specs.Moments.{IsBetween, JournalMoment}
 use Rattle.sync_store.specs.Runs.{AddsBatch, HasExtended, RunsBy}
 use Rattle.sync_words.specs.declared.outcome.Outcome.{Outcome}
 use Rattle.sync_words.specs.declared.outcome.Outcome.TheVariants as outcome
 use Rattle.store_commands.specs.declared.commit.Settling.{Settling}
 use Rattle.store_commands.specs.declared.commit.Settling.TheVariants as settling
-use Rattle.store_commands.specs.Commit.{AddedSo, AddsAs, AddsAtMost, ExtendsBy, ExtendsEnds, ExtendsTold, Follows, GoesOn, IsWhole, MayFollow, SettledAnew, SettlesAnew, needed_by}
+use Rattle.store_commands.specs.Commit.{AddedSo, AddsAs, HasAtMostBatch, ExtendsBy, ExtendsEnds, ExtendsTold, SettlesBehind, GoesOnByBatch, IsBatchAndSettling, MayFollow, SettledAnew, SettlesAnew, needed_by}
 use Rattle.store_commands.proofs.Stood.{fits_format, last_here, spent_here}
 
 -- ---- longer journals
@@ -47,7 +47,7 @@ front_of clients f more front rest parts s = front_settles clients f front rest 
 
 -- a moment of settling
 settling_moment : (clients : Meaning) (j more : List (List Entry)) (batch : List Entry) (sent : List (List ℕ)) (m : Moment) → AllSettling clients (facts j) more
-    → JournalMoment clients (IsBetween j more) sent m → JournalMoment clients (GoesOn clients j batch) sent m
+    → JournalMoment clients (IsBetween j more) sent m → JournalMoment clients (GoesOnByBatch clients j batch) sent m
 settling_moment clients j more batch sent m settles w = record {
   whole = w.whole;
   has = record { more = w.has.front; is = w.has.is; adds = inl (front_of clients (facts j) more w.has.front w.has.rest w.has.parts settles) };
@@ -57,7 +57,7 @@ settling_moment clients j more batch sent m settles w = record {
 
 -- behind settling, a front of the batch and its settling
 front_adds : (clients : Meaning) (f : Facts) (batch : List Entry) (first more front rest : List (List Entry)) → AllSettling clients f first
-    → AddsBatch clients (after_batches f first) batch more → more ≡ front ++ rest → AddsAtMost clients f batch (first ++ front)
+    → AddsBatch clients (after_batches f first) batch more → more ≡ front ++ rest → HasAtMostBatch clients f batch (first ++ front)
 front_adds clients f batch first more [] rest settles adds parts = inl (subst (AllSettling clients f) (sym (append-nil first)) settles)
 front_adds clients f batch first [] (b ∷ front) rest settles adds parts = cc
 front_adds clients f batch first (x ∷ more) (b ∷ front) rest settles adds parts =
@@ -74,7 +74,7 @@ front_adds clients f batch first (x ∷ more) (b ∷ front) rest settles adds pa
 
 -- a moment of the batch and its settling, behind settling
 batch_moment : (clients : Meaning) (j first more : List (List Entry)) (batch : List Entry) (sent : List (List ℕ)) (m : Moment) → AllSettling clients (facts j) first
-    → AddsBatch clients (after_batches (facts j) first) batch more → JournalMoment clients (IsBetween (j ++ first) more) sent m → JournalMoment clients (GoesOn clients j batch) sent m
+    → AddsBatch clients (after_batches (facts j) first) batch more → JournalMoment clients (IsBetween (j ++ first) more) sent m → JournalMoment clients (GoesOnByBatch clients j batch) sent m
 batch_moment clients j first more batch sent m settles adds w = record {
   whole = w.whole;
   has = record {
@@ -93,23 +93,23 @@ sent_before clients P o o1 o2 same run = subst (λ (l : Links). MomentsAre o1 o2
 
 -- ---- settling
 
-pub settles_from : (clients : Meaning) (s : StoreValue) (two : Two File) (j more : List (List Entry)) → Fits clients s j two → AllSettling clients s.state.facts more → AllSettling clients (facts j) more
+pub settles_from : (clients : Meaning) (s : StoreValue) (two : Two File) (j more : List (List Entry)) → FitsFiles clients s j two → AllSettling clients s.state.facts more → AllSettling clients (facts j) more
 settles_from clients s two j more fits settling = subst (λ (g : Facts). AllSettling clients g more) (sym fits.facts_are) settling
 
 settling_moments : (clients : Meaning) (o o1 : Outside) (s s1 : StoreValue) (batch : List Entry) (result : Result (Unit {0}) Outcome) (two : Two File) (j : List (List Entry))
-    → o.files ≡ Some two → Fits clients s j two → SettlesAnew clients s s1 o o1 result → MomentsAre o o1 (JournalMoment clients (GoesOn clients j batch) (sent_of o.links.told))
+    → o.files ≡ Some two → FitsFiles clients s j two → SettlesAnew clients s s1 o o1 result → MomentsAre o o1 (JournalMoment clients (GoesOnByBatch clients j batch) (sent_of o.links.told))
 settling_moments clients o o1 s s1 batch result two j files fits settled =
     moments_map o o1 _ _ (λ m w. settling_moment clients j settled.more batch (sent_of o.links.told) m (settles_from clients s two j settled.more fits settled.comes.settling) w)
     (settled.comes.leads two files j fits).moments
 
 -- the journal that the disk fits once it is settled
 pub settled_fits : (clients : Meaning) (o o1 : Outside) (s s1 : StoreValue) (u : Unit {0}) (two two1 : Two File) (j : List (List Entry)) → o.files ≡ Some two → o1.files ≡ Some two1
-    → Fits clients s j two → (settled : SettlesAnew clients s s1 o o1 (Ok u)) → Fits clients s1 (j ++ settled.more) two1
+    → FitsFiles clients s j two → (settled : SettlesAnew clients s s1 o o1 (Ok u)) → FitsFiles clients s1 (j ++ settled.more) two1
 settled_fits clients o o1 s s1 u two two1 j files files1 fits settled =
     let at = (settled.comes.leads two files j fits).ends settled.answer.0 two1 files1 in
-    subst (λ (w : List (List Entry)). Fits clients s1 w two1) at.1 at.2
+    subst (λ (w : List (List Entry)). FitsFiles clients s1 w two1) at.1 at.2
 
-not_settled_ends : (clients : Meaning) (asked : Settling) (j : List (List Entry)) (batch : List Entry) (s s1 : StoreValue) (came : Outcome) (two two' : Two File) → Fits clients s j two
+not_settled_ends : (clients : Meaning) (asked : Settling) (j : List (List Entry)) (batch : List Entry) (s s1 : StoreValue) (came : Outcome) (two two' : Two File) → FitsFiles clients s j two
     → (came ≡ outcome.Full → read_files two' ≡ read_files two) → SettledAnew clients s s1 (Err came) → ExtendsEnds clients asked j batch (Err came) two two'
 not_settled_ends clients asked j batch s s1 outcome.Full two two' fits still answer = inr (last_here clients s j two fits answer.0, still refl)
 not_settled_ends clients asked j batch s s1 outcome.Memory two two' fits still answer = tt
@@ -125,7 +125,7 @@ same_told o o1 two two' same files files' =
 
 -- migrating or settling that failed
 pub settles_only : (clients : Meaning) (o o1 : Outside) (s s1 : StoreValue) (batch : List Entry) (asked : Settling) (came : Outcome) (two : Two File) (j : List (List Entry))
-    → o.files ≡ Some two → Fits clients s j two → (came ≡ outcome.Full → o1 ≡ o) → SettlesAnew clients s s1 o o1 (Err came) → ExtendsTold clients asked j batch two o o1 (Err came)
+    → o.files ≡ Some two → FitsFiles clients s j two → (came ≡ outcome.Full → o1 ≡ o) → SettlesAnew clients s s1 o o1 (Err came) → ExtendsTold clients asked j batch two o o1 (Err came)
 settles_only clients o o1 s s1 batch asked came two j files fits still settled = record {
   moments = settling_moments clients o o1 s s1 batch (Err came) two j files fits settled;
   ends = λ two' files'. not_settled_ends clients asked j batch s s1 came two two' fits (λ is. same_told o o1 two two' (still is) files files') settled.answer;
@@ -142,8 +142,8 @@ weighed s j batch ends same short =
     ∙ ap (λ (f : Format). journal_end f j + 5 + payload_len f batch + room_of f (after_all (facts j) batch)) short
 
 adds_ends : (clients : Meaning) (asked : Settling) (j first more : List (List Entry)) (batch : List Entry) (s1 s2 : StoreValue) (two two1 two2 : Two File) (result : Result (Unit {0}) Outcome)
-    → s2.format ≡ s1.format → written_in s1 ≡ kind.Short → AllSettling clients (facts j) first → IsSettled clients s1.state.facts → s1.limit ≡ MAX_JOURNAL → Fits clients s1 (j ++ first) two1
-    → AddedSo clients asked s1 s2 batch more result → (s2.closed ≡ false → (whole : List (List Entry)) × (whole ≡ (j ++ first) ++ more) × Fits clients s2 whole two2)
+    → s2.format ≡ s1.format → written_in s1 ≡ kind.Short → AllSettling clients (facts j) first → IsSettled clients s1.state.facts → s1.limit ≡ MAX_JOURNAL → FitsFiles clients s1 (j ++ first) two1
+    → AddedSo clients asked s1 s2 batch more result → (s2.closed ≡ false → (whole : List (List Entry)) × (whole ≡ (j ++ first) ++ more) × FitsFiles clients s2 whole two2)
     → ExtendsEnds clients asked j batch result two two2
 adds_ends clients asked j first more batch s1 s2 two two1 two2 (Ok u) format short settles settled limit fits answer ends =
     let at = ends answer.0 in
@@ -157,7 +157,7 @@ adds_ends clients asked j first more batch s1 s2 two two1 two2 (Ok u) format sho
       settled = subst (IsSettled clients) f settled;
       roomy = subst (λ n. n ≤ MAX_JOURNAL) (weighed s1 (j ++ first) batch fits.end_is (sym fits.facts_are) short) within;
       short = fits_format clients s2 at.0 two2 kind.Short at.2 (ap format_meant format ∙ short);
-      follows = subst (λ (g : Facts). Follows asked clients (after_all g batch) whole.rest) f whole.follows;
+      follows = subst (λ (g : Facts). SettlesBehind asked clients (after_all g batch) whole.rest) f whole.follows;
       stands_for = at.2.stands_for ∙ ap journal (at.1 ∙ append_assoc j first more ∙ ap (λ (bs : List (List Entry)). j ++ (first ++ bs)) whole.is);
       first_settled = at.2.first_settled;
       second_settled = at.2.second_settled;
@@ -178,7 +178,7 @@ adds_ends clients asked j first more batch s1 s2 two two1 two2 (Err outcome.Disk
 adds_ends clients asked j first more batch s1 s2 two two1 two2 (Err _) format short settles settled limit fits answer ends = absurd answer
 
 pub adds : (clients : Meaning) (asked which : Settling) (o o1 o2 : Outside) (s s1 s2 : StoreValue) (batch : List Entry) (u : Unit {0}) (result : Result (Unit {0}) Outcome) (two : Two File)
-    (j : List (List Entry)) → asked ≡ which → o.files ≡ Some two → Fits clients s j two → s.limit ≡ MAX_JOURNAL → DiskRun o o1 → SettlesAnew clients s s1 o o1 (Ok u)
+    (j : List (List Entry)) → asked ≡ which → o.files ≡ Some two → FitsFiles clients s j two → s.limit ≡ MAX_JOURNAL → DiskRun o o1 → SettlesAnew clients s s1 o o1 (Ok u)
     → AddsAs clients which s1 s2 batch o1 o2 result → ExtendsTold clients asked j batch two o o2 result
 adds clients asked which o o1 o2 s s1 s2 batch u result two j same files fits limited run settled added =
     let told1 = told_on o o1 two run.same_told files in
@@ -208,11 +208,11 @@ follows_settled clients o o1 s s1 batch u may settled =
 -- ---- what a store answers
 
 -- no batch stands behind one that was committed
-pub one_whole : (clients : Meaning) (f : Facts) (batch : List Entry) → IsWhole clients settling.Before f batch (batch ∷ [])
+pub one_whole : (clients : Meaning) (f : Facts) (batch : List Entry) → IsBatchAndSettling clients settling.Before f batch (batch ∷ [])
 one_whole clients f batch = record { rest = []; is = refl; follows = refl }
 
 settled_whole : (clients : Meaning) (s s' : StoreValue) (o o' : Outside) (batch : List Entry) (more : List (List Entry)) → RunsBy clients s s' o o' more → AddsBatch clients s.state.facts batch more
-    → s'.closed ≡ false → more ≢ [] → IsSettled clients s'.state.facts → IsWhole clients settling.BeforeAndAfter s.state.facts batch more
+    → s'.closed ≡ false → more ≢ [] → IsSettled clients s'.state.facts → IsBatchAndSettling clients settling.BeforeAndAfter s.state.facts batch more
 settled_whole clients s s' o o' batch [] runs adds still some settled = absurd (some refl)
 settled_whole clients s s' o o' batch (b ∷ rest) runs adds still some settled = record {
   rest = rest;
@@ -225,12 +225,12 @@ settled_whole clients s s' o o' batch (b ∷ rest) runs adds still some settled 
 
 -- settling that is whole
 pub extended_whole : (clients : Meaning) (s s' : StoreValue) (batch : List Entry) (u : Unit {0}) (o o' : Outside) (has : HasExtended clients s s' batch (Ok u) o o')
-    → IsWhole clients settling.BeforeAndAfter s.state.facts batch has.more
+    → IsBatchAndSettling clients settling.BeforeAndAfter s.state.facts batch has.more
 extended_whole clients s s' batch u o o' has = settled_whole clients s s' o o' batch has.more has.runs has.adds has.answer.0 has.answer.2 has.answer.3
 
 -- ---- causes
 
-rose_before : (a b c : ℕ) → a ≤ b → Rose b c → Rose a c
+rose_before : (a b c : ℕ) → a ≤ b → CountRose b c → CountRose a c
 rose_before a b c later rose = omega arith
 
 -- a later run's causes are those of the whole

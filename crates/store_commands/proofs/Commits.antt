@@ -10,12 +10,12 @@ use Rattle.sync_rules.specs.declared.entries.Entry.{Entry}
 use Rattle.sync_rules.specs.Clients.{Meaning}
 use Rattle.entry_codec.specs.Standing.{stands}
 use Rattle.sync_store.specs.Store.{StoreValue}
-use Rattle.sync_store.specs.Fitting.{Fits}
+use Rattle.sync_store.specs.Fitting.{FitsFiles}
 use Rattle.sync_store.specs.Moments.{JournalMoment}
 use Rattle.sync_words.specs.declared.outcome.Outcome.{Outcome}
 use Rattle.sync_words.specs.declared.outcome.Outcome.TheVariants as outcome
 use Rattle.store_commands.specs.declared.commit.Settling.{Settling}
-use Rattle.store_commands.specs.Commit.{ExtendsBy, ExtendsEnds, ExtendsTold, GoesOn, IsAdded}
+use Rattle.store_commands.specs.Commit.{ExtendsBy, ExtendsEnds, ExtendsTold, GoesOnByBatch, IsAdded}
 use Rattle.store_commands.specs.Entries.{AddsBy, EntryAdded, EntryEnds, is_added, is_late}
 use Rattle.store_commands.specs.Show.{PrintsText}
 use Rattle.store_commands.specs.Shown.{added_text}
@@ -40,8 +40,8 @@ files_only two left first second image =
     ap with_first one ∙ ap with_second other
 
 -- each moment of now stands for the journal that the disk fits
-still_moment : (clients : Meaning) (s : StoreValue) (batch : List Entry) (j : List (List Entry)) (two : Two File) (o : Outside) → o.files ≡ Some two → Fits clients s j two → (m : Moment)
-    → o.moments o.clock m → JournalMoment clients (GoesOn clients j batch) (sent_of o.links.told) m
+still_moment : (clients : Meaning) (s : StoreValue) (batch : List Entry) (j : List (List Entry)) (two : Two File) (o : Outside) → o.files ≡ Some two → FitsFiles clients s j two → (m : Moment)
+    → o.moments o.clock m → JournalMoment clients (GoesOnByBatch clients j batch) (sent_of o.links.told) m
 still_moment clients s batch j two o files fits m w =
     let now = o.now_is two m files w in
     let same = files_only two m.files fits.first_settled fits.second_settled now.image in
@@ -96,7 +96,7 @@ of_entry clients settling two o o2 j e batch result is told =
 
 pub entry_printed : (clients : Meaning) (settling : Settling) (s : StoreValue) (e : Entry) (o o2 : Outside) (out out' : Stream) (text : List ℕ) (batch : List Entry) (u : Unit {0}) (came : Outcome)
     → batch ≡ e ∷ [] → text ≡ added_text e → DiskRun o o2
-    → ((two : Two File) → o.files ≡ Some two → (j : List (List Entry)) → Fits clients s j two → ExtendsTold clients settling j batch two o o2 (Ok u))
+    → ((two : Two File) → o.files ≡ Some two → (j : List (List Entry)) → FitsFiles clients s j two → ExtendsTold clients settling j batch two o o2 (Ok u))
     → PrintsText text out out' came → EntryAdded clients settling s e o o2 out out' came
 entry_printed clients settling s e o o2 out out' text batch u came is line run told printed =
     let p : PrintsText (added_text e) out out' came = subst (λ (t : List ℕ). PrintsText t out out' came) line printed in
@@ -142,7 +142,7 @@ failed_unadded o o2 _ by = absurd by
 
 pub entry_failed : (clients : Meaning) (settling : Settling) (s : StoreValue) (e : Entry) (o o2 : Outside) (out out' : Stream) (batch : List Entry) (came : Outcome)
     → batch ≡ e ∷ [] → IsIdle out out' → DiskRun o o2 → ExtendsBy o o2 (Err came)
-    → ((two : Two File) → o.files ≡ Some two → (j : List (List Entry)) → Fits clients s j two → ExtendsTold clients settling j batch two o o2 (Err came))
+    → ((two : Two File) → o.files ≡ Some two → (j : List (List Entry)) → FitsFiles clients s j two → ExtendsTold clients settling j batch two o o2 (Err came))
     → EntryAdded clients settling s e o o2 out out' came
 entry_failed clients settling s e o o2 out out' batch came is idle run by told = record {
   run = run;

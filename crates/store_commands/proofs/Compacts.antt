@@ -3,7 +3,7 @@ use Rattle.std.proofs.Common.{◌≡◌, ◌⊎◌, ℕ, ◌+◌, ◌-◌, ◌^�
 use Rattle.std.specs.Io.KnownBytes.{Appends}
 use Rattle.std.specs.Prelude.{IsErrAnd}
 use Rattle.outside.specs.declared.limits.TheConstants.{MAX_JOURNAL}
-use Rattle.outside.specs.Faults.{Rose}
+use Rattle.outside.specs.Faults.{CountRose}
 use Rattle.outside.specs.Files.{Two, File, read_files}
 use Rattle.outside.specs.Links.{Links, sent_of}
 use Rattle.outside.specs.Outside.{DiskRun, IsNow, MomentsAre, Outside}
@@ -22,7 +22,7 @@ use Rattle.entry_codec.specs.Payloads.{journal_end}
 use Rattle.entry_codec.specs.Standing.{Standing, journal, room_of, stands}
 use Rattle.journal_compaction.specs.Compacting.{compacted_len}
 use Rattle.sync_store.specs.Compactions.{IsOrBrief}
-use Rattle.sync_store.specs.Fitting.{Fits}
+use Rattle.sync_store.specs.Fitting.{FitsFiles}
 use Rattle.sync_store.specs.Moments.{JournalMoment}
 use Rattle.sync_store.specs.Store.{StoreValue, format_meant, written_in}
 use Rattle.sync_words.specs.EntryTexts.{compacted_text}
@@ -30,16 +30,16 @@ use Rattle.sync_words.specs.Outcomes.{came_to}
 use Rattle.sync_words.specs.declared.outcome.Outcome.{Outcome}
 use Rattle.sync_words.specs.declared.outcome.Outcome.TheVariants as outcome
 use Rattle.store_commands.specs.Commit.{ExtendsBy, HasLastGeneration, SettledAnew, SettlesAnew, next_generation}
-use Rattle.store_commands.specs.Compact.{BriefEnds, CompactsAs, CompactsBy, CompactsEnds, CompactsMoment, GoesBrief, HasCompacted, IsBriefFull, IsCompacted, IsUncompacted, LacksGeneration, MakesBrief, OnceSettled, brief_len}
+use Rattle.store_commands.specs.Compact.{BriefEnds, CompactsAs, CompactsBy, CompactsEnds, CompactsMoment, GoesBrief, HasCompacted, IsBriefFull, AreFilesCompacted, IsUncompacted, LacksGeneration, MakesBrief, OnceSettled, brief_len}
 use Rattle.store_commands.specs.Entries.{is_added, is_late}
 use Rattle.store_commands.specs.Load.{IsLoaded, LoadKeeps, LoadedBy, MayExtend}
-use Rattle.store_commands.specs.Show.{Keeps, PrintsText, Rests}
+use Rattle.store_commands.specs.Show.{KeepsFiles, PrintsText, LeavesFilesSo}
 use Rattle.store_commands.proofs.Adds.{front_of, same_told, sent_before, settled_fits, settles_from}
 use Rattle.store_commands.proofs.Stood.{fits_format, lacked_here, lacks_here, last_here, last_lacks}
 
 -- ---- causes
 
-rose_before : (a b c : ℕ) → a ≤ b → Rose b c → Rose a c
+rose_before : (a b c : ℕ) → a ≤ b → CountRose b c → CountRose a c
 rose_before a b c later rose = omega arith
 
 failed_by : (o o2 : Outside) (out out' : Stream) (came : Outcome) → IsIdle out out' → ExtendsBy o o2 (Err came) → CompactsBy o o2 out out' came
@@ -81,7 +81,7 @@ printed_late out out' text _ p = absurd p
 -- ---- settling
 
 -- a moment of settling
-settling_moments : (clients : Meaning) (s s1 : StoreValue) (o o1 : Outside) (r : Result (Unit {0}) Outcome) (two : Two File) (j : List (List Entry)) → o.files ≡ Some two → Fits clients s j two
+settling_moments : (clients : Meaning) (s s1 : StoreValue) (o o1 : Outside) (r : Result (Unit {0}) Outcome) (two : Two File) (j : List (List Entry)) → o.files ≡ Some two → FitsFiles clients s j two
     → SettlesAnew clients s s1 o o1 r → MomentsAre o o1 (JournalMoment clients (GoesBrief clients j) (sent_of o.links.told))
 settling_moments clients s s1 o o1 r two j files fits settled =
     let settles = settles_from clients s two j settled.more fits settled.comes.settling in
@@ -96,7 +96,7 @@ settling_moments clients s s1 o o1 r two j files fits settled =
       nothing_sent = w.nothing_sent;
     }) (settled.comes.leads two files j fits).moments
 
-unsettled_ends : (clients : Meaning) (j : List (List Entry)) (s s1 : StoreValue) (out out' : Stream) (came : Outcome) (two two1 : Two File) → Fits clients s j two
+unsettled_ends : (clients : Meaning) (j : List (List Entry)) (s s1 : StoreValue) (out out' : Stream) (came : Outcome) (two two1 : Two File) → FitsFiles clients s j two
     → (came ≡ outcome.Full → read_files two1 ≡ read_files two) → SettledAnew clients s s1 (Err came) → BriefEnds clients j out out' came two two1
 unsettled_ends clients j s s1 out out' outcome.Full two two1 fits still answer = inr (last_here clients s j two fits answer.0, still refl)
 unsettled_ends clients j s s1 out out' outcome.Memory two two1 fits still answer = tt
@@ -120,7 +120,7 @@ brief_unsettled clients s s1 o o1 out out' came idle run by still settled = reco
 -- ---- settling, and the brief account
 
 -- the sum of a settled store is that of its journal's brief account
-sum_is : BriefIsByFacts → (clients : Meaning) (s : StoreValue) (j : List (List Entry)) (two : Two File) → Fits clients s j two → IsSettled clients s.state.facts
+sum_is : BriefIsByFacts → (clients : Meaning) (s : StoreValue) (j : List (List Entry)) (two : Two File) → FitsFiles clients s j two → IsSettled clients s.state.facts
     → compacted_len clients s.state.facts ≡ brief_len j
 sum_is law clients s j two fits settled =
     let steps : IsSettled clients (facts j) = subst (IsSettled clients) (sym fits.facts_are) settled in
@@ -128,7 +128,7 @@ sum_is law clients s j two fits settled =
     ∙ ap (λ (bs : List (List Entry)). journal_end kind.Short bs + room_of kind.Short (facts j)) (sym (law clients j fits.legal steps))
 
 -- where there was a generation once the store was settled the files had one
-had_generation : (clients : Meaning) (s s1 : StoreValue) (o o1 : Outside) (u : Unit {0}) → SettlesAnew clients s s1 o o1 (Ok u) → (two : Two File) (j : List (List Entry)) → Fits clients s j two
+had_generation : (clients : Meaning) (s s1 : StoreValue) (o o1 : Outside) (u : Unit {0}) → SettlesAnew clients s s1 o o1 (Ok u) → (two : Two File) (j : List (List Entry)) → FitsFiles clients s j two
     → s1.generation < 2 ^ 64 - 1 → LacksGeneration (read_files two) → ⊥
 had_generation clients s s1 o o1 u settled two j fits next lacks =
     let last : 2 ^ 64 - 1 ≤ next_generation s = lacked_here clients s j two fits lacks in
@@ -136,13 +136,13 @@ had_generation clients s s1 o o1 u settled two j fits next lacks =
     omega (arith, next, last, same)
 
 -- and where there was none they had none
-had_none : (clients : Meaning) (s s1 : StoreValue) (o o1 : Outside) (u : Unit {0}) → SettlesAnew clients s s1 o o1 (Ok u) → (two : Two File) (j : List (List Entry)) → Fits clients s j two
+had_none : (clients : Meaning) (s s1 : StoreValue) (o o1 : Outside) (u : Unit {0}) → SettlesAnew clients s s1 o o1 (Ok u) → (two : Two File) (j : List (List Entry)) → FitsFiles clients s j two
     → s1.generation ≡ 2 ^ 64 - 1 → LacksGeneration (read_files two)
 had_none clients s s1 o o1 u settled two j fits last =
     let same : s1.generation ≡ next_generation s = settled.answer.4 in
     lacks_here clients s j two fits (omega (arith, last, same))
 
-module _ (clients : Meaning) (s s1 : StoreValue) (o o1 : Outside) (u : Unit {0}) (settled : SettlesAnew clients s s1 o o1 (Ok u)) (two : Two File) (j : List (List Entry)) (fits : Fits clients s j two) where
+module _ (clients : Meaning) (s s1 : StoreValue) (o o1 : Outside) (u : Unit {0}) (settled : SettlesAnew clients s s1 o o1 (Ok u)) (two : Two File) (j : List (List Entry)) (fits : FitsFiles clients s j two) where
   settling_is : AllSettling clients (facts j) settled.more
   settling_is = settles_from clients s two j settled.more fits settled.comes.settling
 
@@ -162,7 +162,7 @@ module _ (clients : Meaning) (s s1 : StoreValue) (o o1 : Outside) (u : Unit {0})
   brief_goes whole (inr same) = inr (once (λ j1. whole ≡ brief j1) same)
 
 brief_moments : (clients : Meaning) (s s1 s2 : StoreValue) (o o1 o2 : Outside) (u : Unit {0}) (r : Result (Unit {0}) Outcome) → DiskRun o o1 → SettlesAnew clients s s1 o o1 (Ok u)
-    → CompactsAs clients s1 s2 o1 o2 r → (two : Two File) → o.files ≡ Some two → (j : List (List Entry)) → Fits clients s j two
+    → CompactsAs clients s1 s2 o1 o2 r → (two : Two File) → o.files ≡ Some two → (j : List (List Entry)) → FitsFiles clients s j two
     → MomentsAre o o2 (JournalMoment clients (GoesBrief clients j) (sent_of o.links.told))
 brief_moments clients s s1 s2 o o1 o2 u r run settled compacted two files j fits =
     let told1 = told_on o o1 two run.same_told files in
@@ -178,14 +178,14 @@ brief_moments clients s s1 s2 o o1 o2 u r run settled compacted two files j fits
 
 -- the brief account was written
 brief_whole : BriefIsByFacts → (clients : Meaning) (s s1 s2 : StoreValue) (o o1 o2 : Outside) (u v : Unit {0}) → DiskRun o o1 → SettlesAnew clients s s1 o o1 (Ok u)
-    → CompactsAs clients s1 s2 o1 o2 (Ok v) → s.limit ≡ MAX_JOURNAL → (two : Two File) → o.files ≡ Some two → (j : List (List Entry)) → Fits clients s j two
+    → CompactsAs clients s1 s2 o1 o2 (Ok v) → s.limit ≡ MAX_JOURNAL → (two : Two File) → o.files ≡ Some two → (j : List (List Entry)) → FitsFiles clients s j two
     → (old new : ℕ) → old ≡ s1.end → new ≡ s2.end → (P : List ℕ → Type 0) → P (compacted_text old new) → (two2 : Two File) → o2.files ≡ Some two2
-    → OnceSettled clients j (λ whole. IsCompacted clients whole two2 P)
+    → OnceSettled clients j (λ whole. AreFilesCompacted clients whole two2 P)
 brief_whole law clients s s1 s2 o o1 o2 u v run settled compacted limited two files j fits old new first last P printed two2 files2 =
     let told1 = told_on o o1 two run.same_told files in
     let fits1 = settled_fits clients o o1 s s1 u two told1.0 j files told1.1 fits settled in
     let at = (compacted.leads told1.0 told1.1 (j ++ settled.more) fits1).ends compacted.answer.closed two2 files2 in
-    let fits2 : Fits clients s2 (brief (j ++ settled.more)) two2 = subst (λ (w : List (List Entry)). Fits clients s2 w two2) at.1 at.2 in
+    let fits2 : FitsFiles clients s2 (brief (j ++ settled.more)) two2 = subst (λ (w : List (List Entry)). FitsFiles clients s2 w two2) at.1 at.2 in
     let sum : compacted_len clients s1.state.facts ≡ brief_len (j ++ settled.more) = sum_is law clients s1 (j ++ settled.more) told1.0 fits1 settled.answer.1 in
     let limit : s1.limit ≡ MAX_JOURNAL = settled.comes.limit ∙ limited in
     let roomy : compacted_len clients s1.state.facts ≤ s1.limit = compacted.answer.may.roomy in
@@ -194,7 +194,7 @@ brief_whole law clients s s1 s2 o o1 o2 u v run settled compacted limited two fi
     first ∙ fits1.end_is ∙ ap (λ (f : Format). journal_end f (j ++ settled.more)) settled.answer.2 in
     let new_is : new ≡ journal_end kind.Short (brief (j ++ settled.more)) =
     last ∙ fits2.end_is ∙ ap (λ (f : Format). journal_end f (brief (j ++ settled.more))) short in
-    once clients s s1 o o1 u settled two j fits (λ whole. IsCompacted clients whole two2 P) (record {
+    once clients s s1 o o1 u settled two j fits (λ whole. AreFilesCompacted clients whole two2 P) (record {
       roomy = subst (λ (n : ℕ). n ≤ MAX_JOURNAL) sum (subst (λ (n : ℕ). compacted_len clients s1.state.facts ≤ n) limit roomy);
       short = fits_format clients s2 (brief (j ++ settled.more)) two2 kind.Short fits2 short;
       stands_for = fits2.stands_for;
@@ -207,7 +207,7 @@ brief_whole law clients s s1 s2 o o1 o2 u v run settled compacted limited two fi
 
 -- there was no room for it, or no generation
 brief_full : BriefIsByFacts → (clients : Meaning) (s s1 s2 : StoreValue) (o o1 o2 : Outside) (u : Unit {0}) → DiskRun o o1 → SettlesAnew clients s s1 o o1 (Ok u)
-    → CompactsAs clients s1 s2 o1 o2 (Err outcome.Full) → s.limit ≡ MAX_JOURNAL → (two : Two File) → o.files ≡ Some two → (j : List (List Entry)) → Fits clients s j two
+    → CompactsAs clients s1 s2 o1 o2 (Err outcome.Full) → s.limit ≡ MAX_JOURNAL → (two : Two File) → o.files ≡ Some two → (j : List (List Entry)) → FitsFiles clients s j two
     → (two2 : Two File) → o2.files ≡ Some two2 → OnceSettled clients j (λ whole. IsUncompacted clients whole two two2)
 brief_full law clients s s1 s2 o o1 o2 u run settled compacted limited two files j fits two2 files2 =
     let told1 = told_on o o1 two run.same_told files in
@@ -215,7 +215,7 @@ brief_full law clients s s1 s2 o o1 o2 u run settled compacted limited two files
     let same = compacted.answer.1 in
     let still : s2.closed ≡ false = ap (λ (x : StoreValue). x.closed) same ∙ settled.answer.0 in
     let at = (compacted.leads told1.0 told1.1 (j ++ settled.more) fits1).ends still two2 files2 in
-    let fits2 : Fits clients s2 (j ++ settled.more) two2 = subst (λ (w : List (List Entry)). Fits clients s2 w two2) at.1 at.2 in
+    let fits2 : FitsFiles clients s2 (j ++ settled.more) two2 = subst (λ (w : List (List Entry)). FitsFiles clients s2 w two2) at.1 at.2 in
     let sum : compacted_len clients s1.state.facts ≡ brief_len (j ++ settled.more) = sum_is law clients s1 (j ++ settled.more) told1.0 fits1 settled.answer.1 in
     let limit : s1.limit ≡ MAX_JOURNAL = settled.comes.limit ∙ limited in
     once clients s s1 o o1 u settled two j fits (λ whole. IsUncompacted clients whole two two2) (record {
@@ -228,7 +228,7 @@ brief_full law clients s s1 s2 o o1 o2 u run settled compacted limited two files
     })
 
 stopped_ends : BriefIsByFacts → (clients : Meaning) (s s1 s2 : StoreValue) (o o1 o2 : Outside) (u : Unit {0}) (out out' : Stream) (came : Outcome) → DiskRun o o1 → SettlesAnew clients s s1 o o1 (Ok u)
-    → CompactsAs clients s1 s2 o1 o2 (Err came) → s.limit ≡ MAX_JOURNAL → (two : Two File) → o.files ≡ Some two → (j : List (List Entry)) → Fits clients s j two
+    → CompactsAs clients s1 s2 o1 o2 (Err came) → s.limit ≡ MAX_JOURNAL → (two : Two File) → o.files ≡ Some two → (j : List (List Entry)) → FitsFiles clients s j two
     → (two2 : Two File) → o2.files ≡ Some two2 → BriefEnds clients j out out' came two two2
 stopped_ends law clients s s1 s2 o o1 o2 u out out' outcome.Full run settled compacted limited two files j fits two2 files2 =
     inl (brief_full law clients s s1 s2 o o1 o2 u run settled compacted limited two files j fits two2 files2)
@@ -255,7 +255,7 @@ brief_stopped law clients s s1 s2 o o1 o2 u out out' came idle limited run settl
 -- ---- the line
 
 printed_ends : (clients : Meaning) (j : List (List Entry)) (out out' : Stream) (came : Outcome) (text : List ℕ) (two two2 : Two File)
-    → ((P : List ℕ → Type 0) → P text → OnceSettled clients j (λ whole. IsCompacted clients whole two2 P)) → PrintsText text out out' came → BriefEnds clients j out out' came two two2
+    → ((P : List ℕ → Type 0) → P text → OnceSettled clients j (λ whole. AreFilesCompacted clients whole two2 P)) → PrintsText text out out' came → BriefEnds clients j out out' came two two2
 printed_ends clients j out out' outcome.Done text two two2 whole p = whole (Appends out.bytes out'.bytes) p
 printed_ends clients j out out' outcome.WriteFault text two two2 whole p = whole (GetsFront out out') p.1
 printed_ends clients j out out' outcome.Memory text two two2 whole p = tt
@@ -282,7 +282,7 @@ brief_printed law clients s s1 s2 o o1 o2 u v out out' came old new limited run 
 
 -- ---- no store was loaded
 
-rest_moments : (clients : Meaning) (standing : Standing) (came : Outcome) (P : Two File → Type 0) (two : Two File) (o o1 : Outside) → Rests P two o o1
+rest_moments : (clients : Meaning) (standing : Standing) (came : Outcome) (P : Two File → Type 0) (two : Two File) (o o1 : Outside) → LeavesFilesSo P two o o1
     → MomentsAre o o1 (λ m. IsNow two o.links m ⊎ CompactsMoment clients standing came (sent_of o.links.told) m)
 rest_moments clients standing came P two o o1 rests = moments_map o o1 _ _ (λ m w. inl w) rests.moments
 
@@ -294,7 +294,7 @@ none_by old new out out' outcome.Memory idle by = idle
 none_by old new out out' _ idle by = absurd by
 
 none_ends : (clients : Meaning) (standing : Standing) (two two' : Two File) (old new : Outside) (out out' : Stream) (came : Outcome) → LoadedBy old new (Err came) → IsLoaded standing (Err came)
-    → Keeps came two two' → CompactsEnds clients standing two two' out out' came
+    → KeepsFiles came two two' → CompactsEnds clients standing two two' out out' came
 none_ends clients standing two two' old new out out' outcome.DiskFault by loaded same = tt
 none_ends clients standing two two' old new out out' outcome.NoStore by loaded same = (loaded, same)
 none_ends clients standing two two' old new out out' (outcome.Damaged place) by loaded same = (loaded, same)
@@ -309,7 +309,7 @@ none_unadded old new outcome.Memory by = refl
 none_unadded old new _ by = absurd by
 
 pub brief_none : (clients : Meaning) (old new : Outside) (out out' : Stream) (came : Outcome) → DiskRun old new
-    → ((two : Two File) → old.files ≡ Some two → Rests (LoadKeeps (Err came) two) two old new) → LoadedBy old new (Err came)
+    → ((two : Two File) → old.files ≡ Some two → LeavesFilesSo (LoadKeeps (Err came) two) two old new) → LoadedBy old new (Err came)
     → ((two : Two File) → old.files ≡ Some two → IsLoaded (stands clients (read_files two)) (Err came)) → IsIdle out out' → HasCompacted clients old new out out' came
 brief_none clients old new out out' came run rests by loaded idle = record {
   run = run;
@@ -359,7 +359,7 @@ by_later o o1 o2 out out' (outcome.Damaged place) later by = by
 by_later o o1 o2 out out' _ later by = absurd by
 
 pub brief_loaded : (clients : Meaning) (o o1 o2 : Outside) (out out' : Stream) (s : StoreValue) (came : Outcome) → DiskRun o o1
-    → ((two : Two File) → o.files ≡ Some two → Rests (LoadKeeps (Ok s) two) two o o1) → MayExtend clients s o1.files → MakesBrief clients s o1 o2 out out' came
+    → ((two : Two File) → o.files ≡ Some two → LeavesFilesSo (LoadKeeps (Ok s) two) two o o1) → MayExtend clients s o1.files → MakesBrief clients s o1 o2 out out' came
     → HasCompacted clients o o2 out out' came
 brief_loaded clients o o1 o2 out out' s came run rests ready made = record {
   run = run_then o o1 o2 run made.run;

@@ -1,6 +1,6 @@
 -- An entry that is added, from the loaded store to the line.
 use Rattle.std.proofs.Common.{◌≡◌, ◌⊎◌, ℕ, ◌≤◌, Bool, false, true, List, [], ◌∷◌, sym, ap, ◌∙◌, subst, refl, inl, inr, arith, Some, Ok, Err}
-use Rattle.outside.specs.Faults.{Rose}
+use Rattle.outside.specs.Faults.{CountRose}
 use Rattle.outside.specs.Files.{Two, File, read_files}
 use Rattle.outside.specs.Links.{Links, sent_of}
 use Rattle.outside.specs.Outside.{Outside, Moment, MomentsAre, IsNow, DiskRun}
@@ -11,20 +11,20 @@ use Rattle.sync_rules.specs.Clients.{Meaning}
 use Rattle.sync_rules.specs.Facts.{Facts, facts}
 use Rattle.entry_codec.specs.Standing.{Standing, journal, stands}
 use Rattle.sync_store.specs.Store.{StoreValue}
-use Rattle.sync_store.specs.Fitting.{Fits}
+use Rattle.sync_store.specs.Fitting.{FitsFiles}
 use Rattle.sync_store.specs.Moments.{JournalMoment}
 use Rattle.sync_words.specs.declared.outcome.Outcome.{Outcome}
 use Rattle.sync_words.specs.declared.outcome.Outcome.TheVariants as outcome
 use Rattle.store_commands.specs.Entries.{AddsBy, AddsEnds, AddsMoment, EntryAdded, EntryEnds, HasAdded, is_added, is_late}
 use Rattle.store_commands.specs.declared.commit.Settling.{Settling}
-use Rattle.store_commands.specs.Commit.{GoesOn, HasLastGeneration, IsFull}
+use Rattle.store_commands.specs.Commit.{GoesOnByBatch, HasLastGeneration, IsFull}
 use Rattle.outside.specs.Streams.{Stream, IsIdle}
 use Rattle.store_commands.specs.Load.{HasFacts, IsLoaded, LoadedBy, LoadKeeps, MayExtend}
-use Rattle.store_commands.specs.Show.{Keeps, Rests}
+use Rattle.store_commands.specs.Show.{KeepsFiles, LeavesFilesSo}
 use Rattle.store_commands.specs.Plans.{Plan, adds, refuses}
 
 -- moments of loading alone
-rest_moments : (clients : Meaning) (plan : Facts → Plan) (standing : Standing) (came : Outcome) (P : Two File → Type 0) (two : Two File) (o o1 : Outside) → Rests P two o o1
+rest_moments : (clients : Meaning) (plan : Facts → Plan) (standing : Standing) (came : Outcome) (P : Two File → Type 0) (two : Two File) (o o1 : Outside) → LeavesFilesSo P two o o1
     → MomentsAre o o1 (λ m. IsNow two o.links m ⊎ AddsMoment clients plan standing came (sent_of o.links.told) m)
 rest_moments clients plan standing came P two o o1 rests = moments_map o o1 _ _ (λ m w. inl w) rests.moments
 
@@ -38,7 +38,7 @@ none_by old new out out' outcome.Memory idle by = idle
 none_by old new out out' _ idle by = absurd by
 
 none_ends : (clients : Meaning) (plan : Facts → Plan) (settling : Settling) (standing : Standing) (two two' : Two File) (old new : Outside) (out out' : Stream) (came : Outcome)
-    → LoadedBy old new (Err came) → IsLoaded standing (Err came) → Keeps came two two' → AddsEnds clients plan settling standing two two' out out' came
+    → LoadedBy old new (Err came) → IsLoaded standing (Err came) → KeepsFiles came two two' → AddsEnds clients plan settling standing two two' out out' came
 none_ends clients plan settling standing two two' old new out out' outcome.DiskFault by loaded same = tt
 none_ends clients plan settling standing two two' old new out out' outcome.NoStore by loaded same = (loaded, same)
 none_ends clients plan settling standing two two' old new out out' (outcome.Damaged place) by loaded same = (loaded, same)
@@ -53,7 +53,7 @@ none_unadded old new outcome.Memory by = refl
 none_unadded old new _ by = absurd by
 
 pub added_none : (clients : Meaning) (plan : Facts → Plan) (settling : Settling) (old new : Outside) (out out' : Stream) (came : Outcome) → DiskRun old new
-    → ((two : Two File) → old.files ≡ Some two → Rests (LoadKeeps (Err came) two) two old new) → LoadedBy old new (Err came)
+    → ((two : Two File) → old.files ≡ Some two → LeavesFilesSo (LoadKeeps (Err came) two) two old new) → LoadedBy old new (Err came)
     → ((two : Two File) → old.files ≡ Some two → IsLoaded (stands clients (read_files two)) (Err came)) → IsIdle out out' → HasAdded clients plan settling old new out out' came
 added_none clients plan settling old new out out' came run rests by loaded idle = record {
   run = run;
@@ -69,7 +69,7 @@ added_none clients plan settling old new out out' came run rests by loaded idle 
 -- ---- the command is refused
 
 pub added_refused : (clients : Meaning) (plan : Facts → Plan) (settling : Settling) (old new : Outside) (out out' : Stream) (s : StoreValue) (why : Refused) → DiskRun old new
-    → ((two : Two File) → old.files ≡ Some two → Rests (LoadKeeps (Ok s) two) two old new) → ((two : Two File) → old.files ≡ Some two → HasFacts (stands clients (read_files two)) s)
+    → ((two : Two File) → old.files ≡ Some two → LeavesFilesSo (LoadKeeps (Ok s) two) two old new) → ((two : Two File) → old.files ≡ Some two → HasFacts (stands clients (read_files two)) s)
     → plan s.state.facts ≡ refuses why → IsIdle out out' → HasAdded clients plan settling old new out out' (outcome.Refused why)
 added_refused clients plan settling old new out out' s why run rests loaded planned idle = record {
   run = run;
@@ -102,7 +102,7 @@ entry_ends clients plan settling standing two two1 two' out out' j e outcome.Mem
 entry_ends clients plan settling standing two two1 two' out out' j e outcome.DiskFault same late stood planned ends = tt
 entry_ends clients plan settling standing two two1 two' out out' j e _ same late stood planned ends = cc
 
-rose_before : (a b c : ℕ) → a ≤ b → Rose b c → Rose a c
+rose_before : (a b c : ℕ) → a ≤ b → CountRose b c → CountRose a c
 rose_before a b c later rose = omega arith
 
 by_later : (o o1 o2 : Outside) (out out' : Stream) (came : Outcome) → o.disk_faults ≤ o1.disk_faults → AddsBy o1 o2 out out' came → AddsBy o o2 out out' came
@@ -117,11 +117,11 @@ by_later o o1 o2 out out' (outcome.Damaged place) later by = by
 by_later o o1 o2 out out' _ later by = absurd by
 
 -- the journal that the disk fits is the one that the files stood for
-same_journal : (clients : Meaning) (s : StoreValue) (two two1 : Two File) (j : List (List Entry)) → read_files two1 ≡ read_files two → Fits clients s j two1 → stands clients (read_files two) ≡ journal j
+same_journal : (clients : Meaning) (s : StoreValue) (two two1 : Two File) (j : List (List Entry)) → read_files two1 ≡ read_files two → FitsFiles clients s j two1 → stands clients (read_files two) ≡ journal j
 same_journal clients s two two1 j same fits = ap (stands clients) (sym same) ∙ fits.stands_for
 
 pub added_entry : (clients : Meaning) (plan : Facts → Plan) (settling : Settling) (o o1 o2 : Outside) (out out' : Stream) (s : StoreValue) (e : Entry) (came : Outcome) → DiskRun o o1
-    → ((two : Two File) → o.files ≡ Some two → Rests (LoadKeeps (Ok s) two) two o o1) → MayExtend clients s o1.files → plan s.state.facts ≡ adds e → EntryAdded clients settling s e o1 o2 out out' came
+    → ((two : Two File) → o.files ≡ Some two → LeavesFilesSo (LoadKeeps (Ok s) two) two o o1) → MayExtend clients s o1.files → plan s.state.facts ≡ adds e → EntryAdded clients settling s e o1 o2 out out' came
     → HasAdded clients plan settling o o2 out out' came
 added_entry clients plan settling o o1 o2 out out' s e came run rests ready planned added = record {
   run = run_then o o1 o2 run added.run;
@@ -143,7 +143,7 @@ added_entry clients plan settling o o1 o2 out out' s e came run rests ready plan
                 entry = e;
                 stood = stood;
                 planned = plans;
-                leads = subst (λ (l : Links). JournalMoment clients (GoesOn clients fit.0 (e ∷ [])) (sent_of l.told) m) run.same_links w;
+                leads = subst (λ (l : Links). JournalMoment clients (GoesOnByBatch clients fit.0 (e ∷ [])) (sent_of l.told) m) run.same_links w;
               },
             )) went.moments);
         ends = λ two' told'.

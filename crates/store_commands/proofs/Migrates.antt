@@ -7,7 +7,7 @@ use Rattle.sync_rules.specs.Facts.{Facts, after_batches}
 use Rattle.sync_rules.specs.Legal.{AllSettling}
 use Rattle.entry_codec.specs.declared.naming.Format.{Format}
 use Rattle.entry_codec.specs.declared.naming.Format.TheVariants as kind
-use Rattle.sync_store.specs.Migrations.{HasMigrated, IsSpent, MigratesSo}
+use Rattle.sync_store.specs.Migrations.{HasMigrated, IsSpent, AnswersMigrate}
 use Rattle.sync_store.specs.Store.{StoreValue, format_meant, written_in}
 use Rattle.sync_store.specs.declared.fault.StoreFault.{StoreFault}
 use Rattle.sync_store.specs.declared.fault.StoreFault.TheVariants as fault
@@ -18,7 +18,7 @@ use Rattle.store_commands.specs.Commit.{ComesAnew, MigratedBy, MigratesAs, Settl
 
 -- ---- a migration
 
-same_facts : (s s' : StoreValue) (result : Result (Unit {0}) StoreFault) → MigratesSo s s' result → s'.state.facts ≡ s.state.facts
+same_facts : (s s' : StoreValue) (result : Result (Unit {0}) StoreFault) → AnswersMigrate s s' result → s'.state.facts ≡ s.state.facts
 same_facts s s' (Ok u) (inl stays) = ap (λ (v : StoreValue). v.state.facts) stays.1
 same_facts s s' (Ok u) (inr moves) = ap (λ v. v.facts) moves.state
 same_facts s s' (Err fault.Closed) so = absurd so
@@ -26,7 +26,7 @@ same_facts s s' (Err fault.Full) so = ap (λ (v : StoreValue). v.state.facts) so
 same_facts s s' (Err fault.Memory) so = ap (λ (v : StoreValue). v.state.facts) so.1
 same_facts s s' (Err fault.DiskFault) so = ap (λ (v : StoreValue). v.state.facts) so.1
 
-same_limit : (s s' : StoreValue) (result : Result (Unit {0}) StoreFault) → MigratesSo s s' result → s'.limit ≡ s.limit
+same_limit : (s s' : StoreValue) (result : Result (Unit {0}) StoreFault) → AnswersMigrate s s' result → s'.limit ≡ s.limit
 same_limit s s' (Ok u) (inl stays) = ap (λ (v : StoreValue). v.limit) stays.1
 same_limit s s' (Ok u) (inr moves) = moves.limit
 same_limit s s' (Err fault.Closed) so = absurd so
@@ -46,7 +46,7 @@ comes_migrated clients s s' result o o' has = record {
 not_spent : (s : StoreValue) → written_in s ≡ kind.Short → IsSpent s → ⊥
 not_spent s short spent = let both : kind.Short ≡ kind.Whole = sym short ∙ spent.whole in cc
 
-pub migrated_ok : (s s' : StoreValue) (u : Unit {0}) → s.closed ≡ false → MigratesSo s s' (Ok u) → MigratedBy s s' (Ok u)
+pub migrated_ok : (s s' : StoreValue) (u : Unit {0}) → s.closed ≡ false → AnswersMigrate s s' (Ok u) → MigratedBy s s' (Ok u)
 migrated_ok s s' u still (inl stays) = (
   ap (λ (v : StoreValue). v.closed) stays.1 ∙ still,
   ap (λ (v : StoreValue). written_in v) stays.1 ∙ stays.0,

@@ -12,7 +12,7 @@ use Rattle.sync_words.specs.declared.outcome.Outcome.{Outcome}
 use Rattle.sync_words.specs.declared.outcome.Outcome.TheVariants as outcome
 use Rattle.sync_words.specs.Outcomes.{came_to}
 use Rattle.store_commands.specs.declared.commit.Settling.{Settling}
-use Rattle.store_commands.specs.Commit.{ExtendsBy, ExtendsTold, SettlesAnew, StaysReady}
+use Rattle.store_commands.specs.Commit.{ExtendsBy, ExtendsTold, SettlesAnew, StoreStaysReady}
 use Rattle.store_commands.specs.Entries.{EntryAdded, HasAdded}
 use Rattle.sync_rules.specs.declared.states.Refused.{Refused}
 use Rattle.store_commands.specs.Plans.{Plan, plan_of, refuses}
@@ -45,8 +45,8 @@ module _ (r : Result (Unit {0}) Outcome) (x : Outcome) (is : IsErrAnd r (λ e. e
   pub anew_on : (clients : Meaning) (s s' : StoreValue) (o o' : Outside) → SettlesAnew clients s s' o o' (Err x) → SettlesAnew clients s s' o o' r
   anew_on clients s s' o o' = passed_on (λ (q : Result (Unit {0}) Outcome). SettlesAnew clients s s' o o' q) r x is
 
-  pub ready_on : (clients : Meaning) (s : StoreValue) (files : Option (Two File)) → StaysReady clients s files (Err x) → StaysReady clients s files r
-  ready_on clients s files = passed_on (λ (q : Result (Unit {0}) Outcome). StaysReady clients s files q) r x is
+  pub ready_on : (clients : Meaning) (s : StoreValue) (files : Option (Two File)) → StoreStaysReady clients s files (Err x) → StoreStaysReady clients s files r
+  ready_on clients s files = passed_on (λ (q : Result (Unit {0}) Outcome). StoreStaysReady clients s files q) r x is
 
   pub full_on : (P : Type 0) → AtFull P (Err x) → AtFull P r
   full_on P = passed_on (AtFull P) r x is

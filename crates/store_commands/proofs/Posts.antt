@@ -2,7 +2,7 @@
 use Rattle.std.proofs.Common.{◌≡◌, ℕ, ◌+◌, Bool, true, false, List, [], ◌∷◌, ◌++◌, length, sym, ap, ◌∙◌, inl, inr, arith, length-append, Some, Ok, Err}
 use Rattle.std.specs.Prelude.{◌==◌, nat_lt, is_some, if◌then◌else◌}
 use Rattle.std.specs.List.{list_all}
-use Rattle.outside.specs.Faults.{Rose}
+use Rattle.outside.specs.Faults.{CountRose}
 use Rattle.outside.specs.Files.{Two, File, read_files}
 use Rattle.outside.specs.Outside.{Outside, DiskRun}
 use Rattle.outside.specs.Input.{ReadsAll, ReadsTooMuch}
@@ -27,9 +27,9 @@ use Rattle.sync_words.specs.declared.outcome.Outcome.TheVariants as outcome
 use Rattle.store_commands.specs.declared.commit.Settling.TheVariants as settling
 use Rattle.store_commands.specs.Entries.{EntryAdded, HasAdded, is_late}
 use Rattle.store_commands.specs.Load.{HasFacts, IsLoaded, LoadedBy, LoadKeeps, MayExtend}
-use Rattle.store_commands.specs.Show.{Rests}
+use Rattle.store_commands.specs.Show.{LeavesFilesSo}
 use Rattle.store_commands.specs.Plans.{Plan, adds, refuses, body_plan, message_plan, planned, post_plan}
-use Rattle.store_commands.specs.Post.{HasPosted, IsBody, IsPlanned, IsRead, PostsBody, StopsBy, StopsEnds, StopsShort, message_of}
+use Rattle.store_commands.specs.Post.{HasPosted, IsBody, IsPlanOfPost, IsBodyRead, PostsBody, PostStopsBy, PostStopsWhere, StopsShort, message_of}
 use Rattle.store_commands.proofs.EntryLemmas.{added_entry, added_none, added_refused}
 
 -- ---- plans
@@ -98,14 +98,14 @@ post_id clients f m id is = by_group (is_some (group_at f.groups m.group)) is wh
 
 -- ---- the command stopped before its body was read
 
-stops_by : (old new : Outside) (input input' : Stream) (came : Outcome) → IsIdle input input' → LoadedBy old new (Err came) → StopsBy old new input input' came
+stops_by : (old new : Outside) (input input' : Stream) (came : Outcome) → IsIdle input input' → LoadedBy old new (Err came) → PostStopsBy old new input input' came
 stops_by old new input input' outcome.DiskFault idle by = (by, idle)
 stops_by old new input input' outcome.NoStore idle by = idle
 stops_by old new input input' (outcome.Damaged place) idle by = idle
 stops_by old new input input' outcome.Memory idle by = tt
 stops_by old new input input' _ idle by = absurd by
 
-stops_ends : (old new : Outside) (standing : Standing) (group : Id) (came : Outcome) → LoadedBy old new (Err came) → IsLoaded standing (Err came) → StopsEnds standing group came
+stops_ends : (old new : Outside) (standing : Standing) (group : Id) (came : Outcome) → LoadedBy old new (Err came) → IsLoaded standing (Err came) → PostStopsWhere standing group came
 stops_ends old new standing group outcome.DiskFault by loaded = tt
 stops_ends old new standing group outcome.NoStore by loaded = loaded
 stops_ends old new standing group (outcome.Damaged place) by loaded = loaded
@@ -114,7 +114,7 @@ stops_ends old new standing group _ by loaded = absurd by
 
 -- no store was loaded
 not_loaded : (clients : Meaning) (group : Id) (old new : Outside) (input input' out out' : Stream) (came : Outcome) → DiskRun old new
-    → ((two : Two File) → old.files ≡ Some two → Rests (LoadKeeps (Err came) two) two old new) → LoadedBy old new (Err came)
+    → ((two : Two File) → old.files ≡ Some two → LeavesFilesSo (LoadKeeps (Err came) two) two old new) → LoadedBy old new (Err came)
     → ((two : Two File) → old.files ≡ Some two → IsLoaded (stands clients (read_files two)) (Err came)) → IsIdle input input' → IsIdle out out'
     → StopsShort clients group old new input input' out out' came
 not_loaded clients group old new input input' out out' came run rests by loaded idle quiet = record {
@@ -125,7 +125,7 @@ not_loaded clients group old new input input' out out' came run rests by loaded 
 }
 
 pub posted_none : (clients : Meaning) (group : Id) (timestamp : ℕ) (old new : Outside) (input input' out out' : Stream) (came : Outcome) → DiskRun old new
-    → ((two : Two File) → old.files ≡ Some two → Rests (LoadKeeps (Err came) two) two old new) → LoadedBy old new (Err came)
+    → ((two : Two File) → old.files ≡ Some two → LeavesFilesSo (LoadKeeps (Err came) two) two old new) → LoadedBy old new (Err came)
     → ((two : Two File) → old.files ≡ Some two → IsLoaded (stands clients (read_files two)) (Err came)) → IsIdle input input' → IsIdle out out'
     → HasPosted clients group timestamp old new input input' out out' came
 posted_none clients group timestamp old new input input' out out' outcome.DiskFault run rests by loaded idle quiet =
@@ -140,7 +140,7 @@ posted_none clients group timestamp old new input input' out out' _ run rests by
 
 -- what is known of a store that was loaded
 module _ (clients : Meaning) (group : Id) (timestamp : ℕ) (old new : Outside) (input input' out out' : Stream) (s : StoreValue) (run : DiskRun old new)
-    (rests : (two : Two File) → old.files ≡ Some two → Rests (LoadKeeps (Ok s) two) two old new) (loaded : (two : Two File) → old.files ≡ Some two → HasFacts (stands clients (read_files two)) s)
+    (rests : (two : Two File) → old.files ≡ Some two → LeavesFilesSo (LoadKeeps (Ok s) two) two old new) (loaded : (two : Two File) → old.files ≡ Some two → HasFacts (stands clients (read_files two)) s)
     (quiet : IsIdle out out') where
   abbrev Posted : Outcome → Type 0
   Posted came = HasPosted clients group timestamp old new input input' out out' came
@@ -171,7 +171,7 @@ module _ (clients : Meaning) (group : Id) (timestamp : ℕ) (old new : Outside) 
 
   module _ (known : is_some (group_at s.state.facts.groups group) ≡ true) where
     -- the body was not read whole
-    pub posted_unread : (came : Outcome) → IsRead input input' (Err came) → Posted came
+    pub posted_unread : (came : Outcome) → IsBodyRead input input' (Err came) → Posted came
     posted_unread (outcome.Refused refused.BodyTooLong) read =
         refused_body read.0 refused.BodyTooLong read.1 (plan_long clients s.state.facts (message_of group timestamp read.0) known read.2)
     posted_unread outcome.ReadFault read = record {
@@ -198,7 +198,7 @@ module _ (clients : Meaning) (group : Id) (timestamp : ℕ) (old new : Outside) 
     posted_refused body _ read is = refused_body body _ read is
 
     -- the message may not be added
-    pub posted_fault : (body : List ℕ) (came : Outcome) → IsBody input input' body → IsPlanned (post_plan clients s.state.facts (message_of group timestamp body)) (Err came) → Posted came
+    pub posted_fault : (body : List ℕ) (came : Outcome) → IsBody input input' body → IsPlanOfPost (post_plan clients s.state.facts (message_of group timestamp body)) (Err came) → Posted came
     posted_fault body outcome.Memory read is = inr (record { body = body; reads = read; added = added_memory body })
     posted_fault body (outcome.Refused why) read is = posted_refused body why read is
     posted_fault body _ read is = absurd is
@@ -215,7 +215,7 @@ posted_late clients group timestamp old new input input' out out' outcome.Memory
 posted_late clients group timestamp old new input input' out out' _ late posts = cc
 
 pub posted_entry : (clients : Meaning) (group : Id) (timestamp : ℕ) (o o1 o2 : Outside) (input input' out out' : Stream) (s : StoreValue) (body : List ℕ) (e : Entry) (came : Outcome) → DiskRun o o1
-    → ((two : Two File) → o.files ≡ Some two → Rests (LoadKeeps (Ok s) two) two o o1) → MayExtend clients s o1.files → IsBody input input' body
+    → ((two : Two File) → o.files ≡ Some two → LeavesFilesSo (LoadKeeps (Ok s) two) two o o1) → MayExtend clients s o1.files → IsBody input input' body
     → post_plan clients s.state.facts (message_of group timestamp body) ≡ adds e → EntryAdded clients settling.BeforeAndAfter s e o1 o2 out out' came
     → HasPosted clients group timestamp o o2 input input' out out' came
 posted_entry clients group timestamp o o1 o2 input input' out out' s body e came run rests ready read is added =

@@ -8,7 +8,7 @@ use Rattle.sync_rules.specs.Clients.{Meaning}
 use Rattle.entry_codec.specs.declared.naming.Format.{Format}
 use Rattle.entry_codec.specs.declared.naming.Format.TheVariants as kind
 use Rattle.entry_codec.specs.Naming.{format_of}
-use Rattle.sync_store.specs.Fitting.{Fits}
+use Rattle.sync_store.specs.Fitting.{FitsFiles}
 use Rattle.sync_store.specs.Migrations.{IsSpent}
 use Rattle.sync_store.specs.Store.{StoreValue, written_in}
 use Rattle.store_commands.specs.Commit.{HasLastGeneration, IsInFormat, next_generation, short_generation}
@@ -19,14 +19,14 @@ file_reads two zero = refl
 file_reads two (suc _) = refl
 
 -- the format of files that fit a store is that which the store is written in
-pub fits_known : (clients : Meaning) (s : StoreValue) (j : List (List Entry)) (two : Two File) → Fits clients s j two → format_of (format_in (file_of (read_files two) s.file)) ≡ Some (written_in s)
+pub fits_known : (clients : Meaning) (s : StoreValue) (j : List (List Entry)) (two : Two File) → FitsFiles clients s j two → format_of (format_in (file_of (read_files two) s.file)) ≡ Some (written_in s)
 fits_known clients s j two fits = ap format_of (ap format_in (file_reads two s.file) ∙ fits.format_is) ∙ fits.format_known
 
-pub fits_format : (clients : Meaning) (s : StoreValue) (j : List (List Entry)) (two : Two File) (format : Format) → Fits clients s j two → written_in s ≡ format → IsInFormat format (read_files two)
+pub fits_format : (clients : Meaning) (s : StoreValue) (j : List (List Entry)) (two : Two File) (format : Format) → FitsFiles clients s j two → written_in s ≡ format → IsInFormat format (read_files two)
 fits_format clients s j two format fits is = record { file = s.file; found = fits.file_is; is = fits_known clients s j two fits ∙ ap Some is }
 
 -- no generation is left for a store exactly where none is for its files
-pub last_here : (clients : Meaning) (s : StoreValue) (j : List (List Entry)) (two : Two File) → Fits clients s j two → IsSpent s → HasLastGeneration (read_files two)
+pub last_here : (clients : Meaning) (s : StoreValue) (j : List (List Entry)) (two : Two File) → FitsFiles clients s j two → IsSpent s → HasLastGeneration (read_files two)
 last_here clients s j two fits spent = record {
   file = s.file;
   found = fits.file_is;
@@ -34,7 +34,7 @@ last_here clients s j two fits spent = record {
   last = ap generation_in (file_reads two s.file) ∙ fits.generation_is ∙ spent.last;
 }
 
-pub spent_here : (clients : Meaning) (s : StoreValue) (j : List (List Entry)) (two : Two File) → Fits clients s j two → HasLastGeneration (read_files two) → IsSpent s
+pub spent_here : (clients : Meaning) (s : StoreValue) (j : List (List Entry)) (two : Two File) → FitsFiles clients s j two → HasLastGeneration (read_files two) → IsSpent s
 spent_here clients s j two fits last =
     let both : Some last.file ≡ Some s.file = sym last.found ∙ fits.file_is in
     let same : last.file ≡ s.file = cc in
@@ -46,11 +46,11 @@ spent_here clients s j two fits last =
 
 -- ---- a brief account
 
-fits_generation : (clients : Meaning) (s : StoreValue) (j : List (List Entry)) (two : Two File) → Fits clients s j two → generation_in (file_of (read_files two) s.file) ≡ s.generation
+fits_generation : (clients : Meaning) (s : StoreValue) (j : List (List Entry)) (two : Two File) → FitsFiles clients s j two → generation_in (file_of (read_files two) s.file) ≡ s.generation
 fits_generation clients s j two fits = ap generation_in (file_reads two s.file) ∙ fits.generation_is
 
 -- no generation is left for the brief account of files that fit a store exactly where none is for the store's
-pub lacks_here : (clients : Meaning) (s : StoreValue) (j : List (List Entry)) (two : Two File) → Fits clients s j two → 2 ^ 64 - 1 ≤ next_generation s → LacksGeneration (read_files two)
+pub lacks_here : (clients : Meaning) (s : StoreValue) (j : List (List Entry)) (two : Two File) → FitsFiles clients s j two → 2 ^ 64 - 1 ≤ next_generation s → LacksGeneration (read_files two)
 lacks_here clients s j two fits last = record {
   file = s.file;
   found = fits.file_is;
@@ -59,7 +59,7 @@ lacks_here clients s j two fits last = record {
   last = subst (λ (n : ℕ). 2 ^ 64 - 1 ≤ short_generation (written_in s) n) (sym (fits_generation clients s j two fits)) last;
 }
 
-pub lacked_here : (clients : Meaning) (s : StoreValue) (j : List (List Entry)) (two : Two File) → Fits clients s j two → LacksGeneration (read_files two) → 2 ^ 64 - 1 ≤ next_generation s
+pub lacked_here : (clients : Meaning) (s : StoreValue) (j : List (List Entry)) (two : Two File) → FitsFiles clients s j two → LacksGeneration (read_files two) → 2 ^ 64 - 1 ≤ next_generation s
 lacked_here clients s j two fits lacks =
     let both : Some lacks.file ≡ Some s.file = sym lacks.found ∙ fits.file_is in
     let same : lacks.file ≡ s.file = cc in

@@ -1,7 +1,7 @@
 -- What migrating a store, settling it, adding a batch to it and settling again comes to.
 use Rattle.std.specs.Prelude.{◌≡◌, ◌⊎◌, ℕ, ◌+◌, ◌-◌, ◌^◌, ◌<◌, ◌≤◌, false, List, [], ◌∷◌, ◌++◌, Option, Some, Result, Ok, Err, OnOk}
 use Rattle.outside.specs.declared.limits.TheConstants.{MAX_JOURNAL}
-use Rattle.outside.specs.Faults.{Rose}
+use Rattle.outside.specs.Faults.{CountRose}
 use Rattle.outside.specs.Files.{Two, File, file_of, read_files, NothingPending}
 use Rattle.outside.specs.Frames.{format_in, generation_in, journal_file}
 use Rattle.outside.specs.Links.{sent_of}
@@ -31,7 +31,7 @@ use Rattle.store_commands.specs.declared.commit.Settling.TheVariants as settling
 -- ---- journals
 
 -- behind a journal of these facts: settling, the batch, and settling
-pub record AddsOne (clients : Meaning) (f : Facts) (batch : List Entry) (more : List (List Entry)) : Type 0 where
+pub record HasOneBatch (clients : Meaning) (f : Facts) (batch : List Entry) (more : List (List Entry)) : Type 0 where
   pub first : List (List Entry)
   pub rest : List (List Entry)
   pub is : more ≡ first ++ batch ∷ rest
@@ -39,19 +39,19 @@ pub record AddsOne (clients : Meaning) (f : Facts) (batch : List Entry) (more : 
   pub settles_again : AllSettling clients (after_all (after_batches f first) batch) rest
 
 -- settling, and at most the one batch
-abbrev pub AddsAtMost : Meaning → Facts → List Entry → List (List Entry) → Type 0
-AddsAtMost clients f batch more = AllSettling clients f more ⊎ AddsOne clients f batch more
+abbrev pub HasAtMostBatch : Meaning → Facts → List Entry → List (List Entry) → Type 0
+HasAtMostBatch clients f batch more = AllSettling clients f more ⊎ HasOneBatch clients f batch more
 
 -- the journal goes on from an earlier one by settling and at most the one batch
-pub record GoesOn (clients : Meaning) (j : List (List Entry)) (batch : List Entry) (whole : List (List Entry)) : Type 0 where
+pub record GoesOnByBatch (clients : Meaning) (j : List (List Entry)) (batch : List Entry) (whole : List (List Entry)) : Type 0 where
   pub more : List (List Entry)
   pub is : whole ≡ j ++ more
-  pub adds : AddsAtMost clients (facts j) batch more
+  pub adds : HasAtMostBatch clients (facts j) batch more
 
 -- what stands behind the batch: nothing, or settling up to its end
-abbrev pub Follows : Settling → Meaning → Facts → List (List Entry) → Type 0
-Follows settling.Before clients f rest = rest ≡ []
-Follows settling.BeforeAndAfter clients f rest = AllSettling clients f rest × IsSettled clients (after_batches f rest)
+abbrev pub SettlesBehind : Settling → Meaning → Facts → List (List Entry) → Type 0
+SettlesBehind settling.Before clients f rest = rest ≡ []
+SettlesBehind settling.BeforeAndAfter clients f rest = AllSettling clients f rest × IsSettled clients (after_batches f rest)
 
 -- the journal's file of two files is in this format
 pub record IsInFormat (format : Format) (files : Two (List ℕ)) : Type 0 where
@@ -84,13 +84,13 @@ pub record IsAdded (clients : Meaning) (settling : Settling) (j : List (List Ent
   pub settled : IsSettled clients (after_batches (facts j) first)
   pub roomy : needed_by (j ++ first) batch ≤ MAX_JOURNAL
   pub short : IsInFormat kind.Short (read_files two)
-  pub follows : Follows settling clients (after_all (after_batches (facts j) first) batch) rest
+  pub follows : SettlesBehind settling clients (after_all (after_batches (facts j) first) batch) rest
   pub stands_for : stands clients (read_files two) ≡ journal (j ++ (first ++ batch ∷ rest))
   pub first_settled : NothingPending two 0
   pub second_settled : NothingPending two 1
 
 -- the files stand, in format 2, for the journal and all of its settling, and there is no room for the batch
-pub record IsOver (clients : Meaning) (j : List (List Entry)) (batch : List Entry) (two : Two File) : Type 0 where
+pub record IsFullForBatch (clients : Meaning) (j : List (List Entry)) (batch : List Entry) (two : Two File) : Type 0 where
   pub first : List (List Entry)
   pub settles : AllSettling clients (facts j) first
   pub settled : IsSettled clients (after_batches (facts j) first)
@@ -104,7 +104,7 @@ WasSpent two two' = HasLastGeneration (read_files two) × (read_files two' ≡ r
 
 -- there is no room for the batch, or there was no generation left
 abbrev pub IsFull : Meaning → List (List Entry) → List Entry → Two File → Two File → Type 0
-IsFull clients j batch two two' = IsOver clients j batch two' ⊎ WasSpent two two'
+IsFull clients j batch two two' = IsFullForBatch clients j batch two' ⊎ WasSpent two two'
 
 -- ---- a store that is ready
 
@@ -117,7 +117,7 @@ abbrev pub ExtendsBy : (old new : Outside) → Result (Unit {0}) Outcome → Typ
 ExtendsBy old new (Ok _) = Unit {0}
 ExtendsBy old new (Err outcome.Full) = Unit {0}
 ExtendsBy old new (Err outcome.Memory) = Unit {0}
-ExtendsBy old new (Err outcome.DiskFault) = Rose old.disk_faults new.disk_faults
+ExtendsBy old new (Err outcome.DiskFault) = CountRose old.disk_faults new.disk_faults
 ExtendsBy old new (Err _) = ⊥
 
 -- what settling leaves of the store: at Ok it is settled
@@ -156,9 +156,9 @@ SettledAnew clients s s' (Err outcome.DiskFault) = Unit {0}
 SettledAnew clients s s' (Err _) = ⊥
 
 -- but where a call on the disk failed the store is ready
-abbrev pub StaysReady : Meaning → StoreValue → Option (Two File) → Result (Unit {0}) Outcome → Type 0
-StaysReady clients s files (Err outcome.DiskFault) = Unit {0}
-StaysReady clients s files _ = IsReady clients s files
+abbrev pub StoreStaysReady : Meaning → StoreValue → Option (Two File) → Result (Unit {0}) Outcome → Type 0
+StoreStaysReady clients s files (Err outcome.DiskFault) = Unit {0}
+StoreStaysReady clients s files _ = IsReady clients s files
 
 -- A store came by these settling batches to this one, in the file that it was in or in the other. Its facts are those after them;
 -- at each moment the files stand for the journal with a front of them, and in the end, unless the store is closed, the disk fits
@@ -187,15 +187,15 @@ pub record SettlesAs (clients : Meaning) (s s' : StoreValue) (old new : Outside)
   pub answer : SettledBy clients s' result
 
 -- the batch, and behind it what is to follow
-pub record IsWhole (clients : Meaning) (settling : Settling) (f : Facts) (batch : List Entry) (more : List (List Entry)) : Type 0 where
+pub record IsBatchAndSettling (clients : Meaning) (settling : Settling) (f : Facts) (batch : List Entry) (more : List (List Entry)) : Type 0 where
   pub rest : List (List Entry)
   pub is : more ≡ batch ∷ rest
-  pub follows : Follows settling clients (after_all f batch) rest
+  pub follows : SettlesBehind settling clients (after_all f batch) rest
 
 -- the sum of the room, and which batches were added, by the answer
 abbrev pub AddedSo : Meaning → Settling → StoreValue → StoreValue → List Entry → List (List Entry) → Result (Unit {0}) Outcome → Type 0
 AddedSo clients settling s s' batch more (Ok _) =
-    (s'.closed ≡ false) × (needed s batch ≤ s.limit) × IsWhole clients settling s.state.facts batch more
+    (s'.closed ≡ false) × (needed s batch ≤ s.limit) × IsBatchAndSettling clients settling s.state.facts batch more
 AddedSo clients settling s s' batch more (Err outcome.Full) = (s'.closed ≡ false) × (s.limit < needed s batch) × (more ≡ [])
 AddedSo clients settling s s' batch more (Err outcome.Memory) = Unit {0}
 AddedSo clients settling s s' batch more (Err outcome.DiskFault) = Unit {0}
@@ -220,6 +220,6 @@ ExtendsEnds clients settling j batch (Err _) two two' = Unit {0}
 -- Each moment stands for the journal with settling and at most the batch, and at Ok and Full the files are so, which were `two`
 -- before. Where they had no generation left it is not Ok.
 pub record ExtendsTold (clients : Meaning) (settling : Settling) (j : List (List Entry)) (batch : List Entry) (two : Two File) (old new : Outside) (result : Result (Unit {0}) Outcome) : Type 0 where
-  pub moments : MomentsAre old new (JournalMoment clients (GoesOn clients j batch) (sent_of old.links.told))
+  pub moments : MomentsAre old new (JournalMoment clients (GoesOnByBatch clients j batch) (sent_of old.links.told))
   pub ends : (two' : Two File) → new.files ≡ Some two' → ExtendsEnds clients settling j batch result two two'
   pub spent : HasLastGeneration (read_files two) → OnOk result ⊥

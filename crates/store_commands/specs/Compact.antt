@@ -3,7 +3,7 @@
 use Rattle.std.specs.Prelude.{◌≡◌, ◌⊎◌, ℕ, ◌+◌, ◌-◌, ◌^◌, ◌<◌, ◌≤◌, false, true, List, ◌++◌, Option, Some, Result, Ok, Err}
 use Rattle.std.specs.Io.KnownBytes.{Appends}
 use Rattle.outside.specs.declared.limits.TheConstants.{MAX_JOURNAL}
-use Rattle.outside.specs.Faults.{Rose}
+use Rattle.outside.specs.Faults.{CountRose}
 use Rattle.outside.specs.Files.{Two, File, file_of, read_files, NothingPending}
 use Rattle.outside.specs.Frames.{format_in, generation_in, journal_file}
 use Rattle.outside.specs.Links.{sent_of}
@@ -20,16 +20,16 @@ use Rattle.entry_codec.specs.declared.naming.Format.TheVariants as kind
 use Rattle.entry_codec.specs.Naming.{format_of}
 use Rattle.entry_codec.specs.Payloads.{journal_end}
 use Rattle.entry_codec.specs.Standing.{Standing, no_store, damaged, journal, room_of, stands}
-use Rattle.sync_store.specs.Compactions.{IsOrBrief, IsTooLong, Shortens}
-use Rattle.sync_store.specs.Fitting.{Fits}
-use Rattle.sync_store.specs.Moments.{JournalMoment, Leads}
+use Rattle.sync_store.specs.Compactions.{IsOrBrief, IsTooLong, ShortensJournal}
+use Rattle.sync_store.specs.Fitting.{FitsFiles}
+use Rattle.sync_store.specs.Moments.{JournalMoment, LeadsTo}
 use Rattle.sync_store.specs.Store.{StoreValue}
 use Rattle.sync_words.specs.EntryTexts.{compacted_text}
 use Rattle.sync_words.specs.declared.outcome.Outcome.{Outcome}
 use Rattle.sync_words.specs.declared.outcome.Outcome.TheVariants as outcome
 use Rattle.store_commands.specs.Commit.{IsInFormat, WasSpent, short_generation}
 use Rattle.store_commands.specs.Entries.{is_added, is_late}
-use Rattle.store_commands.specs.Show.{ReadsAs}
+use Rattle.store_commands.specs.Show.{FilesReadSame}
 
 -- ---- journals
 
@@ -69,7 +69,7 @@ MayRenew files = (two : Two File) → files ≡ Some two → LacksGeneration (re
 
 -- The files stand, in format 2, for the brief account of a settled journal, for which there was room. Nothing is pending in them, so
 -- that each crash leaves this. P is so of the line of the two ends.
-pub record IsCompacted (clients : Meaning) (settled : List (List Entry)) (two : Two File) (P : List ℕ → Type 0) : Type 0 where
+pub record AreFilesCompacted (clients : Meaning) (settled : List (List Entry)) (two : Two File) (P : List ℕ → Type 0) : Type 0 where
   pub roomy : brief_len settled ≤ MAX_JOURNAL
   pub short : IsInFormat kind.Short (read_files two)
   pub stands_for : stands clients (read_files two) ≡ journal (brief settled)
@@ -103,13 +103,13 @@ CompactsMoment clients standing came sent m =
 
 -- the outcome by what the files stood for
 abbrev pub CompactsEnds : Meaning → Standing → Two File → Two File → (out out' : Stream) → Outcome → Type 0
-CompactsEnds clients standing two two' out out' outcome.NoStore = (standing ≡ no_store) × ReadsAs two two'
-CompactsEnds clients standing two two' out out' (outcome.Damaged place) = (standing ≡ damaged place.file place.at) × ReadsAs two two'
+CompactsEnds clients standing two two' out out' outcome.NoStore = (standing ≡ no_store) × FilesReadSame two two'
+CompactsEnds clients standing two two' out out' (outcome.Damaged place) = (standing ≡ damaged place.file place.at) × FilesReadSame two two'
 CompactsEnds clients standing two two' out out' outcome.Full = StoodFor standing (λ j. IsBriefFull clients j two two')
 CompactsEnds clients standing two two' out out' outcome.Done =
-    StoodFor standing (λ j. OnceSettled clients j (λ settled. IsCompacted clients settled two' (Appends out.bytes out'.bytes)))
+    StoodFor standing (λ j. OnceSettled clients j (λ settled. AreFilesCompacted clients settled two' (Appends out.bytes out'.bytes)))
 CompactsEnds clients standing two two' out out' outcome.WriteFault =
-    StoodFor standing (λ j. OnceSettled clients j (λ settled. IsCompacted clients settled two' (GetsFront out out')))
+    StoodFor standing (λ j. OnceSettled clients j (λ settled. AreFilesCompacted clients settled two' (GetsFront out out')))
 CompactsEnds clients standing two two' out out' _ = Unit {0}
 
 -- what is so where the files are told: each moment is as a crash might have left them before, or has the journal settled or brief
@@ -124,8 +124,8 @@ pub record CompactsTold (clients : Meaning) (two : Two File) (old new : Outside)
 -- test refuses the command.
 abbrev pub CompactsBy : (old new : Outside) (out out' : Stream) → Outcome → Type 0
 CompactsBy old new out out' outcome.Done = Unit {0}
-CompactsBy old new out out' outcome.WriteFault = Rose out.faults out'.faults
-CompactsBy old new out out' outcome.DiskFault = Rose old.disk_faults new.disk_faults × IsIdle out out'
+CompactsBy old new out out' outcome.WriteFault = CountRose out.faults out'.faults
+CompactsBy old new out out' outcome.DiskFault = CountRose old.disk_faults new.disk_faults × IsIdle out out'
 CompactsBy old new out out' outcome.NoStore = IsIdle out out'
 CompactsBy old new out out' (outcome.Damaged place) = IsIdle out out'
 CompactsBy old new out out' outcome.Full = IsIdle out out'
@@ -147,7 +147,7 @@ brief_where j (Err _) = j
 
 -- what compacting leaves of a store, by the answer: at Full there was no room or no generation, and all is as before
 abbrev pub CompactedBy : Meaning → StoreValue → StoreValue → Result (Unit {0}) Outcome → Type 0
-CompactedBy clients s s' (Ok _) = Shortens clients s s'
+CompactedBy clients s s' (Ok _) = ShortensJournal clients s s'
 CompactedBy clients s s' (Err outcome.Full) = IsTooLong clients s × (s' ≡ s)
 CompactedBy clients s s' (Err outcome.Memory) = Unit {0}
 CompactedBy clients s s' (Err outcome.DiskFault) = Unit {0}
@@ -156,16 +156,16 @@ CompactedBy clients s s' (Err _) = ⊥
 -- A settled store in format 2 was compacted as far as the answer says: at each moment the files stand for its journal or for the brief
 -- account of that, and in the end, unless the store is closed, the disk fits it with the one that the answer says.
 pub record CompactsAs (clients : Meaning) (s s' : StoreValue) (old new : Outside) (result : Result (Unit {0}) Outcome) : Type 0 where
-  pub leads : (two : Two File) → old.files ≡ Some two → (j : List (List Entry)) → Fits clients s j two
-      → Leads clients (IsOrBrief j) (λ whole. whole ≡ brief_where j result) s' old new
+  pub leads : (two : Two File) → old.files ≡ Some two → (j : List (List Entry)) → FitsFiles clients s j two
+      → LeadsTo clients (IsOrBrief j) (λ whole. whole ≡ brief_where j result) s' old new
   pub answer : CompactedBy clients s s' result
 
 -- ---- the store and the line
 
 -- the outcome of compacting a store and printing the line of the two ends
 abbrev pub BriefEnds : Meaning → List (List Entry) → (out out' : Stream) → Outcome → Two File → Two File → Type 0
-BriefEnds clients j out out' outcome.Done two two' = OnceSettled clients j (λ settled. IsCompacted clients settled two' (Appends out.bytes out'.bytes))
-BriefEnds clients j out out' outcome.WriteFault two two' = OnceSettled clients j (λ settled. IsCompacted clients settled two' (GetsFront out out'))
+BriefEnds clients j out out' outcome.Done two two' = OnceSettled clients j (λ settled. AreFilesCompacted clients settled two' (Appends out.bytes out'.bytes))
+BriefEnds clients j out out' outcome.WriteFault two two' = OnceSettled clients j (λ settled. AreFilesCompacted clients settled two' (GetsFront out out'))
 BriefEnds clients j out out' outcome.Full two two' = IsBriefFull clients j two two'
 BriefEnds clients j out out' _ two two' = Unit {0}
 
@@ -179,4 +179,4 @@ pub record MakesBrief (clients : Meaning) (s : StoreValue) (old new : Outside) (
   pub run : DiskRun old new
   pub by : CompactsBy old new out out' came
   pub late : is_late came ≡ true
-  pub told : (two : Two File) → old.files ≡ Some two → (j : List (List Entry)) → Fits clients s j two → BriefTold clients j two old new out out' came
+  pub told : (two : Two File) → old.files ≡ Some two → (j : List (List Entry)) → FitsFiles clients s j two → BriefTold clients j two old new out out' came

@@ -1,7 +1,7 @@
 -- What a command that adds to a journal does: it migrates the journal and settles it, adds its one entry, and prints its line.
 use Rattle.std.specs.Prelude.{◌≡◌, ◌⊎◌, ℕ, Bool, true, false, List, [], ◌∷◌, Some}
 use Rattle.std.specs.Io.KnownBytes.{Appends}
-use Rattle.outside.specs.Faults.{Rose}
+use Rattle.outside.specs.Faults.{CountRose}
 use Rattle.outside.specs.Files.{Two, File, read_files}
 use Rattle.outside.specs.Links.{sent_of}
 use Rattle.outside.specs.Outside.{Outside, Moment, MomentsAre, IsNow, DiskRun}
@@ -12,14 +12,14 @@ use Rattle.sync_rules.specs.Clients.{Meaning}
 use Rattle.sync_rules.specs.Facts.{Facts, facts}
 use Rattle.entry_codec.specs.Standing.{Standing, no_store, damaged, journal, stands}
 use Rattle.sync_store.specs.Store.{StoreValue}
-use Rattle.sync_store.specs.Fitting.{Fits}
+use Rattle.sync_store.specs.Fitting.{FitsFiles}
 use Rattle.sync_store.specs.Moments.{JournalMoment}
 use Rattle.sync_words.specs.declared.outcome.Outcome.{Outcome}
 use Rattle.sync_words.specs.declared.outcome.Outcome.TheVariants as outcome
 use Rattle.store_commands.specs.declared.commit.Settling.{Settling}
-use Rattle.store_commands.specs.Commit.{GoesOn, HasLastGeneration, IsAdded, IsFull}
+use Rattle.store_commands.specs.Commit.{GoesOnByBatch, HasLastGeneration, IsAdded, IsFull}
 use Rattle.store_commands.specs.Plans.{Plan, refuses, adds}
-use Rattle.store_commands.specs.Show.{ReadsAs}
+use Rattle.store_commands.specs.Show.{FilesReadSame}
 use Rattle.store_commands.specs.Shown.{added_text}
 
 -- ---- from the files that were told
@@ -33,7 +33,7 @@ pub record PlansEntry (plan : Facts → Plan) (standing : Standing) (P : List (L
   pub leads : P before entry
 
 -- the files stood for a journal with which the command is refused
-pub record IsRefused (plan : Facts → Plan) (standing : Standing) (why : Refused) : Type 0 where
+pub record IsPlanRefused (plan : Facts → Plan) (standing : Standing) (why : Refused) : Type 0 where
   pub before : List (List Entry)
   pub stood : standing ≡ journal before
   pub planned : plan (facts before) ≡ refuses why
@@ -57,13 +57,13 @@ is_added _ = false
 -- sent. There is none where the command was refused or ended earlier.
 abbrev pub AddsMoment : Meaning → (Facts → Plan) → Standing → Outcome → List (List ℕ) → Moment → Type 0
 AddsMoment clients plan standing came sent m =
-    (is_late came ≡ true) × PlansEntry plan standing (λ j e. JournalMoment clients (GoesOn clients j (e ∷ [])) sent m)
+    (is_late came ≡ true) × PlansEntry plan standing (λ j e. JournalMoment clients (GoesOnByBatch clients j (e ∷ [])) sent m)
 
 -- the outcome by what the files stood for
 abbrev pub AddsEnds : Meaning → (Facts → Plan) → Settling → Standing → Two File → Two File → (out out' : Stream) → Outcome → Type 0
-AddsEnds clients plan settling standing two two' out out' outcome.NoStore = (standing ≡ no_store) × ReadsAs two two'
-AddsEnds clients plan settling standing two two' out out' (outcome.Damaged place) = (standing ≡ damaged place.file place.at) × ReadsAs two two'
-AddsEnds clients plan settling standing two two' out out' (outcome.Refused why) = IsRefused plan standing why × ReadsAs two two'
+AddsEnds clients plan settling standing two two' out out' outcome.NoStore = (standing ≡ no_store) × FilesReadSame two two'
+AddsEnds clients plan settling standing two two' out out' (outcome.Damaged place) = (standing ≡ damaged place.file place.at) × FilesReadSame two two'
+AddsEnds clients plan settling standing two two' out out' (outcome.Refused why) = IsPlanRefused plan standing why × FilesReadSame two two'
 AddsEnds clients plan settling standing two two' out out' outcome.Full = PlansEntry plan standing (λ j e. IsFull clients j (e ∷ []) two two')
 AddsEnds clients plan settling standing two two' out out' outcome.Done =
     PlansEntry plan standing (λ j e. IsAdded clients settling j (e ∷ []) two' × Appends out.bytes out'.bytes (added_text e))
@@ -82,8 +82,8 @@ pub record AddsTold (clients : Meaning) (plan : Facts → Plan) (settling : Sett
 -- the causes of an outcome, whatever the disk tells: a fault comes only where its count rose, and nothing is written but the line
 abbrev pub AddsBy : (old new : Outside) (out out' : Stream) → Outcome → Type 0
 AddsBy old new out out' outcome.Done = Unit {0}
-AddsBy old new out out' outcome.WriteFault = Rose out.faults out'.faults
-AddsBy old new out out' outcome.DiskFault = Rose old.disk_faults new.disk_faults × IsIdle out out'
+AddsBy old new out out' outcome.WriteFault = CountRose out.faults out'.faults
+AddsBy old new out out' outcome.DiskFault = CountRose old.disk_faults new.disk_faults × IsIdle out out'
 AddsBy old new out out' outcome.NoStore = IsIdle out out'
 AddsBy old new out out' (outcome.Damaged place) = IsIdle out out'
 AddsBy old new out out' (outcome.Refused why) = IsIdle out out'
@@ -107,7 +107,7 @@ EntryEnds clients settling j e out out' outcome.Full two two' = IsFull clients j
 EntryEnds clients settling j e out out' _ two two' = Unit {0}
 
 pub record EntryTold (clients : Meaning) (settling : Settling) (j : List (List Entry)) (e : Entry) (two : Two File) (old new : Outside) (out out' : Stream) (came : Outcome) : Type 0 where
-  pub moments : MomentsAre old new (JournalMoment clients (GoesOn clients j (e ∷ [])) (sent_of old.links.told))
+  pub moments : MomentsAre old new (JournalMoment clients (GoesOnByBatch clients j (e ∷ [])) (sent_of old.links.told))
   pub ends : (two' : Two File) → new.files ≡ Some two' → EntryEnds clients settling j e out out' came two two'
   pub spent : HasLastGeneration (read_files two) → is_added came ≡ false
 
@@ -116,4 +116,4 @@ pub record EntryAdded (clients : Meaning) (settling : Settling) (s : StoreValue)
   pub run : DiskRun old new
   pub by : AddsBy old new out out' came
   pub late : is_late came ≡ true
-  pub told : (two : Two File) → old.files ≡ Some two → (j : List (List Entry)) → Fits clients s j two → EntryTold clients settling j e two old new out out' came
+  pub told : (two : Two File) → old.files ≡ Some two → (j : List (List Entry)) → FitsFiles clients s j two → EntryTold clients settling j e two old new out out' came

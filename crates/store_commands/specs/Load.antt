@@ -1,8 +1,8 @@
 -- What loading a store comes to.
 use Rattle.std.specs.Prelude.{◌≡◌, List, Option, Result, Ok, Err}
 use Rattle.outside.specs.declared.limits.TheConstants.{MAX_JOURNAL}
-use Rattle.outside.specs.Disk.{Becomes}
-use Rattle.outside.specs.Faults.{Rose}
+use Rattle.outside.specs.Disk.{RelatesTold}
+use Rattle.outside.specs.Faults.{CountRose}
 use Rattle.outside.specs.Files.{Two, File}
 use Rattle.outside.specs.Outside.{Outside}
 use Rattle.frame_journal.specs.Gates.{SyncsBoth}
@@ -14,12 +14,12 @@ use Rattle.sync_store.specs.Ready.{IsReady}
 use Rattle.sync_store.specs.Store.{StoreValue}
 use Rattle.sync_words.specs.declared.outcome.Outcome.{Outcome}
 use Rattle.sync_words.specs.declared.outcome.Outcome.TheVariants as outcome
-use Rattle.store_commands.specs.Show.{Keeps, ReadsAs}
+use Rattle.store_commands.specs.Show.{KeepsFiles, FilesReadSame}
 
 -- the causes, whatever the disk tells
 abbrev pub LoadedBy : (old new : Outside) → Result StoreValue Outcome → Type 0
 LoadedBy old new (Ok s) = Unit {0}
-LoadedBy old new (Err outcome.DiskFault) = Rose old.disk_faults new.disk_faults
+LoadedBy old new (Err outcome.DiskFault) = CountRose old.disk_faults new.disk_faults
 LoadedBy old new (Err outcome.NoStore) = Unit {0}
 LoadedBy old new (Err (outcome.Damaged place)) = Unit {0}
 LoadedBy old new (Err outcome.Memory) = Unit {0}
@@ -43,18 +43,18 @@ pub record MayExtend (clients : Meaning) (s : StoreValue) (files : Option (Two F
   pub ready : IsReady clients s files
   pub limited : s.limit ≡ MAX_JOURNAL
 
-abbrev pub IsOpened : Meaning → Option (Two File) → Result StoreValue Outcome → Type 0
-IsOpened clients files (Ok s) = MayExtend clients s files
-IsOpened clients files (Err _) = Unit {0}
+abbrev pub IsStoreOpened : Meaning → Option (Two File) → Result StoreValue Outcome → Type 0
+IsStoreOpened clients files (Ok s) = MayExtend clients s files
+IsStoreOpened clients files (Err _) = Unit {0}
 
 -- the files read as before, but where a call on the disk failed
 abbrev pub LoadKeeps : Result StoreValue Outcome → Two File → Two File → Type 0
-LoadKeeps (Ok s) two two' = ReadsAs two two'
-LoadKeeps (Err came) two two' = Keeps came two two'
+LoadKeeps (Ok s) two two' = FilesReadSame two two'
+LoadKeeps (Err came) two two' = KeepsFiles came two two'
 
 -- but for a fault of the disk the files read as before, with nothing pending in them
-abbrev pub LeavesSettled : Option (Two File) → Option (Two File) → Result StoreValue Outcome
+abbrev pub LoadLeavesSettled : Option (Two File) → Option (Two File) → Result StoreValue Outcome
     → Type 0
-LeavesSettled old new (Err outcome.DiskFault) = Unit {0}
-LeavesSettled old new (Ok s) = Becomes SyncsBoth old new
-LeavesSettled old new (Err _) = Becomes SyncsBoth old new
+LoadLeavesSettled old new (Err outcome.DiskFault) = Unit {0}
+LoadLeavesSettled old new (Ok s) = RelatesTold SyncsBoth old new
+LoadLeavesSettled old new (Err _) = RelatesTold SyncsBoth old new

@@ -2,7 +2,7 @@
 use Rattle.std.specs.Prelude.{◌≡◌, ◌⊎◌, ℕ, ◌+◌, ◌≤◌, Bool, true, false, List, length, Option, Some, is_some, Result, Ok, Err}
 use Rattle.std.specs.Global.{Vec}
 use Rattle.std.specs.Io.KnownBytes.{Consumes, IsAtEnd}
-use Rattle.outside.specs.Faults.{Rose}
+use Rattle.outside.specs.Faults.{CountRose}
 use Rattle.outside.specs.Files.{Two, File, read_files}
 use Rattle.outside.specs.Outside.{Outside, DiskRun}
 use Rattle.outside.specs.Streams.{Stream, IsIdle}
@@ -21,7 +21,7 @@ use Rattle.store_commands.specs.declared.commit.Settling.TheVariants as settling
 use Rattle.store_commands.specs.declared.plans.PlannedPost.{PlannedPost}
 use Rattle.store_commands.specs.Entries.{HasAdded}
 use Rattle.store_commands.specs.Plans.{Plan, adds, refuses, post_plan}
-use Rattle.store_commands.specs.Show.{Keeps, Rests}
+use Rattle.store_commands.specs.Show.{KeepsFiles, LeavesFilesSo}
 
 -- the body of a post is the whole input, or its first bytes, one more than a body may have
 pub record IsBody (input input' : Stream) (body : List ℕ) : Type 0 where
@@ -46,34 +46,34 @@ pub record Groups (standing : Standing) (group : Id) (answer : Bool) : Type 0 wh
 
 -- The causes of an outcome for which no body was read whole: the input is read once the group is known to be there. Where memory
 -- was wanting it may have been read in part.
-abbrev pub StopsBy : (old new : Outside) (input input' : Stream) → Outcome → Type 0
-StopsBy old new input input' outcome.NoStore = IsIdle input input'
-StopsBy old new input input' (outcome.Damaged place) = IsIdle input input'
-StopsBy old new input input' (outcome.Refused refused.UnknownGroup) = IsIdle input input'
-StopsBy old new input input' outcome.DiskFault = Rose old.disk_faults new.disk_faults × IsIdle input input'
-StopsBy old new input input' outcome.ReadFault = Rose input.faults input'.faults
-StopsBy old new input input' outcome.Memory = Unit {0}
-StopsBy old new input input' _ = ⊥
+abbrev pub PostStopsBy : (old new : Outside) (input input' : Stream) → Outcome → Type 0
+PostStopsBy old new input input' outcome.NoStore = IsIdle input input'
+PostStopsBy old new input input' (outcome.Damaged place) = IsIdle input input'
+PostStopsBy old new input input' (outcome.Refused refused.UnknownGroup) = IsIdle input input'
+PostStopsBy old new input input' outcome.DiskFault = CountRose old.disk_faults new.disk_faults × IsIdle input input'
+PostStopsBy old new input input' outcome.ReadFault = CountRose input.faults input'.faults
+PostStopsBy old new input input' outcome.Memory = Unit {0}
+PostStopsBy old new input input' _ = ⊥
 
 -- by what the files stood for
-abbrev pub StopsEnds : Standing → Id → Outcome → Type 0
-StopsEnds standing group outcome.NoStore = standing ≡ no_store
-StopsEnds standing group (outcome.Damaged place) = standing ≡ damaged place.file place.at
-StopsEnds standing group (outcome.Refused why) = Groups standing group false
-StopsEnds standing group outcome.ReadFault = Groups standing group true
-StopsEnds standing group _ = Unit {0}
+abbrev pub PostStopsWhere : Standing → Id → Outcome → Type 0
+PostStopsWhere standing group outcome.NoStore = standing ≡ no_store
+PostStopsWhere standing group (outcome.Damaged place) = standing ≡ damaged place.file place.at
+PostStopsWhere standing group (outcome.Refused why) = Groups standing group false
+PostStopsWhere standing group outcome.ReadFault = Groups standing group true
+PostStopsWhere standing group _ = Unit {0}
 
 -- what is so where the files are told: nothing was added
-pub record StopsTold (clients : Meaning) (group : Id) (two : Two File) (old new : Outside) (came : Outcome) : Type 0 where
-  pub rests : Rests (Keeps came two) two old new
-  pub ends : StopsEnds (stands clients (read_files two)) group came
+pub record PostStopsTold (clients : Meaning) (group : Id) (two : Two File) (old new : Outside) (came : Outcome) : Type 0 where
+  pub rests : LeavesFilesSo (KeepsFiles came two) two old new
+  pub ends : PostStopsWhere (stands clients (read_files two)) group came
 
 -- no body was read whole, nothing was added and nothing printed
 pub record StopsShort (clients : Meaning) (group : Id) (old new : Outside) (input input' out out' : Stream) (came : Outcome) : Type 0 where
   pub run : DiskRun old new
-  pub by : StopsBy old new input input' came
+  pub by : PostStopsBy old new input input' came
   pub quiet : IsIdle out out'
-  pub told : (two : Two File) → old.files ≡ Some two → StopsTold clients group two old new came
+  pub told : (two : Two File) → old.files ≡ Some two → PostStopsTold clients group two old new came
 
 -- A message is posted, or it is refused; or the command stopped before its body was read.
 abbrev pub HasPosted : Meaning → Id → ℕ → (old new : Outside) → (input input' out out' : Stream) → Outcome → Type 0
@@ -92,16 +92,16 @@ HasPosted clients group timestamp old new input input' out out' outcome.Memory =
 HasPosted clients group timestamp old new input input' out out' came = PostsBody clients group timestamp old new input input' out out' came
 
 -- the plan of a post as it is answered, with the message's id, but for want of memory
-abbrev pub IsPlanned : Plan → Result PlannedPost Outcome → Type 0
-IsPlanned plan (Ok post) = (plan ≡ adds (entry.Author post.message)) × (post.id ≡ message_id_of post.message)
-IsPlanned plan (Err outcome.Memory) = Unit {0}
-IsPlanned plan (Err (outcome.Refused why)) = plan ≡ refuses why
-IsPlanned plan (Err _) = ⊥
+abbrev pub IsPlanOfPost : Plan → Result PlannedPost Outcome → Type 0
+IsPlanOfPost plan (Ok post) = (plan ≡ adds (entry.Author post.message)) × (post.id ≡ message_id_of post.message)
+IsPlanOfPost plan (Err outcome.Memory) = Unit {0}
+IsPlanOfPost plan (Err (outcome.Refused why)) = plan ≡ refuses why
+IsPlanOfPost plan (Err _) = ⊥
 
 -- what reading a body answers
-abbrev pub IsRead : (input input' : Stream) → Result (Vec ℕ) Outcome → Type 0
-IsRead input input' (Ok body) = IsBody input input' body.items
-IsRead input input' (Err (outcome.Refused refused.BodyTooLong)) = (body : List ℕ) × IsBody input input' body × (length body ≡ MAX_BODY + 1)
-IsRead input input' (Err outcome.ReadFault) = Rose input.faults input'.faults
-IsRead input input' (Err outcome.Memory) = Unit {0}
-IsRead input input' (Err came) = ⊥
+abbrev pub IsBodyRead : (input input' : Stream) → Result (Vec ℕ) Outcome → Type 0
+IsBodyRead input input' (Ok body) = IsBody input input' body.items
+IsBodyRead input input' (Err (outcome.Refused refused.BodyTooLong)) = (body : List ℕ) × IsBody input input' body × (length body ≡ MAX_BODY + 1)
+IsBodyRead input input' (Err outcome.ReadFault) = CountRose input.faults input'.faults
+IsBodyRead input input' (Err outcome.Memory) = Unit {0}
+IsBodyRead input input' (Err came) = ⊥

@@ -1,7 +1,7 @@
 -- What a command that only looks does: it writes nothing to the files, and shows a text of the journal that they stand for.
 use Rattle.std.specs.Prelude.{◌≡◌, ℕ, List, Option, Some}
 use Rattle.std.specs.Io.KnownBytes.{Appends}
-use Rattle.outside.specs.Faults.{Rose}
+use Rattle.outside.specs.Faults.{CountRose}
 use Rattle.outside.specs.Files.{Two, File, read_files}
 use Rattle.outside.specs.Outside.{Outside, MomentsAre, IsNow, DiskRun}
 use Rattle.sync_rules.specs.declared.entries.Entry.{Entry}
@@ -16,8 +16,8 @@ use Rattle.store_commands.specs.Shown.{Showing, denies, shows}
 -- the causes of an outcome, whatever the disk tells: a fault comes only where its count rose, and nothing is written but the text
 abbrev pub LooksBy : (old new : Outside) (out out' : Stream) → Outcome → Type 0
 LooksBy old new out out' outcome.Done = Unit {0}
-LooksBy old new out out' outcome.WriteFault = Rose out.faults out'.faults
-LooksBy old new out out' outcome.DiskFault = Rose old.disk_faults new.disk_faults × IsIdle out out'
+LooksBy old new out out' outcome.WriteFault = CountRose out.faults out'.faults
+LooksBy old new out out' outcome.DiskFault = CountRose old.disk_faults new.disk_faults × IsIdle out out'
 LooksBy old new out out' outcome.NoStore = IsIdle out out'
 LooksBy old new out out' (outcome.Damaged place) = IsIdle out out'
 LooksBy old new out out' (outcome.Refused why) = IsIdle out out'
@@ -27,17 +27,17 @@ LooksBy old new out out' _ = ⊥
 -- a text is printed, where memory is found for it
 abbrev pub PrintsText : List ℕ → Stream → Stream → Outcome → Type 0
 PrintsText text out out' outcome.Done = Appends out.bytes out'.bytes text
-PrintsText text out out' outcome.WriteFault = Rose out.faults out'.faults × GetsFront out out' text
+PrintsText text out out' outcome.WriteFault = CountRose out.faults out'.faults × GetsFront out out' text
 PrintsText text out out' outcome.Memory = IsIdle out out'
 PrintsText text out out' _ = ⊥
 
 -- what is shown is printed
-abbrev pub Prints : Showing → Stream → Stream → Outcome → Type 0
-Prints (shows text) out out' came = PrintsText text out out' came
-Prints (denies why) out out' came = (came ≡ outcome.Refused why) × IsIdle out out'
+abbrev pub PrintsShowing : Showing → Stream → Stream → Outcome → Type 0
+PrintsShowing (shows text) out out' came = PrintsText text out out' came
+PrintsShowing (denies why) out out' came = (came ≡ outcome.Refused why) × IsIdle out out'
 
 -- the files stand for a journal of which this is shown
-pub record Shows (shown : Facts → Showing) (standing : Standing) (what : Showing) : Type 0 where
+pub record ShowsOfStanding (shown : Facts → Showing) (standing : Standing) (what : Showing) : Type 0 where
   pub of : List (List Entry)
   pub stood : standing ≡ journal of
   pub is : shown (facts of) ≡ what
@@ -45,35 +45,35 @@ pub record Shows (shown : Facts → Showing) (standing : Standing) (what : Showi
 -- the text is shown, or for want of the output a front of it
 pub record ShowsText (shown : Facts → Showing) (standing : Standing) (P : List ℕ → Type 0) : Type 0 where
   pub text : List ℕ
-  pub shown_so : Shows shown standing (shows text)
+  pub shown_so : ShowsOfStanding shown standing (shows text)
   pub printed : P text
 
 -- the outcome by what the files stand for
 abbrev pub LooksEnds : (Facts → Showing) → Standing → Stream → Stream → Outcome → Type 0
 LooksEnds shown standing out out' outcome.NoStore = standing ≡ no_store
 LooksEnds shown standing out out' (outcome.Damaged place) = standing ≡ damaged place.file place.at
-LooksEnds shown standing out out' (outcome.Refused why) = Shows shown standing (denies why)
+LooksEnds shown standing out out' (outcome.Refused why) = ShowsOfStanding shown standing (denies why)
 LooksEnds shown standing out out' outcome.Done = ShowsText shown standing (Appends out.bytes out'.bytes)
 LooksEnds shown standing out out' outcome.WriteFault = ShowsText shown standing (GetsFront out out')
 LooksEnds shown standing out out' _ = Unit {0}
 
 -- the files read as before
-abbrev pub ReadsAs : Two File → Two File → Type 0
-ReadsAs two two' = read_files two' ≡ read_files two
+abbrev pub FilesReadSame : Two File → Two File → Type 0
+FilesReadSame two two' = read_files two' ≡ read_files two
 
 -- the files read as before; where a call on the disk failed nothing is said of them but at each moment
-abbrev pub Keeps : Outcome → Two File → Two File → Type 0
-Keeps outcome.DiskFault two two' = Unit {0}
-Keeps came two two' = ReadsAs two two'
+abbrev pub KeepsFiles : Outcome → Two File → Two File → Type 0
+KeepsFiles outcome.DiskFault two two' = Unit {0}
+KeepsFiles came two two' = FilesReadSame two two'
 
 -- each moment is as a crash might have left the files before, and in the end they are so
-pub record Rests (P : Two File → Type 0) (two : Two File) (old new : Outside) : Type 0 where
+pub record LeavesFilesSo (P : Two File → Type 0) (two : Two File) (old new : Outside) : Type 0 where
   pub moments : MomentsAre old new (IsNow two old.links)
   pub kept : (two' : Two File) → new.files ≡ Some two' → P two'
 
 -- what is so where the files are told
 pub record LooksTold (clients : Meaning) (shown : Facts → Showing) (two : Two File) (old new : Outside) (out out' : Stream) (came : Outcome) : Type 0 where
-  pub rests : Rests (Keeps came two) two old new
+  pub rests : LeavesFilesSo (KeepsFiles came two) two old new
   pub ends : LooksEnds shown (stands clients (read_files two)) out out' came
 
 -- a command that only looks

@@ -7,10 +7,10 @@ ghost use Rattle.sync_rules.specs.declared.entries.Entry.{Entry};
 ghost use Rattle.sync_rules.specs.Allows.{is_account_kind, is_settling_kind};
 ghost use Rattle.sync_rules.specs.Legal.{Allowed};
 ghost use Rattle.session_core.specs.Known.{IsOfAll};
-ghost use Rattle.sync_store.specs.Fitting.{Fits};
+ghost use Rattle.sync_store.specs.Fitting.{FitsFiles};
 ghost use Rattle.sync_store.specs.Ready.{IsReady};
 ghost use Rattle.store_commands.specs.Commit.{AddsAs, ExtendsBy, ExtendsTold, MayFollow};
-ghost use Rattle.store_commands.specs.Commit.{MigratesAs, SettlesAnew, SettlesAs, StaysReady};
+ghost use Rattle.store_commands.specs.Commit.{MigratesAs, SettlesAnew, SettlesAs, StoreStaysReady};
 ghost use Rattle.store_commands.specs.Load.{MayExtend};
 
 use outside::Disk;
@@ -47,7 +47,7 @@ pub fn extend<D: Disk, C: Clients>(
     ensures run { DiskRun (D.tells disk.old) (D.tells disk.new) }
     ensures by { ExtendsBy (D.tells disk.old) (D.tells disk.new) result }
     ensures told { (two : Two File) → (D.tells disk.old).files ≡ Some two → (j : List (List Entry))
-        → Fits (C.meaning clients.now) store.old j two
+        → FitsFiles (C.meaning clients.now) store.old j two
         → ExtendsTold (C.meaning clients.now) settling j batch two (D.tells disk.old)
         (D.tells disk.new) result }
 {
@@ -72,7 +72,7 @@ pub fn migrate_and_settle<D: Disk, C: Clients>(
     ensures settled { SettlesAnew (C.meaning clients.now) store.old store.new (D.tells disk.old)
         (D.tells disk.new) result }
     ensures untouched { IsErrOf result Outcome.Full → disk.new ≡ disk.old }
-    ensures stays { StaysReady (C.meaning clients.now) store.new (D.tells disk.new).files result }
+    ensures stays { StoreStaysReady (C.meaning clients.now) store.new (D.tells disk.new).files result }
     ensures ready { OnOk result (IsReady (C.meaning clients.now) store.new
         (D.tells disk.new).files) }
 {
@@ -88,7 +88,7 @@ fn migrate<D: Disk, C: Clients>(store: &mut Store, disk: &mut D, clients: &C) ->
     ensures migrated { MigratesAs (C.meaning clients.now) store.old store.new (D.tells disk.old)
         (D.tells disk.new) result }
     ensures untouched { IsErrOf result Outcome.Full → disk.new ≡ disk.old }
-    ensures stays { StaysReady (C.meaning clients.now) store.new (D.tells disk.new).files result }
+    ensures stays { StoreStaysReady (C.meaning clients.now) store.new (D.tells disk.new).files result }
     ensures ready { OnOk result (IsReady (C.meaning clients.now) store.new
         (D.tells disk.new).files) }
 {
@@ -108,7 +108,7 @@ fn settle<D: Disk, C: Clients>(store: &mut Store, disk: &mut D, clients: &C) -> 
     ensures by { ExtendsBy (D.tells disk.old) (D.tells disk.new) result }
     ensures settled { SettlesAs (C.meaning clients.now) store.old store.new (D.tells disk.old)
         (D.tells disk.new) result }
-    ensures stays { StaysReady (C.meaning clients.now) store.new (D.tells disk.new).files result }
+    ensures stays { StoreStaysReady (C.meaning clients.now) store.new (D.tells disk.new).files result }
     ensures ready { OnOk result (IsReady (C.meaning clients.now) store.new
         (D.tells disk.new).files) }
 {

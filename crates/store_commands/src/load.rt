@@ -1,12 +1,12 @@
 // A store that is loaded, or what the command comes to without one.
 ghost use Rattle.std.specs.Prelude.{◌≡◌, Some};
-ghost use Rattle.outside.specs.Disk.{Becomes};
+ghost use Rattle.outside.specs.Disk.{RelatesTold};
 ghost use Rattle.outside.specs.Files.{Two, File, read_files};
 ghost use Rattle.outside.specs.Outside.{DiskRun};
 ghost use Rattle.frame_journal.specs.Gates.{ReadsSame};
 ghost use Rattle.entry_codec.specs.Standing.{stands};
-ghost use Rattle.store_commands.specs.Show.{Rests};
-ghost use Rattle.store_commands.specs.Load.{IsLoaded, IsOpened, LeavesSettled, LoadedBy};
+ghost use Rattle.store_commands.specs.Show.{LeavesFilesSo};
+ghost use Rattle.store_commands.specs.Load.{IsLoaded, IsStoreOpened, LoadLeavesSettled, LoadedBy};
 ghost use Rattle.store_commands.specs.Load.{LoadKeeps};
 
 use outside::{Disk, MAX_JOURNAL};
@@ -26,14 +26,14 @@ pub fn load_store<D: Disk, C: Clients>(
     ensures run { DiskRun (D.tells disk.old) (D.tells disk.new) }
     ensures by { LoadedBy (D.tells disk.old) (D.tells disk.new) result }
     ensures rests { (two : Two File) → (D.tells disk.old).files ≡ Some two
-        → Rests (LoadKeeps result two) two (D.tells disk.old) (D.tells disk.new) }
+        → LeavesFilesSo (LoadKeeps result two) two (D.tells disk.old) (D.tells disk.new) }
     ensures loaded { (two : Two File) → (D.tells disk.old).files ≡ Some two
         → IsLoaded (stands (C.meaning clients.now) (read_files two)) result }
-    ensures settled { LeavesSettled (D.tells disk.old).files (D.tells disk.new).files result }
+    ensures settled { LoadLeavesSettled (D.tells disk.old).files (D.tells disk.new).files result }
 
     // Whatever it answers, the files read as before.
-    ensures reads { Becomes ReadsSame (D.tells disk.old).files (D.tells disk.new).files }
-    ensures opened { IsOpened (C.meaning clients.now) (D.tells disk.new).files result }
+    ensures reads { RelatesTold ReadsSame (D.tells disk.old).files (D.tells disk.new).files }
+    ensures opened { IsStoreOpened (C.meaning clients.now) (D.tells disk.new).files result }
 {
     match Store::load(alloc, hasher, disk, clients, MAX_JOURNAL) {
         Ok(store) => Ok(store),

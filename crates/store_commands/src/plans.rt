@@ -3,7 +3,7 @@ ghost use Rattle.std.specs.Prelude.{◌≡◌, ◌≤◌, true, is_some};
 ghost use Rattle.sync_rules.specs.Facts.{group_at};
 ghost use Rattle.store_commands.specs.Plans.{contact_plan, group_plan, level_plan, message_plan};
 ghost use Rattle.store_commands.specs.Plans.{plan_of, post_plan};
-ghost use Rattle.store_commands.specs.Post.{IsPlanned, message_of};
+ghost use Rattle.store_commands.specs.Post.{IsPlanOfPost, message_of};
 
 use sync_ids::{GroupDef, GroupId, MAX_TIMESTAMP, Message, MessageFault, MessageId};
 use sync_rules::{Clients, Entry, Level, Refused};
@@ -58,7 +58,7 @@ pub fn plan_post<C: Clients>(
 ) -> Result<PlannedPost, Outcome>
     requires known { is_some (group_at store.now.state.facts.groups group) ≡ true }
     requires timestamp { timestamp ≤ MAX_TIMESTAMP }
-    ensures { IsPlanned (post_plan (C.meaning clients.now) store.now.state.facts
+    ensures { IsPlanOfPost (post_plan (C.meaning clients.now) store.now.state.facts
         (message_of group timestamp body.items)) result }
 {
     match Message::new(group, timestamp, body) {
@@ -75,7 +75,7 @@ pub fn plan_message<C: Clients>(
     clients: &C,
     message: Message,
 ) -> Result<PlannedPost, Outcome>
-    ensures { IsPlanned (message_plan (C.meaning clients.now) store.now.state.facts message)
+    ensures { IsPlanOfPost (message_plan (C.meaning clients.now) store.now.state.facts message)
         result }
 {
     match store.may_post(clients, &message) {

@@ -1,7 +1,7 @@
 // The command `post GROUP TIMESTAMP`.
 ghost use Rattle.std.specs.Prelude.{◌≤◌};
 ghost use Rattle.sync_words.specs.Outcomes.{came_to};
-ghost use Rattle.store_commands.specs.Post.{HasPosted, IsRead};
+ghost use Rattle.store_commands.specs.Post.{HasPosted, IsBodyRead};
 
 use crate::commit::Settling;
 use crate::entries::add_entry;
@@ -51,7 +51,7 @@ pub fn post_message<D: Disk, S: Source, W: Sink, C: Clients>(
 
 // Reads a body: the whole input, of which no more than 32,769 bytes are read.
 fn read_body<S: Source>(alloc: Global, input: &mut S) -> Result<Vec<u8>, Outcome>
-    ensures { IsRead (S.tells input.old) (S.tells input.new) result }
+    ensures { IsBodyRead (S.tells input.old) (S.tells input.new) result }
 {
     let mut body = Vec::new(alloc);
     match read_input(input, MAX_BODY as u64, &mut body) {

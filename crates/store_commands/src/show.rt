@@ -1,6 +1,6 @@
 // The commands that only look: `show`, `inbox` and `body ID`.
 ghost use Rattle.sync_words.specs.Outcomes.{came_to};
-ghost use Rattle.store_commands.specs.Show.{HasLooked, Prints, PrintsText};
+ghost use Rattle.store_commands.specs.Show.{HasLooked, PrintsShowing, PrintsText};
 ghost use Rattle.store_commands.specs.Shown.{body_shown, listing_shown, listing_text};
 
 use crate::listing::{Listing, add_listing};
@@ -61,7 +61,7 @@ pub fn write_body<D: Disk, W: Sink, C: Clients>(
 }
 
 fn print_body<W: Sink>(store: &Store, id: &MessageId, out: &mut W) -> Result<(), Outcome>
-    ensures { Prints (body_shown id.now store.now.state.facts) (W.tells out.old) (W.tells out.new)
+    ensures { PrintsShowing (body_shown id.now store.now.state.facts) (W.tells out.old) (W.tells out.new)
         (came_to result) }
 {
     match store.find(id) {

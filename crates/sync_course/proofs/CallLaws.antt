@@ -3,7 +3,7 @@ use Rattle.std.proofs.Common.{◌≡◌, ℕ, suc, ◌+◌, ◌*◌, true, false
 use Rattle.outside.specs.declared.failed.Failed.{Failed}
 use Rattle.outside.specs.declared.host.Heard.{Heard}
 use Rattle.outside.specs.declared.host.Heard.TheVariants as answer
-use Rattle.outside.specs.Host.{Hears, IsCaused, ReadsClock, Sends}
+use Rattle.outside.specs.Host.{HearsAnswer, IsAnswerCaused, ReadsClock, SendsOnLink}
 use Rattle.outside.specs.Outside.{Outside, MakesAtMost}
 use Rattle.outside.proofs.CallCounts.{most_none}
 use Rattle.record_grammar.specs.declared.stream.Item.{Item}
@@ -16,8 +16,8 @@ use Rattle.sync_rules.specs.Facts.{after_all, after_batches, session_at}
 use Rattle.sync_rules.specs.Legal.{Allowed, AllSettling, IsDue}
 use Rattle.sync_rules.specs.Steps.{IsSettled}
 use Rattle.sync_course.specs.declared.TheConstants.{MAX_OUTPUTS, PIECE_LEN}
-use Rattle.sync_course.specs.Events.{Event, Commit, Read, Break, Pass, asked_event, batches_of, commits, Told}
-use Rattle.sync_course.specs.Paths.{Path, Runs, Breaks}
+use Rattle.sync_course.specs.Events.{Event, Commit, Read, Break, Pass, asked_event, batches_of, commits, TellsEvents}
+use Rattle.sync_course.specs.Paths.{Path, RunsPath, BreaksPath}
 use Rattle.sync_course.proofs.PathLaws.{path_one, path_parts}
 use Rattle.sync_course.specs.Links.{is_going, is_sent_to}
 use Rattle.sync_course.specs.LinkTurns.{Asks, Takes, Waits, Sends as Sending, Puts, Done, Spot, LinkStep, StepOf, IsEnough, PassesItem, answered_spot, failed_spot, next_take, out_batch, out_spot, taken_spot}
@@ -25,8 +25,8 @@ use Rattle.sync_course.proofs.ToldLaws.{batches_of_commits, told_asked, told_bro
 
 -- one event that commits nothing
 module _ {P : Type 0} (step : P → Event → P → Type 0) (Before After : List (List Entry) → Type 0) (stays : (j : List (List Entry)) → Before j → After j) where
-  unfoldable pub runs_quiet : (p q : P) (e : Event) (o o' : Outside) → batches_of (e ∷ []) ≡ [] → step p e q → Told (e ∷ []) o o'
-      → MakesAtMost 0 o o' → Runs step Before After p q o o' []
+  unfoldable pub runs_quiet : (p q : P) (e : Event) (o o' : Outside) → batches_of (e ∷ []) ≡ [] → step p e q → TellsEvents (e ∷ []) o o'
+      → MakesAtMost 0 o o' → RunsPath step Before After p q o o' []
   runs_quiet p q e o o' none s told made = record {
     events = e ∷ [];
     path = path_one step p q e s;
@@ -36,7 +36,7 @@ module _ {P : Type 0} (step : P → Event → P → Type 0) (Before After : List
     calls = subst (λ (l : List (List Entry)). MakesAtMost (4 * length l) o o') (sym none) made;
   }
 
-  unfoldable pub runs_none : (p : P) (o : Outside) {next : List (List Entry)} → Runs step Before After p p o o next
+  unfoldable pub runs_none : (p : P) (o : Outside) {next : List (List Entry)} → RunsPath step Before After p p o o next
   runs_none p o {next} = record {
     events = [];
     path = refl;
@@ -49,7 +49,7 @@ module _ {P : Type 0} (step : P → Event → P → Type 0) (Before After : List
 module _ {P : Type 0} (step : P → Event → P → Type 0) (Before After : List (List Entry) → Type 0) (bs : List (List Entry))
     (grows : (j : List (List Entry)) → Before j → After (j ++ bs)) where
   unfoldable pub runs_commits : (p q : P) (o o' : Outside) {next : List (List Entry)} → o'.links ≡ o.links
-      → MakesAtMost (4 * length (next ++ bs)) o o' → Path step p (commits bs) q → Runs step Before After p q o o' next
+      → MakesAtMost (4 * length (next ++ bs)) o o' → Path step p (commits bs) q → RunsPath step Before After p q o o' next
   runs_commits p q o o' {next} same made path = record {
     events = commits bs;
     path = path;
@@ -74,7 +74,7 @@ calls_parts bs front others parts =
 module _ {P : Type 0} (step : P → Event → P → Type 0) (Before After : List (List Entry) → Type 0) (bs front others : List (List Entry))
     (parts : bs ≡ front ++ others) (grows : (j : List (List Entry)) → Before j → After (j ++ front)) where
   pub breaks_commits : (p q : P) (o o' : Outside) → o'.links ≡ o.links → MakesAtMost (4 * length bs) o o' → Path step p (commits bs) q
-      → Breaks step Before After p o o'
+      → BreaksPath step Before After p o o'
   breaks_commits p q o o' same made path =
       let events : commits bs ≡ commits front ++ commits others = ap commits parts ∙ commits-append front others in
       let whole : Path step p (commits front ++ commits others) q = subst (λ (es : List Event). Path step p es q) events path in
@@ -149,11 +149,11 @@ module _ (clients : Meaning) (n session : ℕ) where
 
   module _ (Before After : List (List Entry) → Type 0) where
     abbrev pub Goes : Spot → Spot → Outside → Outside → Type 0
-    Goes p q o o' = Runs (LinkStep clients n session) Before After p q o o' []
+    Goes p q o o' = RunsPath (LinkStep clients n session) Before After p q o o' []
 
     pub runs_asked : (given : Heard) (buf : List ℕ) (p : Spot) (o o' : Outside) → p.doing ≡ Asks → is_going p.link.stands ≡ true
-        → length buf ≡ PIECE_LEN → Hears n given buf o.links o'.links
-        → IsCaused given (length buf) (o.links.faults n) (o'.links.faults n) → MakesAtMost 0 o o' → ((j : List (List Entry)) → Before j → After j)
+        → length buf ≡ PIECE_LEN → HearsAnswer n given buf o.links o'.links
+        → IsAnswerCaused given (length buf) (o.links.faults n) (o'.links.faults n) → MakesAtMost 0 o o' → ((j : List (List Entry)) → Before j → After j)
         → Goes p (answered_spot given buf p) o o'
     runs_asked given buf p o o' asks going whole hears caused made stays =
         runs_quiet (LinkStep clients n session) Before After stays p (answered_spot given buf p) (asked_event n given buf) o o'
@@ -164,7 +164,7 @@ module _ (clients : Meaning) (n session : ℕ) where
     pub runs_settled : (its : List Item) (bs : List (List Entry)) (p : Spot) (o o' : Outside) {next : List (List Entry)} → p.doing ≡ Takes its
         → AllSettling clients p.facts bs → o'.links ≡ o.links → MakesAtMost (4 * length (next ++ bs)) o o'
         → ((j : List (List Entry)) → Before j → After (j ++ bs))
-        → Runs (LinkStep clients n session) Before After p (record p { facts = after_batches p.facts bs }) o o' next
+        → RunsPath (LinkStep clients n session) Before After p (record p { facts = after_batches p.facts bs }) o o' next
     runs_settled its bs p o o' takes settling same made grows =
         runs_commits (LinkStep clients n session) Before After bs grows p (record p { facts = after_batches p.facts bs }) o o' same made
         (settles_path p its bs takes settling)
@@ -217,7 +217,7 @@ module _ (clients : Meaning) (n session : ℕ) where
         (out_spot now room (out_batch session now what) p) o o' same made (out_path now room what p sends due allowed)
 
     unfoldable pub runs_put : (now room : ℕ) (bytes : List ℕ) (p : Spot) (o o' : Outside) → p.doing ≡ Puts now room
-        → Sends n bytes (Ok tt) o.links o'.links → MakesAtMost 0 o o' → ((j : List (List Entry)) → Before j → After j)
+        → SendsOnLink n bytes (Ok tt) o.links o'.links → MakesAtMost 0 o o' → ((j : List (List Entry)) → Before j → After j)
         → Goes p (record p { doing = Sending now room }) o o'
     runs_put now room bytes p o o' puts sends made stays =
         let q : Spot = record p { doing = Sending now room } in
@@ -225,7 +225,7 @@ module _ (clients : Meaning) (n session : ℕ) where
         (step_at p q Pass (Puts now room) puts refl) (told_sent n bytes o o' sends) made
 
     unfoldable pub runs_broken : (now room : ℕ) (bytes : List ℕ) (why : Failed) (p : Spot) (o o' : Outside) → p.doing ≡ Puts now room
-        → Sends n bytes (Err why) o.links o'.links → MakesAtMost 0 o o' → ((j : List (List Entry)) → Before j → After j)
+        → SendsOnLink n bytes (Err why) o.links o'.links → MakesAtMost 0 o o' → ((j : List (List Entry)) → Before j → After j)
         → Goes p (failed_spot p) o o'
     runs_broken now room bytes why p o o' puts sends made stays =
         runs_quiet (LinkStep clients n session) Before After stays p (failed_spot p) (Break n) o o' refl

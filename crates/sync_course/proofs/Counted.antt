@@ -1,7 +1,7 @@
 -- How many batches the calls of a link's turn commit: an output is one, and what is made of it on the link none.
 use Rattle.std.proofs.Common.{◌≡◌, ℕ, suc, ◌+◌, ◌<◌, List, [], ◌∷◌, ◌++◌, length, length-append, refl, ◌∙◌, ap, Ok, Err}
 use Rattle.outside.specs.declared.failed.Failed.{Failed}
-use Rattle.outside.specs.Host.{Sends}
+use Rattle.outside.specs.Host.{SendsOnLink}
 use Rattle.outside.specs.Outside.{Outside, MakesAtMost}
 use Rattle.sync_rules.specs.declared.entries.Entry.{Entry}
 use Rattle.sync_rules.specs.declared.entries.Out.{Out}
@@ -9,7 +9,7 @@ use Rattle.sync_rules.specs.Clients.{Meaning}
 use Rattle.sync_rules.specs.Facts.{session_at}
 use Rattle.sync_rules.specs.Legal.{Allowed, IsDue}
 use Rattle.sync_course.specs.Events.{Event, batches_of}
-use Rattle.sync_course.specs.Paths.{Counts}
+use Rattle.sync_course.specs.Paths.{CountsBatches}
 use Rattle.sync_course.specs.LinkTurns.{Sends as Sending, Puts, Done, Spot, LinkStep, IsEnough, failed_spot, out_batch, out_spot}
 use Rattle.sync_course.specs.Turns.{Place, RunStep, Terms, with_spot}
 use Rattle.sync_course.proofs.ToldLaws.{batches_of-append, runs_then}
@@ -18,8 +18,8 @@ use Rattle.sync_course.proofs.LiftLaws.{runs_lifted}
 
 -- one behind the other
 module _ {P : Type 0} (step : P → Event → P → Type 0) (Before Between After : List (List Entry) → Type 0) where
-  pub counted_then : (p q r : P) (o o1 o2 : Outside) (m n : ℕ) → Counts step Before Between p q o o1 m → Counts step Between After q r o1 o2 n
-      → Counts step Before After p r o o2 (m + n)
+  pub counted_then : (p q r : P) (o o1 o2 : Outside) (m n : ℕ) → CountsBatches step Before Between p q o o1 m → CountsBatches step Between After q r o1 o2 n
+      → CountsBatches step Before After p r o o2 (m + n)
   unfolding runs_then
   counted_then p q r o o1 o2 m n first second = record {
     runs = runs_then step Before Between After p q r o o1 o2 first.runs second.runs;
@@ -31,14 +31,14 @@ module _ {P : Type 0} (step : P → Event → P → Type 0) (Before Between Afte
   }
 
 module _ {P : Type 0} (step : P → Event → P → Type 0) (Before After : List (List Entry) → Type 0) (stays : (j : List (List Entry)) → Before j → After j) where
-  pub counted_none : (p : P) (o : Outside) → Counts step Before After p p o o 0
+  pub counted_none : (p : P) (o : Outside) → CountsBatches step Before After p p o o 0
   unfolding runs_none
   counted_none p o = record { runs = runs_none step Before After stays p o; counts = refl }
 
 -- the calls of a link that sends
 module _ (clients : Meaning) (n session : ℕ) (Before After : List (List Entry) → Type 0) where
   abbrev pub CountsOn : Spot → Spot → Outside → Outside → ℕ → Type 0
-  CountsOn p q o o' count = Counts (LinkStep clients n session) Before After p q o o' count
+  CountsOn p q o o' count = CountsBatches (LinkStep clients n session) Before After p q o o' count
 
   pub counted_out : (now room : ℕ) (what : Out) (p : Spot) (o o' : Outside) → p.doing ≡ Sending now (suc room)
       → IsDue clients p.facts (session_at p.facts.sessions session) now what → Allowed clients p.facts (out_batch session now what)
@@ -51,7 +51,7 @@ module _ (clients : Meaning) (n session : ℕ) (Before After : List (List Entry)
   }
 
   pub counted_put : (now room : ℕ) (bytes : List ℕ) (p : Spot) (o o' : Outside) → p.doing ≡ Puts now room
-      → Sends n bytes (Ok tt) o.links o'.links → MakesAtMost 0 o o' → ((j : List (List Entry)) → Before j → After j)
+      → SendsOnLink n bytes (Ok tt) o.links o'.links → MakesAtMost 0 o o' → ((j : List (List Entry)) → Before j → After j)
       → CountsOn p (record p { doing = Sending now room }) o o' 0
   unfolding runs_put runs_quiet
   counted_put now room bytes p o o' puts sends made stays = record {
@@ -60,7 +60,7 @@ module _ (clients : Meaning) (n session : ℕ) (Before After : List (List Entry)
   }
 
   pub counted_broken : (now room : ℕ) (bytes : List ℕ) (why : Failed) (p : Spot) (o o' : Outside) → p.doing ≡ Puts now room
-      → Sends n bytes (Err why) o.links o'.links → MakesAtMost 0 o o' → ((j : List (List Entry)) → Before j → After j)
+      → SendsOnLink n bytes (Err why) o.links o'.links → MakesAtMost 0 o o' → ((j : List (List Entry)) → Before j → After j)
       → CountsOn p (failed_spot p) o o' 0
   unfolding runs_broken runs_quiet
   counted_broken now room bytes why p o o' puts sends made stays = record {
@@ -78,8 +78,8 @@ module _ (clients : Meaning) (n session : ℕ) (Before After : List (List Entry)
 
 -- in the run
 module _ (clients : Meaning) (terms : Terms) (n : ℕ) (place : Place) (within : n < length place.links) (Before After : List (List Entry) → Type 0) where
-  pub counted_lifted : (p q : Spot) (o o' : Outside) (count : ℕ) → Counts (LinkStep clients n (terms.first + n)) Before After p q o o' count
-      → Counts (RunStep clients terms) Before After (with_spot n p place) (with_spot n q place) o o' count
+  pub counted_lifted : (p q : Spot) (o o' : Outside) (count : ℕ) → CountsBatches (LinkStep clients n (terms.first + n)) Before After p q o o' count
+      → CountsBatches (RunStep clients terms) Before After (with_spot n p place) (with_spot n q place) o o' count
   unfolding runs_lifted
   counted_lifted p q o o' count counted = record {
     runs = runs_lifted clients terms n place within Before After p q o o' counted.runs;

@@ -25,7 +25,7 @@ use Rattle.sync_course.specs.Pending.{pending_at}
 use Rattle.sync_course.proofs.RunLaws.{IsSound, first_sound, path_sound}
 use Rattle.sync_course.specs.Quiet.{EndsQuiet, idle_answers, last_reading}
 use Rattle.sync_course.proofs.QuietLaws.{BetweenTurns, IsStillAt, path_still}
-use Rattle.sync_course.specs.Suits.{IsCounted, IsTaken, keeps_all}
+use Rattle.sync_course.specs.Suits.{IsCounted, AreRecordsTaken, keeps_all}
 
 -- ---- where the journal is settled
 
@@ -157,7 +157,7 @@ had_quiet : (some_is enough : Bool) → (not some_is || enough) ≡ true → som
 had_quiet true enough over is = over
 had_quiet false enough over is = absurd (false≢true is)
 
-all_counted : (f : Facts) (session : ℕ) (link : Link) → keeps_all link.stands ≡ true → IsCounted f session [] link → IsTaken f session link
+all_counted : (f : Facts) (session : ℕ) (link : Link) → keeps_all link.stands ≡ true → IsCounted f session [] link → AreRecordsTaken f session link
 unfolding records_of
 all_counted f session link keeps c =
     let whole : records link.heard ≡ c.done = c.parts ∙ ap (λ (l : List Record). c.done ++ l) (c.whole keeps) ∙ append-nil c.done in

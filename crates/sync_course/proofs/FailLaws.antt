@@ -17,7 +17,7 @@ use Rattle.sync_course.specs.declared.TheConstants.{MAX_OUTPUTS}
 use Rattle.sync_course.specs.declared.ends.LinkEnd.{LinkEnd}
 use Rattle.sync_course.specs.declared.ends.LinkEnd.TheVariants as end
 use Rattle.sync_course.specs.Events.{Event, Commit, Hear, Miss, Read, Break, Pass, has_failure, is_failure}
-use Rattle.sync_course.specs.Free.{Begins, Free, FreeStep, Hold, HoldStep, Holds, IsIdle, Moves, Rests, first_free, holding, joined_by, spot_in}
+use Rattle.sync_course.specs.Free.{Begins, Free, FreeStep, Hold, HoldStep, Holds, IsNothingUnderWay, TakesUpOrCloses, Rests, first_free, holding, joined_by, spot_in}
 use Rattle.sync_course.specs.Links.{Link, closed_from, closes, is_beaten, is_going, is_sent_to, items_after, link_of, new_items, stands_behind, stands_ended, without_redundant}
 use Rattle.sync_course.specs.LinkTurns.{Asks, Takes, Waits, Sends, Puts, Done, Doing, LinkStep, PassesItem, SendsNext, Spot, StepOf, TakesNext, failed_spot, heard_spot}
 use Rattle.sync_course.specs.Paths.{Path}
@@ -214,7 +214,7 @@ abbrev pub HoldsOpen : Hold → List Link → Type 0
 HoldsOpen (Holds n doing) links = (link : Link) → slice_get links n ≡ Some link → DoesOpen doing link.stands
 HoldsOpen _ links = Unit {0}
 
-idle_opens : (hold : Hold) (links : List Link) → IsIdle hold → HoldsOpen hold links
+idle_opens : (hold : Hold) (links : List Link) → IsNothingUnderWay hold → HoldsOpen hold links
 idle_opens Rests links calm = tt
 idle_opens (Begins s) links calm = absurd calm
 idle_opens (Holds n Asks) links calm = λ link at. tt
@@ -359,7 +359,7 @@ closes_fails p = record {
     old true was is = cc
     old false was is = is
 
-moves_fails : (p q : Free) → Moves p.hold p q → StepFailsAll Pass p q
+moves_fails : (p q : Free) → TakesUpOrCloses p.hold p q → StepFailsAll Pass p q
 moves_fails p q m =
     elim m.1 [
       | inl turns ↦

@@ -19,7 +19,7 @@ use Rattle.sync_rules.proofs.WorkLaws.{allowed_settling}
 use Rattle.sync_course.specs.declared.ends.LinkEnd.{LinkEnd}
 use Rattle.sync_course.specs.declared.ends.LinkEnd.TheVariants as end
 use Rattle.sync_course.specs.Events.{Event, Commit, Hear, Miss, Read, Break, Pass, batches_of}
-use Rattle.sync_course.specs.Free.{Begins, Free, FreeFrom, FreeStep, Hold, HoldStep, Holds, IsIdle, IsPlain, LinkMoves, Moves, Rests, Turns, TurnsToSend, first_free, holding, joined_by, spot_in}
+use Rattle.sync_course.specs.Free.{Begins, Free, FreeFrom, FreeStep, Hold, HoldStep, Holds, IsNothingUnderWay, IsPlain, LinkMoves, TakesUpOrCloses, Rests, TakesInHand, TurnsToSend, first_free, holding, joined_by, spot_in}
 use Rattle.sync_course.specs.Links.{Link, closed_from, link_of, without_redundant}
 use Rattle.sync_course.specs.LinkTurns.{Asks, Takes, Waits, Sends, Puts, Done, Doing, LinkStep, PassesItem, SendsNext, Spot, StepOf, TakesNext, heard_spot, next_take}
 use Rattle.sync_course.specs.Paths.{Path}
@@ -32,7 +32,7 @@ use Rattle.sync_course.proofs.RunLaws.{IsClosedFrom, IsOfJournal, cond_same, end
 
 -- by an event: nothing happened, or nothing that is told of, or what is in hand made a step
 pub from_cases : (clients : Meaning) (first : ℕ) (T : Event → Type 0) (hold : Hold) (e : Event) (p q : Free) → FreeFrom clients first hold e p q
-    → (q ≡ p → T Pass) → (Moves hold p q → T Pass) → (HoldStep clients first hold e p q → T e) → T e
+    → (q ≡ p → T Pass) → (TakesUpOrCloses hold p q → T Pass) → (HoldStep clients first hold e p q → T e) → T e
 from_cases clients first T hold (Commit b) p q s stays quiet holds = holds s
 from_cases clients first T hold (Hear on reply) p q s stays quiet holds = holds s
 from_cases clients first T hold (Miss on) p q s stays quiet holds = holds s
@@ -45,7 +45,7 @@ from_cases clients first T hold Pass p q s stays quiet holds =
     ]
 
 -- nothing that is told of leaves the facts
-pub moves_facts : (hold : Hold) (p q : Free) → Moves hold p q → q.facts ≡ p.facts
+pub moves_facts : (hold : Hold) (p q : Free) → TakesUpOrCloses hold p q → q.facts ≡ p.facts
 moves_facts hold p q m =
     elim m.1 [
       | inl turns ↦ ap (λ (x : Free). x.facts) turns.leads
@@ -169,17 +169,17 @@ pub record IsFreeSound (clients : Meaning) (first : ℕ) (p : Free) : Type 0 whe
   pub begun : IsBegunAt first p.hold (length p.links) p.facts
   pub counted : (i : ℕ) (link : Link) → slice_get p.links i ≡ Some link → IsCounted p.facts (first + i) (pending_in p.hold i) link
 
-pub idle_begun : (first links : ℕ) (f : Facts) (hold : Hold) → IsIdle hold → IsBegunAt first hold links f → f.begun ≡ first + links
+pub idle_begun : (first links : ℕ) (f : Facts) (hold : Hold) → IsNothingUnderWay hold → IsBegunAt first hold links f → f.begun ≡ first + links
 idle_begun first links f Rests calm b = b
 idle_begun first links f (Begins s) calm b = absurd calm
 idle_begun first links f (Holds n doing) calm b = b
 
-begun_idle : (first links : ℕ) (f : Facts) (hold : Hold) → IsIdle hold → f.begun ≡ first + links → IsBegunAt first hold links f
+begun_idle : (first links : ℕ) (f : Facts) (hold : Hold) → IsNothingUnderWay hold → f.begun ≡ first + links → IsBegunAt first hold links f
 begun_idle first links f Rests calm b = b
 begun_idle first links f (Begins s) calm b = absurd calm
 begun_idle first links f (Holds n doing) calm b = b
 
-idle_pends : (hold : Hold) (i : ℕ) → IsIdle hold → pending_in hold i ≡ []
+idle_pends : (hold : Hold) (i : ℕ) → IsNothingUnderWay hold → pending_in hold i ≡ []
 idle_pends Rests i calm = refl
 idle_pends (Begins s) i calm = absurd calm
 idle_pends (Holds n Asks) i calm = cond_same (nat_eq n i) []
@@ -212,12 +212,12 @@ module _ (go_on : StreamsGoOn) (join : RecordsJoin) (clients : Meaning) (first :
   sound_at p q same s = subst Sound (sym same) s
 
   -- where nothing is under way no link has anything to take
-  idle_counted : (p : Free) → IsIdle p.hold → Sound p → (i : ℕ) (link : Link) → slice_get p.links i ≡ Some link
+  idle_counted : (p : Free) → IsNothingUnderWay p.hold → Sound p → (i : ℕ) (link : Link) → slice_get p.links i ≡ Some link
       → IsCounted p.facts (first + i) [] link
   idle_counted p calm s i link at =
       subst (λ (its : List Item). IsCounted p.facts (first + i) its link) (idle_pends p.hold i calm) (s.counted i link at)
 
-  sound_turns : (p : Free) (hold : Hold) → IsIdle p.hold → IsIdle hold → Sound p → Sound (record p { hold = hold })
+  sound_turns : (p : Free) (hold : Hold) → IsNothingUnderWay p.hold → IsNothingUnderWay hold → Sound p → Sound (record p { hold = hold })
   sound_turns p hold calm then s = record {
     of_journal = s.of_journal;
     begun =
@@ -228,7 +228,7 @@ module _ (go_on : StreamsGoOn) (join : RecordsJoin) (clients : Meaning) (first :
         (idle_counted p calm s i link at);
   }
 
-  sound_to_send : (p : Free) (n now room : ℕ) → IsIdle p.hold → Sound p → Sound (record p { hold = Holds n (Sends now room) })
+  sound_to_send : (p : Free) (n now room : ℕ) → IsNothingUnderWay p.hold → Sound p → Sound (record p { hold = Holds n (Sends now room) })
   sound_to_send p n now room calm s = record {
     of_journal = s.of_journal;
     begun = idle_begun first (length p.links) p.facts p.hold calm s.begun;
@@ -237,7 +237,7 @@ module _ (go_on : StreamsGoOn) (join : RecordsJoin) (clients : Meaning) (first :
         (idle_counted p calm s i link at);
   }
 
-  sound_closes : (p : Free) → IsIdle p.hold → Sound p → Sound (record p { hold = Rests; links = without_redundant p.links })
+  sound_closes : (p : Free) → IsNothingUnderWay p.hold → Sound p → Sound (record p { hold = Rests; links = without_redundant p.links })
   sound_closes p calm s =
       let begun : p.facts.begun ≡ first + length p.links = idle_begun first (length p.links) p.facts p.hold calm s.begun in
       record {
@@ -248,7 +248,7 @@ module _ (go_on : StreamsGoOn) (join : RecordsJoin) (clients : Meaning) (first :
             ended_counted p.facts (first + i) p.links i link c (idle_counted p calm s i c.was c.at);
       }
 
-  moves_sound : (p q : Free) → Moves p.hold p q → Sound p → Sound q
+  moves_sound : (p q : Free) → TakesUpOrCloses p.hold p q → Sound p → Sound q
   moves_sound p q m s =
       elim m.1 [
         | inl turns ↦ sound_at q _ turns.leads (sound_turns p turns.hold m.0 turns.idle s)

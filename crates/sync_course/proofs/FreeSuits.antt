@@ -18,14 +18,14 @@ use Rattle.sync_rules.proofs.Continuing.{front_itself, front_then}
 use Rattle.sync_rules.proofs.StepLaws.{IsSettlingEntry, next_is_settling}
 use Rattle.sync_course.specs.Acts.{Act, AtFront, Does, Send, Fail, batches_in, events_of, next_bytes, sends_on}
 use Rattle.sync_course.specs.Events.{Event, Commit, Hear, Miss, Read, Break, Pass, batches_of}
-use Rattle.sync_course.specs.Free.{Begins, Free, FreeStep, Hold, HoldStep, Holds, IsPlain, LinkMoves, Moves, Rests, first_free, holding, joined_by, spot_in}
+use Rattle.sync_course.specs.Free.{Begins, Free, FreeStep, Hold, HoldStep, Holds, IsPlain, LinkMoves, TakesUpOrCloses, Rests, first_free, holding, joined_by, spot_in}
 use Rattle.sync_course.specs.Links.{Link, link_of, without_redundant}
 use Rattle.sync_course.specs.LinkTurns.{Asks, Takes, Waits, Sends, Puts, Done, Doing, SendsNext, Spot, StepOf, TakesNext, next_take, out_batch}
 use Rattle.sync_course.specs.Owing.{ActStep, Owing, paid}
 use Rattle.sync_course.specs.Paths.{Path}
 use Rattle.sync_course.specs.Pending.{pending}
 use Rattle.sync_course.specs.Story.{AllSuitNode, BeginsAsPlanned, FreeActs, MomentStands, SuitsNode, begun_by, heard_at}
-use Rattle.sync_course.specs.Suits.{IsCounted, Suits, heard_in}
+use Rattle.sync_course.specs.Suits.{IsCounted, SuitsCourse, heard_in}
 use Rattle.sync_course.proofs.ActLaws.{batches_in-append}
 use Rattle.sync_course.proofs.FreeSound.{IsBegunAt, IsFreeSound, added, first_free_sound, free_moves, free_sound, from_cases, link_step_begun, moves_facts, pending_in}
 use Rattle.sync_course.proofs.LiftLaws.{get_other, get_set, get_within}
@@ -48,7 +48,7 @@ joins_heard p q new same = λ i.
     subst (λ (l : List Link). IsFront (heard_at p i) (heard_in (slice_get l i))) (sym same)
     (more_heard p.links new i (slice_get p.links i) refl)
 
-moves_heard : (p q : Free) → Moves p.hold p q → FreeHeard p q
+moves_heard : (p q : Free) → TakesUpOrCloses p.hold p q → FreeHeard p q
 moves_heard p q m =
     elim m.1 [
       | inl turns ↦ same_heard p q (ap (λ (x : Free). x.links) turns.leads)
@@ -206,7 +206,7 @@ module _ (fronts : FrontsHaveFronts) (clients : Meaning) (first : ℕ) (plans : 
   takes_suit n (item.Skipped place type_byte len ∷ its) b p q s front c = absurd s
   takes_suit n (item.One place r ∷ its) b p q s front c =
       subst (SuitsNode clients first plans heard p.facts) (sym s.0)
-      (inr (inr (subst (Suits clients first [] heard p.facts) s.0 (takes_suits fronts clients first [] heard n (item.One place r ∷ its) b p q s front c))))
+      (inr (inr (subst (SuitsCourse clients first [] heard p.facts) s.0 (takes_suits fronts clients first [] heard n (item.One place r ∷ its) b p q s front c))))
 
   sends_suit : (n now room : ℕ) (b : List Entry) (p q : Spot) → SendsNext clients (first + n) now room b p q
       → SuitsNode clients first plans heard p.facts b

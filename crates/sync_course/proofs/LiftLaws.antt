@@ -10,8 +10,8 @@ use Rattle.sync_rules.specs.Clients.{Meaning}
 use Rattle.sync_rules.specs.Facts.{after_all, after_batches}
 use Rattle.sync_rules.specs.Legal.{Allowed, AllSettling}
 use Rattle.sync_rules.specs.Steps.{IsSettled}
-use Rattle.sync_course.specs.Events.{Event, Commit, Break, Pass, commits, Told}
-use Rattle.sync_course.specs.Paths.{Path, Runs, Breaks}
+use Rattle.sync_course.specs.Events.{Event, Commit, Break, Pass, commits, TellsEvents}
+use Rattle.sync_course.specs.Paths.{Path, RunsPath, BreaksPath}
 use Rattle.sync_course.proofs.PathLaws.{path_maps, path_one}
 use Rattle.sync_course.proofs.ToldLaws.{told_pass}
 use Rattle.sync_course.proofs.CallLaws.{breaks_commits, runs_commits, runs_quiet}
@@ -82,8 +82,8 @@ module _ (clients : Meaning) (terms : Terms) (n : ℕ) (place : Place) (within :
 
   module _ (Before After : List (List Entry) → Type 0) where
     unfoldable pub runs_lifted : (p q : Spot) (o o' : Outside) {next : List (List Entry)}
-        → Runs (LinkStep clients n (terms.first + n)) Before After p q o o' next
-        → Runs (RunStep clients terms) Before After (with_spot n p place) (with_spot n q place) o o' next
+        → RunsPath (LinkStep clients n (terms.first + n)) Before After p q o o' next
+        → RunsPath (RunStep clients terms) Before After (with_spot n p place) (with_spot n q place) o o' next
     runs_lifted p q o o' runs = record {
       events = runs.events;
       path = link_lifts p q runs.events runs.path;
@@ -92,8 +92,8 @@ module _ (clients : Meaning) (terms : Terms) (n : ℕ) (place : Place) (within :
       calls = runs.calls;
     }
 
-    pub breaks_lifted : (p : Spot) (o o' : Outside) → Breaks (LinkStep clients n (terms.first + n)) Before After p o o'
-        → Breaks (RunStep clients terms) Before After (with_spot n p place) o o'
+    pub breaks_lifted : (p : Spot) (o o' : Outside) → BreaksPath (LinkStep clients n (terms.first + n)) Before After p o o'
+        → BreaksPath (RunStep clients terms) Before After (with_spot n p place) o o'
     breaks_lifted p o o' breaks = record {
       to = with_spot n breaks.to place;
       next = breaks.next;
@@ -161,7 +161,7 @@ module _ (clients : Meaning) (terms : Terms) where
 
   module _ (Before After : List (List Entry) → Type 0) where
     abbrev pub Leads : Place → Place → Outside → Outside → Type 0
-    Leads p q o o' = Runs (RunStep clients terms) Before After p q o o' []
+    Leads p q o o' = RunsPath (RunStep clients terms) Before After p q o o' []
 
     -- a run settles its journal, at its begin
     pub runs_begun : (sessions : List Session) (bs : List (List Entry)) (p : Place) (o o' : Outside) → p.stage ≡ Settles sessions
@@ -186,13 +186,13 @@ module _ (clients : Meaning) (terms : Terms) where
     module _ (front others : List (List Entry)) (grows : (j : List (List Entry)) → Before j → After (j ++ front)) where
       pub breaks_begun : (sessions : List Session) (bs : List (List Entry)) (p : Place) (o o' : Outside) → p.stage ≡ Settles sessions
           → AllSettling clients p.facts bs → o'.links ≡ o.links → MakesAtMost (4 * length bs) o o' → bs ≡ front ++ others
-          → Breaks (RunStep clients terms) Before After p o o'
+          → BreaksPath (RunStep clients terms) Before After p o o'
       breaks_begun sessions bs p o o' settles settling same made parts =
           breaks_commits (RunStep clients terms) Before After bs front others parts grows p (record p { facts = after_batches p.facts bs }) o o' same made
           (settling_path sessions p bs settles settling)
 
     module _ (stays : (j : List (List Entry)) → Before j → After j) where
-      passes : (p q : Place) (o o' : Outside) → RunStep clients terms p Pass q → Told (Pass ∷ []) o o' → MakesAtMost 0 o o' → Leads p q o o'
+      passes : (p q : Place) (o o' : Outside) → RunStep clients terms p Pass q → TellsEvents (Pass ∷ []) o o' → MakesAtMost 0 o o' → Leads p q o o'
       passes p q o o' s told made = runs_quiet (RunStep clients terms) Before After stays p q Pass o o' refl s told made
 
       -- the journal is settled, at the begin
@@ -203,14 +203,14 @@ module _ (clients : Meaning) (terms : Terms) where
           passes p q o o (stage_at p q Pass (Settles sessions) settles (settled, refl)) (told_pass o o refl) (most_none 0 o)
 
       -- a session greeted; all sends of its greeting are told as one event
-      pub runs_greeted : (s : Session) (left : List Session) (p : Place) (o o' : Outside) → p.stage ≡ Greets s left → Told (Pass ∷ []) o o'
+      pub runs_greeted : (s : Session) (left : List Session) (p : Place) (o o' : Outside) → p.stage ≡ Greets s left → TellsEvents (Pass ∷ []) o o'
           → MakesAtMost 0 o o' → Leads p (attached s left p) o o'
       runs_greeted s left p o o' greets told made =
           passes p (attached s left p) o o' (stage_at p (attached s left p) Pass (Greets s left) greets refl) told made
 
       -- its greeting failed
       pub runs_ungreeted : (s : Session) (left : List Session) (p : Place) (o o' : Outside) → p.stage ≡ Greets s left
-          → Told (Break (length p.links) ∷ []) o o' → MakesAtMost 0 o o' → Leads p (unattached s left p) o o'
+          → TellsEvents (Break (length p.links) ∷ []) o o' → MakesAtMost 0 o o' → Leads p (unattached s left p) o o'
       runs_ungreeted s left p o o' greets told made =
           runs_quiet (RunStep clients terms) Before After stays p (unattached s left p) (Break (length p.links)) o o' refl
           (stage_at p (unattached s left p) (Break (length p.links)) (Greets s left) greets (refl, refl)) told made

@@ -18,7 +18,7 @@ use Rattle.sync_course.specs.Free.{Free, FreeStep, IsPlain, first_free, forget}
 use Rattle.sync_course.specs.Links.{Link}
 use Rattle.sync_course.specs.LinkTurns.{Asks, Takes, Waits, Sends, Puts, Done, Doing, SendsNext, Spot, StepOf, TakesNext}
 use Rattle.sync_course.specs.Paths.{Path}
-use Rattle.sync_course.specs.Story.{AllSuitNode, AllSuitPlanned, IsOfRun, begun_by}
+use Rattle.sync_course.specs.Story.{AllSuitNode, AllSuitPlanned, IsOfCourse, begun_by}
 use Rattle.sync_course.specs.Suits.{heard_on}
 use Rattle.sync_course.specs.Turns.{Attaches, Between, Broken, Ended, EndsTurn, GoesToNext, Greets, Place, RunStep, Settles, Stage, StageStep, Terms, TurnStep, Works, first_place, is_at_end, spot_of, turn_ended, with_spot}
 use Rattle.sync_course.proofs.FreeLaws.{run_is_free}
@@ -192,7 +192,7 @@ begun_front sessions done Ended b = b
 -- ---- as planned
 
 module _ (clients : Meaning) (first : ℕ) (begun plans : List Session) (front : IsFront begun plans) (heard : ℕ → List ℕ) where
-  one_planned : (f : Facts) (b : List Entry) → IsOfRun first begun heard f b → IsOfRun first plans heard f b
+  one_planned : (f : Facts) (b : List Entry) → IsOfCourse first begun heard f b → IsOfCourse first plans heard f b
   one_planned f (entry.Session s ∷ rest) is = record {
     link = is.link;
     on = is.on;

@@ -32,7 +32,7 @@ use Rattle.sync_course.proofs.LiftLaws.{get_other, get_set, get_within}
 use Rattle.sync_course.proofs.MoveLaws.{run_step_moves}
 use Rattle.sync_course.specs.Pending.{pending_at}
 use Rattle.sync_course.proofs.RunLaws.{AreLeft, IsSound, get_front, get_middle, step_sound}
-use Rattle.sync_course.specs.Suits.{AllSuit, IsCounted, Suits, heard_in, heard_on}
+use Rattle.sync_course.specs.Suits.{AllSuitCourse, IsCounted, SuitsCourse, heard_in, heard_on}
 
 -- ---- what was heard only grows
 
@@ -176,16 +176,16 @@ path_heard clients terms p q (e ∷ es) path = λ i.
 
 module _ (fronts : FrontsHaveFronts) (clients : Meaning) (first : ℕ) (sessions : List Session) (heard : ℕ → List ℕ) where
   abbrev Fit : Facts → List Event → Type 0
-  Fit f es = AllSuit clients first sessions heard f (batches_of es)
+  Fit f es = AllSuitCourse clients first sessions heard f (batches_of es)
 
   settling_entry_suits : (f : Facts) (e : Entry) (es : List Entry) → IsSettlingEntry e → IsSettlingBatch clients f (e ∷ es)
-      → Suits clients first sessions heard f (e ∷ es)
+      → SuitsCourse clients first sessions heard f (e ∷ es)
   settling_entry_suits f (entry.Judged id) es k s = s
   settling_entry_suits f (entry.Deliver id) es k s = s
   settling_entry_suits f (entry.Invalid id) es k s = s
   settling_entry_suits f _ es k s = absurd k
 
-  settling_suits : (f : Facts) (b : List Entry) → IsSettlingBatch clients f b → Suits clients first sessions heard f b
+  settling_suits : (f : Facts) (b : List Entry) → IsSettlingBatch clients f b → SuitsCourse clients first sessions heard f b
   settling_suits f [] s = absurd (omega arith)
   settling_suits f (e ∷ es) s = settling_entry_suits f e es (next_is_settling clients f e s.2.0) s
 
@@ -203,11 +203,11 @@ module _ (fronts : FrontsHaveFronts) (clients : Meaning) (first : ℕ) (sessions
       (get_front (c.done ++ r ∷ behind) later (length c.done) r (get_middle c.done behind r)))
 
   pub takes_suits : (n : ℕ) (its : List Item) (b : List Entry) (p q : Spot) → TakesNext clients (first + n) its b p q → IsFront p.link.heard (heard n)
-      → IsCounted p.facts (first + n) its p.link → Suits clients first sessions heard p.facts b
+      → IsCounted p.facts (first + n) its p.link → SuitsCourse clients first sessions heard p.facts b
   takes_suits n [] b p q s front c = absurd s
   takes_suits n (item.Skipped place type_byte len ∷ its) b p q s front c = absurd s
   takes_suits n (item.One place r ∷ its) b p q s front c =
-      subst (Suits clients first sessions heard p.facts) (sym s.0)
+      subst (SuitsCourse clients first sessions heard p.facts) (sym s.0)
       (record {
         link = n;
         on = refl;
@@ -216,9 +216,9 @@ module _ (fronts : FrontsHaveFronts) (clients : Meaning) (first : ℕ) (sessions
         so = refl;
       })
 
-  sends_suits : (n now room : ℕ) (b : List Entry) (p q : Spot) → SendsNext clients (first + n) now room b p q → Suits clients first sessions heard p.facts b
+  sends_suits : (n now room : ℕ) (b : List Entry) (p q : Spot) → SendsNext clients (first + n) now room b p q → SuitsCourse clients first sessions heard p.facts b
   sends_suits n now zero b p q s = absurd s
-  sends_suits n now (suc room) b p q s = subst (Suits clients first sessions heard p.facts) (sym s.is) (n, refl)
+  sends_suits n now (suc room) b p q s = subst (SuitsCourse clients first sessions heard p.facts) (sym s.is) (n, refl)
 
   link_suits : (n : ℕ) (doing : Doing) (e : Event) (p q : Spot) → StepOf clients n (first + n) doing e p q → IsFront p.link.heard (heard n)
       → IsCounted p.facts (first + n) (pending doing) p.link → Fit p.facts (e ∷ [])
@@ -247,14 +247,14 @@ module _ (fronts : FrontsHaveFronts) (clients : Meaning) (first : ℕ) (sessions
   next_suits n Done Pass p q t = tt
   next_suits n _ _ p q t = absurd t
 
-  all_suit_then : (f : Facts) (bs cs : List (List Entry)) → AllSuit clients first sessions heard f bs
-      → AllSuit clients first sessions heard (after_batches f bs) cs → AllSuit clients first sessions heard f (bs ++ cs)
+  all_suit_then : (f : Facts) (bs cs : List (List Entry)) → AllSuitCourse clients first sessions heard f bs
+      → AllSuitCourse clients first sessions heard (after_batches f bs) cs → AllSuitCourse clients first sessions heard f (bs ++ cs)
   all_suit_then f [] cs a b = b
   all_suit_then f (x ∷ bs) cs a b = (a.0, all_suit_then (after_all f x) bs cs a.1 b)
 
 module _ (go_on : StreamsGoOn) (join : RecordsJoin) (fronts : FrontsHaveFronts) (clients : Meaning) (terms : Terms) (sessions : List Session) (heard : ℕ → List ℕ) where
   abbrev FitsIn : Facts → List Event → Type 0
-  FitsIn f es = AllSuit clients terms.first sessions heard f (batches_of es)
+  FitsIn f es = AllSuitCourse clients terms.first sessions heard f (batches_of es)
 
   turn_suits : (n : ℕ) (doing : Doing) (o : Option Link) (e : Event) (p q : Place) → p.stage ≡ Works n doing → slice_get p.links n ≡ o
       → TurnStep clients terms n doing o e p q → ((i : ℕ) → IsFront (heard_on p i) (heard i)) → IsSound clients terms.first sessions p
@@ -277,7 +277,7 @@ module _ (go_on : StreamsGoOn) (join : RecordsJoin) (fronts : FrontsHaveFronts) 
   stage_suits (Attaches (x ∷ left)) (Commit b) p q is t grows s =
       let of : (done : List Session) × (sessions ≡ done ++ x ∷ left) = subst (AreLeft sessions) is s.left in
       let inside : In x sessions = subst (In x) (sym of.1) (In-append_right x of.0 (x ∷ left) (inl refl)) in
-      (subst (Suits clients terms.first sessions heard p.facts) (sym t.0) inside, tt)
+      (subst (SuitsCourse clients terms.first sessions heard p.facts) (sym t.0) inside, tt)
   stage_suits (Attaches []) Pass p q is t grows s = tt
   stage_suits (Greets x left) Pass p q is t grows s = tt
   stage_suits (Greets x left) (Break on) p q is t grows s = tt
@@ -296,7 +296,7 @@ module _ (go_on : StreamsGoOn) (join : RecordsJoin) (fronts : FrontsHaveFronts) 
       λ i. front_then (heard_on p i) (heard_on next i) (heard i) (run_step_heard clients terms p next e path.1 i) (from_next i) in
       let rest : FitsIn next.facts es =
       path_suits next q es path.2 grows (step_sound go_on join clients terms sessions p next e path.1 s) in
-      subst (AllSuit clients terms.first sessions heard p.facts) (sym (batches_of-append (e ∷ []) es))
+      subst (AllSuitCourse clients terms.first sessions heard p.facts) (sym (batches_of-append (e ∷ []) es))
       (all_suit_then fronts clients terms.first sessions heard p.facts (batches_of (e ∷ [])) (batches_of es)
       (stage_suits p.stage e p next refl path.1 from_here s)
       (subst (λ (f : Facts). FitsIn f es) (run_step_moves clients terms p next e path.1).facts rest))

@@ -5,17 +5,17 @@ use Rattle.std.proofs.lemmas.Bool.{cases_eq}
 use Rattle.outside.specs.declared.failed.Failed.{Failed}
 use Rattle.outside.specs.declared.host.Heard.{Heard}
 use Rattle.outside.specs.declared.host.Heard.TheVariants as answer
-use Rattle.outside.specs.Faults.{Rose, one_more}
-use Rattle.outside.specs.Host.{Grows, Hears, IsCaused, ReadsClock, Sends}
-use Rattle.outside.specs.Disk.{Becomes}
+use Rattle.outside.specs.Faults.{CountRose, one_more}
+use Rattle.outside.specs.Host.{GrowsReadings, HearsAnswer, IsAnswerCaused, ReadsClock, SendsOnLink}
+use Rattle.outside.specs.Disk.{RelatesTold}
 use Rattle.outside.specs.Links.{HeardOn, Links, Planned, changed_at, got, idle, ended, hear_reply}
 use Rattle.outside.specs.Planned.{AnswersAsPlanned, UsesPlan, UsesReading}
 use Rattle.outside.specs.Outside.{Outside, MakesAtMost}
 use Rattle.outside.proofs.CallCounts.{most_then}
 use Rattle.sync_rules.specs.declared.entries.Entry.{Entry}
 use Rattle.sync_course.specs.declared.TheConstants.{PIECE_LEN}
-use Rattle.sync_course.specs.Events.{Event, Commit, Hear, Miss, Read, Break, Pass, asked_event, batches_of, commits, readings_of, heard_by, heard_after, is_failure, has_failure, GrowsBy, PlansAfter, RoseIf, Through, Told, UpcomingAfter}
-use Rattle.sync_course.specs.Paths.{Runs, Breaks}
+use Rattle.sync_course.specs.Events.{Event, Commit, Hear, Miss, Read, Break, Pass, asked_event, batches_of, commits, readings_of, heard_by, heard_after, is_failure, has_failure, GrowsBy, PlansAfter, RoseIf, ChangesThrough, TellsEvents, UpcomingAfter}
+use Rattle.sync_course.specs.Paths.{RunsPath, BreaksPath}
 use Rattle.sync_course.proofs.PathLaws.{path_then}
 
 -- ---- lists of events
@@ -82,25 +82,25 @@ rose_then false false x y z first second = let f : x ≤ y = first in let s : y 
 
 -- ---- what is left
 
-through_then : {A : Type 0} (step : Event → A → A → Type 0) (es fs : List Event) (a b c : A) → Through step es a b → Through step fs b c
-    → Through step (es ++ fs) a c
-through_then step [] fs a b c first second = subst (λ x. Through step fs x c) first second
+through_then : {A : Type 0} (step : Event → A → A → Type 0) (es fs : List Event) (a b c : A) → ChangesThrough step es a b → ChangesThrough step fs b c
+    → ChangesThrough step (es ++ fs) a c
+through_then step [] fs a b c first second = subst (λ x. ChangesThrough step fs x c) first second
 through_then step (e ∷ es) fs a b c first second = (first.0, first.1, through_then step es fs first.0 b c first.2 second)
 
-becomes_stays : {A : Type 0} (R : A → A → Type 0) → ((x : A) → R x x) → (a b : Option A) → b ≡ a → Becomes R a b
+becomes_stays : {A : Type 0} (R : A → A → Type 0) → ((x : A) → R x x) → (a b : Option A) → b ≡ a → RelatesTold R a b
 becomes_stays R stays None None same = tt
 becomes_stays R stays None (Some b) same = cc
 becomes_stays R stays (Some a) None same = cc
 becomes_stays R stays (Some a) (Some b) same = let one : b ≡ a = cc in subst (λ x. R a x) (sym one) (stays a)
 
-becomes_map : {A : Type 0} (R S : A → A → Type 0) → ((x y : A) → R x y → S x y) → (a b : Option A) → Becomes R a b → Becomes S a b
+becomes_map : {A : Type 0} (R S : A → A → Type 0) → ((x y : A) → R x y → S x y) → (a b : Option A) → RelatesTold R a b → RelatesTold S a b
 becomes_map R S then None None becomes = tt
 becomes_map R S then None (Some b) becomes = becomes
 becomes_map R S then (Some a) None becomes = becomes
 becomes_map R S then (Some a) (Some b) becomes = then a b becomes
 
-left_then : {A : Type 0} (step : Event → A → A → Type 0) (es fs : List Event) (a b c : Option A) → Becomes (Through step es) a b
-    → Becomes (Through step fs) b c → Becomes (Through step (es ++ fs)) a c
+left_then : {A : Type 0} (step : Event → A → A → Type 0) (es fs : List Event) (a b c : Option A) → RelatesTold (ChangesThrough step es) a b
+    → RelatesTold (ChangesThrough step fs) b c → RelatesTold (ChangesThrough step (es ++ fs)) a c
 left_then step es fs None None None first second = tt
 left_then step es fs None None (Some c) first second = absurd second
 left_then step es fs None (Some b) c first second = absurd first
@@ -110,24 +110,24 @@ left_then step es fs (Some a) (Some b) (Some c) first second = through_then step
 
 -- one event, which leaves what it was
 left_same : {A : Type 0} (step : Event → A → A → Type 0) (e : Event) → ((x : A) → step e x x) → (a b : Option A) → b ≡ a
-    → Becomes (Through step (e ∷ [])) a b
-left_same step e stays a b same = becomes_stays (Through step (e ∷ [])) (λ x. (x, stays x, refl)) a b same
+    → RelatesTold (ChangesThrough step (e ∷ [])) a b
+left_same step e stays a b same = becomes_stays (ChangesThrough step (e ∷ [])) (λ x. (x, stays x, refl)) a b same
 
 -- and one that does not
 left_one : {A : Type 0} (R : A → A → Type 0) (step : Event → A → A → Type 0) (e : Event) → ((x y : A) → R x y → step e x y) → (a b : Option A)
-    → Becomes R a b → Becomes (Through step (e ∷ [])) a b
-left_one R step e then a b becomes = becomes_map R (Through step (e ∷ [])) (λ x y r. (y, then x y r, refl)) a b becomes
+    → RelatesTold R a b → RelatesTold (ChangesThrough step (e ∷ [])) a b
+left_one R step e then a b becomes = becomes_map R (ChangesThrough step (e ∷ [])) (λ x y r. (y, then x y r, refl)) a b becomes
 
-pub told_none : (o : Outside) → Told [] o o
+pub told_none : (o : Outside) → TellsEvents [] o o
 told_none o = record {
   heard = heard_none o.links.heard;
   readings = grows_none o.links.readings;
   faults = λ link. omega arith;
-  planned = becomes_stays (Through PlansAfter []) (λ x. refl) o.links.planned o.links.planned refl;
-  upcoming = becomes_stays (Through UpcomingAfter []) (λ x. refl) o.links.upcoming o.links.upcoming refl;
+  planned = becomes_stays (ChangesThrough PlansAfter []) (λ x. refl) o.links.planned o.links.planned refl;
+  upcoming = becomes_stays (ChangesThrough UpcomingAfter []) (λ x. refl) o.links.upcoming o.links.upcoming refl;
 }
 
-pub told_then : (es fs : List Event) (o o1 o2 : Outside) → Told es o o1 → Told fs o1 o2 → Told (es ++ fs) o o2
+pub told_then : (es fs : List Event) (o o1 o2 : Outside) → TellsEvents es o o1 → TellsEvents fs o1 o2 → TellsEvents (es ++ fs) o o2
 told_then es fs o o1 o2 first second = record {
   heard = second.heard ∙ ap (option_map (heard_after fs)) first.heard ∙ heard_then es fs o.links.heard;
   readings =
@@ -155,8 +155,8 @@ calls_add es fs next =
     omega (arith, both, first, all)
 
 module _ {P : Type 0} (step : P → Event → P → Type 0) (Before Between After : List (List Entry) → Type 0) where
-  unfoldable pub runs_then : (p q r : P) (o o1 o2 : Outside) {next : List (List Entry)} → Runs step Before Between p q o o1 []
-      → Runs step Between After q r o1 o2 next → Runs step Before After p r o o2 next
+  unfoldable pub runs_then : (p q r : P) (o o1 o2 : Outside) {next : List (List Entry)} → RunsPath step Before Between p q o o1 []
+      → RunsPath step Between After q r o1 o2 next → RunsPath step Before After p r o o2 next
   runs_then p q r o o1 o2 {next} first second = record {
     events = first.events ++ second.events;
     path = path_then step p q r first.events second.events first.path second.path;
@@ -171,8 +171,8 @@ module _ {P : Type 0} (step : P → Event → P → Type 0) (Before Between Afte
         (most_then (4 * length (batches_of first.events)) (4 * length (next ++ batches_of second.events)) o o1 o2 first.calls second.calls);
   }
 
-  pub breaks_then : (p q : P) (o o1 o2 : Outside) → Runs step Before Between p q o o1 [] → Breaks step Between After q o1 o2
-      → Breaks step Before After p o o2
+  pub breaks_then : (p q : P) (o o1 o2 : Outside) → RunsPath step Before Between p q o o1 [] → BreaksPath step Between After q o1 o2
+      → BreaksPath step Before After p o o2
   breaks_then p q o o1 o2 first second = record {
     to = second.to;
     next = second.next;
@@ -199,11 +199,11 @@ commits_succeed : (link : ℕ) (bs : List (List Entry)) → has_failure link (co
 commits_succeed link [] = refl
 commits_succeed link (b ∷ bs) = commits_succeed link bs
 
-commits_plan : (bs : List (List Entry)) (plans : ℕ → List Planned) → Through PlansAfter (commits bs) plans plans
+commits_plan : (bs : List (List Entry)) (plans : ℕ → List Planned) → ChangesThrough PlansAfter (commits bs) plans plans
 commits_plan [] plans = refl
 commits_plan (b ∷ bs) plans = (plans, refl, commits_plan bs plans)
 
-commits_upcoming : (bs : List (List Entry)) (readings : List ℕ) → Through UpcomingAfter (commits bs) readings readings
+commits_upcoming : (bs : List (List Entry)) (readings : List ℕ) → ChangesThrough UpcomingAfter (commits bs) readings readings
 commits_upcoming [] readings = refl
 commits_upcoming (b ∷ bs) readings = (readings, refl, commits_upcoming bs readings)
 
@@ -212,7 +212,7 @@ option_map_same f same None = refl
 option_map_same f same (Some x) = ap (λ y. Some y) (sym (same x))
 
 -- batches that were committed while the links stayed as they were
-pub told_commits : (bs : List (List Entry)) (o o' : Outside) → o'.links ≡ o.links → Told (commits bs) o o'
+pub told_commits : (bs : List (List Entry)) (o o' : Outside) → o'.links ≡ o.links → TellsEvents (commits bs) o o'
 told_commits bs o o' same = record {
   heard = ap (λ (l : Links). l.heard) same ∙ option_map_same (heard_after (commits bs)) (commits_heard bs) o.links.heard;
   readings =
@@ -222,14 +222,14 @@ told_commits bs o o' same = record {
       subst (λ (l : Links). RoseIf (has_failure link (commits bs)) (o.links.faults link) (l.faults link)) (sym same)
       (subst (λ (b : Bool). RoseIf b (o.links.faults link) (o.links.faults link)) (sym (commits_succeed link bs)) (le_refl (o.links.faults link)));
   planned =
-      becomes_stays (Through PlansAfter (commits bs)) (commits_plan bs) o.links.planned o'.links.planned (ap (λ (l : Links). l.planned) same);
+      becomes_stays (ChangesThrough PlansAfter (commits bs)) (commits_plan bs) o.links.planned o'.links.planned (ap (λ (l : Links). l.planned) same);
   upcoming =
-      becomes_stays (Through UpcomingAfter (commits bs)) (commits_upcoming bs) o.links.upcoming o'.links.upcoming
+      becomes_stays (ChangesThrough UpcomingAfter (commits bs)) (commits_upcoming bs) o.links.upcoming o'.links.upcoming
       (ap (λ (l : Links). l.upcoming) same);
 }
 
 -- nothing that is told of
-pub told_pass : (o o' : Outside) → o'.links ≡ o.links → Told (Pass ∷ []) o o'
+pub told_pass : (o o' : Outside) → o'.links ≡ o.links → TellsEvents (Pass ∷ []) o o'
 told_pass o o' same = record {
   heard = (told_commits [] o o' same).heard;
   readings = (told_commits [] o o' same).readings;
@@ -246,18 +246,18 @@ other_faults n link old new later others =
       | inr other ↦ le_of_eq (sym (others link other))
     ]
 
-failed_faults : (n link : ℕ) (old new : ℕ → ℕ) → Rose (old n) (new n) → old n ≤ new n → ((i : ℕ) → (i ≡ n → ⊥) → new i ≡ old i)
+failed_faults : (n link : ℕ) (old new : ℕ → ℕ) → CountRose (old n) (new n) → old n ≤ new n → ((i : ℕ) → (i ≡ n → ⊥) → new i ≡ old i)
     → RoseIf (nat_eq n link || false) (old link) (new link)
 failed_faults n link old new rose later others =
     elim (nat_eq n link) as (λ b. nat_eq n link ≡ b → RoseIf (b || false) (old link) (new link)) [
-      | true ↦ λ is. subst (λ (i : ℕ). Rose (old i) (new i)) (eqb-true n link is) rose
+      | true ↦ λ is. subst (λ (i : ℕ). CountRose (old i) (new i)) (eqb-true n link is) rose
       | false ↦ λ is. other_faults n link old new later others
     ] refl
 
 -- a link was asked
 pub told_asked : (link : ℕ) (given : Heard) (buf : List ℕ) (o o' : Outside) → length buf ≡ PIECE_LEN
-    → Hears link given buf o.links o'.links → IsCaused given (length buf) (o.links.faults link) (o'.links.faults link)
-    → Told (asked_event link given buf ∷ []) o o'
+    → HearsAnswer link given buf o.links o'.links → IsAnswerCaused given (length buf) (o.links.faults link) (o'.links.faults link)
+    → TellsEvents (asked_event link given buf ∷ []) o o'
 told_asked link (answer.Got n) buf o o' whole hears caused = record {
   heard = hears.heard ∙ ap (λ (room : ℕ). option_map (changed_at link (hear_reply room (got (take n buf)))) o.links.heard) whole;
   readings = subst (λ (r : Option (List ℕ)). GrowsBy [] o.links.readings r) (sym hears.same_readings) (grows_none o.links.readings);
@@ -299,13 +299,13 @@ told_asked link answer.Failed buf o o' whole hears caused = record {
   upcoming = left_same UpcomingAfter (Miss link) (λ x. refl) o.links.upcoming o'.links.upcoming hears.same_upcoming;
 }
 
-grows_one : (now : ℕ) (old new : Option (List ℕ)) → Grows now old new → GrowsBy (now ∷ []) old new
+grows_one : (now : ℕ) (old new : Option (List ℕ)) → GrowsReadings now old new → GrowsBy (now ∷ []) old new
 grows_one now old None grows = tt
 grows_one now None (Some new) grows = absurd grows
 grows_one now (Some old) (Some new) grows = grows
 
 -- the clock was read
-pub told_read : (link now : ℕ) (o o' : Outside) → ReadsClock now o.links o'.links → Told (Read link now ∷ []) o o'
+pub told_read : (link now : ℕ) (o o' : Outside) → ReadsClock now o.links o'.links → TellsEvents (Read link now ∷ []) o o'
 told_read link now o o' reads = record {
   heard = reads.same_heard ∙ option_map_same (heard_after []) (λ heard. refl) o.links.heard;
   readings = grows_one now o.links.readings o'.links.readings reads.readings;
@@ -315,7 +315,7 @@ told_read link now o o' reads = record {
 }
 
 -- all bytes were sent
-pub told_sent : (link : ℕ) (bytes : List ℕ) (o o' : Outside) → Sends link bytes (Ok tt) o.links o'.links → Told (Pass ∷ []) o o'
+pub told_sent : (link : ℕ) (bytes : List ℕ) (o o' : Outside) → SendsOnLink link bytes (Ok tt) o.links o'.links → TellsEvents (Pass ∷ []) o o'
 told_sent link bytes o o' sends = record {
   heard = sends.same_heard ∙ option_map_same (heard_after []) (λ heard. refl) o.links.heard;
   readings = subst (λ (r : Option (List ℕ)). GrowsBy [] o.links.readings r) (sym sends.same_readings) (grows_none o.links.readings);
@@ -325,8 +325,8 @@ told_sent link bytes o o' sends = record {
 }
 
 -- a send failed
-pub told_broken : (link : ℕ) (bytes : List ℕ) (why : Failed) (o o' : Outside) → Sends link bytes (Err why) o.links o'.links
-    → Told (Break link ∷ []) o o'
+pub told_broken : (link : ℕ) (bytes : List ℕ) (why : Failed) (o o' : Outside) → SendsOnLink link bytes (Err why) o.links o'.links
+    → TellsEvents (Break link ∷ []) o o'
 told_broken link bytes why o o' sends = record {
   heard = sends.same_heard ∙ option_map_same (heard_after []) (λ heard. refl) o.links.heard;
   readings = subst (λ (r : Option (List ℕ)). GrowsBy [] o.links.readings r) (sym sends.same_readings) (grows_none o.links.readings);
@@ -336,27 +336,27 @@ told_broken link bytes why o o' sends = record {
 }
 
 -- nothing that is told of, before what is told
-pub told_behind_pass : (es : List Event) (o o' : Outside) → Told (Pass ∷ es) o o' → Told es o o'
+pub told_behind_pass : (es : List Event) (o o' : Outside) → TellsEvents (Pass ∷ es) o o' → TellsEvents es o o'
 told_behind_pass es o o' told = record {
   heard = told.heard;
   readings = told.readings;
   faults = told.faults;
   planned =
-      becomes_map (Through PlansAfter (Pass ∷ es)) (Through PlansAfter es) (λ x y t. subst (λ z. Through PlansAfter es z y) t.1 t.2) o.links.planned
+      becomes_map (ChangesThrough PlansAfter (Pass ∷ es)) (ChangesThrough PlansAfter es) (λ x y t. subst (λ z. ChangesThrough PlansAfter es z y) t.1 t.2) o.links.planned
       o'.links.planned told.planned;
   upcoming =
-      becomes_map (Through UpcomingAfter (Pass ∷ es)) (Through UpcomingAfter es) (λ x y t. subst (λ z. Through UpcomingAfter es z y) t.1 t.2)
+      becomes_map (ChangesThrough UpcomingAfter (Pass ∷ es)) (ChangesThrough UpcomingAfter es) (λ x y t. subst (λ z. ChangesThrough UpcomingAfter es z y) t.1 t.2)
       o.links.upcoming o'.links.upcoming told.upcoming;
 }
 
 -- two sends of a greeting, told as one event: both went out, or the second one failed
-pub told_greeted : (link : ℕ) (first second : List ℕ) (o mid o' : Outside) → Sends link first (Ok tt) o.links mid.links
-    → Sends link second (Ok tt) mid.links o'.links → Told (Pass ∷ []) o o'
+pub told_greeted : (link : ℕ) (first second : List ℕ) (o mid o' : Outside) → SendsOnLink link first (Ok tt) o.links mid.links
+    → SendsOnLink link second (Ok tt) mid.links o'.links → TellsEvents (Pass ∷ []) o o'
 told_greeted link first second o mid o' one two =
     told_behind_pass (Pass ∷ []) o o' (told_then (Pass ∷ []) (Pass ∷ []) o mid o' (told_sent link first o mid one) (told_sent link second mid o' two))
 
-pub told_ungreeted : (link : ℕ) (first second : List ℕ) (why : Failed) (o mid o' : Outside) → Sends link first (Ok tt) o.links mid.links
-    → Sends link second (Err why) mid.links o'.links → Told (Break link ∷ []) o o'
+pub told_ungreeted : (link : ℕ) (first second : List ℕ) (why : Failed) (o mid o' : Outside) → SendsOnLink link first (Ok tt) o.links mid.links
+    → SendsOnLink link second (Err why) mid.links o'.links → TellsEvents (Break link ∷ []) o o'
 told_ungreeted link first second why o mid o' one two =
     told_behind_pass (Break link ∷ []) o o'
     (told_then (Pass ∷ []) (Break link ∷ []) o mid o' (told_sent link first o mid one) (told_broken link second why mid o' two))

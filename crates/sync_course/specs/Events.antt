@@ -3,8 +3,8 @@ use Rattle.std.specs.Prelude.{◌≡◌, ◌⊎◌, ℕ, ◌≤◌, Bool, true, 
 use Rattle.std.specs.Option.{option_map}
 use Rattle.outside.specs.declared.host.Heard.{Heard}
 use Rattle.outside.specs.declared.host.Heard.TheVariants as answer
-use Rattle.outside.specs.Disk.{Becomes}
-use Rattle.outside.specs.Faults.{Rose}
+use Rattle.outside.specs.Disk.{RelatesTold}
+use Rattle.outside.specs.Faults.{CountRose}
 use Rattle.outside.specs.Links.{Reply, got, idle, ended, HeardOn, Planned, hear_reply, hear_failure, changed_at}
 use Rattle.outside.specs.Outside.{Outside}
 use Rattle.outside.specs.Planned.{UsesPlan, UsesReading}
@@ -77,15 +77,15 @@ GrowsBy more (Some old) (Some new) = new ≡ old ++ more
 
 -- a count of failures did not fall, and it rose where a call failed
 abbrev pub RoseIf : Bool → ℕ → ℕ → Type 0
-RoseIf true before after = Rose before after
+RoseIf true before after = CountRose before after
 RoseIf false before after = before ≤ after
 
 -- ---- what is left of what was planned
 
 -- something changes event by event
-abbrev pub Through : {A : Type 0} → (Event → A → A → Type 0) → List Event → A → A → Type 0
-Through step [] old new = new ≡ old
-Through {A} step (e ∷ es) old new = (next : A) × step e old next × Through step es next new
+abbrev pub ChangesThrough : {A : Type 0} → (Event → A → A → Type 0) → List Event → A → A → Type 0
+ChangesThrough step [] old new = new ≡ old
+ChangesThrough {A} step (e ∷ es) old new = (next : A) × step e old next × ChangesThrough step es next new
 
 -- an answer is what its link's plan had next, which is used up; so is a failure, or no plan had it
 abbrev pub PlansAfter : Event → (ℕ → List Planned) → (ℕ → List Planned) → Type 0
@@ -101,9 +101,9 @@ UpcomingAfter _ old new = new ≡ old
 -- What an object tells after these events: what was heard and the readings grew by what the events say, wherever they are told,
 -- and the count of a link's failures rose where an event says that a call of it failed; and where it tells what its links and its
 -- clock are yet going to answer, the events used that up in order, and the rest is left.
-pub record Told (events : List Event) (old new : Outside) : Type 0 where
+pub record TellsEvents (events : List Event) (old new : Outside) : Type 0 where
   pub heard : new.links.heard ≡ option_map (heard_after events) old.links.heard
   pub readings : GrowsBy (readings_of events) old.links.readings new.links.readings
   pub faults : (link : ℕ) → RoseIf (has_failure link events) (old.links.faults link) (new.links.faults link)
-  pub planned : Becomes (Through PlansAfter events) old.links.planned new.links.planned
-  pub upcoming : Becomes (Through UpcomingAfter events) old.links.upcoming new.links.upcoming
+  pub planned : RelatesTold (ChangesThrough PlansAfter events) old.links.planned new.links.planned
+  pub upcoming : RelatesTold (ChangesThrough UpcomingAfter events) old.links.upcoming new.links.upcoming

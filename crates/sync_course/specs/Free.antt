@@ -41,12 +41,12 @@ IsPlain (entry.Author m ∷ []) = Unit {0}
 IsPlain _ = ⊥
 
 -- nothing is under way
-abbrev pub IsIdle : Hold → Type 0
-IsIdle Rests = Unit {0}
-IsIdle (Holds n Asks) = Unit {0}
-IsIdle (Holds n Waits) = Unit {0}
-IsIdle (Holds n Done) = Unit {0}
-IsIdle _ = ⊥
+abbrev pub IsNothingUnderWay : Hold → Type 0
+IsNothingUnderWay Rests = Unit {0}
+IsNothingUnderWay (Holds n Asks) = Unit {0}
+IsNothingUnderWay (Holds n Waits) = Unit {0}
+IsNothingUnderWay (Holds n Done) = Unit {0}
+IsNothingUnderWay _ = ⊥
 
 -- ---- where each step leads
 
@@ -65,8 +65,8 @@ joined_by s stands p = record p { hold = Rests; links = p.links ++ link_of s sta
 -- ---- the steps
 
 -- the journal is settled, or goes on by a plain entry
-abbrev pub AddsTo : Meaning → List Entry → Free → Free → Type 0
-AddsTo clients batch p q =
+abbrev pub SettlesOrAdds : Meaning → List Entry → Free → Free → Type 0
+SettlesOrAdds clients batch p q =
     (IsSettlingBatch clients p.facts batch ⊎ (IsPlain batch × Allowed clients p.facts batch))
     × (q ≡ record p { facts = after_all p.facts batch })
 
@@ -78,9 +78,9 @@ pub record BeginsSession (clients : Meaning) (batch : List Entry) (p q : Free) :
   pub leads : q ≡ record p { hold = Begins session; facts = after_all p.facts batch }
 
 -- nothing or an idle link is taken in hand
-pub record Turns (p q : Free) : Type 0 where
+pub record TakesInHand (p q : Free) : Type 0 where
   pub hold : Hold
-  pub idle : IsIdle hold
+  pub idle : IsNothingUnderWay hold
   pub leads : q ≡ record p { hold = hold }
 
 -- a link that is not closed is, to send what is due at this reading
@@ -93,8 +93,8 @@ pub record TurnsToSend (p q : Free) : Type 0 where
   pub leads : q ≡ record p { hold = Holds number (Sends now MAX_OUTPUTS) }
 
 -- where nothing is under way: another link is taken in hand, or redundant ones are closed
-abbrev pub Moves : Hold → Free → Free → Type 0
-Moves hold p q = IsIdle hold × (Turns p q ⊎ (TurnsToSend p q ⊎ (q ≡ record p { hold = Rests; links = without_redundant p.links })))
+abbrev pub TakesUpOrCloses : Hold → Free → Free → Type 0
+TakesUpOrCloses hold p q = IsNothingUnderWay hold × (TakesInHand p q ⊎ (TurnsToSend p q ⊎ (q ≡ record p { hold = Rests; links = without_redundant p.links })))
 
 -- a step of the link that is in hand, whether or not the turn moved so far
 pub record LinkMoves (clients : Meaning) (first n : ℕ) (doing : Doing) (e : Event) (p q : Free) : Type 0 where
@@ -107,7 +107,7 @@ pub record LinkMoves (clients : Meaning) (first n : ℕ) (doing : Doing) (e : Ev
 
 -- by what is in hand, an event
 abbrev pub HoldStep : Meaning → ℕ → Hold → Event → Free → Free → Type 0
-HoldStep clients first Rests (Commit batch) p q = AddsTo clients batch p q ⊎ BeginsSession clients batch p q
+HoldStep clients first Rests (Commit batch) p q = SettlesOrAdds clients batch p q ⊎ BeginsSession clients batch p q
 HoldStep clients first (Begins s) Pass p q = q ≡ joined_by s end.Going p
 HoldStep clients first (Begins s) (Break on) p q = (on ≡ length p.links) × (q ≡ joined_by s end.Failed p)
 HoldStep clients first (Holds n doing) e p q = LinkMoves clients first n doing e p q
@@ -115,7 +115,7 @@ HoldStep clients first _ _ p q = ⊥
 
 -- the same; or nothing that is told of: the place stays, or something else is taken in hand
 abbrev pub FreeFrom : Meaning → ℕ → Hold → Event → Free → Free → Type 0
-FreeFrom clients first hold Pass p q = (q ≡ p) ⊎ (Moves hold p q ⊎ HoldStep clients first hold Pass p q)
+FreeFrom clients first hold Pass p q = (q ≡ p) ⊎ (TakesUpOrCloses hold p q ⊎ HoldStep clients first hold Pass p q)
 FreeFrom clients first hold e p q = HoldStep clients first hold e p q
 
 -- a step of a node, whose first link has this session

@@ -2,7 +2,7 @@
 use Rattle.std.specs.Prelude.{◌≡◌, ℕ, ◌*◌, List, [], ◌∷◌, ◌++◌, length}
 use Rattle.outside.specs.Outside.{Outside, MakesAtMost}
 use Rattle.sync_rules.specs.declared.entries.Entry.{Entry}
-use Rattle.sync_course.specs.Events.{Event, batches_of, commits, Told}
+use Rattle.sync_course.specs.Events.{Event, batches_of, commits, TellsEvents}
 
 -- from one place by these events to another; so also by acts
 abbrev pub Path : {E P : Type 0} → (P → E → P → Type 0) → P → List E → P → Type 0
@@ -12,23 +12,23 @@ Path {P} step from (e ∷ es) to = (next : P) × step from e next × Path step n
 -- What a call did: events that are told, and that lead from one place to another. Where the journal was j before, as `Before`
 -- says, it is j with the batches of the events afterwards, as `After` says. Each of these batches took at most four calls of the
 -- disk, where those are told; so did each of some that were next.
-pub record Runs {P : Type 0} (step : P → Event → P → Type 0) (Before After : List (List Entry) → Type 0) (from to : P) (old new : Outside) (next : List (List Entry)) : Type 0 where
+pub record RunsPath {P : Type 0} (step : P → Event → P → Type 0) (Before After : List (List Entry) → Type 0) (from to : P) (old new : Outside) (next : List (List Entry)) : Type 0 where
   pub events : List Event
   pub path : Path step from events to
-  pub told : Told events old new
+  pub told : TellsEvents events old new
   pub journal : (j : List (List Entry)) → Before j → After (j ++ batches_of events)
   pub calls : MakesAtMost (4 * length (next ++ batches_of events)) old new
 
 -- what a call did that committed so many batches
-pub record Counts {P : Type 0} (step : P → Event → P → Type 0) (Before After : List (List Entry) → Type 0) (from to : P) (old new : Outside) (count : ℕ) : Type 0 where
-  pub runs : Runs step Before After from to old new []
+pub record CountsBatches {P : Type 0} (step : P → Event → P → Type 0) (Before After : List (List Entry) → Type 0) (from to : P) (old new : Outside) (count : ℕ) : Type 0 where
+  pub runs : RunsPath step Before After from to old new []
   pub counts : length (batches_of runs.events) ≡ count
 
 -- What a call did that was broken off: it led to some place. These batches were to be committed next, and it was broken off in one
 -- of them or behind them.
-pub record Breaks {P : Type 0} (step : P → Event → P → Type 0) (Before After : List (List Entry) → Type 0) (from : P) (old new : Outside) : Type 0 where
+pub record BreaksPath {P : Type 0} (step : P → Event → P → Type 0) (Before After : List (List Entry) → Type 0) (from : P) (old new : Outside) : Type 0 where
   pub to : P
   pub next : List (List Entry)
   pub beyond : P
   pub goes_on : Path step to (commits next) beyond
-  pub runs : Runs step Before After from to old new next
+  pub runs : RunsPath step Before After from to old new next

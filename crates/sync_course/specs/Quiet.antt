@@ -7,7 +7,7 @@ use Rattle.sync_rules.specs.Steps.{IsSettled}
 use Rattle.sync_course.specs.Events.{Event, Hear, Miss, Read}
 use Rattle.sync_course.specs.Links.{Link, is_going, is_sent_to}
 use Rattle.sync_course.specs.LinkTurns.{IsNothingDue}
-use Rattle.sync_course.specs.Suits.{IsTaken, keeps_all}
+use Rattle.sync_course.specs.Suits.{AreRecordsTaken, keeps_all}
 use Rattle.sync_course.specs.Turns.{Place, Terms}
 
 -- the last reading that was made for a link
@@ -53,4 +53,4 @@ pub record EndsQuiet (clients : Meaning) (terms : Terms) (events : List Event) (
   pub idle : (i : ℕ) (link : Link) → slice_get p.links i ≡ Some link → is_going link.stands ≡ true → terms.quiet ≤ idle_answers i events
   pub nothing_due : (i : ℕ) (link : Link) → slice_get p.links i ≡ Some link → is_sent_to link.stands ≡ true
       → IsQuietAt clients p.facts (terms.first + i) (last_reading i events)
-  pub all_taken : (i : ℕ) (link : Link) → slice_get p.links i ≡ Some link → keeps_all link.stands ≡ true → IsTaken p.facts (terms.first + i) link
+  pub all_taken : (i : ℕ) (link : Link) → slice_get p.links i ≡ Some link → keeps_all link.stands ≡ true → AreRecordsTaken p.facts (terms.first + i) link

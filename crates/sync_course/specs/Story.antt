@@ -45,14 +45,14 @@ pub record BeginsAsPlanned (first : ℕ) (plans : List Session) (f : Facts) (s :
 
 -- what a run adds beside settling: the session of the next link; the next record heard on a link, taken; or an output of the
 -- session of a link. The first link has this session
-abbrev pub IsOfRun : ℕ → List Session → (ℕ → List ℕ) → Facts → List Entry → Type 0
-IsOfRun first plans heard f (entry.Session s ∷ rest) = BeginsAsPlanned first plans f s
-IsOfRun first plans heard f (entry.Take s k ∷ rest) = TakesHeard first heard f s k rest
-IsOfRun first plans heard f (entry.Out s now what ∷ rest) = (link : ℕ) × (s ≡ first + link)
-IsOfRun first plans heard f _ = ⊥
+abbrev pub IsOfCourse : ℕ → List Session → (ℕ → List ℕ) → Facts → List Entry → Type 0
+IsOfCourse first plans heard f (entry.Session s ∷ rest) = BeginsAsPlanned first plans f s
+IsOfCourse first plans heard f (entry.Take s k ∷ rest) = TakesHeard first heard f s k rest
+IsOfCourse first plans heard f (entry.Out s now what ∷ rest) = (link : ℕ) × (s ≡ first + link)
+IsOfCourse first plans heard f _ = ⊥
 
 abbrev pub SuitsPlanned : Meaning → ℕ → List Session → (ℕ → List ℕ) → Facts → List Entry → Type 0
-SuitsPlanned clients first plans heard f batch = IsSettlingBatch clients f batch ⊎ IsOfRun first plans heard f batch
+SuitsPlanned clients first plans heard f batch = IsSettlingBatch clients f batch ⊎ IsOfCourse first plans heard f batch
 
 abbrev pub AllSuitPlanned : Meaning → ℕ → List Session → (ℕ → List ℕ) → Facts → List (List Entry) → Type 0
 AllSuitPlanned clients first plans heard f [] = Unit {0}

@@ -34,19 +34,19 @@ pub record TakesHeard (first : ℕ) (heard : ℕ → List ℕ) (f : Facts) (sess
 
 -- a batch that suits the run: it settles; one of the run's sessions begins; the next record heard on a link is taken; or it is an
 -- output of the session of a link. The first link has this session
-abbrev pub Suits : Meaning → ℕ → List Session → (ℕ → List ℕ) → Facts → List Entry → Type 0
-Suits clients first sessions heard f [] = ⊥
-Suits clients first sessions heard f (entry.Session s ∷ rest) = In s sessions
-Suits clients first sessions heard f (entry.Take s k ∷ rest) = TakesHeard first heard f s k rest
-Suits clients first sessions heard f (entry.Out s now what ∷ rest) = (link : ℕ) × (s ≡ first + link)
-Suits clients first sessions heard f (entry.Judged id ∷ rest) = IsSettlingBatch clients f (entry.Judged id ∷ rest)
-Suits clients first sessions heard f (entry.Deliver id ∷ rest) = IsSettlingBatch clients f (entry.Deliver id ∷ rest)
-Suits clients first sessions heard f (entry.Invalid id ∷ rest) = IsSettlingBatch clients f (entry.Invalid id ∷ rest)
-Suits clients first sessions heard f (_ ∷ rest) = ⊥
+abbrev pub SuitsCourse : Meaning → ℕ → List Session → (ℕ → List ℕ) → Facts → List Entry → Type 0
+SuitsCourse clients first sessions heard f [] = ⊥
+SuitsCourse clients first sessions heard f (entry.Session s ∷ rest) = In s sessions
+SuitsCourse clients first sessions heard f (entry.Take s k ∷ rest) = TakesHeard first heard f s k rest
+SuitsCourse clients first sessions heard f (entry.Out s now what ∷ rest) = (link : ℕ) × (s ≡ first + link)
+SuitsCourse clients first sessions heard f (entry.Judged id ∷ rest) = IsSettlingBatch clients f (entry.Judged id ∷ rest)
+SuitsCourse clients first sessions heard f (entry.Deliver id ∷ rest) = IsSettlingBatch clients f (entry.Deliver id ∷ rest)
+SuitsCourse clients first sessions heard f (entry.Invalid id ∷ rest) = IsSettlingBatch clients f (entry.Invalid id ∷ rest)
+SuitsCourse clients first sessions heard f (_ ∷ rest) = ⊥
 
-abbrev pub AllSuit : Meaning → ℕ → List Session → (ℕ → List ℕ) → Facts → List (List Entry) → Type 0
-AllSuit clients first sessions heard f [] = Unit {0}
-AllSuit clients first sessions heard f (b ∷ bs) = Suits clients first sessions heard f b × AllSuit clients first sessions heard (after_all f b) bs
+abbrev pub AllSuitCourse : Meaning → ℕ → List Session → (ℕ → List ℕ) → Facts → List (List Entry) → Type 0
+AllSuitCourse clients first sessions heard f [] = Unit {0}
+AllSuitCourse clients first sessions heard f (b ∷ bs) = SuitsCourse clients first sessions heard f b × AllSuitCourse clients first sessions heard (after_all f b) bs
 
 -- ---- the records that were taken
 
@@ -66,5 +66,5 @@ pub record IsCounted (f : Facts) (session : ℕ) (its : List Item) (link : Link)
   pub whole : keeps_all link.stands ≡ true → dropped ≡ []
 
 -- All records that were heard on a link were taken on its session.
-abbrev pub IsTaken : Facts → ℕ → Link → Type 0
-IsTaken f session link = takes_of f.takes session ≡ length (records link.heard)
+abbrev pub AreRecordsTaken : Facts → ℕ → Link → Type 0
+AreRecordsTaken f session link = takes_of f.takes session ≡ length (records link.heard)

@@ -4,7 +4,7 @@ use Rattle.std.specs.List.{list_all}
 use Rattle.outside.specs.Files.{Two, File}
 use Rattle.outside.specs.Links.{Links, sent_of}
 use Rattle.outside.specs.Outside.{Outside}
-use Rattle.outside.specs.Runs.{IsFront, Told, answers_at}
+use Rattle.outside.specs.Runs.{IsFront, TellsAll, answers_at}
 use Rattle.outside.proofs.RunLaws.{front_then}
 use Rattle.outside.proofs.CallSteps.{moments_map}
 use Rattle.record_grammar.specs.Spelling.{spelled}
@@ -22,14 +22,14 @@ use Rattle.sync_rules.proofs.OutputLaws.{silent_adds_nothing}
 use Rattle.sync_rules.proofs.StepKinds.{all_settling_only}
 use Rattle.sync_store.specs.Commits.{needed}
 use Rattle.sync_store.specs.Store.{StoreValue}
-use Rattle.sync_store.specs.Fitting.{Fits, FitsSome}
-use Rattle.sync_store.specs.Moments.{IsBetween, JournalMoment, Leads}
+use Rattle.sync_store.specs.Fitting.{FitsFiles, FitsSome}
+use Rattle.sync_store.specs.Moments.{IsBetween, JournalMoment, LeadsTo}
 use Rattle.sync_store.specs.Ready.{IsReady}
 use Rattle.sync_store.specs.Runs.{AddsBatch, ExtendsSo, HasExtended, RunsBy}
 use Rattle.sync_store.specs.declared.fault.StoreFault.{StoreFault}
 use Rattle.sync_node.specs.declared.link.Link.{Link}
 use Rattle.sync_node.specs.Adding.{AddsAtMost, AddsSettled, AddsWithin, IsPlain}
-use Rattle.sync_node.specs.Going.{Commits, Goes}
+use Rattle.sync_node.specs.Going.{CommitsBatches, LetsNothingFall}
 use Rattle.sync_node.specs.Joined.{IsJoined, Joined}
 use Rattle.sync_node.specs.Node.{AreAttached, KeepsJoined, KeepsSafeAnew, MayGoOn, NodeValue}
 use Rattle.sync_node.specs.Output.{Journal, heard_on, output, sent_on}
@@ -92,7 +92,7 @@ extended clients batch s s' u o o' ready has ready' = by_more has.more has.runs 
     by_more (b ∷ rest) runs adds answer = record {
       more = rest;
       settling = adds.1;
-      commits = subst (λ (x : List Entry). Commits clients (x ∷ rest) s s' o o') adds.0 (record {
+      commits = subst (λ (x : List Entry). CommitsBatches clients (x ∷ rest) s s' o o') adds.0 (record {
         goes = goes_led clients s s' o o' (λ j whole. IsBetween j (b ∷ rest) whole) (λ j whole. whole ≡ j ++ (b ∷ rest)) ready.fits runs.run runs.leads;
         same_links = runs.run.same_links;
         facts = runs.facts answer.0;
@@ -104,7 +104,7 @@ extended clients batch s s' u o o' ready has ready' = by_more has.more has.runs 
 
 pub extended_goes : (clients : Meaning) (batch : List Entry) (s s' : StoreValue)
     (result : Result (Unit {0}) StoreFault) (o o' : Outside) → FitsSome clients s o.files
-    → HasExtended clients s s' batch result o o' → Goes o o'
+    → HasExtended clients s s' batch result o o' → LetsNothingFall o o'
 extended_goes clients batch s s' result o o' fits has =
     goes_led clients s s' o o' (λ j whole. IsBetween j has.more whole) (λ j whole. whole ≡ j ++ has.more) fits has.runs.run has.runs.leads
 
@@ -112,8 +112,8 @@ extended_goes clients batch s s' result o o' fits has =
 
 same_output : (clients : Meaning) (batch : List Entry) (s s' : StoreValue) (o o' : Outside)
     (adds : AddsSettled clients batch s s' o o') → IsPlain batch
-    → (told : Told o') (whole : Journal)
-    → (fits : Fits clients s' whole told.two) → (n : ℕ)
+    → (told : TellsAll o') (whole : Journal)
+    → (fits : FitsFiles clients s' whole told.two) → (n : ℕ)
     → output whole n ≡ output (adds.commits.goes_on told whole fits).before n
 same_output clients batch s s' o o' adds plain told whole fits n =
     let from = adds.commits.goes_on told whole fits in
@@ -200,8 +200,8 @@ node_adds clients batch first links s s' o o' closed closed' n is adds plain =
 -- ---- a run that begins anew
 
 module _ (clients : Meaning) (batch : List Entry) (s s' : StoreValue) (o o' : Outside) (adds : AddsSettled clients batch s s' o o') (b : Begin) (plans : List Session)
-    (safe : Safe clients b plans s o) (opened : s.closed ≡ false) (told : Told o')
-    (whole : Journal) (fits : Fits clients s' whole told.two) where
+    (safe : Safe clients b plans s o) (opened : s.closed ≡ false) (told : TellsAll o')
+    (whole : Journal) (fits : FitsFiles clients s' whole told.two) where
   -- what was sent is output of the journal with the batch too
   anew_sent : (link : ℕ) → IsFront (sent_on o'.links link) (output whole (b.first + link))
   anew_sent link =
@@ -220,14 +220,14 @@ module _ (clients : Meaning) (batch : List Entry) (s s' : StoreValue) (o o' : Ou
       (sent_on o'.links) s' two
   anew_now two same = record {
     whole = whole;
-    fits = subst (λ (t : Two File). Fits clients s' whole t) (sym same) fits;
+    fits = subst (λ (t : Two File). FitsFiles clients s' whole t) (sym same) fits;
     suits = record { more = []; extends = sym (append-nil whole); suits = tt };
     has_sent = anew_sent;
   }
 
   pub safe_anew : Safe clients (begun_anew b told.two whole o') plans s' o'
   safe_anew =
-      let one : (again : Told o') → again.two ≡ told.two = λ again. cc (again.files_are, told.files_are) in
+      let one : (again : TellsAll o') → again.two ≡ told.two = λ again. cc (again.files_are, told.files_are) in
       record {
         later = λ again. omega arith;
         moments = λ again m w. let now = o'.now_is told.two m told.files_are w in inl (record { image = now.image; nothing_sent = now.sent });
@@ -249,7 +249,7 @@ node_anew clients batch first links s s' o o' closed closed' n is adds opened =
 pub leads_ok : (clients : Meaning) (batch : List Entry) (s : StoreValue) (o o' : Outside)
     (j : Journal) (P Q R : Journal → Type 0) → ((k : Journal) → P k → R k)
     → ((k : Journal) → Q k → R k)
-    → Leads clients P Q s o o' → Leads clients R R s o o'
+    → LeadsTo clients P Q s o o' → LeadsTo clients R R s o o'
 leads_ok clients batch s o o' j P Q R up upq leads = record {
   moments = moments_map o o' (JournalMoment clients P (sent_of o.links.told)) (JournalMoment clients R (sent_of o.links.told))
       (λ m jm. record { whole = jm.whole; has = up jm.whole jm.has; stands_for = jm.stands_for; nothing_sent = jm.nothing_sent }) leads.moments;
@@ -280,8 +280,8 @@ at_most clients batch f (b ∷ more) adds j whole (x ∷ front) rest same parts 
 pub extended_leads : (clients : Meaning) (batch : List Entry) (s s' : StoreValue)
     (result : Result (Unit {0}) StoreFault) (o o' : Outside)
     → HasExtended clients s s' batch result o o'
-    → (two : Two File) → o.files ≡ Some two → (j : Journal) → Fits clients s j two
-    → Leads clients (AddsAtMost clients j batch) (AddsAtMost clients j batch) s' o o'
+    → (two : Two File) → o.files ≡ Some two → (j : Journal) → FitsFiles clients s j two
+    → LeadsTo clients (AddsAtMost clients j batch) (AddsAtMost clients j batch) s' o o'
 extended_leads clients batch s s' result o o' has two files j fits =
     leads_ok clients batch s' o o' j (IsBetween j has.more) (λ whole. whole ≡ j ++ has.more) (AddsAtMost clients j batch)
     (λ k between. at_most clients batch s.state.facts has.more has.adds j k between.front between.rest fits.facts_are between.parts between.is)
@@ -316,9 +316,9 @@ node_allowed clients s first links closed n batch is allowed =
 -- the store of a node before
 pub node_fits : (clients : Meaning) (s : StoreValue) (first : ℕ) (links : List Link)
     (closed : Bool) (n : NodeValue) (j : Journal) (two : Two File)
-    → node_of s first links closed ≡ n → Fits clients n.store j two → Fits clients s j two
+    → node_of s first links closed ≡ n → FitsFiles clients n.store j two → FitsFiles clients s j two
 node_fits clients s first links closed n j two is fits =
-    subst (λ (m : NodeValue). Fits clients m.store j two) (sym is) fits
+    subst (λ (m : NodeValue). FitsFiles clients m.store j two) (sym is) fits
 
 -- the batch would pass the limit of a node's store
 pub node_limit : (s : StoreValue) (first : ℕ) (links : List Link) (closed : Bool) (n : NodeValue)

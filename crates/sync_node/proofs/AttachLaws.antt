@@ -16,9 +16,9 @@ use Rattle.sync_store.specs.Store.{StoreValue}
 use Rattle.sync_node.specs.declared.link.Link.{Link}
 use Rattle.sync_node.specs.declared.node.Plan.{Plan}
 use Rattle.sync_node.specs.Joined.{IsJoined, Joined}
-use Rattle.sync_node.specs.Node.{AreAttached, Attaches, IsAttached, MayGoOn, NodeValue, PlansSafe}
+use Rattle.sync_node.specs.Node.{AreAttached, AttachesLink, IsAttached, MayGoOn, NodeValue, PlansSafe}
 use Rattle.sync_node.specs.Plans.{session_of}
-use Rattle.sync_node.specs.Starting.{Starts, StartsLast, StartsSafe}
+use Rattle.sync_node.specs.Starting.{StartsSession, StartsLast, StartsSafe}
 use Rattle.sync_node.proofs.Fronts.{front_of_append}
 use Rattle.sync_node.proofs.NodeLaws.{node_of, other_joined, other_unused}
 use Rattle.sync_node.proofs.StartLaws.{safe_planned, session_batch}
@@ -49,7 +49,7 @@ plan_allowed clients f x settled number few contact latency nonce = (
 )
 
 module _ (clients : Meaning) (first link : ℕ) (x : Session) (links : List Link) (l : Link) (s s' : StoreValue) (o o' : Outside) (attached : AreAttached first links s.state.facts) (number : x.number ≡ s.state.facts.begun)
-    (last : length links ≡ link) (starts : Starts clients link x l s s' o o') where
+    (last : length links ≡ link) (starts : StartsSession clients link x l s s' o o') where
   numbered : l.session.number ≡ first + link
   numbered = omega (arith, starts.numbered, number, attached.begun, last)
 
@@ -112,9 +112,9 @@ pub node_attaches : (clients : Meaning) (first link : ℕ) (x : Session) (links 
     → node_of s first links closed ≡ n
     → AreAttached first links s.state.facts → x.number ≡ s.state.facts.begun → length links ≡ link
     → StartsLast clients link x links links' s s' o o'
-    → Attaches clients n (node_of s' first links' closed') o o'
+    → AttachesLink clients n (node_of s' first links' closed') o o'
 node_attaches clients first link x links links' s s' o o' closed closed' n is attached number last starts =
-    subst (λ (m : NodeValue). Attaches clients m (node_of s' first links' closed') o o') is
+    subst (λ (m : NodeValue). AttachesLink clients m (node_of s' first links' closed') o o') is
     (record {
       goes = starts.starts.goes;
       same_first = refl;

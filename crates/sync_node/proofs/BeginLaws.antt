@@ -4,12 +4,12 @@ use Rattle.entry_codec.specs.Standing.{journal, room_of, stands}
 use Rattle.frame_journal.specs.Gates.{AnyImage, SyncsBoth}
 use Rattle.outside.specs.declared.failed.Failed.{Failed}
 use Rattle.outside.specs.declared.limits.TheConstants.{MAX_JOURNAL}
-use Rattle.outside.specs.Disk.{Becomes}
+use Rattle.outside.specs.Disk.{RelatesTold}
 use Rattle.outside.specs.Files.{Two, File, read_files}
-use Rattle.outside.specs.Host.{AsksNonce, Dials}
-use Rattle.outside.specs.Links.{HeardOn, Link, Links, sent_of}
+use Rattle.outside.specs.Host.{AsksNonce, DialsLink}
+use Rattle.outside.specs.Links.{HeardOn, ToldLink, Links, sent_of}
 use Rattle.outside.specs.Outside.{DiskRun, Moment, Outside, QuietCall}
-use Rattle.outside.specs.Runs.{IsFront, LinksGrow, Told, answers_at, sent_at}
+use Rattle.outside.specs.Runs.{IsFront, LinksGrow, TellsAll, answers_at, sent_at}
 use Rattle.outside.proofs.RunLaws.{front_same, grow_dial, grow_nonce, grow_same, others_dial}
 use Rattle.outside.proofs.CallSteps.{becomes_told}
 use Rattle.record_grammar.specs.Laws.{FrontsHaveFronts}
@@ -18,12 +18,12 @@ use Rattle.sync_rules.specs.Clients.{Meaning}
 use Rattle.sync_rules.specs.Facts.{Facts}
 use Rattle.sync_rules.proofs.StepKinds.{all_settling_only}
 use Rattle.sync_store.specs.declared.fault.StoreFault.{StoreFault}
-use Rattle.sync_store.specs.Fitting.{Fits, ImagesStand}
+use Rattle.sync_store.specs.Fitting.{FitsFiles, ImagesStand}
 use Rattle.sync_store.specs.Loading.{StandsFor}
 use Rattle.sync_store.specs.Ready.{IsReady}
 use Rattle.sync_store.specs.Settling.{HasSettled}
 use Rattle.sync_store.specs.Store.{IsStore, StoreValue, written_in}
-use Rattle.sync_node.specs.Begun.{IsBegun, IsLeftSafe, begin_at}
+use Rattle.sync_node.specs.Begun.{IsRunBegun, IsLeftSafe, begin_at}
 use Rattle.sync_node.specs.Joined.{IsUnused, Joined}
 use Rattle.sync_node.specs.Node.{MayRun, new_node}
 use Rattle.sync_node.specs.Output.{Journal, heard_on, output, sent_on}
@@ -42,18 +42,18 @@ pub unused_at : (o : Outside) → o.links.dialled ≡ 0 → (link : ℕ) → IsU
 unused_at o none link = record {
   nothing_sent = λ told.
       let empty = none_of told.links (o.all_told told.links told.links_are ∙ none) in
-      ap (λ (t : Option (List Link)). sent_at t link) (told.links_are ∙ ap Some empty);
+      ap (λ (t : Option (List ToldLink)). sent_at t link) (told.links_are ∙ ap Some empty);
   nothing_heard = λ told.
       let empty = none_of told.heard (o.all_heard told.heard told.heard_are ∙ none) in
       ap (λ (t : Option (List HeardOn)). answers_at t link) (told.heard_are ∙ ap Some empty);
 }
 
 -- nothing was sent where no link was dialled
-nothing_sent : (o : Outside) (told : Option (List Link)) → o.links.told ≡ told
+nothing_sent : (o : Outside) (told : Option (List ToldLink)) → o.links.told ≡ told
     → o.links.dialled ≡ 0 → sent_of told ≡ []
 nothing_sent o None is none = refl
 nothing_sent o (Some links) is none =
-    ap (λ (ls : List Link). sent_of (Some ls)) (none_of links (o.all_told links is ∙ none))
+    ap (λ (ls : List ToldLink). sent_of (Some ls)) (none_of links (o.all_told links is ∙ none))
 
 front_of_none : {A : Type 0} (a b : List A) → a ≡ [] → IsFront a b
 front_of_none a b none = record { rest = b; whole = ap (λ l. l ++ b) (sym none) }
@@ -72,10 +72,10 @@ left_early o o' two j files any m w =
     let now = (any two files).each m w in record { image = now.image; nothing_sent = now.sent }
 
 module _ (clients : Meaning) (o o' : Outside) (two : Two File) (s : StoreValue) (none : o.links.dialled ≡ 0) (files : o.files ≡ Some two) (so : StandsFor clients (read_files two) s)
-    (any : AnyImage o o') (settles : Becomes SyncsBoth o.files o'.files) (run : DiskRun o o')
+    (any : AnyImage o o') (settles : RelatesTold SyncsBoth o.files o'.files) (run : DiskRun o o')
     (ready : IsReady clients s o'.files) where
   -- the disk fits the store with the journal that the files stood for
-  loaded_journal : (told : Told o') (j : Journal) → Fits clients s j told.two → j ≡ so.done
+  loaded_journal : (told : TellsAll o') (j : Journal) → FitsFiles clients s j told.two → j ≡ so.done
   loaded_journal told j fits =
       let became = becomes_told SyncsBoth o.files o'.files two files settles in
       let one : told.two ≡ became.0 = cc (told.files_are, became.1) in
@@ -86,7 +86,7 @@ module _ (clients : Meaning) (o o' : Outside) (two : Two File) (s : StoreValue) 
   loaded_unused : (link : ℕ) → IsUnused link o'
   loaded_unused link = unused_disk o o' link run (unused_at o none link)
 
-  loaded_now : (told : Told o') → IsCoveredNow clients (begin_at two so.done o)
+  loaded_now : (told : TellsAll o') → IsCoveredNow clients (begin_at two so.done o)
       [] (heard_on o'.links) (sent_on o'.links) s told.two
   loaded_now told =
       let fit = ready.fits told.two told.files_are in
@@ -97,7 +97,7 @@ module _ (clients : Meaning) (o o' : Outside) (two : Two File) (s : StoreValue) 
         has_sent = λ link. front_of_none (sent_on o'.links link) (output fit.0 ((begin_at two so.done o).first + link)) ((loaded_unused link).nothing_sent told);
       }
 
-  pub loaded_begins : IsStore s → IsBegun clients (begin_at two so.done o) s o'
+  pub loaded_begins : IsStore s → IsRunBegun clients (begin_at two so.done o) s o'
   loaded_begins store = record {
     first = ap (λ (f : Facts). f.begun) (sym so.facts_are);
     roomy = store.roomy;
@@ -121,17 +121,17 @@ pub safe_still : FrontsHaveFronts → ImagesStand → (clients : Meaning) (b : B
     → ((link : ℕ) → sent_on o'.links link ≡ sent_on o.links link) → Safe clients b plans s o
     → Safe clients b plans s o'
 safe_still fronts stand clients b plans s o o' opened roomy call grows same_sent safe =
-    let back : Told o' → Told o = told_by o o' (ap is_some call.same_files) grows in
+    let back : TellsAll o' → TellsAll o = told_by o o' (ap is_some call.same_files) grows in
     let hears : HearsMore (heard_on o.links) (heard_on o'.links) = heard_more o.links o'.links grows in
     let none : IsFront plans plans = front_same plans plans refl in
-    let behind : (told' : Told o') → IsCoveredNow clients b plans (heard_on o'.links) (sent_on o'.links) s told'.two =
+    let behind : (told' : TellsAll o') → IsCoveredNow clients b plans (heard_on o'.links) (sent_on o'.links) s told'.two =
     λ told'.
     let told = back told' in
     let now = safe.now opened told in
     let two : told'.two ≡ told.two = cc (told'.files_are, told.files_are, call.same_files) in
     record {
       whole = now.whole;
-      fits = subst (λ (t : Two File). Fits clients s now.whole t) (sym two) now.fits;
+      fits = subst (λ (t : Two File). FitsFiles clients s now.whole t) (sym two) now.fits;
       suits = suits_more fronts clients b.journal b.first plans plans _ _ none hears now.whole now.suits;
       has_sent = λ link. subst (λ (l : List ℕ). IsFront l (output now.whole (b.first + link))) (sym (same_sent link)) (now.has_sent link);
     } in
@@ -159,11 +159,11 @@ safe_still fronts stand clients b plans s o o' opened roomy call grows same_sent
 
 pub dial_begun : FrontsHaveFronts → ImagesStand → (clients : Meaning) (b : Begin) (s : StoreValue)
     (o o' : Outside) (spec : List ℕ) (result : Result ℕ Failed) → s.closed ≡ false
-    → QuietCall o o' → Dials spec result o.links o'.links → IsBegun clients b s o
-    → IsBegun clients b s o'
+    → QuietCall o o' → DialsLink spec result o.links o'.links → IsRunBegun clients b s o
+    → IsRunBegun clients b s o'
 dial_begun fronts stand clients b s o o' spec result opened call dials begun =
     let grows = grow_dial spec result o.links o'.links dials in
-    let back : Told o' → Told o = told_by o o' (ap is_some call.same_files) grows in
+    let back : TellsAll o' → TellsAll o = told_by o o' (ap is_some call.same_files) grows in
     let sent : (link : ℕ) → sent_on o'.links link ≡ sent_on o.links link = λ link. (others_dial (suc link) spec result o.links o'.links dials).sent link (λ same. absurd (omega (arith, same))) in
     let heard : (link : ℕ) → answers_at o'.links.heard link ≡ answers_at o.links.heard link =
     λ link. (others_dial (suc link) spec result o.links o'.links dials).answers link (λ same. absurd (omega (arith, same))) in
@@ -180,17 +180,17 @@ dial_begun fronts stand clients b s o o' spec result opened call dials begun =
 
 pub nonce_begun : FrontsHaveFronts → (clients : Meaning) (b : Begin) (s : StoreValue)
     (o o' : Outside) (link : ℕ) (result : Result (List ℕ) Failed)
-    → QuietCall o o' → AsksNonce link result o.links o'.links → IsBegun clients b s o
-    → IsBegun clients b s o'
+    → QuietCall o o' → AsksNonce link result o.links o'.links → IsRunBegun clients b s o
+    → IsRunBegun clients b s o'
 nonce_begun fronts clients b s o o' link result call asks begun =
     let grows = grow_nonce link result o.links o'.links asks in
-    let back : Told o' → Told o = told_by o o' (ap is_some call.same_files) grows in
+    let back : TellsAll o' → TellsAll o = told_by o o' (ap is_some call.same_files) grows in
     record {
       first = begun.first;
       roomy = begun.roomy;
       silent = begun.silent;
       unused = λ other. record {
-        nothing_sent = λ told. ap (λ (t : Option (List Link)). sent_at t other) asks.same_told ∙ (begun.unused other).nothing_sent (back told);
+        nothing_sent = λ told. ap (λ (t : Option (List ToldLink)). sent_at t other) asks.same_told ∙ (begun.unused other).nothing_sent (back told);
         nothing_heard = λ told. ap (λ (t : Option (List HeardOn)). answers_at t other) asks.same_heard ∙ (begun.unused other).nothing_heard (back told);
       };
       safe = safe_calm fronts clients b [] s o o' call grows asks.same_told begun.safe;
@@ -200,8 +200,8 @@ nonce_begun fronts clients b s o o' link result call asks begun =
 
 pub settled_begun : FrontsHaveFronts → (clients : Meaning) (b : Begin) (s s' : StoreValue)
     (o o' : Outside) (result : Result (Unit {0}) StoreFault) → s.closed ≡ false → DiskRun o o'
-    → HasSettled clients s s' result o o' → IsStore s' → IsBegun clients b s o
-    → IsBegun clients b s' o'
+    → HasSettled clients s s' result o o' → IsStore s' → IsRunBegun clients b s o
+    → IsRunBegun clients b s' o'
 settled_begun fronts clients b s s' o o' result opened run has store begun = record {
   first = ap (λ (f : Facts). f.begun) has.comes.facts ∙ ((all_settling_only clients s.state.facts has.more has.comes.settling).begun ∙ begun.first);
   roomy = store.roomy;
@@ -213,7 +213,7 @@ settled_begun fronts clients b s s' o o' result opened run has store begun = rec
 -- ---- a node without links
 
 pub joined_begun : (clients : Meaning) (b : Begin) (s : StoreValue) (o : Outside)
-    → IsBegun clients b s o → Joined clients [] s o
+    → IsRunBegun clients b s o → Joined clients [] s o
 joined_begun clients b s o begun = record { each = λ link l there. cc; others = λ link past. begun.unused link }
 
 pub new_may : (clients : Meaning) (s : StoreValue) (o : Outside) → IsReady clients s o.files
@@ -230,7 +230,7 @@ hung_up fronts clients b plans s o o' call same safe =
 
 pub left_safe : ImagesStand → (clients : Meaning) (b : Begin) (plans : List Session)
     (s : StoreValue) (o : Outside) → s.end + room_of (written_in s) s.state.facts ≤ MAX_JOURNAL
-    → Safe clients b plans s o → (told : Told o) → IsLeftSafe clients b plans s o told.two
+    → Safe clients b plans s o → (told : TellsAll o) → IsLeftSafe clients b plans s o told.two
 left_safe stand clients b plans s o roomy safe told =
     let reads = safe.reads told in
     record {

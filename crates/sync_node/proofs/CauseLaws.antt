@@ -3,8 +3,8 @@ use Rattle.std.proofs.Common.{◌≡◌, ◌≢◌, ◌⊎◌, ℕ, zero, suc, �
 use Rattle.std.specs.List.{slice_get}
 use Rattle.std.proofs.lemmas.Bool.{cases_eq, false≢true}
 use Rattle.outside.specs.declared.failed.Failed.{Failed}
-use Rattle.outside.specs.Faults.{Rose, one_more}
-use Rattle.outside.specs.Host.{Sends}
+use Rattle.outside.specs.Faults.{CountRose, one_more}
+use Rattle.outside.specs.Host.{SendsOnLink}
 use Rattle.outside.specs.Outside.{Outside}
 use Rattle.record_grammar.specs.declared.stream.Ending.{Ending}
 use Rattle.record_grammar.specs.declared.stream.Ending.TheVariants as ending_kind
@@ -19,8 +19,8 @@ use Rattle.sync_course.specs.declared.ends.LinkEnd.{LinkEnd}
 use Rattle.sync_course.specs.declared.ends.LinkEnd.TheVariants as link_end
 use Rattle.sync_node.specs.Causes.{FailByCause, LinkGoes, LinksGo, StandsFailed, sessions_of}
 use Rattle.sync_course.specs.Links.{stands_ended}
-use Rattle.sync_node.specs.Going.{Goes}
-use Rattle.sync_node.specs.Hearing.{ClosesBy, Learns}
+use Rattle.sync_node.specs.Going.{LetsNothingFall}
+use Rattle.sync_node.specs.Hearing.{ClosesBy, LearnsNonce}
 use Rattle.sync_node.specs.Node.{NodeValue}
 use Rattle.sync_node.specs.Redundant.{ClosesSome}
 use Rattle.sync_node.specs.Sending.{EndsBy, SendsOn}
@@ -32,16 +32,16 @@ use Rattle.sync_node.proofs.WorkLaws.{goes_then}
 
 -- ---- counts
 
-rose_later : (a b c : ℕ) → Rose a b → b ≤ c → Rose a c
+rose_later : (a b c : ℕ) → CountRose a b → b ≤ c → CountRose a c
 rose_later a b c rose later = let r : one_more a ≤ b = rose in omega (arith, r, later)
 
-rose_before : (a b c : ℕ) → a ≤ b → Rose b c → Rose a c
+rose_before : (a b c : ℕ) → a ≤ b → CountRose b c → CountRose a c
 rose_before a b c before rose = let r : one_more b ≤ c = rose in omega (arith, before, r)
 
 -- ---- one link
 
 -- the link did not fail
-pub link_kept : (number : ℕ) (l l' : Link) (o o' : Outside) → Goes o o' → l'.session ≡ l.session
+pub link_kept : (number : ℕ) (l l' : Link) (o o' : Outside) → LetsNothingFall o o' → l'.session ≡ l.session
     → l'.end ≡ l.end → LinkGoes number l l' o o'
 link_kept number l l' o o' goes same_session same = record {
   same_session = same_session;
@@ -49,7 +49,7 @@ link_kept number l l' o o' goes same_session same = record {
   cause = λ failed. inl (sym same ∙ failed);
 }
 
-pub link_unfailed : (number : ℕ) (l l' : Link) (o o' : Outside) → Goes o o'
+pub link_unfailed : (number : ℕ) (l l' : Link) (o o' : Outside) → LetsNothingFall o o'
     → l'.session ≡ l.session → l'.end ≢ link_end.Failed → LinkGoes number l l' o o'
 link_unfailed number l l' o o' goes same_session unfailed = record {
   same_session = same_session;
@@ -61,8 +61,8 @@ pub link_none : (number : ℕ) (l : Link) (o : Outside) → LinkGoes number l l 
 link_none number l o = link_kept number l l o o (goes_none o) refl refl
 
 -- a call on it failed
-pub link_failed : (number : ℕ) (l l' : Link) (o o' : Outside) → Goes o o'
-    → l'.session ≡ l.session → Rose (o.links.faults number) (o'.links.faults number)
+pub link_failed : (number : ℕ) (l l' : Link) (o o' : Outside) → LetsNothingFall o o'
+    → l'.session ≡ l.session → CountRose (o.links.faults number) (o'.links.faults number)
     → LinkGoes number l l' o o'
 link_failed number l l' o o' goes same_session rose = record { same_session = same_session; goes = goes; cause = λ failed. inr rose }
 
@@ -84,15 +84,15 @@ pub link_sent : (number : ℕ) (bytes : List ℕ) (l l' : Link) (o o' : Outside)
     → SendsOn number bytes l l' o o' → LinkGoes number l l' o o'
 link_sent number bytes l l' o o' sends = by_result sends.result sends.sends sends.ends
   where
-    by_result : (result : Result (Unit {0}) Failed) → Sends number bytes result o.links o'.links
+    by_result : (result : Result (Unit {0}) Failed) → SendsOnLink number bytes result o.links o'.links
         → EndsBy result l l' → LinkGoes number l l' o o'
     by_result (Ok u) went ends = link_kept number l l' o o' (goes_send o o' number bytes l l' sends) (ap (λ (x : Link). x.session) ends) (ap (λ (x : Link). x.end) ends)
     by_result (Err e) went ends = link_failed number l l' o o' (goes_send o o' number bytes l l' sends) (ap (λ (x : Link). x.session) ends) went.faults.failed
 
 -- a link that began as going, behind a commit
-pub greeted_cause : (number : ℕ) (l0 l : Link) (o o1 o2 : Outside) → Goes o o1
+pub greeted_cause : (number : ℕ) (l0 l : Link) (o o1 o2 : Outside) → LetsNothingFall o o1
     → l0.end ≡ link_end.Going → LinkGoes number l0 l o1 o2
-    → l.end ≡ link_end.Failed → Rose (o.links.faults number) (o2.links.faults number)
+    → l.end ≡ link_end.Failed → CountRose (o.links.faults number) (o2.links.faults number)
 greeted_cause number l0 l o o1 o2 goes going greets failed = elim (greets.cause failed) [
   | inl before ↦ absurd (let e : link_end.Going ≡ link_end.Failed = sym going ∙ before in cc)
   | inr rose ↦ rose_before (o.links.faults number) (o1.links.faults number) (o2.links.faults number) (goes.links.faults number) rose
@@ -133,7 +133,7 @@ closes_unfailed place (record_kind.Request ids) old new same going =
 closes_unfailed place (record_kind.Priority nonce) old new same going =
     kept_unfailed old new same going
 
-pub learnt_unfailed : (place : ℕ) (r : Record) (l l' : Link) → Learns place r l l'
+pub learnt_unfailed : (place : ℕ) (r : Record) (l l' : Link) → LearnsNonce place r l l'
     → l.end ≡ link_end.Going → l'.end ≢ link_end.Failed
 learnt_unfailed place r l l' learns going = closes_unfailed place r l.end l'.end learns.end going
 
@@ -180,7 +180,7 @@ pub links_go_none : (links : List Link) (o : Outside) → LinksGo links links o 
 links_go_none links o = record { goes = goes_none o; cause = λ number stands. inl stands }
 
 -- the links are as before
-pub links_go_same : (links links' : List Link) (o o' : Outside) → links' ≡ links → Goes o o'
+pub links_go_same : (links links' : List Link) (o o' : Outside) → links' ≡ links → LetsNothingFall o o'
     → LinksGo links links' o o'
 links_go_same links links' o o' same goes = record {
   goes = goes;
@@ -194,7 +194,7 @@ pub links_go_set : (place : ℕ) (links links1 : List Link) (l l' : Link) (o o1 
 links_go_set place links links1 l l' o o1 o2 first here second = record {
   goes = goes_then o o1 o2 first.goes second.goes;
   cause = λ number stands.
-      let earlier : StandsFailed links1 number → StandsFailed links number ⊎ Rose (o.links.faults number) (o2.links.faults number) =
+      let earlier : StandsFailed links1 number → StandsFailed links number ⊎ CountRose (o.links.faults number) (o2.links.faults number) =
       λ before. elim (first.cause number before) [
         | inl at_first ↦ inl at_first
         | inr rose ↦ inr (rose_later (o.links.faults number) (o1.links.faults number) (o2.links.faults number) rose (second.goes.links.faults number))
@@ -205,7 +205,7 @@ links_go_set place links links1 l l' o o1 o2 first here second = record {
             elim (second.cause (ap (λ (x : Link). x.end) (sym is) ∙ stands.failed)) [
               | inl failed ↦ earlier (record { link = l; there = subst (λ k. slice_get links1 k ≡ Some l) (sym same) here; failed = failed })
               | inr rose ↦
-                  inr (subst (λ k. Rose (o.links.faults k) (o2.links.faults k)) (sym same)
+                  inr (subst (λ k. CountRose (o.links.faults k) (o2.links.faults k)) (sym same)
                   (rose_before (o.links.faults place) (o1.links.faults place) (o2.links.faults place) (first.goes.links.faults place) rose))
             ]
         | inr apart ↦ earlier (record { link = stands.link; there = sym (get_set_other links1 place number l' apart) ∙ stands.there; failed = stands.failed })
@@ -227,8 +227,8 @@ links_go_closed links mid links' o o' first closes = record {
 
 -- a link came behind the others, and it failed only by a call on it
 pub links_go_push : (number : ℕ) (links links' : List Link) (l : Link) (o o' : Outside)
-    → length links ≡ number → links' ≡ links ++ l ∷ [] → Goes o o'
-    → (l.end ≡ link_end.Failed → Rose (o.links.faults number) (o'.links.faults number))
+    → length links ≡ number → links' ≡ links ++ l ∷ [] → LetsNothingFall o o'
+    → (l.end ≡ link_end.Failed → CountRose (o.links.faults number) (o'.links.faults number))
     → LinksGo links links' o o'
 links_go_push number links links' l o o' last pushed goes cause = record {
   goes = goes;
@@ -236,7 +236,7 @@ links_go_push number links links' l o o' last pushed goes cause = record {
       elim (get_push links l n stands.link (ap (λ (ls : List Link). slice_get ls n) (sym pushed) ∙ stands.there)) [
         | inl here ↦ inl (record { link = stands.link; there = here; failed = stands.failed })
         | inr end ↦
-            inr (subst (λ k. Rose (o.links.faults k) (o'.links.faults k)) (sym (end.0 ∙ last))
+            inr (subst (λ k. CountRose (o.links.faults k) (o'.links.faults k)) (sym (end.0 ∙ last))
             (cause (ap (λ (x : Link). x.end) (sym end.1) ∙ stands.failed)))
       ];
 }

@@ -2,7 +2,7 @@
 use Rattle.std.proofs.Common.{◌≡◌, ℕ, ◌++◌, false, List, [], ◌∷◌, refl, sym, ◌∙◌, subst, inl, inr, Some, Result, Ok, Err, append-nil}
 use Rattle.outside.specs.Files.{Two, File}
 use Rattle.outside.specs.Outside.{Outside, DiskRun}
-use Rattle.outside.specs.Runs.{IsFront, Told}
+use Rattle.outside.specs.Runs.{IsFront, TellsAll}
 use Rattle.outside.proofs.RunLaws.{front_same}
 use Rattle.record_grammar.specs.Laws.{FrontsHaveFronts}
 use Rattle.sync_rules.specs.declared.entries.Entry.{Entry}
@@ -15,12 +15,12 @@ use Rattle.sync_rules.proofs.WorkLaws.{settling_goes_on}
 use Rattle.entry_codec.specs.Standing.{journal}
 use Rattle.sync_store.specs.Store.{StoreValue}
 use Rattle.sync_store.specs.Commits as store_commits
-use Rattle.sync_store.specs.Fitting.{Fits, FitsSome}
-use Rattle.sync_store.specs.Moments.{Adds, IsBetween, Leads, WithAtMost, journal_with}
+use Rattle.sync_store.specs.Fitting.{FitsFiles, FitsSome}
+use Rattle.sync_store.specs.Moments.{RunsCommit, IsBetween, LeadsTo, WithAtMost, journal_with}
 use Rattle.sync_store.specs.Ready.{IsReady}
 use Rattle.sync_store.specs.Settling.{HasSettled}
 use Rattle.sync_store.specs.declared.fault.StoreFault.{StoreFault}
-use Rattle.sync_node.specs.Going.{Commits, Goes, GoesOnBy, SettlesStore}
+use Rattle.sync_node.specs.Going.{CommitsBatches, LetsNothingFall, GoesOnBy, SettlesStore}
 use Rattle.sync_node.specs.Output.{Journal, heard_on}
 use Rattle.sync_node.specs.Safe.{Begin, Safe}
 use Rattle.sync_node.specs.Suits.{IsOfRun}
@@ -30,7 +30,7 @@ use Rattle.sync_node.proofs.SuitLaws.{Grows, settling_suits}
 -- ---- the journal that files stand for is one
 
 pub one_journal : (clients : Meaning) (s t : StoreValue) (j k : Journal) (two : Two File)
-    → Fits clients s j two → Fits clients t k two → j ≡ k
+    → FitsFiles clients s j two → FitsFiles clients t k two → j ≡ k
 one_journal clients s t j k two first second =
     let e : journal j ≡ journal k = sym first.stands_for ∙ second.stands_for in
     cc
@@ -40,7 +40,7 @@ one_journal clients s t j k two first second =
 pub goes_on_by : (clients : Meaning) (more : Journal) (s s' : StoreValue) (o o' : Outside)
     (P : Journal → Journal → Type 0) → DiskRun o o' → FitsSome clients s o.files
     → s'.closed ≡ false
-    → ((two : Two File) → o.files ≡ Some two → (j : Journal) → Fits clients s j two → Leads clients (P j) (λ whole. whole ≡ j ++ more) s' o o')
+    → ((two : Two File) → o.files ≡ Some two → (j : Journal) → FitsFiles clients s j two → LeadsTo clients (P j) (λ whole. whole ≡ j ++ more) s' o o')
     → GoesOnBy clients more s s' o o'
 goes_on_by clients more s s' o o' P run fits opened leads told' whole fits' =
     let told = told_disk o o' run told' in
@@ -87,8 +87,8 @@ pub safe_commit : FrontsHaveFronts → (clients : Meaning) (b : Begin) (plans la
     (s s' : StoreValue) (o o' : Outside) (batch : List Entry)
     (result : Result (Unit {0}) StoreFault)
     → IsFront plans later → s.closed ≡ false → DiskRun o o' → Allowed clients s.state.facts batch
-    → ((two : Two File) → o.files ≡ Some two → (j : Journal) → Fits clients s j two → Adds clients batch result s' o o' j)
-    → (Told o → IsOfRun b.first later (heard_on o.links) s.state.facts batch)
+    → ((two : Two File) → o.files ≡ Some two → (j : Journal) → FitsFiles clients s j two → RunsCommit clients batch result s' o o' j)
+    → (TellsAll o → IsOfRun b.first later (heard_on o.links) s.state.facts batch)
     → Safe clients b plans s o → Safe clients b later s' o'
 safe_commit fronts clients b plans later s s' o o' batch result more opened run allowed adds of_run =
     safe_store fronts clients b plans later s s' o o' (λ j whole. WithAtMost j batch whole) (λ j whole. whole ≡ journal_with j batch result) more opened run adds
@@ -99,16 +99,16 @@ safe_commit fronts clients b plans later s s' o o' batch result more opened run 
 -- what a commit leaves, whatever it answers
 pub goes_adds : (clients : Meaning) (s s' : StoreValue) (o o' : Outside) (batch : List Entry)
     (result : Result (Unit {0}) StoreFault) → FitsSome clients s o.files → DiskRun o o'
-    → ((two : Two File) → o.files ≡ Some two → (j : Journal) → Fits clients s j two → Adds clients batch result s' o o' j) → Goes o o'
+    → ((two : Two File) → o.files ≡ Some two → (j : Journal) → FitsFiles clients s j two → RunsCommit clients batch result s' o o' j) → LetsNothingFall o o'
 goes_adds clients s s' o o' batch result fits run adds =
     goes_led clients s s' o o' (λ j whole. WithAtMost j batch whole) (λ j whole. whole ≡ journal_with j batch result) fits run adds
 
 pub committed : (clients : Meaning) (s s' : StoreValue) (o o' : Outside) (batch : List Entry)
     (u : Unit {0}) → IsReady clients s o.files → DiskRun o o'
-    → store_commits.Commits s s' batch (Ok u)
+    → store_commits.AnswersCommit s s' batch (Ok u)
     → (s'.closed ≡ false → IsReady clients s' o'.files)
-    → ((two : Two File) → o.files ≡ Some two → (j : Journal) → Fits clients s j two → Adds clients batch (Ok u) s' o o' j)
-    → Commits clients (batch ∷ []) s s' o o'
+    → ((two : Two File) → o.files ≡ Some two → (j : Journal) → FitsFiles clients s j two → RunsCommit clients batch (Ok u) s' o o' j)
+    → CommitsBatches clients (batch ∷ []) s s' o o'
 committed clients s s' o o' batch u ready run answer ready' adds = record {
   goes = goes_adds clients s s' o o' batch (Ok u) ready.fits run adds;
   same_links = run.same_links;
@@ -121,7 +121,7 @@ committed clients s s' o o' batch u ready run answer ready' adds = record {
 abbrev pub CommitsSafe : Meaning → List Entry → StoreValue → StoreValue → Outside → Outside → Type 0
 CommitsSafe clients batch s s' o o' =
     (b : Begin) (plans later : List Session) → IsFront plans later
-    → (Told o → IsOfRun b.first later (heard_on o.links) s.state.facts batch)
+    → (TellsAll o → IsOfRun b.first later (heard_on o.links) s.state.facts batch)
     → Safe clients b plans s o → Safe clients b later s' o'
 
 -- ---- settling
@@ -129,7 +129,7 @@ CommitsSafe clients batch s s' o o' =
 pub goes_settled : (clients : Meaning) (s s' : StoreValue) (o o' : Outside)
     (result : Result (Unit {0}) StoreFault) → FitsSome clients s o.files → DiskRun o o'
     → HasSettled clients s s' result o o'
-    → Goes o o'
+    → LetsNothingFall o o'
 goes_settled clients s s' o o' result fits run has =
     goes_led clients s s' o o' (λ j whole. IsBetween j has.more whole) (λ j whole. whole ≡ j ++ has.more) fits run has.comes.leads
 

@@ -16,10 +16,10 @@ use Rattle.sync_node.specs.declared.link.Link.{Link}
 use Rattle.sync_course.specs.declared.ends.LinkEnd.TheVariants as link_end
 use Rattle.sync_node.specs.Ends.{MaySend}
 use Rattle.sync_node.specs.Redundant.{ClosesSome}
-use Rattle.sync_node.specs.Courses.{AllRead, FitsWith, HaltsReceiving, HaltsSending, HaltsTurn, HearsAsCourse, HearsStops, IsRead, IsReadyToSend, MakesTurn, Receives, RunCounts, RunHalts, RunRuns, SendsDue, SentAsCourse, SentStops, TurnsAsCourse, TurnsStop, link_at, links_from, place_at}
+use Rattle.sync_node.specs.Courses.{AllRead, FitsWith, HaltsReceiving, HaltsSending, HaltsTurn, HearsAsCourse, HearsStops, IsLinkRead, IsReadyToSend, MakesTurn, ReceivesOnce, RunCounts, RunHalts, RunRuns, SendsDue, SentAsCourse, SentStops, TurnsAsCourse, TurnsStop, link_at, links_from, place_at}
 use Rattle.sync_node.proofs.CourseTakes.{full_sent_then}
 use Rattle.sync_node.specs.Joined.{Joined}
-use Rattle.sync_node.specs.Fulls.{FullReceiving, FullSending, FullTurn, HearsFull, SentFull, TurnsFull}
+use Rattle.sync_node.specs.Fulls.{FullReceiving, FullSending, FullTurn, HearsFull, TurnLeavesNoRoom, TurnsFull}
 use Rattle.sync_node.proofs.CourseRuns.{all_read, heard_with, length_from, link_counted, link_halted, link_in_run, link_limit, run_halts_behind}
 use Rattle.sync_node.proofs.CourseTurns.{may_end, read_on}
 
@@ -41,8 +41,8 @@ closed_read : (mid links' : List Link) (heard : ℕ → List ℕ) → ClosesSome
 closed_read mid links' heard closes read i l at =
     let one = closes.each i l at in
     elim one.is [
-      | inl same ↦ subst (IsRead (heard i)) (sym same) (read i one.before one.was)
-      | inr closing ↦ subst (IsRead (heard i)) (sym closing.1) (λ going. absurd (let e : link_end.Redundant ≡ link_end.Going = going in cc))
+      | inl same ↦ subst (IsLinkRead (heard i)) (sym same) (read i one.before one.was)
+      | inr closing ↦ subst (IsLinkRead (heard i)) (sym closing.1) (λ going. absurd (let e : link_end.Redundant ≡ link_end.Going = going in cc))
     ]
 
 module _ (clients : Meaning) (n : ℕ) (mid links' : List Link) (s : StoreValue) (o : Outside) (all : n ≡ length mid)
@@ -147,7 +147,7 @@ module _ (clients : Meaning) (first n : ℕ) (links : List Link) (l : Link) (s :
   -- it was asked once
   pub receives : (l' : Link) (s' : StoreValue) (o' : Outside) (idle : Bool)
       → HearsAsCourse clients n l l' s s' o o' idle
-      → Receives clients first n links (slice_set links n l') s s' o o' idle
+      → ReceivesOnce clients first n links (slice_set links n l') s s' o o' idle
   receives l' s' o' idle hears = record {
     leads = λ terms heard moved still made same read.
         let to = hears.leads (heard n) moved (read n l at) in
@@ -187,7 +187,7 @@ module _ (clients : Meaning) (first n : ℕ) (links : List Link) (l : Link) (s :
         → SendsDue clients first n now links (slice_set links n l') s s' o o' outs
     sends_due l' s' o' outs sent = record {
       has_read = λ heard read i x there.
-          subst (λ (bytes : List ℕ). IsRead bytes x) (same_cond i n heard)
+          subst (λ (bytes : List ℕ). IsLinkRead bytes x) (same_cond i n heard)
           (all_read n links heard l l' (heard n) at read (read_on (heard n) l l' sent.same_reader sent.end (read n l at)) i x there);
       runs = λ terms heard moved still made same.
           let to : (h : ℕ → List ℕ) → Place = λ h. place_at (Works n Done) (slice_set links n l') h (cond (nat_lt 0 outs) true moved) still made s'.state.facts in
@@ -217,7 +217,7 @@ module _ (clients : Meaning) (first n : ℕ) (links : List Link) (l : Link) (s :
           (stopped.stops (heard n) moved (may_end l.end may)));
     }
 
-    pub sending_full : (s' : StoreValue) (o' : Outside) → SentFull clients n now l s s' o o'
+    pub sending_full : (s' : StoreValue) (o' : Outside) → TurnLeavesNoRoom clients n now l s s' o o'
         → FullSending clients first n now links s s' o o'
     sending_full s' o' full = record {
       fills = λ terms heard moved still made same.

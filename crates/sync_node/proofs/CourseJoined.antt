@@ -2,7 +2,7 @@
 -- all that was heard on it: the clauses on the course hold with the bytes that the host tells.
 use Rattle.std.proofs.Common.{◌≡◌, ℕ, List, [], ◌++◌, length, ap, le_refl, refl}
 use Rattle.outside.specs.Outside.{Outside}
-use Rattle.outside.specs.Runs.{Told, heard_bytes}
+use Rattle.outside.specs.Runs.{TellsAll, heard_bytes}
 use Rattle.record_grammar.specs.Stream.{items}
 use Rattle.sync_rules.specs.Clients.{Meaning}
 use Rattle.sync_rules.specs.Facts.{Facts}
@@ -17,7 +17,7 @@ use Rattle.sync_node.specs.Output.{heard_on}
 
 pub joined_read : (clients : Meaning) (first : ℕ) (links : List Link) (f : Facts) (s : StoreValue)
     (o : Outside) → AreAttached first links f → Joined clients links s o
-    → Told o → AllRead (heard_on o.links) links
+    → TellsAll o → AllRead (heard_on o.links) links
 joined_read clients first links f s o attached joined told i l at going =
     let has = (joined.each i l at).taken going told in
     let reading : IsReading (heard_on o.links i) [] l.reader (items l.reader.place (l.reader.bytes ++ [])) =
@@ -26,6 +26,6 @@ joined_read clients first links f s o attached joined told i l at going =
 
 -- nothing was heard on the link behind them
 pub joined_unheard : (clients : Meaning) (links : List Link) (s : StoreValue) (o : Outside)
-    → Joined clients links s o → Told o → heard_on o.links (length links) ≡ []
+    → Joined clients links s o → TellsAll o → heard_on o.links (length links) ≡ []
 joined_unheard clients links s o joined told =
     ap heard_bytes ((joined.others (length links) (le_refl (length links))).nothing_heard told)

@@ -9,12 +9,12 @@ use Rattle.sync_rules.specs.declared.entries.Entry.{Entry}
 use Rattle.sync_rules.specs.Clients.{Meaning}
 use Rattle.entry_codec.specs.Standing.{journal}
 use Rattle.sync_store.specs.Store.{StoreValue}
-use Rattle.sync_store.specs.Fitting.{Fits, FitsSome}
+use Rattle.sync_store.specs.Fitting.{FitsFiles, FitsSome}
 use Rattle.sync_store.specs.Moments as store_moments
-use Rattle.sync_store.specs.Moments.{IsBetween, Leads, WithAtMost, journal_with}
+use Rattle.sync_store.specs.Moments.{IsBetween, LeadsTo, WithAtMost, journal_with}
 use Rattle.sync_store.specs.Settling.{HasSettled}
 use Rattle.sync_store.specs.declared.fault.StoreFault.{StoreFault}
-use Rattle.sync_node.specs.Courses.{Adds, AddsSettling, AddsSome, AddsSomeSettling, FitsWith, ReadsFront}
+use Rattle.sync_node.specs.Courses.{CommitsWithinCalls, CommitsSettling, AddsSome, AddsSomeSettling, FitsWith, ReadsFront}
 
 -- files that are told on one side of a call are told on the other
 pub told_as : {A : Type 0} (a b : Option A) (x : A) → is_some b ≡ is_some a → a ≡ Some x
@@ -25,7 +25,7 @@ told_as (Some a) (Some b) x same is = (b, refl)
 
 -- the journal that files fit a store with is one
 one_fit : (clients : Meaning) (s : StoreValue) (j k : List (List Entry)) (two : Two File)
-    → Fits clients s j two → Fits clients s k two → j ≡ k
+    → FitsFiles clients s j two → FitsFiles clients s k two → j ≡ k
 one_fit clients s j k two first second =
     let e : journal j ≡ journal k = sym first.stands_for ∙ second.stands_for in
     cc
@@ -41,21 +41,21 @@ fits_on clients s o o' same j fit =
 pub fits_grown : (clients : Meaning) (s s' : StoreValue) (more : List (List Entry)) (o o' : Outside)
     (P : List (List Entry) → List (List Entry) → Type 0) → is_some o'.files ≡ is_some o.files
     → s'.closed ≡ false
-    → ((two : Two File) → o.files ≡ Some two → (j : List (List Entry)) → Fits clients s j two
-    → Leads clients (P j) (λ whole. whole ≡ j ++ more) s' o o')
+    → ((two : Two File) → o.files ≡ Some two → (j : List (List Entry)) → FitsFiles clients s j two
+    → LeadsTo clients (P j) (λ whole. whole ≡ j ++ more) s' o o')
     → (j : List (List Entry)) → FitsWith clients s o.files j
     → FitsWith clients s' o'.files (j ++ more)
 fits_grown clients s s' more o o' P told still leads j fit =
     let two' = told_as o.files o'.files fit.0 told fit.1 in
     let end = (leads fit.0 fit.1 j fit.2).ends still two'.0 two'.1 in
-    (two'.0, two'.1, subst (λ (whole : List (List Entry)). Fits clients s' whole two'.0) end.1 end.2)
+    (two'.0, two'.1, subst (λ (whole : List (List Entry)). FitsFiles clients s' whole two'.0) end.1 end.2)
 
 -- whatever the call answered, the files as they read stand for the journal with some of what it was
 -- to commit
 pub reads_front : (clients : Meaning) (s s' : StoreValue) (may : List (List Entry)) (o o' : Outside)
     (P Q : List (List Entry) → List (List Entry) → Type 0) → FitsSome clients s o.files → is_some o'.files ≡ is_some o.files
     → ((j whole : List (List Entry)) → P j whole → IsBetween j may whole)
-    → ((two : Two File) → o.files ≡ Some two → (j : List (List Entry)) → Fits clients s j two → Leads clients (P j) (Q j) s' o o')
+    → ((two : Two File) → o.files ≡ Some two → (j : List (List Entry)) → FitsFiles clients s j two → LeadsTo clients (P j) (Q j) s' o o')
     → ReadsFront clients may s o o'
 reads_front clients s s' may o o' P Q fits told between leads = by_files o.files refl
   where
@@ -68,7 +68,7 @@ reads_front clients s s' may o o' P Q fits told between leads = by_files o.files
     }
     by_files (Some two) is =
         let j0 : List (List Entry) = (fits two is).0 in
-        let fit0 : Fits clients s j0 two = (fits two is).1 in
+        let fit0 : FitsFiles clients s j0 two = (fits two is).1 in
         let led = leads two is j0 fit0 in
         let two' = told_as o.files o'.files two told is in
         let m : Moment = record { files = read_files two'.0; sent = sent_of o'.links.told } in
@@ -83,7 +83,7 @@ reads_front clients s s' may o o' P Q fits told between leads = by_files o.files
               let files : Some two ≡ Some fit.0 = sym is ∙ fit.1 in
               let same_two : two ≡ fit.0 = cc in
               let same : j0 ≡ j =
-              one_fit clients s j0 j two fit0 (subst (λ (t : Two File). Fits clients s j t) (sym same_two) fit.2) in
+              one_fit clients s j0 j two fit0 (subst (λ (t : Two File). FitsFiles clients s j t) (sym same_two) fit.2) in
               (two'.0, two'.1, at.stands_for ∙ ap journal (cut.is ∙ ap (λ (k : List (List Entry)). k ++ cut.front) same));
         }
 
@@ -100,7 +100,7 @@ at_most_between batch j whole at_most =
 pub commit_grown : (clients : Meaning) (s s' : StoreValue) (batch : List Entry) (u : Unit {0})
     (o o' : Outside) → is_some o'.files ≡ is_some o.files
     → s'.closed ≡ false
-    → ((two : Two File) → o.files ≡ Some two → (j : List (List Entry)) → Fits clients s j two → store_moments.Adds clients batch (Ok u) s' o o' j)
+    → ((two : Two File) → o.files ≡ Some two → (j : List (List Entry)) → FitsFiles clients s j two → store_moments.RunsCommit clients batch (Ok u) s' o o' j)
     → (j : List (List Entry)) → FitsWith clients s o.files j
     → FitsWith clients s' o'.files (j ++ batch ∷ [])
 commit_grown clients s s' batch u o o' told still adds =
@@ -109,7 +109,7 @@ commit_grown clients s s' batch u o o' told still adds =
 pub commit_reads : (clients : Meaning) (s s' : StoreValue) (batch : List Entry)
     (result : Result (Unit {0}) StoreFault) (o o' : Outside)
     → FitsSome clients s o.files → is_some o'.files ≡ is_some o.files
-    → ((two : Two File) → o.files ≡ Some two → (j : List (List Entry)) → Fits clients s j two → store_moments.Adds clients batch result s' o o' j)
+    → ((two : Two File) → o.files ≡ Some two → (j : List (List Entry)) → FitsFiles clients s j two → store_moments.RunsCommit clients batch result s' o o' j)
     → ReadsFront clients (batch ∷ []) s o o'
 commit_reads clients s s' batch result o o' fits told adds =
     reads_front clients s s' (batch ∷ []) o o' (λ j whole. WithAtMost j batch whole) (λ j whole. whole ≡ journal_with j batch result) fits told
@@ -136,8 +136,8 @@ settle_reads clients s s' result o o' has fits told =
 
 pub commit_adds : (clients : Meaning) (s s' : StoreValue) (batch : List Entry) (u : Unit {0})
     (o o' : Outside) → DiskRun o o' → MakesAtMost 4 o o' → s'.closed ≡ false
-    → ((two : Two File) → o.files ≡ Some two → (j : List (List Entry)) → Fits clients s j two → store_moments.Adds clients batch (Ok u) s' o o' j)
-    → Adds clients (batch ∷ []) s s' o o'
+    → ((two : Two File) → o.files ≡ Some two → (j : List (List Entry)) → FitsFiles clients s j two → store_moments.RunsCommit clients batch (Ok u) s' o o' j)
+    → CommitsWithinCalls clients (batch ∷ []) s s' o o'
 commit_adds clients s s' batch u o o' run made still adds = record {
   same_links = run.same_links;
   calls = made;
@@ -147,7 +147,7 @@ commit_adds clients s s' batch u o o' run made still adds = record {
 pub commit_adds_some : (clients : Meaning) (s s' : StoreValue) (batch : List Entry)
     (result : Result (Unit {0}) StoreFault) (o o' : Outside)
     → FitsSome clients s o.files → DiskRun o o' → MakesAtMost 4 o o'
-    → ((two : Two File) → o.files ≡ Some two → (j : List (List Entry)) → Fits clients s j two → store_moments.Adds clients batch result s' o o' j)
+    → ((two : Two File) → o.files ≡ Some two → (j : List (List Entry)) → FitsFiles clients s j two → store_moments.RunsCommit clients batch result s' o o' j)
     → AddsSome clients (batch ∷ []) s o o'
 commit_adds_some clients s s' batch result o o' fits run made adds = record {
   same_links = run.same_links;
@@ -157,7 +157,7 @@ commit_adds_some clients s s' batch result o o' fits run made adds = record {
 
 pub settle_adds : (clients : Meaning) (s s' : StoreValue) (u : Unit {0}) (o o' : Outside)
     → DiskRun o o' → HasSettled clients s s' (Ok u) o o'
-    → AddsSettling clients s s' o o'
+    → CommitsSettling clients s s' o o'
 settle_adds clients s s' u o o' run has = record {
   more = has.more;
   settling = has.comes.settling;

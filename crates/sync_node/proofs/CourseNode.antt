@@ -4,7 +4,7 @@ use Rattle.outside.specs.Outside.{Outside}
 use Rattle.sync_rules.specs.Clients.{Meaning}
 use Rattle.sync_store.specs.Store.{StoreValue}
 use Rattle.sync_node.specs.declared.link.Link.{Link}
-use Rattle.sync_node.specs.Courses.{HaltsReceiving, HaltsSending, HaltsTurn, MakesTurn, Receives, SendsDue}
+use Rattle.sync_node.specs.Courses.{HaltsReceiving, HaltsSending, HaltsTurn, MakesTurn, ReceivesOnce, SendsDue}
 use Rattle.sync_node.specs.Fulls.{FullReceiving, FullSending, FullTurn}
 use Rattle.sync_node.specs.Node.{NodeValue}
 use Rattle.sync_node.proofs.NodeLaws.{node_of}
@@ -31,9 +31,9 @@ module _ (clients : Meaning) (s : StoreValue) (first : ℕ) (links : List Link) 
 
   -- a call on one link
   pub node_receives : (link : ℕ) (s' : StoreValue) (links' : List Link) (idle : Bool)
-      → Receives clients first link links links' s s' o o' idle
-      → Receives clients n.first link n.links links' n.store s' o o' idle
-  node_receives link s' links' idle receives = subst (λ (x : NodeValue). Receives clients x.first link x.links links' x.store s' o o' idle) is receives
+      → ReceivesOnce clients first link links links' s s' o o' idle
+      → ReceivesOnce clients n.first link n.links links' n.store s' o o' idle
+  node_receives link s' links' idle receives = subst (λ (x : NodeValue). ReceivesOnce clients x.first link x.links links' x.store s' o o' idle) is receives
 
   pub node_receiving_halted : (link : ℕ) (links' : List Link)
       → HaltsReceiving clients first link links links' s o o'

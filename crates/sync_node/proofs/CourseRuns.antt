@@ -22,7 +22,7 @@ use Rattle.sync_node.specs.Fulls.{AllSentOn, HearsFull, LinkFull, RunFull, RunFu
 use Rattle.sync_node.specs.Joined.{Joined}
 use Rattle.sync_node.specs.Node.{LinksWork}
 use Rattle.sync_node.specs.Stops.{StopsSent}
-use Rattle.sync_node.specs.Courses.{AllRead, FitsWith, HearsStops, IsRead, LinkCounts, LinkHalts, LinkRuns, ReadsAs, RunCounts, RunHalts, RunRuns, TurnAsCourse, TurnsAsCourse, TurnsStop, link_at, links_from, place_at, spot_at}
+use Rattle.sync_node.specs.Courses.{AllRead, FitsWith, HearsStops, IsLinkRead, LinkCounts, LinkHalts, LinkRuns, ReadsAs, RunCounts, RunHalts, RunRuns, TurnAsCourse, TurnsAsCourse, TurnsStop, link_at, links_from, place_at, spot_at}
 
 -- ---- lists of links
 
@@ -72,7 +72,7 @@ length_from k [] heard = refl
 length_from k (x ∷ links) heard = ap suc (length_from (suc k) links heard)
 
 pub all_read : (n : ℕ) (links : List Link) (heard : ℕ → List ℕ) (l l' : Link) (bytes : List ℕ)
-    → slice_get links n ≡ Some l → AllRead heard links → IsRead bytes l'
+    → slice_get links n ≡ Some l → AllRead heard links → IsLinkRead bytes l'
     → AllRead (heard_with n bytes heard) (slice_set links n l')
 all_read n links heard l l' bytes at all read i x at_i =
     elim (cases_eq i n) [
@@ -80,9 +80,9 @@ all_read n links heard l l' bytes at all read i x at_i =
           let here : slice_get (slice_set links n l') n ≡ Some x = subst (λ (k : ℕ). slice_get (slice_set links n l') k ≡ Some x) same at_i in
           let both : Some l' ≡ Some x = sym (get_set links n l' (get_within links n l at)) ∙ here in
           let is : l' ≡ x = cc in
-          subst (λ (b : Bool). IsRead (cond b bytes (heard i)) x) (sym (eq-eqb i n same)) (subst (IsRead bytes) is read)
+          subst (λ (b : Bool). IsLinkRead (cond b bytes (heard i)) x) (sym (eq-eqb i n same)) (subst (IsLinkRead bytes) is read)
       | inr other ↦
-          subst (λ (b : Bool). IsRead (cond b bytes (heard i)) x) (sym (ne_eqb i n other)) (all i x (sym (get_other links n i l' other) ∙ at_i))
+          subst (λ (b : Bool). IsLinkRead (cond b bytes (heard i)) x) (sym (ne_eqb i n other)) (all i x (sym (get_other links n i l' other) ∙ at_i))
     ]
 
 -- ---- the turn of one more link

@@ -1,7 +1,7 @@
 -- A session that begins on the next link, as a course has it.
 use Rattle.std.proofs.Common.{◌≡◌, ◌≢◌, ℕ, suc, ◌+◌, Bool, true, false, cond, nat_eq, eq-eqb, List, [], ◌∷◌, ◌++◌, length, refl, sym, ◌∙◌, ap, subst, inl, inr, arith, None, Some, Result, Ok, Err}
 use Rattle.std.specs.Prelude.{slice_get}
-use Rattle.outside.specs.Host.{Sends, SendsPart}
+use Rattle.outside.specs.Host.{SendsOnLink, SendsPart}
 use Rattle.outside.specs.Outside.{MakesAtMost, Outside}
 use Rattle.outside.proofs.CallCounts.{most_link}
 use Rattle.outside.specs.declared.failed.Failed.{Failed}
@@ -15,7 +15,7 @@ use Rattle.sync_rules.specs.declared.entries.Session.{Session}
 use Rattle.sync_store.specs.Ready.{IsReady}
 use Rattle.sync_store.specs.Store.{StoreValue}
 use Rattle.sync_course.proofs.CallLaws.{runs_commits, runs_none}
-use Rattle.sync_course.specs.Events.{Break, Commit, Told}
+use Rattle.sync_course.specs.Events.{Break, Commit, TellsEvents}
 use Rattle.sync_course.proofs.PathLaws.{path_one}
 use Rattle.sync_course.proofs.LiftLaws.{runs_attached, runs_greeted, runs_ungreeted}
 use Rattle.sync_course.specs.Links as course_links
@@ -30,10 +30,10 @@ use Rattle.sync_course.specs.declared.ends.LinkEnd.{LinkEnd}
 use Rattle.sync_course.specs.declared.ends.LinkEnd.TheVariants as link_end
 use Rattle.sync_node.proofs.CourseLaws.{fits_on, quiet_most}
 use Rattle.sync_node.proofs.CourseTakes.{full_sent_here, none_or_one}
-use Rattle.sync_node.specs.Fulls.{FullBeginning, FullStart, IsOver}
+use Rattle.sync_node.specs.Fulls.{FullBeginning, FullStart, PassesLimit}
 use Rattle.sync_node.specs.Stops.{StaysSame}
 use Rattle.sync_node.proofs.SentLaws.{same_sent}
-use Rattle.sync_node.specs.Courses.{Adds, AddsSome, Begins, BreaksStart, FitsWith, GreetsAsCourse, HaltsBeginning, IsRead, ReadsAs, RunHalts, RunRuns, StartsAsCourse, StartsBehind, attaching_at, link_at, links_from, place_at}
+use Rattle.sync_node.specs.Courses.{CommitsWithinCalls, AddsSome, BeginsNextSession, BreaksStart, FitsWith, GreetsAsCourse, HaltsBeginning, IsLinkRead, ReadsAs, RunHalts, RunRuns, StartsAsCourse, StartsBehind, attaching_at, link_at, links_from, place_at}
 use Rattle.sync_node.proofs.CourseRuns.{length_from}
 use Rattle.sync_node.specs.Node.{NodeValue}
 use Rattle.sync_node.specs.Sending.{EndsBy, SendsOn}
@@ -49,7 +49,7 @@ greets_once n bytes l l' o o' sends = by_result sends.result sends.sends sends.e
     made : MakesAtMost 0 o o'
     made = quiet_most (SendsPart o n bytes) o o' sends.call
 
-    by_result : (result : Result (Unit {0}) Failed) → Sends n bytes result o.links o'.links
+    by_result : (result : Result (Unit {0}) Failed) → SendsOnLink n bytes result o.links o'.links
         → EndsBy result l l' → GreetsAsCourse n l l' o o'
     by_result (Ok u) went ends = (made, inl (ends, told_sent n bytes o o' went))
     by_result (Err why) went ends = (made, inr (ends, told_broken n bytes why o o' went))
@@ -63,8 +63,8 @@ greets_twice n a b l mid l' o o1 o' unfailed first second =
     made : MakesAtMost 0 o o'
     made = most_link 0 (SendsPart o1 n b) o o1 o' (quiet_most (SendsPart o n a) o o1 first.call) second.call
 
-    by_results : (one two : Result (Unit {0}) Failed) → Sends n a one o.links o1.links
-        → EndsBy one l mid → Sends n b two o1.links o'.links → EndsBy two mid l'
+    by_results : (one two : Result (Unit {0}) Failed) → SendsOnLink n a one o.links o1.links
+        → EndsBy one l mid → SendsOnLink n b two o1.links o'.links → EndsBy two mid l'
         → GreetsAsCourse n l l' o o'
     by_results (Ok u) (Ok v) went ends then ends' = (made, inl (ends' ∙ ends, told_greeted n a b o o1 o' went then))
     by_results (Ok u) (Err why) went ends then ends' =
@@ -112,7 +112,7 @@ module _ (clients : Meaning) (x : Session) (s : StoreValue) (o : Outside) (batch
     greeting_at f = record { stage = Greets x left; links = links; moved = moved; still = still; made = made; facts = f }
 
     begun_runs : (s1 : StoreValue) (o1 : Outside) → s1.state.facts ≡ after_all s.state.facts batch
-        → Adds clients (batch ∷ []) s s1 o o1
+        → CommitsWithinCalls clients (batch ∷ []) s s1 o o1
         → RunRuns clients terms (attaching_at (x ∷ left) links moved still made s.state.facts)
         (greeting_at s1.state.facts) s s1 o o1
     begun_runs s1 o1 facts_are adds =
@@ -147,7 +147,7 @@ module _ (clients : Meaning) (x : Session) (s : StoreValue) (o : Outside) (batch
           | inr failed ↦
               subst (λ (q : Place). RunRuns clients terms from q s1 s1 o1 o2) (begins_as begun reader same l link_end.Failed s1.state.facts failed.0)
               (runs_ungreeted clients terms (FitsWith clients s1 o1.files) (FitsWith clients s1 o2.files) (fits_on clients s1 o1 o2 same_files) x left from o1 o2 refl
-              (subst (λ (k : ℕ). Told (Break k ∷ []) o1 o2) (sym long) failed.1) greets.0)
+              (subst (λ (k : ℕ). TellsEvents (Break k ∷ []) o1 o2) (sym long) failed.1) greets.0)
         ]
 
   -- a commit that was broken off
@@ -188,18 +188,18 @@ module _ (clients : Meaning) (x : Session) (s : StoreValue) (o : Outside) (batch
   }
 
   -- a session that would have passed the limit
-  pub start_full : (s' : StoreValue) (o' : Outside) → IsOver clients batch s s' o o'
+  pub start_full : (s' : StoreValue) (o' : Outside) → PassesLimit clients batch s s' o o'
       → FullStart clients x s s' o o'
   start_full s' o' over = record {
     fills = λ terms left links moved still made.
         full_sent_here clients terms (attaching_at (x ∷ left) links moved still made s.state.facts)
         (greeting_at terms left links moved still made (after_all s.state.facts (session_batch x))) (session_batch x) s s' o o' (refl, allowed, refl)
-        (subst (λ (b : List Entry). IsOver clients b s s' o o') is over);
+        (subst (λ (b : List Entry). PassesLimit clients b s s' o o') is over);
   }
 
   pub starts_course : (n : ℕ) (begun : Session) (reader : ReaderState) (l : Link) (s1 : StoreValue)
       (o1 o2 : Outside) → IsReady clients s o.files
-      → s1.state.facts ≡ after_all s.state.facts batch → Adds clients (batch ∷ []) s s1 o o1
+      → s1.state.facts ≡ after_all s.state.facts batch → CommitsWithinCalls clients (batch ∷ []) s s1 o o1
       → Some begun ≡ session_at s1.state.facts.sessions x.number
       → o2.files ≡ o1.files → reader ≡ fresh → AwaitsBytes fresh
       → GreetsAsCourse n (record { session = begun; reader = reader; nonce = begun.nonce; end = link_end.Going }) l o1 o2 → StartsAsCourse clients n x l s s1 o o2
@@ -253,14 +253,14 @@ module _ (clients : Meaning) (x : Session) (links : List Link) (s : StoreValue)
     (o o' : Outside) where
   pub begins_behind : (n : ℕ) (links' : List Link) (s' : StoreValue) → length links ≡ n
       → StartsBehind clients n x links links' s s' o o'
-      → Begins clients x links links' s s' o o'
+      → BeginsNextSession clients x links links' s s' o o'
   begins_behind n links' s' last behind = record {
     has_read = λ heard none read i y there.
         elim (get_push_cases links behind.link i y (subst (λ (ls : List Link). slice_get ls i ≡ Some y) behind.pushed there)) [
           | inl old ↦ read i y old
           | inr new ↦
-              subst (λ (k : ℕ). IsRead (heard k) y) (sym new.0)
-              (subst (λ (bytes : List ℕ). IsRead bytes y) (sym none) (subst (IsRead []) (sym new.1) behind.starts.has_read))
+              subst (λ (k : ℕ). IsLinkRead (heard k) y) (sym new.0)
+              (subst (λ (bytes : List ℕ). IsLinkRead bytes y) (sym none) (subst (IsLinkRead []) (sym new.1) behind.starts.has_read))
         ];
     runs = λ two told terms left heard moved still made none.
         let plain : length links ≡ 0 + length links = omega arith in
@@ -295,10 +295,10 @@ module _ (clients : Meaning) (x : Session) (links : List Link) (s : StoreValue)
   module _ (first : ℕ) (closed : Bool) (n : NodeValue) (is : node_of s first links closed ≡ n)
       (y : Session) (same : x ≡ y) where
     pub node_begins : (links' : List Link) (s' : StoreValue)
-        → Begins clients x links links' s s' o o' → Begins clients y n.links links' n.store s' o o'
+        → BeginsNextSession clients x links links' s s' o o' → BeginsNextSession clients y n.links links' n.store s' o o'
     node_begins links' s' begins =
-        subst (λ (m : NodeValue). Begins clients y m.links links' m.store s' o o') is
-        (subst (λ (z : Session). Begins clients z links links' s s' o o') same begins)
+        subst (λ (m : NodeValue). BeginsNextSession clients y m.links links' m.store s' o o') is
+        (subst (λ (z : Session). BeginsNextSession clients z links links' s s' o o') same begins)
 
     pub node_beginning_halted : (links' : List Link) → HaltsBeginning clients x links links' s o o'
         → HaltsBeginning clients y n.links links' n.store o o'

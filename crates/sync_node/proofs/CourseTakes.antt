@@ -8,9 +8,9 @@ use Rattle.sync_rules.specs.Clients.{Meaning}
 use Rattle.entry_codec.specs.Payloads.{payload_len}
 use Rattle.entry_codec.specs.Standing.{room_of}
 use Rattle.sync_store.specs.Store.{StoreValue, format_meant, written_in}
-use Rattle.sync_store.specs.Fitting.{Fits}
+use Rattle.sync_store.specs.Fitting.{FitsFiles}
 use Rattle.sync_store.specs.Moments as store_moments
-use Rattle.sync_store.specs.Moments.{IsBetween, Leads, WithAtMost, journal_with}
+use Rattle.sync_store.specs.Moments.{IsBetween, LeadsTo, WithAtMost, journal_with}
 use Rattle.sync_store.specs.Commits as store_commits
 use Rattle.sync_store.specs.declared.fault.StoreFault.TheVariants as store_fault
 use Rattle.record_grammar.specs.declared.stream.Item.{Item}
@@ -39,18 +39,18 @@ use Rattle.sync_course.proofs.LinkLaws.{contains_zero, zero_contained}
 use Rattle.sync_course.specs.Links as course_links
 use Rattle.sync_course.specs.Links.{closes, has_zero, items_after, link_after, nonce_after, stands_behind}
 use Rattle.sync_course.specs.Events.{Commit, Event}
-use Rattle.sync_course.specs.Paths.{Runs}
+use Rattle.sync_course.specs.Paths.{RunsPath}
 use Rattle.sync_course.specs.LinkTurns.{Doing, LinkStep, Spot, StepOf, Takes, Waits, all_taken_spot, next_take, taken_spot}
 use Rattle.sync_course.specs.Reading.{HasRead, IsReading}
 use Rattle.sync_course.proofs.ReadingLaws.{answer_comes, closes_behind_bad, goes_on_behind_more, none_come}
 use Rattle.sync_node.specs.declared.link.Link.{Link}
 use Rattle.sync_course.specs.declared.ends.LinkEnd.{LinkEnd}
 use Rattle.sync_course.specs.declared.ends.LinkEnd.TheVariants as link_end
-use Rattle.sync_node.specs.Hearing.{ClosesBy, Learns, nonce_with}
+use Rattle.sync_node.specs.Hearing.{ClosesBy, LearnsNonce, nonce_with}
 use Rattle.sync_course.proofs.ToldLaws.{runs_then}
 use Rattle.sync_course.specs.Turns.{Place, RunStep, Terms}
-use Rattle.sync_node.specs.Fulls.{AllSentOn, IsOver, LinkFull, NextFull, RunFullSent, StopsFull, TakesFull}
-use Rattle.sync_node.specs.Courses.{Adds, AddsSettling, AddsSome, AddsSomeSettling, FitsWith, IsTaking, LinkHalts, LinkRuns, NextAsCourse, NextStops, PieceAsCourse, PieceTaken, ReadsAs, RunRuns, StopsAsCourse, TakesAsCourse, link_at, spot_at}
+use Rattle.sync_node.specs.Fulls.{AllSentOn, PassesLimit, LinkFull, NextFull, RunFullSent, StopsFull, TakesFull}
+use Rattle.sync_node.specs.Courses.{CommitsWithinCalls, CommitsSettling, AddsSome, AddsSomeSettling, FitsWith, IsTaking, LinkHalts, LinkRuns, NextAsCourse, NextStops, PieceAsCourse, PieceTaken, ReadsAs, RunRuns, StopsAsCourse, TakesAsCourse, link_at, spot_at}
 use Rattle.sync_node.proofs.CourseLaws.{told_as}
 use Rattle.sync_node.proofs.CommitLaws.{settling_front}
 
@@ -112,7 +112,7 @@ pub takes_course : (clients : Meaning) (session : ℕ) (r : Record) (s mid s' : 
     (o m o' : Outside) (batch : List Entry)
     → batch ≡ next_take s.state.facts session r → Allowed clients s.state.facts batch
     → mid.state.facts ≡ after_all s.state.facts batch
-    → Adds clients (batch ∷ []) s mid o m → AddsSettling clients mid s' m o'
+    → CommitsWithinCalls clients (batch ∷ []) s mid o m → CommitsSettling clients mid s' m o'
     → TakesAsCourse clients session r s s' o o'
 takes_course clients session r s mid s' o m o' batch is allowed facts_are adds settles = record {
   runs = λ n place its p takes same.
@@ -179,7 +179,7 @@ pub stops_at_settle : (clients : Meaning) (session : ℕ) (r : Record) (s mid : 
     (o m o' : Outside) (batch : List Entry)
     → batch ≡ next_take s.state.facts session r → Allowed clients s.state.facts batch
     → mid.state.facts ≡ after_all s.state.facts batch
-    → Adds clients (batch ∷ []) s mid o m → AddsSomeSettling clients mid m o'
+    → CommitsWithinCalls clients (batch ∷ []) s mid o m → AddsSomeSettling clients mid m o'
     → StopsAsCourse clients session r s o o'
 stops_at_settle clients session r s mid o m o' batch is allowed facts_are adds settles = record {
   stops = λ n place its p takes same.
@@ -250,7 +250,7 @@ stops_at_none clients session r s o batch is allowed = record {
 -- behind what was done
 pub full_then : {P : Type 0} (clients : Meaning) (step : P → Event → P → Type 0) (p q : P)
     (s s1 s' : StoreValue) (o o1 o' : Outside)
-    → Runs step (FitsWith clients s o.files) (FitsWith clients s1 o1.files) p q o o1 []
+    → RunsPath step (FitsWith clients s o.files) (FitsWith clients s1 o1.files) p q o o1 []
     → StopsFull clients step q s1 s' o1 o' → StopsFull clients step p s s' o o'
 full_then clients step p q s s1 s' o o1 o' first second = record {
   to = second.to;
@@ -275,7 +275,7 @@ full_sent_then clients terms p q Given Given' s s1 s' o o1 o' first leads second
 -- at the place itself
 pub full_here : {P : Type 0} (clients : Meaning) (step : P → Event → P → Type 0) (p next : P)
     (batch : List Entry) (s s' : StoreValue) (o o' : Outside)
-    → step p (Commit batch) next → IsOver clients batch s s' o o'
+    → step p (Commit batch) next → PassesLimit clients batch s s' o o'
     → StopsFull clients step p s s' o o'
 full_here clients step p next batch s s' o o' steps over = record {
   to = p;
@@ -289,7 +289,7 @@ full_here clients step p next batch s s' o o' steps over = record {
 }
 
 pub full_sent_here : (clients : Meaning) (terms : Terms) (p next : Place) (batch : List Entry) (s s' : StoreValue) (o o' : Outside)
-    → RunStep clients terms p (Commit batch) next → IsOver clients batch s s' o o'
+    → RunStep clients terms p (Commit batch) next → PassesLimit clients batch s s' o o'
     → RunFullSent clients terms p (AllSentOn clients terms.first p.links s' o') s s' o o'
 unfolding full_here
 full_sent_here clients terms p next batch s s' o o' steps over = record {
@@ -300,9 +300,9 @@ full_sent_here clients terms p next batch s s' o o' steps over = record {
 -- a commit that answered Full did nothing
 pub over_limit : (clients : Meaning) (s s' : StoreValue) (batch : List Entry) (o o' : Outside)
     → DiskRun o o' → MakesAtMost 0 o o'
-    → store_commits.Commits s s' batch (Err store_fault.Full)
-    → ((two : Two File) → o.files ≡ Some two → (j : List (List Entry)) → Fits clients s j two → store_moments.Adds clients batch (Err store_fault.Full) s' o o' j)
-    → IsOver clients batch s s' o o'
+    → store_commits.AnswersCommit s s' batch (Err store_fault.Full)
+    → ((two : Two File) → o.files ≡ Some two → (j : List (List Entry)) → FitsFiles clients s j two → store_moments.RunsCommit clients batch (Err store_fault.Full) s' o o' j)
+    → PassesLimit clients batch s s' o o'
 over_limit clients s s' batch o o' run made answer adds =
     let stays = answer.2 in
     record {
@@ -310,7 +310,7 @@ over_limit clients s s' batch o o' run made answer adds =
       fits = λ j fit.
           let two' = told_as o.files o'.files fit.0 run.same_told fit.1 in
           let end = (adds fit.0 fit.1 j fit.2).ends (stays.closed ∙ answer.0) two'.0 two'.1 in
-          (two'.0, two'.1, subst (λ (whole : List (List Entry)). Fits clients s' whole two'.0) end.1 end.2);
+          (two'.0, two'.1, subst (λ (whole : List (List Entry)). FitsFiles clients s' whole two'.0) end.1 end.2);
       before = answer.1;
       over =
           omega (
@@ -328,7 +328,7 @@ over_limit clients s s' batch o o' run made answer adds =
 pub take_full : (clients : Meaning) (session : ℕ) (r : Record) (s s' : StoreValue) (o o' : Outside)
     (batch : List Entry)
     → batch ≡ next_take s.state.facts session r → Allowed clients s.state.facts batch
-    → IsOver clients batch s s' o o'
+    → PassesLimit clients batch s s' o o'
     → TakesFull clients session r s s' o o'
 take_full clients session r s s' o o' batch is allowed over = record {
   fills = λ n place its p takes same.
@@ -338,7 +338,7 @@ take_full clients session r s s' o o' batch is allowed over = record {
       let may : Allowed clients p.facts b = subst (λ f. Allowed clients f b) (sym same) (subst (Allowed clients s.state.facts) is_b allowed) in
       full_here clients (LinkStep clients n session) p q b s s' o o'
       (subst (λ (d : Doing). StepOf clients n session d (Commit b) p q) (sym takes) (inr (refl, may, refl)))
-      (subst (λ (x : List Entry). IsOver clients x s s' o o') is_b over);
+      (subst (λ (x : List Entry). PassesLimit clients x s s' o o') is_b over);
 }
 
 -- ---- the next item
@@ -371,7 +371,7 @@ end_same place (record_kind.Versions versions) old new c =
 end_same place (record_kind.Priority nonce) old new c = sym c
 
 -- what a record says of its link
-learned : (place : ℕ) (r : Record) (l l' : Link) (heard : List ℕ) → Learns place r l l'
+learned : (place : ℕ) (r : Record) (l l' : Link) (heard : List ℕ) → LearnsNonce place r l l'
     → link_after place r (link_at l heard) ≡ link_at l' heard
 learned place r l l' heard learns = λ i. record {
   contact = ap (λ x. x.contact) (sym learns.same_session) i;
@@ -411,7 +411,7 @@ to_come place (record_kind.Versions versions) others heard left old new going c 
 pub next_one : ReadingsFollow → (clients : Meaning) (n place : ℕ) (r : Record)
     (piece left : List ℕ) (l mid l' : Link) (s s' : StoreValue) (o o' : Outside)
     → l.end ≡ link_end.Going → mid.session ≡ l.session → mid.end ≡ l.end → mid.nonce ≡ l.nonce
-    → ReadsOn piece l.reader (item.One place r ∷ []) left mid.reader → Learns place r mid l'
+    → ReadsOn piece l.reader (item.One place r ∷ []) left mid.reader → LearnsNonce place r mid l'
     → TakesAsCourse clients l'.session.number r s s' o o'
     → NextAsCourse clients n piece left l l' s s' o o' true
 next_one follow clients n place r piece left l mid l' s s' o o' going same_session same_end same_nonce reads learns takes = record {
@@ -530,7 +530,7 @@ same_at l l' same_session same_end same_nonce heard = λ i. record {
 pub next_stops : ReadingsFollow → (clients : Meaning) (n place : ℕ) (r : Record)
     (piece left : List ℕ) (l mid l' : Link) (s : StoreValue) (o o' : Outside)
     → mid.session ≡ l.session → mid.end ≡ l.end → mid.nonce ≡ l.nonce
-    → ReadsOn piece l.reader (item.One place r ∷ []) left mid.reader → Learns place r mid l'
+    → ReadsOn piece l.reader (item.One place r ∷ []) left mid.reader → LearnsNonce place r mid l'
     → StopsAsCourse clients l'.session.number r s o o' → NextStops clients n piece l l' s o o'
 next_stops follow clients n place r piece left l mid l' s o o' same_session same_end same_nonce reads learns stopped = record {
   stops = λ heard its moved reading.
@@ -547,7 +547,7 @@ next_stops follow clients n place r piece left l mid l' s o o' same_session same
 pub next_full : ReadingsFollow → (clients : Meaning) (n place : ℕ) (r : Record)
     (piece left : List ℕ) (l mid l' : Link) (s s' : StoreValue) (o o' : Outside)
     → mid.session ≡ l.session → ReadsOn piece l.reader (item.One place r ∷ []) left mid.reader
-    → Learns place r mid l'
+    → LearnsNonce place r mid l'
     → TakesFull clients l'.session.number r s s' o o' → NextFull clients n piece l s s' o o'
 next_full follow clients n place r piece left l mid l' s s' o o' same_session reads learns full = record {
   fills = λ heard its moved reading.

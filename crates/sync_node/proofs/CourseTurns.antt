@@ -4,7 +4,7 @@ use Rattle.std.specs.Prelude.{IfOk, nat_lt}
 use Rattle.std.proofs.lemmas.Bool.{false≢true, lt-ltb, ne_eqb}
 use Rattle.outside.specs.declared.failed.Failed.{Failed}
 use Rattle.outside.specs.declared.host.Heard.TheVariants as heard_kind
-use Rattle.outside.specs.Host.{Hears, IsCaused, ReadsClock, Sends as SendsBytes, SendsPart}
+use Rattle.outside.specs.Host.{HearsAnswer, IsAnswerCaused, ReadsClock, SendsOnLink as SendsBytes, SendsPart}
 use Rattle.outside.specs.Outside.{MakesAtMost, Outside}
 use Rattle.record_grammar.specs.Stream.{ending}
 use Rattle.record_grammar.specs.declared.stream.Ending.{Ending}
@@ -37,8 +37,8 @@ use Rattle.sync_node.specs.Ends.{MaySend}
 use Rattle.sync_node.specs.Sending.{EndsBy, SendsOn}
 use Rattle.sync_node.proofs.CourseLaws.{fits_on, quiet_most}
 use Rattle.sync_node.proofs.CourseTakes.{full_here, full_then, halts_behind, halts_none, none_or_one}
-use Rattle.sync_node.specs.Fulls.{HearsFull, IsOver, LinkFull, NextFull, PutsFull, SendsFull, SentFull}
-use Rattle.sync_node.specs.Courses.{Adds, AddsSome, FitsWith, GoesOnSending, HearsAsCourse, HearsStops, IsRead, IsReadyToSend, LinkCounts, LinkHalts, LinkRuns, NextStops, OutsAsCourse, OutsTo, PieceTaken, PutsAsCourse, PutsStop, ReadsAs, SendsAsCourse, SendsStop, SentAsCourse, SentStops, TurnAsCourse, link_at, spot_at}
+use Rattle.sync_node.specs.Fulls.{HearsFull, PassesLimit, LinkFull, NextFull, PutsFull, LeavesNoRoomFor, TurnLeavesNoRoom}
+use Rattle.sync_node.specs.Courses.{CommitsWithinCalls, AddsSome, FitsWith, GoesOnSending, HearsAsCourse, HearsStops, IsLinkRead, IsReadyToSend, LinkCounts, LinkHalts, LinkRuns, NextStops, OutsAsCourse, OutsTo, PieceTaken, PutsAsCourse, PutsStop, ReadsAs, SendsAsCourse, SendsStop, SentAsCourse, SentStops, TurnAsCourse, link_at, spot_at}
 
 -- ---- one after the other
 
@@ -81,8 +81,8 @@ going_end e going = ap (λ x. is_going x) going
 module _ (clients : Meaning) (n : ℕ) (l : Link) (s : StoreValue) (o o1 : Outside) (buf : List ℕ) (whole : length buf ≡ PIECE_LEN)
     (going : l.end ≡ link_end.Going) (same_files : o1.files ≡ o.files) (made : MakesAtMost 0 o o1) where
   -- nothing came for now
-  pub hears_idle : Hears n heard_kind.Idle buf o.links o1.links
-      → IsCaused heard_kind.Idle (length buf) (o.links.faults n) (o1.links.faults n)
+  pub hears_idle : HearsAnswer n heard_kind.Idle buf o.links o1.links
+      → IsAnswerCaused heard_kind.Idle (length buf) (o.links.faults n) (o1.links.faults n)
       → HearsAsCourse clients n l l s s o o1 true
   hears_idle hears caused = record {
     leads = λ heard moved read. record {
@@ -97,8 +97,8 @@ module _ (clients : Meaning) (n : ℕ) (l : Link) (s : StoreValue) (o o1 : Outsi
   }
 
   -- the call failed
-  pub hears_failed : Hears n heard_kind.Failed buf o.links o1.links
-      → IsCaused heard_kind.Failed (length buf) (o.links.faults n) (o1.links.faults n)
+  pub hears_failed : HearsAnswer n heard_kind.Failed buf o.links o1.links
+      → IsAnswerCaused heard_kind.Failed (length buf) (o.links.faults n) (o1.links.faults n)
       → HearsAsCourse clients n l (record l { end = link_end.Failed }) s s o o1 false
   hears_failed hears caused = record {
     leads = λ heard moved read. record {
@@ -119,8 +119,8 @@ module _ (clients : Meaning) (n : ℕ) (l : Link) (s : StoreValue) (o o1 : Outsi
 
   -- the other side ended
   pub hears_ended : (end : LinkEnd) → end ≡ stands_ended (ending l.reader.place l.reader.bytes)
-      → Hears n heard_kind.End buf o.links o1.links
-      → IsCaused heard_kind.End (length buf) (o.links.faults n) (o1.links.faults n)
+      → HearsAnswer n heard_kind.End buf o.links o1.links
+      → IsAnswerCaused heard_kind.End (length buf) (o.links.faults n) (o1.links.faults n)
       → HearsAsCourse clients n l (record l { end = end }) s s o o1 false
   hears_ended end is hears caused = record {
     leads = λ heard moved read.
@@ -141,8 +141,8 @@ module _ (clients : Meaning) (n : ℕ) (l : Link) (s : StoreValue) (o o1 : Outsi
   }
 
   heard_piece : (count : ℕ) (heard : List ℕ) (moved : Bool)
-      → Hears n (heard_kind.Got count) buf o.links o1.links
-      → IsCaused (heard_kind.Got count) (length buf) (o.links.faults n) (o1.links.faults n)
+      → HearsAnswer n (heard_kind.Got count) buf o.links o1.links
+      → IsAnswerCaused (heard_kind.Got count) (length buf) (o.links.faults n) (o1.links.faults n)
       → LinkRuns clients n l.session.number (spot_at Asks l heard moved s.state.facts)
       (spot_at (Takes (new_items heard (take count buf))) l (heard ++ take count buf) true s.state.facts) s s o o1
   heard_piece count heard moved hears caused =
@@ -151,8 +151,8 @@ module _ (clients : Meaning) (n : ℕ) (l : Link) (s : StoreValue) (o o1 : Outsi
 
   -- bytes came, and were taken
   pub hears_piece : ReadingsWiden → (count : ℕ) (l' : Link) (s' : StoreValue) (o' : Outside)
-      → Hears n (heard_kind.Got count) buf o.links o1.links
-      → IsCaused (heard_kind.Got count) (length buf) (o.links.faults n) (o1.links.faults n)
+      → HearsAnswer n (heard_kind.Got count) buf o.links o1.links
+      → IsAnswerCaused (heard_kind.Got count) (length buf) (o.links.faults n) (o1.links.faults n)
       → PieceTaken clients n (take count buf) l l' s s' o1 o'
       → HearsAsCourse clients n l l' s s' o o' false
   hears_piece widen count l' s' o' hears caused taken = record {
@@ -173,8 +173,8 @@ module _ (clients : Meaning) (n : ℕ) (l : Link) (s : StoreValue) (o o1 : Outsi
   }
 
   pub hears_stops : ReadingsWiden → (count : ℕ) (l' : Link) (o' : Outside)
-      → Hears n (heard_kind.Got count) buf o.links o1.links
-      → IsCaused (heard_kind.Got count) (length buf) (o.links.faults n) (o1.links.faults n)
+      → HearsAnswer n (heard_kind.Got count) buf o.links o1.links
+      → IsAnswerCaused (heard_kind.Got count) (length buf) (o.links.faults n) (o1.links.faults n)
       → NextStops clients n (take count buf) l l' s o1 o' → HearsStops clients n l l' s o o'
   hears_stops widen count l' o' hears caused stopped = record {
     stops = λ heard moved read.
@@ -189,8 +189,8 @@ module _ (clients : Meaning) (n : ℕ) (l : Link) (s : StoreValue) (o o1 : Outsi
   }
 
   pub hears_full : ReadingsWiden → (count : ℕ) (s' : StoreValue) (o' : Outside)
-      → Hears n (heard_kind.Got count) buf o.links o1.links
-      → IsCaused (heard_kind.Got count) (length buf) (o.links.faults n) (o1.links.faults n)
+      → HearsAnswer n (heard_kind.Got count) buf o.links o1.links
+      → IsAnswerCaused (heard_kind.Got count) (length buf) (o.links.faults n) (o1.links.faults n)
       → NextFull clients n (take count buf) l s s' o1 o' → HearsFull clients n l s s' o o'
   hears_full widen count s' o' hears caused full = record {
     fills = λ heard moved read.
@@ -250,7 +250,7 @@ module _ (clients : Meaning) (n now : ℕ) (what : Out) (l : Link) (s : StoreVal
     (is : batch ≡ entry.Out l.session.number now what ∷ [])
     (allowed : Allowed clients s.state.facts (entry.Out l.session.number now what ∷ [])) where
   committed_out : (s1 : StoreValue) (o1 : Outside) → s1.state.facts ≡ after_all s.state.facts batch
-      → Adds clients (batch ∷ []) s s1 o o1
+      → CommitsWithinCalls clients (batch ∷ []) s s1 o o1
       → (heard : List ℕ) (moved : Bool) (room : ℕ)
       → LinkCounts clients n l.session.number (spot_at (Sends now (suc room)) l heard moved s.state.facts)
       (spot_at (Puts now room) l heard true s1.state.facts) s s1 o o1 1
@@ -291,7 +291,7 @@ module _ (clients : Meaning) (n now : ℕ) (what : Out) (l : Link) (s : StoreVal
 
   pub puts_course : (s1 : StoreValue) (o1 o' : Outside) (l' : Link) (bytes : List ℕ)
       → s1.state.facts ≡ after_all s.state.facts batch
-      → Adds clients (batch ∷ []) s s1 o o1 → SendsOn n bytes l l' o1 o'
+      → CommitsWithinCalls clients (batch ∷ []) s s1 o o1 → SendsOn n bytes l l' o1 o'
       → PutsAsCourse clients n now l l' s s1 o o'
   puts_course s1 o1 o' l' bytes facts_are adds sends = record {
     leads = λ heard moved room open_is.
@@ -347,7 +347,7 @@ module _ (clients : Meaning) (n now : ℕ) (what : Out) (l : Link) (s : StoreVal
         ];
   }
 
-  pub puts_full : (s' : StoreValue) (o' : Outside) → IsOver clients batch s s' o o'
+  pub puts_full : (s' : StoreValue) (o' : Outside) → PassesLimit clients batch s s' o o'
       → PutsFull clients n now l s s' o o'
   puts_full s' o' over = record {
     fills = λ heard moved room.
@@ -355,7 +355,7 @@ module _ (clients : Meaning) (n now : ℕ) (what : Out) (l : Link) (s : StoreVal
         let b : List Entry = out_batch l.session.number now what in
         full_here clients (LinkStep clients n l.session.number) p (out_spot now room b p) b s s' o o'
         (record { what = what; is = refl; is_due = allowed.2; allowed = allowed; leads = refl })
-        (subst (λ (x : List Entry). IsOver clients x s s' o o') is over);
+        (subst (λ (x : List Entry). PassesLimit clients x s s' o o') is over);
   }
 
 pub puts_stops_there : (clients : Meaning) (n now : ℕ) (l : Link) (s : StoreValue) (o : Outside)
@@ -491,7 +491,7 @@ module _ (clients : Meaning) (n now made : ℕ) (l m : Link) (s s1 : StoreValue)
 
   -- an output would have passed the limit
   pub outs_full : (s' : StoreValue) (o' : Outside) → made < MAX_OUTPUTS
-      → PutsFull clients n now m s1 s' o1 o' → SentFull clients n now l s s' o o'
+      → PutsFull clients n now m s1 s' o1 o' → TurnLeavesNoRoom clients n now l s s' o o'
   outs_full s' o' less b = record {
     fills = λ heard moved entry_open.
         let first = a.leads heard moved entry_open in
@@ -623,8 +623,8 @@ module _ (clients : Meaning) (n now : ℕ) (l : Link) (s : StoreValue) (o o1 : O
         (read_at heard moved doing ready) (sent.stops heard moved (may_end l.end may));
   }
 
-  pub sends_full : (s' : StoreValue) (o' : Outside) → SentFull clients n now l s s' o1 o'
-      → SendsFull clients n l s s' o o'
+  pub sends_full : (s' : StoreValue) (o' : Outside) → TurnLeavesNoRoom clients n now l s s' o1 o'
+      → LeavesNoRoomFor clients n l s s' o o'
   sends_full s' o' sent = record {
     fills = λ heard moved doing ready.
         full_then clients (LinkStep clients n l.session.number) (spot_at doing l heard moved s.state.facts)
@@ -635,7 +635,7 @@ module _ (clients : Meaning) (n now : ℕ) (l : Link) (s : StoreValue) (o o1 : O
 -- ---- a turn
 
 pub read_on : (heard : List ℕ) (m l' : Link) → l'.reader ≡ m.reader
-    → (l'.end ≡ m.end) ⊎ (l'.end ≡ link_end.Failed) → IsRead heard m → IsRead heard l'
+    → (l'.end ≡ m.end) ⊎ (l'.end ≡ link_end.Failed) → IsLinkRead heard m → IsLinkRead heard l'
 read_on heard m l' same end read going =
     elim end [
       | inl as_before ↦ subst (HasRead heard) (sym same) (read (sym as_before ∙ going))
@@ -678,7 +678,7 @@ module _ (clients : Meaning) (n : ℕ) (l m : Link) (s s1 : StoreValue) (o o1 : 
         );
   }
 
-  pub turn_full : (s' : StoreValue) (o' : Outside) → SendsFull clients n m s1 s' o1 o'
+  pub turn_full : (s' : StoreValue) (o' : Outside) → LeavesNoRoomFor clients n m s1 s' o1 o'
       → HearsFull clients n l s s' o o'
   turn_full s' o' sends = record {
     fills = λ heard moved read.

@@ -14,7 +14,7 @@ use Rattle.sync_rules.specs.Facts.{Facts, session_at}
 use Rattle.sync_store.specs.Store.{StoreValue}
 use Rattle.sync_node.specs.declared.link.Link.{Link}
 use Rattle.sync_course.specs.declared.ends.LinkEnd.TheVariants as link_end
-use Rattle.sync_node.specs.Going.{Elsewhere, Goes}
+use Rattle.sync_node.specs.Going.{Elsewhere, LetsNothingFall}
 use Rattle.sync_node.specs.Joined.{IsJoined, IsUnused, Joined}
 use Rattle.outside.specs.declared.limits.TheConstants.{LINKS}
 use Rattle.sync_node.specs.declared.fault.Fault.{Fault}
@@ -22,10 +22,10 @@ use Rattle.sync_node.specs.declared.fault.Fault.TheVariants as node_fault
 use Rattle.sync_node.specs.declared.fault.NodeFault.{NodeFault}
 use Rattle.sync_node.specs.declared.fault.NodeFault.TheVariants as fault
 use Rattle.sync_node.specs.Faults.{fault_of}
-use Rattle.sync_node.specs.Node.{Answers, AreAttached, AreSome, IsAttached, IsNode, KeepsJoined, KeepsSafe, LinksSafe, LinksWork, MayGoOn, MayRun, NodeValue, StaysClosed}
+use Rattle.sync_node.specs.Node.{AnswersAndCloses, AreAttached, AreSome, IsAttached, IsNode, KeepsJoined, KeepsSafe, LinksSafe, LinksWork, MayGoOn, MayRun, NodeValue, StaysClosed}
 use Rattle.sync_node.specs.Safe.{Begin, Safe}
 use Rattle.sync_node.specs.Redundant.{ClosesSome, StaysOrCloses}
-use Rattle.sync_node.specs.Working.{IsAble, StaysSafe, Waits, Works}
+use Rattle.sync_node.specs.Working.{IsAble, StaysSafe, HasGivenItems, WorksOnLink}
 use Rattle.sync_node.proofs.SafeLaws.{goes_none, told_before}
 use Rattle.sync_node.proofs.WorkLaws.{goes_then}
 
@@ -54,7 +54,7 @@ length_set (y ∷ ys) (suc i) a = ap suc (length_set ys i a)
 -- ---- another link
 
 pub other_joined : (clients : Meaning) (number link other : ℕ) (l : Link) (s s' : StoreValue)
-    (o o' : Outside) → Goes o o' → Elsewhere clients number link s s' o o' → other ≢ link
+    (o o' : Outside) → LetsNothingFall o o' → Elsewhere clients number link s s' o o' → other ≢ link
     → l.session.number ≢ number
     → IsJoined clients other [] l s o → IsJoined clients other [] l s' o'
 other_joined clients number link other l s s' o o' goes elsewhere apart numbered joined = record {
@@ -72,7 +72,7 @@ other_joined clients number link other l s s' o o' goes elsewhere apart numbered
 }
 
 pub other_unused : (clients : Meaning) (number link other : ℕ) (s s' : StoreValue) (o o' : Outside)
-    → Goes o o' → Elsewhere clients number link s s' o o' → other ≢ link → IsUnused other o
+    → LetsNothingFall o o' → Elsewhere clients number link s s' o o' → other ≢ link → IsUnused other o
     → IsUnused other o'
 other_unused clients number link other s s' o o' goes elsewhere apart unused = record {
   nothing_sent = λ told'. elsewhere.links.sent other apart ∙ unused.nothing_sent (told_before o o' goes told');
@@ -84,7 +84,7 @@ other_unused clients number link other s s' o o' goes elsewhere apart unused = r
 pub all_joined : (clients : Meaning) (first link : ℕ) (links : List Link) (l l' : Link)
     (s s' : StoreValue) (o o' : Outside) → AreAttached first links s.state.facts
     → slice_get links link ≡ Some l
-    → Works clients link [] [] l l' s s' o o' → Joined clients links s o
+    → WorksOnLink clients link [] [] l l' s s' o o' → Joined clients links s o
     → Joined clients (set links link l') s' o'
 all_joined clients first link links l l' s s' o o' attached here works joined = record {
   each = λ other x there. elim (cases_eq other link) [
@@ -106,7 +106,7 @@ all_joined clients first link links l l' s s' o o' attached here works joined = 
 pub all_attached : (clients : Meaning) (first link : ℕ) (links : List Link) (l l' : Link)
     (s s' : StoreValue) (o o' : Outside) → AreAttached first links s.state.facts
     → slice_get links link ≡ Some l
-    → Works clients link [] [] l l' s s' o o' → Waits l'
+    → WorksOnLink clients link [] [] l l' s s' o o' → HasGivenItems l'
     → AreAttached first (set links link l') s'.state.facts
 all_attached clients first link links l l' s s' o o' attached here works waits =
     let moved : (x : Session) (n : ℕ) → session_at s.state.facts.sessions n ≡ Some x → session_at s'.state.facts.sessions n ≡ Some x =
@@ -153,7 +153,7 @@ links_none clients first links s o attached = record {
 pub links_one : (clients : Meaning) (first link : ℕ) (links : List Link) (l l' : Link)
     (s s' : StoreValue) (o o' : Outside) → AreAttached first links s.state.facts
     → slice_get links link ≡ Some l
-    → Works clients link [] [] l l' s s' o o' → Waits l'
+    → WorksOnLink clients link [] [] l l' s s' o o' → HasGivenItems l'
     → LinksWork clients first links (set links link l') s s' o o'
 links_one clients first link links l l' s s' o o' attached here works waits = record {
   goes = works.goes;
@@ -201,7 +201,7 @@ link_able clients first link links l s o may attached here =
 -- and the links may go on behind it
 pub links_go_on : (clients : Meaning) (link : ℕ) (links links' : List Link) (session : Session)
     (s s' : StoreValue) (o o' : Outside) → MayGoOn clients links s o → length links' ≡ length links
-    → Goes o o' → IsAble clients link session s' o' → MayGoOn clients links' s' o'
+    → LetsNothingFall o o' → IsAble clients link session s' o' → MayGoOn clients links' s' o'
 links_go_on clients link links links' session s s' o o' may same goes able = record {
   ready = able.ready;
   settled = λ _. able.settled;
@@ -247,10 +247,10 @@ closed_joined_one clients link before l s o is joined = elim is [
       (record { sent = λ _. joined.sent unfailed; taken = λ going. absurd (let e : link_end.Redundant ≡ link_end.Going = going in cc) })
 ]
 
-closed_waits : (before l : Link) → (l ≡ before) ⊎ ((before.end ≡ link_end.Going) × (l ≡ record before { end = link_end.Redundant })) → Waits before → Waits l
+closed_waits : (before l : Link) → (l ≡ before) ⊎ ((before.end ≡ link_end.Going) × (l ≡ record before { end = link_end.Redundant })) → HasGivenItems before → HasGivenItems l
 closed_waits before l is waits = elim is [
-  | inl same ↦ subst Waits (sym same) waits
-  | inr closing ↦ subst Waits (sym closing.1) (λ going. absurd (let e : link_end.Redundant ≡ link_end.Going = going in cc))
+  | inl same ↦ subst HasGivenItems (sym same) waits
+  | inr closing ↦ subst HasGivenItems (sym closing.1) (λ going. absurd (let e : link_end.Redundant ≡ link_end.Going = going in cc))
 ]
 
 closed_session : (before l : Link) → (l ≡ before) ⊎ ((before.end ≡ link_end.Going) × (l ≡ record before { end = link_end.Redundant })) → l.session ≡ before.session
@@ -384,10 +384,10 @@ pub some_as : (first : ℕ) (links lent : List Link) (f : Facts) → lent ≡ li
 some_as first links lent f is attached = record { first = first; attached = attached_as first links lent f is attached }
 
 -- a fault is an answer of a node that was not closed
-pub fault_answers : (T : Type 0) (f : Fault) (e : NodeFault) (n' : NodeValue) → e ≡ fault_of f → n'.closed ≡ true → Answers {T = T} (Err e) n'
-fault_answers T f e n' is closed = subst (λ (x : NodeFault). Answers {T = T} (Err x) n') (sym is) (by_kind f)
+pub fault_answers : (T : Type 0) (f : Fault) (e : NodeFault) (n' : NodeValue) → e ≡ fault_of f → n'.closed ≡ true → AnswersAndCloses {T = T} (Err e) n'
+fault_answers T f e n' is closed = subst (λ (x : NodeFault). AnswersAndCloses {T = T} (Err x) n') (sym is) (by_kind f)
   where
-    by_kind : (f : Fault) → Answers {T = T} (Err (fault_of f)) n'
+    by_kind : (f : Fault) → AnswersAndCloses {T = T} (Err (fault_of f)) n'
     by_kind node_fault.Memory = closed
     by_kind node_fault.DiskFault = closed
     by_kind node_fault.Full = closed

@@ -3,10 +3,10 @@ use Rattle.std.proofs.Common.{◌≡◌, ◌≢◌, ◌⊎◌, ℕ, ◌+◌, ◌
 use Rattle.std.proofs.lemmas.Bool.{ne_eqb}
 use Rattle.outside.specs.declared.failed.Failed.{Failed}
 use Rattle.outside.specs.Files.{Two, File}
-use Rattle.outside.specs.Host.{Sends, SendsPart}
+use Rattle.outside.specs.Host.{SendsOnLink, SendsPart}
 use Rattle.outside.specs.Links.{Links}
 use Rattle.outside.specs.Outside.{Outside, LinkCall}
-use Rattle.outside.specs.Runs.{IsFront, Told, answers_at, heard_bytes}
+use Rattle.outside.specs.Runs.{IsFront, TellsAll, answers_at, heard_bytes}
 use Rattle.outside.proofs.RunLaws.{front_same, grow_send, others_same, others_send, others_then, sent_here, went_out}
 use Rattle.record_grammar.specs.Laws.{FrontsHaveFronts}
 use Rattle.record_grammar.specs.Spelling.{spelled}
@@ -26,19 +26,19 @@ use Rattle.sync_rules.specs.Steps.{IsSettled}
 use Rattle.entry_codec.specs.Standing.{room_of}
 use Rattle.outside.specs.declared.limits.TheConstants.{MAX_JOURNAL}
 use Rattle.sync_store.specs.Store.{StoreValue, written_in}
-use Rattle.sync_store.specs.Fitting.{Fits, ImagesStand}
+use Rattle.sync_store.specs.Fitting.{FitsFiles, ImagesStand}
 use Rattle.sync_store.specs.Ready.{IsReady}
 use Rattle.sync_node.specs.declared.link.Link.{Link}
 use Rattle.sync_course.specs.declared.ends.LinkEnd.{LinkEnd}
 use Rattle.sync_course.specs.declared.ends.LinkEnd.TheVariants as link_end
 use Rattle.sync_node.specs.Ends.{MaySend}
-use Rattle.sync_node.specs.Going.{Commits, Goes, HasOthers, specs_of}
-use Rattle.sync_node.specs.Joined.{HasTaken, IsAllSent}
+use Rattle.sync_node.specs.Going.{CommitsBatches, LetsNothingFall, HasOthers, specs_of}
+use Rattle.sync_node.specs.Joined.{HasTakenItems, IsAllSent}
 use Rattle.sync_node.specs.Output.{Journal, heard_on, output, sent_on}
 use Rattle.sync_node.specs.Safe.{Begin, Safe}
 use Rattle.sync_node.specs.Sending.{EndsBy, SendsOn}
 use Rattle.sync_node.specs.Suits.{IsOfRun}
-use Rattle.sync_node.specs.Working.{IsAble, StaysSafe, Waits, Works}
+use Rattle.sync_node.specs.Working.{IsAble, StaysSafe, HasGivenItems, WorksOnLink}
 use Rattle.sync_node.proofs.CommitLaws.{CommitsSafe}
 use Rattle.sync_node.proofs.SafeLaws.{goes_link, safe_send, specs_told, told_before}
 use Rattle.sync_node.proofs.SuitLaws.{output_append}
@@ -69,9 +69,9 @@ output_with clients before whole more session legal is =
 
 -- what was sent is the whole output but for that of the batch
 pub output_behind : (clients : Meaning) (n link now : ℕ) (what : Out) (s s1 : StoreValue)
-    (o o1 : Outside) (bytes : List ℕ) → Commits clients (out_batch n now what ∷ []) s s1 o o1
+    (o o1 : Outside) (bytes : List ℕ) → CommitsBatches clients (out_batch n now what ∷ []) s s1 o o1
     → bytes ≡ spelled (records_of s.state.facts.held what) → IsAllSent clients n link s o
-    → (told : Told o1) (whole : Journal) → Fits clients s1 whole told.two
+    → (told : TellsAll o1) (whole : Journal) → FitsFiles clients s1 whole told.two
     → output whole n ≡ sent_on o1.links link ++ bytes
 output_behind clients n link now what s s1 o o1 bytes commits is_bytes sent told1 whole fits =
     let from = commits.goes_on told1 whole fits in
@@ -83,8 +83,8 @@ output_behind clients n link now what s s1 o o1 bytes commits is_bytes sent told
     ∙ ap (λ (l : List ℕ). sent_on o1.links link ++ l) adds)
 
 outputs_elsewhere : (clients : Meaning) (n now : ℕ) (what : Out) (s s1 : StoreValue)
-    (o o1 : Outside) → Commits clients (out_batch n now what ∷ []) s s1 o o1
-    → (told : Told o1) (whole : Journal) → Fits clients s1 whole told.two
+    (o o1 : Outside) → CommitsBatches clients (out_batch n now what ∷ []) s s1 o o1
+    → (told : TellsAll o1) (whole : Journal) → FitsFiles clients s1 whole told.two
     → HasOthers clients n s o whole
 outputs_elsewhere clients n now what s s1 o o1 commits told1 whole fits =
     let from = commits.goes_on told1 whole fits in
@@ -102,16 +102,16 @@ outputs_elsewhere clients n now what s s1 o o1 commits told1 whole fits =
 
 -- the disk fits the store before a send as behind it
 pub fits_before : (clients : Meaning) (s : StoreValue) (o o' : Outside) (link : ℕ) (bytes : List ℕ)
-    (goes : Goes o o') → LinkCall (SendsPart o link bytes) o o'
-    → (told : Told o') (whole : Journal) → Fits clients s whole told.two
-    → Fits clients s whole (told_before o o' goes told).two
+    (goes : LetsNothingFall o o') → LinkCall (SendsPart o link bytes) o o'
+    → (told : TellsAll o') (whole : Journal) → FitsFiles clients s whole told.two
+    → FitsFiles clients s whole (told_before o o' goes told).two
 fits_before clients s o o' link bytes goes call told' whole fits =
     let told = told_before o o' goes told' in
     let two : told'.two ≡ told.two = cc (told'.files_are, told.files_are, call.same_files) in
-    subst (λ (t : Two File). Fits clients s whole t) two fits
+    subst (λ (t : Two File). FitsFiles clients s whole t) two fits
 
 pub goes_send : (o o' : Outside) (link : ℕ) (bytes : List ℕ) (l l' : Link)
-    → SendsOn link bytes l l' o o' → Goes o o'
+    → SendsOn link bytes l l' o o' → LetsNothingFall o o'
 goes_send o o' link bytes l l' sends =
     let out = went_out link bytes sends.result o.links o'.links sends.sends in
     goes_link _ o o' sends.call (grow_send link bytes sends.result o.links o'.links sends.sends) sends.sends.same_dialled
@@ -120,7 +120,7 @@ goes_send o o' link bytes l l' sends =
 -- what was sent is the whole output, where the send did not fail
 sent_whole : (clients : Meaning) (n link : ℕ) (s : StoreValue) (o o' : Outside) (bytes : List ℕ)
     (l l' : Link) → link < o.links.dialled
-    → ((told : Told o) (whole : Journal) → Fits clients s whole told.two → output whole n ≡ sent_on o.links link ++ bytes)
+    → ((told : TellsAll o) (whole : Journal) → FitsFiles clients s whole told.two → output whole n ≡ sent_on o.links link ++ bytes)
     → SendsOn link bytes l l' o o' → l'.end ≢ link_end.Failed → IsAllSent clients n link s o'
 sent_whole clients n link s o o' bytes l l' within whole_is sends unfailed told' whole fits =
     let goes = goes_send o o' link bytes l l' sends in
@@ -128,8 +128,8 @@ sent_whole clients n link s o o' bytes l l' within whole_is sends unfailed told'
     let before = fits_before clients s o o' link bytes goes sends.call told' whole fits in
     by_result sends.result sends.sends sends.ends told before
   where
-    by_result : (result : Result (Unit {0}) Failed) → Sends link bytes result o.links o'.links
-        → EndsBy result l l' → (told : Told o) → Fits clients s whole told.two
+    by_result : (result : Result (Unit {0}) Failed) → SendsOnLink link bytes result o.links o'.links
+        → EndsBy result l l' → (told : TellsAll o) → FitsFiles clients s whole told.two
         → sent_on o'.links link ≡ output whole n
     by_result (Ok u) went ends told before = sent_here o o' link bytes u told within went ∙ sym (whole_is told whole before)
     by_result (Err e) went ends told before = absurd (unfailed (ap (λ (x : Link). x.end) ends))
@@ -151,13 +151,13 @@ taken_as_before : (link : ℕ) (left : List ℕ) (l l' : Link) (s s1 : StoreValu
     (bytes : List ℕ) → o1.links ≡ o.links
     → s1.state.facts.takes ≡ s.state.facts.takes → SendsOn link bytes l l' o1 o2
     → l'.end ≡ link_end.Going
-    → (l.end ≡ link_end.Going → HasTaken (heard_on o.links link) left l (takes_of s.state.facts.takes l.session.number))
-    → HasTaken (heard_on o2.links link) left l' (takes_of s1.state.facts.takes l'.session.number)
+    → (l.end ≡ link_end.Going → HasTakenItems (heard_on o.links link) left l (takes_of s.state.facts.takes l.session.number))
+    → HasTakenItems (heard_on o2.links link) left l' (takes_of s1.state.facts.takes l'.session.number)
 taken_as_before link left l l' s s1 o o1 o2 bytes links takes sends going has = elim (kept_by sends.result l l' sends.ends) [
   | inl same ↦
       let heard : heard_on o2.links link ≡ heard_on o.links link = ap (λ t. heard_bytes (answers_at t link)) sends.sends.same_heard ∙ ap (λ (x : Links). heard_on x link) links in
       let was = has (ap (λ (x : Link). x.end) (sym same) ∙ going) in
-      subst (λ (x : Link). HasTaken (heard_on o2.links link) left x (takes_of s1.state.facts.takes x.session.number)) (sym same) (record {
+      subst (λ (x : Link). HasTakenItems (heard_on o2.links link) left x (takes_of s1.state.facts.takes x.session.number)) (sym same) (record {
         has = was.has;
         reads = subst (λ (h : List ℕ). ReadsOn h fresh was.has left l.reader) (sym heard) was.reads;
         count = ap (λ t. takes_of t l.session.number) takes ∙ was.count;
@@ -168,13 +168,13 @@ taken_as_before link left l l' s s1 o o1 o2 bytes links takes sends going has = 
 
 pub out_works : FrontsHaveFronts → ImagesStand → (clients : Meaning) (link now : ℕ) (what : Out)
     (l l' : Link) (s s1 : StoreValue) (o o1 o2 : Outside) (bytes : List ℕ)
-    → Commits clients (out_batch l.session.number now what ∷ []) s s1 o o1
-    → ((b : Begin) (plans later : List Session) → IsFront plans later → (Told o → IsOfRun b.first later (heard_on o.links) s.state.facts (out_batch l.session.number now what))
+    → CommitsBatches clients (out_batch l.session.number now what ∷ []) s s1 o o1
+    → ((b : Begin) (plans later : List Session) → IsFront plans later → (TellsAll o → IsOfRun b.first later (heard_on o.links) s.state.facts (out_batch l.session.number now what))
     → Safe clients b plans s o → Safe clients b later s1 o1)
     → bytes ≡ spelled (records_of s.state.facts.held what)
     → s1.end + room_of (written_in s1) s1.state.facts ≤ MAX_JOURNAL → link < o.links.dialled
     → l.end ≢ link_end.Failed
-    → SendsOn link bytes l l' o1 o2 → Works clients link [] [] l l' s s1 o o2
+    → SendsOn link bytes l l' o1 o2 → WorksOnLink clients link [] [] l l' s s1 o o2
 out_works fronts stand clients link now what l l' s s1 o o1 o2 bytes commits safe is_bytes roomy within unfailed sends =
     let n : ℕ = l.session.number in
     let goes = goes_send o1 o2 link bytes l l' sends in
@@ -212,7 +212,7 @@ out_works fronts stand clients link now what l l' s s1 o o1 o2 bytes commits saf
 -- behind an output the session may go on
 pub out_able : (clients : Meaning) (link now : ℕ) (what : Out) (l l' : Link) (s s1 : StoreValue)
     (o o1 o2 : Outside) (bytes : List ℕ) → IsAble clients link l.session s o
-    → Commits clients (out_batch l.session.number now what ∷ []) s s1 o o1
+    → CommitsBatches clients (out_batch l.session.number now what ∷ []) s s1 o o1
     → SendsOn link bytes l l' o1 o2 → IsAble clients link l'.session s1 o2
 out_able clients link now what l l' s s1 o o1 o2 bytes able commits sends =
     let known : session_at s1.state.facts.sessions l.session.number ≡ Some l.session = ap (λ (f : Facts). session_at f.sessions l.session.number) commits.facts ∙ able.known in
@@ -227,23 +227,23 @@ out_able clients link now what l l' s s1 o o1 o2 bytes able commits sends =
 
 pub put_works : FrontsHaveFronts → ImagesStand → (clients : Meaning) (link now : ℕ) (what : Out)
     (l l' : Link) (s s1 : StoreValue) (o o1 o2 : Outside) (bytes : List ℕ) (batch : List Entry)
-    → batch ≡ out_batch l.session.number now what → Commits clients (batch ∷ []) s s1 o o1
+    → batch ≡ out_batch l.session.number now what → CommitsBatches clients (batch ∷ []) s s1 o o1
     → CommitsSafe clients batch s s1 o o1
     → bytes ≡ spelled (records_of s.state.facts.held what)
     → s1.end + room_of (written_in s1) s1.state.facts ≤ MAX_JOURNAL → link < o.links.dialled
     → l.end ≢ link_end.Failed
-    → SendsOn link bytes l l' o1 o2 → Works clients link [] [] l l' s s1 o o2
+    → SendsOn link bytes l l' o1 o2 → WorksOnLink clients link [] [] l l' s s1 o o2
 put_works fronts stand clients link now what l l' s s1 o o1 o2 bytes batch is commits safe =
-    out_works fronts stand clients link now what l l' s s1 o o1 o2 bytes (subst (λ (b : List Entry). Commits clients (b ∷ []) s s1 o o1) is commits)
+    out_works fronts stand clients link now what l l' s s1 o o1 o2 bytes (subst (λ (b : List Entry). CommitsBatches clients (b ∷ []) s s1 o o1) is commits)
     (subst (λ (b : List Entry). CommitsSafe clients b s s1 o o1) is safe)
 
 pub put_able : (clients : Meaning) (link now : ℕ) (what : Out) (l l' : Link) (s s1 : StoreValue)
     (o o1 o2 : Outside) (bytes : List ℕ) (batch : List Entry)
     → batch ≡ out_batch l.session.number now what → IsAble clients link l.session s o
-    → Commits clients (batch ∷ []) s s1 o o1 → SendsOn link bytes l l' o1 o2
+    → CommitsBatches clients (batch ∷ []) s s1 o o1 → SendsOn link bytes l l' o1 o2
     → IsAble clients link l'.session s1 o2
 put_able clients link now what l l' s s1 o o1 o2 bytes batch is able commits =
-    out_able clients link now what l l' s s1 o o1 o2 bytes able (subst (λ (b : List Entry). Commits clients (b ∷ []) s s1 o o1) is commits)
+    out_able clients link now what l l' s s1 o o1 o2 bytes able (subst (λ (b : List Entry). CommitsBatches clients (b ∷ []) s s1 o o1) is commits)
 
 pub put_stays : (clients : Meaning) (link now : ℕ) (what : Out) (l : Link) (s s1 : StoreValue)
     (o o1 : Outside) (batch : List Entry) → batch ≡ out_batch l.session.number now what
@@ -253,7 +253,7 @@ put_stays clients link now what l s s1 o o1 batch is safe =
     record { safe = λ joined b plans number was. safely b plans plans (front_same plans plans refl) (λ told. omega (arith, number)) was }
 
 pub put_waits : (link : ℕ) (bytes : List ℕ) (l l' : Link) (o o' : Outside)
-    → SendsOn link bytes l l' o o' → Waits l → Waits l'
+    → SendsOn link bytes l l' o o' → HasGivenItems l → HasGivenItems l'
 put_waits link bytes l l' o o' sends waits going = elim (kept_by sends.result l l' sends.ends) [
   | inl same ↦ subst (λ (x : Link). AwaitsBytes x.reader) (sym same) (waits (ap (λ (x : Link). x.end) (sym same) ∙ going))
   | inr failed ↦ absurd (let e : link_end.Failed ≡ link_end.Going = sym (ap (λ (x : Link). x.end) failed) ∙ going in cc)

@@ -5,10 +5,10 @@ use Rattle.std.specs.Option.{option_map}
 use Rattle.std.proofs.lemmas.Bool.{cases_eq}
 use Rattle.outside.specs.declared.failed.Failed.{Failed}
 use Rattle.outside.specs.Files.{Two, File, read_files}
-use Rattle.outside.specs.Host.{Sends, SendsPart}
-use Rattle.outside.specs.Links.{Link, Links, sent_of, with_sent}
+use Rattle.outside.specs.Host.{SendsOnLink, SendsPart}
+use Rattle.outside.specs.Links.{ToldLink, Links, sent_of, with_sent}
 use Rattle.outside.specs.Outside.{Outside, Moment, DiskRun, LinkCall, QuietCall}
-use Rattle.outside.specs.Runs.{IsFront, LinksGrow, Told, sent_at}
+use Rattle.outside.specs.Runs.{IsFront, LinksGrow, TellsAll, sent_at}
 use Rattle.outside.proofs.RunLaws.{front_bytes, front_same, front_then, grow_same, grow_send, others_send, quiet_moments, send_moments, went_out, sent_at-with_sent}
 use Rattle.outside.proofs.CallSteps.{calls_link, calls_none}
 use Rattle.record_grammar.specs.Laws.{FrontsHaveFronts}
@@ -19,9 +19,9 @@ use Rattle.sync_rules.specs.Legal.{Legal}
 use Rattle.entry_codec.specs.Standing.{room_of}
 use Rattle.outside.specs.declared.limits.TheConstants.{MAX_JOURNAL}
 use Rattle.sync_store.specs.Store.{StoreValue, written_in}
-use Rattle.sync_store.specs.Fitting.{Fits, FitsSome, ImagesStand}
-use Rattle.sync_store.specs.Moments.{JournalMoment, Leads}
-use Rattle.sync_node.specs.Going.{Goes, specs_of}
+use Rattle.sync_store.specs.Fitting.{FitsFiles, FitsSome, ImagesStand}
+use Rattle.sync_store.specs.Moments.{JournalMoment, LeadsTo}
+use Rattle.sync_node.specs.Going.{LetsNothingFall, specs_of}
 use Rattle.sync_node.specs.Output.{AreOutput, Journal, heard_on, output, sent_on}
 use Rattle.sync_node.specs.Safe.{Begin, IsCovered, IsCoveredNow, IsEarly, Safe, read_now}
 use Rattle.sync_node.specs.Starting.{HasOutput}
@@ -31,7 +31,7 @@ use Rattle.sync_node.proofs.SuitLaws.{Grows, HearsMore, outputs_grown, suits_gro
 
 -- ---- what is told before a run
 
-pub goes_none : (o : Outside) → Goes o o
+pub goes_none : (o : Outside) → LetsNothingFall o o
 goes_none o = record {
   same_files = refl;
   later = omega arith;
@@ -43,7 +43,7 @@ goes_none o = record {
 }
 
 pub goes_disk : (o o' : Outside) → DiskRun o o'
-    → ((two : Two File) → o.files ≡ Some two → o.clock ≤ o'.clock) → Goes o o'
+    → ((two : Two File) → o.files ≡ Some two → o.clock ≤ o'.clock) → LetsNothingFall o o'
 goes_disk o o' run clock = record {
   same_files = run.same_told;
   later = run.later;
@@ -57,13 +57,13 @@ goes_disk o o' run clock = record {
 -- a run of a store's calls
 pub goes_led : (clients : Meaning) (s s' : StoreValue) (o o' : Outside)
     (P Q : Journal → Journal → Type 0) → FitsSome clients s o.files → DiskRun o o'
-    → ((two : Two File) → o.files ≡ Some two → (j : Journal) → Fits clients s j two → Leads clients (P j) (Q j) s' o o') → Goes o o'
+    → ((two : Two File) → o.files ≡ Some two → (j : Journal) → FitsFiles clients s j two → LeadsTo clients (P j) (Q j) s' o o') → LetsNothingFall o o'
 goes_led clients s s' o o' P Q fits run leads =
     goes_disk o o' run (λ two files. let fit = fits two files in (leads two files fit.0 fit.1).moments.later)
 
 pub goes_link : (during : Moment → Type 0) (o o' : Outside) → LinkCall during o o'
     → LinksGrow o.links o'.links → o'.links.dialled ≡ o.links.dialled
-    → specs_of o'.links.told ≡ specs_of o.links.told → Goes o o'
+    → specs_of o'.links.told ≡ specs_of o.links.told → LetsNothingFall o o'
 goes_link during o o' call grows dialled specs = record {
   same_files = ap is_some call.same_files;
   later = omega (arith, call.same_faults);
@@ -75,14 +75,14 @@ goes_link during o o' call grows dialled specs = record {
 }
 
 -- bytes that are sent leave the specs
-specs_sent : (link : ℕ) (bytes : List ℕ) (links : List Link)
-    → map (λ (l : Link). l.spec) (with_sent link bytes links) ≡ map (λ (l : Link). l.spec) links
+specs_sent : (link : ℕ) (bytes : List ℕ) (links : List ToldLink)
+    → map (λ (l : ToldLink). l.spec) (with_sent link bytes links) ≡ map (λ (l : ToldLink). l.spec) links
 specs_sent link bytes [] = refl
 specs_sent zero bytes (l ∷ links) = refl
 specs_sent (suc link) bytes (l ∷ links) =
     ap (λ (specs : List (List ℕ)). l.spec ∷ specs) (specs_sent link bytes links)
 
-pub specs_told : (link : ℕ) (bytes : List ℕ) (told : Option (List Link))
+pub specs_told : (link : ℕ) (bytes : List ℕ) (told : Option (List ToldLink))
     → specs_of (option_map (with_sent link bytes) told) ≡ specs_of told
 specs_told link bytes None = refl
 specs_told link bytes (Some links) = ap Some (specs_sent link bytes links)
@@ -92,18 +92,18 @@ told_both None is = cc
 told_both (Some a) is = (a, refl)
 
 pub told_by : (o o' : Outside) → is_some o'.files ≡ is_some o.files → LinksGrow o.links o'.links
-    → Told o' → Told o
+    → TellsAll o' → TellsAll o
 told_by o o' same_files grows told =
     let files = told_both o.files (sym same_files ∙ ap is_some told.files_are) in
     let links = told_both o.links.told (sym grows.same_told ∙ ap is_some told.links_are) in
     let heard = told_both o.links.heard (sym grows.same_heard ∙ ap is_some told.heard_are) in
     record { two = files.0; files_are = files.1; links = links.0; links_are = links.1; heard = heard.0; heard_are = heard.1 }
 
-pub told_before : (o o' : Outside) → Goes o o' → Told o' → Told o
+pub told_before : (o o' : Outside) → LetsNothingFall o o' → TellsAll o' → TellsAll o
 told_before o o' goes told = told_by o o' goes.same_files goes.links told
 
 -- where calls on the disk alone were made
-pub told_disk : (o o' : Outside) → DiskRun o o' → Told o' → Told o
+pub told_disk : (o o' : Outside) → DiskRun o o' → TellsAll o' → TellsAll o
 told_disk o o' run told =
     told_by o o' run.same_told (grow_same o.links o'.links run.same_links) told
 
@@ -172,12 +172,12 @@ moment_covered clients b plans heard j links P m grow suits sent jm =
 pub safe_store : FrontsHaveFronts → (clients : Meaning) (b : Begin) (plans plans' : List Session)
     (s s' : StoreValue) (o o' : Outside) (P Q : Journal → Journal → Type 0)
     → IsFront plans plans' → s.closed ≡ false → DiskRun o o'
-    → ((two : Two File) → o.files ≡ Some two → (j : Journal) → Fits clients s j two → Leads clients (P j) (Q j) s' o o')
-    → (Told o → AllGrow clients b.first plans' (heard_on o.links) s P)
-    → (Told o → AllGrow clients b.first plans' (heard_on o.links) s Q)
+    → ((two : Two File) → o.files ≡ Some two → (j : Journal) → FitsFiles clients s j two → LeadsTo clients (P j) (Q j) s' o o')
+    → (TellsAll o → AllGrow clients b.first plans' (heard_on o.links) s P)
+    → (TellsAll o → AllGrow clients b.first plans' (heard_on o.links) s Q)
     → Safe clients b plans s o → Safe clients b plans' s' o'
 safe_store fronts clients b plans plans' s s' o o' P Q more opened run leads grow_moments grow_end safe =
-    let back : Told o' → Told o = told_disk o o' run in
+    let back : TellsAll o' → TellsAll o = told_disk o o' run in
     let hears : HearsMore (heard_on o.links) (heard_on o'.links) = heard_more o.links o'.links (grow_same o.links o'.links run.same_links) in
     let same : HearsMore (heard_on o.links) (heard_on o.links) = λ link. front_same _ _ refl in
     let none : IsFront plans' plans' = front_same plans' plans' refl in
@@ -232,7 +232,7 @@ pub safe_calm : FrontsHaveFronts → (clients : Meaning) (b : Begin) (plans : Li
     (s : StoreValue) (o o' : Outside) → QuietCall o o' → LinksGrow o.links o'.links
     → o'.links.told ≡ o.links.told → Safe clients b plans s o → Safe clients b plans s o'
 safe_calm fronts clients b plans s o o' call grows same_told safe =
-    let back : Told o' → Told o = told_by o o' (ap is_some call.same_files) grows in
+    let back : TellsAll o' → TellsAll o = told_by o o' (ap is_some call.same_files) grows in
     let hears : HearsMore (heard_on o.links) (heard_on o'.links) = heard_more o.links o'.links grows in
     let none : IsFront plans plans = front_same plans plans refl in
     record {
@@ -259,7 +259,7 @@ safe_calm fronts clients b plans s o o' call grows same_told safe =
           let two : told'.two ≡ told.two = cc (told'.files_are, told.files_are, call.same_files) in
           record {
             whole = now.whole;
-            fits = subst (λ (t : Two File). Fits clients s now.whole t) (sym two) now.fits;
+            fits = subst (λ (t : Two File). FitsFiles clients s now.whole t) (sym two) now.fits;
             suits = suits_more fronts clients b.journal b.first plans plans _ _ none hears now.whole now.suits;
             has_sent = λ link. subst (λ (l : List ℕ). IsFront l (output now.whole (b.first + link))) (ap (λ t. sent_at t link) (sym same_told)) (now.has_sent link);
           };
@@ -271,16 +271,16 @@ pub safe_send : FrontsHaveFronts → ImagesStand → (clients : Meaning) (b : Be
     (plans : List Session) (s : StoreValue) (o o' : Outside) (link : ℕ) (bytes : List ℕ)
     (result : Result (Unit {0}) Failed)
     → s.closed ≡ false → s.end + room_of (written_in s) s.state.facts ≤ MAX_JOURNAL → link < o.links.dialled
-    → LinkCall (SendsPart o link bytes) o o' → Sends link bytes result o.links o'.links
+    → LinkCall (SendsPart o link bytes) o o' → SendsOnLink link bytes result o.links o'.links
     → HasOutput clients (b.first + link) link bytes s o
     → Safe clients b plans s o → Safe clients b plans s o'
 safe_send fronts stand clients b plans s o o' link bytes result opened roomy within call sends output_has safe =
-    let back : Told o' → Told o = told_by o o' (ap is_some call.same_files) (grow_send link bytes result o.links o'.links sends) in
+    let back : TellsAll o' → TellsAll o = told_by o o' (ap is_some call.same_files) (grow_send link bytes result o.links o'.links sends) in
     let hears : HearsMore (heard_on o.links) (heard_on o'.links) = heard_more o.links o'.links (grow_send link bytes result o.links o'.links sends) in
     let none : IsFront plans plans = front_same plans plans refl in
-    let here : (told : Told o) (n : ℕ) (whole : Journal) → Fits clients s whole told.two → IsFront (sent_on o.links link ++ take n bytes) (output whole (b.first + link)) =
+    let here : (told : TellsAll o) (n : ℕ) (whole : Journal) → FitsFiles clients s whole told.two → IsFront (sent_on o.links link ++ take n bytes) (output whole (b.first + link)) =
     λ told n whole fits. front_then _ _ _ (front_taken n (sent_on o.links link) bytes) (output_has told whole fits) in
-    let behind : s.closed ≡ false → (told' : Told o') → IsCoveredNow clients b plans (heard_on o'.links) (sent_on o'.links) s told'.two =
+    let behind : s.closed ≡ false → (told' : TellsAll o') → IsCoveredNow clients b plans (heard_on o'.links) (sent_on o'.links) s told'.two =
     λ opened' told'.
     let told = back told' in
     let now = safe.now opened told in
@@ -290,7 +290,7 @@ safe_send fronts stand clients b plans s o o' link bytes result opened roomy wit
     let went : sent_on o'.links link ≡ sent_on o.links link ++ take out.0 bytes = ap (λ t. sent_at t link) out.1 ∙ sent_at-with_sent o.links.told told.links link (take out.0 bytes) told.links_are inside in
     record {
       whole = now.whole;
-      fits = subst (λ (t : Two File). Fits clients s now.whole t) (sym two) now.fits;
+      fits = subst (λ (t : Two File). FitsFiles clients s now.whole t) (sym two) now.fits;
       suits = suits_more fronts clients b.journal b.first plans plans _ _ none hears now.whole now.suits;
       has_sent = λ i. elim (cases_eq i link) [
         | inl is ↦

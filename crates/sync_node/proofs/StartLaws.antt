@@ -4,10 +4,10 @@ use Rattle.std.specs.List.{AllByRecursion, slice_get}
 use Rattle.std.proofs.lemmas.Bool.{ne_eqb}
 use Rattle.outside.specs.declared.failed.Failed.{Failed}
 use Rattle.outside.specs.Files.{Two, File}
-use Rattle.outside.specs.Host.{Sends}
+use Rattle.outside.specs.Host.{SendsOnLink}
 use Rattle.outside.specs.Links.{Links}
 use Rattle.outside.specs.Outside.{Outside}
-use Rattle.outside.specs.Runs.{IsFront, Told, answers_at, heard_bytes}
+use Rattle.outside.specs.Runs.{IsFront, TellsAll, answers_at, heard_bytes}
 use Rattle.outside.proofs.RunLaws.{front_same, front_then, others_same, others_send, others_then, sent_here}
 use Rattle.record_grammar.specs.Laws.{FrontsHaveFronts}
 use Rattle.record_grammar.specs.Spelling.{spelled, spelling}
@@ -31,16 +31,16 @@ use Rattle.sync_rules.specs.Steps.{IsSettled}
 use Rattle.entry_codec.specs.Standing.{room_of}
 use Rattle.outside.specs.declared.limits.TheConstants.{MAX_JOURNAL}
 use Rattle.sync_store.specs.Store.{StoreValue, written_in}
-use Rattle.sync_store.specs.Fitting.{Fits, ImagesStand}
+use Rattle.sync_store.specs.Fitting.{FitsFiles, ImagesStand}
 use Rattle.sync_store.specs.Ready.{IsReady}
 use Rattle.sync_node.specs.declared.link.Link.{Link}
 use Rattle.sync_course.specs.declared.ends.LinkEnd.TheVariants as link_end
-use Rattle.sync_node.specs.Going.{Commits, Goes}
+use Rattle.sync_node.specs.Going.{CommitsBatches, LetsNothingFall}
 use Rattle.sync_node.specs.Joined.{known_nonce}
 use Rattle.sync_node.specs.Output.{Journal, heard_on, output, sent_on}
 use Rattle.sync_node.specs.Safe.{Begin, Safe, read_now}
 use Rattle.sync_node.specs.Sending.{EndsBy, SendsOn}
-use Rattle.sync_node.specs.Starting.{Greets, HasOutput, Starts, StartsSafe}
+use Rattle.sync_node.specs.Starting.{GreetsOnLink, HasOutput, StartsSession, StartsSafe}
 use Rattle.sync_node.specs.Suits.{IsOfRun}
 use Rattle.sync_node.proofs.CommitLaws.{CommitsSafe}
 use Rattle.sync_node.proofs.Fronts.{front_of_append}
@@ -57,17 +57,17 @@ none_long (x ∷ xs) long = absurd (omega arith)
 -- ---- what is sent first
 
 -- the disk fits the store before calls that leave the files as behind them
-same_fits : (clients : Meaning) (s : StoreValue) (o o' : Outside) (goes : Goes o o')
-    → o'.files ≡ o.files → (told : Told o') (whole : Journal) → Fits clients s whole told.two
-    → Fits clients s whole (told_before o o' goes told).two
+same_fits : (clients : Meaning) (s : StoreValue) (o o' : Outside) (goes : LetsNothingFall o o')
+    → o'.files ≡ o.files → (told : TellsAll o') (whole : Journal) → FitsFiles clients s whole told.two
+    → FitsFiles clients s whole (told_before o o' goes told).two
 same_fits clients s o o' goes same told' whole fits =
     let told = told_before o o' goes told' in
     let two : told'.two ≡ told.two = cc (told'.files_are, told.files_are, same) in
-    subst (λ (t : Two File). Fits clients s whole t) two fits
+    subst (λ (t : Two File). FitsFiles clients s whole t) two fits
 
 pub greets_one : FrontsHaveFronts → ImagesStand → (link : ℕ) (bytes : List ℕ) (l l' : Link)
     (o o' : Outside) → link < o.links.dialled → SendsOn link bytes l l' o o'
-    → Greets link bytes l l' o o'
+    → GreetsOnLink link bytes l l' o o'
 greets_one fronts stand link bytes l l' o o' within sends =
     let goes = goes_send o o' link bytes l l' sends in
     record {
@@ -82,8 +82,8 @@ greets_one fronts stand link bytes l l' o o' within sends =
       safe = λ clients s b plans opened roomy has was. safe_send fronts stand clients b plans s o o' link bytes sends.result opened roomy within sends.call sends.sends has was;
     }
   where
-    by_result : (result : Result (Unit {0}) Failed) → Sends link bytes result o.links o'.links
-        → EndsBy result l l' → l'.end ≢ link_end.Failed → Told o
+    by_result : (result : Result (Unit {0}) Failed) → SendsOnLink link bytes result o.links o'.links
+        → EndsBy result l l' → l'.end ≢ link_end.Failed → TellsAll o
         → sent_on o'.links link ≡ sent_on o.links link ++ bytes
     by_result (Ok u) went ends unfailed told = sent_here o o' link bytes u told within went
     by_result (Err e) went ends unfailed told = absurd (unfailed (ap (λ (x : Link). x.end) ends))
@@ -95,7 +95,7 @@ has_front clients n link a b s o has told whole fits =
     front_then _ _ _ (subst (λ (l : List ℕ). IsFront (sent_on o.links link ++ a) l) (append_assoc (sent_on o.links link) a b) (front_of_append (sent_on o.links link ++ a) b)) (has told whole fits)
 
 pub greets_failed : (link : ℕ) (a b : List ℕ) (l l' : Link) (o o' : Outside)
-    → l'.end ≡ link_end.Failed → Greets link a l l' o o' → Greets link (a ++ b) l l' o o'
+    → l'.end ≡ link_end.Failed → GreetsOnLink link a l l' o o' → GreetsOnLink link (a ++ b) l l' o o'
 greets_failed link a b l l' o o' failed greets = record {
   goes = greets.goes;
   same_files = greets.same_files;
@@ -109,8 +109,8 @@ greets_failed link a b l l' o o' failed greets = record {
 }
 
 pub greets_then : (link : ℕ) (a b : List ℕ) (l l1 l2 : Link) (o o1 o2 : Outside)
-    → l1.end ≢ link_end.Failed → Greets link a l l1 o o1 → Greets link b l1 l2 o1 o2
-    → Greets link (a ++ b) l l2 o o2
+    → l1.end ≢ link_end.Failed → GreetsOnLink link a l l1 o o1 → GreetsOnLink link b l1 l2 o1 o2
+    → GreetsOnLink link (a ++ b) l l2 o o2
 greets_then link a b l l1 l2 o o1 o2 unfailed first second = record {
   goes = goes_then o o1 o2 first.goes second.goes;
   same_files = second.same_files ∙ first.same_files;
@@ -132,9 +132,9 @@ greets_then link a b l l1 l2 o o1 o2 unfailed first second = record {
 }
 
 pub greets_alone : (link : ℕ) (a b : List ℕ) (l l' : Link) (o o' : Outside) → b ≡ []
-    → Greets link a l l' o o' → Greets link (a ++ b) l l' o o'
+    → GreetsOnLink link a l l' o o' → GreetsOnLink link (a ++ b) l l' o o'
 greets_alone link a b l l' o o' none greets =
-    subst (λ (bytes : List ℕ). Greets link bytes l l' o o') (sym (ap (λ (l : List ℕ). a ++ l) none ∙ append-nil a)) greets
+    subst (λ (bytes : List ℕ). GreetsOnLink link bytes l l' o o') (sym (ap (λ (l : List ℕ). a ++ l) none ∙ append-nil a)) greets
 
 -- ---- a session that begins
 
@@ -167,9 +167,9 @@ begins_other f x other apart =
 -- where nothing was sent before, what is sent first is the whole output
 output_first : (clients : Meaning) (x : Session) (s s1 : StoreValue) (o o1 : Outside)
     (bytes : List ℕ) → Allowed clients s.state.facts (session_batch x)
-    → Commits clients (session_batch x ∷ []) s s1 o o1
-    → bytes ≡ spelled (first_records x) → (told : Told o1) (whole : Journal)
-    → Fits clients s1 whole told.two → output whole x.number ≡ bytes
+    → CommitsBatches clients (session_batch x ∷ []) s s1 o o1
+    → bytes ≡ spelled (first_records x) → (told : TellsAll o1) (whole : Journal)
+    → FitsFiles clients s1 whole told.two → output whole x.number ≡ bytes
 unfolding output
 output_first clients x s s1 o o1 bytes allowed commits is_bytes told1 whole fits =
     let from = commits.goes_on told1 whole fits in
@@ -195,10 +195,10 @@ nothing_recorded = refl
 pub starts : (clients : Meaning) (link : ℕ) (x begun : Session) (reader : ReaderState)
     (l0 l : Link) (s s1 : StoreValue) (o o1 o2 : Outside) (bytes : List ℕ)
     → IsSettled clients s.state.facts → Allowed clients s.state.facts (session_batch x)
-    → Commits clients (session_batch x ∷ []) s s1 o o1 → bytes ≡ spelled (first_records x)
+    → CommitsBatches clients (session_batch x ∷ []) s s1 o o1 → bytes ≡ spelled (first_records x)
     → Some begun ≡ session_at s1.state.facts.sessions x.number → begun.number ≡ x.number
     → l0.session ≡ begun → l0.reader ≡ fresh → l0.nonce ≡ begun.nonce → AwaitsBytes fresh
-    → Greets link bytes l0 l o1 o2 → Starts clients link x l s s1 o o2
+    → GreetsOnLink link bytes l0 l o1 o2 → StartsSession clients link x l s s1 o o2
 starts clients link x begun reader l0 l s s1 o o1 o2 bytes settled allowed commits is_bytes found numbered session0 reader0 nonce0 awaits greets =
     let session : l.session ≡ begun = greets.same_session ∙ session0 in
     let is : l.session.number ≡ x.number = ap (λ (y : Session). y.number) session ∙ numbered in
@@ -294,11 +294,11 @@ starts_as_before fronts clients link x s o = record { safe = λ unused b plans n
 
 pub starts_safe : (clients : Meaning) (link : ℕ) (x : Session) (l0 l : Link) (s s1 : StoreValue)
     (o o1 o2 : Outside) (bytes : List ℕ) → Allowed clients s.state.facts (session_batch x)
-    → Commits clients (session_batch x ∷ []) s s1 o o1
-    → ((b : Begin) (plans later : List Session) → IsFront plans later → (Told o → IsOfRun b.first later (heard_on o.links) s.state.facts (session_batch x))
+    → CommitsBatches clients (session_batch x ∷ []) s s1 o o1
+    → ((b : Begin) (plans later : List Session) → IsFront plans later → (TellsAll o → IsOfRun b.first later (heard_on o.links) s.state.facts (session_batch x))
     → Safe clients b plans s o → Safe clients b later s1 o1)
     → bytes ≡ spelled (first_records x) → s1.end + room_of (written_in s1) s1.state.facts ≤ MAX_JOURNAL
-    → Greets link bytes l0 l o1 o2 → StartsSafe clients link x s s1 o o2
+    → GreetsOnLink link bytes l0 l o1 o2 → StartsSafe clients link x s s1 o o2
 starts_safe clients link x l0 l s s1 o o1 o2 bytes allowed commits safe is_bytes roomy greets = record {
   safe = λ unused b plans number long was.
       let later : List Session = plans ++ x ∷ [] in
@@ -314,7 +314,7 @@ starts_safe clients link x l0 l s s1 o o1 o2 bytes allowed commits safe is_bytes
 
 pub starts_failed : (clients : Meaning) (link : ℕ) (x : Session) (s s1 : StoreValue)
     (o o1 : Outside) → Allowed clients s.state.facts (session_batch x)
-    → ((b : Begin) (plans later : List Session) → IsFront plans later → (Told o → IsOfRun b.first later (heard_on o.links) s.state.facts (session_batch x))
+    → ((b : Begin) (plans later : List Session) → IsFront plans later → (TellsAll o → IsOfRun b.first later (heard_on o.links) s.state.facts (session_batch x))
     → Safe clients b plans s o → Safe clients b later s1 o1)
     → StartsSafe clients link x s s1 o o1
 starts_failed clients link x s s1 o o1 allowed safe = record {
@@ -325,10 +325,10 @@ starts_failed clients link x s s1 o o1 allowed safe = record {
 -- ---- the same of the batch that was made
 
 pub commits_as : (clients : Meaning) (batch batch' : List Entry) (s s1 : StoreValue)
-    (o o1 : Outside) → batch ≡ batch' → Commits clients (batch ∷ []) s s1 o o1
-    → Commits clients (batch' ∷ []) s s1 o o1
+    (o o1 : Outside) → batch ≡ batch' → CommitsBatches clients (batch ∷ []) s s1 o o1
+    → CommitsBatches clients (batch' ∷ []) s s1 o o1
 commits_as clients batch batch' s s1 o o1 is commits =
-    subst (λ (b : List Entry). Commits clients (b ∷ []) s s1 o o1) is commits
+    subst (λ (b : List Entry). CommitsBatches clients (b ∷ []) s s1 o o1) is commits
 
 pub commits_safe_as : (clients : Meaning) (batch batch' : List Entry) (s s1 : StoreValue)
     (o o1 : Outside) → batch ≡ batch' → CommitsSafe clients batch s s1 o o1
@@ -362,7 +362,7 @@ session_there (y ∷ ss) x none =
     ] none
 
 pub session_found : (clients : Meaning) (x : Session) (batch : List Entry) (s s1 : StoreValue)
-    (o o1 : Outside) → batch ≡ session_batch x → Commits clients (batch ∷ []) s s1 o o1
+    (o o1 : Outside) → batch ≡ session_batch x → CommitsBatches clients (batch ∷ []) s s1 o o1
     → None ≡ session_at s1.state.facts.sessions x.number → ⊥
 session_found clients x batch s s1 o o1 is commits none =
     let first = commits_as clients batch (session_batch x) s s1 o o1 is commits in

@@ -8,7 +8,7 @@ use Rattle.sync_rules.specs.Facts.{session_at, takes_of}
 use Rattle.sync_rules.specs.Legal.{Allowed}
 use Rattle.sync_rules.specs.Steps.{IsSettled}
 use Rattle.journal_state.specs.Allowing.{due_of}
-use Rattle.journal_state.specs.Whole.{Knows, StateValue}
+use Rattle.journal_state.specs.Whole.{KnowsJudgements, StateValue}
 
 pub takes_told : (s t : StateValue) (session taken : ℕ) → t ≡ s → taken ≡ takes_of t.facts.takes session → taken ≡ takes_of s.facts.takes session
 takes_told s t session taken same is = is ∙ ap (λ (v : StateValue). takes_of v.facts.takes session) same
@@ -17,13 +17,13 @@ pub session_told : (s t : StateValue) (number : ℕ) (found : Option Session) �
 session_told s t number found same is = is ∙ ap (λ (v : StateValue). session_at v.facts.sessions number) same
 
 pub due_told : (s t : StateValue) (session now : ℕ) (what : Option Out) → t ≡ s
-    → ((clients : Meaning) → Knows clients t → what ≡ due_of clients t.facts (session_at t.facts.sessions session) now)
-    → (clients : Meaning) → Knows clients s → what ≡ due_of clients s.facts (session_at s.facts.sessions session) now
+    → ((clients : Meaning) → KnowsJudgements clients t → what ≡ due_of clients t.facts (session_at t.facts.sessions session) now)
+    → (clients : Meaning) → KnowsJudgements clients s → what ≡ due_of clients s.facts (session_at s.facts.sessions session) now
 due_told s t session now what same =
-    subst (λ (v : StateValue). (clients : Meaning) → Knows clients v → what ≡ due_of clients v.facts (session_at v.facts.sessions session) now) same
+    subst (λ (v : StateValue). (clients : Meaning) → KnowsJudgements clients v → what ≡ due_of clients v.facts (session_at v.facts.sessions session) now) same
 
 pub allowed_told : (s t : StateValue) (session now : ℕ) (what : Option Out) → t ≡ s
-    → ((clients : Meaning) → Knows clients t → IsSettled clients t.facts → IfSome what (λ w. Allowed clients t.facts (entry.Out session now w ∷ [])))
-    → (clients : Meaning) → Knows clients s → IsSettled clients s.facts → IfSome what (λ w. Allowed clients s.facts (entry.Out session now w ∷ []))
+    → ((clients : Meaning) → KnowsJudgements clients t → IsSettled clients t.facts → IfSome what (λ w. Allowed clients t.facts (entry.Out session now w ∷ [])))
+    → (clients : Meaning) → KnowsJudgements clients s → IsSettled clients s.facts → IfSome what (λ w. Allowed clients s.facts (entry.Out session now w ∷ []))
 allowed_told s t session now what same =
-    subst (λ (v : StateValue). (clients : Meaning) → Knows clients v → IsSettled clients v.facts → IfSome what (λ w. Allowed clients v.facts (entry.Out session now w ∷ []))) same
+    subst (λ (v : StateValue). (clients : Meaning) → KnowsJudgements clients v → IsSettled clients v.facts → IfSome what (λ w. Allowed clients v.facts (entry.Out session now w ∷ []))) same

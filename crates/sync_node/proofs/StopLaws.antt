@@ -2,7 +2,7 @@
 use Rattle.std.proofs.Common.{◌≡◌, ◌≢◌, ◌⊎◌, ℕ, zero, suc, ◌+◌, ◌<◌, ◌≤◌, Bool, false, List, [], ◌∷◌, length, refl, sym, ap, ◌∙◌, subst, inl, inr, arith, Some, Err, append-nil}
 use Rattle.std.specs.List.{slice_get}
 use Rattle.std.proofs.lemmas.Bool.{cases_eq}
-use Rattle.outside.specs.Faults.{Rose}
+use Rattle.outside.specs.Faults.{CountRose}
 use Rattle.outside.specs.Files.{Two, File}
 use Rattle.outside.specs.Links.{Links}
 use Rattle.outside.specs.Outside.{DiskRun, Outside}
@@ -12,8 +12,8 @@ use Rattle.sync_rules.specs.declared.entries.Session.{Session}
 use Rattle.sync_rules.specs.Clients.{Meaning}
 use Rattle.sync_rules.specs.Facts.{Facts}
 use Rattle.sync_store.specs.Store.{StoreValue}
-use Rattle.sync_store.specs.Fitting.{Fits}
-use Rattle.sync_store.specs.Moments.{Adds}
+use Rattle.sync_store.specs.Fitting.{FitsFiles}
+use Rattle.sync_store.specs.Moments.{RunsCommit}
 use Rattle.sync_store.specs.Ready.{IsReady}
 use Rattle.sync_store.specs.declared.fault.StoreFault.{StoreFault}
 use Rattle.sync_course.specs.declared.ends.LinkEnd.{LinkEnd}
@@ -23,8 +23,8 @@ use Rattle.sync_node.specs.Causes.{FailByCause}
 use Rattle.sync_node.specs.Joined.{IsAllSent}
 use Rattle.sync_node.specs.Node.{AreAttached, LinksWork, NodeValue}
 use Rattle.sync_node.specs.Output.{Journal, output, sent_on}
-use Rattle.sync_node.specs.Stops.{LinksSent, SendsAll, StaysSame, StopsSent}
-use Rattle.sync_node.specs.Working.{Works}
+use Rattle.sync_node.specs.Stops.{LinksSent, NodeSendsAll, StaysSame, StopsSent}
+use Rattle.sync_node.specs.Working.{WorksOnLink}
 use Rattle.sync_node.proofs.CommitLaws.{goes_adds, one_journal}
 use Rattle.sync_node.proofs.NodeLaws.{node_of}
 use Rattle.sync_node.proofs.SafeLaws.{told_disk}
@@ -33,7 +33,7 @@ use Rattle.sync_node.proofs.WorkLaws.{goes_then}
 -- ---- a commit that was refused
 
 pub same_commit : (clients : Meaning) (s s' : StoreValue) (o o' : Outside) (batch : List Entry) (e : StoreFault) → IsReady clients s o.files → DiskRun o o' → s'.closed ≡ false → s'.state.facts ≡ s.state.facts
-    → ((two : Two File) → o.files ≡ Some two → (j : Journal) → Fits clients s j two → Adds clients batch (Err e) s' o o' j) → StaysSame clients s s' o o'
+    → ((two : Two File) → o.files ≡ Some two → (j : Journal) → FitsFiles clients s j two → RunsCommit clients batch (Err e) s' o o' j) → StaysSame clients s s' o o'
 same_commit clients s s' o o' batch e ready run opened facts adds = record {
   same_begun = ap (λ (f : Facts). f.begun) facts;
   goes = goes_adds clients s s' o o' batch (Err e) ready.fits run adds;
@@ -66,7 +66,7 @@ stops_none clients link left l s s' o o' unfailed same = record {
       record { told = from.told; before = from.before; fits = from.fits; same = λ other apart. ap (λ (j : Journal). output j other) (from.is ∙ append-nil from.before) };
 }
 
-pub stops_then : (clients : Meaning) (link : ℕ) (left mid : List ℕ) (l l1 : Link) (s s1 s2 : StoreValue) (o o1 o2 : Outside) → Works clients link left mid l l1 s s1 o o1
+pub stops_then : (clients : Meaning) (link : ℕ) (left mid : List ℕ) (l l1 : Link) (s s1 s2 : StoreValue) (o o1 o2 : Outside) → WorksOnLink clients link left mid l l1 s s1 o o1
     → StopsSent clients link mid l1 s1 s2 o1 o2 → StopsSent clients link left l s s2 o o2
 stops_then clients link left mid l l1 s s1 s2 o o1 o2 first second =
     let number = ap (λ (x : Session). x.number) first.same_session in
@@ -102,7 +102,7 @@ item_at [] i within = absurd (omega (arith, within))
 item_at (x ∷ xs) zero within = (x, refl)
 item_at (x ∷ xs) (suc i) within = item_at xs i (omega (arith, within))
 
-rose_later : (a b c : ℕ) → b ≤ c → Rose a b → Rose a c
+rose_later : (a b c : ℕ) → b ≤ c → CountRose a b → CountRose a c
 rose_later a b c le rose = omega (arith, le, rose)
 
 -- the links had gone on to these, and work on one of them was broken off
@@ -147,9 +147,9 @@ links_same clients first links s s' o o' attached same = record {
 }
 
 pub node_sends : (clients : Meaning) (s s' : StoreValue) (first : ℕ) (links links' : List Link) (closed closed' : Bool) (n : NodeValue) (o o' : Outside) → node_of s first links closed ≡ n → LinksSent clients first links s s' o o'
-    → SendsAll clients n (node_of s' first links' closed') o o'
+    → NodeSendsAll clients n (node_of s' first links' closed') o o'
 node_sends clients s s' first links links' closed closed' n o o' is sends =
-    subst (λ (m : NodeValue). SendsAll clients m (node_of s' first links' closed') o o') is (record { same_begun = sends.same_begun; sent = sends.sent })
+    subst (λ (m : NodeValue). NodeSendsAll clients m (node_of s' first links' closed') o o') is (record { same_begun = sends.same_begun; sent = sends.sent })
 
 -- the same of a list of links that is this one
 pub sent_as : (clients : Meaning) (first : ℕ) (links links' : List Link) (s s' : StoreValue) (o o' : Outside) → links ≡ links' → LinksSent clients first links s s' o o' → LinksSent clients first links' s s' o o'

@@ -19,7 +19,7 @@ use Rattle.sync_rules.specs.Legal.{AllSettling, Legal}
 use Rattle.sync_rules.specs.Output.{sent}
 use Rattle.sync_rules.proofs.OutputLaws.{sent_append}
 use Rattle.sync_node.specs.Output.{AreOutput, Journal, output}
-use Rattle.sync_node.specs.Suits.{AllSuit, IsOfRun, Suits, SuitsRun}
+use Rattle.sync_node.specs.Suits.{AllSuitSessions, IsOfRun, SuitsSessions, SuitsRun}
 use Rattle.sync_node.proofs.Fronts.{front_get}
 
 -- ---- more is heard and planned
@@ -48,10 +48,10 @@ of_run_more fronts first plans plans' heard heard' more hears f _ p = absurd p
 pub all_suit_more : FrontsHaveFronts → (clients : Meaning) (first : ℕ)
     (plans plans' : List Session) (heard heard' : ℕ → List ℕ) → IsFront plans plans'
     → HearsMore heard heard' → (f : Facts) (bs : Journal)
-    → AllSuit clients first plans heard f bs → AllSuit clients first plans' heard' f bs
+    → AllSuitSessions clients first plans heard f bs → AllSuitSessions clients first plans' heard' f bs
 all_suit_more fronts clients first plans plans' heard heard' more hears f [] suits = tt
 all_suit_more fronts clients first plans plans' heard heard' more hears f (b ∷ bs) suits =
-    let this : Suits clients first plans' heard' f b =
+    let this : SuitsSessions clients first plans' heard' f b =
     elim suits.0 [ inl settling ↦ inl settling | inr of_run ↦ inr (of_run_more fronts first plans plans' heard heard' more hears f b of_run) ] in
     (this, all_suit_more fronts clients first plans plans' heard heard' more hears (after_all f b) bs suits.1)
 
@@ -68,15 +68,15 @@ suits_more fronts clients begin first plans plans' heard heard' more hears j run
 -- ---- further batches
 
 pub all_suit_append : (clients : Meaning) (first : ℕ) (plans : List Session) (heard : ℕ → List ℕ)
-    (f : Facts) (bs cs : Journal) → AllSuit clients first plans heard f bs
-    → AllSuit clients first plans heard (after_batches f bs) cs
-    → AllSuit clients first plans heard f (bs ++ cs)
+    (f : Facts) (bs cs : Journal) → AllSuitSessions clients first plans heard f bs
+    → AllSuitSessions clients first plans heard (after_batches f bs) cs
+    → AllSuitSessions clients first plans heard f (bs ++ cs)
 all_suit_append clients first plans heard f [] cs one two = two
 all_suit_append clients first plans heard f (b ∷ bs) cs one two =
     (one.0, all_suit_append clients first plans heard (after_all f b) bs cs one.1 two)
 
 pub settling_suits : (clients : Meaning) (first : ℕ) (plans : List Session) (heard : ℕ → List ℕ)
-    (f : Facts) (bs : Journal) → AllSettling clients f bs → AllSuit clients first plans heard f bs
+    (f : Facts) (bs : Journal) → AllSettling clients f bs → AllSuitSessions clients first plans heard f bs
 settling_suits clients first plans heard f [] settling = tt
 settling_suits clients first plans heard f (b ∷ bs) settling =
     (inl settling.0, settling_suits clients first plans heard (after_all f b) bs settling.1)
@@ -87,7 +87,7 @@ pub record Grows (clients : Meaning) (first : ℕ) (plans : List Session) (heard
   pub more : Journal
   pub is : whole ≡ j ++ more
   pub legal : Legal clients whole
-  pub suits : AllSuit clients first plans heard (facts j) more
+  pub suits : AllSuitSessions clients first plans heard (facts j) more
 
 pub suits_grown : (clients : Meaning) (begin : Journal) (first : ℕ) (plans : List Session)
     (heard : ℕ → List ℕ) (j whole : Journal) → SuitsRun clients begin first plans heard j
@@ -98,7 +98,7 @@ suits_grown clients begin first plans heard j whole run grows =
       more = run.more ++ grows.more;
       extends = grows.is ∙ (ap (λ (l : Journal). l ++ grows.more) run.extends ∙ append_assoc begin run.more grows.more);
       suits = all_suit_append clients first plans heard (facts begin) run.more grows.more run.suits
-          (subst (λ (f : Facts). AllSuit clients first plans heard f grows.more) before grows.suits);
+          (subst (λ (f : Facts). AllSuitSessions clients first plans heard f grows.more) before grows.suits);
     }
 
 -- ---- output

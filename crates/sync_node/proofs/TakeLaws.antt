@@ -5,7 +5,7 @@ use Rattle.std.proofs.lemmas.Bool.{ne_eqb}
 use Rattle.std.proofs.lemmas.List.{length-append}
 use Rattle.outside.specs.Links.{Links}
 use Rattle.outside.specs.Outside.{Outside}
-use Rattle.outside.specs.Runs.{Told}
+use Rattle.outside.specs.Runs.{TellsAll}
 use Rattle.outside.proofs.RunLaws.{front_same, others_same}
 use Rattle.record_grammar.specs.Laws.{RecordsJoin}
 use Rattle.record_grammar.specs.Spelling.{spelled}
@@ -29,17 +29,17 @@ use Rattle.sync_rules.proofs.OutputLaws.{settling_silent, silent_adds_nothing, t
 use Rattle.sync_rules.proofs.StepKinds.{all_settling_only, takes_one}
 use Rattle.sync_rules.specs.Sessions.{taken_from}
 use Rattle.sync_store.specs.Store.{StoreValue}
-use Rattle.sync_store.specs.Fitting.{Fits}
+use Rattle.sync_store.specs.Fitting.{FitsFiles}
 use Rattle.sync_node.specs.declared.link.Link.{Link}
 use Rattle.sync_course.specs.declared.ends.LinkEnd.TheVariants as link_end
-use Rattle.sync_node.specs.Going.{Commits, SettlesStore}
-use Rattle.sync_node.specs.Hearing.{Learns, nonce_with}
+use Rattle.sync_node.specs.Going.{CommitsBatches, SettlesStore}
+use Rattle.sync_node.specs.Hearing.{LearnsNonce, nonce_with}
 use Rattle.sync_node.specs.Joined.{IsAllSent, IsJoined, first_nonce, known_nonce}
 use Rattle.sync_node.specs.Output.{Journal, heard_on, output, sent_on}
 use Rattle.sync_node.specs.Safe.{Begin, Safe}
 use Rattle.sync_node.specs.Suits.{IsOfRun}
-use Rattle.sync_node.specs.Taking.{IsOpenFor, LeavesLess, TakesOn, TakesSafe, next_take}
-use Rattle.sync_node.specs.Working.{IsAble, StaysSafe, Works}
+use Rattle.sync_node.specs.Taking.{IsOpenToTake, LeavesLess, TakesOn, TakesSafe, next_take}
+use Rattle.sync_node.specs.Working.{IsAble, StaysSafe, WorksOnLink}
 use Rattle.sync_node.proofs.CommitLaws.{CommitsSafe}
 use Rattle.sync_node.proofs.OutLaws.{output_with}
 use Rattle.sync_node.proofs.SafeLaws.{told_before}
@@ -65,14 +65,14 @@ take_adds clients f session r n more allowed settling =
 -- the journal behind the record has the output that it had before
 record HasSameOutput (clients : Meaning) (s : StoreValue) (o : Outside)
     (whole : Journal) : Type 0 where
-  told : Told o
+  told : TellsAll o
   before : Journal
-  fits : Fits clients s before told.two
+  fits : FitsFiles clients s before told.two
   same : (n : ℕ) → output whole n ≡ output before n
 
 take_silently : (clients : Meaning) (session : Session) (r : Record) (s s' : StoreValue)
     (o o' : Outside) → TakesOn clients session r s s' o o'
-    → (told : Told o') (whole : Journal) → Fits clients s' whole told.two
+    → (told : TellsAll o') (whole : Journal) → FitsFiles clients s' whole told.two
     → HasSameOutput clients s o whole
 take_silently clients session r s s' o o' takes told' whole fits =
     let from = takes.commits.goes_on told' whole fits in
@@ -183,7 +183,7 @@ known_behind (Some nonce) rs r = refl
 
 -- the batch of a session's next record may follow
 pub take_allowed : (clients : Meaning) (session : Session) (k : ℕ) (r : Record) (s : StoreValue)
-    (o : Outside) (batch : List Entry) → IsOpenFor clients session s o → IsRecord r
+    (o : Outside) (batch : List Entry) → IsOpenToTake clients session s o → IsRecord r
     → k ≡ takes_of s.state.facts.takes session.number → batch ≡ take_of s.state.facts session k r
     → Allowed clients s.state.facts batch
 take_allowed clients session k r s o batch may within numbered is =
@@ -213,8 +213,8 @@ pub take_is : (f : Facts) (session : Session) (k : ℕ) (r : Record) (batch : Li
 take_is f session k r batch numbered is = is ∙ ap (λ n. take_of f session n r) numbered
 
 pub commits_then : (clients : Meaning) (batch : List Entry) (more : Journal) (s s1 s2 : StoreValue)
-    (o o1 o2 : Outside) → Commits clients (batch ∷ []) s s1 o o1 → Commits clients more s1 s2 o1 o2
-    → Commits clients (batch ∷ more) s s2 o o2
+    (o o1 o2 : Outside) → CommitsBatches clients (batch ∷ []) s s1 o o1 → CommitsBatches clients more s1 s2 o1 o2
+    → CommitsBatches clients (batch ∷ more) s s2 o o2
 commits_then clients batch more s s1 s2 o o1 o2 first second = record {
   goes = goes_then o o1 o2 first.goes second.goes;
   same_links = second.same_links ∙ first.same_links;
@@ -228,10 +228,10 @@ commits_then clients batch more s s1 s2 o o1 o2 first second = record {
 
 pub taken_on : (clients : Meaning) (session : Session) (r : Record) (s s1 s2 : StoreValue)
     (o o1 o2 : Outside) (batch : List Entry) → batch ≡ next_take s.state.facts session r
-    → Allowed clients s.state.facts batch → Commits clients (batch ∷ []) s s1 o o1
+    → Allowed clients s.state.facts batch → CommitsBatches clients (batch ∷ []) s s1 o o1
     → SettlesStore clients s1 s2 o1 o2 → TakesOn clients session r s s2 o o2
 taken_on clients session r s s1 s2 o o1 o2 batch is allowed commits settles =
-    let first : Commits clients (next_take s.state.facts session r ∷ []) s s1 o o1 = subst (λ (b : List Entry). Commits clients (b ∷ []) s s1 o o1) is commits in
+    let first : CommitsBatches clients (next_take s.state.facts session r ∷ []) s s1 o o1 = subst (λ (b : List Entry). CommitsBatches clients (b ∷ []) s s1 o o1) is commits in
     record {
       allowed = subst (λ (b : List Entry). Allowed clients s.state.facts b) is allowed;
       more = settles.more;
@@ -252,7 +252,7 @@ take_of_run first heard plans f session r link batch contact is number next =
     (record { link = link; on = number; read = r; stands = next; so = ap (λ c. taken_from f session.number c r) (sym contact) })
 
 pub take_safe : (clients : Meaning) (session : Session) (r : Record) (s s1 : StoreValue)
-    (o o1 : Outside) (batch : List Entry) → IsOpenFor clients session s o
+    (o o1 : Outside) (batch : List Entry) → IsOpenToTake clients session s o
     → batch ≡ next_take s.state.facts session r → CommitsSafe clients batch s s1 o o1
     → TakesSafe clients session r s s1 o o1
 take_safe clients session r s s1 o o1 batch may is safe = record {
@@ -304,9 +304,9 @@ pub take_works : RecordsJoin → ReadingsFollow → (clients : Meaning) (link : 
     (left left' : List ℕ) (l l1 l2 : Link) (place : ℕ) (r : Record) (s s' : StoreValue)
     (o o' : Outside)
     → l.end ≡ link_end.Going → l1.session ≡ l.session → l1.nonce ≡ l.nonce
-    → ReadsOn left l.reader (item.One place r ∷ []) left' l1.reader → Learns place r l1 l2
+    → ReadsOn left l.reader (item.One place r ∷ []) left' l1.reader → LearnsNonce place r l1 l2
     → TakesOn clients l.session r s s' o o' → TakesSafe clients l.session r s s' o o'
-    → Works clients link left left' l l2 s s' o o'
+    → WorksOnLink clients link left left' l l2 s s' o o'
 take_works join follow clients link left left' l l1 l2 place r s s' o o' asked session nonce reads learns takes safe =
     let same : l2.session ≡ l.session = learns.same_session ∙ session in
     let unfailed : l.end ≢ link_end.Failed = λ failed. cc in
@@ -359,7 +359,7 @@ pub skip_works : RecordsJoin → ReadingsFollow → (clients : Meaning) (link : 
     → l'.session ≡ l.session
     → l'.nonce ≡ l.nonce → l'.end ≡ l.end
     → ReadsOn left l.reader (item.Skipped place type_byte len ∷ []) left' l'.reader
-    → Works clients link left left' l l' s s o o
+    → WorksOnLink clients link left left' l l' s s o o
 skip_works join follow clients link left left' l l' place type_byte len s o session nonce end reads =
     works_link clients link left left' l l' s o session (λ joined. record {
       sent = λ unfailed. subst (λ (x : Session). IsAllSent clients x.number link s o) (sym session) (joined.sent (λ failed. unfailed (end ∙ failed)));
@@ -378,7 +378,7 @@ skip_works join follow clients link left left' l l' place type_byte len s o sess
 pub more_works : ReadingsFollow → (clients : Meaning) (link : ℕ) (left left' : List ℕ)
     (l l' : Link) (s : StoreValue) (o : Outside) → l'.session ≡ l.session
     → l'.nonce ≡ l.nonce → l'.end ≡ l.end → ReadsOn left l.reader [] left' l'.reader
-    → Works clients link left left' l l' s s o o
+    → WorksOnLink clients link left left' l l' s s o o
 more_works follow clients link left left' l l' s o session nonce end reads =
     works_link clients link left left' l l' s o session (λ joined. record {
       sent = λ unfailed. subst (λ (x : Session). IsAllSent clients x.number link s o) (sym session) (joined.sent (λ failed. unfailed (end ∙ failed)));
@@ -396,9 +396,9 @@ more_works follow clients link left left' l l' s o session nonce end reads =
 
 pub open_for : (clients : Meaning) (link : ℕ) (session session' : Session) (s : StoreValue)
     (o : Outside) → session' ≡ session → IsAble clients link session s o
-    → IsOpenFor clients session' s o
+    → IsOpenToTake clients session' s o
 open_for clients link session session' s o same able =
-    subst (λ (x : Session). IsOpenFor clients x s o) (sym same) (record { ready = able.ready; settled = able.settled; known = able.known })
+    subst (λ (x : Session). IsOpenToTake clients x s o) (sym same) (record { ready = able.ready; settled = able.settled; known = able.known })
 
 pub taken_able : (clients : Meaning) (link : ℕ) (session session' : Session) (r : Record)
     (s s' : StoreValue) (o o' : Outside) → session' ≡ session → IsAble clients link session s o
@@ -411,9 +411,9 @@ pub taken_works : RecordsJoin → ReadingsFollow → (clients : Meaning) (link :
     (left left' : List ℕ) (l l1 l2 : Link) (place : ℕ) (r : Record) (s s' : StoreValue)
     (o o' : Outside)
     → l.end ≡ link_end.Going → l1.session ≡ l.session → l1.nonce ≡ l.nonce
-    → ReadsOn left l.reader (item.One place r ∷ []) left' l1.reader → Learns place r l1 l2
+    → ReadsOn left l.reader (item.One place r ∷ []) left' l1.reader → LearnsNonce place r l1 l2
     → TakesOn clients l2.session r s s' o o' → TakesSafe clients l2.session r s s' o o'
-    → Works clients link left left' l l2 s s' o o'
+    → WorksOnLink clients link left left' l l2 s s' o o'
 taken_works join follow clients link left left' l l1 l2 place r s s' o o' asked session nonce reads learns takes safe =
     let same : l2.session ≡ l.session = learns.same_session ∙ session in
     take_works join follow clients link left left' l l1 l2 place r s s' o o' asked session nonce reads learns (subst (λ (x : Session). TakesOn clients x r s s' o o') same takes)
@@ -423,7 +423,7 @@ pub taken_stays : RecordsJoin → ReadingsFollow → (clients : Meaning) (link :
     (left left' : List ℕ) (l l1 l2 : Link) (place : ℕ) (r : Record) (s s' : StoreValue)
     (o o' : Outside)
     → l.end ≡ link_end.Going → l1.session ≡ l.session
-    → ReadsOn left l.reader (item.One place r ∷ []) left' l1.reader → Learns place r l1 l2
+    → ReadsOn left l.reader (item.One place r ∷ []) left' l1.reader → LearnsNonce place r l1 l2
     → TakesSafe clients l2.session r s s' o o' → StaysSafe clients link left l s s' o o'
 taken_stays join follow clients link left left' l l1 l2 place r s s' o o' asked session reads learns safe =
     let same : l2.session ≡ l.session = learns.same_session ∙ session in

@@ -1,7 +1,7 @@
 -- Calls that did nothing.
 use Rattle.std.proofs.Common.{◌≡◌, ℕ, Bool, List, refl, sym, subst, Result, Ok, Err}
 use Rattle.std.specs.Prelude.{IfErr, IsErrAnd}
-use Rattle.sync_store.specs.Commits.{Stays}
+use Rattle.sync_store.specs.Commits.{KeepsStore}
 use Rattle.sync_store.specs.Store.{StoreValue}
 use Rattle.sync_node.specs.declared.fault.Fault.{Fault}
 use Rattle.sync_node.specs.declared.fault.Fault.TheVariants as fault
@@ -12,7 +12,7 @@ use Rattle.sync_node.specs.Node.{NodeValue}
 use Rattle.sync_node.specs.Stays.{IsUndone, IsUndoneAt, IsUndoneBy}
 use Rattle.sync_node.proofs.NodeLaws.{node_of}
 
-pub stays_none : (s : StoreValue) → Stays s s
+pub stays_none : (s : StoreValue) → KeepsStore s s
 stays_none s = record {
   facts = refl;
   answers = refl;

@@ -5,11 +5,11 @@ use Rattle.std.specs.Prelude.{IsErrAnd}
 use Rattle.outside.specs.declared.host.Heard.{Heard}
 use Rattle.outside.specs.declared.host.Heard.TheVariants as heard
 use Rattle.outside.specs.Files.{Two, File}
-use Rattle.outside.specs.Host.{Hears, ReadsClock}
+use Rattle.outside.specs.Host.{HearsAnswer, ReadsClock}
 use Rattle.outside.specs.Links.{Answered, HeardOn}
 use Rattle.outside.specs.Outside.{Outside, Moment, LinkCall, QuietCall}
 use Rattle.outside.proofs.CallSteps.{calls_then, told_on}
-use Rattle.outside.specs.Runs.{LinksGrow, OthersKeep, Told, answered_by, answers_at, heard_at, heard_bytes, reply_bytes, sent_at}
+use Rattle.outside.specs.Runs.{LinksGrow, OthersKeep, TellsAll, answered_by, answers_at, heard_at, heard_bytes, reply_bytes, sent_at}
 use Rattle.outside.proofs.RunLaws.{grow_hear, grow_read, grow_then, heard_here, others_hear, others_read, others_same, others_then}
 use Rattle.record_grammar.specs.Laws.{FrontsHaveFronts}
 use Rattle.record_stream.specs.Pieces.{ReadingsWiden}
@@ -17,13 +17,13 @@ use Rattle.record_stream.specs.Reading.{ReadsOn, fresh}
 use Rattle.sync_rules.specs.declared.entries.Session.{Session}
 use Rattle.sync_rules.specs.Clients.{Meaning}
 use Rattle.sync_store.specs.Store.{StoreValue}
-use Rattle.sync_store.specs.Fitting.{Fits}
+use Rattle.sync_store.specs.Fitting.{FitsFiles}
 use Rattle.sync_node.specs.declared.link.Link.{Link}
 use Rattle.sync_course.specs.declared.ends.LinkEnd.TheVariants as link_end
-use Rattle.sync_node.specs.Going.{Elsewhere, Goes, HasOthers, specs_of}
-use Rattle.sync_node.specs.Joined.{HasTaken, IsAllSent, IsJoined}
+use Rattle.sync_node.specs.Going.{Elsewhere, LetsNothingFall, HasOthers, specs_of}
+use Rattle.sync_node.specs.Joined.{HasTakenItems, IsAllSent, IsJoined}
 use Rattle.sync_node.specs.Output.{Journal, heard_on}
-use Rattle.sync_node.specs.Working.{IsAble, StaysSafe, Works}
+use Rattle.sync_node.specs.Working.{IsAble, StaysSafe, WorksOnLink}
 use Rattle.sync_course.specs.Links.{stands_ended}
 use Rattle.sync_store.specs.Ready.{IsReady}
 use Rattle.record_grammar.specs.declared.stream.Ending.{Ending}
@@ -52,7 +52,7 @@ err_was (Err y) x e is now = let same : y ≡ e = cc in sym is ∙ same
 
 -- ---- one piece of work after another
 
-pub goes_then : (o o1 o2 : Outside) → Goes o o1 → Goes o1 o2 → Goes o o2
+pub goes_then : (o o1 o2 : Outside) → LetsNothingFall o o1 → LetsNothingFall o1 o2 → LetsNothingFall o o2
 goes_then o o1 o2 first second = record {
   same_files = second.same_files ∙ first.same_files;
   later = omega (arith, first.later, second.later);
@@ -87,7 +87,7 @@ elsewhere_none clients session link s o = record {
 }
 
 pub stays_then : (clients : Meaning) (link : ℕ) (left mid : List ℕ) (l l1 : Link)
-    (s s1 s2 : StoreValue) (o o1 o2 : Outside) → Works clients link left mid l l1 s s1 o o1
+    (s s1 s2 : StoreValue) (o o1 o2 : Outside) → WorksOnLink clients link left mid l l1 s s1 o o1
     → StaysSafe clients link mid l1 s1 s2 o1 o2 → StaysSafe clients link left l s s2 o o2
 stays_then clients link left mid l l1 s s1 s2 o o1 o2 first second = record {
   safe = λ joined b plans number safe.
@@ -95,8 +95,8 @@ stays_then clients link left mid l l1 s s1 s2 o o1 o2 first second = record {
 }
 
 pub works_then : (clients : Meaning) (link : ℕ) (left mid left' : List ℕ) (l l1 l2 : Link)
-    (s s1 s2 : StoreValue) (o o1 o2 : Outside) → Works clients link left mid l l1 s s1 o o1
-    → Works clients link mid left' l1 l2 s1 s2 o1 o2 → Works clients link left left' l l2 s s2 o o2
+    (s s1 s2 : StoreValue) (o o1 o2 : Outside) → WorksOnLink clients link left mid l l1 s s1 o o1
+    → WorksOnLink clients link mid left' l1 l2 s1 s2 o1 o2 → WorksOnLink clients link left left' l l2 s s2 o o2
 works_then clients link left mid left' l l1 l2 s s1 s2 o o1 o2 first second = record {
   goes = goes_then o o1 o2 first.goes second.goes;
   same_session = second.same_session ∙ first.same_session;
@@ -116,7 +116,7 @@ stays_none clients link left l s o = record { safe = λ joined b plans number sa
 pub works_link : (clients : Meaning) (link : ℕ) (left left' : List ℕ) (l l' : Link)
     (s : StoreValue) (o : Outside) → l'.session ≡ l.session
     → (IsJoined clients link left l s o → IsJoined clients link left' l' s o)
-    → Works clients link left left' l l' s s o o
+    → WorksOnLink clients link left left' l l' s s o o
 works_link clients link left left' l l' s o session joined = record {
   goes = goes_none o;
   same_session = session;
@@ -128,7 +128,7 @@ works_link clients link left left' l l' s o session joined = record {
 }
 
 pub works_none : (clients : Meaning) (link : ℕ) (left : List ℕ) (l : Link) (s : StoreValue)
-    (o : Outside) → Works clients link left left l l s s o o
+    (o : Outside) → WorksOnLink clients link left left l l s s o o
 works_none clients link left l s o =
     works_link clients link left left l l s o refl (λ joined. joined)
 
@@ -140,8 +140,8 @@ closed_joined clients link left left' l s o closed joined = record { sent = join
 
 pub works_closed : (clients : Meaning) (link : ℕ) (left mid left' : List ℕ) (l l' : Link)
     (s s' : StoreValue) (o o' : Outside) → l'.end ≢ link_end.Going
-    → Works clients link left mid l l' s s' o o'
-    → Works clients link left left' l l' s s' o o'
+    → WorksOnLink clients link left mid l l' s s' o o'
+    → WorksOnLink clients link left left' l l' s s' o o'
 works_closed clients link left mid left' l l' s s' o o' closed works =
     works_then clients link left mid left' l l' l' s s' s' o o' o' works (works_link clients link mid left' l' l' s' o' refl (closed_joined clients link mid left' l' s' o' closed))
 
@@ -149,7 +149,7 @@ works_closed clients link left mid left' l l' s s' o o' closed works =
 pub works_ended : (clients : Meaning) (link : ℕ) (left left' : List ℕ) (l l' : Link)
     (s : StoreValue) (o : Outside) → l'.session ≡ l.session → l'.end ≢ link_end.Going
     → l.end ≡ link_end.Going
-    → Works clients link left left' l l' s s o o
+    → WorksOnLink clients link left left' l l' s s o o
 works_ended clients link left left' l l' s o session closed going =
     works_link clients link left left' l l' s o session (λ joined. record {
       sent = λ unfailed. let was : l.end ≢ link_end.Failed = λ failed. cc in subst (λ (x : Session). IsAllSent clients x.number link s o) (sym session) (joined.sent was);
@@ -172,8 +172,8 @@ bytes_answered heard.Idle buf h = refl
 bytes_answered heard.End buf h = refl
 bytes_answered heard.Failed buf h = refl
 
-pub heard_then : (o o' : Outside) (link : ℕ) (answer : Heard) (buf : List ℕ) → Told o
-    → link < o.links.dialled → Hears link answer buf o.links o'.links
+pub heard_then : (o o' : Outside) (link : ℕ) (answer : Heard) (buf : List ℕ) → TellsAll o
+    → link < o.links.dialled → HearsAnswer link answer buf o.links o'.links
     → heard_on o'.links link ≡ heard_on o.links link ++ heard_by answer buf
 heard_then o o' link answer buf told within hears =
     ap heard_bytes (heard_here o o' link answer buf told within hears)
@@ -182,30 +182,30 @@ heard_then o o' link answer buf told within hears =
 
 -- the disk fits the store as it did, and each session has sent what it had
 calm_outputs : (clients : Meaning) (session : ℕ) (s : StoreValue) (o o' : Outside)
-    (during : Moment → Type 0) → Goes o o' → LinkCall during o o'
-    → (told : Told o') (whole : Journal) → Fits clients s whole told.two
+    (during : Moment → Type 0) → LetsNothingFall o o' → LinkCall during o o'
+    → (told : TellsAll o') (whole : Journal) → FitsFiles clients s whole told.two
     → HasOthers clients session s o whole
 calm_outputs clients session s o o' during goes call told' whole fits =
     let told = told_before o o' goes told' in
     let two : told'.two ≡ told.two = cc (told'.files_are, told.files_are, call.same_files) in
-    record { told = told; before = whole; fits = subst (λ (t : Two File). Fits clients s whole t) two fits; same = λ other d. refl }
+    record { told = told; before = whole; fits = subst (λ (t : Two File). FitsFiles clients s whole t) two fits; same = λ other d. refl }
 
-calm_sent : (clients : Meaning) (session link : ℕ) (s : StoreValue) (o o' : Outside) → Goes o o'
+calm_sent : (clients : Meaning) (session link : ℕ) (s : StoreValue) (o o' : Outside) → LetsNothingFall o o'
     → QuietCall o o' → o'.links.told ≡ o.links.told
     → IsAllSent clients session link s o → IsAllSent clients session link s o'
 calm_sent clients session link s o o' goes call same_told sent told' whole fits =
     let told = told_before o o' goes told' in
     let two : told'.two ≡ told.two = cc (told'.files_are, told.files_are, call.same_files) in
-    ap (λ t. sent_at t link) same_told ∙ sent told whole (subst (λ (t : Two File). Fits clients s whole t) two fits)
+    ap (λ t. sent_at t link) same_told ∙ sent told whole (subst (λ (t : Two File). FitsFiles clients s whole t) two fits)
 
 pub works_calm : FrontsHaveFronts → (clients : Meaning) (link : ℕ) (left left' : List ℕ) (l : Link)
     (s : StoreValue) (o o' : Outside) → QuietCall o o' → LinksGrow o.links o'.links
     → o'.links.dialled ≡ o.links.dialled → o'.links.told ≡ o.links.told
     → OthersKeep link o.links o'.links
-    → (Told o → (takes : ℕ) → HasTaken (heard_on o.links link) left l takes → HasTaken (heard_on o'.links link) left' l takes)
-    → Works clients link left left' l l s s o o'
+    → (TellsAll o → (takes : ℕ) → HasTakenItems (heard_on o.links link) left l takes → HasTakenItems (heard_on o'.links link) left' l takes)
+    → WorksOnLink clients link left left' l l s s o o'
 works_calm fronts clients link left left' l s o o' call grows same_dialled same_told others taken =
-    let goes : Goes o o' = goes_link _ o o' call grows same_dialled (ap specs_of same_told) in
+    let goes : LetsNothingFall o o' = goes_link _ o o' call grows same_dialled (ap specs_of same_told) in
     record {
       goes = goes;
       same_session = refl;
@@ -224,20 +224,20 @@ works_calm fronts clients link left left' l s o o' call grows same_dialled same_
     }
 
 pub goes_heard : (link : ℕ) (answer : Heard) (buf : List ℕ) (o o' : Outside) → QuietCall o o'
-    → Hears link answer buf o.links o'.links → Goes o o'
+    → HearsAnswer link answer buf o.links o'.links → LetsNothingFall o o'
 goes_heard link answer buf o o' call hears =
     goes_link _ o o' call (grow_hear link answer buf o.links o'.links hears) hears.same_dialled (ap specs_of hears.same_told)
 
 pub goes_read : (reading : ℕ) (o o' : Outside) → QuietCall o o'
-    → ReadsClock reading o.links o'.links → Goes o o'
+    → ReadsClock reading o.links o'.links → LetsNothingFall o o'
 goes_read reading o o' call reads =
     goes_link _ o o' call (grow_read reading o.links o'.links reads) reads.same_dialled (ap specs_of reads.same_told)
 
 pub works_heard : FrontsHaveFronts → ReadingsWiden → (clients : Meaning) (link : ℕ)
     (answer : Heard) (buf : List ℕ) (l : Link) (s : StoreValue) (o o' : Outside)
     → link < o.links.dialled → QuietCall o o'
-    → Hears link answer buf o.links o'.links
-    → Works clients link [] (heard_by answer buf) l l s s o o'
+    → HearsAnswer link answer buf o.links o'.links
+    → WorksOnLink clients link [] (heard_by answer buf) l l s s o o'
 works_heard fronts widen clients link answer buf l s o o' within call hears =
     works_calm fronts clients link [] (heard_by answer buf) l s o o' call (grow_hear link answer buf o.links o'.links hears) hears.same_dialled hears.same_told (others_hear link answer buf o.links o'.links hears)
     (λ told takes has. record {
@@ -251,7 +251,7 @@ works_heard fronts widen clients link answer buf l s o o' within call hears =
 pub works_clock : FrontsHaveFronts → (clients : Meaning) (link : ℕ) (left : List ℕ) (reading : ℕ)
     (l : Link) (s : StoreValue) (o o' : Outside) → QuietCall o o'
     → ReadsClock reading o.links o'.links
-    → Works clients link left left l l s s o o'
+    → WorksOnLink clients link left left l l s s o o'
 works_clock fronts clients link left reading l s o o' call reads =
     works_calm fronts clients link left left l s o o' call (grow_read reading o.links o'.links reads) reads.same_dialled reads.same_told (others_read link reading o.links o'.links reads)
     (λ told takes has. record {

@@ -9,7 +9,7 @@ use Rattle.outside.specs.Outside.{MakesAtMost, Outside}
 use Rattle.sync_rules.specs.Steps.{IsSettled}
 use Rattle.sync_store.specs.Runs.{AddsBatch}
 use Rattle.sync_store.specs.Store.{StoreValue}
-use Rattle.sync_node.specs.Going.{Commits}
+use Rattle.sync_node.specs.Going.{CommitsBatches}
 use Rattle.sync_node.specs.Output.{Journal}
 
 -- one entry that adds a contact, a group or a message, or sets a level
@@ -49,5 +49,5 @@ pub record AddsSettled (clients : Meaning) (batch : List Entry) (s s' : StoreVal
     (o o' : Outside) : Type 0 where
   pub more : Journal
   pub settling : AllSettling clients (after_all s.state.facts batch) more
-  pub commits : Commits clients (batch ∷ more) s s' o o'
+  pub commits : CommitsBatches clients (batch ∷ more) s s' o o'
   pub settled : IsSettled clients s'.state.facts

@@ -6,12 +6,12 @@ use Rattle.entry_codec.specs.Standing.{journal, room_of, stands}
 use Rattle.frame_journal.specs.Gates.{AnyImage, SyncsBoth}
 use Rattle.outside.specs.declared.failed.Failed.{Failed}
 use Rattle.outside.specs.declared.limits.TheConstants.{MAX_JOURNAL}
-use Rattle.outside.specs.Disk.{Becomes}
+use Rattle.outside.specs.Disk.{RelatesTold}
 use Rattle.outside.specs.Files.{Two, File, IsImage, read_files}
-use Rattle.outside.specs.Host.{AsksNonce, Dials}
+use Rattle.outside.specs.Host.{AsksNonce, DialsLink}
 use Rattle.outside.specs.Links.{sent_of}
 use Rattle.outside.specs.Outside.{DiskRun, Moment, Outside, QuietCall}
-use Rattle.outside.specs.Runs.{IsFront, Told}
+use Rattle.outside.specs.Runs.{IsFront, TellsAll}
 use Rattle.sync_rules.specs.declared.entries.Session.{Session}
 use Rattle.sync_rules.specs.Clients.{Meaning}
 use Rattle.sync_rules.specs.Facts.{facts}
@@ -39,7 +39,7 @@ begin_at two j o = record {
 -- A store of which a node may be made: its sessions are those of the journal that the run began
 -- with, no link was used, nothing was sent before the run, and the run is safe with no session
 -- planned.
-pub record IsBegun (clients : Meaning) (b : Begin) (s : StoreValue) (o : Outside) : Type 0 where
+pub record IsRunBegun (clients : Meaning) (b : Begin) (s : StoreValue) (o : Outside) : Type 0 where
   pub first : s.state.facts.begun ≡ b.first
   pub roomy : s.end + room_of (written_in s) s.state.facts ≤ MAX_JOURNAL
   pub silent : b.sent ≡ []
@@ -73,24 +73,24 @@ LoadsBegin H tells =
     → (tells before).links.dialled ≡ 0
     → (tells before).files ≡ Some two → (so : StandsFor clients (read_files two) s)
     → AnyImage (tells before) (tells loaded)
-    → Becomes SyncsBoth (tells before).files (tells loaded).files
+    → RelatesTold SyncsBoth (tells before).files (tells loaded).files
     → DiskRun (tells before) (tells loaded) → IsReady clients s (tells loaded).files → IsStore s
-    → IsBegun clients (begin_at two so.done (tells before)) s (tells loaded)
+    → IsRunBegun clients (begin_at two so.done (tells before)) s (tells loaded)
 
 -- dials and nonces go on with the begin, whatever they answer
 abbrev pub DialsGoOn : (H : Type 0) → (H → Outside) → Type 0
 DialsGoOn H tells =
     (clients : Meaning) (b : Begin) (s : StoreValue) (old new : H) (spec : List ℕ)
     (result : Result ℕ Failed) → s.closed ≡ false
-    → QuietCall (tells old) (tells new) → Dials spec result (tells old).links (tells new).links
-    → IsBegun clients b s (tells old) → IsBegun clients b s (tells new)
+    → QuietCall (tells old) (tells new) → DialsLink spec result (tells old).links (tells new).links
+    → IsRunBegun clients b s (tells old) → IsRunBegun clients b s (tells new)
 
 abbrev pub NoncesGoOn : (H : Type 0) → (H → Outside) → Type 0
 NoncesGoOn H tells =
     (clients : Meaning) (b : Begin) (s : StoreValue) (old new : H) (link : ℕ)
     (result : Result (List ℕ) Failed)
     → QuietCall (tells old) (tells new) → AsksNonce link result (tells old).links (tells new).links
-    → IsBegun clients b s (tells old) → IsBegun clients b s (tells new)
+    → IsRunBegun clients b s (tells old) → IsRunBegun clients b s (tells new)
 
 -- settling does, whatever it answers
 abbrev pub SettlingGoesOn : (H : Type 0) → (H → Outside) → Type 0
@@ -99,12 +99,12 @@ SettlingGoesOn H tells =
     (result : Result (Unit {0}) StoreFault) → s.closed ≡ false
     → DiskRun (tells old) (tells new) → HasSettled clients s s' result (tells old) (tells new)
     → IsStore s'
-    → IsBegun clients b s (tells old) → IsBegun clients b s' (tells new)
+    → IsRunBegun clients b s (tells old) → IsRunBegun clients b s' (tells new)
 
 -- a node that is made of the store then is joined with its host, having no links
 abbrev pub NodesBeginJoined : (H : Type 0) → (H → Outside) → Type 0
 NodesBeginJoined H tells =
-    (clients : Meaning) (b : Begin) (s : StoreValue) (host : H) → IsBegun clients b s (tells host)
+    (clients : Meaning) (b : Begin) (s : StoreValue) (host : H) → IsRunBegun clients b s (tells host)
     → Joined clients [] s (tells host)
 
 -- a node that is made of a store that is ready may run
@@ -119,7 +119,7 @@ abbrev pub JoinedHaveRead : (H : Type 0) → (H → Outside) → Type 0
 JoinedHaveRead H tells =
     (clients : Meaning) (n : NodeValue) (host : H) → IsNode n → n.closed ≡ false
     → Joined clients n.links n.store (tells host)
-    → Told (tells host) → AllRead (heard_on (tells host).links) n.links
+    → TellsAll (tells host) → AllRead (heard_on (tells host).links) n.links
 
 -- ---- the end
 
@@ -144,5 +144,5 @@ abbrev pub SafeRunsLeave : (H : Type 0) → (H → Outside) → Type 0
 SafeRunsLeave H tells =
     (clients : Meaning) (b : Begin) (plans : List Session) (s : StoreValue) (host : H)
     → s.end + room_of (written_in s) s.state.facts ≤ MAX_JOURNAL
-    → Safe clients b plans s (tells host) → (told : Told (tells host))
+    → Safe clients b plans s (tells host) → (told : TellsAll (tells host))
     → IsLeftSafe clients b plans s (tells host) told.two

@@ -3,7 +3,7 @@ use Rattle.record_grammar.specs.Laws.{EndingsAreOfRests, FrontsHaveFronts, Recor
 use Rattle.record_stream.specs.Pieces.{ReadingsFollow, ReadingsWiden}
 use Rattle.sync_store.specs.Fitting.{ImagesStand}
 
-pub record CitedLaws : Type 0 where
+pub record NodeCallLaws : Type 0 where
   pub fronts : FrontsHaveFronts
   pub join : RecordsJoin
   pub widen : ReadingsWiden

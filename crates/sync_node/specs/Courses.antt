@@ -8,7 +8,7 @@ use Rattle.sync_rules.specs.declared.entries.Session.{Session}
 use Rattle.sync_rules.specs.Clients.{Meaning}
 use Rattle.entry_codec.specs.Standing.{stands, journal}
 use Rattle.sync_store.specs.Store.{StoreValue}
-use Rattle.sync_store.specs.Fitting.{Fits}
+use Rattle.sync_store.specs.Fitting.{FitsFiles}
 use Rattle.record_grammar.specs.declared.stream.Item.{Item}
 use Rattle.record_grammar.specs.declared.stream.Item.TheVariants as item
 use Rattle.sync_ids.specs.declared.records.Record.{Record}
@@ -25,13 +25,13 @@ use Rattle.sync_course.specs.declared.ends.LinkEnd.TheVariants as link_end
 use Rattle.sync_node.specs.declared.node.Turned.{Turned}
 use Rattle.sync_node.specs.declared.node.Turned.TheVariants as turned
 use Rattle.sync_course.specs.LinkTurns.{Asks, Doing, Done, LinkStep, Sends, Spot, Takes, Waits}
-use Rattle.sync_course.specs.Events.{Break, Commit, Event, Pass, Told}
-use Rattle.sync_course.specs.Paths.{Breaks, Counts, Runs}
+use Rattle.sync_course.specs.Events.{Break, Commit, Event, Pass, TellsEvents}
+use Rattle.sync_course.specs.Paths.{BreaksPath, CountsBatches, RunsPath}
 use Rattle.sync_course.specs.Turns.{Attaches, Between, Place, RunStep, Stage, Terms, Works, is_at_end}
 
 -- the files are told, and fit the store with this journal
 abbrev pub FitsWith : Meaning → StoreValue → Option (Two File) → List (List Entry) → Type 0
-FitsWith clients s files j = (two : Two File) × (files ≡ Some two) × Fits clients s j two
+FitsWith clients s files j = (two : Two File) × (files ≡ Some two) × FitsFiles clients s j two
 
 -- the files are told, and as they read they stand for this journal
 abbrev pub ReadsAs : Meaning → Option (Two File) → List (List Entry) → Type 0
@@ -42,38 +42,38 @@ ReadsAs clients files j =
 abbrev pub LinkRuns : Meaning → ℕ → ℕ → Spot → Spot → StoreValue → StoreValue → Outside → Outside
     → Type 0
 LinkRuns clients n session p q s s' o o' =
-    Runs (LinkStep clients n session) (FitsWith clients s o.files)
+    RunsPath (LinkStep clients n session) (FitsWith clients s o.files)
     (FitsWith clients s' o'.files) p q o o' []
 
 -- and so many batches were committed on the way
 abbrev pub LinkCounts : Meaning → ℕ → ℕ → Spot → Spot → StoreValue → StoreValue → Outside → Outside
     → ℕ → Type 0
 LinkCounts clients n session p q s s' o o' count =
-    Counts (LinkStep clients n session) (FitsWith clients s o.files)
+    CountsBatches (LinkStep clients n session) (FitsWith clients s o.files)
     (FitsWith clients s' o'.files) p q o o' count
 
 -- it was broken off: the files as they read stand for the journal with the batches of some path
 abbrev pub LinkBreaks : Meaning → ℕ → ℕ → Spot → StoreValue → Outside → Outside → Type 0
 LinkBreaks clients n session p s o o' =
-    Breaks (LinkStep clients n session) (FitsWith clients s o.files)
+    BreaksPath (LinkStep clients n session) (FitsWith clients s o.files)
     (ReadsAs clients o'.files) p o o'
 
 -- the same of a run
 abbrev pub RunRuns : Meaning → Terms → Place → Place → StoreValue → StoreValue → Outside → Outside
     → Type 0
 RunRuns clients terms p q s s' o o' =
-    Runs (RunStep clients terms) (FitsWith clients s o.files)
+    RunsPath (RunStep clients terms) (FitsWith clients s o.files)
     (FitsWith clients s' o'.files) p q o o' []
 
 abbrev pub RunCounts : Meaning → Terms → Place → Place → StoreValue → StoreValue → Outside → Outside
     → ℕ → Type 0
 RunCounts clients terms p q s s' o o' count =
-    Counts (RunStep clients terms) (FitsWith clients s o.files)
+    CountsBatches (RunStep clients terms) (FitsWith clients s o.files)
     (FitsWith clients s' o'.files) p q o o' count
 
 abbrev pub RunBreaks : Meaning → Terms → Place → StoreValue → Outside → Outside → Type 0
 RunBreaks clients terms p s o o' =
-    Breaks (RunStep clients terms) (FitsWith clients s o.files) (ReadsAs clients o'.files) p o o'
+    BreaksPath (RunStep clients terms) (FitsWith clients s o.files) (ReadsAs clients o'.files) p o o'
 
 -- ---- how the links stand where a call was broken off
 
@@ -115,7 +115,7 @@ pub record ReadsFront (clients : Meaning) (may : List (List Entry)) (s : StoreVa
 -- ---- what the calls of a store come to
 
 -- these batches were committed, by at most four calls of the disk each
-pub record Adds (clients : Meaning) (more : List (List Entry)) (s s' : StoreValue)
+pub record CommitsWithinCalls (clients : Meaning) (more : List (List Entry)) (s s' : StoreValue)
     (o o' : Outside) : Type 0 where
   pub same_links : o'.links ≡ o.links
   pub grows : (j : List (List Entry)) → FitsWith clients s o.files j
@@ -130,12 +130,12 @@ pub record AddsSome (clients : Meaning) (may : List (List Entry)) (s : StoreValu
   pub calls : MakesAtMost (4 * length may) o o'
 
 -- settling batches were committed, and are all that settling has
-pub record AddsSettling (clients : Meaning) (s s' : StoreValue) (o o' : Outside) : Type 0 where
+pub record CommitsSettling (clients : Meaning) (s s' : StoreValue) (o o' : Outside) : Type 0 where
   pub more : List (List Entry)
   pub settling : AllSettling clients s.state.facts more
   pub facts : s'.state.facts ≡ after_batches s.state.facts more
   pub settled : IsSettled clients s'.state.facts
-  pub adds : Adds clients more s s' o o'
+  pub adds : CommitsWithinCalls clients more s s' o o'
 
 pub record AddsSomeSettling (clients : Meaning) (s : StoreValue) (o o' : Outside) : Type 0 where
   pub more : List (List Entry)
@@ -185,13 +185,13 @@ IsTaking heard left l its link_end.Going = IsReading heard left l.reader its
 IsTaking heard left l its _ = its ≡ []
 
 -- the next item was taken or passed over, or there was none
-abbrev pub LeadsOn : Meaning → ℕ → List ℕ → List Item → Bool → List ℕ → Link → Link → StoreValue
+abbrev pub TakesNextItem : Meaning → ℕ → List ℕ → List Item → Bool → List ℕ → Link → Link → StoreValue
     → StoreValue → Outside → Outside → Bool → Type 0
-LeadsOn clients n heard its moved left l l' s s' o o' true =
+TakesNextItem clients n heard its moved left l l' s s' o o' true =
     (others : List Item) × IsTaking heard left l' others l'.end
     × LinkRuns clients n l.session.number (spot_at (Takes its) l heard moved s.state.facts)
     (spot_at (Takes others) l' heard moved s'.state.facts) s s' o o'
-LeadsOn clients n heard its moved left l l' s s' o o' false =
+TakesNextItem clients n heard its moved left l l' s s' o o' false =
     HasRead heard l'.reader
     × LinkRuns clients n l.session.number (spot_at (Takes its) l heard moved s.state.facts)
     (spot_at Waits l' heard moved s'.state.facts) s s' o o'
@@ -199,7 +199,7 @@ LeadsOn clients n heard its moved left l l' s s' o o' false =
 pub record NextAsCourse (clients : Meaning) (n : ℕ) (piece left : List ℕ) (l l' : Link)
     (s s' : StoreValue) (o o' : Outside) (more : Bool) : Type 0 where
   pub leads : (heard : List ℕ) (its : List Item) (moved : Bool) → IsReading heard piece l.reader its
-      → LeadsOn clients n heard its moved left l l' s s' o o' more
+      → TakesNextItem clients n heard its moved left l l' s s' o o' more
 
 pub record NextStops (clients : Meaning) (n : ℕ) (piece : List ℕ) (l l' : Link) (s : StoreValue)
     (o o' : Outside) : Type 0 where
@@ -213,7 +213,7 @@ pub record NextStops (clients : Meaning) (n : ℕ) (piece : List ℕ) (l l' : Li
 pub record PieceAsCourse (clients : Meaning) (n : ℕ) (piece left : List ℕ) (l l' : Link)
     (s s' : StoreValue) (o o' : Outside) : Type 0 where
   pub leads : (heard : List ℕ) (its : List Item) (moved : Bool) → IsReading heard piece l.reader its
-      → LeadsOn clients n heard its moved left l l' s s' o o' true
+      → TakesNextItem clients n heard its moved left l l' s s' o o' true
 
 -- all items of a piece were taken, and the link waits for the clock
 pub record PieceTaken (clients : Meaning) (n : ℕ) (piece : List ℕ) (l l' : Link)
@@ -227,8 +227,8 @@ pub record PieceTaken (clients : Meaning) (n : ℕ) (piece : List ℕ) (l l' : L
 -- ---- hearing
 
 -- a link that is still asked has read all that was heard on it
-abbrev pub IsRead : List ℕ → Link → Type 0
-IsRead heard l = l.end ≡ link_end.Going → HasRead heard l.reader
+abbrev pub IsLinkRead : List ℕ → Link → Type 0
+IsLinkRead heard l = l.end ≡ link_end.Going → HasRead heard l.reader
 
 -- a link waits for the clock, or it is closed and its turn is done
 abbrev pub IsReadyToSend : Doing → Link → Type 0
@@ -239,19 +239,19 @@ pub record HearsTo (clients : Meaning) (n : ℕ) (l l' : Link) (s s' : StoreValu
     (heard : List ℕ) (moved idle : Bool) : Type 0 where
   pub heard' : List ℕ
   pub doing : Doing
-  pub has_read : IsRead heard' l'
+  pub has_read : IsLinkRead heard' l'
   pub ready : IsReadyToSend doing l'
   pub runs : LinkRuns clients n l.session.number (spot_at Asks l heard moved s.state.facts)
       (spot_at doing l' heard' (cond idle moved true) s'.state.facts) s s' o o'
 
 pub record HearsAsCourse (clients : Meaning) (n : ℕ) (l l' : Link) (s s' : StoreValue)
     (o o' : Outside) (idle : Bool) : Type 0 where
-  pub leads : (heard : List ℕ) (moved : Bool) → IsRead heard l
+  pub leads : (heard : List ℕ) (moved : Bool) → IsLinkRead heard l
       → HearsTo clients n l l' s s' o o' heard moved idle
 
 pub record HearsStops (clients : Meaning) (n : ℕ) (l l' : Link) (s : StoreValue)
     (o o' : Outside) : Type 0 where
-  pub stops : (heard : List ℕ) (moved : Bool) → IsRead heard l
+  pub stops : (heard : List ℕ) (moved : Bool) → IsLinkRead heard l
       → (heard' : List ℕ) × LinkHalts clients n l.session.number
       (spot_at Asks l heard moved s.state.facts) (link_at l' heard') s o o'
 
@@ -340,13 +340,13 @@ pub record SendsStop (clients : Meaning) (n : ℕ) (l l' : Link) (s : StoreValue
 pub record TurnTo (clients : Meaning) (n : ℕ) (l l' : Link) (s s' : StoreValue) (o o' : Outside)
     (heard : List ℕ) (moved still : Bool) : Type 0 where
   pub heard' : List ℕ
-  pub has_read : IsRead heard' l'
+  pub has_read : IsLinkRead heard' l'
   pub runs : LinkRuns clients n l.session.number (spot_at Asks l heard moved s.state.facts)
       (spot_at Done l' heard' (cond still moved true) s'.state.facts) s s' o o'
 
 pub record TurnAsCourse (clients : Meaning) (n : ℕ) (l l' : Link) (s s' : StoreValue)
     (o o' : Outside) (still : Bool) : Type 0 where
-  pub leads : (heard : List ℕ) (moved : Bool) → IsRead heard l
+  pub leads : (heard : List ℕ) (moved : Bool) → IsLinkRead heard l
       → TurnTo clients n l l' s s' o o' heard moved still
 
 -- ---- all links
@@ -357,7 +357,7 @@ links_from k [] heard = []
 links_from k (l ∷ ls) heard = link_at l (heard k) ∷ links_from (suc k) ls heard
 
 abbrev pub AllRead : (ℕ → List ℕ) → List Link → Type 0
-AllRead heard links = (i : ℕ) (l : Link) → slice_get links i ≡ Some l → IsRead (heard i) l
+AllRead heard links = (i : ℕ) (l : Link) → slice_get links i ≡ Some l → IsLinkRead (heard i) l
 
 -- a place of a run with these links
 abbrev pub place_at : Stage → List Link → (ℕ → List ℕ) → Bool → ℕ → ℕ → Facts → Place
@@ -449,7 +449,7 @@ pub record Received (clients : Meaning) (terms : Terms) (n : ℕ) (links links' 
       (place_at (Works n Asks) links heard moved still made s.state.facts)
       (place_at (Works n doing) links' heard' (cond idle moved true) still made s'.state.facts) s s' o o'
 
-pub record Receives (clients : Meaning) (first n : ℕ) (links links' : List Link)
+pub record ReceivesOnce (clients : Meaning) (first n : ℕ) (links links' : List Link)
     (s s' : StoreValue) (o o' : Outside) (idle : Bool) : Type 0 where
   pub leads : (terms : Terms) (heard : ℕ → List ℕ) (moved : Bool) (still made : ℕ)
       → terms.first ≡ first → AllRead heard links
@@ -490,7 +490,7 @@ pub record HaltsSending (clients : Meaning) (first n now : ℕ) (links links' : 
 abbrev pub GreetsAsCourse : ℕ → Link → Link → Outside → Outside → Type 0
 GreetsAsCourse n l l' o o' =
     MakesAtMost 0 o o'
-    × (((l' ≡ l) × Told (Pass ∷ []) o o') ⊎ ((l' ≡ record l { end = link_end.Failed }) × Told (Break n ∷ []) o o'))
+    × (((l' ≡ l) × TellsEvents (Pass ∷ []) o o') ⊎ ((l' ≡ record l { end = link_end.Failed }) × TellsEvents (Break n ∷ []) o o'))
 
 -- a place of a run that is to begin these sessions
 abbrev pub attaching_at : List Session → List course_links.Link → Bool → ℕ → ℕ → Facts → Place
@@ -507,7 +507,7 @@ attaching_at left links moved still made f = record {
 -- there. Nothing was heard on it.
 pub record StartsAsCourse (clients : Meaning) (n : ℕ) (session : Session) (l : Link)
     (s s' : StoreValue) (o o' : Outside) : Type 0 where
-  pub has_read : IsRead [] l
+  pub has_read : IsLinkRead [] l
   pub runs : (two : Two File) → o.files ≡ Some two → (terms : Terms) (left : List Session)
       (links : List course_links.Link) (moved : Bool) (still made : ℕ) → length links ≡ n
       → RunRuns clients terms (attaching_at (session ∷ left) links moved still made s.state.facts)
@@ -529,7 +529,7 @@ pub record StartsBehind (clients : Meaning) (n : ℕ) (session : Session) (links
 
 -- where files are told, the next session began on the link behind those of a node, on which nothing
 -- was heard
-pub record Begins (clients : Meaning) (session : Session) (links links' : List Link)
+pub record BeginsNextSession (clients : Meaning) (session : Session) (links links' : List Link)
     (s s' : StoreValue) (o o' : Outside) : Type 0 where
   pub has_read : (heard : ℕ → List ℕ) → heard (length links) ≡ [] → AllRead heard links
       → AllRead heard links'

@@ -14,12 +14,12 @@ use Rattle.sync_course.specs.Events.{Commit, Event}
 use Rattle.sync_course.specs.Links as course_links
 use Rattle.sync_course.specs.Links.{is_sent_to}
 use Rattle.sync_course.specs.LinkTurns.{Asks, Doing, LinkStep, Sends, Spot, Takes}
-use Rattle.sync_course.specs.Paths.{Runs}
+use Rattle.sync_course.specs.Paths.{RunsPath}
 use Rattle.sync_course.specs.Reading.{IsReading}
 use Rattle.sync_course.specs.Turns.{Attaches, Between, Place, RunStep, Terms, Works, is_at_end}
 use Rattle.sync_course.specs.declared.TheConstants.{MAX_OUTPUTS}
 use Rattle.sync_course.specs.declared.ends.LinkEnd.TheVariants as link_end
-use Rattle.sync_node.specs.Courses.{AllRead, FitsWith, IsRead, IsReadyToSend, attaching_at, links_from, place_at, spot_at}
+use Rattle.sync_node.specs.Courses.{AllRead, FitsWith, IsLinkRead, IsReadyToSend, attaching_at, links_from, place_at, spot_at}
 use Rattle.sync_node.specs.Joined.{IsAllSent, Joined}
 use Rattle.sync_node.specs.declared.link.Link.{Link}
 
@@ -27,7 +27,7 @@ use Rattle.sync_node.specs.declared.link.Link.{Link}
 pub record StopsFull {P : Type 0} (clients : Meaning) (step : P → Event → P → Type 0) (from : P)
     (s s' : StoreValue) (o o' : Outside) : Type 0 where
   pub to : P
-  pub runs : Runs step (FitsWith clients s o.files) (FitsWith clients s' o'.files) from to o o' []
+  pub runs : RunsPath step (FitsWith clients s o.files) (FitsWith clients s' o'.files) from to o o' []
   pub batch : List Entry
   pub next : P
   pub steps : step to (Commit batch) next
@@ -55,7 +55,7 @@ pub record RunFullSent (clients : Meaning) (terms : Terms) (p : Place) (Given : 
   pub sent : Given → AllSentOn clients terms.first full.to.links s' o'
 
 -- a batch that was to be committed would pass the limit, and nothing was done
-pub record IsOver (clients : Meaning) (batch : List Entry) (s s' : StoreValue)
+pub record PassesLimit (clients : Meaning) (batch : List Entry) (s s' : StoreValue)
     (o o' : Outside) : Type 0 where
   pub same_links : o'.links ≡ o.links
   pub fits : (j : List (List Entry)) → FitsWith clients s o.files j → FitsWith clients s' o'.files j
@@ -82,7 +82,7 @@ pub record NextFull (clients : Meaning) (n : ℕ) (piece : List ℕ) (l : Link) 
 -- the link was asked, or was to send what is due
 pub record HearsFull (clients : Meaning) (n : ℕ) (l : Link) (s s' : StoreValue)
     (o o' : Outside) : Type 0 where
-  pub fills : (heard : List ℕ) (moved : Bool) → IsRead heard l
+  pub fills : (heard : List ℕ) (moved : Bool) → IsLinkRead heard l
       → LinkFull clients n l.session.number (spot_at Asks l heard moved s.state.facts) s s' o o'
 
 pub record PutsFull (clients : Meaning) (n now : ℕ) (l : Link) (s s' : StoreValue)
@@ -91,13 +91,13 @@ pub record PutsFull (clients : Meaning) (n now : ℕ) (l : Link) (s s' : StoreVa
       → LinkFull clients n l.session.number
       (spot_at (Sends now (suc room)) l heard moved s.state.facts) s s' o o'
 
-pub record SentFull (clients : Meaning) (n now : ℕ) (l : Link) (s s' : StoreValue)
+pub record TurnLeavesNoRoom (clients : Meaning) (n now : ℕ) (l : Link) (s s' : StoreValue)
     (o o' : Outside) : Type 0 where
   pub fills : (heard : List ℕ) (moved : Bool) → is_sent_to l.end ≡ true
       → LinkFull clients n l.session.number
       (spot_at (Sends now MAX_OUTPUTS) l heard moved s.state.facts) s s' o o'
 
-pub record SendsFull (clients : Meaning) (n : ℕ) (l : Link) (s s' : StoreValue)
+pub record LeavesNoRoomFor (clients : Meaning) (n : ℕ) (l : Link) (s s' : StoreValue)
     (o o' : Outside) : Type 0 where
   pub fills : (heard : List ℕ) (moved : Bool) (doing : Doing) → IsReadyToSend doing l
       → LinkFull clients n l.session.number (spot_at doing l heard moved s.state.facts) s s' o o'

@@ -18,7 +18,7 @@ ClosesBy place (record_kind.Versions versions) old new =
     (Contains versions 0 → new ≡ old) × ((Contains versions 0 → ⊥) → new ≡ link_end.NoVersion place)
 ClosesBy place _ old new = new ≡ old
 
-pub record Learns (place : ℕ) (r : Record) (old new : Link) : Type 0 where
+pub record LearnsNonce (place : ℕ) (r : Record) (old new : Link) : Type 0 where
   pub same_session : new.session ≡ old.session
   pub same_reader : new.reader ≡ old.reader
   pub nonce : new.nonce ≡ nonce_with old.nonce r

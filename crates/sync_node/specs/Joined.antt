@@ -2,7 +2,7 @@
 -- was heard was taken.
 use Rattle.std.specs.Prelude.{◌≡◌, ◌≢◌, ℕ, ◌≤◌, List, [], ◌∷◌, length, Option, Some, None, slice_get}
 use Rattle.outside.specs.Outside.{Outside}
-use Rattle.outside.specs.Runs.{Told, answers_at}
+use Rattle.outside.specs.Runs.{TellsAll, answers_at}
 use Rattle.sync_ids.specs.declared.records.Record.{Record}
 use Rattle.sync_ids.specs.declared.records.Record.TheVariants as record_kind
 use Rattle.record_grammar.specs.declared.stream.Item.{Item}
@@ -11,7 +11,7 @@ use Rattle.record_stream.specs.Reading.{ReadsOn, fresh}
 use Rattle.sync_rules.specs.Clients.{Meaning}
 use Rattle.sync_rules.specs.Facts.{takes_of}
 use Rattle.sync_store.specs.Store.{StoreValue}
-use Rattle.sync_store.specs.Fitting.{Fits}
+use Rattle.sync_store.specs.Fitting.{FitsFiles}
 use Rattle.sync_node.specs.declared.link.Link.{Link}
 use Rattle.sync_course.specs.declared.ends.LinkEnd.TheVariants as link_end
 use Rattle.sync_node.specs.Output.{Journal, heard_on, output, sent_on}
@@ -29,7 +29,7 @@ known_nonce (Some nonce) rs = Some nonce
 
 -- Of the bytes heard on a link the reader has given some items, and these bytes are left to be fed
 -- to it. Each record among the items was taken, and the known nonce is that of the records.
-pub record HasTaken (heard left : List ℕ) (l : Link) (takes : ℕ) : Type 0 where
+pub record HasTakenItems (heard left : List ℕ) (l : Link) (takes : ℕ) : Type 0 where
   pub has : List Item
   pub reads : ReadsOn heard fresh has left l.reader
   pub count : takes ≡ length (records_of has)
@@ -38,7 +38,7 @@ pub record HasTaken (heard left : List ℕ) (l : Link) (takes : ℕ) : Type 0 wh
 -- the bytes sent on a link are the whole output of its session
 abbrev pub IsAllSent : Meaning → ℕ → ℕ → StoreValue → Outside → Type 0
 IsAllSent clients session link s o =
-    (told : Told o) (whole : Journal) → Fits clients s whole told.two
+    (told : TellsAll o) (whole : Journal) → FitsFiles clients s whole told.two
     → sent_on o.links link ≡ output whole session
 
 -- A link is joined, but for these bytes that were heard last. Unless a call on it failed, what was
@@ -46,13 +46,13 @@ IsAllSent clients session link s o =
 pub record IsJoined (clients : Meaning) (link : ℕ) (left : List ℕ) (l : Link) (s : StoreValue)
     (o : Outside) : Type 0 where
   pub sent : l.end ≢ link_end.Failed → IsAllSent clients l.session.number link s o
-  pub taken : l.end ≡ link_end.Going → Told o
-      → HasTaken (heard_on o.links link) left l (takes_of s.state.facts.takes l.session.number)
+  pub taken : l.end ≡ link_end.Going → TellsAll o
+      → HasTakenItems (heard_on o.links link) left l (takes_of s.state.facts.takes l.session.number)
 
 -- on a link that is not attached nothing was heard and nothing was sent
 pub record IsUnused (link : ℕ) (o : Outside) : Type 0 where
-  pub nothing_sent : Told o → sent_on o.links link ≡ []
-  pub nothing_heard : Told o → answers_at o.links.heard link ≡ []
+  pub nothing_sent : TellsAll o → sent_on o.links link ≡ []
+  pub nothing_heard : TellsAll o → answers_at o.links.heard link ≡ []
 
 -- all links are joined, and the others are not used
 pub record Joined (clients : Meaning) (links : List Link) (s : StoreValue)

@@ -8,8 +8,8 @@ use Rattle.sync_rules.specs.Clients.{Meaning}
 use Rattle.sync_rules.specs.Facts.{Facts, session_at}
 use Rattle.sync_rules.specs.Steps.{IsSettled}
 use Rattle.sync_store.specs.Store.{StoreValue, store_code}
-use Rattle.outside.specs.Runs.{Told}
-use Rattle.sync_store.specs.Fitting.{Fits}
+use Rattle.outside.specs.Runs.{TellsAll}
+use Rattle.sync_store.specs.Fitting.{FitsFiles}
 use Rattle.sync_store.specs.Ready.{IsReady}
 use Rattle.sync_node.specs.declared.fault.NodeFault.{NodeFault}
 use Rattle.sync_node.specs.declared.fault.NodeFault.TheVariants as fault
@@ -20,11 +20,11 @@ use Rattle.record_stream.specs.Reading.{ReaderState}
 use Rattle.sync_course.specs.declared.ends.LinkEnd.{LinkEnd}
 use Rattle.sync_course.specs.declared.ends.LinkEnd.TheVariants as link_end
 use Rattle.sync_node.specs.Causes.{sessions_of}
-use Rattle.sync_node.specs.Going.{Goes}
+use Rattle.sync_node.specs.Going.{LetsNothingFall}
 use Rattle.sync_node.specs.Joined.{Joined}
 use Rattle.sync_node.specs.Output.{Journal}
 use Rattle.sync_node.specs.Safe.{Begin, Safe, begun_anew}
-use Rattle.sync_node.specs.Working.{Waits}
+use Rattle.sync_node.specs.Working.{HasGivenItems}
 
 -- the store, the number of sessions when the node was made, the links that are attached, and
 -- whether a call failed
@@ -80,7 +80,7 @@ asked_among (l ∷ ls) = cond (is_going l.end) 1 0 + asked_among ls
 pub record IsAttached (first : ℕ) (f : Facts) (number : ℕ) (l : Link) : Type 0 where
   pub numbered : l.session.number ≡ first + number
   pub known : session_at f.sessions l.session.number ≡ Some l.session
-  pub waits : Waits l
+  pub waits : HasGivenItems l
 
 -- the sessions that began since the node was made are those of its links
 pub record AreAttached (first : ℕ) (links : List Link) (f : Facts) : Type 0 where
@@ -104,7 +104,7 @@ pub record MayGoOn (clients : Meaning) (links : List Link) (s : StoreValue)
 -- moment and at the end, for whatever begin.
 pub record LinksWork (clients : Meaning) (first : ℕ) (links links' : List Link) (s s' : StoreValue)
     (o o' : Outside) : Type 0 where
-  pub goes : Goes o o'
+  pub goes : LetsNothingFall o o'
   pub same_number : length links' ≡ length links
   pub attached : AreAttached first links' s'.state.facts
   pub joined : Joined clients links s o → Joined clients links' s' o'
@@ -135,7 +135,7 @@ pub record KeepsSessions (n n' : NodeValue) : Type 0 where
 
 -- Calls on the links of a node, which was not closed, leave them joined.
 pub record KeepsJoined (clients : Meaning) (n n' : NodeValue) (o o' : Outside) : Type 0 where
-  pub goes : Goes o o'
+  pub goes : LetsNothingFall o o'
   pub same_first : n'.first ≡ n.first
   pub same_number : length n'.links ≡ length n.links
   pub joined : Joined clients n.links n.store o → Joined clients n'.links n'.store o'
@@ -158,13 +158,13 @@ pub record PlansSafe (clients : Meaning) (session : Session) (n n' : NodeValue)
 -- safe: over the journal, the files and the clock value of then, with the sessions that it had.
 pub record KeepsSafeAnew (clients : Meaning) (n n' : NodeValue) (o o' : Outside) : Type 0 where
   pub safe : (b : Begin) (plans : List Session) → Safe clients b plans n.store o
-      → (told : Told o') (whole : Journal)
-      → Fits clients n'.store whole told.two
+      → (told : TellsAll o') (whole : Journal)
+      → FitsFiles clients n'.store whole told.two
       → Safe clients (begun_anew b told.two whole o') plans n'.store o'
 
 -- a session was begun on the next link
-pub record Attaches (clients : Meaning) (n n' : NodeValue) (o o' : Outside) : Type 0 where
-  pub goes : Goes o o'
+pub record AttachesLink (clients : Meaning) (n n' : NodeValue) (o o' : Outside) : Type 0 where
+  pub goes : LetsNothingFall o o'
   pub same_first : n'.first ≡ n.first
   pub one_more : length n'.links ≡ length n.links + 1
   pub joined : Joined clients n.links n.store o → Joined clients n'.links n'.store o'
@@ -178,9 +178,9 @@ pub record StaysClosed {T H : Type 0} (n n' : NodeValue) (host host' : H)
 
 -- Closed is no answer of a node that was not closed; after any fault the node is closed, and else
 -- it is not.
-abbrev pub Answers : {T : Type 0} → Result T NodeFault → NodeValue → Type 0
-Answers (Ok _) n' = n'.closed ≡ false
-Answers (Err fault.Memory) n' = n'.closed ≡ true
-Answers (Err fault.DiskFault) n' = n'.closed ≡ true
-Answers (Err fault.Full) n' = n'.closed ≡ true
-Answers (Err fault.Closed) n' = ⊥
+abbrev pub AnswersAndCloses : {T : Type 0} → Result T NodeFault → NodeValue → Type 0
+AnswersAndCloses (Ok _) n' = n'.closed ≡ false
+AnswersAndCloses (Err fault.Memory) n' = n'.closed ≡ true
+AnswersAndCloses (Err fault.DiskFault) n' = n'.closed ≡ true
+AnswersAndCloses (Err fault.Full) n' = n'.closed ≡ true
+AnswersAndCloses (Err fault.Closed) n' = ⊥

@@ -5,12 +5,12 @@ use Rattle.std.specs.Prelude.{◌≡◌, ◌⊎◌, ℕ, ◌≤◌, false, List,
 use Rattle.outside.specs.Files.{Two, File, IsImage, read_files}
 use Rattle.outside.specs.Links.{sent_of}
 use Rattle.outside.specs.Outside.{Outside, Moment}
-use Rattle.outside.specs.Runs.{Told}
+use Rattle.outside.specs.Runs.{TellsAll}
 use Rattle.sync_rules.specs.declared.entries.Session.{Session}
 use Rattle.sync_rules.specs.Clients.{Meaning}
 use Rattle.entry_codec.specs.Standing.{stands, journal}
 use Rattle.sync_store.specs.Store.{StoreValue}
-use Rattle.sync_store.specs.Fitting.{Fits}
+use Rattle.sync_store.specs.Fitting.{FitsFiles}
 use Rattle.sync_node.specs.Output.{AreOutput, Journal, heard_on, sent_on}
 use Rattle.sync_node.specs.Suits.{SuitsRun}
 
@@ -50,7 +50,7 @@ pub record IsCovered (clients : Meaning) (b : Begin) (plans : List Session) (hea
 pub record IsCoveredNow (clients : Meaning) (b : Begin) (plans : List Session)
     (heard sent : ℕ → List ℕ) (s : StoreValue) (two : Two File) : Type 0 where
   pub whole : Journal
-  pub fits : Fits clients s whole two
+  pub fits : FitsFiles clients s whole two
   pub suits : SuitsRun clients b.journal b.first plans heard whole
   pub has_sent : AreOutput whole b.first sent
 
@@ -63,9 +63,9 @@ read_now two o = record { files = read_files two; sent = sent_of o.links.told }
 -- closed.
 pub record Safe (clients : Meaning) (b : Begin) (plans : List Session) (s : StoreValue)
     (o : Outside) : Type 0 where
-  pub later : Told o → b.clock ≤ o.clock
-  pub moments : Told o → (m : Moment) → o.moments b.clock m
+  pub later : TellsAll o → b.clock ≤ o.clock
+  pub moments : TellsAll o → (m : Moment) → o.moments b.clock m
       → IsEarly b m ⊎ IsCovered clients b plans (heard_on o.links) m
-  pub reads : (told : Told o) → IsCovered clients b plans (heard_on o.links) (read_now told.two o)
-  pub now : s.closed ≡ false → (told : Told o) → IsCoveredNow clients b plans (heard_on o.links)
+  pub reads : (told : TellsAll o) → IsCovered clients b plans (heard_on o.links) (read_now told.two o)
+  pub now : s.closed ≡ false → (told : TellsAll o) → IsCoveredNow clients b plans (heard_on o.links)
       (sent_on o.links) s told.two

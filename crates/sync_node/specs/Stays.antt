@@ -2,7 +2,7 @@
 use Rattle.std.specs.Prelude.{◌≡◌, Result, Ok, Err}
 use Rattle.outside.specs.Outside.{Outside}
 use Rattle.sync_rules.specs.Clients.{Meaning}
-use Rattle.sync_store.specs.Commits.{Stays}
+use Rattle.sync_store.specs.Commits.{KeepsStore}
 use Rattle.sync_store.specs.Store.{StoreValue}
 use Rattle.sync_store.specs.Ready.{IsReady}
 use Rattle.sync_node.specs.declared.fault.Fault.{Fault}
@@ -29,7 +29,7 @@ StaysReady clients n o (Err node.Closed) = Unit {0}
 
 -- the store is as before in all that contracts ask of it, and the host is the same
 pub record IsUndone {H : Type 0} (s s' : StoreValue) (host host' : H) : Type 0 where
-  pub stays : Stays s s'
+  pub stays : KeepsStore s s'
   pub same_host : host' ≡ host
 
 abbrev pub IsUndoneBy : {H : Type 0} → StoreValue → StoreValue → H → H → Fault → Type 0

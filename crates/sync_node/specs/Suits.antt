@@ -23,18 +23,18 @@ IsOfRun first plans heard f (entry.Take s k ∷ rest) = TakesHeard first heard f
 IsOfRun first plans heard f (entry.Out s now what ∷ rest) = first ≤ s
 IsOfRun first plans heard f _ = ⊥
 
-abbrev pub Suits : Meaning → ℕ → List Session → (ℕ → List ℕ) → Facts → List Entry → Type 0
-Suits clients first plans heard f batch =
+abbrev pub SuitsSessions : Meaning → ℕ → List Session → (ℕ → List ℕ) → Facts → List Entry → Type 0
+SuitsSessions clients first plans heard f batch =
     IsSettlingBatch clients f batch ⊎ IsOfRun first plans heard f batch
 
-abbrev pub AllSuit : Meaning → ℕ → List Session → (ℕ → List ℕ) → Facts → Journal → Type 0
-AllSuit clients first plans heard f [] = Unit {0}
-AllSuit clients first plans heard f (b ∷ bs) =
-    Suits clients first plans heard f b × AllSuit clients first plans heard (after_all f b) bs
+abbrev pub AllSuitSessions : Meaning → ℕ → List Session → (ℕ → List ℕ) → Facts → Journal → Type 0
+AllSuitSessions clients first plans heard f [] = Unit {0}
+AllSuitSessions clients first plans heard f (b ∷ bs) =
+    SuitsSessions clients first plans heard f b × AllSuitSessions clients first plans heard (after_all f b) bs
 
 -- a journal that goes on from the one of the begin by batches of the run
 pub record SuitsRun (clients : Meaning) (begin : Journal) (first : ℕ) (plans : List Session)
     (heard : ℕ → List ℕ) (journal : Journal) : Type 0 where
   pub more : Journal
   pub extends : journal ≡ begin ++ more
-  pub suits : AllSuit clients first plans heard (facts begin) more
+  pub suits : AllSuitSessions clients first plans heard (facts begin) more

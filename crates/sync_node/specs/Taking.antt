@@ -1,7 +1,7 @@
 -- What taking a record does, and what is left of a piece then.
 use Rattle.std.specs.Prelude.{◌≡◌, ℕ, ◌+◌, ◌<◌, Bool, true, false, List, [], ◌∷◌, length, Some, slice_get}
 use Rattle.outside.specs.Outside.{Outside}
-use Rattle.outside.specs.Runs.{Told}
+use Rattle.outside.specs.Runs.{TellsAll}
 use Rattle.sync_ids.specs.declared.records.Record.{Record}
 use Rattle.record_grammar.specs.Stream.{records}
 use Rattle.session_core.specs.Taking.{take_of}
@@ -14,13 +14,13 @@ use Rattle.sync_rules.specs.Steps.{IsSettled}
 use Rattle.sync_store.specs.Store.{StoreValue}
 use Rattle.sync_store.specs.Ready.{IsReady}
 use Rattle.sync_node.specs.declared.link.Link.{Link}
-use Rattle.sync_node.specs.Going.{Commits}
+use Rattle.sync_node.specs.Going.{CommitsBatches}
 use Rattle.sync_node.specs.Output.{Journal, heard_on}
 use Rattle.sync_node.specs.Safe.{Begin, Safe}
-use Rattle.sync_node.specs.Working.{Waits}
+use Rattle.sync_node.specs.Working.{HasGivenItems}
 
 -- a store in which a session may take a record
-pub record IsOpenFor (clients : Meaning) (session : Session) (s : StoreValue)
+pub record IsOpenToTake (clients : Meaning) (session : Session) (s : StoreValue)
     (o : Outside) : Type 0 where
   pub ready : IsReady clients s o.files
   pub settled : IsSettled clients s.state.facts
@@ -36,14 +36,14 @@ pub record TakesOn (clients : Meaning) (session : Session) (r : Record) (s s' : 
   pub allowed : Allowed clients s.state.facts (next_take s.state.facts session r)
   pub more : Journal
   pub settling : AllSettling clients (after_all s.state.facts (next_take s.state.facts session r)) more
-  pub commits : Commits clients (next_take s.state.facts session r ∷ more) s s' o o'
+  pub commits : CommitsBatches clients (next_take s.state.facts session r ∷ more) s s' o o'
   pub settled : IsSettled clients s'.state.facts
 
 -- where the record is the next that was heard on the session's link, it stays safe
 pub record TakesSafe (clients : Meaning) (session : Session) (r : Record) (s s' : StoreValue)
     (o o' : Outside) : Type 0 where
   pub safe : (b : Begin) (plans : List Session) (link : ℕ) → session.number ≡ b.first + link
-      → (Told o → slice_get (records (heard_on o.links link)) (takes_of s.state.facts.takes session.number) ≡ Some r)
+      → (TellsAll o → slice_get (records (heard_on o.links link)) (takes_of s.state.facts.takes session.number) ≡ Some r)
       → Safe clients b plans s o → Safe clients b plans s' o'
 
 -- fewer bytes are left, held or of the piece; or nothing is left of the piece, and no item stands
@@ -51,4 +51,4 @@ pub record TakesSafe (clients : Meaning) (session : Session) (r : Record) (s s' 
 abbrev pub LeavesLess : Link → List ℕ → Link → List ℕ → Bool → Type 0
 LeavesLess old piece new left true =
     length new.reader.bytes + length left < length old.reader.bytes + length piece
-LeavesLess old piece new left false = (left ≡ []) × Waits new
+LeavesLess old piece new left false = (left ≡ []) × HasGivenItems new

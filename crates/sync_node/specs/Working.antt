@@ -10,7 +10,7 @@ use Rattle.sync_store.specs.Store.{StoreValue}
 use Rattle.sync_store.specs.Ready.{IsReady}
 use Rattle.sync_node.specs.declared.link.Link.{Link}
 use Rattle.sync_course.specs.declared.ends.LinkEnd.TheVariants as link_end
-use Rattle.sync_node.specs.Going.{Elsewhere, Goes}
+use Rattle.sync_node.specs.Going.{Elsewhere, LetsNothingFall}
 use Rattle.sync_node.specs.Joined.{IsJoined}
 use Rattle.sync_node.specs.Safe.{Begin, Safe}
 
@@ -33,9 +33,9 @@ pub record StaysSafe (clients : Meaning) (link : ℕ) (left : List ℕ) (l : Lin
 
 -- Work on a link, before which and behind which these bytes are left of what was heard: it stays
 -- safe and joined, and leaves the other links.
-pub record Works (clients : Meaning) (link : ℕ) (left left' : List ℕ) (l l' : Link)
+pub record WorksOnLink (clients : Meaning) (link : ℕ) (left left' : List ℕ) (l l' : Link)
     (s s' : StoreValue) (o o' : Outside) : Type 0 where
-  pub goes : Goes o o'
+  pub goes : LetsNothingFall o o'
   pub same_session : l'.session ≡ l.session
   pub same_sessions : s'.state.facts.sessions ≡ s.state.facts.sessions
   pub same_begun : s'.state.facts.begun ≡ s.state.facts.begun
@@ -45,5 +45,5 @@ pub record Works (clients : Meaning) (link : ℕ) (left left' : List ℕ) (l l' 
 
 -- a link that is still asked has given each item that stands whole in the bytes that its reader
 -- holds
-abbrev pub Waits : Link → Type 0
-Waits l = l.end ≡ link_end.Going → AwaitsBytes l.reader
+abbrev pub HasGivenItems : Link → Type 0
+HasGivenItems l = l.end ≡ link_end.Going → AwaitsBytes l.reader

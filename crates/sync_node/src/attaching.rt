@@ -1,7 +1,7 @@
 //! A session that begins on a link.
 ghost use Rattle.std.specs.Prelude.{IfErr};
 ghost use Rattle.std.specs.Prelude.{IsErrOf};
-ghost use Rattle.outside.specs.Faults.{Rose};
+ghost use Rattle.outside.specs.Faults.{CountRose};
 ghost use Rattle.std.specs.Prelude.{◌≡◌, ◌<◌, ◌++◌, ◌∷◌, [], length, IfOk, OnErr, OnOk};
 ghost use Rattle.record_stream.specs.Reading.{AwaitsBytes, fresh};
 ghost use Rattle.sync_rules.specs.Legal.{Allowed};
@@ -11,8 +11,8 @@ ghost use Rattle.sync_node.specs.Causes.{LinkGoes, LinksGo};
 ghost use Rattle.sync_node.specs.Courses.{BreaksStart, GreetsAsCourse, StartsAsCourse};
 ghost use Rattle.sync_node.specs.Courses.{StartsBehind};
 ghost use Rattle.sync_node.specs.Fulls.{FullStart};
-ghost use Rattle.sync_node.specs.Going.{Goes};
-ghost use Rattle.sync_node.specs.Starting.{Greets, Starts, StartsLast, StartsSafe};
+ghost use Rattle.sync_node.specs.Going.{LetsNothingFall};
+ghost use Rattle.sync_node.specs.Starting.{GreetsOnLink, StartsSession, StartsLast, StartsSafe};
 ghost use Rattle.sync_node.specs.Stays.{IsUndoneBy, KeepsReady};
 ghost use Rattle.sync_node.specs.Stops.{StaysSame};
 
@@ -66,7 +66,7 @@ pub(crate) fn attach_on<H: Host, C: Clients>(
         store.new (H.tells host.old) (H.tells host.new) }
     ensures full { IsErrOf result Fault.Full → FullStart (C.meaning clients.now) session store.old
         store.new (H.tells host.old) (H.tells host.new) }
-    ensures fault { IsErrOf result Fault.DiskFault → Rose (H.tells host.old).disk_faults
+    ensures fault { IsErrOf result Fault.DiskFault → CountRose (H.tells host.old).disk_faults
         (H.tells host.new).disk_faults }
 {
     cite_laws();
@@ -100,13 +100,13 @@ fn start<H: Host, C: Clients>(
         store.old store.new (H.tells host.old) (H.tells host.new)) }
     ensures halts { OnErr result (BreaksStart (C.meaning clients.now) session store.old
         (H.tells host.old) (H.tells host.new)) }
-    ensures starts { IfOk result (λ link. Starts (C.meaning clients.now) number session link
+    ensures starts { IfOk result (λ link. StartsSession (C.meaning clients.now) number session link
         store.old store.new (H.tells host.old) (H.tells host.new)) }
     ensures safe { StartsSafe (C.meaning clients.now) number session store.old store.new
         (H.tells host.old) (H.tells host.new) }
-    ensures run { Goes (H.tells host.old) (H.tells host.new) }
+    ensures run { LetsNothingFall (H.tells host.old) (H.tells host.new) }
     ensures cause { IfOk result (λ link. link.end ≡ LinkEnd.Failed
-        → Rose ((H.tells host.old).links.faults number)
+        → CountRose ((H.tells host.old).links.faults number)
         ((H.tells host.new).links.faults number)) }
     ensures limit { store.new.limit ≡ store.old.limit }
     ensures format { store.new.format ≡ store.old.format }
@@ -115,7 +115,7 @@ fn start<H: Host, C: Clients>(
         store.new (H.tells host.old) (H.tells host.new) }
     ensures full { IsErrOf result Fault.Full → FullStart (C.meaning clients.now) session store.old
         store.new (H.tells host.old) (H.tells host.new) }
-    ensures fault { IsErrOf result Fault.DiskFault → Rose (H.tells host.old).disk_faults
+    ensures fault { IsErrOf result Fault.DiskFault → CountRose (H.tells host.old).disk_faults
         (H.tells host.new).disk_faults }
 {
     cite_laws();
@@ -149,7 +149,7 @@ fn greet<H: Host>(host: &mut H, number: u8, link: &mut Link, versions: &[u8], pr
     ensures run { LinkGoes number link.old link.new (H.tells host.old) (H.tells host.new) }
     ensures told { GreetsAsCourse number link.old link.new (H.tells host.old)
         (H.tells host.new) }
-    ensures greets { Greets number (versions.now ++ priority.now) link.old link.new (H.tells
+    ensures greets { GreetsOnLink number (versions.now ++ priority.now) link.old link.new (H.tells
         host.old) (H.tells host.new) }
 {
     cite_laws();

@@ -2,17 +2,17 @@
 ghost use Rattle.std.specs.Prelude.{IfErr};
 ghost use Rattle.std.specs.Prelude.{◌≡◌, ◌+◌, ◌<◌, ◌++◌, ◌∷◌, [], false, true, length, IfOk, OnErr};
 ghost use Rattle.std.specs.Prelude.{IsErrOf, OnOk};
-ghost use Rattle.outside.specs.Faults.{Rose};
+ghost use Rattle.outside.specs.Faults.{CountRose};
 ghost use Rattle.sync_course.specs.declared.TheConstants.{PIECE_LEN};
 ghost use Rattle.sync_node.specs.Causes.{LinkGoes};
 ghost use Rattle.sync_node.specs.Courses.{HearsAsCourse, HearsStops};
 ghost use Rattle.sync_node.specs.Courses.{NextAsCourse, NextStops, PieceTaken, StopsAsCourse};
 ghost use Rattle.sync_node.specs.Courses.{TakesAsCourse};
 ghost use Rattle.sync_node.specs.Fulls.{HearsFull, NextFull, TakesFull};
-ghost use Rattle.sync_node.specs.Going.{Goes};
-ghost use Rattle.sync_node.specs.Hearing.{Learns};
-ghost use Rattle.sync_node.specs.Taking.{IsOpenFor, LeavesLess, TakesOn, TakesSafe};
-ghost use Rattle.sync_node.specs.Working.{IsAble, StaysSafe, Waits, Works};
+ghost use Rattle.sync_node.specs.Going.{LetsNothingFall};
+ghost use Rattle.sync_node.specs.Hearing.{LearnsNonce};
+ghost use Rattle.sync_node.specs.Taking.{IsOpenToTake, LeavesLess, TakesOn, TakesSafe};
+ghost use Rattle.sync_node.specs.Working.{IsAble, StaysSafe, HasGivenItems, WorksOnLink};
 ghost use Rattle.sync_node.specs.Stays.{KeepsReady};
 ghost use Rattle.sync_node.specs.Stops.{StaysSame, StopsSent};
 
@@ -42,20 +42,20 @@ pub(crate) fn receive_on<H: Host, C: Clients>(
     requires able { IsAble (C.meaning clients.now) number link.old.session store.old
         (H.tells host.old) }
     requires asked { link.old.end ≡ LinkEnd.Going }
-    requires waits { Waits link.old }
+    requires waits { HasGivenItems link.old }
     requires room { 0 < length buffer.old }
     ensures ready { IfErr result (KeepsReady (C.meaning clients.now) store.new
         (H.tells host.new)) }
     ensures able { OnOk result (IsAble (C.meaning clients.now) number link.new.session store.new
         (H.tells host.new)) }
-    ensures waits { OnOk result (Waits link.new) }
+    ensures waits { OnOk result (HasGivenItems link.new) }
     ensures course { length buffer.old ≡ PIECE_LEN → IfOk result (HearsAsCourse
         (C.meaning clients.now) number link.old link.new store.old store.new (H.tells host.old)
         (H.tells host.new)) }
     ensures stops { length buffer.old ≡ PIECE_LEN → OnErr result (HearsStops
         (C.meaning clients.now) number link.old link.new store.old (H.tells host.old)
         (H.tells host.new)) }
-    ensures works { OnOk result (Works (C.meaning clients.now) number [] [] link.old link.new
+    ensures works { OnOk result (WorksOnLink (C.meaning clients.now) number [] [] link.old link.new
         store.old store.new (H.tells host.old) (H.tells host.new)) }
     ensures stays { OnErr result (StaysSafe (C.meaning clients.now) number [] link.old store.old
         store.new (H.tells host.old) (H.tells host.new)) }
@@ -67,7 +67,7 @@ pub(crate) fn receive_on<H: Host, C: Clients>(
     ensures full { length buffer.old ≡ PIECE_LEN → IsErrOf result Fault.Full → HearsFull
         (C.meaning clients.now) number link.old store.old store.new (H.tells host.old)
         (H.tells host.new) }
-    ensures fault { IsErrOf result Fault.DiskFault → Rose (H.tells host.old).disk_faults
+    ensures fault { IsErrOf result Fault.DiskFault → CountRose (H.tells host.old).disk_faults
         (H.tells host.new).disk_faults }
 {
     cite_laws();
@@ -107,12 +107,12 @@ fn take_piece<H: Host, C: Clients>(
         (H.tells host.new)) }
     ensures able { OnOk result (IsAble (C.meaning clients.now) number link.new.session store.new
         (H.tells host.new)) }
-    ensures waits { OnOk result (Waits link.new) }
+    ensures waits { OnOk result (HasGivenItems link.new) }
     ensures course { OnOk result (PieceTaken (C.meaning clients.now) number piece.old link.old
         link.new store.old store.new (H.tells host.old) (H.tells host.new)) }
     ensures stops { OnErr result (NextStops (C.meaning clients.now) number piece.old link.old
         link.new store.old (H.tells host.old) (H.tells host.new)) }
-    ensures works { OnOk result (Works (C.meaning clients.now) number piece.old [] link.old link.new
+    ensures works { OnOk result (WorksOnLink (C.meaning clients.now) number piece.old [] link.old link.new
         store.old store.new (H.tells host.old) (H.tells host.new)) }
     ensures stays { OnErr result (StaysSafe (C.meaning clients.now) number piece.old link.old
         store.old store.new (H.tells host.old) (H.tells host.new)) }
@@ -123,7 +123,7 @@ fn take_piece<H: Host, C: Clients>(
     ensures format { store.new.format ≡ store.old.format }
     ensures full { IsErrOf result Fault.Full → NextFull (C.meaning clients.now) number piece.old
         link.old store.old store.new (H.tells host.old) (H.tells host.new) }
-    ensures fault { IsErrOf result Fault.DiskFault → Rose (H.tells host.old).disk_faults
+    ensures fault { IsErrOf result Fault.DiskFault → CountRose (H.tells host.old).disk_faults
         (H.tells host.new).disk_faults }
 {
     'items: while link.is_asked() {
@@ -157,7 +157,7 @@ fn take_next<H: Host, C: Clients>(
     ensures stops { OnErr result (NextStops (C.meaning clients.now) number piece.old link.old
         link.new store.old (H.tells host.old) (H.tells host.new)) }
     ensures left { IfOk result (LeavesLess link.old piece.old link.new piece.new) }
-    ensures works { OnOk result (Works (C.meaning clients.now) number piece.old piece.new link.old
+    ensures works { OnOk result (WorksOnLink (C.meaning clients.now) number piece.old piece.new link.old
         link.new store.old store.new (H.tells host.old) (H.tells host.new)) }
     ensures stays { OnErr result (StaysSafe (C.meaning clients.now) number piece.old link.old
         store.old store.new (H.tells host.old) (H.tells host.new)) }
@@ -168,7 +168,7 @@ fn take_next<H: Host, C: Clients>(
     ensures format { store.new.format ≡ store.old.format }
     ensures full { IsErrOf result Fault.Full → NextFull (C.meaning clients.now) number piece.old
         link.old store.old store.new (H.tells host.old) (H.tells host.new) }
-    ensures fault { IsErrOf result Fault.DiskFault → Rose (H.tells host.old).disk_faults
+    ensures fault { IsErrOf result Fault.DiskFault → CountRose (H.tells host.old).disk_faults
         (H.tells host.new).disk_faults }
 {
     cite_laws();
@@ -190,7 +190,7 @@ fn take_next<H: Host, C: Clients>(
 // What a record says of the link that it was heard on: a nonce, or that the other end does not
 // speak our version.
 fn learn(link: &mut Link, place: u64, rec: &Record)
-    ensures { Learns place rec.now link.old link.new }
+    ensures { LearnsNonce place rec.now link.old link.new }
 {
     match rec {
         Record::Versions(versions) => {
@@ -216,7 +216,7 @@ fn take_one<H: Host, C: Clients>(
     session: &Session,
     rec: Record,
 ) -> Result<(), Fault>
-    requires able { IsOpenFor (C.meaning clients.now) session.now store.old (H.tells host.old) }
+    requires able { IsOpenToTake (C.meaning clients.now) session.now store.old (H.tells host.old) }
     ensures ready { IfErr result (KeepsReady (C.meaning clients.now) store.new
         (H.tells host.new)) }
     ensures course { OnOk result (TakesAsCourse (C.meaning clients.now) session.now.number rec
@@ -227,14 +227,14 @@ fn take_one<H: Host, C: Clients>(
         store.new (H.tells host.old) (H.tells host.new)) }
     ensures safe { TakesSafe (C.meaning clients.now) session.now rec store.old store.new
         (H.tells host.old) (H.tells host.new) }
-    ensures run { Goes (H.tells host.old) (H.tells host.new) }
+    ensures run { LetsNothingFall (H.tells host.old) (H.tells host.new) }
     ensures limit { store.new.limit ≡ store.old.limit }
     ensures format { store.new.format ≡ store.old.format }
     ensures as_before { IsErrOf result Fault.Full → StaysSame (C.meaning clients.now) store.old
         store.new (H.tells host.old) (H.tells host.new) }
     ensures full { IsErrOf result Fault.Full → TakesFull (C.meaning clients.now)
         session.now.number rec store.old store.new (H.tells host.old) (H.tells host.new) }
-    ensures fault { IsErrOf result Fault.DiskFault → Rose (H.tells host.old).disk_faults
+    ensures fault { IsErrOf result Fault.DiskFault → CountRose (H.tells host.old).disk_faults
         (H.tells host.new).disk_faults }
 {
     records_are_within(&rec);

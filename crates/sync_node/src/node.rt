@@ -98,12 +98,12 @@ impl Node {
     ghost use Rattle.std.specs.Option.{option_map};
     ghost use Rattle.sync_node.specs.declared.link.Link.{Link};
     ghost use Rattle.std.specs.Prelude.{IsErrOf};
-    ghost use Rattle.outside.specs.Faults.{Rose};
+    ghost use Rattle.outside.specs.Faults.{CountRose};
     ghost use Rattle.outside.specs.Files.{Two, File};
     ghost use Rattle.sync_rules.specs.Legal.{Allowed, suits_nonce};
     ghost use Rattle.sync_rules.specs.declared.limits.TheConstants.{MAX_SESSIONS};
-    ghost use Rattle.sync_store.specs.Fitting.{Fits};
-    ghost use Rattle.sync_store.specs.Moments.{Leads};
+    ghost use Rattle.sync_store.specs.Fitting.{FitsFiles};
+    ghost use Rattle.sync_store.specs.Moments.{LeadsTo};
     ghost use Rattle.sync_node.specs.Adding.{AddsAtMost, AddsSettled, AddsWithin, IsPlain};
     ghost use Rattle.sync_node.specs.Output.{Journal};
     ghost use Rattle.sync_rules.specs.Steps.{IsSettled};
@@ -111,16 +111,16 @@ impl Node {
     ghost use Rattle.sync_store.specs.Commits.{needed};
     ghost use Rattle.sync_node.specs.Fulls.{FullBeginning, FullReceiving, FullSending};
     ghost use Rattle.sync_node.specs.Fulls.{FullTurn};
-    ghost use Rattle.sync_node.specs.Going.{Goes};
-    ghost use Rattle.sync_node.specs.Node.{Answers, Attaches, IsNode, KeepsJoined, KeepsSafe, KeepsSessions};
+    ghost use Rattle.sync_node.specs.Going.{LetsNothingFall};
+    ghost use Rattle.sync_node.specs.Node.{AnswersAndCloses, AttachesLink, IsNode, KeepsJoined, KeepsSafe, KeepsSessions};
     ghost use Rattle.sync_node.specs.Node.{KeepsSafeAnew};
     ghost use Rattle.sync_node.specs.Node.{MayRun, PlansSafe, StaysClosed, new_node};
-    ghost use Rattle.sync_node.specs.Courses.{Begins, HaltsBeginning};
+    ghost use Rattle.sync_node.specs.Courses.{BeginsNextSession, HaltsBeginning};
     ghost use Rattle.sync_node.specs.Courses.{HaltsReceiving, HaltsSending, HaltsTurn};
-    ghost use Rattle.sync_node.specs.Courses.{MakesTurn, Receives, SendsDue, is_still};
+    ghost use Rattle.sync_node.specs.Courses.{MakesTurn, ReceivesOnce, SendsDue, is_still};
     ghost use Rattle.sync_node.specs.Node.{IsNode};
     ghost use Rattle.sync_node.specs.Stays.{IsUndone, IsUndoneAt, StaysReady};
-    ghost use Rattle.sync_node.specs.Stops.{SendsAll};
+    ghost use Rattle.sync_node.specs.Stops.{NodeSendsAll};
     ghost use Rattle.sync_node.specs.Plans.{session_of};
     ghost use Rattle.sync_rules.specs.Facts.{after_all};
     ghost use Rattle.sync_rules.specs.declared.entries.Entry.TheVariants as entry;
@@ -181,7 +181,7 @@ impl Node {
         requires plain { IsPlain batch }
         ensures closed { self.old.closed ≡ true
             → StaysClosed self.old self.new host.old host.new result }
-        ensures answer { self.old.closed ≡ false → Answers result self.new }
+        ensures answer { self.old.closed ≡ false → AnswersAndCloses result self.new }
         ensures may { MayRun (C.meaning clients.now) self.new (H.tells host.new) }
         ensures stays { self.old.closed ≡ false → StaysReady (C.meaning clients.now) self.new
             (H.tells host.new) result }
@@ -192,7 +192,7 @@ impl Node {
             self.new.store.state.facts) }
         ensures leads { self.old.closed ≡ false → (two : Two File)
             → (H.tells host.old).files ≡ Some two → (j : Journal)
-            → Fits (C.meaning clients.now) self.old.store j two → Leads (C.meaning clients.now)
+            → FitsFiles (C.meaning clients.now) self.old.store j two → LeadsTo (C.meaning clients.now)
             (AddsAtMost (C.meaning clients.now) j batch)
             (AddsAtMost (C.meaning clients.now) j batch) self.new.store (H.tells host.old)
             (H.tells host.new) }
@@ -204,14 +204,14 @@ impl Node {
             (H.tells host.old) (H.tells host.new)) }
         ensures limit { self.new.store.limit ≡ self.old.store.limit }
         ensures format { self.new.store.format ≡ self.old.store.format }
-        ensures run { Goes (H.tells host.old) (H.tells host.new) }
+        ensures run { LetsNothingFall (H.tells host.old) (H.tells host.new) }
         ensures links { self.new.links ≡ self.old.links }
         ensures first { self.new.first ≡ self.old.first }
         ensures undone { IsErrOf result NodeFault.Full
             → IsUndone self.old.store self.new.store host.old host.new }
         ensures full { IsErrOf result NodeFault.Full
             → self.old.store.limit < needed self.old.store batch }
-        ensures fault { IsErrOf result NodeFault.DiskFault → Rose (H.tells host.old).disk_faults
+        ensures fault { IsErrOf result NodeFault.DiskFault → CountRose (H.tells host.old).disk_faults
             (H.tells host.new).disk_faults }
     {
         if self.closed {
@@ -247,12 +247,12 @@ impl Node {
         requires dialled { link < (H.tells host.old).links.dialled }
         ensures closed { self.old.closed ≡ true
             → StaysClosed self.old self.new host.old host.new result }
-        ensures answer { self.old.closed ≡ false → Answers result self.new }
+        ensures answer { self.old.closed ≡ false → AnswersAndCloses result self.new }
         ensures may { MayRun (C.meaning clients.now) self.new (H.tells host.new) }
         ensures stays { self.old.closed ≡ false → StaysReady (C.meaning clients.now) self.new
             (H.tells host.new) result }
         ensures node { IsNode self.new }
-        ensures course { self.old.closed ≡ false → OnOk result (Begins (C.meaning clients.now)
+        ensures course { self.old.closed ≡ false → OnOk result (BeginsNextSession (C.meaning clients.now)
             (session_of self.old.store.state.facts.begun plan.now nonce) self.old.links
             self.new.links self.old.store self.new.store (H.tells host.old) (H.tells host.new)) }
         ensures halts { self.old.closed ≡ false → OnErr result (HaltsBeginning
@@ -261,7 +261,7 @@ impl Node {
         ensures links { PushesOne result self.old.links self.new.links }
         ensures first { self.new.first ≡ self.old.first }
         ensures undone { IsUndoneAt self.old self.new host.old host.new result }
-        ensures joined { OnOk result (Attaches (C.meaning clients.now) self.old self.new
+        ensures joined { OnOk result (AttachesLink (C.meaning clients.now) self.old self.new
             (H.tells host.old) (H.tells host.new)) }
         ensures facts { OnOk result (self.new.store.state.facts
             ≡ after_all self.old.store.state.facts
@@ -271,15 +271,15 @@ impl Node {
             (H.tells host.old) (H.tells host.new) }
         ensures limit { self.new.store.limit ≡ self.old.store.limit }
         ensures format { self.new.store.format ≡ self.old.store.format }
-        ensures run { Goes (H.tells host.old) (H.tells host.new) }
+        ensures run { LetsNothingFall (H.tells host.old) (H.tells host.new) }
         ensures cause { FailByCause self.old.links self.new.links (H.tells host.old)
             (H.tells host.new) }
-        ensures sent { self.old.closed ≡ false → IsErrOf result NodeFault.Full → SendsAll
+        ensures sent { self.old.closed ≡ false → IsErrOf result NodeFault.Full → NodeSendsAll
             (C.meaning clients.now) self.old self.new (H.tells host.old) (H.tells host.new) }
         ensures full { IsErrOf result NodeFault.Full → FullBeginning (C.meaning clients.now)
             (session_of self.old.store.state.facts.begun plan.now nonce) self.old.links
             self.old.store self.new.store (H.tells host.old) (H.tells host.new) }
-        ensures fault { IsErrOf result NodeFault.DiskFault → Rose (H.tells host.old).disk_faults
+        ensures fault { IsErrOf result NodeFault.DiskFault → CountRose (H.tells host.old).disk_faults
             (H.tells host.new).disk_faults }
     {
         cite_laws();
@@ -321,12 +321,12 @@ impl Node {
             → l.end ≡ LinkEnd.Going }
         ensures closed { self.old.closed ≡ true
             → StaysClosed self.old self.new host.old host.new result }
-        ensures answer { self.old.closed ≡ false → Answers result self.new }
+        ensures answer { self.old.closed ≡ false → AnswersAndCloses result self.new }
         ensures may { MayRun (C.meaning clients.now) self.new (H.tells host.new) }
         ensures stays { self.old.closed ≡ false → StaysReady (C.meaning clients.now) self.new
             (H.tells host.new) result }
         ensures node { IsNode self.new }
-        ensures course { self.old.closed ≡ false → IfOk result (Receives (C.meaning clients.now)
+        ensures course { self.old.closed ≡ false → IfOk result (ReceivesOnce (C.meaning clients.now)
             self.old.first link self.old.links self.new.links self.old.store self.new.store
             (H.tells host.old) (H.tells host.new)) }
         ensures halts { self.old.closed ≡ false → OnErr result (HaltsReceiving
@@ -339,13 +339,13 @@ impl Node {
             (H.tells host.new) }
         ensures limit { self.new.store.limit ≡ self.old.store.limit }
         ensures format { self.new.store.format ≡ self.old.store.format }
-        ensures run { Goes (H.tells host.old) (H.tells host.new) }
+        ensures run { LetsNothingFall (H.tells host.old) (H.tells host.new) }
         ensures cause { FailByCause self.old.links self.new.links (H.tells host.old)
             (H.tells host.new) }
         ensures full { IsErrOf result NodeFault.Full → FullReceiving (C.meaning clients.now)
             self.old.first link self.old.links self.old.store self.new.store (H.tells host.old)
             (H.tells host.new) }
-        ensures fault { IsErrOf result NodeFault.DiskFault → Rose (H.tells host.old).disk_faults
+        ensures fault { IsErrOf result NodeFault.DiskFault → CountRose (H.tells host.old).disk_faults
             (H.tells host.new).disk_faults }
     {
         if self.closed {
@@ -380,7 +380,7 @@ impl Node {
             → MaySend l.end }
         ensures closed { self.old.closed ≡ true
             → StaysClosed self.old self.new host.old host.new result }
-        ensures answer { self.old.closed ≡ false → Answers result self.new }
+        ensures answer { self.old.closed ≡ false → AnswersAndCloses result self.new }
         ensures may { MayRun (C.meaning clients.now) self.new (H.tells host.new) }
         ensures stays { self.old.closed ≡ false → StaysReady (C.meaning clients.now) self.new
             (H.tells host.new) result }
@@ -398,13 +398,13 @@ impl Node {
             (H.tells host.new) }
         ensures limit { self.new.store.limit ≡ self.old.store.limit }
         ensures format { self.new.store.format ≡ self.old.store.format }
-        ensures run { Goes (H.tells host.old) (H.tells host.new) }
+        ensures run { LetsNothingFall (H.tells host.old) (H.tells host.new) }
         ensures cause { FailByCause self.old.links self.new.links (H.tells host.old)
             (H.tells host.new) }
         ensures full { IsErrOf result NodeFault.Full → FullSending (C.meaning clients.now)
             self.old.first link now self.old.links self.old.store self.new.store
             (H.tells host.old) (H.tells host.new) }
-        ensures fault { IsErrOf result NodeFault.DiskFault → Rose (H.tells host.old).disk_faults
+        ensures fault { IsErrOf result NodeFault.DiskFault → CountRose (H.tells host.old).disk_faults
             (H.tells host.new).disk_faults }
     {
         if self.closed {
@@ -434,7 +434,7 @@ impl Node {
         requires may { MayRun (C.meaning clients.now) self.old (H.tells host.old) }
         ensures closed { self.old.closed ≡ true
             → StaysClosed self.old self.new host.old host.new result }
-        ensures answer { self.old.closed ≡ false → Answers result self.new }
+        ensures answer { self.old.closed ≡ false → AnswersAndCloses result self.new }
         ensures may { MayRun (C.meaning clients.now) self.new (H.tells host.new) }
         ensures stays { self.old.closed ≡ false → StaysReady (C.meaning clients.now) self.new
             (H.tells host.new) result }
@@ -452,15 +452,15 @@ impl Node {
             (H.tells host.new) }
         ensures limit { self.new.store.limit ≡ self.old.store.limit }
         ensures format { self.new.store.format ≡ self.old.store.format }
-        ensures run { Goes (H.tells host.old) (H.tells host.new) }
+        ensures run { LetsNothingFall (H.tells host.old) (H.tells host.new) }
         ensures cause { FailByCause self.old.links self.new.links (H.tells host.old)
             (H.tells host.new) }
-        ensures sent { self.old.closed ≡ false → IsErrOf result NodeFault.Full → SendsAll
+        ensures sent { self.old.closed ≡ false → IsErrOf result NodeFault.Full → NodeSendsAll
             (C.meaning clients.now) self.old self.new (H.tells host.old) (H.tells host.new) }
         ensures full { IsErrOf result NodeFault.Full → FullTurn (C.meaning clients.now)
             self.old.first self.old.links self.old.store self.new.store (H.tells host.old)
             (H.tells host.new) }
-        ensures fault { IsErrOf result NodeFault.DiskFault → Rose (H.tells host.old).disk_faults
+        ensures fault { IsErrOf result NodeFault.DiskFault → CountRose (H.tells host.old).disk_faults
             (H.tells host.new).disk_faults }
     {
         if self.closed {

@@ -1,23 +1,23 @@
 //! Batches committed, and the journal settled: each call on the store, with what it leaves.
 ghost use Rattle.std.specs.Prelude.{IfErr};
 ghost use Rattle.std.specs.Prelude.{◌≡◌, ◌<◌, ◌∷◌, [], false, List, IsErrOf, OnErr, OnOk, Some};
-ghost use Rattle.outside.specs.Faults.{Rose};
+ghost use Rattle.outside.specs.Faults.{CountRose};
 ghost use Rattle.outside.specs.Files.{Two, File};
-ghost use Rattle.outside.specs.Runs.{IsFront, Told};
+ghost use Rattle.outside.specs.Runs.{IsFront, TellsAll};
 ghost use Rattle.session_core.specs.Known.{IsOfAll};
 ghost use Rattle.sync_rules.specs.Allows.{is_account_kind, is_settling_kind};
 ghost use Rattle.sync_rules.specs.Legal.{Allowed};
 ghost use Rattle.sync_rules.specs.declared.entries.Session.{Session};
 ghost use Rattle.sync_store.specs.Commits.{needed};
-ghost use Rattle.sync_store.specs.Fitting.{Fits};
-ghost use Rattle.sync_store.specs.Moments.{Leads};
+ghost use Rattle.sync_store.specs.Fitting.{FitsFiles};
+ghost use Rattle.sync_store.specs.Moments.{LeadsTo};
 ghost use Rattle.sync_store.specs.Ready.{IsReady};
 ghost use Rattle.sync_store.specs.Store.{IsStore};
 ghost use Rattle.sync_node.specs.Adding.{AddsAtMost, AddsSettled, AddsWithin, IsPlain};
-ghost use Rattle.sync_node.specs.Cited.{CitedLaws};
-ghost use Rattle.sync_node.specs.Courses.{Adds, AddsSettling, AddsSome, AddsSomeSettling};
-ghost use Rattle.sync_node.specs.Fulls.{IsOver};
-ghost use Rattle.sync_node.specs.Going.{Commits, Goes, SettlesStore};
+ghost use Rattle.sync_node.specs.Cited.{NodeCallLaws};
+ghost use Rattle.sync_node.specs.Courses.{CommitsWithinCalls, CommitsSettling, AddsSome, AddsSomeSettling};
+ghost use Rattle.sync_node.specs.Fulls.{PassesLimit};
+ghost use Rattle.sync_node.specs.Going.{CommitsBatches, LetsNothingFall, SettlesStore};
 ghost use Rattle.sync_node.specs.Output.{heard_on, Journal};
 ghost use Rattle.sync_node.specs.Safe.{Begin, Safe};
 ghost use Rattle.sync_node.specs.Suits.{IsOfRun};
@@ -35,7 +35,7 @@ use sync_store::{Store, StoreFault};
 
 // The laws of the crates below that proofs of this crate rest on.
 pub(crate) fn cite_laws()
-    ensures { CitedLaws }
+    ensures { NodeCallLaws }
 {
     fronts_have_fronts();
     records_join();
@@ -62,27 +62,27 @@ pub(crate) fn commit<H: Host, C: Clients>(
     requires named { IsOfAll id batch }
     ensures ready { IfErr result (KeepsReady (C.meaning clients.now) store.new
         (H.tells host.new)) }
-    ensures commits { OnOk result (Commits (C.meaning clients.now) (batch ∷ []) store.old store.new
+    ensures commits { OnOk result (CommitsBatches (C.meaning clients.now) (batch ∷ []) store.old store.new
         (H.tells host.old) (H.tells host.new)) }
-    ensures adds { OnOk result (Adds (C.meaning clients.now) (batch ∷ []) store.old store.new
+    ensures adds { OnOk result (CommitsWithinCalls (C.meaning clients.now) (batch ∷ []) store.old store.new
         (H.tells host.old) (H.tells host.new)) }
     ensures adds_some { OnErr result (AddsSome (C.meaning clients.now) (batch ∷ []) store.old
         (H.tells host.old) (H.tells host.new)) }
     ensures safe { (b : Begin) (plans later : List Session) → IsFront plans later
-        → (Told (H.tells host.old) → IsOfRun b.first later (heard_on (H.tells host.old).links)
+        → (TellsAll (H.tells host.old) → IsOfRun b.first later (heard_on (H.tells host.old).links)
         store.old.state.facts batch)
         → Safe (C.meaning clients.now) b plans store.old (H.tells host.old)
         → Safe (C.meaning clients.now) b later store.new (H.tells host.new) }
-    ensures run { Goes (H.tells host.old) (H.tells host.new) }
+    ensures run { LetsNothingFall (H.tells host.old) (H.tells host.new) }
     ensures numbers { IsStore store.new }
     ensures limit { store.new.limit ≡ store.old.limit }
     ensures format { store.new.format ≡ store.old.format }
     ensures as_before { IsErrOf result Fault.Full → StaysSame (C.meaning clients.now) store.old
         store.new (H.tells host.old) (H.tells host.new) }
     ensures undone { IfErr result (IsUndoneBy store.old store.new host.old host.new) }
-    ensures full { IsErrOf result Fault.Full → IsOver (C.meaning clients.now) batch store.old
+    ensures full { IsErrOf result Fault.Full → PassesLimit (C.meaning clients.now) batch store.old
         store.new (H.tells host.old) (H.tells host.new) }
-    ensures fault { IsErrOf result Fault.DiskFault → Rose (H.tells host.old).disk_faults
+    ensures fault { IsErrOf result Fault.DiskFault → CountRose (H.tells host.old).disk_faults
         (H.tells host.new).disk_faults }
 {
     cite_laws();
@@ -106,18 +106,18 @@ pub(crate) fn settle<H: Host, C: Clients>(
         (H.tells host.new)) }
     ensures settles { OnOk result (SettlesStore (C.meaning clients.now) store.old store.new
         (H.tells host.old) (H.tells host.new)) }
-    ensures adds { OnOk result (AddsSettling (C.meaning clients.now) store.old store.new
+    ensures adds { OnOk result (CommitsSettling (C.meaning clients.now) store.old store.new
         (H.tells host.old) (H.tells host.new)) }
     ensures adds_some { OnErr result (AddsSomeSettling (C.meaning clients.now) store.old
         (H.tells host.old) (H.tells host.new)) }
     ensures safe { (b : Begin) (plans : List Session)
         → Safe (C.meaning clients.now) b plans store.old (H.tells host.old)
         → Safe (C.meaning clients.now) b plans store.new (H.tells host.new) }
-    ensures run { Goes (H.tells host.old) (H.tells host.new) }
+    ensures run { LetsNothingFall (H.tells host.old) (H.tells host.new) }
     ensures limit { store.new.limit ≡ store.old.limit }
     ensures format { store.new.format ≡ store.old.format }
     ensures never { IsErrOf result Fault.Full → ⊥ }
-    ensures fault { IsErrOf result Fault.DiskFault → Rose (H.tells host.old).disk_faults
+    ensures fault { IsErrOf result Fault.DiskFault → CountRose (H.tells host.old).disk_faults
         (H.tells host.new).disk_faults }
 {
     cite_laws();
@@ -145,17 +145,17 @@ pub(crate) fn add_settled<H: Host, C: Clients>(
     ensures added { OnOk result (AddsSettled (C.meaning clients.now) batch store.old store.new
         (H.tells host.old) (H.tells host.new)) }
     ensures leads { (two : Two File) → (H.tells host.old).files ≡ Some two → (j : Journal)
-        → Fits (C.meaning clients.now) store.old j two → Leads (C.meaning clients.now)
+        → FitsFiles (C.meaning clients.now) store.old j two → LeadsTo (C.meaning clients.now)
         (AddsAtMost (C.meaning clients.now) j batch) (AddsAtMost (C.meaning clients.now) j batch)
         store.new (H.tells host.old) (H.tells host.new) }
     ensures within { AddsWithin (C.meaning clients.now) batch store.old (H.tells host.old)
         (H.tells host.new) }
-    ensures run { Goes (H.tells host.old) (H.tells host.new) }
+    ensures run { LetsNothingFall (H.tells host.old) (H.tells host.new) }
     ensures limit { store.new.limit ≡ store.old.limit }
     ensures format { store.new.format ≡ store.old.format }
     ensures undone { IsErrOf result Fault.Full → IsUndone store.old store.new host.old host.new }
     ensures full { IsErrOf result Fault.Full → store.old.limit < needed store.old batch }
-    ensures fault { IsErrOf result Fault.DiskFault → Rose (H.tells host.old).disk_faults
+    ensures fault { IsErrOf result Fault.DiskFault → CountRose (H.tells host.old).disk_faults
         (H.tells host.new).disk_faults }
 {
     match store.extend(host, clients, batch) {

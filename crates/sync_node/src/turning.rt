@@ -1,16 +1,16 @@
 //! A turn: of one link, and of all links in order.
 ghost use Rattle.std.specs.Prelude.{IfErr};
 ghost use Rattle.std.specs.Prelude.{◌≡◌, ℕ, ◌<◌, ◌≤◌, [], length, IfOk, IsErrOf, OnErr, OnOk};
-ghost use Rattle.outside.specs.Faults.{Rose};
+ghost use Rattle.outside.specs.Faults.{CountRose};
 ghost use Rattle.sync_course.specs.declared.TheConstants.{PIECE_LEN};
 ghost use Rattle.sync_node.specs.Causes.{LinkGoes, LinksGo, sessions_of};
 ghost use Rattle.sync_node.specs.Courses.{HaltsTurn, MakesTurn};
 ghost use Rattle.sync_node.specs.Courses.{HearsAsCourse, HearsStops, SendsAsCourse, SendsStop};
 ghost use Rattle.sync_node.specs.Courses.{TurnAsCourse, TurnsAsCourse, TurnsStop};
-ghost use Rattle.sync_node.specs.Fulls.{FullTurn, HearsFull, SendsFull, TurnsFull};
+ghost use Rattle.sync_node.specs.Fulls.{FullTurn, HearsFull, LeavesNoRoomFor, TurnsFull};
 ghost use Rattle.outside.specs.declared.limits.TheConstants.{LINKS};
 ghost use Rattle.sync_node.specs.Node.{AreAttached, AreSome, LinksSafe, LinksWork, MayGoOn};
-ghost use Rattle.sync_node.specs.Working.{IsAble, StaysSafe, Waits, Works};
+ghost use Rattle.sync_node.specs.Working.{IsAble, StaysSafe, HasGivenItems, WorksOnLink};
 ghost use Rattle.sync_node.specs.Stays.{KeepsReady};
 ghost use Rattle.sync_node.specs.Stops.{LinksSent, StopsSent};
 
@@ -66,7 +66,7 @@ pub(crate) fn turn_all<H: Host, C: Clients>(
         → length buffer.old ≡ PIECE_LEN → IsErrOf result Fault.Full → FullTurn
         (C.meaning clients.now) first links.old store.old store.new (H.tells host.old)
         (H.tells host.new) }
-    ensures fault { IsErrOf result Fault.DiskFault → Rose (H.tells host.old).disk_faults
+    ensures fault { IsErrOf result Fault.DiskFault → CountRose (H.tells host.old).disk_faults
         (H.tells host.new).disk_faults }
 {
     let still = turn_each(alloc, store, host, clients, links, buffer)?;
@@ -115,7 +115,7 @@ fn turn_each<H: Host, C: Clients>(
         → length buffer.old ≡ PIECE_LEN → IsErrOf result Fault.Full → TurnsFull
         (C.meaning clients.now) first links.old store.old store.new (H.tells host.old)
         (H.tells host.new) }
-    ensures fault { IsErrOf result Fault.DiskFault → Rose (H.tells host.old).disk_faults
+    ensures fault { IsErrOf result Fault.DiskFault → CountRose (H.tells host.old).disk_faults
         (H.tells host.new).disk_faults }
 {
     let mut still = true;
@@ -140,20 +140,20 @@ fn turn_link<H: Host, C: Clients>(
 ) -> Result<bool, Fault>
     requires able { IsAble (C.meaning clients.now) number link.old.session store.old
         (H.tells host.old) }
-    requires waits { Waits link.old }
+    requires waits { HasGivenItems link.old }
     requires room { 0 < length buffer.old }
     ensures ready { IfErr result (KeepsReady (C.meaning clients.now) store.new
         (H.tells host.new)) }
     ensures able { OnOk result (IsAble (C.meaning clients.now) number link.new.session store.new
         (H.tells host.new)) }
-    ensures waits { OnOk result (Waits link.new) }
+    ensures waits { OnOk result (HasGivenItems link.new) }
     ensures course { length buffer.old ≡ PIECE_LEN → IfOk result (TurnAsCourse
         (C.meaning clients.now) number link.old link.new store.old store.new (H.tells host.old)
         (H.tells host.new)) }
     ensures halts { length buffer.old ≡ PIECE_LEN → OnErr result (HearsStops
         (C.meaning clients.now) number link.old link.new store.old (H.tells host.old)
         (H.tells host.new)) }
-    ensures works { OnOk result (Works (C.meaning clients.now) number [] [] link.old link.new
+    ensures works { OnOk result (WorksOnLink (C.meaning clients.now) number [] [] link.old link.new
         store.old store.new (H.tells host.old) (H.tells host.new)) }
     ensures stays { OnErr result (StaysSafe (C.meaning clients.now) number [] link.old store.old
         store.new (H.tells host.old) (H.tells host.new)) }
@@ -165,7 +165,7 @@ fn turn_link<H: Host, C: Clients>(
     ensures full { length buffer.old ≡ PIECE_LEN → IsErrOf result Fault.Full → HearsFull
         (C.meaning clients.now) number link.old store.old store.new (H.tells host.old)
         (H.tells host.new) }
-    ensures fault { IsErrOf result Fault.DiskFault → Rose (H.tells host.old).disk_faults
+    ensures fault { IsErrOf result Fault.DiskFault → CountRose (H.tells host.old).disk_faults
         (H.tells host.new).disk_faults }
 {
     let quiet = hear_now(alloc, store, host, clients, number, link, buffer)?;
@@ -185,20 +185,20 @@ fn hear_now<H: Host, C: Clients>(
 ) -> Result<bool, Fault>
     requires able { IsAble (C.meaning clients.now) number link.old.session store.old
         (H.tells host.old) }
-    requires waits { Waits link.old }
+    requires waits { HasGivenItems link.old }
     requires room { 0 < length buffer.old }
     ensures ready { IfErr result (KeepsReady (C.meaning clients.now) store.new
         (H.tells host.new)) }
     ensures able { OnOk result (IsAble (C.meaning clients.now) number link.new.session store.new
         (H.tells host.new)) }
-    ensures waits { OnOk result (Waits link.new) }
+    ensures waits { OnOk result (HasGivenItems link.new) }
     ensures course { length buffer.old ≡ PIECE_LEN → IfOk result (HearsAsCourse
         (C.meaning clients.now) number link.old link.new store.old store.new (H.tells host.old)
         (H.tells host.new)) }
     ensures stops { length buffer.old ≡ PIECE_LEN → OnErr result (HearsStops
         (C.meaning clients.now) number link.old link.new store.old (H.tells host.old)
         (H.tells host.new)) }
-    ensures works { OnOk result (Works (C.meaning clients.now) number [] [] link.old link.new
+    ensures works { OnOk result (WorksOnLink (C.meaning clients.now) number [] [] link.old link.new
         store.old store.new (H.tells host.old) (H.tells host.new)) }
     ensures stays { OnErr result (StaysSafe (C.meaning clients.now) number [] link.old store.old
         store.new (H.tells host.old) (H.tells host.new)) }
@@ -210,7 +210,7 @@ fn hear_now<H: Host, C: Clients>(
     ensures full { length buffer.old ≡ PIECE_LEN → IsErrOf result Fault.Full → HearsFull
         (C.meaning clients.now) number link.old store.old store.new (H.tells host.old)
         (H.tells host.new) }
-    ensures fault { IsErrOf result Fault.DiskFault → Rose (H.tells host.old).disk_faults
+    ensures fault { IsErrOf result Fault.DiskFault → CountRose (H.tells host.old).disk_faults
         (H.tells host.new).disk_faults }
 {
     if !link.is_asked() {
@@ -231,17 +231,17 @@ fn send_now<H: Host, C: Clients>(
 ) -> Result<u32, Fault>
     requires able { IsAble (C.meaning clients.now) number link.old.session store.old
         (H.tells host.old) }
-    requires waits { Waits link.old }
+    requires waits { HasGivenItems link.old }
     ensures ready { IfErr result (KeepsReady (C.meaning clients.now) store.new
         (H.tells host.new)) }
     ensures able { OnOk result (IsAble (C.meaning clients.now) number link.new.session store.new
         (H.tells host.new)) }
-    ensures waits { OnOk result (Waits link.new) }
+    ensures waits { OnOk result (HasGivenItems link.new) }
     ensures course { IfOk result (SendsAsCourse (C.meaning clients.now) number link.old link.new
         store.old store.new (H.tells host.old) (H.tells host.new)) }
     ensures halts { OnErr result (SendsStop (C.meaning clients.now) number link.old link.new
         store.old (H.tells host.old) (H.tells host.new)) }
-    ensures works { OnOk result (Works (C.meaning clients.now) number [] [] link.old link.new
+    ensures works { OnOk result (WorksOnLink (C.meaning clients.now) number [] [] link.old link.new
         store.old store.new (H.tells host.old) (H.tells host.new)) }
     ensures stays { OnErr result (StaysSafe (C.meaning clients.now) number [] link.old store.old
         store.new (H.tells host.old) (H.tells host.new)) }
@@ -250,9 +250,9 @@ fn send_now<H: Host, C: Clients>(
     ensures run { LinkGoes number link.old link.new (H.tells host.old) (H.tells host.new) }
     ensures limit { store.new.limit ≡ store.old.limit }
     ensures format { store.new.format ≡ store.old.format }
-    ensures full { IsErrOf result Fault.Full → SendsFull (C.meaning clients.now) number link.old
+    ensures full { IsErrOf result Fault.Full → LeavesNoRoomFor (C.meaning clients.now) number link.old
         store.old store.new (H.tells host.old) (H.tells host.new) }
-    ensures fault { IsErrOf result Fault.DiskFault → Rose (H.tells host.old).disk_faults
+    ensures fault { IsErrOf result Fault.DiskFault → CountRose (H.tells host.old).disk_faults
         (H.tells host.new).disk_faults }
 {
     if !link.may_send() {

@@ -23,8 +23,8 @@ use Rattle.sync_rules.specs.Lists.{same_id, is_among, has_repeat, without, first
 use Rattle.sync_rules.specs.Facts.{Facts, Held, Id, Known, Row, Rows, LevelMap, Wants, pair_cmp, after, after_all, nothing, facts, entries_of, group_at, held_at, is_held, session_at, contact_of, put_level, is_no_row, row_or, row_at, put_row, change_row, change_rows, row_heard, row_seen, row_acked, row_asked, row_offered, row_sent, row_tried, one_more_try, latency_of, ids_or, wanted_from, change_each, wanted_by_none, with_want, without_each, authored, arrived, kept_as, known_of}
 use Rattle.sync_rules.specs.Output.{NamesTheOpen}
 use Rattle.sync_rules.specs.Legal.{Legal, IsDue, IsKeptFrom}
-use Rattle.sync_rules.specs.Meeting.{Meets, AllMeet}
-use Rattle.sync_rules.specs.Growth.{Continues}
+use Rattle.sync_rules.specs.Meeting.{MeetsNoStep, AllMeet}
+use Rattle.sync_rules.specs.Growth.{ContinuesFacts}
 use Rattle.sync_rules.specs.Consistency.{ids_of_groups, ids_of_held, IsGroupOf, HasGroups, IsKnownOrigin, IsHeldOf, HasHeld, IsLevelOf, HasLevels, IsRowOf, HasRows, HasWanted, HasEnds, HasSessions, IsConsistent}
 use Rattle.sync_rules.proofs.Elements.{same_id-is, same_id_itself, same_id_swap, among-push}
 use Rattle.sync_rules.proofs.Sound.{SoundFacts, contains-more}
@@ -95,15 +95,15 @@ want_list_without_each f (x ∷ xs) ids w = want_list_without_each f xs (without
 
 -- ---- what is held and known stays so
 
-held_there : (f g : Facts) → Continues f g → (id : Id) (o : Option Held) → held_at f.held id ≡ o → is_some o ≡ true → is_held g.held id ≡ true
+held_there : (f g : Facts) → ContinuesFacts f g → (id : Id) (o : Option Held) → held_at f.held id ≡ o → is_some o ≡ true → is_held g.held id ≡ true
 held_there f g c id None at e = absurd (false≢true e)
 held_there f g c id (Some h) at e = ap is_some (c.same_held id h at)
 
-group_there : (f g : Facts) → Continues f g → (id : Id) (o : Option Known) → group_at f.groups id ≡ o → is_some o ≡ true → is_some (group_at g.groups id) ≡ true
+group_there : (f g : Facts) → ContinuesFacts f g → (id : Id) (o : Option Known) → group_at f.groups id ≡ o → is_some o ≡ true → is_some (group_at g.groups id) ≡ true
 group_there f g c id None at e = absurd (false≢true e)
 group_there f g c id (Some x) at e = ap is_some (c.same_group id x at)
 
-contact_there : (f g : Facts) → Continues f g → (n : ℕ) → n < f.contacts → n < g.contacts
+contact_there : (f g : Facts) → ContinuesFacts f g → (n : ℕ) → n < f.contacts → n < g.contacts
 contact_there f g c n k = let up : f.contacts ≤ g.contacts = c.contacts in omega (arith, up, k)
 
 -- ---- groups
@@ -132,7 +132,7 @@ group_at-cases (y ∷ gs) x id g e =
       | false ↦ λ e. group_at-cases gs x id g e
     ] e
 
-pub groups_after_one : (clients : Meaning) (f : Facts) (e : Entry) → Meets clients f e → HasGroups f → HasGroups (after f e)
+pub groups_after_one : (clients : Meaning) (f : Facts) (e : Entry) → MeetsNoStep clients f e → HasGroups f → HasGroups (after f e)
 groups_after_one clients f (entry.Contact c) m h = record {
   few_contacts = let k : c < 256 = m.2 in let is : c ≡ f.contacts = m.1 in omega (arith, k, is);
   few = h.few;
@@ -184,11 +184,11 @@ held_at-cases (y ∷ hs) x id h e =
       | false ↦ λ e. held_at-cases hs x id h e
     ] e
 
-known_origin_there : (f g : Facts) → Continues f g → (o : Origin) → IsKnownOrigin f o → IsKnownOrigin g o
+known_origin_there : (f g : Facts) → ContinuesFacts f g → (o : Origin) → IsKnownOrigin f o → IsKnownOrigin g o
 known_origin_there f g c origin.Author k = tt
 known_origin_there f g c (origin.From contact) k = contact_there f g c contact k
 
-held_of_there : (f g : Facts) → Continues f g → (id : Id) (h : Held) → IsHeldOf f id h → IsHeldOf g id h
+held_of_there : (f g : Facts) → ContinuesFacts f g → (id : Id) (h : Held) → IsHeldOf f id h → IsHeldOf g id h
 held_of_there f g c id h is = record {
   named = is.named;
   is_id = is.is_id;
@@ -197,7 +197,7 @@ held_of_there f g c id h is = record {
 }
 
 -- one more held message
-held_more : (f g : Facts) (x : Held) → Continues f g → g.held ≡ f.held ++ x ∷ [] → is_held f.held x.id ≡ false → IsHeldOf g x.id x → HasHeld f → HasHeld g
+held_more : (f g : Facts) (x : Held) → ContinuesFacts f g → g.held ≡ f.held ++ x ∷ [] → is_held f.held x.id ≡ false → IsHeldOf g x.id x → HasHeld f → HasHeld g
 held_more f g x c longer new is h = record {
   distinct = ap (λ (hs : List Held). has_repeat (ids_of_held hs)) longer
       ∙ (ap has_repeat (ids_of_held-push f.held x)
@@ -209,7 +209,7 @@ held_more f g x c longer new is h = record {
       ];
 }
 
-held_same : (f g : Facts) → Continues f g → g.held ≡ f.held → HasHeld f → HasHeld g
+held_same : (f g : Facts) → ContinuesFacts f g → g.held ≡ f.held → HasHeld f → HasHeld g
 held_same f g c same h = record {
   distinct = ap (λ (hs : List Held). has_repeat (ids_of_held hs)) same ∙ h.distinct;
   each = λ id y at. held_of_there f g c id y (h.each id y (ap (λ (hs : List Held). held_at hs id) (sym same) ∙ at));
@@ -220,7 +220,7 @@ kept_origin : (clients : Meaning) (f : Facts) (from : Origin) (m : MessageValue)
 kept_origin clients f origin.Author m k = tt
 kept_origin clients f (origin.From contact) m k = k
 
-pub held_after_one : (clients : Meaning) (f : Facts) (e : Entry) → Meets clients f e → HasSessions f → HasHeld f → HasHeld (after f e)
+pub held_after_one : (clients : Meaning) (f : Facts) (e : Entry) → MeetsNoStep clients f e → HasSessions f → HasHeld f → HasHeld (after f e)
 held_after_one clients f (entry.Author m) met s h =
     held_more f (after f (entry.Author m)) (authored m) (continues_after f (entry.Author m)) refl met.1.new
     (record { named = refl; is_id = refl; known_group = met.1.known_group; known_origin = tt }) h
@@ -290,7 +290,7 @@ level_put g levels c x level.Visible k known has =
 level_put g levels c x level.Shared k known has =
     level_insert g levels c x level.Shared (record { not_invisible = refl; known_contact = k; known_group = known }) has
 
-levels_there : (f g : Facts) (levels : LevelMap) → Continues f g → LevelsIn f levels → LevelsIn g levels
+levels_there : (f g : Facts) (levels : LevelMap) → ContinuesFacts f g → LevelsIn f levels → LevelsIn g levels
 levels_there f g levels c has contact group l at =
     let is : IsLevelOf f contact group l = has contact group l at in
     record {
@@ -299,7 +299,7 @@ levels_there f g levels c has contact group l at =
       known_group = group_there f g c group (group_at f.groups group) refl is.known_group;
     }
 
-pub levels_after_one : (clients : Meaning) (f : Facts) (e : Entry) → Meets clients f e → HasLevels f → HasLevels (after f e)
+pub levels_after_one : (clients : Meaning) (f : Facts) (e : Entry) → MeetsNoStep clients f e → HasLevels f → HasLevels (after f e)
 levels_after_one clients f (entry.Level c x l) m has =
     let g : Facts = after f (entry.Level c x l) in
     level_put g f.levels c x l m.1 m.2 (levels_there f g f.levels (continues_after f (entry.Level c x l)) has)
@@ -372,7 +372,7 @@ row_changes g rows c (x ∷ ids) change keeps k held has =
     row_changes g (change_row rows c x change) c ids change keeps k (λ id e. held id (or_right (same_id x id) (is_among ids id) e))
     (row_change g rows c x change keeps k (held x (or_left (same_id x x) (is_among ids x) (same_id_itself x))) has)
 
-rows_there : (f g : Facts) (rows : Rows) → Continues f g → RowsIn f rows → RowsIn g rows
+rows_there : (f g : Facts) (rows : Rows) → ContinuesFacts f g → RowsIn f rows → RowsIn g rows
 rows_there f g rows c has contact id r at =
     let is : IsRowOf f contact id r = has contact id r at in
     record {
@@ -410,7 +410,7 @@ rows_after_output f s now (out.Send id) k names has =
 came_in : (f : Facts) (x : Held) → is_held (f.held ++ x ∷ []) x.id ≡ true
 came_in f x = is_held-push f.held x x.id ∙ or_left (same_id x.id x.id) (is_held f.held x.id) (same_id_itself x.id)
 
-pub rows_after_one : (clients : Meaning) (f : Facts) (e : Entry) → SoundFacts clients f → Meets clients f e → HasSessions f → HasRows f → HasRows (after f e)
+pub rows_after_one : (clients : Meaning) (f : Facts) (e : Entry) → SoundFacts clients f → MeetsNoStep clients f e → HasSessions f → HasRows f → HasRows (after f e)
 rows_after_one clients f (entry.Arrive t m) sound met s has =
     let e : Entry = entry.Arrive t m in
     let g : Facts = after f (entry.Arrive t m) in
@@ -480,7 +480,7 @@ want_list_put g wanted c new k is has = record {
     chosen contact true = is
     chosen contact false = has.lists contact
 
-wanted_there : (f g : Facts) (wanted : Wants) → Continues f g → g.held ≡ f.held → WantedIn f wanted → WantedIn g wanted
+wanted_there : (f g : Facts) (wanted : Wants) → ContinuesFacts f g → g.held ≡ f.held → WantedIn f wanted → WantedIn g wanted
 wanted_there f g wanted c same has = record {
   known_contact = λ contact ids at. contact_there f g c contact (has.known_contact contact ids at);
   lists = λ contact.
@@ -507,7 +507,7 @@ some_contact f wanted contact has None at e = absurd (false≢true e)
 some_contact f wanted contact has (Some ids) at e = has.known_contact contact ids at
 
 -- a message that comes to be held is wanted from nobody
-wanted_held : (f g : Facts) (x : Held) → Continues f g → g.held ≡ f.held ++ x ∷ [] → WantedIn f f.wanted → WantedIn g (wanted_by_none f.wanted x.id)
+wanted_held : (f g : Facts) (x : Held) → ContinuesFacts f g → g.held ≡ f.held ++ x ∷ [] → WantedIn f f.wanted → WantedIn g (wanted_by_none f.wanted x.id)
 wanted_held f g x c longer has = record {
   known_contact = λ contact ids at.
       contact_there f g c contact (some_contact f f.wanted contact has (fin_map.get f.wanted contact) refl
@@ -580,7 +580,7 @@ same_wanted : (f : Facts) (e : Entry) → (after f e).held ≡ f.held → (after
 same_wanted f e held wanted h =
     has_wanted (after f e) (subst (WantedIn (after f e)) (sym wanted) (wanted_there f (after f e) f.wanted (continues_after f e) held (wanted_in f h)))
 
-pub wanted_after_one : (clients : Meaning) (f : Facts) (e : Entry) → Meets clients f e → HasSessions f → HasWanted f → HasWanted (after f e)
+pub wanted_after_one : (clients : Meaning) (f : Facts) (e : Entry) → MeetsNoStep clients f e → HasSessions f → HasWanted f → HasWanted (after f e)
 wanted_after_one clients f (entry.Contact c) met s h =
     let g : Facts = after f (entry.Contact c) in
     let has : WantedIn g f.wanted = wanted_there f g f.wanted (continues_after f (entry.Contact c)) refl (wanted_in f h) in
@@ -683,7 +683,7 @@ ends_refused clients f id d h =
     other x e false is = refl
     other x e true is = absurd (false≢true (sym fresh_again ∙ (ap (is_among f.delivered) (same_id-is id x is) ∙ e)))
 
-ends_there : (f g : Facts) → Continues f g → g.judged ≡ f.judged → g.invalid ≡ f.invalid → g.delivered ≡ f.delivered → HasEnds f → HasEnds g
+ends_there : (f g : Facts) → ContinuesFacts f g → g.judged ≡ f.judged → g.invalid ≡ f.invalid → g.delivered ≡ f.delivered → HasEnds f → HasEnds g
 ends_there f g c judged invalid delivered h = record {
   judged_held = λ id e. held_there f g c id (held_at f.held id) refl (h.judged_held id (ap (λ s. fin_set.contains s id) (sym judged) ∙ e));
   delivered_judged = λ id e. ap (λ s. fin_set.contains s id) judged ∙ h.delivered_judged id (ap (λ (ids : List Id). is_among ids id) (sym delivered) ∙ e);
@@ -692,7 +692,7 @@ ends_there f g c judged invalid delivered h = record {
   distinct = ap has_repeat delivered ∙ h.distinct;
 }
 
-pub ends_after_one : (clients : Meaning) (f : Facts) (e : Entry) → Meets clients f e → HasEnds f → HasEnds (after f e)
+pub ends_after_one : (clients : Meaning) (f : Facts) (e : Entry) → MeetsNoStep clients f e → HasEnds f → HasEnds (after f e)
 ends_after_one clients f (entry.Judged id) met h = ends_judged clients f id (next_is_step clients f (entry.Judged id) met) h
 ends_after_one clients f (entry.Deliver id) met h = ends_delivered clients f id (delivery clients f id met) h
 ends_after_one clients f (entry.Invalid id) met h = ends_refused clients f id (refusal clients f id met) h
@@ -715,7 +715,7 @@ ends_after_one clients f (entry.Want c id) met h = ends_there f (after f (entry.
 
 -- ---- all of it
 
-pub consistent_after : (clients : Meaning) (f : Facts) (e : Entry) → SoundFacts clients f → Meets clients f e → IsConsistent f → IsConsistent (after f e)
+pub consistent_after : (clients : Meaning) (f : Facts) (e : Entry) → SoundFacts clients f → MeetsNoStep clients f e → IsConsistent f → IsConsistent (after f e)
 consistent_after clients f e sound met c = record {
   sessions = sessions_after_one clients f e met c.sessions;
   groups = groups_after_one clients f e met c.groups;

@@ -10,10 +10,10 @@ use Rattle.sync_rules.specs.declared.entries.Entry.TheVariants as entry
 use Rattle.sync_rules.specs.declared.entries.Session.{Session}
 use Rattle.sync_rules.specs.Clients.{Meaning}
 use Rattle.sync_rules.specs.Lists.{same_id}
-use Rattle.sync_rules.specs.Facts.{Facts, Held, Id, Known, after, after_all, after_batches, nothing, facts, group_at, held_at, session_at, takes_of, count_or, authored, arrived, kept_as, known_of, contact_of, Extends}
+use Rattle.sync_rules.specs.Facts.{Facts, Held, Id, Known, after, after_all, after_batches, nothing, facts, group_at, held_at, session_at, takes_of, count_or, authored, arrived, kept_as, known_of, contact_of, ExtendsJournal}
 use Rattle.sync_rules.specs.Legal.{Legal, Allowed, GoesOn}
 use Rattle.sync_rules.specs.EntryTests.{judges, invalidates}
-use Rattle.sync_rules.specs.Growth.{IsFront, Continues}
+use Rattle.sync_rules.specs.Growth.{IsFront, ContinuesFacts}
 use Rattle.sync_rules.proofs.Sound.{held_at-push}
 use Rattle.sync_rules.proofs.Flags.{judged_scan, invalid_scan}
 use Rattle.sync_rules.proofs.Settling.{goes_on_both, goes_on_front, goes_on_back, after_batches-append}
@@ -121,7 +121,7 @@ takes_after_one f (entry.Take s k) n =
     no_fewer (nat_eq n s) (takes_of f.takes n) (takes_of (after f (entry.Take s k)).takes n) (one_more_there f.takes s n)
 takes_after_one f _ n = omega arith
 
-pub continues_after : (f : Facts) (e : Entry) → Continues f (after f e)
+pub continues_after : (f : Facts) (e : Entry) → ContinuesFacts f (after f e)
 continues_after f e = record {
   contacts = continues_contacts f e;
   begun = continues_begun f e;
@@ -139,7 +139,7 @@ continues_after f e = record {
 
 -- ---- entries, batches and journals
 
-pub continues_itself : (f : Facts) → Continues f f
+pub continues_itself : (f : Facts) → ContinuesFacts f f
 continues_itself f = record {
   contacts = omega arith;
   begun = omega arith;
@@ -155,7 +155,7 @@ continues_itself f = record {
   takes = λ n. omega arith;
 }
 
-pub continues_then : (f g h : Facts) → Continues f g → Continues g h → Continues f h
+pub continues_then : (f g h : Facts) → ContinuesFacts f g → ContinuesFacts g h → ContinuesFacts f h
 continues_then f g h a b = record {
   contacts = let x : f.contacts ≤ g.contacts = a.contacts in let y : g.contacts ≤ h.contacts = b.contacts in omega (arith, x, y);
   begun = let x : f.begun ≤ g.begun = a.begun in let y : g.begun ≤ h.begun = b.begun in omega (arith, x, y);
@@ -174,11 +174,11 @@ continues_then f g h a b = record {
       omega (arith, x, y);
 }
 
-pub continues_all : (f : Facts) (es : List Entry) → Continues f (after_all f es)
+pub continues_all : (f : Facts) (es : List Entry) → ContinuesFacts f (after_all f es)
 continues_all f [] = continues_itself f
 continues_all f (e ∷ es) = continues_then f (after f e) (after_all (after f e) es) (continues_after f e) (continues_all (after f e) es)
 
-pub continues_batches : (f : Facts) (bs : List (List Entry)) → Continues f (after_batches f bs)
+pub continues_batches : (f : Facts) (bs : List (List Entry)) → ContinuesFacts f (after_batches f bs)
 continues_batches f [] = continues_itself f
 continues_batches f (b ∷ bs) =
     continues_then f (after_all f b) (after_batches (after_all f b) bs) (continues_all f b) (continues_batches (after_all f b) bs)
@@ -188,17 +188,17 @@ continues_batches f (b ∷ bs) =
 pub facts-append : (j more : List (List Entry)) → facts (j ++ more) ≡ after_batches (facts j) more
 facts-append j more = after_batches-append nothing j more
 
-pub facts_of_longer : (j before : List (List Entry)) (e : Extends j before) → facts j ≡ after_batches (facts before) e.0
+pub facts_of_longer : (j before : List (List Entry)) (e : ExtendsJournal j before) → facts j ≡ after_batches (facts before) e.0
 facts_of_longer j before e = ap facts e.1 ∙ facts-append before e.0
 
-pub continues_journals : (j before : List (List Entry)) → Extends j before → Continues (facts before) (facts j)
+pub continues_journals : (j before : List (List Entry)) → ExtendsJournal j before → ContinuesFacts (facts before) (facts j)
 continues_journals j before e =
-    subst (Continues (facts before)) (sym (facts_of_longer j before e)) (continues_batches (facts before) e.0)
+    subst (ContinuesFacts (facts before)) (sym (facts_of_longer j before e)) (continues_batches (facts before) e.0)
 
-pub extends_itself : (j : List (List Entry)) → Extends j j
+pub extends_itself : (j : List (List Entry)) → ExtendsJournal j j
 extends_itself j = ([], sym (append-nil j))
 
-pub extends_then : (j mid before : List (List Entry)) → Extends j mid → Extends mid before → Extends j before
+pub extends_then : (j mid before : List (List Entry)) → ExtendsJournal j mid → ExtendsJournal mid before → ExtendsJournal j before
 extends_then j mid before b a =
     (a.0 ++ b.0, b.1 ∙ (ap (λ (t : List (List Entry)). t ++ b.0) a.1 ∙ append_assoc before a.0 b.0))
 

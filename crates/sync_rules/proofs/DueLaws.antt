@@ -24,7 +24,7 @@ use Rattle.sync_rules.specs.Steps.{IsSettled}
 use Rattle.sync_rules.specs.Sessions.{ids_where, shared_ids, is_sendable, is_ripe, owed_to, wanted_of, send_of, offers_of, out_or, acks_due, requests_due, send_due, offers_due, due_by, due}
 use Rattle.sync_rules.specs.Legal.{Legal, Allowed, IsDue}
 use Rattle.sync_rules.specs.Output.{AllHeld, records_of, first_records, nonce_record, message_record, sent}
-use Rattle.sync_rules.specs.Meeting.{Meets, AllMeet}
+use Rattle.sync_rules.specs.Meeting.{MeetsNoStep, AllMeet}
 use Rattle.sync_rules.specs.Consistency.{ids_of_held, HasHeld, HasWanted, IsConsistent}
 use Rattle.sync_rules.specs.Growth.{output_by, output_in}
 use Rattle.sync_rules.specs.Naming.{AreWanted, NamesDistinct, IsWholeNonce, BringsWithin, HasLimits, MessageIdsAreWhole}
@@ -326,7 +326,7 @@ nonce_within (Some nonce) w = (w, tt)
 pub first_within : (s : Session) → IsWholeNonce s.nonce → AllByRecursion IsRecord (first_records s)
 first_within s w = (record { some = omega arith; few = omega arith }, nonce_within s.nonce w)
 
-output_by_within : (whole : MessageIdsAreWhole) (clients : Meaning) (f : Facts) (n : ℕ) (e : Entry) → IsConsistent f → HasLimits f → Meets clients f e → BringsWithin e
+output_by_within : (whole : MessageIdsAreWhole) (clients : Meaning) (f : Facts) (n : ℕ) (e : Entry) → IsConsistent f → HasLimits f → MeetsNoStep clients f e → BringsWithin e
     → AllByRecursion IsRecord (output_by f n e)
 output_by_within whole clients f n (entry.Session s) c l m b = all_by_cond (nat_eq s.number n) (first_records s) (first_within s b)
 output_by_within whole clients f n (entry.Out s now what) c l m b =

@@ -19,7 +19,7 @@ use Rattle.sync_rules.specs.Facts.{Facts, Held, Id, Rows, Wants, after, after_al
 use Rattle.sync_rules.specs.Steps.{IsSettled, next}
 use Rattle.sync_rules.specs.Sessions.{taken, taken_message, taken_message_of, taken_acks, taken_requests, taken_offers, one_if, is_welcome, is_shown, is_shown_held, is_remembered, room_after}
 use Rattle.sync_rules.specs.Legal.{Allowed, AreRows, GoesOn, Legal, IsSettling, SuitsRows}
-use Rattle.sync_rules.specs.Meeting.{IsNamedHeld, Meets, AllMeet, EachMeets}
+use Rattle.sync_rules.specs.Meeting.{IsNamedHeld, MeetsNoStep, AllMeet, EachMeets}
 use Rattle.sync_rules.proofs.Elements.{among-push, same_id-is, same_id_itself}
 use Rattle.sync_rules.proofs.StepLaws.{next_is_settling}
 use Rattle.sync_rules.proofs.Kept.{Fits, AllFit}
@@ -220,7 +220,7 @@ module _ (clients : Meaning) (f : Facts) (session : ℕ) (known : is_some (sessi
 
 -- ---- settling
 
-settling_meets : (clients : Meaning) (f : Facts) (e : Entry) → next clients f ≡ Some e → Meets clients f e
+settling_meets : (clients : Meaning) (f : Facts) (e : Entry) → next clients f ≡ Some e → MeetsNoStep clients f e
 settling_meets clients f (entry.Contact c) n = absurd (next_is_settling clients f (entry.Contact c) n)
 settling_meets clients f (entry.Group def) n = absurd (next_is_settling clients f (entry.Group def) n)
 settling_meets clients f (entry.Level c g l) n = absurd (next_is_settling clients f (entry.Level c g l) n)
@@ -247,7 +247,7 @@ all_settling_meets clients f (e ∷ es) s = (settling_meets clients f e s.0, all
 
 -- ---- rows and wanted ids
 
-row_meets : (clients : Meaning) (f : Facts) (e : Entry) → IsSettled clients f → f.start ≡ start.Opening → SuitsRows f e → Meets clients f e
+row_meets : (clients : Meaning) (f : Facts) (e : Entry) → IsSettled clients f → f.start ≡ start.Opening → SuitsRows f e → MeetsNoStep clients f e
 row_meets clients f (entry.Tried t) settled opening s = (settled, opening, s)
 row_meets clients f (entry.Want c id) settled opening s = (settled, opening, s)
 row_meets clients f _ settled opening s = absurd s
@@ -272,7 +272,7 @@ rows_meet clients f (e ∷ es) settled opening s = (
 
 -- ---- batches
 
-meets_alone : (clients : Meaning) (f : Facts) (e : Entry) (rest : List Entry) → rest ≡ [] → Meets clients f e → AllMeet clients f (e ∷ rest)
+meets_alone : (clients : Meaning) (f : Facts) (e : Entry) (rest : List Entry) → rest ≡ [] → MeetsNoStep clients f e → AllMeet clients f (e ∷ rest)
 meets_alone clients f e rest none m = (m, subst (AllMeet clients (after f e)) (sym none) tt)
 
 pub allowed_meets : (clients : Meaning) (f : Facts) (b : List Entry) → Allowed clients f b → AllMeet clients f b
@@ -326,7 +326,7 @@ each_meets clients j l before behind e stands =
 
 -- ---- what the invariant of rounds asks of an entry
 
-pub meets_fits : (clients : Meaning) (f : Facts) (e : Entry) → Meets clients f e → Fits clients f e
+pub meets_fits : (clients : Meaning) (f : Facts) (e : Entry) → MeetsNoStep clients f e → Fits clients f e
 meets_fits clients f (entry.Level c g l) m = m.2
 meets_fits clients f (entry.Author x) m = record { known = m.1.known_group; new = m.1.new }
 meets_fits clients f (entry.Arrive s x) m = record {

@@ -13,7 +13,7 @@ use Rattle.sync_rules.specs.Clients.{Meaning}
 use Rattle.sync_rules.specs.Facts.{Facts, Held, Id, after, after_all, nothing, facts, entries_of, held_at, session_at, contact_in, takes_of}
 use Rattle.sync_rules.specs.Legal.{Legal, Allowed, IsDue, IsSettling, MayBegin}
 use Rattle.sync_rules.specs.Output.{IsOpen, first_records, message_record, records_of, records_by, records_in, sent, sent_on}
-use Rattle.sync_rules.specs.Meeting.{Meets, AllMeet}
+use Rattle.sync_rules.specs.Meeting.{MeetsNoStep, AllMeet}
 use Rattle.sync_rules.specs.Consistency.{HasSessions}
 use Rattle.sync_rules.specs.Growth.{output_by, output_in, output_of, is_silent}
 use Rattle.sync_rules.proofs.StepLaws.{IsSettlingEntry, next_is_settling}
@@ -58,7 +58,7 @@ send_again clients f s o now id later due then =
 
 -- an entry's record by the messages held later is that by the messages held before it
 record_by : (clients : Meaning) (f : Facts) (s : SoundFacts clients f) (h : HasSessions f) (e : Entry) (x : Session) (n : ℕ) (later : List Held)
-    → session_at f.sessions n ≡ Some x → Meets clients f e → FoundIn f.held later → records_by later n e ≡ output_by f n e
+    → session_at f.sessions n ≡ Some x → MeetsNoStep clients f e → FoundIn f.held later → records_by later n e ≡ output_by f n e
 record_by clients f s h (entry.Session y) x n later at m then =
     sym (ap (λ b. cond b (first_records y) []) (new_number f h y x n m.1.numbered at (nat_eq y.number n) refl))
 record_by clients f s h (entry.Out t now (out.Acks ids)) x n later at m then = refl

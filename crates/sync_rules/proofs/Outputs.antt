@@ -14,7 +14,7 @@ use Rattle.sync_rules.specs.declared.entries.Session.{Session}
 use Rattle.sync_rules.specs.declared.states.Fate.TheVariants as fate_kind
 use Rattle.sync_rules.specs.Clients.{Meaning}
 use Rattle.sync_rules.specs.Lists.{same_id, is_among, In}
-use Rattle.sync_rules.specs.Facts.{Facts, Held, Id, after, after_all, after_batches, nothing, facts, entries_of, held_at, is_held, session_at, contact_in, level_at, is_level_shared, row_at, Extends}
+use Rattle.sync_rules.specs.Facts.{Facts, Held, Id, after, after_all, after_batches, nothing, facts, entries_of, held_at, is_held, session_at, contact_in, level_at, is_level_shared, row_at, ExtendsJournal}
 use Rattle.sync_rules.specs.Steps.{fate, fate_held}
 use Rattle.sync_rules.specs.Rounds.{graph_of}
 use Rattle.sync_rules.specs.Sessions.{ids_where, shared_ids, is_sendable, is_author, is_ripe, owed_to, wanted_of, send_of, offers_of, first_id, out_or, acks_due, requests_due, send_due, offers_due, due_by}
@@ -257,7 +257,7 @@ grows_by clients j before more session stands l (Some x) at =
           ∙ sym (append_assoc (first_records x) (records_in (facts before).held session es) rest));
     }
 
-pub sent_only_grows : (clients : Meaning) (j before : List (List Entry)) (session : ℕ) → Extends j before → Legal clients j
+pub sent_only_grows : (clients : Meaning) (j before : List (List Entry)) (session : ℕ) → ExtendsJournal j before → Legal clients j
     → GoesOnFrom (sent j session) (sent before session)
 sent_only_grows clients j before session (more, stands) l =
     grows_by clients j before more session stands l (session_at (facts before).sessions session) refl

@@ -10,7 +10,7 @@ use Rattle.sync_rules.specs.declared.entries.Entry.TheVariants as entry
 use Rattle.sync_rules.specs.declared.entries.Out.TheVariants as out
 use Rattle.sync_rules.specs.Lists.{same_id, is_among, without}
 use Rattle.sync_rules.specs.Facts.{Facts, Id, Row, Wants, pair_cmp, row_or, row_at, one_more_try, expiry_after, contact_of, latency_of, nothing, after, after_all, ids_or, wanted_from, change_each, wanted_by_none, with_want, without_each, is_held, authored, arrived, kept_as}
-use Rattle.sync_rules.specs.PeerLaws.{Test, is_with, is_heard, is_shown_seen, is_asked, is_counted_from, is_offered, requests, tries, is_out, is_acked, is_answered, tries_stated, expiry_stated, last_stated, never, NonePasses, IsLast, count_at, EndsWith, SeenLaw, OwedLaw, AskedLaw, WantedLaw, TriesLaw, NoExpiryLaw, ExpiryLaw, CutLaw}
+use Rattle.sync_rules.specs.PeerLaws.{Test, is_with, is_heard, is_shown_seen, is_asked, is_counted_from, is_offered, requests, tries, is_out, is_acked, is_answered, tries_stated, expiry_stated, last_stated, never, NonePasses, IsLast, count_at, EndsWithPassing, SeenLaw, OwedLaw, AskedLaw, WantedLaw, TriesLaw, NoExpiryLaw, ExpiryLaw, CutLaw}
 use Rattle.sync_rules.proofs.Elements.{same_id-is, same_id_swap, among-push}
 use Rattle.sync_rules.proofs.Kept.{after_all-append}
 use Rattle.sync_rules.proofs.Flags.{is_held-push}
@@ -190,7 +190,7 @@ record IsAtCut (contact : ℕ) (id : Id) (before : List Entry) : Type 0 where
   tries : (row_at (after_all nothing before).rows contact id).tries ≡ min 64 (last_stated tries_stated before)
   expiry : (row_at (after_all nothing before).rows contact id).expiry ≡ last_stated expiry_stated before
 
-at_cut : (contact : ℕ) (id : Id) (before : List Entry) → (before ≡ []) ⊎ EndsWith (is_counted_from contact id) before → IsAtCut contact id before
+at_cut : (contact : ℕ) (id : Id) (before : List Entry) → (before ≡ []) ⊎ EndsWithPassing (is_counted_from contact id) before → IsAtCut contact id before
 at_cut contact id before starts =
     elim starts [
       | inl none ↦

@@ -10,7 +10,7 @@ use Rattle.sync_rules.specs.declared.entries.Session.{Session}
 use Rattle.sync_rules.specs.Clients.{Meaning}
 use Rattle.sync_rules.specs.Facts.{Facts, after, after_all, nothing, facts, entries_of, session_at, contact_of, contact_in, takes_of, count_or}
 use Rattle.sync_rules.specs.Legal.{Legal, MayBegin}
-use Rattle.sync_rules.specs.Meeting.{Meets, AllMeet}
+use Rattle.sync_rules.specs.Meeting.{MeetsNoStep, AllMeet}
 use Rattle.sync_rules.specs.Consistency.{AreAscending, IsSessionOf, HasSessions}
 use Rattle.sync_rules.proofs.Kept.{after_batches-is}
 use Rattle.sync_rules.proofs.Continuing.{one_more_there}
@@ -164,7 +164,7 @@ more_begun f n h = record {
   untaken = h.untaken;
 }
 
-pub sessions_after_one : (clients : Meaning) (f : Facts) (e : Entry) → Meets clients f e → HasSessions f → HasSessions (after f e)
+pub sessions_after_one : (clients : Meaning) (f : Facts) (e : Entry) → MeetsNoStep clients f e → HasSessions f → HasSessions (after f e)
 sessions_after_one clients f (entry.Contact c) m h = record {
   ascending = h.ascending;
   below = h.below;

@@ -10,11 +10,11 @@ use Rattle.sync_rules.specs.declared.states.Fate.{Fate}
 use Rattle.sync_rules.specs.declared.states.Fate.TheVariants as fate_kind
 use Rattle.sync_rules.specs.Clients.{Meaning}
 use Rattle.sync_rules.specs.Lists.{is_among}
-use Rattle.sync_rules.specs.Facts.{Facts, Held, Id, after, after_all, after_batches, nothing, facts, held_at, is_held, known_of, authored, arrived, kept_as, contact_of, Extends}
+use Rattle.sync_rules.specs.Facts.{Facts, Held, Id, after, after_all, after_batches, nothing, facts, held_at, is_held, known_of, authored, arrived, kept_as, contact_of, ExtendsJournal}
 use Rattle.sync_rules.specs.Steps.{IsSettled, verdict_in, is_beside, is_elsewhere, is_failing, is_served, fate, fate_held}
 use Rattle.sync_rules.specs.Rounds.{graph_of, good, good_by, good_next, bad, bad_by, bad_first, bad_more, worse_by}
 use Rattle.sync_rules.specs.Legal.{Legal, GoesOn}
-use Rattle.sync_rules.specs.Laws.{IsDecided, Decides, IsKeptBy}
+use Rattle.sync_rules.specs.Laws.{IsDecided, DecidesStates, IsKeptBy}
 use Rattle.sync_rules.proofs.Elements.{all_weaker, any_weaker, tally, tally_le}
 use Rattle.sync_rules.proofs.RoundLaws.{good_le, bad_le, disjoint, good_grows, bad_grows}
 use Rattle.sync_rules.proofs.StepLaws.{Rests, Waits, first_step_none, told_some}
@@ -150,7 +150,7 @@ module _ (clients : Meaning) (f : Facts) (s : SoundFacts clients f) where
         ∙ ap (λ t. cond b fate_kind.Invalid (cond d fate_kind.Delivered (cond t fate_kind.Pending fate_kind.Unknown)))
         (held_is_judged id (held_at f.held id) refl held))
 
-    pub decided : Decides clients f
+    pub decided : DecidesStates clients f
     decided id held =
         elim (fin_set.contains f.invalid id) as (λ b. fin_set.contains f.invalid id ≡ b → IsDecided clients f (length f.held) id) [
           | true ↦ λ i.
@@ -181,7 +181,7 @@ module _ (clients : Meaning) (f : Facts) (s : SoundFacts clients f) where
               ] refl
         ] refl
 
-pub settled_law : (clients : Meaning) (j : List (List Entry)) → Legal clients j → IsSettled clients (facts j) → Decides clients (facts j)
+pub settled_law : (clients : Meaning) (j : List (List Entry)) → Legal clients j → IsSettled clients (facts j) → DecidesStates clients (facts j)
 settled_law clients j l settled = decided clients (facts j) (legal_sound clients j l) settled
 
 -- ---- both only grow
@@ -253,10 +253,10 @@ kept_batches clients f (b ∷ bs) g s =
     kept_then clients f (after_all f b) (after_batches (after_all f b) bs) (kept_all clients f b fit s)
     (kept_batches clients (after_all f b) bs g.1 (sound_all clients f b fit s))
 
-pub prefix_legal : (clients : Meaning) (j before : List (List Entry)) → Extends j before → Legal clients j → Legal clients before
+pub prefix_legal : (clients : Meaning) (j before : List (List Entry)) → ExtendsJournal j before → Legal clients j → Legal clients before
 prefix_legal clients j before e l = goes_on_front clients nothing before e.0 (subst (Legal clients) e.1 l)
 
-pub rounds_grow : (clients : Meaning) (j before : List (List Entry)) → Extends j before → Legal clients j → IsKeptBy clients (facts before) (facts j)
+pub rounds_grow : (clients : Meaning) (j before : List (List Entry)) → ExtendsJournal j before → Legal clients j → IsKeptBy clients (facts before) (facts j)
 rounds_grow clients j before e l =
     let whole : Legal clients (before ++ e.0) = subst (Legal clients) e.1 l in
     let front = goes_on_front clients nothing before e.0 whole in

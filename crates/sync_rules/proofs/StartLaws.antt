@@ -13,7 +13,7 @@ use Rattle.sync_rules.specs.Clients.{Meaning}
 use Rattle.sync_rules.specs.Facts.{Facts, Id, after, after_all, after_batches, nothing, facts, entries_of, start_after}
 use Rattle.sync_rules.specs.Allows.{is_opening}
 use Rattle.sync_rules.specs.CountLaws.{is_no_brief}
-use Rattle.sync_rules.specs.Meeting.{Meets}
+use Rattle.sync_rules.specs.Meeting.{MeetsNoStep}
 use Rattle.sync_rules.proofs.Kept.{after_batches-is}
 
 -- ---- an entry that begins no brief account opens none
@@ -38,14 +38,14 @@ facts_closed j plain =
 
 -- ---- where the own kinds of a brief account stand
 
-pub brief_begins : (clients : Meaning) (f : Facts) (n : ℕ) → Meets clients f (entry.Brief n) → f.start ≡ start.Empty
+pub brief_begins : (clients : Meaning) (f : Facts) (n : ℕ) → MeetsNoStep clients f (entry.Brief n) → f.start ≡ start.Empty
 brief_begins clients f n m = m
 
-pub kept_opens : (clients : Meaning) (f : Facts) (from : Origin) (x : MessageValue) → Meets clients f (entry.Kept from x) → f.start ≡ start.Opening
+pub kept_opens : (clients : Meaning) (f : Facts) (from : Origin) (x : MessageValue) → MeetsNoStep clients f (entry.Kept from x) → f.start ≡ start.Opening
 kept_opens clients f from x m = m.1
 
-pub tried_opens : (clients : Meaning) (f : Facts) (t : Tried) → Meets clients f (entry.Tried t) → f.start ≡ start.Opening
+pub tried_opens : (clients : Meaning) (f : Facts) (t : Tried) → MeetsNoStep clients f (entry.Tried t) → f.start ≡ start.Opening
 tried_opens clients f t m = m.1
 
-pub want_opens : (clients : Meaning) (f : Facts) (contact : ℕ) (id : Id) → Meets clients f (entry.Want contact id) → f.start ≡ start.Opening
+pub want_opens : (clients : Meaning) (f : Facts) (contact : ℕ) (id : Id) → MeetsNoStep clients f (entry.Want contact id) → f.start ≡ start.Opening
 want_opens clients f contact id m = m.1

@@ -16,7 +16,7 @@ use Rattle.sync_rules.specs.Facts.{Facts, Held, Id, Known, Ids, after, after_all
 use Rattle.sync_rules.specs.Steps.{step, first_step, first_or_next, next, IsSettled}
 use Rattle.sync_rules.specs.Sessions.{taken, taken_message, taken_message_of, taken_acks, taken_requests, taken_offers, taken_offer, one_if, is_welcome, is_remembered, room_after}
 use Rattle.sync_rules.specs.Legal.{Allowed, IsSettling, AllSettling}
-use Rattle.sync_rules.specs.Hearing.{Settles}
+use Rattle.sync_rules.specs.Hearing.{SettlesJournal}
 use Rattle.sync_rules.specs.Growth.{IsBegun, IsStepOf, HasSameSteps, leaves_steps, OnlySettles, TakesOne}
 use Rattle.std.specs.Cmp.{nat_eq_equiv}
 use Rattle.sync_rules.proofs.Elements.{same_id_itself}
@@ -153,7 +153,7 @@ all_settling_only clients f (b ∷ bs) s =
     only_settles_then f (after_all f b) (after_batches (after_all f b) bs) (settling_only clients f b s.0.2)
     (all_settling_only clients (after_all f b) bs s.1)
 
-pub settles_only : (clients : Meaning) (old new : List (List Entry)) → Settles clients old new → OnlySettles (facts old) (facts new)
+pub settles_only : (clients : Meaning) (old new : List (List Entry)) → SettlesJournal clients old new → OnlySettles (facts old) (facts new)
 settles_only clients old new s =
     subst (OnlySettles (facts old)) (sym (ap facts s.extends ∙ facts-append old s.more)) (all_settling_only clients (facts old) s.more s.settling)
 

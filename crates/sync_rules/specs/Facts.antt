@@ -429,5 +429,5 @@ entries_of [] = []
 entries_of (b ∷ bs) = b ++ entries_of bs
 
 -- one journal extends another where the batches of that one come first
-abbrev pub Extends : List (List Entry) → List (List Entry) → Type 0
-Extends journal before = (more : List (List Entry)) × (journal ≡ before ++ more)
+abbrev pub ExtendsJournal : List (List Entry) → List (List Entry) → Type 0
+ExtendsJournal journal before = (more : List (List Entry)) × (journal ≡ before ++ more)

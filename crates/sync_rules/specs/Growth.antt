@@ -19,7 +19,7 @@ pub record IsFront {A : Type 0} (front whole : List A) : Type 0 where
   pub goes_on : whole ≡ front ++ more
 
 -- the facts `later` go on from the facts `f`: lists go on, counts never fall, and what is known stays as it is
-pub record Continues (f later : Facts) : Type 0 where
+pub record ContinuesFacts (f later : Facts) : Type 0 where
   pub contacts : f.contacts ≤ later.contacts
   pub begun : f.begun ≤ later.begun
   pub groups : IsFront f.groups later.groups

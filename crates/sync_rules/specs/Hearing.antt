@@ -14,7 +14,7 @@ use Rattle.sync_rules.specs.Sessions.{taken}
 use Rattle.sync_rules.specs.Legal.{Legal, AllSettling}
 
 -- a journal is extended by settling batches alone
-pub record Settles (clients : Meaning) (old new : List (List Entry)) : Type 0 where
+pub record SettlesJournal (clients : Meaning) (old new : List (List Entry)) : Type 0 where
   pub more : List (List Entry)
   pub extends : new ≡ old ++ more
   pub settling : AllSettling clients (facts old) more
@@ -24,8 +24,8 @@ abbrev pub take_batch : List (List Entry) → ℕ → ℕ → Record → List En
 take_batch journal session k r = entry.Take session k ∷ taken (facts journal) session r
 
 -- a record is taken, and then the journal is settled
-pub record Hears (clients : Meaning) (old : List (List Entry)) (session k : ℕ) (r : Record) (new : List (List Entry)) : Type 0 where
-  pub settles : Settles clients (old ++ take_batch old session k r ∷ []) new
+pub record HearsRecord (clients : Meaning) (old : List (List Entry)) (session k : ℕ) (r : Record) (new : List (List Entry)) : Type 0 where
+  pub settles : SettlesJournal clients (old ++ take_batch old session k r ∷ []) new
   pub settled : IsSettled clients (facts new)
 
 -- a legal and settled journal whose session with this contact is to take its k-th record

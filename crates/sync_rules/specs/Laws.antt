@@ -66,14 +66,14 @@ pub record IsFrom (entries : List Entry) (m : MessageValue) (contact : ℕ) : Ty
   pub shown : is_invisible (level_at (after_all nothing before).levels contact m.group) ≡ false
 
 -- the message stands in a Kept entry with this origin: in the journal that the brief account stands for it came so
-pub record IsKept (entries : List Entry) (m : MessageValue) (from : Origin) : Type 0 where
+pub record StandsInKept (entries : List Entry) (m : MessageValue) (from : Origin) : Type 0 where
   pub before : List Entry
   pub behind : List Entry
   pub stands : entries ≡ before ++ entry.Kept from m ∷ behind
 
 abbrev pub CameSo : List Entry → MessageValue → Origin → Type 0
-CameSo entries m origin.Author = IsAuthored entries m ⊎ IsKept entries m origin.Author
-CameSo entries m (origin.From contact) = IsFrom entries m contact ⊎ IsKept entries m (origin.From contact)
+CameSo entries m origin.Author = IsAuthored entries m ⊎ StandsInKept entries m origin.Author
+CameSo entries m (origin.From contact) = IsFrom entries m contact ⊎ StandsInKept entries m (origin.From contact)
 
 -- each held message has its own id and the origin that its entry shows
 pub record HasOrigin (entries : List Entry) (h : Held) : Type 0 where
@@ -89,8 +89,8 @@ pub record IsDecided (clients : Meaning) (f : Facts) (n : ℕ) (id : Id) : Type 
   pub pending : good (graph_of clients f) n id ≡ false → bad (graph_of clients f) n id ≡ false → fate f id ≡ Some fate_kind.Pending
 
 -- each held message is Delivered exactly where it is good, Invalid exactly where it is bad, and else Pending
-abbrev pub Decides : Meaning → Facts → Type 0
-Decides clients f = (id : Id) → is_held f.held id ≡ true → IsDecided clients f (length f.held) id
+abbrev pub DecidesStates : Meaning → Facts → Type 0
+DecidesStates clients f = (id : Id) → is_held f.held id ≡ true → IsDecided clients f (length f.held) id
 
 -- the good and the bad messages of one journal stay so in another
 pub record IsKeptBy (clients : Meaning) (f later : Facts) : Type 0 where

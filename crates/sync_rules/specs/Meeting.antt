@@ -36,33 +36,33 @@ pub record IsNamedNew (f : Facts) (session : ℕ) (id : Id) : Type 0 where
   pub few : length (wanted_from f.wanted (contact_of f.sessions session)) < MAX_WANTED
 
 -- each entry but a step and the first of a brief account stands where no step is open
-abbrev pub Meets : Meaning → Facts → Entry → Type 0
-Meets clients f (entry.Contact c) = IsSettled clients f × (c ≡ f.contacts) × (c < MAX_CONTACTS)
-Meets clients f (entry.Group def) = IsSettled clients f × MayAddGroup clients f def
-Meets clients f (entry.Level c g l) = IsSettled clients f × (c < f.contacts) × (is_some (group_at f.groups g) ≡ true)
-Meets clients f (entry.Session s) = IsSettled clients f × MayBegin f s
-Meets clients f (entry.Take s k) = IsSettled clients f × (is_some (session_at f.sessions s) ≡ true) × (k ≡ takes_of f.takes s)
-Meets clients f (entry.Author m) = IsSettled clients f × MayAuthor clients f m
-Meets clients f (entry.Arrive s m) = IsSettled clients f × ComesIn f s m
-Meets clients f (entry.Judged id) = next clients f ≡ Some (entry.Judged id)
-Meets clients f (entry.Deliver id) = next clients f ≡ Some (entry.Deliver id)
-Meets clients f (entry.Invalid id) = next clients f ≡ Some (entry.Invalid id)
-Meets clients f (entry.Again s id) = IsSettled clients f × IsNamedHeld f s id
-Meets clients f (entry.Offered s id) = IsSettled clients f × IsNamedNew f s id
-Meets clients f (entry.Seen s id) = IsSettled clients f × IsNamedHeld f s id
-Meets clients f (entry.Asked s id) = IsSettled clients f × IsNamedHeld f s id
-Meets clients f (entry.Out s now what) = IsSettled clients f × IsDue clients f (session_at f.sessions s) now what
-Meets clients f (entry.Brief n) = f.start ≡ start.Empty
-Meets clients f (entry.Kept from m) = IsSettled clients f × (f.start ≡ start.Opening) × MayKeep clients f from m
-Meets clients f (entry.Tried t) = IsSettled clients f × (f.start ≡ start.Opening) × MayRestore f t
-Meets clients f (entry.Want contact id) = IsSettled clients f × (f.start ≡ start.Opening) × MayWant f contact id
+abbrev pub MeetsNoStep : Meaning → Facts → Entry → Type 0
+MeetsNoStep clients f (entry.Contact c) = IsSettled clients f × (c ≡ f.contacts) × (c < MAX_CONTACTS)
+MeetsNoStep clients f (entry.Group def) = IsSettled clients f × MayAddGroup clients f def
+MeetsNoStep clients f (entry.Level c g l) = IsSettled clients f × (c < f.contacts) × (is_some (group_at f.groups g) ≡ true)
+MeetsNoStep clients f (entry.Session s) = IsSettled clients f × MayBegin f s
+MeetsNoStep clients f (entry.Take s k) = IsSettled clients f × (is_some (session_at f.sessions s) ≡ true) × (k ≡ takes_of f.takes s)
+MeetsNoStep clients f (entry.Author m) = IsSettled clients f × MayAuthor clients f m
+MeetsNoStep clients f (entry.Arrive s m) = IsSettled clients f × ComesIn f s m
+MeetsNoStep clients f (entry.Judged id) = next clients f ≡ Some (entry.Judged id)
+MeetsNoStep clients f (entry.Deliver id) = next clients f ≡ Some (entry.Deliver id)
+MeetsNoStep clients f (entry.Invalid id) = next clients f ≡ Some (entry.Invalid id)
+MeetsNoStep clients f (entry.Again s id) = IsSettled clients f × IsNamedHeld f s id
+MeetsNoStep clients f (entry.Offered s id) = IsSettled clients f × IsNamedNew f s id
+MeetsNoStep clients f (entry.Seen s id) = IsSettled clients f × IsNamedHeld f s id
+MeetsNoStep clients f (entry.Asked s id) = IsSettled clients f × IsNamedHeld f s id
+MeetsNoStep clients f (entry.Out s now what) = IsSettled clients f × IsDue clients f (session_at f.sessions s) now what
+MeetsNoStep clients f (entry.Brief n) = f.start ≡ start.Empty
+MeetsNoStep clients f (entry.Kept from m) = IsSettled clients f × (f.start ≡ start.Opening) × MayKeep clients f from m
+MeetsNoStep clients f (entry.Tried t) = IsSettled clients f × (f.start ≡ start.Opening) × MayRestore f t
+MeetsNoStep clients f (entry.Want contact id) = IsSettled clients f × (f.start ≡ start.Opening) × MayWant f contact id
 
 -- entries of which each meets this behind those before it
 abbrev pub AllMeet : Meaning → Facts → List Entry → Type 0
 AllMeet clients f [] = Unit {0}
-AllMeet clients f (e ∷ es) = Meets clients f e × AllMeet clients (after f e) es
+AllMeet clients f (e ∷ es) = MeetsNoStep clients f e × AllMeet clients (after f e) es
 
 -- each entry of a journal meets this at its place
 abbrev pub EachMeets : Meaning → List (List Entry) → Type 0
 EachMeets clients journal =
-    (before behind : List Entry) (e : Entry) → entries_of journal ≡ before ++ e ∷ behind → Meets clients (after_all nothing before) e
+    (before behind : List Entry) (e : Entry) → entries_of journal ≡ before ++ e ∷ behind → MeetsNoStep clients (after_all nothing before) e

@@ -137,7 +137,7 @@ abbrev pub never : Test
 never f e = false
 
 -- entries end with one that passes at its place
-pub record EndsWith (test : Test) (entries : List Entry) : Type 0 where
+pub record EndsWithPassing (test : Test) (entries : List Entry) : Type 0 where
   pub before : List Entry
   pub of : Entry
   pub stands : entries ≡ before ++ of ∷ []
@@ -146,7 +146,7 @@ pub record EndsWith (test : Test) (entries : List Entry) : Type 0 where
 -- the entries are cut behind the last one that passes, or before all where none does
 pub record IsCutBehind (test : Test) (entries before behind : List Entry) : Type 0 where
   pub stands : entries ≡ before ++ behind
-  pub starts : (before ≡ []) ⊎ EndsWith test before
+  pub starts : (before ≡ []) ⊎ EndsWithPassing test before
   pub then : NonePasses test (after_all nothing before) behind
 
 -- ---- the six facts

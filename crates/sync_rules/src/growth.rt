@@ -10,13 +10,13 @@ ghost use Rattle.sync_ids.specs.Records.{IsRecord};
 ghost use Rattle.sync_rules.specs.Clients.{Meaning};
 ghost use Rattle.sync_rules.specs.Consistency.{HasHeld, HasWanted, IsConsistent};
 ghost use Rattle.sync_rules.specs.Facts.{after, after_all, after_batches, contact_in};
-ghost use Rattle.sync_rules.specs.Facts.{entries_of, Extends, Facts, facts, nothing, session_at};
+ghost use Rattle.sync_rules.specs.Facts.{entries_of, ExtendsJournal, Facts, facts, nothing, session_at};
 ghost use Rattle.sync_rules.specs.Facts.{takes_of};
-ghost use Rattle.sync_rules.specs.Growth.{Continues, HasSameSteps, is_silent, IsStepOf};
+ghost use Rattle.sync_rules.specs.Growth.{ContinuesFacts, HasSameSteps, is_silent, IsStepOf};
 ghost use Rattle.sync_rules.specs.Growth.{leaves_steps, OnlySettles, output_in, output_of};
 ghost use Rattle.sync_rules.specs.Growth.{TakesOne};
 ghost use Rattle.sync_rules.specs.Heard.{HeldByRecords, SeenByRecords};
-ghost use Rattle.sync_rules.specs.Hearing.{Settles};
+ghost use Rattle.sync_rules.specs.Hearing.{SettlesJournal};
 ghost use Rattle.sync_rules.specs.Knowing.{CountsEnds, DeliversInOrder, GroupsLeaveSettled};
 ghost use Rattle.sync_rules.specs.Knowing.{KnowsGroups, NamesHeld};
 ghost use Rattle.sync_rules.specs.Laws.{IsKeptBy};
@@ -39,20 +39,20 @@ use sync_ids::message_ids_are_whole;
 /// from the facts before. Lists go on, counts never fall, and what is known stays as it is. It
 /// holds of all entries, legal or not.
 pub fn continues()
-    ensures one { (f : Facts) (e : Entry) → Continues f (after f e) }
-    ensures entries { (f : Facts) (es : List Entry) → Continues f (after_all f es) }
-    ensures batches { (f : Facts) (bs : List (List Entry)) → Continues f (after_batches f bs) }
-    ensures journals { (j before : List (List Entry)) → Extends j before
-        → Continues (facts before) (facts j) }
-    ensures joined { (f g h : Facts) → Continues f g → Continues g h → Continues f h }
+    ensures one { (f : Facts) (e : Entry) → ContinuesFacts f (after f e) }
+    ensures entries { (f : Facts) (es : List Entry) → ContinuesFacts f (after_all f es) }
+    ensures batches { (f : Facts) (bs : List (List Entry)) → ContinuesFacts f (after_batches f bs) }
+    ensures journals { (j before : List (List Entry)) → ExtendsJournal j before
+        → ContinuesFacts (facts before) (facts j) }
+    ensures joined { (f g h : Facts) → ContinuesFacts f g → ContinuesFacts g h → ContinuesFacts f h }
 {}
 
 /// Extends: a journal extends itself and what it extends in two steps; its facts are those behind
 /// the new batches, batch by batch or entry by entry.
 pub fn extends()
-    ensures itself { (j : List (List Entry)) → Extends j j }
-    ensures joined { (j mid before : List (List Entry)) → Extends j mid → Extends mid before
-        → Extends j before }
+    ensures itself { (j : List (List Entry)) → ExtendsJournal j j }
+    ensures joined { (j mid before : List (List Entry)) → ExtendsJournal j mid → ExtendsJournal mid before
+        → ExtendsJournal j before }
     ensures push { (j : List (List Entry)) (b : List Entry)
         → facts (j ++ b ∷ []) ≡ after_all (facts j) b }
     ensures append { (j more : List (List Entry))
@@ -76,7 +76,7 @@ pub fn legal()
         → IsSettlingBatch clients f b → Allowed clients f b }
     ensures all_settling { (clients : Meaning) (f : Facts) (bs : List (List Entry))
         → AllSettling clients f bs → GoesOn clients f bs }
-    ensures settles { (clients : Meaning) (old new : List (List Entry)) → Settles clients old new
+    ensures settles { (clients : Meaning) (old new : List (List Entry)) → SettlesJournal clients old new
         → Legal clients old → Legal clients new }
 {}
 
@@ -107,7 +107,7 @@ pub fn settling_leaves()
         → OnlySettles f (after_all f es) }
     ensures batches { (clients : Meaning) (f : Facts) (bs : List (List Entry))
         → AllSettling clients f bs → OnlySettles f (after_batches f bs) }
-    ensures journals { (clients : Meaning) (old new : List (List Entry)) → Settles clients old new
+    ensures journals { (clients : Meaning) (old new : List (List Entry)) → SettlesJournal clients old new
         → OnlySettles (facts old) (facts new) }
 {}
 
@@ -153,7 +153,7 @@ pub fn rounds()
         → good g l id ≡ true }
     ensures bad { (g : Graph) (k l : ℕ) (id : List ℕ) → k ≤ l → bad g k id ≡ true
         → bad g l id ≡ true }
-    ensures journals { (clients : Meaning) (j before : List (List Entry)) → Extends j before
+    ensures journals { (clients : Meaning) (j before : List (List Entry)) → ExtendsJournal j before
         → Legal clients j → IsKeptBy clients (facts before) (facts j) }
 {}
 

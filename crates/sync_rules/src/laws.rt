@@ -6,8 +6,8 @@ ghost use Rattle.sync_rules.specs.Clients.{Meaning};
 ghost use Rattle.sync_rules.specs.CountLaws.{EntriesKeepBegun, EntryKeepsBegun, JournalsCountBegun};
 ghost use Rattle.sync_rules.specs.CountLaws.{LeftIsBounded, StepLowersLeft};
 ghost use Rattle.sync_rules.specs.CountLaws.{StepsLowerLeft};
-ghost use Rattle.sync_rules.specs.Facts.{Extends, entries_of, facts};
-ghost use Rattle.sync_rules.specs.Laws.{BringsOnce, Decides, EndsOnce, HasOrigin, HasOwnOrigin};
+ghost use Rattle.sync_rules.specs.Facts.{ExtendsJournal, entries_of, facts};
+ghost use Rattle.sync_rules.specs.Laws.{BringsOnce, DecidesStates, EndsOnce, HasOrigin, HasOwnOrigin};
 ghost use Rattle.sync_rules.specs.Laws.{IsInOrder, IsKeptBy, JudgesOnce};
 ghost use Rattle.sync_rules.specs.Legal.{Legal};
 ghost use Rattle.sync_rules.specs.Output.{GoesOnFrom, sent, SendsTheOpen};
@@ -47,16 +47,16 @@ pub fn origin()
 /// both only grow where a journal is extended.
 pub fn settled()
     ensures decided { (clients : Meaning) (j : List (List Entry)) → Legal clients j
-        → IsSettled clients (facts j) → Decides clients (facts j) }
+        → IsSettled clients (facts j) → DecidesStates clients (facts j) }
     ensures apart { (g : Graph) (k l : ℕ) (id : List ℕ) → good g k id ≡ true → bad g l id ≡ true
         → ⊥ }
-    ensures grow { (clients : Meaning) (j before : List (List Entry)) → Extends j before
+    ensures grow { (clients : Meaning) (j before : List (List Entry)) → ExtendsJournal j before
         → Legal clients j → IsKeptBy clients (facts before) (facts j) }
 {}
 
 /// Prefix: each prefix of a legal journal is legal.
 pub fn prefix()
-    ensures { (clients : Meaning) (j before : List (List Entry)) → Extends j before
+    ensures { (clients : Meaning) (j before : List (List Entry)) → ExtendsJournal j before
         → Legal clients j → Legal clients before }
 {}
 
@@ -69,7 +69,7 @@ pub fn output()
 /// Sent: the list of the records that a session sends only grows where a legal journal extends
 /// another.
 pub fn sent_grows()
-    ensures { (clients : Meaning) (j before : List (List Entry)) (session : ℕ) → Extends j before
+    ensures { (clients : Meaning) (j before : List (List Entry)) (session : ℕ) → ExtendsJournal j before
         → Legal clients j
         → GoesOnFrom (sent j session) (sent before session) }
 {}

@@ -1,7 +1,7 @@
 -- What calls one after another leave, and why links stand Failed.
 use Rattle.std.proofs.Common.{◌≡◌, ℕ, zero, suc, ◌+◌, ◌≤◌, Bool, true, false, List, [], ◌∷◌, inl, inr, arith, refl, sym, ap, subst, ◌∙◌, Some}
 use Rattle.std.specs.Prelude.{map, slice_get}
-use Rattle.outside.specs.Faults.{Rose, one_more}
+use Rattle.outside.specs.Faults.{CountRose, one_more}
 use Rattle.outside.specs.Links.{Links}
 use Rattle.outside.specs.Outside.{Outside}
 use Rattle.outside.proofs.RunLaws.{grow_same, grow_then}
@@ -10,12 +10,12 @@ use Rattle.sync_node.specs.declared.link.Link.{Link}
 use Rattle.sync_course.specs.declared.ends.LinkEnd.{LinkEnd}
 use Rattle.sync_course.specs.declared.ends.LinkEnd.TheVariants as end
 use Rattle.sync_node.specs.Causes.{FailByCause, StandsFailed}
-use Rattle.sync_node.specs.Going.{Goes}
+use Rattle.sync_node.specs.Going.{LetsNothingFall}
 use Rattle.sync_course.specs.Closing.{Closing}
 use Rattle.sync_run.specs.Causes.{FailuresRose}
 use Rattle.sync_run.specs.Closed.{closed_by}
 
-pub goes_none : (o : Outside) → Goes o o
+pub goes_none : (o : Outside) → LetsNothingFall o o
 goes_none o = record {
   same_files = refl;
   later = omega arith;
@@ -26,7 +26,7 @@ goes_none o = record {
   calls = calls_none o;
 }
 
-pub goes_then : (o o1 o2 : Outside) → Goes o o1 → Goes o1 o2 → Goes o o2
+pub goes_then : (o o1 o2 : Outside) → LetsNothingFall o o1 → LetsNothingFall o1 o2 → LetsNothingFall o o2
 goes_then o o1 o2 first second = record {
   same_files = second.same_files ∙ first.same_files;
   later = omega (arith, first.later, second.later);
@@ -39,16 +39,16 @@ goes_then o o1 o2 first second = record {
   calls = calls_then o o1 o2 first.calls second.calls;
 }
 
-rose_later : (a b c : ℕ) → Rose a b → b ≤ c → Rose a c
+rose_later : (a b c : ℕ) → CountRose a b → b ≤ c → CountRose a c
 rose_later a b c rose later = let r : one_more a ≤ b = rose in omega (arith, r, later)
 
-rose_before : (a b c : ℕ) → a ≤ b → Rose b c → Rose a c
+rose_before : (a b c : ℕ) → a ≤ b → CountRose b c → CountRose a c
 rose_before a b c before rose = let r : one_more b ≤ c = rose in omega (arith, before, r)
 
 pub no_causes : (links : List Link) (o : Outside) → FailByCause links links o o
 no_causes links o number stands = inl stands
 
-pub causes_then : (links mid links' : List Link) (o o1 o' : Outside) → Goes o o1 → Goes o1 o' → FailByCause links mid o o1 → FailByCause mid links' o1 o'
+pub causes_then : (links mid links' : List Link) (o o1 o' : Outside) → LetsNothingFall o o1 → LetsNothingFall o1 o' → FailByCause links mid o o1 → FailByCause mid links' o1 o'
     → FailByCause links links' o o'
 causes_then links mid links' o o1 o' first second before behind number stands =
     elim (behind number stands) [
@@ -78,5 +78,5 @@ ends_rose over links links' ends o0 o1 o none are same causes i stands at failed
     let stood = end_failed links' i stands (subst (λ (c : Closing). slice_get c.ends i ≡ Some stands) are at) failed in
     elim (causes i stood) [
       | inl before ↦ let no : slice_get [] i ≡ Some before.link = subst (λ (ls : List Link). slice_get ls i ≡ Some before.link) none before.there in cc
-      | inr rose ↦ subst (λ (l : Links). Rose (l.faults i) (o.links.faults i)) same rose
+      | inr rose ↦ subst (λ (l : Links). CountRose (l.faults i) (o.links.faults i)) same rose
     ]

@@ -6,8 +6,8 @@ use Rattle.sync_rules.specs.declared.entries.Session.{Session}
 use Rattle.sync_rules.specs.Clients.{Meaning}
 use Rattle.sync_rules.specs.Facts.{Facts, after_all, after_batches}
 use Rattle.sync_rules.specs.Legal.{AllSettling}
-use Rattle.sync_course.specs.Events.{Commit, Event, Told, batches_of, commits}
-use Rattle.sync_course.specs.Paths.{Path, Runs}
+use Rattle.sync_course.specs.Events.{Commit, Event, TellsEvents, batches_of, commits}
+use Rattle.sync_course.specs.Paths.{Path, RunsPath}
 use Rattle.sync_course.specs.Turns.{Place, RunStep, Settles, Stage, StageStep, Terms}
 use Rattle.sync_course.proofs.PathLaws.{path_then}
 use Rattle.sync_course.proofs.ToldLaws.{batches_of-append, batches_of_commits, told_commits, told_then}
@@ -17,13 +17,13 @@ use Rattle.sync_node.specs.Output.{Journal}
 pub record Came (clients : Meaning) (terms : Terms) (Before After : Journal → Type 0) (from to : Place) (old new : Outside) : Type 0 where
   pub events : List Event
   pub path : Path (RunStep clients terms) from events to
-  pub told : Told events old new
+  pub told : TellsEvents events old new
   pub journal : (j : Journal) → Before j → After (j ++ batches_of events)
 
 module _ (clients : Meaning) (terms : Terms) where
   -- a run behind it
   pub came_then : (Before Between After : Journal → Type 0) (p q r : Place) (o o1 o2 : Outside) {next : List (List Entry)} → Came clients terms Before Between p q o o1
-      → Runs (RunStep clients terms) Between After q r o1 o2 next → Came clients terms Before After p r o o2
+      → RunsPath (RunStep clients terms) Between After q r o1 o2 next → Came clients terms Before After p r o o2
   came_then Before Between After p q r o o1 o2 first second = record {
     events = first.events ++ second.events;
     path = path_then (RunStep clients terms) p q r first.events second.events first.path second.path;

@@ -2,7 +2,7 @@
 use Rattle.std.proofs.Common.{◌≡◌, ◌⊎◌, ℕ, suc, ◌≤◌, Bool, true, false, cond, List, [], ◌∷◌, ◌++◌, length, append-nil, refl, sym, ◌∙◌, ap, subst, arith, inl, inr, Option, None, Some, is_some, Result, Ok, Err}
 use Rattle.std.specs.Option.{option_map}
 use Rattle.outside.specs.declared.failed.Failed.{Failed}
-use Rattle.outside.specs.Faults.{Rose, one_more}
+use Rattle.outside.specs.Faults.{CountRose, one_more}
 use Rattle.outside.specs.Files.{Two, File, read_files}
 use Rattle.outside.specs.Links.{HeardOn, Links}
 use Rattle.outside.specs.Outside.{Outside}
@@ -10,12 +10,12 @@ use Rattle.sync_rules.specs.declared.entries.Session.{Session}
 use Rattle.sync_rules.specs.Clients.{Meaning}
 use Rattle.sync_rules.specs.Facts.{facts}
 use Rattle.sync_store.specs.Store.{StoreValue}
-use Rattle.sync_course.specs.Events.{Event, GrowsBy, RoseIf, Told, has_failure, heard_after, readings_of}
+use Rattle.sync_course.specs.Events.{Event, GrowsBy, RoseIf, TellsEvents, has_failure, heard_after, readings_of}
 use Rattle.sync_course.proofs.ToldLaws.{told_none}
 use Rattle.sync_course.specs.Turns.{first_place}
 use Rattle.sync_node.proofs.CourseLaws.{fits_on}
 use Rattle.sync_node.specs.Courses.{FitsWith, ReadsAs}
-use Rattle.sync_node.specs.Going.{Goes}
+use Rattle.sync_node.specs.Going.{LetsNothingFall}
 use Rattle.sync_node.specs.Output.{Journal}
 use Rattle.sync_words.specs.declared.link_words.LinkWords.{LinkWords}
 use Rattle.sync_course.specs.Closing.{Closing}
@@ -25,8 +25,8 @@ use Rattle.sync_words.specs.Links.{has_nonce}
 use Rattle.sync_run.specs.declared.dialling.Dialled.{Dialled}
 use Rattle.sync_run.specs.declared.run.Limits.{Limits}
 use Rattle.sync_run.specs.Causes.{FailsAlone, IsCaused, RunCaused}
-use Rattle.sync_run.specs.Courses.{HearsRun, RanToEnd, RunComes, WasBroken, WasFull, WasOver, WasSpent, terms_of}
-use Rattle.sync_run.specs.Dialling.{AreDialled, Calms, DialsAll, MakesLinks, unheard}
+use Rattle.sync_run.specs.Courses.{HearsRun, RanToEnd, RunComes, WasBroken, WasFull, WasOver, RunWasSpent, terms_of}
+use Rattle.sync_run.specs.Dialling.{AreDialled, DialsOnly, DialsAll, MakesLinks, unheard}
 use Rattle.sync_run.specs.Parts.{RunBroken, RunEnded, RunFilled, RunSpent, RunsOver, sessions_from}
 use Rattle.sync_run.specs.Plans.{ArePlanned}
 use Rattle.sync_run.proofs.EndLaws.{course_by_heard}
@@ -88,7 +88,7 @@ heard_by_run es n None o1 o none made told = told ∙ ap (option_map (heard_afte
 heard_by_run es n (Some h) o1 o none made told =
     told ∙ ap (option_map (heard_after es)) made ∙ ap (λ (hs : List HeardOn). Some (heard_after es (hs ++ unheard n))) (no_heard h (none h refl))
 
-pub hears_dialled : (words : List LinkWords) (es : List Event) (o0 o1 o : Outside) → o0.links.dialled ≡ 0 → MakesLinks words o0.links o1.links → Told es o1 o
+pub hears_dialled : (words : List LinkWords) (es : List Event) (o0 o1 o : Outside) → o0.links.dialled ≡ 0 → MakesLinks words o0.links o1.links → TellsEvents es o1 o
     → o.links.dialled ≡ o1.links.dialled → HearsRun es o0 o
 hears_dialled words es o0 o1 o none makes told same =
     let number : o.links.dialled ≡ length words = omega (arith, same, makes.dialled, none) in
@@ -156,7 +156,7 @@ module _ (clients : Meaning) (limits : Limits) (words : List LinkWords) (links :
   }
 
   -- nothing was done behind the dials
-  spent_so : RunSpent o1 o → WasSpent words o0 o
+  spent_so : RunSpent o1 o → RunWasSpent words o0 o
   spent_so spent = record {
     last = λ two told. spent.last two (files ∙ told);
     still = λ two two' told told'.
@@ -200,11 +200,11 @@ dial_comes clients limits words made link j o0 o (Err _) none makes reads alone 
 
 -- ---- by the answer of the dials
 
-module _ (clients : Meaning) (limits : Limits) (words : List LinkWords) (links : List Dialled) (s : StoreValue) (o0 o1 : Outside) (none : o0.links.dialled ≡ 0) (calms : Calms o0 o1) where
+module _ (clients : Meaning) (limits : Limits) (words : List LinkWords) (links : List Dialled) (s : StoreValue) (o0 o1 : Outside) (none : o0.links.dialled ≡ 0) (calms : DialsOnly o0 o1) where
   fits_calm : (j : Journal) → FitsWith clients s o0.files j → FitsWith clients s o1.files j
   fits_calm j fit = fits_on clients s o0 o1 calms.same_files j fit
 
-  pub dialled_comes : (u : Unit {0}) (lent : List Dialled) (o : Outside) (r : Result Closing Outcome) → DialsAll words links (Ok u) o0 o1 → lent ≡ links → Goes o1 o
+  pub dialled_comes : (u : Unit {0}) (lent : List Dialled) (o : Outside) (r : Result Closing Outcome) → DialsAll words links (Ok u) o0 o1 → lent ≡ links → LetsNothingFall o1 o
       → ((j : Journal) → FitsWith clients s o1.files j → RunsOver clients limits (sessions_from (facts j).begun lent) j o1 o r)
       → (j : Journal) → FitsWith clients s o0.files j → RunComes clients limits words j o0 o r
   dialled_comes u lent o r dials is goes over j fit =
@@ -220,13 +220,13 @@ module _ (clients : Meaning) (limits : Limits) (words : List LinkWords) (links :
 
 -- ---- causes
 
-pub dialled_caused : (words : List LinkWords) (o0 o1 o : Outside) (r : Result Closing Outcome) → Calms o0 o1 → RunCaused o1 o r → IsCaused words o0 o r
+pub dialled_caused : (words : List LinkWords) (o0 o1 o : Outside) (r : Result Closing Outcome) → DialsOnly o0 o1 → RunCaused o1 o r → IsCaused words o0 o r
 dialled_caused words o0 o1 o (Ok ends) calms caused = λ i stands at failed.
     let rose : one_more (o1.links.faults i) ≤ o.links.faults i = caused i stands at failed in
     let later : o0.links.faults i ≤ o1.links.faults i = calms.grows.faults i in
     let more : one_more (o0.links.faults i) ≤ o.links.faults i = omega (arith, rose, later) in
     more
-dialled_caused words o0 o1 o (Err outcome.DiskFault) calms caused = subst (λ (n : ℕ). Rose n o.disk_faults) calms.same_faults caused
+dialled_caused words o0 o1 o (Err outcome.DiskFault) calms caused = subst (λ (n : ℕ). CountRose n o.disk_faults) calms.same_faults caused
 dialled_caused words o0 o1 o (Err outcome.Full) calms caused = tt
 dialled_caused words o0 o1 o (Err outcome.Memory) calms caused = tt
 dialled_caused words o0 o1 o (Err _) calms caused = absurd caused
@@ -236,6 +236,6 @@ pub undialled_caused : (words : List LinkWords) (links : List Dialled) (o0 o1 : 
 undialled_caused words links o0 o1 e link (Ok ends) dials is alone = absurd alone
 undialled_caused words links o0 o1 e link (Err (outcome.LinkFailed named)) dials is alone = record {
   within = omega (arith, is, alone, dials.all.0);
-  rose = subst (λ (n : ℕ). Rose (o0.links.faults n) (o1.links.faults n)) (sym (alone ∙ is)) dials.all.1;
+  rose = subst (λ (n : ℕ). CountRose (o0.links.faults n) (o1.links.faults n)) (sym (alone ∙ is)) dials.all.1;
 }
 undialled_caused words links o0 o1 e link (Err _) dials is alone = absurd alone

@@ -2,14 +2,14 @@
 use Rattle.std.proofs.Common.{◌≡◌, ◌+◌, ◌<◌, ◌≤◌, Bool, true, false, List, [], ◌++◌, length, append-nil, le-ltb, lt-ltb, refl, sym, ◌∙◌, ap, subst, arith, inl, inr, Option, None, Some, Result, Ok, Err}
 use Rattle.std.specs.Prelude.{IsErrAnd, if◌then◌else◌}
 use Rattle.std.specs.Option.{option_map}
-use Rattle.outside.specs.Disk.{Becomes}
-use Rattle.outside.specs.Faults.{Rose, one_more}
+use Rattle.outside.specs.Disk.{RelatesTold}
+use Rattle.outside.specs.Faults.{CountRose, one_more}
 use Rattle.outside.specs.Files.{Two, File, read_files}
 use Rattle.outside.specs.Links.{HeardOn, Links}
 use Rattle.outside.specs.Outside.{DiskRun, Outside}
 use Rattle.outside.proofs.CallSteps.{becomes_told}
 use Rattle.outside.proofs.RunLaws.{grow_same}
-use Rattle.outside.specs.Runs.{Told}
+use Rattle.outside.specs.Runs.{TellsAll}
 use Rattle.frame_journal.specs.Gates.{ReadsSame}
 use Rattle.sync_rules.specs.declared.limits.TheConstants.{MAX_SESSIONS}
 use Rattle.sync_rules.specs.declared.states.Refused.{Refused}
@@ -17,7 +17,7 @@ use Rattle.sync_rules.specs.declared.states.Refused.TheVariants as refused
 use Rattle.sync_rules.specs.Clients.{Meaning}
 use Rattle.sync_rules.specs.Facts.{Facts, facts}
 use Rattle.entry_codec.specs.Standing.{Standing, journal, stands}
-use Rattle.sync_store.specs.Fitting.{Fits, FitsSome}
+use Rattle.sync_store.specs.Fitting.{FitsFiles, FitsSome}
 use Rattle.sync_store.specs.Store.{StoreValue}
 use Rattle.sync_course.specs.Events.{Event, GrowsBy, batches_of, RoseIf, has_failure, heard_after, readings_of}
 use Rattle.sync_node.specs.Courses.{FitsWith, ReadsAs}
@@ -30,7 +30,7 @@ use Rattle.sync_words.specs.declared.outcome.Outcome.{Outcome}
 use Rattle.sync_words.specs.declared.outcome.Outcome.TheVariants as outcome
 use Rattle.sync_run.specs.declared.run.Limits.{Limits}
 use Rattle.sync_run.specs.Causes.{IsCaused}
-use Rattle.sync_run.specs.Courses.{ComesTo, HearsRun, RanToEnd, RunComes, TestsContacts, TestsWords, WasBroken, WasFull, WasOver, WasSpent, are_too_many, is_unknown, run_test}
+use Rattle.sync_run.specs.Courses.{RunComesTo, HearsRun, RanToEnd, RunComes, TestsContacts, TestsWords, WasBroken, WasFull, WasOver, RunWasSpent, are_too_many, is_unknown, run_test}
 use Rattle.sync_run.specs.Dialling.{MakesLinks, unheard}
 use Rattle.sync_run.proofs.CourseDials.{unbegun}
 
@@ -53,7 +53,7 @@ reads_as : (clients : Meaning) (a b : Option (Two File)) (j : Journal) → b ≡
 reads_as clients a b j same reads = subst (λ (f : Option (Two File)). ReadsAs clients f j) (sym same) reads
 
 module _ (clients : Meaning) (limits : Limits) (words : List LinkWords) (j : Journal) (o0 o1 o2 o3 : Outside) (first : o1.links ≡ o0.links) (last : o3.links ≡ o2.links)
-    (files : o3.files ≡ o2.files) (reads : Becomes ReadsSame o0.files o1.files) where
+    (files : o3.files ≡ o2.files) (reads : RelatesTold ReadsSame o0.files o1.files) where
   -- the files of the begin, as a load leaves them
   loaded_two : (two : Two File) → o0.files ≡ Some two → (two1 : Two File) × (o1.files ≡ Some two1) × (read_files two1 ≡ read_files two)
   loaded_two two told = becomes_told ReadsSame o0.files o1.files two told reads
@@ -91,7 +91,7 @@ module _ (clients : Meaning) (limits : Limits) (words : List LinkWords) (j : Jou
     reads = reads_as clients o2.files o3.files _ files was.reads;
   }
 
-  told_as : Told o3 → Told o2
+  told_as : TellsAll o3 → TellsAll o2
   told_as told = record {
     two = told.two;
     files_are = sym files ∙ told.files_are;
@@ -112,7 +112,7 @@ module _ (clients : Meaning) (limits : Limits) (words : List LinkWords) (j : Jou
     sent = λ told i l there unfailed. ap (λ (ls : Links). sent_on ls i) last ∙ was.sent (told_as told) i l there unfailed;
   }
 
-  spent_as : WasSpent words o1 o2 → WasSpent words o0 o3
+  spent_as : RunWasSpent words o1 o2 → RunWasSpent words o0 o3
   spent_as was = record {
     last = λ two told. let at = loaded_two two told in subst HasLastGeneration at.2 (was.last at.0 at.1);
     still = λ two two' told told'. let at = loaded_two two told in was.still at.0 two' at.1 (sym files ∙ told') ∙ at.2;
@@ -156,7 +156,7 @@ tests_hold f words known few =
 -- ---- by what the files stood for
 
 run_comes_to : (clients : Meaning) (limits : Limits) (words : List LinkWords) (stood : Standing) (j : Journal) (o o' : Outside) → stood ≡ journal j → run_test (facts j) words ≡ None
-    → (r : Result Closing Outcome) → RunComes clients limits words j o o' r → ComesTo clients limits words stood o o' r
+    → (r : Result Closing Outcome) → RunComes clients limits words j o o' r → RunComesTo clients limits words stood o o' r
 run_comes_to clients limits words stood j o o' began known (Ok ends) comes = record { begin = j; began = began; tested = known; has = comes }
 run_comes_to clients limits words stood j o o' began known (Err (outcome.LinkFailed link)) comes = record { begin = j; began = began; tested = known; has = comes }
 run_comes_to clients limits words stood j o o' began known (Err outcome.Full) comes = record { begin = j; began = began; tested = known; has = comes }
@@ -173,7 +173,7 @@ run_comes_to clients limits words stood j o o' began known (Err _) comes = absur
 -- ---- a load
 
 -- files that read as before
-reads_still : (clients : Meaning) (two : Two File) (old new : Option (Two File)) (j : Journal) → old ≡ Some two → Becomes ReadsSame old new → stands clients (read_files two) ≡ journal j
+reads_still : (clients : Meaning) (two : Two File) (old new : Option (Two File)) (j : Journal) → old ≡ Some two → RelatesTold ReadsSame old new → stands clients (read_files two) ≡ journal j
     → ReadsAs clients new j
 reads_still clients two None new j is same began = cc
 reads_still clients two (Some old) None j is same began = absurd same
@@ -195,7 +195,7 @@ no_links_made o o' same = record {
     none_more (Some l) = ap (λ (k : List _). Some k) (sym (append-nil l))
 
 module _ (clients : Meaning) (limits : Limits) (words : List LinkWords) (two : Two File) (o o' : Outside) (none : o.links.dialled ≡ 0) (told : o.files ≡ Some two)
-    (same : o'.links ≡ o.links) (reads : Becomes ReadsSame o.files o'.files) where
+    (same : o'.links ≡ o.links) (reads : RelatesTold ReadsSame o.files o'.files) where
   abbrev stood : Standing
   stood = stands clients (read_files two)
 
@@ -204,7 +204,7 @@ module _ (clients : Meaning) (limits : Limits) (words : List LinkWords) (two : T
   broken_early begin began =
       unbegun clients limits words [] begin o o' none (no_links_made o o' same) (reads_still clients two o.files o'.files begin told reads began)
 
-  load_comes : (came : Outcome) → LoadedBy o o' (Err came) → IsLoaded stood (Err came) → ComesTo clients limits words stood o o' (Err came)
+  load_comes : (came : Outcome) → LoadedBy o o' (Err came) → IsLoaded stood (Err came) → RunComesTo clients limits words stood o o' (Err came)
   load_comes outcome.NoStore by loaded = loaded
   load_comes (outcome.Damaged place) by loaded = loaded
   load_comes outcome.DiskFault by loaded = broken_early
@@ -212,21 +212,21 @@ module _ (clients : Meaning) (limits : Limits) (words : List LinkWords) (two : T
   load_comes _ by loaded = absurd by
 
   pub unloaded_comes : (r : Result Closing Outcome) (came : Outcome) → IsErrAnd r (λ e. e ≡ came) → LoadedBy o o' (Err came) → IsLoaded stood (Err came)
-      → ComesTo clients limits words stood o o' r
+      → RunComesTo clients limits words stood o o' r
   unloaded_comes (Ok ends) came is by loaded = absurd is
   unloaded_comes (Err e) came is by loaded =
-      subst (λ (x : Outcome). ComesTo clients limits words stood o o' (Err x)) (sym is) (load_comes came by loaded)
+      subst (λ (x : Outcome). RunComesTo clients limits words stood o o' (Err x)) (sym is) (load_comes came by loaded)
 
-  pub unheld_comes : (r : Result Closing Outcome) → IsErrAnd r (λ e. e ≡ outcome.Memory) → ComesTo clients limits words stood o o' r
+  pub unheld_comes : (r : Result Closing Outcome) → IsErrAnd r (λ e. e ≡ outcome.Memory) → RunComesTo clients limits words stood o o' r
   unheld_comes (Ok ends) is = absurd is
-  unheld_comes (Err e) is = subst (λ (x : Outcome). ComesTo clients limits words stood o o' (Err x)) (sym is) broken_early
+  unheld_comes (Err e) is = subst (λ (x : Outcome). RunComesTo clients limits words stood o o' (Err x)) (sym is) broken_early
 
   module _ (s : StoreValue) (loaded : HasFacts stood s) where
     pub refused_comes : (r : Result Closing Outcome) (why : Refused) → IsErrAnd r (λ e. e ≡ outcome.Refused why) → TestsWords s.state.facts words (Err why)
-        → ComesTo clients limits words stood o o' r
+        → RunComesTo clients limits words stood o o' r
     refused_comes (Ok ends) why is tests = absurd is
     refused_comes (Err e) why is tests =
-        subst (λ (x : Outcome). ComesTo clients limits words stood o o' (Err x)) (sym is) (record {
+        subst (λ (x : Outcome). RunComesTo clients limits words stood o o' (Err x)) (sym is) (record {
           begin = loaded.of;
           began = loaded.stood;
           tested = ap (λ (f : Facts). run_test f words) loaded.are ∙ tests;
@@ -240,10 +240,10 @@ module _ (clients : Meaning) (limits : Limits) (words : List LinkWords) (two : T
         let fit = fits there.0 there.1 in
         let both : journal fit.0 ≡ journal loaded.of = sym fit.1.stands_for ∙ there.2 in
         let one : fit.0 ≡ loaded.of = cc in
-        (there.0, there.1, subst (λ (k : Journal). Fits clients s k there.0) one fit.1)
+        (there.0, there.1, subst (λ (k : Journal). FitsFiles clients s k there.0) one fit.1)
 
     pub links_come : (o2 o3 : Outside) (u : Unit {0}) (r : Result Closing Outcome) → FitsSome clients s o'.files → TestsWords s.state.facts words (Ok u) → o3.links ≡ o2.links
-        → o3.files ≡ o2.files → ((j : Journal) → FitsWith clients s o'.files j → RunComes clients limits words j o' o2 r) → ComesTo clients limits words stood o o3 r
+        → o3.files ≡ o2.files → ((j : Journal) → FitsWith clients s o'.files j → RunComes clients limits words j o' o2 r) → RunComesTo clients limits words stood o o3 r
     links_come o2 o3 u r fits tests last files comes =
         run_comes_to clients limits words stood loaded.of o o3 loaded.stood (ap (λ (f : Facts). run_test f words) loaded.are ∙ tests) r
         (comes_as clients limits words loaded.of o o' o2 o3 same last files reads r (comes loaded.of (fits_loaded fits)))
@@ -286,8 +286,8 @@ unheld_caused words o o' (Err e) is = subst (λ (x : Outcome). IsCaused words o 
 pub links_caused : (words : List LinkWords) (o o1 o2 o3 : Outside) → DiskRun o o1 → o3.links ≡ o2.links → o3.disk_faults ≡ o2.disk_faults
     → (r : Result Closing Outcome) → IsCaused words o1 o2 r → IsCaused words o o3 r
 links_caused words o o1 o2 o3 run last faults (Ok ends) caused = λ i stands at failed.
-    subst (λ (a : Links). Rose (a.faults i) (o3.links.faults i)) run.same_links
-    (subst (λ (b : Links). Rose (o1.links.faults i) (b.faults i)) (sym last) (caused i stands at failed))
+    subst (λ (a : Links). CountRose (a.faults i) (o3.links.faults i)) run.same_links
+    (subst (λ (b : Links). CountRose (o1.links.faults i) (b.faults i)) (sym last) (caused i stands at failed))
 links_caused words o o1 o2 o3 run last faults (Err outcome.DiskFault) caused =
     let rose : one_more o1.disk_faults ≤ o2.disk_faults = caused in
     let more : one_more o.disk_faults ≤ o3.disk_faults = omega (arith, rose, run.later, faults) in
@@ -295,8 +295,8 @@ links_caused words o o1 o2 o3 run last faults (Err outcome.DiskFault) caused =
 links_caused words o o1 o2 o3 run last faults (Err (outcome.LinkFailed link)) caused = record {
   within = caused.within;
   rose =
-      subst (λ (a : Links). Rose (a.faults link) (o3.links.faults link)) run.same_links
-      (subst (λ (b : Links). Rose (o1.links.faults link) (b.faults link)) (sym last) caused.rose);
+      subst (λ (a : Links). CountRose (a.faults link) (o3.links.faults link)) run.same_links
+      (subst (λ (b : Links). CountRose (o1.links.faults link) (b.faults link)) (sym last) caused.rose);
 }
 links_caused words o o1 o2 o3 run last faults (Err outcome.NoStore) caused = tt
 links_caused words o o1 o2 o3 run last faults (Err (outcome.Damaged place)) caused = tt

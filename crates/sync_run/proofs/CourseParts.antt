@@ -18,7 +18,7 @@ use Rattle.sync_course.specs.declared.ends.LinkEnd.{LinkEnd}
 use Rattle.sync_course.specs.declared.ends.LinkEnd.TheVariants as link_end
 use Rattle.sync_node.specs.declared.node.Turned.{Turned}
 use Rattle.sync_node.specs.declared.node.Turned.TheVariants as turned
-use Rattle.sync_node.specs.Courses.{AllRead, Begins, BreaksBeginning, BreaksTurn, FitsWith, MakesTurn, ReadsAs, RunBreaks, RunRuns, is_still, links_from, place_at}
+use Rattle.sync_node.specs.Courses.{AllRead, BeginsNextSession, BreaksBeginning, BreaksTurn, FitsWith, MakesTurn, ReadsAs, RunBreaks, RunRuns, is_still, links_from, place_at}
 use Rattle.sync_node.specs.Fulls.{AllSentOn, FullBeginning, FullTurn, RunFullSent}
 use Rattle.sync_node.specs.Joined.{Joined}
 use Rattle.sync_node.proofs.SentLaws.{joined_sent}
@@ -75,7 +75,7 @@ no_session_yet clients sessions links s o none = record {
 module _ (clients : Meaning) (sessions left : List Session) (session : Session) (links : List Link) (s0 s : StoreValue) (o0 o : Outside)
     (so : SessionsSoFar clients sessions (session ∷ left) links s0 s o0 o) where
   pub session_more : (links' : List Link) (s' : StoreValue) (o' : Outside) → is_some o'.files ≡ is_some o.files
-      → Begins clients session links links' s s' o o' → SessionsSoFar clients sessions left links' s0 s' o0 o'
+      → BeginsNextSession clients session links links' s s' o o' → SessionsSoFar clients sessions left links' s0 s' o0 o'
   session_more links' s' o' told begins = record {
     same_told = told ∙ so.same_told;
     has_read = begins.has_read silent refl so.has_read;
@@ -147,7 +147,7 @@ module _ (clients : Meaning) (sessions : List Session) (links : List Dialled) (f
       subst (λ (left : List Session). SessionsSoFar clients sessions left nodes s0 s o0 o) next so
 
   pub attached_more : (nodes' : List Link) (s' : StoreValue) (o' : Outside) → s'.state.facts.begun ≡ s.state.facts.begun + 1 → is_some o'.files ≡ is_some o.files
-      → Begins clients (session_of s.state.facts.begun d.plan d.nonce) nodes nodes' s s' o o'
+      → BeginsNextSession clients (session_of s.state.facts.begun d.plan d.nonce) nodes nodes' s s' o o'
       → SessionsSoFar clients sessions (sessions_from s'.state.facts.begun (drop (i + 1) links)) nodes' s0 s' o0 o'
   attached_more nodes' s' o' more told begins =
       let one : suc s.state.facts.begun ≡ s'.state.facts.begun = omega (arith, more) in

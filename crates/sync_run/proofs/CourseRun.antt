@@ -4,7 +4,7 @@ use Rattle.std.specs.Prelude.{IsErrAnd}
 use Rattle.outside.specs.declared.limits.TheConstants.{MAX_JOURNAL}
 use Rattle.outside.specs.Files.{Two, File}
 use Rattle.outside.specs.Outside.{DiskRun, Outside}
-use Rattle.outside.specs.Runs.{Told}
+use Rattle.outside.specs.Runs.{TellsAll}
 use Rattle.sync_rules.specs.declared.entries.Entry.{Entry}
 use Rattle.sync_rules.specs.declared.entries.Session.{Session}
 use Rattle.sync_rules.specs.Clients.{Meaning}
@@ -17,7 +17,7 @@ use Rattle.entry_codec.specs.declared.naming.Format.TheVariants as kind
 use Rattle.entry_codec.specs.Payloads.{journal_end, payload_len}
 use Rattle.entry_codec.specs.Standing.{room_of}
 use Rattle.sync_store.specs.Commits.{needed}
-use Rattle.sync_store.specs.Fitting.{Fits, FitsSome}
+use Rattle.sync_store.specs.Fitting.{FitsFiles, FitsSome}
 use Rattle.sync_store.specs.Moments.{IsBetween}
 use Rattle.sync_store.specs.Migrations.{IsSpent}
 use Rattle.sync_store.specs.Store.{StoreValue, format_meant, written_in}
@@ -100,11 +100,11 @@ module _ (clients : Meaning) (limits : Limits) (links : List Dialled) (j : Journ
   }
 
   -- the files that are told are those that the disk has
-  fits_told : (s : StoreValue) (o : Outside) (k : Journal) → FitsWith clients s o.files k → (told : Told o) → Fits clients s k told.two
+  fits_told : (s : StoreValue) (o : Outside) (k : Journal) → FitsWith clients s o.files k → (told : TellsAll o) → FitsFiles clients s k told.two
   fits_told s o k fit told =
       let both : Some fit.0 ≡ Some told.two = sym fit.1 ∙ told.files_are in
       let same : fit.0 ≡ told.two = cc in
-      subst (λ (t : Two File). Fits clients s k t) same fit.2
+      subst (λ (t : Two File). FitsFiles clients s k t) same fit.2
 
   -- from a place the next batch would have passed the limit
   filled_by : (Given : Type 0) (place : Place) (s1 s : StoreValue) (o1 o : Outside) → s.limit ≡ MAX_JOURNAL → written_in s ≡ kind.Short → Given → ComesTo place s1 o1
@@ -137,14 +137,14 @@ module _ (clients : Meaning) (limits : Limits) (links : List Dialled) (j : Journ
   may_migrate unspent two files last =
       let both : Some fit.0 ≡ Some two = sym fit.1 ∙ files in
       let same : fit.0 ≡ two = cc in
-      unspent (spent_here clients s0 j two (subst (λ (t : Two File). Fits clients s0 j t) same fit.2) last)
+      unspent (spent_here clients s0 j two (subst (λ (t : Two File). FitsFiles clients s0 j t) same fit.2) last)
 
   pub spent_by : (o : Outside) → IsSpent s0 → o ≡ o0 → RunSpent o0 o
   spent_by o spent same = record {
     last = λ two files.
         let both : Some fit.0 ≡ Some two = sym fit.1 ∙ files in
         let one : fit.0 ≡ two = cc in
-        last_here clients s0 j two (subst (λ (t : Two File). Fits clients s0 j t) one fit.2) spent;
+        last_here clients s0 j two (subst (λ (t : Two File). FitsFiles clients s0 j t) one fit.2) spent;
     same_files = ap (λ (x : Outside). x.files) same;
     same_links = ap (λ (x : Outside). x.links) same;
     same_clock = ap (λ (x : Outside). x.clock) same;

@@ -1,7 +1,7 @@
 -- What a run leaves on the links that ends before its first session, by the calls that it made.
 use Rattle.std.proofs.Common.{◌≡◌, ℕ, Bool, true, false, List, [], sym, ap, ◌∙◌, subst, refl, Option, None, Some, is_some, Result, Ok, Err}
 use Rattle.outside.specs.declared.failed.Failed.{Failed}
-use Rattle.outside.specs.Disk.{Becomes}
+use Rattle.outside.specs.Disk.{RelatesTold}
 use Rattle.outside.specs.Files.{Two, File}
 use Rattle.outside.specs.Links.{Links}
 use Rattle.outside.specs.Outside.{DiskRun, IsNow, MomentsAre, Outside}
@@ -70,7 +70,7 @@ leaves_as words o o1 o2 o3 (Err came) first last leaves = tt
 -- ---- files over which no session may begin
 
 -- a load alone
-pub unbegun_loaded : (two : Two File) (o o1 : Outside) → o.files ≡ Some two → DiskRun o o1 → MomentsAre o o1 (IsNow two o.links) → Becomes ReadsSame o.files o1.files
+pub unbegun_loaded : (two : Two File) (o o1 : Outside) → o.files ≡ Some two → DiskRun o o1 → MomentsAre o o1 (IsNow two o.links) → RelatesTold ReadsSame o.files o1.files
     → DoesNotBegin two o o1
 unbegun_loaded two o o1 told run moments reads = record {
   same_links = run.same_links;

@@ -4,9 +4,9 @@ use Rattle.std.proofs.Common.{◌≡◌, ◌⊎◌, ℕ, ◌+◌, ◌≤◌, fal
 use Rattle.std.specs.List.{slice_get}
 use Rattle.std.proofs.lemmas.Grind.{same_number_lists}
 use Rattle.outside.specs.Files.{Two, File, IsFileImage, IsImage, NothingPending, read_files, settled}
-use Rattle.outside.specs.Links.{HeardOn, Link, Links, sent_of}
+use Rattle.outside.specs.Links.{HeardOn, ToldLink, Links, sent_of}
 use Rattle.outside.specs.Outside.{DiskRun, Moment, Outside}
-use Rattle.outside.specs.Runs.{IsFront, Told, answers_at, heard_bytes}
+use Rattle.outside.specs.Runs.{IsFront, TellsAll, answers_at, heard_bytes}
 use Rattle.outside.proofs.RunLaws.{told_before}
 use Rattle.outside.proofs.CallSteps.{told_back}
 use Rattle.record_grammar.specs.Stream.{records}
@@ -19,14 +19,14 @@ use Rattle.sync_rules.specs.Facts.{Facts, after_all, after_batches, facts}
 use Rattle.sync_rules.specs.Legal.{AllSettling}
 use Rattle.entry_codec.specs.Standing.{journal, stands}
 use Rattle.sync_store.specs.Store.{StoreValue}
-use Rattle.sync_store.specs.Fitting.{Fits}
+use Rattle.sync_store.specs.Fitting.{FitsFiles}
 use Rattle.sync_store.specs.Moments.{IsBetween, JournalMoment}
 use Rattle.store_commands.specs.Commit.{ComesAnew}
 use Rattle.sync_node.specs.Joined.{Joined}
 use Rattle.sync_node.specs.Output.{AreOutput, Journal, heard_on, output, sent_on}
 use Rattle.sync_node.specs.Safe.{Begin, IsCovered, IsEarly, Safe, read_now}
-use Rattle.sync_node.specs.Suits.{AllSuit, IsOfRun, Suits, SuitsRun}
-use Rattle.sync_run.specs.Dialling.{Calms, Stills}
+use Rattle.sync_node.specs.Suits.{AllSuitSessions, IsOfRun, SuitsSessions, SuitsRun}
+use Rattle.sync_run.specs.Dialling.{DialsOnly, PassesTime}
 use Rattle.sync_run.specs.SafeRuns.{AreUnused}
 use Rattle.sync_run.proofs.SafeCalm.{calms_run}
 
@@ -58,10 +58,10 @@ of_run_heard first plans heard heard' same f (entry.Out s now what ∷ rest) p =
 of_run_heard first plans heard heard' same f _ p = absurd p
 
 all_suit_heard : (clients : Meaning) (first : ℕ) (plans : List Session) (heard heard' : ℕ → List ℕ) → ((link : ℕ) → heard' link ≡ heard link) → (f : Facts) (bs : Journal)
-    → AllSuit clients first plans heard f bs → AllSuit clients first plans heard' f bs
+    → AllSuitSessions clients first plans heard f bs → AllSuitSessions clients first plans heard' f bs
 all_suit_heard clients first plans heard heard' same f [] suits = tt
 all_suit_heard clients first plans heard heard' same f (b ∷ bs) suits =
-    let this : Suits clients first plans heard' f b = elim suits.0 [ inl settling ↦ inl settling | inr of_run ↦ inr (of_run_heard first plans heard heard' same f b of_run) ] in
+    let this : SuitsSessions clients first plans heard' f b = elim suits.0 [ inl settling ↦ inl settling | inr of_run ↦ inr (of_run_heard first plans heard heard' same f b of_run) ] in
     (this, all_suit_heard clients first plans heard heard' same (after_all f b) bs suits.1)
 
 suits_heard : (clients : Meaning) (begin : Journal) (first : ℕ) (plans : List Session) (heard heard' : ℕ → List ℕ) → ((link : ℕ) → heard' link ≡ heard link) → (j : Journal)
@@ -83,11 +83,11 @@ covered_heard clients b plans heard heard' same m kind = elim kind [
 
 -- ---- calls that send nothing
 
-pub safe_calms : (clients : Meaning) (b : Begin) (plans : List Session) (s : StoreValue) (o o' : Outside) → s.closed ≡ false → Calms o o' → Safe clients b plans s o → Safe clients b plans s o'
+pub safe_calms : (clients : Meaning) (b : Begin) (plans : List Session) (s : StoreValue) (o o' : Outside) → s.closed ≡ false → DialsOnly o o' → Safe clients b plans s o → Safe clients b plans s o'
 safe_calms clients b plans s o o' opened calms safe =
-    let back : Told o' → Told o = told_before o o' (calms_run o o' calms) in
+    let back : TellsAll o' → TellsAll o = told_before o o' (calms_run o o' calms) in
     let same : (link : ℕ) → heard_on o'.links link ≡ heard_on o.links link = λ link. ap heard_bytes (calms.answers link) in
-    let both : (told' : Told o') → told'.two ≡ (back told').two = λ told'. cc (told'.files_are, (back told').files_are, calms.same_files) in
+    let both : (told' : TellsAll o') → told'.two ≡ (back told').two = λ told'. cc (told'.files_are, (back told').files_are, calms.same_files) in
     record {
       later = λ told'. omega (arith, safe.later (back told'), calms.later);
       moments = λ told' m w.
@@ -114,14 +114,14 @@ safe_calms clients b plans s o o' opened calms safe =
           let now = safe.now opened (back told') in
           record {
             whole = now.whole;
-            fits = subst (λ (t : Two File). Fits clients s now.whole t) (sym (both told')) now.fits;
+            fits = subst (λ (t : Two File). FitsFiles clients s now.whole t) (sym (both told')) now.fits;
             suits = suits_heard clients b.journal b.first plans _ _ same now.whole now.suits;
             has_sent = λ link. subst (λ (l : List ℕ). IsFront l (output now.whole (b.first + link))) (sym (calms.sent link)) (now.has_sent link);
           };
     }
 
 -- where nothing but the time changed, over a closed store too
-abbrev pub told_stills : (o o' : Outside) → Stills o o' → Told o' → Told o
+abbrev pub told_stills : (o o' : Outside) → PassesTime o o' → TellsAll o' → TellsAll o
 told_stills o o' stills told' = record {
   two = told'.two;
   files_are = sym stills.same_files ∙ told'.files_are;
@@ -131,9 +131,9 @@ told_stills o o' stills told' = record {
   heard_are = ap (λ (l : Links). l.heard) (sym stills.same_links) ∙ told'.heard_are;
 }
 
-pub safe_stills : (clients : Meaning) (b : Begin) (plans : List Session) (s : StoreValue) (o o' : Outside) → Stills o o' → Safe clients b plans s o → Safe clients b plans s o'
+pub safe_stills : (clients : Meaning) (b : Begin) (plans : List Session) (s : StoreValue) (o o' : Outside) → PassesTime o o' → Safe clients b plans s o → Safe clients b plans s o'
 safe_stills clients b plans s o o' stills safe =
-    let back : Told o' → Told o = told_stills o o' stills in
+    let back : TellsAll o' → TellsAll o = told_stills o o' stills in
     let same = sym stills.same_links in
     record {
       later = λ told'. omega (arith, safe.later (back told'), stills.later);
@@ -159,9 +159,9 @@ no_link : {A : Type 0} (xs : List A) → length xs ≡ 0 → xs ≡ []
 no_link [] none = refl
 no_link (x ∷ xs) none = absurd (omega (arith, none))
 
-none_told : (told : Option (List Link)) → ((links : List Link) → told ≡ Some links → length links ≡ 0) → sent_of told ≡ []
+none_told : (told : Option (List ToldLink)) → ((links : List ToldLink) → told ≡ Some links → length links ≡ 0) → sent_of told ≡ []
 none_told None none = refl
-none_told (Some links) none = ap (λ (ls : List Link). sent_of (Some ls)) (no_link links (none links refl))
+none_told (Some links) none = ap (λ (ls : List ToldLink). sent_of (Some ls)) (no_link links (none links refl))
 
 none_answered : (heard : Option (List HeardOn)) (link : ℕ) → ((hs : List HeardOn) → heard ≡ Some hs → length hs ≡ 0) → answers_at heard link ≡ []
 none_answered None link none = refl
@@ -180,7 +180,7 @@ nothing_answered o none link = none_answered o.links.heard link (λ heard told. 
 pub unused_none : (o : Outside) → o.links.dialled ≡ 0 → AreUnused o
 unused_none o none link = record { nothing_sent = λ told. nothing_sent o none link; nothing_heard = λ told. nothing_answered o none link }
 
-pub unused_calms : (o o' : Outside) → Calms o o' → o.links.dialled ≡ 0 → AreUnused o'
+pub unused_calms : (o o' : Outside) → DialsOnly o o' → o.links.dialled ≡ 0 → AreUnused o'
 unused_calms o o' calms none link = record {
   nothing_sent = λ told. calms.sent link ∙ nothing_sent o none link;
   nothing_heard = λ told. calms.answers link ∙ nothing_answered o none link;
@@ -194,7 +194,7 @@ joined_none clients s o unused = record { each = λ link l there. cc; others = �
 
 -- Where each moment might have been before the run, and the files stand for the journal of the begin, nothing being sent.
 pub safe_new : (clients : Meaning) (b : Begin) (s : StoreValue) (o : Outside) → b.clock ≤ o.clock → ((m : Moment) → o.moments b.clock m → IsEarly b m)
-    → ((two : Two File) → o.files ≡ Some two → Fits clients s b.journal two) → ((link : ℕ) → sent_on o.links link ≡ []) → Safe clients b [] s o
+    → ((two : Two File) → o.files ≡ Some two → FitsFiles clients s b.journal two) → ((link : ℕ) → sent_on o.links link ≡ []) → Safe clients b [] s o
 safe_new clients b s o later early fits silent =
     let suits : SuitsRun clients b.journal b.first [] (heard_on o.links) b.journal = record { more = []; extends = sym (append-nil b.journal); suits = tt } in
     let has : AreOutput b.journal b.first (sent_on o.links) =
@@ -208,12 +208,12 @@ safe_new clients b s o later early fits silent =
 
 -- ---- settling
 
-all_suit_append : (clients : Meaning) (first : ℕ) (plans : List Session) (heard : ℕ → List ℕ) (f : Facts) (bs cs : Journal) → AllSuit clients first plans heard f bs
-    → AllSuit clients first plans heard (after_batches f bs) cs → AllSuit clients first plans heard f (bs ++ cs)
+all_suit_append : (clients : Meaning) (first : ℕ) (plans : List Session) (heard : ℕ → List ℕ) (f : Facts) (bs cs : Journal) → AllSuitSessions clients first plans heard f bs
+    → AllSuitSessions clients first plans heard (after_batches f bs) cs → AllSuitSessions clients first plans heard f (bs ++ cs)
 all_suit_append clients first plans heard f [] cs one two = two
 all_suit_append clients first plans heard f (b ∷ bs) cs one two = (one.0, all_suit_append clients first plans heard (after_all f b) bs cs one.1 two)
 
-settling_front : (clients : Meaning) (first : ℕ) (plans : List Session) (heard : ℕ → List ℕ) (f : Facts) (bs cs : Journal) → AllSettling clients f (bs ++ cs) → AllSuit clients first plans heard f bs
+settling_front : (clients : Meaning) (first : ℕ) (plans : List Session) (heard : ℕ → List ℕ) (f : Facts) (bs cs : Journal) → AllSettling clients f (bs ++ cs) → AllSuitSessions clients first plans heard f bs
 settling_front clients first plans heard f [] cs settling = tt
 settling_front clients first plans heard f (b ∷ bs) cs settling = (inl settling.0, settling_front clients first plans heard (after_all f b) bs cs settling.1)
 
@@ -226,7 +226,7 @@ suits_settled clients begin first plans heard j f more front rest whole run are 
       more = run.more ++ front;
       extends = is ∙ (ap (λ (l : Journal). l ++ front) run.extends ∙ append_assoc begin run.more front);
       suits = all_suit_append clients first plans heard (facts begin) run.more front run.suits
-          (subst (λ (g : Facts). AllSuit clients first plans heard g front) before
+          (subst (λ (g : Facts). AllSuitSessions clients first plans heard g front) before
           (settling_front clients first plans heard f front rest (subst (λ (l : Journal). AllSettling clients f l) parts settling)));
     }
 
@@ -247,9 +247,9 @@ told_file o o' run two' told = told_back o o' two' run.same_told told
 
 -- before anything was sent, migrating and settling leave a run safe, whatever they answer
 pub safe_settled : (clients : Meaning) (b : Begin) (plans : List Session) (s s' : StoreValue) (o o' : Outside) (more : Journal) → s.closed ≡ false → DiskRun o o' → ComesAnew clients s s' o o' more
-    → ((told : Told o) (link : ℕ) → sent_on o.links link ≡ []) → Safe clients b plans s o → Safe clients b plans s' o'
+    → ((told : TellsAll o) (link : ℕ) → sent_on o.links link ≡ []) → Safe clients b plans s o → Safe clients b plans s' o'
 safe_settled clients b plans s s' o o' more opened run comes silent safe =
-    let back : Told o' → Told o = λ told'. record {
+    let back : TellsAll o' → TellsAll o = λ told'. record {
       two = (told_file o o' run told'.two told'.files_are).0;
       files_are = (told_file o o' run told'.two told'.files_are).1;
       links = told'.links;
@@ -258,7 +258,7 @@ safe_settled clients b plans s s' o o' more opened run comes silent safe =
       heard_are = ap (λ (l : Links). l.heard) (sym run.same_links) ∙ told'.heard_are;
     } in
     let same = sym run.same_links in
-    let covers : (told : Told o) (m : Moment) → JournalMoment clients (IsBetween (safe.now opened told).whole more) (sent_of o.links.told) m → IsCovered clients b plans (heard_on o'.links) m =
+    let covers : (told : TellsAll o) (m : Moment) → JournalMoment clients (IsBetween (safe.now opened told).whole more) (sent_of o.links.told) m → IsCovered clients b plans (heard_on o'.links) m =
     λ told m jm.
     let now = safe.now opened told in
     subst (λ (l : Links). IsCovered clients b plans (heard_on l) m) same

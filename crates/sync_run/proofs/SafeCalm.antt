@@ -7,9 +7,9 @@ use Rattle.std.specs.List.{slice_get}
 use Rattle.std.specs.Option.{option_map}
 use Rattle.std.proofs.lemmas.List.{length-append, map-append, take-append-drop}
 use Rattle.outside.specs.declared.failed.Failed.{Failed}
-use Rattle.outside.specs.Faults.{Rose}
-use Rattle.outside.specs.Host.{AsksNonce, Dials}
-use Rattle.outside.specs.Links.{HeardOn, Link, Links, nothing_heard}
+use Rattle.outside.specs.Faults.{CountRose}
+use Rattle.outside.specs.Host.{AsksNonce, DialsLink}
+use Rattle.outside.specs.Links.{HeardOn, ToldLink, Links, nothing_heard}
 use Rattle.outside.specs.Outside.{IsNow, Outside, QuietCall}
 use Rattle.outside.proofs.CallCounts.{no_call_none, no_call_then, no_call_goes_on}
 use Rattle.outside.specs.Runs.{HostRun, IsFront, LinksGrow, answers_at}
@@ -18,11 +18,11 @@ use Rattle.sync_node.specs.Output.{sent_on}
 use Rattle.sync_words.specs.declared.link_words.LinkWords.{LinkWords}
 use Rattle.sync_run.specs.declared.dialling.Dialled.{Dialled}
 use Rattle.sync_run.specs.Dialling.{unheard}
-use Rattle.sync_run.specs.Dialling.{AreDialled, Calms, DialsAll, IsDialled, MakesLinks, MakesOne, Stills, fresh_links}
+use Rattle.sync_run.specs.Dialling.{AreDialled, DialsOnly, DialsAll, IsDialled, MakesLinks, MakesOne, PassesTime, fresh_links}
 
 -- ---- calls that send nothing
 
-pub calms_none : (o : Outside) → Calms o o
+pub calms_none : (o : Outside) → DialsOnly o o
 calms_none o = record {
   same_files = refl;
   same_faults = refl;
@@ -34,7 +34,7 @@ calms_none o = record {
   moments = λ two told t m before w. inl w;
 }
 
-pub calms_then : (o0 o1 o2 : Outside) → Calms o0 o1 → Calms o1 o2 → Calms o0 o2
+pub calms_then : (o0 o1 o2 : Outside) → DialsOnly o0 o1 → DialsOnly o1 o2 → DialsOnly o0 o2
 calms_then o0 o1 o2 first second = record {
   same_files = second.same_files ∙ first.same_files;
   same_faults = second.same_faults ∙ first.same_faults;
@@ -51,7 +51,7 @@ calms_then o0 o1 o2 first second = record {
 }
 
 calms_call : (o o' : Outside) → QuietCall o o' → LinksGrow o.links o'.links → ((link : ℕ) → sent_on o'.links link ≡ sent_on o.links link)
-    → ((link : ℕ) → answers_at o'.links.heard link ≡ answers_at o.links.heard link) → Calms o o'
+    → ((link : ℕ) → answers_at o'.links.heard link ≡ answers_at o.links.heard link) → DialsOnly o o'
 calms_call o o' call grows sent answers = record {
   same_files = call.same_files;
   same_faults = call.same_faults;
@@ -68,13 +68,13 @@ calms_call o o' call grows sent answers = record {
   ];
 }
 
-pub calms_dial : (o o' : Outside) (spec : List ℕ) (result : Result ℕ Failed) → QuietCall o o' → Dials spec result o.links o'.links → Calms o o'
+pub calms_dial : (o o' : Outside) (spec : List ℕ) (result : Result ℕ Failed) → QuietCall o o' → DialsLink spec result o.links o'.links → DialsOnly o o'
 calms_dial o o' spec result call dials =
     calms_call o o' call (grow_dial spec result o.links o'.links dials)
     (λ link. (others_dial (suc link) spec result o.links o'.links dials).sent link (λ same. absurd (omega (arith, same))))
     (λ link. (others_dial (suc link) spec result o.links o'.links dials).answers link (λ same. absurd (omega (arith, same))))
 
-pub calms_nonce : (o o' : Outside) (of : ℕ) (result : Result (List ℕ) Failed) → QuietCall o o' → AsksNonce of result o.links o'.links → Calms o o'
+pub calms_nonce : (o o' : Outside) (of : ℕ) (result : Result (List ℕ) Failed) → QuietCall o o' → AsksNonce of result o.links o'.links → DialsOnly o o'
 calms_nonce o o' of result call asks =
     calms_call o o' call (grow_nonce of result o.links o'.links asks)
     (λ link. (others_nonce (suc link) of result o.links o'.links asks).sent link (λ same. absurd (omega (arith, same))))
@@ -82,10 +82,10 @@ calms_nonce o o' of result call asks =
 
 -- ---- calls that leave all but the time
 
-pub stills_none : (o : Outside) → Stills o o
+pub stills_none : (o : Outside) → PassesTime o o
 stills_none o = record { same_files = refl; same_faults = refl; no_call = no_call_none o; same_links = refl; later = omega arith; moments = λ two told t m before w. w }
 
-pub stills_then : (o0 o1 o2 : Outside) → Stills o0 o1 → Stills o1 o2 → Stills o0 o2
+pub stills_then : (o0 o1 o2 : Outside) → PassesTime o0 o1 → PassesTime o1 o2 → PassesTime o0 o2
 stills_then o0 o1 o2 first second = record {
   same_files = second.same_files ∙ first.same_files;
   same_faults = second.same_faults ∙ first.same_faults;
@@ -95,7 +95,7 @@ stills_then o0 o1 o2 first second = record {
   moments = λ two told t m before w. first.moments two told t m before (second.moments two (first.same_files ∙ told) t m (omega (arith, before, first.later)) w);
 }
 
-pub stills_call : (o o' : Outside) → QuietCall o o' → o'.links ≡ o.links → Stills o o'
+pub stills_call : (o o' : Outside) → QuietCall o o' → o'.links ≡ o.links → PassesTime o o'
 stills_call o o' call same = record {
   same_files = call.same_files;
   same_faults = call.same_faults;
@@ -110,7 +110,7 @@ stills_call o o' call same = record {
   ];
 }
 
-pub calms_stills : (o o' : Outside) → Stills o o' → Calms o o'
+pub calms_stills : (o o' : Outside) → PassesTime o o' → DialsOnly o o'
 calms_stills o o' stills = record {
   same_files = stills.same_files;
   same_faults = stills.same_faults;
@@ -123,7 +123,7 @@ calms_stills o o' stills = record {
 }
 
 -- a run of such calls is one of a host
-pub calms_run : (o o' : Outside) → Calms o o' → HostRun o o'
+pub calms_run : (o o' : Outside) → DialsOnly o o' → HostRun o o'
 calms_run o o' calms = record {
   same_files = ap is_some calms.same_files;
   later = omega (arith, calms.same_faults);
@@ -165,24 +165,24 @@ pub makes_then : (ws vs : List LinkWords) (a b c : Links) → MakesLinks ws a b 
 makes_then ws vs a b c first second = record {
   grows = grow_then a b c first.grows second.grows;
   dialled = omega (arith, first.dialled, second.dialled, length-append ws vs);
-  told = second.told ∙ ap (option_map (λ (ls : List Link). ls ++ fresh_links vs)) first.told
+  told = second.told ∙ ap (option_map (λ (ls : List ToldLink). ls ++ fresh_links vs)) first.told
       ∙ both_more a.told (fresh_links ws) (fresh_links vs) (fresh_links (ws ++ vs)) (map-append (λ (w : LinkWords). record { spec = w.spec; sent = [] }) ws vs);
   heard = second.heard ∙ ap (option_map (λ (hs : List HeardOn). hs ++ unheard (length vs))) first.heard
       ∙ both_more a.heard (unheard (length ws)) (unheard (length vs)) (unheard (length (ws ++ vs))) (unheard_words ws vs);
   same_readings = second.same_readings ∙ first.same_readings;
 }
 
-pub makes_dialled : (w : LinkWords) (spec : List ℕ) (link : ℕ) (old new : Links) → spec ≡ w.spec → Dials spec (Ok link) old new → MakesLinks (w ∷ []) old new
+pub makes_dialled : (w : LinkWords) (spec : List ℕ) (link : ℕ) (old new : Links) → spec ≡ w.spec → DialsLink spec (Ok link) old new → MakesLinks (w ∷ []) old new
 makes_dialled w spec link old new is dials = record {
   grows = grow_dial spec (Ok link) old new dials;
   dialled = omega (arith, dials.made.1);
-  told = dials.made.2 ∙ ap (λ (s : List ℕ). option_map (λ (ls : List Link). ls ++ record { spec = s; sent = [] } ∷ []) old.told) is;
+  told = dials.made.2 ∙ ap (λ (s : List ℕ). option_map (λ (ls : List ToldLink). ls ++ record { spec = s; sent = [] } ∷ []) old.told) is;
   heard = dials.made.3;
   same_readings = dials.same_readings;
 }
 
 -- a call that failed made none
-pub makes_failed : (spec : List ℕ) (e : Failed) (old new : Links) → Dials spec (Err e) old new → MakesLinks [] old new
+pub makes_failed : (spec : List ℕ) (e : Failed) (old new : Links) → DialsLink spec (Err e) old new → MakesLinks [] old new
 makes_failed spec e old new dials = makes_none old new (grow_dial spec (Err e) old new dials) dials.made.0 dials.made.1 dials.made.2 dials.same_readings
 
 pub makes_asked : (ws : List LinkWords) (link : ℕ) (result : Result (List ℕ) Failed) (a b c : Links) → MakesLinks ws a b → AsksNonce link result b c → MakesLinks ws a c
@@ -228,14 +228,14 @@ dialled_push (v ∷ words) (x ∷ links) i w d long are there is =
 
 -- ---- a call that failed
 
-rose_before : (a b c : ℕ) → a ≤ b → Rose b c → Rose a c
+rose_before : (a b c : ℕ) → a ≤ b → CountRose b c → CountRose a c
 rose_before a b c le rose = omega (arith, le, rose)
 
 -- a nonce that could not be drawn for the link that was dialled
-pub rose_then : (spec : List ℕ) (link : ℕ) (e : Failed) (a b c d : Links) → Dials spec (Ok link) a b → AsksNonce link (Err e) b c → d ≡ c → Rose (a.faults a.dialled) (d.faults a.dialled)
+pub rose_then : (spec : List ℕ) (link : ℕ) (e : Failed) (a b c d : Links) → DialsLink spec (Ok link) a b → AsksNonce link (Err e) b c → d ≡ c → CountRose (a.faults a.dialled) (d.faults a.dialled)
 rose_then spec link e a b c d dials asks same =
-    let rose : Rose (b.faults a.dialled) (c.faults a.dialled) = subst (λ (k : ℕ). Rose (b.faults k) (c.faults k)) dials.made.0 asks.faults.failed in
-    subst (λ (l : Links). Rose (a.faults a.dialled) (l.faults a.dialled)) (sym same) (rose_before _ _ _ ((grow_dial spec (Ok link) a b dials).faults a.dialled) rose)
+    let rose : CountRose (b.faults a.dialled) (c.faults a.dialled) = subst (λ (k : ℕ). CountRose (b.faults k) (c.faults k)) dials.made.0 asks.faults.failed in
+    subst (λ (l : Links). CountRose (a.faults a.dialled) (l.faults a.dialled)) (sym same) (rose_before _ _ _ ((grow_dial spec (Ok link) a b dials).faults a.dialled) rose)
 
 -- the call on the link of this number failed
 pub dial_stops : (words : List LinkWords) (links : List Dialled) (i n : ℕ) (w : LinkWords) (e : Failed) (o0 o1 o2 : Outside) → o0.links.dialled ≡ 0 → length links ≡ i → n ≡ i + 1 → slice_get words i ≡ Some w
@@ -243,7 +243,7 @@ pub dial_stops : (words : List LinkWords) (links : List Dialled) (i n : ℕ) (w 
     → DialsAll words links (Err e) o0 o2
 dial_stops words links i n w e o0 o1 o2 none long is there within are makes len len' one =
     let at : o1.links.dialled ≡ length links = omega (arith, makes.dialled, none, len, long) in
-    let rose1 : Rose (o1.links.faults (length links)) (o2.links.faults (length links)) = subst (λ (k : ℕ). Rose (o1.links.faults k) (o2.links.faults k)) at one.0 in
+    let rose1 : CountRose (o1.links.faults (length links)) (o2.links.faults (length links)) = subst (λ (k : ℕ). CountRose (o1.links.faults k) (o2.links.faults k)) at one.0 in
     let rose = rose_before _ _ _ (makes.grows.faults (length links)) rose1 in
     let few : length links < length words = omega (arith, within, long) in
     elim one.1 [

@@ -1,6 +1,6 @@
 -- What a run of sessions leaves wherever it ended: the headline.
 use Rattle.std.proofs.Common.{◌≡◌, ℕ, ◌+◌, List, [], ◌++◌, refl, sym, ap, ◌∙◌, subst, inl, inr, Option, Some, slice_index_or, append-nil}
-use Rattle.outside.specs.Disk.{Becomes}
+use Rattle.outside.specs.Disk.{RelatesTold}
 use Rattle.outside.specs.Files.{Two, File, read_files}
 use Rattle.outside.specs.Links.{Links, sent_of}
 use Rattle.outside.specs.Outside.{DiskRun, IsNow, Moment, MomentsAre, Outside}
@@ -11,7 +11,7 @@ use Rattle.sync_rules.specs.Clients.{Meaning}
 use Rattle.sync_rules.specs.Facts.{facts}
 use Rattle.entry_codec.specs.Standing.{journal, stands}
 use Rattle.sync_store.specs.Store.{StoreValue}
-use Rattle.sync_store.specs.Fitting.{Fits}
+use Rattle.sync_store.specs.Fitting.{FitsFiles}
 use Rattle.sync_store.specs.Ready.{IsReady}
 use Rattle.sync_node.specs.Begun.{begin_at}
 use Rattle.sync_node.specs.Output.{AreOutput, Journal, heard_on, output, sent_on}
@@ -23,7 +23,7 @@ use Rattle.sync_run.specs.Plans.{ArePlanned}
 use Rattle.sync_run.proofs.SafeBegin.{none_sent, nothing_sent, safe_new}
 
 -- files that read as before
-pub reads_told : (old new : Option (Two File)) (two two' : Two File) → Becomes ReadsSame old new → old ≡ Some two → new ≡ Some two' → read_files two' ≡ read_files two
+pub reads_told : (old new : Option (Two File)) (two two' : Two File) → RelatesTold ReadsSame old new → old ≡ Some two → new ≡ Some two' → read_files two' ≡ read_files two
 reads_told old new two two' becomes told told' =
     let at = becomes_told ReadsSame old new two told becomes in
     let same : two' ≡ at.0 = let it = sym told' ∙ at.1 in cc in
@@ -36,14 +36,14 @@ one_journal : (j k : Journal) → journal j ≡ journal k → j ≡ k
 one_journal j k same = cc
 
 pub safe_loaded : (clients : Meaning) (s : StoreValue) (o0 o1 : Outside) (two : Two File) (j : Journal) → o0.links.dialled ≡ 0 → DiskRun o0 o1 → MomentsAre o0 o1 (IsNow two o0.links)
-    → o0.files ≡ Some two → Becomes ReadsSame o0.files o1.files → stands clients (read_files two) ≡ journal j → IsReady clients s o1.files → Safe clients (begin_at two j o0) [] s o1
+    → o0.files ≡ Some two → RelatesTold ReadsSame o0.files o1.files → stands clients (read_files two) ≡ journal j → IsReady clients s o1.files → Safe clients (begin_at two j o0) [] s o1
 safe_loaded clients s o0 o1 two j none run moments told reads stood ready =
     safe_new clients (begin_at two j o0) s o1 moments.later
     (λ m w. let now = moments.each m w in record { image = now.image; nothing_sent = now.sent })
     (λ two' told'.
     let fit = ready.fits two' told' in
     let same : fit.0 ≡ j = one_journal fit.0 j (sym fit.1.stands_for ∙ ap (stands clients) (reads_told o0.files o1.files two two' reads told told') ∙ stood) in
-    subst (λ (k : Journal). Fits clients s k two') same fit.1)
+    subst (λ (k : Journal). FitsFiles clients s k two') same fit.1)
     (λ link. ap (λ (l : Links). sent_on l link) run.same_links ∙ nothing_sent o0 none link)
 
 -- ---- the headline
@@ -54,7 +54,7 @@ silent_by o m link none sent = ap (λ (s : List (List ℕ)). slice_index_or s li
 
 -- where no session began: each moment might have been before the command, and the files read as before
 pub headline_none : (clients : Meaning) (words : List LinkWords) (o o' : Outside) → o.links.dialled ≡ 0 → DiskRun o o' → ((two : Two File) → o.files ≡ Some two → MomentsAre o o' (IsNow two o.links))
-    → Becomes ReadsSame o.files o'.files → Headline clients words o o'
+    → RelatesTold ReadsSame o.files o'.files → Headline clients words o o'
 headline_none clients words o o' none run moments reads two told told' =
     let each = (moments two told).each in
     record {

@@ -4,11 +4,11 @@ use Rattle.std.specs.Prelude.{IfOk}
 use Rattle.std.specs.List.{All, slice_get}
 use Rattle.std.specs.Option.{option_map}
 use Rattle.std.proofs.lemmas.List.{map-append}
-use Rattle.outside.specs.Disk.{Becomes}
+use Rattle.outside.specs.Disk.{RelatesTold}
 use Rattle.outside.specs.Files.{Two, File, read_files, settled}
-use Rattle.outside.specs.Links.{Link, Links}
+use Rattle.outside.specs.Links.{ToldLink, Links}
 use Rattle.outside.specs.Outside.{DiskRun, IsNow, MomentsAre, Outside}
-use Rattle.outside.specs.Runs.{IsFront, Told, answers_at}
+use Rattle.outside.specs.Runs.{IsFront, TellsAll, answers_at}
 use Rattle.outside.proofs.RunLaws.{grow_same}
 use Rattle.frame_journal.specs.Gates.{ReadsSame, SyncsBoth}
 use Rattle.sync_rules.specs.declared.entries.Mode.{Mode}
@@ -21,16 +21,16 @@ use Rattle.sync_rules.specs.Legal.{suits_nonce}
 use Rattle.sync_rules.proofs.StepKinds.{all_settling_only}
 use Rattle.entry_codec.specs.Standing.{journal, stands}
 use Rattle.sync_store.specs.Store.{StoreValue}
-use Rattle.sync_store.specs.Fitting.{Fits}
+use Rattle.sync_store.specs.Fitting.{FitsFiles}
 use Rattle.sync_store.specs.Ready.{IsReady}
 use Rattle.store_commands.specs.Commit.{SettlesAnew}
 use Rattle.store_commands.specs.Commit as commits
-use Rattle.store_commands.specs.Load.{HasFacts, LeavesSettled}
+use Rattle.store_commands.specs.Load.{HasFacts, LoadLeavesSettled}
 use Rattle.sync_node.specs.Begun.{begin_at}
 use Rattle.sync_node.specs.declared.link.Link as node_link
 use Rattle.sync_course.specs.declared.ends.LinkEnd as link_ends
 use Rattle.sync_course.specs.declared.ends.LinkEnd.TheVariants as link_end
-use Rattle.sync_node.specs.Going.{Goes, specs_of}
+use Rattle.sync_node.specs.Going.{LetsNothingFall, specs_of}
 use Rattle.sync_node.specs.Joined.{Joined}
 use Rattle.sync_node.specs.Node.{IsNode, MayRun, NodeValue, new_node}
 use Rattle.sync_node.specs.Plans.{session_of}
@@ -43,8 +43,8 @@ use Rattle.sync_words.specs.Links.{IsLink, wants_nonce}
 use Rattle.sync_run.specs.declared.dialling.Dialled.{Dialled}
 use Rattle.sync_run.specs.Causes.{FailsAlone}
 use Rattle.sync_run.specs.Courses.{HaveSpecs}
-use Rattle.sync_run.specs.Dialling.{AreDialled, Calms, IsDialled, MakesLinks, Stills, fresh_links}
-use Rattle.sync_run.specs.Headline.{AtRest, Headline, Rests, SentWhole}
+use Rattle.sync_run.specs.Dialling.{AreDialled, DialsOnly, IsDialled, MakesLinks, PassesTime, fresh_links}
+use Rattle.sync_run.specs.Headline.{AtRest, Headline, LeavesFilesAtRest, SentWhole}
 use Rattle.sync_run.specs.Closed.{closed_by}
 use Rattle.sync_run.specs.Parts.{sessions_from}
 use Rattle.sync_run.specs.Plans.{ArePlanned, IsPlanned}
@@ -59,12 +59,12 @@ rests_ready clients s files ready two told left image =
     let fit = (ready.fits two told).1 in
     image_read two left fit.first_settled fit.second_settled image
 
-pub rests_at : (files : Option (Two File)) (r : Result Closing Outcome) → AtRest files → Rests files r
+pub rests_at : (files : Option (Two File)) (r : Result Closing Outcome) → AtRest files → LeavesFilesAtRest files r
 rests_at files (Err outcome.DiskFault) rest = tt
 rests_at files _ rest = rest
 
 -- files in which nothing is pending
-pub rests_settled : (old new : Option (Two File)) → Becomes SyncsBoth old new → AtRest new
+pub rests_settled : (old new : Option (Two File)) → RelatesTold SyncsBoth old new → AtRest new
 rests_settled None None becomes two told left image = cc
 rests_settled None (Some new) becomes two told left image = absurd becomes
 rests_settled (Some old) None becomes two told left image = absurd becomes
@@ -80,7 +80,7 @@ pub settles_only : (clients : Meaning) (s s' : StoreValue) (o o' : Outside) (r :
 settles_only clients s s' o o' r settles =
     subst (λ (f : Facts). OnlySettles s.state.facts f) (sym settles.comes.facts) (all_settling_only clients s.state.facts settles.more settles.comes.settling)
 
-pub goes_settled : (clients : Meaning) (s s' : StoreValue) (o o' : Outside) (r : Result (Unit {0}) Outcome) → IsReady clients s o.files → DiskRun o o' → SettlesAnew clients s s' o o' r → Goes o o'
+pub goes_settled : (clients : Meaning) (s s' : StoreValue) (o o' : Outside) (r : Result (Unit {0}) Outcome) → IsReady clients s o.files → DiskRun o o' → SettlesAnew clients s s' o o' r → LetsNothingFall o o'
 goes_settled clients s s' o o' r ready run settles = record {
   same_files = run.same_told;
   later = run.later;
@@ -92,7 +92,7 @@ goes_settled clients s s' o o' r ready run settles = record {
 }
 
 -- calls on the disk alone leave links unused
-told_disk : (o o' : Outside) → DiskRun o o' → Told o' → Told o
+told_disk : (o o' : Outside) → DiskRun o o' → TellsAll o' → TellsAll o
 told_disk o o' run told' =
     let files = told_file o o' run told'.two told'.files_are in
     record {
@@ -157,7 +157,7 @@ sends_whole clients first n o over ends opened node may joined begins are told w
     let fit = (may opened).ready.fits told.two told.files_are in
     let same : fit.0 ≡ whole = let is = sym fit.1.stands_for ∙ stood in cc in
     let number : l.session.number ≡ first + i = ((node.attached opened).each i l at.1).numbered ∙ ap (λ (k : ℕ). k + i) begins in
-    (joined.each i l at.1).sent stands_open told whole (subst (λ (j : Journal). Fits clients n.store j told.two) same fit.1) ∙ ap (output whole) number
+    (joined.each i l at.1).sent stands_open told whole (subst (λ (j : Journal). FitsFiles clients n.store j told.two) same fit.1) ∙ ap (output whole) number
 
 -- ---- the words
 
@@ -196,7 +196,7 @@ words_plan number (w ∷ words) (d ∷ links) (s ∷ plans) rest are parts =
     )
 
 -- the links were dialled, and sessions ran on them
-pub words_safe : (clients : Meaning) (words : List LinkWords) (links : List Dialled) (s : StoreValue) (o o1 o2 : Outside) → IsReady clients s o.files → AreDialled words links → Calms o o1 → RunsSafe clients links s o1 o2
+pub words_safe : (clients : Meaning) (words : List LinkWords) (links : List Dialled) (s : StoreValue) (o o1 o2 : Outside) → IsReady clients s o.files → AreDialled words links → DialsOnly o o1 → RunsSafe clients links s o1 o2
     → WordsSafe clients words s o o2
 words_safe clients words links s o o1 o2 ready are calms runs = record {
   store = runs.store;
@@ -206,32 +206,32 @@ words_safe clients words links s o o1 o2 ready are calms runs = record {
 }
 
 -- no session ran on them
-pub words_unrun : (clients : Meaning) (words : List LinkWords) (s : StoreValue) (o o1 : Outside) → IsReady clients s o.files → Calms o o1 → WordsSafe clients words s o o1
+pub words_unrun : (clients : Meaning) (words : List LinkWords) (s : StoreValue) (o o1 : Outside) → IsReady clients s o.files → DialsOnly o o1 → WordsSafe clients words s o o1
 words_unrun clients words s o o1 ready calms = record { store = s; plans = []; planned = tt; safe = λ b begins safe. safe_calms clients b [] s o o1 ready.still_open calms safe }
 
-pub ready_calms : (clients : Meaning) (s : StoreValue) (o o1 : Outside) → IsReady clients s o.files → Calms o o1 → IsReady clients s o1.files
+pub ready_calms : (clients : Meaning) (s : StoreValue) (o o1 : Outside) → IsReady clients s o.files → DialsOnly o o1 → IsReady clients s o1.files
 ready_calms clients s o o1 ready calms = subst (λ (f : Option (Two File)). IsReady clients s f) (sym calms.same_files) ready
 
 -- ---- specs
 
-abbrev specs : List Link → List (List ℕ)
-specs links = map (λ (l : Link). l.spec) links
+abbrev specs : List ToldLink → List (List ℕ)
+specs links = map (λ (l : ToldLink). l.spec) links
 
 specs_fresh : (words : List LinkWords) → specs (fresh_links words) ≡ map (λ (w : LinkWords). w.spec) words
 specs_fresh [] = refl
 specs_fresh (w ∷ words) = ap (λ (l : List (List ℕ)). w.spec ∷ l) (specs_fresh words)
 
-no_more : (xs : List Link) → length xs ≡ 0 → xs ≡ []
+no_more : (xs : List ToldLink) → length xs ≡ 0 → xs ≡ []
 no_more [] none = refl
 no_more (x ∷ xs) none = absurd (omega (arith, none))
 
-made_specs : (made : List LinkWords) (old new : Option (List Link)) → ((links : List Link) → old ≡ Some links → length links ≡ 0) → new ≡ option_map (λ (ls : List Link). ls ++ fresh_links made) old
-    → (links : List Link) → new ≡ Some links → links ≡ fresh_links made
+made_specs : (made : List LinkWords) (old new : Option (List ToldLink)) → ((links : List ToldLink) → old ≡ Some links → length links ≡ 0) → new ≡ option_map (λ (ls : List ToldLink). ls ++ fresh_links made) old
+    → (links : List ToldLink) → new ≡ Some links → links ≡ fresh_links made
 made_specs made None new none is links told = cc
 made_specs made (Some ls) new none is links told =
     let empty : ls ≡ [] = no_more ls (none ls refl) in
     let same : links ≡ ls ++ fresh_links made = let both = sym told ∙ is in cc in
-    same ∙ ap (λ (l : List Link). l ++ fresh_links made) empty
+    same ∙ ap (λ (l : List ToldLink). l ++ fresh_links made) empty
 
 -- links that were made have the first specs of the words
 pub specs_made : (words made : List LinkWords) (o o1 : Outside) → o.links.dialled ≡ 0 → IsFront made words → MakesLinks made o.links o1.links → HaveSpecs words o1
@@ -243,7 +243,7 @@ specs_made words made o o1 none front makes links told =
       whole = ap (map Spec) front.whole ∙ map-append Spec made front.rest ∙ ap (λ (l : List (List ℕ)). l ++ map Spec front.rest) (sym (ap specs are ∙ specs_fresh made));
     }
 
-specs_before : (old new : Option (List Link)) (links : List Link) → specs_of new ≡ specs_of old → new ≡ Some links → (ls : List Link) × (old ≡ Some ls) × (specs links ≡ specs ls)
+specs_before : (old new : Option (List ToldLink)) (links : List ToldLink) → specs_of new ≡ specs_of old → new ≡ Some links → (ls : List ToldLink) × (old ≡ Some ls) × (specs links ≡ specs ls)
 specs_before None None links same told = cc
 specs_before None (Some new) links same told = cc
 specs_before (Some old) None links same told = cc
@@ -262,25 +262,25 @@ specs_kept words o o' same have links told =
 pub specs_none : (words : List LinkWords) (o : Outside) → o.links.dialled ≡ 0 → HaveSpecs words o
 specs_none words o none links told =
     let empty : links ≡ [] = no_more links (o.all_told links told ∙ none) in
-    record { rest = map (λ (w : LinkWords). w.spec) words; whole = ap (λ (ls : List Link). specs ls ++ map (λ (w : LinkWords). w.spec) words) (sym empty) }
+    record { rest = map (λ (w : LinkWords). w.spec) words; whole = ap (λ (ls : List ToldLink). specs ls ++ map (λ (w : LinkWords). w.spec) words) (sym empty) }
 
 -- ---- links were hung up
 
-pub at_rest_stills : (o o' : Outside) (r : Result Closing Outcome) → Stills o o' → Rests o.files r → Rests o'.files r
-at_rest_stills o o' r stills rests = subst (λ (f : Option (Two File)). Rests f r) (sym stills.same_files) rests
+pub at_rest_stills : (o o' : Outside) (r : Result Closing Outcome) → PassesTime o o' → LeavesFilesAtRest o.files r → LeavesFilesAtRest o'.files r
+at_rest_stills o o' r stills rests = subst (λ (f : Option (Two File)). LeavesFilesAtRest f r) (sym stills.same_files) rests
 
-pub sent_stills : (clients : Meaning) (first : ℕ) (o o' : Outside) (ends : Closing) → Stills o o' → SendsWhole clients first o ends → SendsWhole clients first o' ends
+pub sent_stills : (clients : Meaning) (first : ℕ) (o o' : Outside) (ends : Closing) → PassesTime o o' → SendsWhole clients first o ends → SendsWhole clients first o' ends
 sent_stills clients first o o' ends stills sends told' whole stood i end there unfailed =
     ap (λ (l : Links). sent_on l i) stills.same_links ∙ sends (told_stills o o' stills told') whole stood i end there unfailed
 
 -- ---- what the answers leave
 
-pub rests_stays : (clients : Meaning) (s : StoreValue) (files : Option (Two File)) (e : Outcome) → commits.StaysReady clients s files (Err e) → Rests files (Err e)
+pub rests_stays : (clients : Meaning) (s : StoreValue) (files : Option (Two File)) (e : Outcome) → commits.StoreStaysReady clients s files (Err e) → LeavesFilesAtRest files (Err e)
 rests_stays clients s files outcome.DiskFault stays = tt
 rests_stays clients s files _ stays = rests_ready clients s files stays
 
-pub rests_fault : (files : Option (Two File)) (r : Result Closing Outcome) (e : Outcome) → r ≡ Err e → Rests files (Err e) → Rests files r
-rests_fault files r e is rests = subst (λ (x : Result Closing Outcome). Rests files x) (sym is) rests
+pub rests_fault : (files : Option (Two File)) (r : Result Closing Outcome) (e : Outcome) → r ≡ Err e → LeavesFilesAtRest files (Err e) → LeavesFilesAtRest files r
+rests_fault files r e is rests = subst (λ (x : Result Closing Outcome). LeavesFilesAtRest files x) (sym is) rests
 
 pub runs_node : (clients : Meaning) (links : List Dialled) (s s1 : StoreValue) (n0 n : NodeValue) (o o1 o2 : Outside) (r : Result (Unit {0}) Outcome) → IsReady clients s o.files → AreUnused o → DiskRun o o1
     → SettlesAnew clients s s1 o o1 r → n0 ≡ new_node s1 → SessionsSafe clients links n0 n o1 o2 → RunsSafe clients links s o o2
@@ -322,7 +322,7 @@ made_long made links o o1 o2 none makes count same = omega (arith, none, makes.d
 
 -- ---- the command
 
-pub load_rests : (old new : Option (Two File)) (e : Outcome) → LeavesSettled old new (Err e) → Rests new (Err e)
+pub load_rests : (old new : Option (Two File)) (e : Outcome) → LoadLeavesSettled old new (Err e) → LeavesFilesAtRest new (Err e)
 load_rests old new outcome.DiskFault leaves = tt
 load_rests old new _ leaves = rests_settled old new leaves
 
@@ -336,7 +336,7 @@ begun_of clients two s j has stood =
     ap (λ (f : Facts). f.begun) (sym has.are) ∙ ap (λ (k : Journal). (facts k).begun) same
 
 pub headline_run : (clients : Meaning) (words : List LinkWords) (s : StoreValue) (o0 o1 o2 o3 : Outside) → o0.links.dialled ≡ 0 → DiskRun o0 o1 → ((two : Two File) → o0.files ≡ Some two → MomentsAre o0 o1 (IsNow two o0.links))
-    → Becomes ReadsSame o0.files o1.files → ((two : Two File) → o0.files ≡ Some two → HasFacts (stands clients (read_files two)) s) → IsReady clients s o1.files → WordsSafe clients words s o1 o2 → Stills o2 o3
+    → RelatesTold ReadsSame o0.files o1.files → ((two : Two File) → o0.files ≡ Some two → HasFacts (stands clients (read_files two)) s) → IsReady clients s o1.files → WordsSafe clients words s o1 o2 → PassesTime o2 o3
     → Headline clients words o0 o3
 headline_run clients words s o0 o1 o2 o3 none run moments reads loaded ready safe stills =
     headline_safe clients words safe.store safe.plans o0 o3 none
@@ -352,7 +352,7 @@ if_ok_map : (r : Result Closing Outcome) (P Q : Closing → Type 0) → ((ends :
 if_ok_map (Ok ends) P Q then p = then ends p
 if_ok_map (Err e) P Q then p = tt
 
-pub sent_run : (clients : Meaning) (s : StoreValue) (o0 o2 o3 : Outside) (r : Result Closing Outcome) → ((two : Two File) → o0.files ≡ Some two → HasFacts (stands clients (read_files two)) s) → Stills o2 o3
+pub sent_run : (clients : Meaning) (s : StoreValue) (o0 o2 o3 : Outside) (r : Result Closing Outcome) → ((two : Two File) → o0.files ≡ Some two → HasFacts (stands clients (read_files two)) s) → PassesTime o2 o3
     → IfOk r (SendsWhole clients s.state.facts.begun o2) → (two : Two File) → o0.files ≡ Some two → IfOk r (SentWhole clients two o3)
 sent_run clients s o0 o2 o3 r loaded stills sends two told =
     if_ok_map r _ _

@@ -7,9 +7,9 @@ use Rattle.sync_rules.specs.declared.entries.Entry.TheVariants as entry
 use Rattle.sync_rules.specs.declared.entries.Session.{Session}
 use Rattle.sync_rules.specs.Clients.{Meaning}
 use Rattle.sync_rules.specs.Facts.{Facts, after_all}
-use Rattle.sync_node.specs.Going.{Goes}
+use Rattle.sync_node.specs.Going.{LetsNothingFall}
 use Rattle.sync_node.specs.Joined.{Joined}
-use Rattle.sync_node.specs.Node.{Attaches, KeepsJoined, KeepsSafe, NodeValue, PlansSafe}
+use Rattle.sync_node.specs.Node.{AttachesLink, KeepsJoined, KeepsSafe, NodeValue, PlansSafe}
 use Rattle.sync_node.specs.Plans.{session_of}
 use Rattle.sync_node.specs.Safe.{Begin, Safe}
 use Rattle.sync_run.specs.declared.dialling.Dialled.{Dialled}
@@ -45,7 +45,7 @@ pub record BegunSoFar (clients : Meaning) (links left : List Dialled) (n n' : No
   pub done : List Session
   pub parts : sessions_from n.store.state.facts.begun links ≡ done ++ sessions_from n'.store.state.facts.begun left
   pub long : length done ≡ length n'.links
-  pub goes : Goes o o'
+  pub goes : LetsNothingFall o o'
   pub same_first : n'.first ≡ n.first
   pub same_contacts : n'.store.state.facts.contacts ≡ n.store.state.facts.contacts
   pub joined : Joined clients n.links n.store o → Joined clients n'.links n'.store o'
@@ -77,7 +77,7 @@ begun_planned clients links left d n n1 n2 o o1 o2 so plans =
 
 pub begun_next : (clients : Meaning) (links left : List Dialled) (d : Dialled) (n n1 n2 : NodeValue) (o o1 o2 : Outside) → BegunSoFar clients links (d ∷ left) n n1 o o1
     → PlansSafe clients (session_of n1.store.state.facts.begun d.plan d.nonce) n1 n2 o1 o2
-    → Attaches clients n1 n2 o1 o2
+    → AttachesLink clients n1 n2 o1 o2
     → n2.store.state.facts ≡ after_all n1.store.state.facts (entry.Session (session_of n1.store.state.facts.begun d.plan d.nonce) ∷ [])
     → BegunSoFar clients links left n n2 o o2
 begun_next clients links left d n n1 n2 o o1 o2 so plans attaches facts =

@@ -1,6 +1,6 @@
 -- Why a run of sessions ended so, whatever the outside tells.
 use Rattle.std.specs.Prelude.{◌≡◌, ℕ, ◌<◌, List, length, Result, Ok, Err, slice_get, Some}
-use Rattle.outside.specs.Faults.{Rose}
+use Rattle.outside.specs.Faults.{CountRose}
 use Rattle.outside.specs.Outside.{Outside}
 use Rattle.sync_rules.specs.declared.states.Refused.TheVariants as refused
 use Rattle.sync_words.specs.declared.link_words.LinkWords.{LinkWords}
@@ -13,12 +13,12 @@ use Rattle.sync_words.specs.declared.outcome.Outcome.TheVariants as outcome
 -- a link is said to have failed only where the count of its failures rose
 abbrev pub FailuresRose : (old new : Outside) → Closing → Type 0
 FailuresRose old new closed = (i : ℕ) (stands : LinkEnd) → slice_get closed.ends i ≡ Some stands → stands ≡ end.Failed
-    → Rose (old.links.faults i) (new.links.faults i)
+    → CountRose (old.links.faults i) (new.links.faults i)
 
 -- a dial of this link or the drawing of its nonce failed
 pub record DialFailed (words : List LinkWords) (old new : Outside) (link : ℕ) : Type 0 where
   pub within : link < length words
-  pub rose : Rose (old.links.faults link) (new.links.faults link)
+  pub rose : CountRose (old.links.faults link) (new.links.faults link)
 
 -- this link is the one that failed
 abbrev pub FailsAlone : ℕ → Result Closing Outcome → Type 0
@@ -28,7 +28,7 @@ FailsAlone link _ = ⊥
 -- the causes of what a run on links that were dialled comes to
 abbrev pub RunCaused : (old new : Outside) → Result Closing Outcome → Type 0
 RunCaused old new (Ok ends) = FailuresRose old new ends
-RunCaused old new (Err outcome.DiskFault) = Rose old.disk_faults new.disk_faults
+RunCaused old new (Err outcome.DiskFault) = CountRose old.disk_faults new.disk_faults
 RunCaused old new (Err outcome.Full) = Unit {0}
 RunCaused old new (Err outcome.Memory) = Unit {0}
 RunCaused old new (Err _) = ⊥
@@ -36,7 +36,7 @@ RunCaused old new (Err _) = ⊥
 -- the causes of what the command comes to
 abbrev pub IsCaused : List LinkWords → (old new : Outside) → Result Closing Outcome → Type 0
 IsCaused words old new (Ok ends) = FailuresRose old new ends
-IsCaused words old new (Err outcome.DiskFault) = Rose old.disk_faults new.disk_faults
+IsCaused words old new (Err outcome.DiskFault) = CountRose old.disk_faults new.disk_faults
 IsCaused words old new (Err (outcome.LinkFailed link)) = DialFailed words old new link
 IsCaused words old new (Err outcome.NoStore) = Unit {0}
 IsCaused words old new (Err (outcome.Damaged place)) = Unit {0}

@@ -5,9 +5,9 @@ use Rattle.std.specs.List.{list_any}
 use Rattle.std.specs.Option.{option_map}
 use Rattle.outside.specs.declared.limits.TheConstants.{MAX_JOURNAL}
 use Rattle.outside.specs.Files.{Two, File, read_files}
-use Rattle.outside.specs.Links.{HeardOn, Link}
+use Rattle.outside.specs.Links.{HeardOn, ToldLink}
 use Rattle.outside.specs.Outside.{Outside}
-use Rattle.outside.specs.Runs.{IsFront, Told}
+use Rattle.outside.specs.Runs.{IsFront, TellsAll}
 use Rattle.sync_rules.specs.declared.entries.Entry.{Entry}
 use Rattle.sync_rules.specs.declared.entries.Session.{Session}
 use Rattle.sync_rules.specs.declared.limits.TheConstants.{MAX_SESSIONS}
@@ -50,7 +50,7 @@ pub record HearsRun (events : List Event) (old new : Outside) : Type 0 where
 
 -- the links that were made have the first specs of the words, in order
 abbrev pub HaveSpecs : List LinkWords → Outside → Type 0
-HaveSpecs words new = (links : List Link) → new.links.told ≡ Some links → IsFront (map (λ (l : Link). l.spec) links) (map (λ (w : LinkWords). w.spec) words)
+HaveSpecs words new = (links : List ToldLink) → new.links.told ≡ Some links → IsFront (map (λ (l : ToldLink). l.spec) links) (map (λ (w : LinkWords). w.spec) words)
 
 -- The run came to its end: a whole course of the sessions of all words, which closes so. Each link stands by what was
 -- heard on it. Where the run was over nothing is due on a link that is not closed, and what was heard was taken. It began with a
@@ -86,7 +86,7 @@ pub record WasBroken (clients : Meaning) (limits : Limits) (words : List LinkWor
 -- on each link that has not failed at this place of a run all output of its session was sent, as this journal has it
 abbrev pub SentAt : (begin whole : Journal) → Place → Outside → Type 0
 SentAt begin whole place new =
-    Told new → (i : ℕ) (l : course_links.Link) → slice_get place.links i ≡ Some l → l.stands ≢ end.Failed
+    TellsAll new → (i : ℕ) (l : course_links.Link) → slice_get place.links i ≡ Some l → l.stands ≢ end.Failed
     → sent_on new.links i ≡ output whole ((facts begin).begun + i)
 
 -- The same where there was no room: from that place the next step of the course commits a batch with which the journal, the batch's
@@ -101,14 +101,14 @@ pub record WasOver (clients : Meaning) (limits : Limits) (words : List LinkWords
 
 -- No generation was left for a journal in format 2: the files read as before. All links were made, and nothing was sent or heard on
 -- them.
-pub record WasSpent (words : List LinkWords) (old new : Outside) : Type 0 where
+pub record RunWasSpent (words : List LinkWords) (old new : Outside) : Type 0 where
   pub last : (two : Two File) → old.files ≡ Some two → HasLastGeneration (read_files two)
   pub still : (two two' : Two File) → old.files ≡ Some two → new.files ≡ Some two' → read_files two' ≡ read_files two
   pub links : MakesLinks words old.links new.links
 
 -- there was no room for a batch, or no generation left
 abbrev pub WasFull : Meaning → Limits → List LinkWords → Journal → (old new : Outside) → Type 0
-WasFull clients limits words begin old new = WasOver clients limits words begin old new ⊎ WasSpent words old new
+WasFull clients limits words begin old new = WasOver clients limits words begin old new ⊎ RunWasSpent words old new
 
 -- some contact of the words is not known
 abbrev pub is_unknown : Facts → List LinkWords → Bool
@@ -153,14 +153,14 @@ pub record OfJournal (words : List LinkWords) (stood : Standing) (fails : Option
 
 -- What the command comes to, by what the files stood for; what is said of journals, answers and readings is said where the files
 -- were told. A run that ends before its first session leaves the files as they read.
-abbrev pub ComesTo : Meaning → Limits → List LinkWords → Standing → (old new : Outside) → Result Closing Outcome → Type 0
-ComesTo clients limits words stood old new (Ok ends) = OfJournal words stood None (λ begin. RunComes clients limits words begin old new (Ok ends))
-ComesTo clients limits words stood old new (Err outcome.NoStore) = stood ≡ no_store
-ComesTo clients limits words stood old new (Err (outcome.Damaged place)) = stood ≡ damaged place.file place.at
-ComesTo clients limits words stood old new (Err (outcome.Refused why)) = OfJournal words stood (Some why) (λ begin. ReadsAs clients new.files begin)
-ComesTo clients limits words stood old new (Err (outcome.LinkFailed link)) =
+abbrev pub RunComesTo : Meaning → Limits → List LinkWords → Standing → (old new : Outside) → Result Closing Outcome → Type 0
+RunComesTo clients limits words stood old new (Ok ends) = OfJournal words stood None (λ begin. RunComes clients limits words begin old new (Ok ends))
+RunComesTo clients limits words stood old new (Err outcome.NoStore) = stood ≡ no_store
+RunComesTo clients limits words stood old new (Err (outcome.Damaged place)) = stood ≡ damaged place.file place.at
+RunComesTo clients limits words stood old new (Err (outcome.Refused why)) = OfJournal words stood (Some why) (λ begin. ReadsAs clients new.files begin)
+RunComesTo clients limits words stood old new (Err (outcome.LinkFailed link)) =
     OfJournal words stood None (λ begin. RunComes clients limits words begin old new (Err (outcome.LinkFailed link)))
-ComesTo clients limits words stood old new (Err outcome.Full) = OfJournal words stood None (λ begin. RunComes clients limits words begin old new (Err outcome.Full))
-ComesTo clients limits words stood old new (Err outcome.Memory) = (begin : Journal) → stood ≡ journal begin → WasBroken clients limits words begin old new
-ComesTo clients limits words stood old new (Err outcome.DiskFault) = (begin : Journal) → stood ≡ journal begin → WasBroken clients limits words begin old new
-ComesTo clients limits words stood old new (Err _) = ⊥
+RunComesTo clients limits words stood old new (Err outcome.Full) = OfJournal words stood None (λ begin. RunComes clients limits words begin old new (Err outcome.Full))
+RunComesTo clients limits words stood old new (Err outcome.Memory) = (begin : Journal) → stood ≡ journal begin → WasBroken clients limits words begin old new
+RunComesTo clients limits words stood old new (Err outcome.DiskFault) = (begin : Journal) → stood ≡ journal begin → WasBroken clients limits words begin old new
+RunComesTo clients limits words stood old new (Err _) = ⊥

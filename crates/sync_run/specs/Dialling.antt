@@ -3,10 +3,10 @@ use Rattle.std.specs.Prelude.{◌≡◌, ◌⊎◌, ℕ, zero, suc, ◌+◌, ◌
 use Rattle.std.specs.Option.{option_map}
 use Rattle.outside.specs.declared.failed.Failed.{Failed}
 use Rattle.outside.specs.Calls.{NoCall}
-use Rattle.outside.specs.Disk.{Becomes}
-use Rattle.outside.specs.Faults.{Rose}
+use Rattle.outside.specs.Disk.{RelatesTold}
+use Rattle.outside.specs.Faults.{CountRose}
 use Rattle.outside.specs.Files.{Two, File, IsImage}
-use Rattle.outside.specs.Links.{HeardOn, Link, Links, nothing_heard}
+use Rattle.outside.specs.Links.{HeardOn, ToldLink, Links, nothing_heard}
 use Rattle.outside.specs.Outside.{Moment, Outside}
 use Rattle.outside.specs.Runs.{IsFront, LinksGrow, answers_at}
 use Rattle.sync_node.specs.Output.{sent_on}
@@ -35,7 +35,7 @@ AreDialled [] (d ∷ links) = ⊥
 AreDialled (w ∷ words) (d ∷ links) = IsDialled w d × AreDialled words links
 
 -- links with the specs of these words, on which nothing was sent
-abbrev pub fresh_links : List LinkWords → List Link
+abbrev pub fresh_links : List LinkWords → List ToldLink
 fresh_links words = map (λ (w : LinkWords). record { spec = w.spec; sent = [] }) words
 
 -- Links were made for these words, in order. Nothing was sent or heard on any link, and the clock
@@ -43,7 +43,7 @@ fresh_links words = map (λ (w : LinkWords). record { spec = w.spec; sent = [] }
 pub record MakesLinks (words : List LinkWords) (old new : Links) : Type 0 where
   pub grows : LinksGrow old new
   pub dialled : new.dialled ≡ old.dialled + length words
-  pub told : new.told ≡ option_map (λ (ls : List Link). ls ++ fresh_links words) old.told
+  pub told : new.told ≡ option_map (λ (ls : List ToldLink). ls ++ fresh_links words) old.told
   pub heard : new.heard ≡ option_map (λ (hs : List HeardOn). hs ++ unheard (length words)) old.heard
   pub same_readings : new.readings ≡ old.readings
 
@@ -51,14 +51,14 @@ pub record MakesLinks (words : List LinkWords) (old new : Links) : Type 0 where
 -- another
 abbrev pub MakesOne : {T : Type 0} → LinkWords → Result T Failed → Links → Links → Type 0
 MakesOne w (Ok _) old new = MakesLinks (w ∷ []) old new
-MakesOne w (Err _) old new = Rose (old.faults old.dialled) (new.faults old.dialled) ×
+MakesOne w (Err _) old new = CountRose (old.faults old.dialled) (new.faults old.dialled) ×
     (MakesLinks [] old new ⊎ MakesLinks (w ∷ []) old new)
 
 -- all links were made; or so many, and a call on the next one failed
 abbrev pub MakesAll : List LinkWords → (made : List LinkWords) → ℕ → Result (Unit {0}) Failed
     → Links → Links → Type 0
 MakesAll words made count (Ok _) old new = (made ≡ words) × (count ≡ length words)
-MakesAll words made count (Err _) old new = (count < length words) × Rose (old.faults count)
+MakesAll words made count (Err _) old new = (count < length words) × CountRose (old.faults count)
     (new.faults count)
 
 -- Links were dialled for these words, up to a call that failed. There were none before.
@@ -80,10 +80,10 @@ pub record IsCalm (two : Two File) (o : Outside) (m : Moment) : Type 0 where
 
 -- Calls that ask nothing of the disk and send nothing. Links may be made; on each link the same was sent and
 -- heard.
-pub record Calms (o o' : Outside) : Type 0 where
+pub record DialsOnly (o o' : Outside) : Type 0 where
   pub same_files : o'.files ≡ o.files
   pub same_faults : o'.disk_faults ≡ o.disk_faults
-  pub no_call : Becomes NoCall o.calls o'.calls
+  pub no_call : RelatesTold NoCall o.calls o'.calls
   pub later : o.clock ≤ o'.clock
   pub grows : LinksGrow o.links o'.links
   pub sent : (link : ℕ) → sent_on o'.links link ≡ sent_on o.links link
@@ -92,10 +92,10 @@ pub record Calms (o o' : Outside) : Type 0 where
       → o'.moments t m → o.moments t m ⊎ IsCalm two o m
 
 -- calls that change nothing of what is told but the time
-pub record Stills (o o' : Outside) : Type 0 where
+pub record PassesTime (o o' : Outside) : Type 0 where
   pub same_files : o'.files ≡ o.files
   pub same_faults : o'.disk_faults ≡ o.disk_faults
-  pub no_call : Becomes NoCall o.calls o'.calls
+  pub no_call : RelatesTold NoCall o.calls o'.calls
   pub same_links : o'.links ≡ o.links
   pub later : o.clock ≤ o'.clock
   pub moments : (two : Two File) → o.files ≡ Some two → (t : ℕ) (m : Moment) → t ≤ o.clock

@@ -2,10 +2,10 @@
 -- device stops, its files stand for a legal journal that extends the old one, took what was heard
 -- in order, and has every byte that was sent.
 use Rattle.std.specs.Prelude.{◌≡◌, ◌≢◌, ◌⊎◌, ℕ, ◌+◌, ◌<◌, List, [], Option, Some, Result, Err, slice_get, slice_index_or}
-use Rattle.outside.specs.Faults.{Rose}
+use Rattle.outside.specs.Faults.{CountRose}
 use Rattle.outside.specs.Files.{Two, File, IsImage, read_files}
 use Rattle.outside.specs.Outside.{Outside, Moment, IsNow}
-use Rattle.outside.specs.Runs.{Told}
+use Rattle.outside.specs.Runs.{TellsAll}
 use Rattle.sync_rules.specs.declared.entries.Session.{Session}
 use Rattle.sync_rules.specs.Clients.{Meaning}
 use Rattle.sync_rules.specs.Facts.{facts}
@@ -46,7 +46,7 @@ pub record RunsOn (clients : Meaning) (words : List LinkWords) (stood : Standing
 -- What is so where files, links and what they heard are told. The files were `two` when the command
 -- began.
 pub record HeadlineTold (clients : Meaning) (words : List LinkWords) (two : Two File)
-    (old new : Outside) (told : Told new) : Type 0 where
+    (old new : Outside) (told : TellsAll new) : Type 0 where
   -- at each moment a crash leaves what it might have left before the command, nothing being sent,
   -- or a journal of the run
   pub moments : (m : Moment) → new.moments old.clock m
@@ -63,7 +63,7 @@ pub record HeadlineTold (clients : Meaning) (words : List LinkWords) (two : Two 
       (read_files told.two)
 
 abbrev pub Headline : Meaning → List LinkWords → (old new : Outside) → Type 0
-Headline clients words old new = (two : Two File) → old.files ≡ Some two → (told : Told new)
+Headline clients words old new = (two : Two File) → old.files ≡ Some two → (told : TellsAll new)
     → HeadlineTold clients words two old new told
 
 -- nothing is pending in the files: each crash leaves what a read gives
@@ -72,25 +72,25 @@ AtRest files = (two : Two File) → files ≡ Some two → (left : Two (List ℕ
     → left ≡ read_files two
 
 -- but where a call on the disk failed
-abbrev pub Rests : Option (Two File) → Result Closing Outcome → Type 0
-Rests files (Err outcome.DiskFault) = Unit {0}
-Rests files _ = AtRest files
+abbrev pub LeavesFilesAtRest : Option (Two File) → Result Closing Outcome → Type 0
+LeavesFilesAtRest files (Err outcome.DiskFault) = Unit {0}
+LeavesFilesAtRest files _ = AtRest files
 
 -- On a link of a run that came to its end, but where a call of it failed, all output of its session
 -- was sent.
 abbrev pub SentWhole : Meaning → Two File → Outside → Closing → Type 0
 SentWhole clients two new ends =
-    (told : Told new) (begin whole : Journal) → stands clients (read_files two) ≡ journal begin
+    (told : TellsAll new) (begin whole : Journal) → stands clients (read_files two) ≡ journal begin
     → stands clients (read_files told.two) ≡ journal whole
     → (i : ℕ) (stands : LinkEnd) → slice_get ends.ends i ≡ Some stands → stands ≢ end.Failed
     → sent_on new.links i ≡ output whole ((facts begin).begun + i)
 
 -- Where a batch found no room: on each link whose session had begun, but where a call of it failed
 -- in this command, all output of its session was sent.
-abbrev pub SentFull : Meaning → Two File → (old new : Outside) → Type 0
-SentFull clients two old new =
-    (told : Told new) (begin whole : Journal) → stands clients (read_files two) ≡ journal begin
+abbrev pub AllSentWhenFull : Meaning → Two File → (old new : Outside) → Type 0
+AllSentWhenFull clients two old new =
+    (told : TellsAll new) (begin whole : Journal) → stands clients (read_files two) ≡ journal begin
     → stands clients (read_files told.two) ≡ journal whole
     → (i : ℕ) → (facts begin).begun + i < (facts whole).begun
-    → Rose (old.links.faults i) (new.links.faults i)
+    → CountRose (old.links.faults i) (new.links.faults i)
     ⊎ (sent_on new.links i ≡ output whole ((facts begin).begun + i))

@@ -6,7 +6,7 @@ use Rattle.outside.specs.Outside.{Outside}
 use Rattle.outside.specs.Runs.{IsFront}
 use Rattle.sync_rules.specs.Facts.{facts}
 use Rattle.entry_codec.specs.Standing.{Standing, damaged, journal, no_store}
-use Rattle.store_commands.specs.Show.{ReadsAs, Rests}
+use Rattle.store_commands.specs.Show.{FilesReadSame, LeavesFilesSo}
 use Rattle.sync_words.specs.declared.link_words.LinkWords.{LinkWords}
 use Rattle.sync_course.specs.Closing.{Closing}
 use Rattle.sync_words.specs.declared.outcome.Outcome.{Outcome}
@@ -39,4 +39,4 @@ MayNotBegin words (journal begin) = is_some (run_test (facts begin) words) ≡ t
 -- left the files before, and they read as before.
 pub record DoesNotBegin (two : Two File) (old new : Outside) : Type 0 where
   pub same_links : new.links ≡ old.links
-  pub rests : Rests (ReadsAs two) two old new
+  pub rests : LeavesFilesSo (FilesReadSame two) two old new

@@ -9,7 +9,7 @@ use Rattle.sync_rules.specs.Clients.{Meaning}
 use Rattle.sync_rules.specs.Facts.{Facts, facts}
 use Rattle.sync_store.specs.Store.{StoreValue}
 use Rattle.sync_course.specs.Closing.{Closing, closing}
-use Rattle.sync_course.specs.Events.{Commit, Event, Told, batches_of}
+use Rattle.sync_course.specs.Events.{Commit, Event, TellsEvents, batches_of}
 use Rattle.sync_course.specs.Quiet.{EndsQuiet}
 use Rattle.sync_course.specs.Turns.{Attaches, Between, Broken, Course, Ended, Place, RunStep, Terms, is_over}
 use Rattle.sync_node.specs.declared.link.Link.{Link}
@@ -120,7 +120,7 @@ pub record RunEnded (clients : Meaning) (limits : Limits) (sessions : List Sessi
   pub events : List Event
   pub last : Place
   pub course : Course clients (terms_of limits j) sessions (facts j) events last
-  pub told : Told events o o'
+  pub told : TellsEvents events o o'
   pub reads : ReadsAs clients o'.files (j ++ batches_of events)
   pub closes : ends ≡ closing limits.quiet last
   pub quiet : is_over limits.quiet last ≡ true → EndsQuiet clients (terms_of limits j) events last
@@ -131,7 +131,7 @@ pub record RunBroken (clients : Meaning) (limits : Limits) (sessions : List Sess
   pub events : List Event
   pub last : Place
   pub broken : Broken clients (terms_of limits j) sessions (facts j) events last
-  pub told : Told events o o'
+  pub told : TellsEvents events o o'
   pub reads : ReadsAs clients o'.files (j ++ batches_of events)
 
 -- the same at a place from which the next step commits a batch that passes the greatest length of a journal, and at which each

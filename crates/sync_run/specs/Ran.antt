@@ -11,16 +11,16 @@ use Rattle.sync_words.specs.declared.outcome.Outcome.{Outcome}
 use Rattle.sync_words.specs.declared.outcome.Outcome.TheVariants as outcome
 use Rattle.sync_run.specs.declared.run.Limits.{Limits}
 use Rattle.sync_run.specs.Causes.{IsCaused}
-use Rattle.sync_run.specs.Courses.{ComesTo, HaveSpecs}
-use Rattle.sync_run.specs.Headline.{Headline, Rests, SentFull, SentWhole}
+use Rattle.sync_run.specs.Courses.{RunComesTo, HaveSpecs}
+use Rattle.sync_run.specs.Headline.{Headline, LeavesFilesAtRest, AllSentWhenFull, SentWhole}
 use Rattle.sync_run.specs.Leaving.{DoesNotBegin, LeavesLinks, MayNotBegin}
 
 -- what is so where the files are told
 pub record RanTold (clients : Meaning) (limits : Limits) (words : List LinkWords) (two : Two File) (old new : Outside) (result : Result Closing Outcome) : Type 0 where
-  pub rests : Rests new.files result
+  pub rests : LeavesFilesAtRest new.files result
   pub sent : IfOk result (SentWhole clients two new)
-  pub sent_full : IsErrOf result outcome.Full → SentFull clients two old new
-  pub comes : ComesTo clients limits words (stands clients (read_files two)) old new result
+  pub sent_full : IsErrOf result outcome.Full → AllSentWhenFull clients two old new
+  pub comes : RunComesTo clients limits words (stands clients (read_files two)) old new result
   -- whatever it answers
   pub unbegun : MayNotBegin words (stands clients (read_files two)) → DoesNotBegin two old new
 

@@ -1,10 +1,10 @@
 -- Sessions that run over links that were dialled: what they need, and that a run is safe with them.
 use Rattle.std.specs.Prelude.{◌≡◌, ◌≢◌, ◌⊎◌, ℕ, ◌+◌, ◌<◌, ◌≤◌, true, List, [], length, Some, slice_get}
 use Rattle.std.specs.List.{All}
-use Rattle.outside.specs.Faults.{Rose}
+use Rattle.outside.specs.Faults.{CountRose}
 use Rattle.outside.specs.Files.{read_files}
 use Rattle.outside.specs.Outside.{Outside}
-use Rattle.outside.specs.Runs.{IsFront, Told}
+use Rattle.outside.specs.Runs.{IsFront, TellsAll}
 use Rattle.sync_rules.specs.declared.entries.Session.{Session}
 use Rattle.sync_rules.specs.Clients.{Meaning}
 use Rattle.sync_rules.specs.Facts.{facts}
@@ -82,7 +82,7 @@ pub record WordsSafe (clients : Meaning) (words : List LinkWords) (s : StoreValu
 -- session has this number.
 abbrev pub SendsWhole : Meaning → ℕ → Outside → Closing → Type 0
 SendsWhole clients first o ends =
-    (told : Told o) (whole : Journal) → stands clients (read_files told.two) ≡ journal whole
+    (told : TellsAll o) (whole : Journal) → stands clients (read_files told.two) ≡ journal whole
     → (i : ℕ) (stands : LinkEnd) → slice_get ends.ends i ≡ Some stands → stands ≢ end.Failed
     → sent_on o.links i ≡ output whole (first + i)
 
@@ -92,11 +92,11 @@ SendsWhole clients first o ends =
 -- session had begun all output of that was sent, but where a call of the link failed.
 pub record SessionsSent (clients : Meaning) (n n' : NodeValue) (o o' : Outside) : Type 0 where
   pub sent : Joined clients n.links n.store o → (i : ℕ) → n.first + i < n'.store.state.facts.begun
-      → Rose (o.links.faults i) (o'.links.faults i) ⊎ IsAllSent clients (n.first + i) i n'.store o'
+      → CountRose (o.links.faults i) (o'.links.faults i) ⊎ IsAllSent clients (n.first + i) i n'.store o'
 
 -- the same in words of the journal that the files stand for; the first session has this number
-abbrev pub SendsFull : Meaning → ℕ → (o o' : Outside) → Type 0
-SendsFull clients first o o' =
-    (told : Told o') (whole : Journal) → stands clients (read_files told.two) ≡ journal whole
+abbrev pub SessionsSentWhenFull : Meaning → ℕ → (o o' : Outside) → Type 0
+SessionsSentWhenFull clients first o o' =
+    (told : TellsAll o') (whole : Journal) → stands clients (read_files told.two) ≡ journal whole
     → (i : ℕ) → first + i < (facts whole).begun
-    → Rose (o.links.faults i) (o'.links.faults i) ⊎ (sent_on o'.links i ≡ output whole (first + i))
+    → CountRose (o.links.faults i) (o'.links.faults i) ⊎ (sent_on o'.links i ≡ output whole (first + i))

@@ -2,7 +2,7 @@
 ghost use Rattle.std.specs.Prelude.{◌≡◌, ◌<◌, ◌≤◌, [], length, vec_capacity, is_some, IfOk};
 ghost use Rattle.outside.specs.declared.limits.TheConstants.{LINKS};
 ghost use Rattle.sync_words.specs.Links.{has_nonce};
-ghost use Rattle.sync_run.specs.Dialling.{Calms, DialsAll, MakesOne, Stills};
+ghost use Rattle.sync_run.specs.Dialling.{DialsOnly, DialsAll, MakesOne, PassesTime};
 
 use outside::{Failed, Host};
 use sync_ids::{Fixed, Nonce};
@@ -31,7 +31,7 @@ pub fn dial_all<H: Host>(
     requires room { length links.now ≤ vec_capacity to.old }
     ensures dials { DialsAll links.now to.new.items result (H.tells host.old)
         (H.tells host.new) }
-    ensures calms { Calms (H.tells host.old) (H.tells host.new) }
+    ensures calms { DialsOnly (H.tells host.old) (H.tells host.new) }
 {
     'links: for words in links {
         let nonce = dial_one(host, words)?;
@@ -51,7 +51,7 @@ fn dial_one<H: Host>(host: &mut H, words: &LinkWords) -> Result<Option<Nonce>, F
     requires { (H.tells host.old).links.dialled < LINKS }
     ensures nonce { IfOk result (λ nonce. is_some nonce ≡ has_nonce words.now) }
     ensures makes { MakesOne words.now result (H.tells host.old).links (H.tells host.new).links }
-    ensures calms { Calms (H.tells host.old) (H.tells host.new) }
+    ensures calms { DialsOnly (H.tells host.old) (H.tells host.new) }
 {
     let link = host.dial(words.spec.as_str())?;
     if !words.has_nonce() {
@@ -70,7 +70,7 @@ fn dial_one<H: Host>(host: &mut H, words: &LinkWords) -> Result<Option<Nonce>, F
 pub fn hang_up_all<H: Host>(host: &mut H, count: usize)
     requires few { count ≤ LINKS }
     requires dialled { count ≤ (H.tells host.old).links.dialled }
-    ensures { Stills (H.tells host.old) (H.tells host.new) }
+    ensures { PassesTime (H.tells host.old) (H.tells host.new) }
 {
     'links: for link in 0..count {
         host.hang_up(link as u8);

@@ -1,7 +1,7 @@
 // The command `sync`.
 ghost use Rattle.std.specs.Prelude.{◌≡◌, ◌+◌, ◌≤◌, [], false, length, vec_capacity, ◌<◌, IfOk, IsErrOf};
 ghost use Rattle.std.specs.Prelude.{OnErr, OnOk, Some};
-ghost use Rattle.outside.specs.Faults.{Rose};
+ghost use Rattle.outside.specs.Faults.{CountRose};
 ghost use Rattle.std.specs.List.{All};
 ghost use Rattle.outside.specs.Files.{Two, File, read_files};
 ghost use Rattle.entry_codec.specs.Standing.{stands};
@@ -11,19 +11,19 @@ ghost use Rattle.sync_rules.specs.declared.limits.TheConstants.{MAX_SESSIONS};
 ghost use Rattle.sync_store.specs.Ready.{IsReady};
 ghost use Rattle.sync_node.specs.Causes.{FailByCause};
 ghost use Rattle.sync_node.specs.Courses.{FitsWith};
-ghost use Rattle.sync_node.specs.Going.{Goes};
-ghost use Rattle.sync_node.specs.Node.{Answers, IsNode, MayRun};
+ghost use Rattle.sync_node.specs.Going.{LetsNothingFall};
+ghost use Rattle.sync_node.specs.Node.{AnswersAndCloses, IsNode, MayRun};
 ghost use Rattle.sync_node.specs.Output.{Journal};
 ghost use Rattle.sync_node.specs.Stays.{StaysReady};
 ghost use Rattle.outside.specs.declared.limits.TheConstants.{LINKS, MAX_JOURNAL};
 ghost use Rattle.sync_words.specs.Links.{AreLinks};
 ghost use Rattle.sync_run.specs.Causes.{FailsAlone, IsCaused, RunCaused};
-ghost use Rattle.sync_run.specs.Courses.{ComesTo, HaveSpecs, RunComes, TestsContacts, TestsWords};
-ghost use Rattle.sync_run.specs.Headline.{Headline, Rests, SentFull, SentWhole};
+ghost use Rattle.sync_run.specs.Courses.{RunComesTo, HaveSpecs, RunComes, TestsContacts, TestsWords};
+ghost use Rattle.sync_run.specs.Headline.{Headline, LeavesFilesAtRest, AllSentWhenFull, SentWhole};
 ghost use Rattle.sync_run.specs.Leaving.{DoesNotBegin, LeavesLinks, MayNotBegin};
 ghost use Rattle.sync_run.specs.Parts.{BreaksRun, FullRun, RunsOver, RunsSessions, sessions_from};
 ghost use Rattle.sync_run.specs.SafeRuns.{AllMayBegin, AreUnused, AttachesAll, IsKnown, RunsSafe};
-ghost use Rattle.sync_run.specs.SafeRuns.{SendsFull, SendsWhole, SessionsSafe, SessionsSent};
+ghost use Rattle.sync_run.specs.SafeRuns.{SessionsSentWhenFull, SendsWhole, SessionsSafe, SessionsSent};
 ghost use Rattle.sync_run.specs.SafeRuns.{WordsSafe};
 
 use crate::closing::close;
@@ -75,14 +75,14 @@ pub fn sync_links<H: Host, C: Clients>(
     ensures headline { Headline (C.meaning clients.now) links.now (H.tells host.old)
         (H.tells host.new) }
     ensures rests { (two : Two File) → (H.tells host.old).files ≡ Some two
-        → Rests (H.tells host.new).files result }
+        → LeavesFilesAtRest (H.tells host.new).files result }
     ensures sent { (two : Two File) → (H.tells host.old).files ≡ Some two
         → IfOk result (SentWhole (C.meaning clients.now) two (H.tells host.new)) }
     ensures sent_full { (two : Two File) → (H.tells host.old).files ≡ Some two
-        → IsErrOf result Outcome.Full → SentFull (C.meaning clients.now) two (H.tells host.old)
+        → IsErrOf result Outcome.Full → AllSentWhenFull (C.meaning clients.now) two (H.tells host.old)
         (H.tells host.new) }
     ensures comes { (two : Two File) → (H.tells host.old).files ≡ Some two
-        → ComesTo (C.meaning clients.now) limits links.now
+        → RunComesTo (C.meaning clients.now) limits links.now
         (stands (C.meaning clients.now) (read_files two)) (H.tells host.old) (H.tells host.new)
         result }
     ensures specs { HaveSpecs links.now (H.tells host.new) }
@@ -154,10 +154,10 @@ fn run_links<H: Host, C: Clients>(
     ensures made { length dialled.new.items ≤ (H.tells host.new).links.dialled }
     ensures safe { WordsSafe (C.meaning clients.now) words.now store (H.tells host.old)
         (H.tells host.new) }
-    ensures rests { Rests (H.tells host.new).files result }
+    ensures rests { LeavesFilesAtRest (H.tells host.new).files result }
     ensures sent { IfOk result (SendsWhole (C.meaning clients.now) store.state.facts.begun
         (H.tells host.new)) }
-    ensures sent_full { IsErrOf result Outcome.Full → SendsFull (C.meaning clients.now)
+    ensures sent_full { IsErrOf result Outcome.Full → SessionsSentWhenFull (C.meaning clients.now)
         store.state.facts.begun (H.tells host.old) (H.tells host.new) }
     ensures specs { HaveSpecs words.now (H.tells host.new) }
     ensures caused { IsCaused words.now (H.tells host.old) (H.tells host.new) result }
@@ -198,12 +198,12 @@ fn run_dialled<H: Host, C: Clients>(
     requires unused { AreUnused (H.tells host.old) }
     ensures safe { RunsSafe (C.meaning clients.now) links.now store (H.tells host.old)
         (H.tells host.new) }
-    ensures rests { Rests (H.tells host.new).files result }
+    ensures rests { LeavesFilesAtRest (H.tells host.new).files result }
     ensures sent { IfOk result (SendsWhole (C.meaning clients.now) store.state.facts.begun
         (H.tells host.new)) }
-    ensures sent_full { IsErrOf result Outcome.Full → SendsFull (C.meaning clients.now)
+    ensures sent_full { IsErrOf result Outcome.Full → SessionsSentWhenFull (C.meaning clients.now)
         store.state.facts.begun (H.tells host.old) (H.tells host.new) }
-    ensures run { Goes (H.tells host.old) (H.tells host.new) }
+    ensures run { LetsNothingFall (H.tells host.old) (H.tells host.new) }
     ensures caused { RunCaused (H.tells host.old) (H.tells host.new) result }
     ensures course { (j : Journal) → FitsWith (C.meaning clients.now) store (H.tells host.old).files
         j → RunsOver (C.meaning clients.now) limits (sessions_from (facts j).begun links.now) j
@@ -240,7 +240,7 @@ fn run_node<H: Host, C: Clients>(
     requires sessions { node.old.store.state.facts.begun + length links.now ≤ MAX_SESSIONS }
     requires few { length links.now ≤ LINKS }
     requires dialled { length links.now ≤ (H.tells host.old).links.dialled }
-    ensures answer { Answers result node.new }
+    ensures answer { AnswersAndCloses result node.new }
     ensures may { MayRun (C.meaning clients.now) node.new (H.tells host.new) }
     ensures node { IsNode node.new }
     ensures joined { OnOk result (AttachesAll (C.meaning clients.now) links.now node.old node.new
@@ -250,7 +250,7 @@ fn run_node<H: Host, C: Clients>(
     ensures sent { IsErrOf result NodeFault.Full → SessionsSent (C.meaning clients.now) node.old
         node.new (H.tells host.old) (H.tells host.new) }
     ensures stays { StaysReady (C.meaning clients.now) node.new (H.tells host.new) result }
-    ensures run { Goes (H.tells host.old) (H.tells host.new) }
+    ensures run { LetsNothingFall (H.tells host.old) (H.tells host.new) }
     ensures cause { FailByCause node.old.links node.new.links (H.tells host.old)
         (H.tells host.new) }
     ensures limit { node.new.store.limit ≡ node.old.store.limit }
@@ -259,7 +259,7 @@ fn run_node<H: Host, C: Clients>(
         node.old.store.state.facts.begun
         (sessions_from node.old.store.state.facts.begun links.now) node.old.store
         node.new.store (H.tells host.old) (H.tells host.new) }
-    ensures fault { IsErrOf result NodeFault.DiskFault → Rose (H.tells host.old).disk_faults
+    ensures fault { IsErrOf result NodeFault.DiskFault → CountRose (H.tells host.old).disk_faults
         (H.tells host.new).disk_faults }
     ensures course { IfOk result (RunsSessions (C.meaning clients.now) limits
         node.old.store.state.facts.begun

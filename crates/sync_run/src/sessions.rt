@@ -1,14 +1,14 @@
 // The sessions of a run: they begin, and the turns are made.
 ghost use Rattle.std.specs.Prelude.{◌≡◌, ◌+◌, ◌≤◌, [], false, length, IfOk, IsErrOf, OnErr, OnOk};
-ghost use Rattle.outside.specs.Faults.{Rose};
+ghost use Rattle.outside.specs.Faults.{CountRose};
 ghost use Rattle.outside.specs.declared.limits.TheConstants.{LINKS};
 ghost use Rattle.sync_rules.specs.Steps.{IsSettled};
 ghost use Rattle.sync_rules.specs.declared.limits.TheConstants.{MAX_SESSIONS};
 ghost use Rattle.sync_node.specs.Causes.{FailByCause};
-ghost use Rattle.sync_node.specs.Going.{Goes};
-ghost use Rattle.sync_node.specs.Node.{Answers, IsNode, KeepsJoined, KeepsSafe, MayRun};
+ghost use Rattle.sync_node.specs.Going.{LetsNothingFall};
+ghost use Rattle.sync_node.specs.Node.{AnswersAndCloses, IsNode, KeepsJoined, KeepsSafe, MayRun};
 ghost use Rattle.sync_node.specs.Stays.{StaysReady};
-ghost use Rattle.sync_node.specs.Stops.{SendsAll};
+ghost use Rattle.sync_node.specs.Stops.{NodeSendsAll};
 ghost use Rattle.sync_run.specs.SafeRuns.{AllMayBegin, AttachesAll, SessionsSafe, SessionsSent};
 ghost use Rattle.sync_run.specs.Parts.{BreaksSessions, BreaksTurns, MakesTurns};
 ghost use Rattle.sync_run.specs.Parts.{FullSessions, FullTurns, SessionsBegin, sessions_from};
@@ -36,7 +36,7 @@ pub fn attach_all<H: Host, C: Clients>(
     requires sessions { node.old.store.state.facts.begun + length links.now ≤ MAX_SESSIONS }
     requires few { length links.now ≤ LINKS }
     requires dialled { length links.now ≤ (H.tells host.old).links.dialled }
-    ensures answer { Answers result node.new }
+    ensures answer { AnswersAndCloses result node.new }
     ensures may { MayRun (C.meaning clients.now) node.new (H.tells host.new) }
     ensures node { IsNode node.new }
     ensures joined { OnOk result (AttachesAll (C.meaning clients.now) links.now node.old node.new
@@ -46,7 +46,7 @@ pub fn attach_all<H: Host, C: Clients>(
     ensures sent { IsErrOf result NodeFault.Full → SessionsSent (C.meaning clients.now) node.old
         node.new (H.tells host.old) (H.tells host.new) }
     ensures stays { StaysReady (C.meaning clients.now) node.new (H.tells host.new) result }
-    ensures run { Goes (H.tells host.old) (H.tells host.new) }
+    ensures run { LetsNothingFall (H.tells host.old) (H.tells host.new) }
     ensures cause { FailByCause node.old.links node.new.links (H.tells host.old)
         (H.tells host.new) }
     ensures limit { node.new.store.limit ≡ node.old.store.limit }
@@ -54,7 +54,7 @@ pub fn attach_all<H: Host, C: Clients>(
     ensures full { IsErrOf result NodeFault.Full → FullSessions (C.meaning clients.now)
         (sessions_from node.old.store.state.facts.begun links.now) node.old.store node.new.store
         (H.tells host.old) (H.tells host.new) }
-    ensures fault { IsErrOf result NodeFault.DiskFault → Rose (H.tells host.old).disk_faults
+    ensures fault { IsErrOf result NodeFault.DiskFault → CountRose (H.tells host.old).disk_faults
         (H.tells host.new).disk_faults }
     ensures course { OnOk result (SessionsBegin (C.meaning clients.now)
         (sessions_from node.old.store.state.facts.begun links.now) node.new.links node.old.store
@@ -81,17 +81,17 @@ pub fn make_turns<H: Host, C: Clients>(
     requires still_open { node.old.closed ≡ false }
     requires may { MayRun (C.meaning clients.now) node.old (H.tells host.old) }
     requires node { IsNode node.old }
-    ensures answer { Answers result node.new }
+    ensures answer { AnswersAndCloses result node.new }
     ensures may { MayRun (C.meaning clients.now) node.new (H.tells host.new) }
     ensures node { IsNode node.new }
     ensures joined { OnOk result (KeepsJoined (C.meaning clients.now) node.old node.new
         (H.tells host.old) (H.tells host.new)) }
     ensures safe { KeepsSafe (C.meaning clients.now) node.old node.new (H.tells host.old)
         (H.tells host.new) }
-    ensures sent { IsErrOf result NodeFault.Full → SendsAll (C.meaning clients.now) node.old
+    ensures sent { IsErrOf result NodeFault.Full → NodeSendsAll (C.meaning clients.now) node.old
         node.new (H.tells host.old) (H.tells host.new) }
     ensures stays { StaysReady (C.meaning clients.now) node.new (H.tells host.new) result }
-    ensures run { Goes (H.tells host.old) (H.tells host.new) }
+    ensures run { LetsNothingFall (H.tells host.old) (H.tells host.new) }
     ensures cause { FailByCause node.old.links node.new.links (H.tells host.old)
         (H.tells host.new) }
     ensures limit { node.new.store.limit ≡ node.old.store.limit }
@@ -99,7 +99,7 @@ pub fn make_turns<H: Host, C: Clients>(
     ensures full { IsErrOf result NodeFault.Full → FullTurns (C.meaning clients.now) limits
         node.old.first node.old.links node.old.store node.new.store (H.tells host.old)
         (H.tells host.new) }
-    ensures fault { IsErrOf result NodeFault.DiskFault → Rose (H.tells host.old).disk_faults
+    ensures fault { IsErrOf result NodeFault.DiskFault → CountRose (H.tells host.old).disk_faults
         (H.tells host.new).disk_faults }
     ensures course { IfOk result (MakesTurns (C.meaning clients.now) limits node.old.first
         node.old.links node.new.links node.old.store node.new.store (H.tells host.old)

@@ -6,11 +6,11 @@ use Rattle.std.proofs.lemmas.List.Elements.{All-nil}
 use Rattle.outside.specs.Files.{Two, File, IsFileImage, IsImage, NothingPending, file_of, settled}
 use Rattle.outside.specs.Frames.{HasFrames, IsPayload, is_open, format_in, header_of, journal_file}
 use Rattle.outside.specs.Links.{Links, sent_of}
-use Rattle.outside.specs.Disk.{Becomes}
-use Rattle.outside.specs.Outside.{Outside, Moment, MomentsAre, IsNow, Looks, DiskRun}
-use Rattle.outside.specs.Steps.{FileMoment, Passed}
+use Rattle.outside.specs.Disk.{RelatesTold}
+use Rattle.outside.specs.Outside.{Outside, Moment, MomentsAre, IsNow, OnlyReads, DiskRun}
+use Rattle.outside.specs.Steps.{FileMoment, PassedMoments}
 use Rattle.outside.proofs.CallSteps.{becomes_told, moments_map, moments_then}
-use Rattle.frame_journal.specs.Create.{Clears, Creates, BeforeOrShut, ShutOrBegun, begun_bytes}
+use Rattle.frame_journal.specs.Create.{ClearsFile, CreatesJournal, BeforeOrShut, ShutOrBegun, begun_bytes}
 use Rattle.frame_journal.specs.declared.fault.DiskFault.{DiskFault}
 use Rattle.frame_journal.specs.Gates.{SyncsBoth, AnyImage}
 use Rattle.sync_rules.specs.Clients.{Meaning}
@@ -20,7 +20,7 @@ use Rattle.entry_codec.specs.Naming.{format_of}
 use Rattle.entry_codec.specs.Payloads.{payloads}
 use Rattle.entry_codec.specs.StandingLaws.{JournalsStand}
 use Rattle.entry_codec.specs.Standing.{stands, stands_in, journal, no_store}
-use Rattle.sync_store.specs.Begin.{Begins, InitMoment, IsFree, has_open}
+use Rattle.sync_store.specs.Begin.{BeginsJournal, InitMoment, IsFree, has_open}
 use Rattle.sync_store.proofs.FitSteps.{settled_only}
 
 -- no header is open
@@ -83,19 +83,19 @@ create_moment stand two links free at same m moment =
       | inr begun ↦ inr (free.none_open, inr (λ clients. begun_stands stand clients m.files begun other), moment.nothing_sent)
     ]
 
-pub clear_moments : (two : Two File) (o0 o o' : Outside) → IsFree two → o.links ≡ o0.links → Passed two o o' 0 (BeforeOrShut (file_of two 0).now) → MomentsAre o o' (InitMoment two o0.links)
+pub clear_moments : (two : Two File) (o0 o o' : Outside) → IsFree two → o.links ≡ o0.links → PassedMoments two o o' 0 (BeforeOrShut (file_of two 0).now) → MomentsAre o o' (InitMoment two o0.links)
 clear_moments two o0 o o' free links passed =
     moments_map o o' (FileMoment (BeforeOrShut two.first.now) two (sent_of o.links.told) 0) (InitMoment two o0.links)
     (λ m moment. clear_moment two o0.links free m (subst (λ (l : Links). FileMoment (BeforeOrShut two.first.now) two (sent_of l.told) 0 m) links moment)) passed
 
-pub create_moments : JournalsStand → (two at : Two File) (o0 o o' : Outside) → IsFree two → at.second ≡ two.second → o.links ≡ o0.links → Passed at o o' 0 (ShutOrBegun 2 1) → MomentsAre o o' (InitMoment two o0.links)
+pub create_moments : JournalsStand → (two at : Two File) (o0 o o' : Outside) → IsFree two → at.second ≡ two.second → o.links ≡ o0.links → PassedMoments at o o' 0 (ShutOrBegun 2 1) → MomentsAre o o' (InitMoment two o0.links)
 create_moments stand two at o0 o o' free same links passed =
     moments_map o o' (FileMoment (ShutOrBegun 2 1) at (sent_of o.links.told) 0) (InitMoment two o0.links)
     (λ m moment. create_moment stand two o0.links free at same m (subst (λ (l : Links). FileMoment (ShutOrBegun 2 1) at (sent_of l.told) 0 m) links moment)) passed
 
 -- ---- the end
 
-pub begins_from : JournalsStand → (two at end : Two File) → IsFree two → at.second ≡ two.second → Creates 0 2 1 at end → Begins two end
+pub begins_from : JournalsStand → (two at end : Two File) → IsFree two → at.second ≡ two.second → CreatesJournal 0 2 1 at end → BeginsJournal two end
 begins_from stand two at end free same creates =
     let second : end.second ≡ settled two.second.now = creates.other ∙ same ∙ free.second_settled in
     record {
@@ -123,7 +123,7 @@ settled_now o two at links m told settles now =
       sent = now.sent;
     }
 
-pub look_moments : (o0 o1 o2 : Outside) → AnyImage o0 o1 → DiskRun o0 o1 → Becomes SyncsBoth o0.files o1.files → Looks o1 o2 → AnyImage o0 o2
+pub look_moments : (o0 o1 o2 : Outside) → AnyImage o0 o1 → DiskRun o0 o1 → RelatesTold SyncsBoth o0.files o1.files → OnlyReads o1 o2 → AnyImage o0 o2
 look_moments o0 o1 o2 first run becomes looks two told =
     let there = becomes_told SyncsBoth o0.files o1.files two told becomes in
     moments_then o0 o1 o2 (IsNow two o0.links) (first two told)
@@ -141,7 +141,7 @@ free_from two at settles none = record {
   none_open = open_same two at settles ∙ none;
 }
 
-pub begins_first : (two at end : Two File) → SyncsBoth two at → Begins at end → Begins two end
+pub begins_first : (two at end : Two File) → SyncsBoth two at → BeginsJournal at end → BeginsJournal two end
 begins_first two at end settles begins = record {
   first = begins.first;
   second = begins.second ∙ ap (λ (t : Two File). settled t.second.now) settles;
@@ -164,12 +164,12 @@ init_then o0 o1 o2 two at told looks run settles later =
     (λ m moment. moment_first o0 two at o0.links m told settles (subst (λ (l : Links). InitMoment at l m) run.same_links moment)) later)
 
 -- clear and then create
-pub begin_then : JournalsStand → (two at : Two File) (o0 o1 o2 : Outside) → IsFree two → o0.files ≡ Some two → Passed two o0 o1 0 (BeforeOrShut (file_of two 0).now) → DiskRun o0 o1 → at.second ≡ two.second
-    → Passed at o1 o2 0 (ShutOrBegun 2 1) → MomentsAre o0 o2 (InitMoment two o0.links)
+pub begin_then : JournalsStand → (two at : Two File) (o0 o1 o2 : Outside) → IsFree two → o0.files ≡ Some two → PassedMoments two o0 o1 0 (BeforeOrShut (file_of two 0).now) → DiskRun o0 o1 → at.second ≡ two.second
+    → PassedMoments at o1 o2 0 (ShutOrBegun 2 1) → MomentsAre o0 o2 (InitMoment two o0.links)
 begin_then stand two at o0 o1 o2 free told cleared run same created =
     moments_then o0 o1 o2 (InitMoment two o0.links) (clear_moments two o0 o0 o1 free refl cleared) (create_moments stand two at o0 o1 o2 free same run.same_links created)
 
-pub begun_becomes : JournalsStand → (o0 o1 o2 : Option (Two File)) → ForSome o0 IsFree → Becomes (Clears 0) o0 o1 → Becomes (Creates 0 2 1) o1 o2 → Becomes Begins o0 o2
+pub begun_becomes : JournalsStand → (o0 o1 o2 : Option (Two File)) → ForSome o0 IsFree → RelatesTold (ClearsFile 0) o0 o1 → RelatesTold (CreatesJournal 0 2 1) o1 o2 → RelatesTold BeginsJournal o0 o2
 begun_becomes stand None None None free first second = tt
 begun_becomes stand None None (Some c) free first second = absurd second
 begun_becomes stand None (Some b) o2 free first second = absurd first
@@ -177,7 +177,7 @@ begun_becomes stand (Some a) None o2 free first second = absurd first
 begun_becomes stand (Some a) (Some b) None free first second = absurd second
 begun_becomes stand (Some a) (Some b) (Some c) free first second = begins_from stand a b c (free a refl) first.other second
 
-pub init_becomes : (o0 o1 o2 : Option (Two File)) → Becomes SyncsBoth o0 o1 → Becomes Begins o1 o2 → Becomes Begins o0 o2
+pub init_becomes : (o0 o1 o2 : Option (Two File)) → RelatesTold SyncsBoth o0 o1 → RelatesTold BeginsJournal o1 o2 → RelatesTold BeginsJournal o0 o2
 init_becomes None None None first second = tt
 init_becomes None None (Some c) first second = absurd second
 init_becomes None (Some b) o2 first second = absurd first
@@ -185,7 +185,7 @@ init_becomes (Some a) None o2 first second = absurd first
 init_becomes (Some a) (Some b) None first second = absurd second
 init_becomes (Some a) (Some b) (Some c) first second = begins_first a b c first second
 
-pub found_first : (result : Result Bool DiskFault) (o0 o1 : Option (Two File)) → Becomes SyncsBoth o0 o1 → IfOk result (λ found. ForSome o1 (λ two. has_open two ≡ found))
+pub found_first : (result : Result Bool DiskFault) (o0 o1 : Option (Two File)) → RelatesTold SyncsBoth o0 o1 → IfOk result (λ found. ForSome o1 (λ two. has_open two ≡ found))
     → IfOk result (λ found. ForSome o0 (λ two. has_open two ≡ found))
 found_first (Err e) o0 o1 becomes had = tt
 found_first (Ok found) o0 o1 becomes had = λ two told. let at = becomes_told SyncsBoth o0 o1 two told becomes in sym (open_same two at.0 at.2) ∙ had at.0 at.1

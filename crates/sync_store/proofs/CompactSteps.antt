@@ -20,14 +20,14 @@ use Rattle.entry_codec.specs.Standing.{room_of}
 use Rattle.entry_codec.specs.StandingLaws.{JournalsStand}
 use Rattle.journal_state.specs.Whole.{StateValue}
 use Rattle.journal_migration.specs.Migrating.{HoldsSecond}
-use Rattle.journal_compaction.specs.Compacting.{Compacts, IsCompacted, StandsForEither, compacted_len}
+use Rattle.journal_compaction.specs.Compacting.{CompactsJournal, IsCompacted, StandsForEither, compacted_len}
 use Rattle.journal_compaction.proofs.Counted.{held_within}
 use Rattle.journal_compaction.specs.declared.fault.CompactionFault.{CompactionFault}
 use Rattle.journal_compaction.specs.declared.fault.CompactionFault.TheVariants as compaction
 use Rattle.sync_store.specs.declared.fault.StoreFault.{StoreFault}
 use Rattle.sync_store.specs.declared.fault.StoreFault.TheVariants as fault
-use Rattle.sync_store.specs.Compactions.{IsOrBrief, LeadsToBrief, Shortens}
-use Rattle.sync_store.specs.Fitting.{Fits, FitsSome}
+use Rattle.sync_store.specs.Compactions.{IsOrBrief, LeadsToBrief, ShortensJournal}
+use Rattle.sync_store.specs.Fitting.{FitsFiles, FitsSome}
 use Rattle.sync_store.specs.Moments.{JournalMoment}
 use Rattle.sync_store.specs.Store.{HasNumbers, IsStore, StoreValue, counts_to, format_meant, written_in}
 use Rattle.sync_store.proofs.BriefFacts.{left_without, none_taken, settled_without}
@@ -51,7 +51,7 @@ pub short_is_two : (s : StoreValue) → written_in s ≡ kind.Short → s.format
 short_is_two s short = short_by s.format (s.format == 2) (λ e. eqb-true s.format 2 e) short
 
 -- the disk that fits a store in format 2 holds its journal so
-pub holds_at : (clients : Meaning) (s : StoreValue) (m : JournalValue) (j : List (List Entry)) (two : Two File) → m.format ≡ 2 → IsStore (moved_with s s.state m) → Fits clients (moved_with s s.state m) j two
+pub holds_at : (clients : Meaning) (s : StoreValue) (m : JournalValue) (j : List (List Entry)) (two : Two File) → m.format ≡ 2 → IsStore (moved_with s s.state m) → FitsFiles clients (moved_with s s.state m) j two
     → HoldsSecond clients m j two
 holds_at clients s m j two short store fits =
     let f = s.state.facts in
@@ -76,7 +76,7 @@ holds_at clients s m j two short store fits =
 
 pub shortens_at : (clients : Meaning) (s : StoreValue) (state : StateValue) (m n : JournalValue) → s.file ≡ m.file → s.generation ≡ m.generation → s.closed ≡ false → IsSettled clients s.state.facts
     → s.generation < 2 ^ 64 - 1 → compacted_len clients s.state.facts ≤ s.limit → state.facts ≡ without_sessions s.state.facts → state.answers ≡ s.state.answers
-    → IsCompacted clients s.state.facts m n → Shortens clients s (moved_with s state n)
+    → IsCompacted clients s.state.facts m n → ShortensJournal clients s (moved_with s state n)
 shortens_at clients s state m n file generation still settled further roomy facts answers next = record {
   may = record { generation = further; roomy = roomy };
   facts = facts;
@@ -111,7 +111,7 @@ shortened_store clients s state m n store roomy facts next =
     }
 
 -- the facts of the account
-pub facts_shortened : BriefKeepsFacts → (clients : Meaning) (s : StoreValue) (state : StateValue) (j : List (List Entry)) (two : Two File) → Fits clients s j two → IsSettled clients s.state.facts
+pub facts_shortened : BriefKeepsFacts → (clients : Meaning) (s : StoreValue) (state : StateValue) (j : List (List Entry)) (two : Two File) → FitsFiles clients s j two → IsSettled clients s.state.facts
     → state.facts ≡ without_sessions s.state.facts → facts (brief j) ≡ state.facts
 facts_shortened keeps clients s state j two fits settled facts_are =
     (keeps clients j fits.legal (subst (IsSettled clients) (sym fits.facts_are) settled)).same ∙ ap without_sessions fits.facts_are ∙ sym facts_are
@@ -130,7 +130,7 @@ either_moments clients j o o' moments =
 -- what is asked of a compaction: this is what it gives, whatever journal the disk holds
 abbrev pub GivesBrief : Meaning → StoreValue → JournalValue → Result JournalValue CompactionFault → Outside → Outside → Type 0
 GivesBrief clients s m result o o' =
-    (j : List (List Entry)) (two : Two File) → o.files ≡ Some two → facts j ≡ s.state.facts → HoldsSecond clients m j two → Compacts clients m j o o' result
+    (j : List (List Entry)) (two : Two File) → o.files ≡ Some two → facts j ≡ s.state.facts → HoldsSecond clients m j two → CompactsJournal clients m j o o' result
 
 module _ (clients : Meaning) (s : StoreValue) (m : JournalValue) (o o' : Outside) (short : m.format ≡ 2) (store : IsStore (moved_with s s.state m)) where
   pub leads_shortened : BriefKeepsFacts → (state : StateValue) (n : JournalValue) (u : Unit {0}) → IsSettled clients s.state.facts → state.facts ≡ without_sessions s.state.facts → n.format ≡ 2

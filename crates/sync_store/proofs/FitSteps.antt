@@ -6,11 +6,11 @@ use Rattle.std.proofs.lemmas.List.{ext_get_or}
 use Rattle.outside.specs.Files.{Two, File, IsFileImage, IsImage, NothingPending, file_of, read_files, settled}
 use Rattle.outside.specs.Frames.{HasFrames, IsAtRest, format_in, generation_in}
 use Rattle.outside.specs.Links.{sent_of}
-use Rattle.outside.specs.Disk.{Becomes}
+use Rattle.outside.specs.Disk.{RelatesTold}
 use Rattle.outside.specs.Outside.{Outside, Moment, MomentsAre}
-use Rattle.outside.specs.Steps.{FileMoment, Passed, other_of}
+use Rattle.outside.specs.Steps.{FileMoment, PassedMoments, other_of}
 use Rattle.outside.proofs.CallSteps.{becomes_told, image_file, image_other, moments_map, moments_none}
-use Rattle.frame_journal.specs.Append.{payload_of, Appends, BeforeOrWith, IsFramed}
+use Rattle.frame_journal.specs.Append.{payload_of, AppendsFrame, BeforeOrWith, IsFramed}
 use Rattle.sync_rules.specs.declared.entries.Entry.{Entry}
 use Rattle.sync_rules.specs.Clients.{Meaning}
 use Rattle.sync_rules.specs.Facts.{Facts, after_all, facts, nothing}
@@ -27,9 +27,9 @@ use Rattle.entry_codec.specs.StandingLaws.{JournalsStand}
 use Rattle.outside.specs.declared.limits.TheConstants.{MAX_JOURNAL}
 use Rattle.sync_store.specs.declared.fault.StoreFault.{StoreFault}
 use Rattle.sync_store.specs.Store.{StoreValue, format_meant, written_in}
-use Rattle.sync_store.specs.Fitting.{Fits, FitsSome}
-use Rattle.sync_store.specs.Commits.{Gains, MayAdd}
-use Rattle.sync_store.specs.Moments.{JournalMoment, Leads, WithAtMost, Adds}
+use Rattle.sync_store.specs.Fitting.{FitsFiles, FitsSome}
+use Rattle.sync_store.specs.Commits.{GainsBatch, MayAdd}
+use Rattle.sync_store.specs.Moments.{JournalMoment, LeadsTo, WithAtMost, RunsCommit}
 use Rattle.sync_store.proofs.Framing.{end_framed, framed_long}
 use Rattle.sync_store.proofs.Headers.{one_format, one_generation, one_journal_file}
 
@@ -68,7 +68,7 @@ this_reads two (suc _) = refl
 -- ---- what the files of a moment stand for
 
 -- frames of a journal behind the store's header, and the other file as it was
-stands_at : JournalsStand → (clients : Meaning) (s : StoreValue) (j : List (List Entry)) (two : Two File) (fits : Fits clients s j two) (m : Two (List ℕ)) (k : List (List Entry))
+stands_at : JournalsStand → (clients : Meaning) (s : StoreValue) (j : List (List Entry)) (two : Two File) (fits : FitsFiles clients s j two) (m : Two (List ℕ)) (k : List (List Entry))
     → HasFrames (file_of m s.file) fits.header (payloads (written_in s) nothing k) → other_of m s.file ≡ (other_of two s.file).now → Legal clients k
     → AllByRecursion (AllByRecursion (IsOfFormat (written_in s))) k → AllByRecursion (AllByRecursion IsEntry) k → journal_end (written_in s) k + room_of (written_in s) (facts k) ≤ MAX_JOURNAL → stands clients m ≡ journal k
 stands_at stand clients s j two fits m k frames other legal kinds within bounded =
@@ -92,14 +92,14 @@ stands_at stand clients s j two fits m k frames other legal kinds within bounded
     })
 
 -- the room of a store in words of its journal
-bounded_now : (clients : Meaning) (s : StoreValue) (j : List (List Entry)) (two : Two File) → Fits clients s j two → s.end + room_of (written_in s) s.state.facts ≤ MAX_JOURNAL
+bounded_now : (clients : Meaning) (s : StoreValue) (j : List (List Entry)) (two : Two File) → FitsFiles clients s j two → s.end + room_of (written_in s) s.state.facts ≤ MAX_JOURNAL
     → journal_end (written_in s) j + room_of (written_in s) (facts j) ≤ MAX_JOURNAL
 bounded_now clients s j two fits roomy =
     let same : room_of (written_in s) (facts j) ≡ room_of (written_in s) s.state.facts = ap (room_of (written_in s)) fits.facts_are in
     omega (arith, fits.end_is, same, roomy)
 
 -- every crash of now leaves files that stand for the journal
-pub fits_image : JournalsStand → (clients : Meaning) (s : StoreValue) (j : List (List Entry)) (two : Two File) (m : Two (List ℕ)) → Fits clients s j two
+pub fits_image : JournalsStand → (clients : Meaning) (s : StoreValue) (j : List (List Entry)) (two : Two File) (m : Two (List ℕ)) → FitsFiles clients s j two
     → s.end + room_of (written_in s) s.state.facts ≤ MAX_JOURNAL → IsImage two m → stands clients m ≡ journal j
 fits_image stand clients s j two m fits roomy image =
     let this : file_of m s.file ≡ (file_of two s.file).now =
@@ -125,15 +125,15 @@ same_frames : (two : Two File) (s new : StoreValue) (header : List ℕ) (j : Lis
 same_frames two s new header j same frames =
     subst (λ n. HasFrames (file_of two new.file).now header (payloads (format_meant n) nothing j)) (sym same) frames
 
-allowed_here : (clients : Meaning) (s : StoreValue) (j : List (List Entry)) (two : Two File) (batch : List Entry) (framed : List ℕ) → Fits clients s j two → MayAdd clients s batch framed
+allowed_here : (clients : Meaning) (s : StoreValue) (j : List (List Entry)) (two : Two File) (batch : List Entry) (framed : List ℕ) → FitsFiles clients s j two → MayAdd clients s batch framed
     → Allowed clients (facts j) batch
 allowed_here clients s j two batch framed fits may = subst (λ (f : Facts). Allowed clients f batch) (sym fits.facts_are) may.allowed
 
-payload_here : (clients : Meaning) (s : StoreValue) (j : List (List Entry)) (two : Two File) (batch : List Entry) (framed : List ℕ) → Fits clients s j two → MayAdd clients s batch framed
+payload_here : (clients : Meaning) (s : StoreValue) (j : List (List Entry)) (two : Two File) (batch : List Entry) (framed : List ℕ) → FitsFiles clients s j two → MayAdd clients s batch framed
     → payload_of framed ≡ payload (written_in s) (facts j) batch
 payload_here clients s j two batch framed fits may = may.payload_is ∙ ap (λ (f : Facts). payload (written_in s) f batch) (sym fits.facts_are)
 
-bounded_then : (clients : Meaning) (s : StoreValue) (j : List (List Entry)) (two : Two File) (batch : List Entry) (framed : List ℕ) → Fits clients s j two → MayAdd clients s batch framed
+bounded_then : (clients : Meaning) (s : StoreValue) (j : List (List Entry)) (two : Two File) (batch : List Entry) (framed : List ℕ) → FitsFiles clients s j two → MayAdd clients s batch framed
     → journal_end (written_in s) (j ++ batch ∷ []) + room_of (written_in s) (facts (j ++ batch ∷ [])) ≤ MAX_JOURNAL
 bounded_then clients s j two batch framed fits may =
     let same : room_of (written_in s) (facts (j ++ batch ∷ [])) ≡ room_of (written_in s) (after_all s.state.facts batch) =
@@ -146,7 +146,7 @@ more_frames format bytes header j batch framed same frames =
     subst (λ (ps : List (List ℕ)). HasFrames bytes header ps) (ap (λ p. payloads format nothing j ++ p ∷ []) same ∙ sym (payloads_push format nothing j batch)) frames
 
 -- a moment of an append: the files stand for the journal, or for it with the batch
-adds_moment : JournalsStand → (clients : Meaning) (s : StoreValue) (j : List (List Entry)) (two : Two File) (batch : List Entry) (framed : List ℕ) (sent : List (List ℕ)) → Fits clients s j two
+adds_moment : JournalsStand → (clients : Meaning) (s : StoreValue) (j : List (List Entry)) (two : Two File) (batch : List Entry) (framed : List ℕ) (sent : List (List ℕ)) → FitsFiles clients s j two
     → MayAdd clients s batch framed → (m : Moment) → FileMoment (BeforeOrWith (file_of two s.file).now s.end framed) two sent s.file m → JournalMoment clients (WithAtMost j batch) sent m
 adds_moment stand clients s j two batch framed sent fits may m moment =
     let other : other_of m.files s.file ≡ (other_of two s.file).now =
@@ -172,8 +172,8 @@ adds_moment stand clients s j two batch framed sent fits may m moment =
     ]
 
 -- after an append the disk fits the store with the batch
-pub adds_fits : JournalsStand → (clients : Meaning) (s new : StoreValue) (j : List (List Entry)) (two two' : Two File) (batch : List Entry) (framed : List ℕ) → Fits clients s j two
-    → MayAdd clients s batch framed → Appends s.file s.end framed two two' → Gains s new batch → Fits clients new (j ++ batch ∷ []) two'
+pub adds_fits : JournalsStand → (clients : Meaning) (s new : StoreValue) (j : List (List Entry)) (two two' : Two File) (batch : List Entry) (framed : List ℕ) → FitsFiles clients s j two
+    → MayAdd clients s batch framed → AppendsFrame s.file s.end framed two two' → GainsBatch s new batch → FitsFiles clients new (j ++ batch ∷ []) two'
 adds_fits stand clients s new j two two' batch framed fits may appends is_with =
     let payload_is = payload_here clients s j two batch framed fits may in
     let long : length framed ≡ 5 + payload_len (written_in s) batch = framed_len s batch framed may.is_framed may.payload_is in
@@ -221,8 +221,8 @@ adds_fits stand clients s new j two two' batch framed fits may appends is_with =
 
 -- ---- the run of an append
 
-pub adds_moments : JournalsStand → (clients : Meaning) (s : StoreValue) (j : List (List Entry)) (two : Two File) (batch : List Entry) (framed : List ℕ) (o o' : Outside) → Fits clients s j two
-    → MayAdd clients s batch framed → Passed two o o' s.file (BeforeOrWith (file_of two s.file).now s.end framed)
+pub adds_moments : JournalsStand → (clients : Meaning) (s : StoreValue) (j : List (List Entry)) (two : Two File) (batch : List Entry) (framed : List ℕ) (o o' : Outside) → FitsFiles clients s j two
+    → MayAdd clients s batch framed → PassedMoments two o o' s.file (BeforeOrWith (file_of two s.file).now s.end framed)
     → MomentsAre o o' (JournalMoment clients (WithAtMost j batch) (sent_of o.links.told))
 adds_moments stand clients s j two batch framed o o' fits may passed =
     moments_map o o' (FileMoment (BeforeOrWith (file_of two s.file).now s.end framed) two (sent_of o.links.told) s.file)
@@ -232,20 +232,20 @@ adds_moments stand clients s j two batch framed o o' fits may passed =
 pub true≢false : {A : Type 0} (b : Bool) → b ≡ true → b ≡ false → A
 true≢false b is_true is_false = cc
 
-pub adds_ok : JournalsStand → (clients : Meaning) (s new : StoreValue) (j : List (List Entry)) (two : Two File) (batch : List Entry) (framed : List ℕ) (u : Unit {0}) (o o' : Outside) → Fits clients s j two
-    → MayAdd clients s batch framed → o.files ≡ Some two → Passed two o o' s.file (BeforeOrWith (file_of two s.file).now s.end framed)
-    → Becomes (Appends s.file s.end framed) o.files o'.files → Gains s new batch → Adds clients batch (Ok u) new o o' j
+pub adds_ok : JournalsStand → (clients : Meaning) (s new : StoreValue) (j : List (List Entry)) (two : Two File) (batch : List Entry) (framed : List ℕ) (u : Unit {0}) (o o' : Outside) → FitsFiles clients s j two
+    → MayAdd clients s batch framed → o.files ≡ Some two → PassedMoments two o o' s.file (BeforeOrWith (file_of two s.file).now s.end framed)
+    → RelatesTold (AppendsFrame s.file s.end framed) o.files o'.files → GainsBatch s new batch → RunsCommit clients batch (Ok u) new o o' j
 adds_ok stand clients s new j two batch framed u o o' fits may told passed becomes is_with = record {
   moments = adds_moments stand clients s j two batch framed o o' fits may passed;
   ends = λ still two' told'.
-      let there = becomes_told (Appends s.file s.end framed) o.files o'.files two told becomes in
+      let there = becomes_told (AppendsFrame s.file s.end framed) o.files o'.files two told becomes in
       let same : there.0 ≡ two' = cc in
-      (j ++ batch ∷ [], refl, adds_fits stand clients s new j two two' batch framed fits may (subst (λ (t : Two File). Appends s.file s.end framed two t) same there.2) is_with);
+      (j ++ batch ∷ [], refl, adds_fits stand clients s new j two two' batch framed fits may (subst (λ (t : Two File). AppendsFrame s.file s.end framed two t) same there.2) is_with);
 }
 
-pub adds_err : JournalsStand → (clients : Meaning) (s new : StoreValue) (j : List (List Entry)) (two : Two File) (batch : List Entry) (framed : List ℕ) (e : StoreFault) (o o' : Outside) → Fits clients s j two
-    → MayAdd clients s batch framed → Passed two o o' s.file (BeforeOrWith (file_of two s.file).now s.end framed)
-    → new.closed ≡ true → Adds clients batch (Err e) new o o' j
+pub adds_err : JournalsStand → (clients : Meaning) (s new : StoreValue) (j : List (List Entry)) (two : Two File) (batch : List Entry) (framed : List ℕ) (e : StoreFault) (o o' : Outside) → FitsFiles clients s j two
+    → MayAdd clients s batch framed → PassedMoments two o o' s.file (BeforeOrWith (file_of two s.file).now s.end framed)
+    → new.closed ≡ true → RunsCommit clients batch (Err e) new o o' j
 adds_err stand clients s new j two batch framed e o o' fits may passed closed = record {
   moments = adds_moments stand clients s j two batch framed o o' fits may passed;
   ends = λ still two' told'. true≢false new.closed closed still;
@@ -259,7 +259,7 @@ pub record IsSame (s new : StoreValue) : Type 0 where
   pub generation : new.generation ≡ s.generation
   pub end : new.end ≡ s.end
 
-pub fits_same : (clients : Meaning) (s new : StoreValue) (j : List (List Entry)) (two : Two File) → Fits clients s j two → IsSame s new → Fits clients new j two
+pub fits_same : (clients : Meaning) (s new : StoreValue) (j : List (List Entry)) (two : Two File) → FitsFiles clients s j two → IsSame s new → FitsFiles clients new j two
 fits_same clients s new j two fits same = record {
   first_settled = fits.first_settled;
   second_settled = fits.second_settled;
@@ -281,8 +281,8 @@ pub fits_some_same : (clients : Meaning) (s new : StoreValue) (files : Option (T
 fits_some_same clients s new files fits same two told = let there = fits two told in (there.0, fits_same clients s new there.0 two there.1 same)
 
 -- no call on the disk
-pub leads_none : JournalsStand → (clients : Meaning) (P Q : List (List Entry) → Type 0) (s new : StoreValue) (j : List (List Entry)) (two : Two File) (o : Outside) → Fits clients s j two
-    → s.end + room_of (written_in s) s.state.facts ≤ MAX_JOURNAL → o.files ≡ Some two → IsSame s new → P j → Q j → Leads clients P Q new o o
+pub leads_none : JournalsStand → (clients : Meaning) (P Q : List (List Entry) → Type 0) (s new : StoreValue) (j : List (List Entry)) (two : Two File) (o : Outside) → FitsFiles clients s j two
+    → s.end + room_of (written_in s) s.state.facts ≤ MAX_JOURNAL → o.files ≡ Some two → IsSame s new → P j → Q j → LeadsTo clients P Q new o o
 leads_none stand clients P Q s new j two o fits roomy told same p q = record {
   moments =
       moments_none o (JournalMoment clients P (sent_of o.links.told))
@@ -291,11 +291,11 @@ leads_none stand clients P Q s new j two o fits roomy told same p q = record {
       record { whole = j; has = p; stands_for = fits_image stand clients s j two m.files fits roomy now.image; nothing_sent = now.sent });
   ends = λ still two' told'.
       let one : two ≡ two' = cc in
-      (j, q, subst (λ (t : Two File). Fits clients new j t) one (fits_same clients s new j two fits same));
+      (j, q, subst (λ (t : Two File). FitsFiles clients new j t) one (fits_same clients s new j two fits same));
 }
 
 -- a journal's file at rest, as an append asks
-at_rest : (clients : Meaning) (s : StoreValue) (j : List (List Entry)) (two : Two File) → Fits clients s j two → IsAtRest two s.file s.end
+at_rest : (clients : Meaning) (s : StoreValue) (j : List (List Entry)) (two : Two File) → FitsFiles clients s j two → IsAtRest two s.file s.end
 at_rest clients s j two fits = record {
   settled = this_settled two s.file fits.first_settled fits.second_settled;
   header = fits.header;

@@ -4,11 +4,11 @@ use Rattle.std.specs.List.{AllByRecursion}
 use Rattle.std.proofs.lemmas.Bool.Decides.{nat_tests}
 use Rattle.outside.specs.Files.{Two, File, file_of}
 use Rattle.outside.specs.Frames.{IsPayload}
-use Rattle.outside.specs.Disk.{Becomes}
+use Rattle.outside.specs.Disk.{RelatesTold}
 use Rattle.outside.specs.Outside.{Outside, MakesAtMost, MakesCalls, MakesJust}
-use Rattle.outside.specs.Steps.{Passed}
+use Rattle.outside.specs.Steps.{PassedMoments}
 use Rattle.outside.proofs.CallCounts.{most_none}
-use Rattle.frame_journal.specs.Append.{Appends, BeforeOrWith, IsFramed, framed_of, payload_of}
+use Rattle.frame_journal.specs.Append.{AppendsFrame, BeforeOrWith, IsFramed, framed_of, payload_of}
 use Rattle.sync_rules.specs.declared.entries.Entry.{Entry}
 use Rattle.sync_rules.specs.declared.limits.TheConstants.{MAX_STEPS}
 use Rattle.sync_rules.specs.Allows.{is_account_kind}
@@ -28,9 +28,9 @@ use Rattle.entry_codec.specs.StandingLaws.{JournalsStand}
 use Rattle.outside.specs.declared.limits.TheConstants.{MAX_JOURNAL}
 use Rattle.sync_store.specs.declared.fault.StoreFault.{StoreFault}
 use Rattle.sync_store.specs.declared.fault.StoreFault.TheVariants as fault
-use Rattle.sync_store.specs.Cited.{CitedLaws}
+use Rattle.sync_store.specs.Cited.{StoreLaws}
 use Rattle.sync_store.specs.Store.{HasNumbers, IsStore, StoreValue, counts_to, format_meant, written_in}
-use Rattle.sync_store.specs.Commits.{Gains, MayAdd, needed}
+use Rattle.sync_store.specs.Commits.{GainsBatch, MayAdd, needed}
 use Rattle.sync_store.specs.Moments.{journal_with}
 use Rattle.sync_store.specs.Ready.{IsReady}
 use Rattle.sync_store.specs.Settling.{BatchSo, ComesBy, IsOneBatch, MakesBatch}
@@ -45,7 +45,7 @@ use Rattle.sync_store.proofs.Steps.{numbers_stay}
 
 -- ---- numbers
 
-grown_numbers : CitedLaws → (clients : Meaning) (f : Facts) (batch : List Entry) (end later : ℕ) → Allowed clients f batch → HasNumbers f end → end + 1 ≤ later → HasNumbers (after_all f batch) later
+grown_numbers : StoreLaws → (clients : Meaning) (f : Facts) (batch : List Entry) (end later : ℕ) → Allowed clients f batch → HasNumbers f end → end + 1 ≤ later → HasNumbers (after_all f batch) later
 grown_numbers laws clients f batch end later allowed numbers far =
     let added = laws.add_one clients f batch allowed in
     record {
@@ -55,7 +55,7 @@ grown_numbers laws clients f batch end later allowed numbers far =
     }
 
 -- the numbers of a store that gained a batch
-pub grown_store : CitedLaws → (clients : Meaning) (s new : StoreValue) (batch : List Entry) (framed : List ℕ) → IsStore s → MayAdd clients s batch framed → Gains s new batch → IsStore new
+pub grown_store : StoreLaws → (clients : Meaning) (s new : StoreValue) (batch : List Entry) (framed : List ℕ) → IsStore s → MayAdd clients s batch framed → GainsBatch s new batch → IsStore new
 grown_store laws clients s new batch framed store may gains =
     let long : length framed ≡ 5 + payload_len (written_in s) batch = framed_len s batch framed may.is_framed may.payload_is in
     let room : room_of (written_in new) new.state.facts ≡ room_of (written_in s) (after_all s.state.facts batch) =
@@ -108,7 +108,7 @@ length_by : (p framed : List ℕ) → framed ≡ framed_of p → length framed �
 length_by p framed is = ap length is ∙ framed_length p
 
 -- what a commit found of its batch
-pub may_add : CitedLaws → (clients : Meaning) (s new : StoreValue) (batch : List Entry) (framed : List ℕ) → IsStore s → new.state.facts ≡ s.state.facts → new.end ≡ s.end
+pub may_add : StoreLaws → (clients : Meaning) (s new : StoreValue) (batch : List Entry) (framed : List ℕ) → IsStore s → new.state.facts ≡ s.state.facts → new.end ≡ s.end
     → new.format ≡ s.format → Allowed clients s.state.facts batch → is_account_kind batch ≡ false → AllByRecursion IsEntry batch → framed ≡ framed_of (payload (written_in s) s.state.facts batch) → needed s batch ≤ s.limit
     → MayAdd clients new batch framed
 may_add laws clients s new batch framed store facts end format allowed plain within is fits =
@@ -191,7 +191,7 @@ filled_len clients s facts es framed f =
     omega (arith, length_by (payload (written_in s) s.state.facts es) framed f.framed_is, batch_len_same (written_in s) (names_of s.state.facts) es)
 
 filled_gains : (clients : Meaning) (s new : StoreValue) (facts : Facts) (es : List Entry) (framed : List ℕ) → Filled clients s facts es framed → Came s new facts → new.end ≡ s.end + length framed
-    → new.closed ≡ false → Gains s new es
+    → new.closed ≡ false → GainsBatch s new es
 filled_gains clients s new facts es framed f came end closed = record {
   facts = came.facts_are ∙ f.facts_are;
   file = came.file;
@@ -203,8 +203,8 @@ filled_gains clients s new facts es framed f came end closed = record {
 }
 
 pub filled_ok : JournalsStand → (clients : Meaning) (s new : StoreValue) (facts : Facts) (es : List Entry) (framed : List ℕ) (o o' : Outside) → Filled clients s facts es framed → Came s new facts
-    → new.end ≡ s.end + length framed → new.closed ≡ false → ((two : Two File) → o.files ≡ Some two → Passed two o o' s.file (BeforeOrWith (file_of two s.file).now s.end framed))
-    → Becomes (Appends s.file s.end framed) o.files o'.files → MakesJust 4 o o' → ComesBy clients s new o o' (es ∷ [])
+    → new.end ≡ s.end + length framed → new.closed ≡ false → ((two : Two File) → o.files ≡ Some two → PassedMoments two o o' s.file (BeforeOrWith (file_of two s.file).now s.end framed))
+    → RelatesTold (AppendsFrame s.file s.end framed) o.files o'.files → MakesJust 4 o o' → ComesBy clients s new o o' (es ∷ [])
 filled_ok stand clients s new facts es framed o o' f came end closed passed becomes made = record {
   settling = ((f.some, f.few, f.settling), tt);
   facts = came.facts_are ∙ f.facts_are;
@@ -222,7 +222,7 @@ filled_ok stand clients s new facts es framed o o' f came end closed passed beco
 
 -- the disk failed
 pub filled_err : JournalsStand → (clients : Meaning) (s new : StoreValue) (facts : Facts) (es : List Entry) (framed : List ℕ) (e : StoreFault) (o o' : Outside) → Filled clients s facts es framed
-    → Came s new facts → e ≡ fault.DiskFault → new.closed ≡ true → ((two : Two File) → o.files ≡ Some two → Passed two o o' s.file (BeforeOrWith (file_of two s.file).now s.end framed))
+    → Came s new facts → e ≡ fault.DiskFault → new.closed ≡ true → ((two : Two File) → o.files ≡ Some two → PassedMoments two o o' s.file (BeforeOrWith (file_of two s.file).now s.end framed))
     → MakesAtMost 4 o o' → MakesBatch clients s new (Err e) o o'
 filled_err stand clients s new facts es framed e o o' f came is closed passed made = record {
   more = es ∷ [];
@@ -246,8 +246,8 @@ filled_err stand clients s new facts es framed e o o' f came is closed passed ma
 -- memory was wanting for the steps behind them
 pub filled_memory : JournalsStand → (clients : Meaning) (s new : StoreValue) (facts : Facts) (es : List Entry) (framed : List ℕ) (e : StoreFault) (o o' : Outside) → Filled clients s facts es framed
     → Came s new facts → new.end ≡ s.end + length framed → new.closed ≡ false → e ≡ fault.Memory
-    → ((two : Two File) → o.files ≡ Some two → Passed two o o' s.file (BeforeOrWith (file_of two s.file).now s.end framed))
-    → Becomes (Appends s.file s.end framed) o.files o'.files → MakesJust 4 o o' → MakesBatch clients s new (Err e) o o'
+    → ((two : Two File) → o.files ≡ Some two → PassedMoments two o o' s.file (BeforeOrWith (file_of two s.file).now s.end framed))
+    → RelatesTold (AppendsFrame s.file s.end framed) o.files o'.files → MakesJust 4 o o' → MakesBatch clients s new (Err e) o o'
 filled_memory stand clients s new facts es framed e o o' f came end closed is passed becomes made = record {
   more = es ∷ [];
   comes = filled_ok stand clients s new facts es framed o o' f came end closed passed becomes made;
@@ -258,8 +258,8 @@ filled_memory stand clients s new facts es framed e o o' f came end closed is pa
 -- the batch is full, or no step is left
 pub filled_whole : JournalsStand → (clients : Meaning) (s new : StoreValue) (facts : Facts) (es : List Entry) (framed : List ℕ) (n : ℕ) (u : Unit {0}) (o o' : Outside) → Filled clients s facts es framed
     → Came s new facts → new.end ≡ s.end + length framed → new.closed ≡ false
-    → ((two : Two File) → o.files ≡ Some two → Passed two o o' s.file (BeforeOrWith (file_of two s.file).now s.end framed))
-    → Becomes (Appends s.file s.end framed) o.files o'.files → MakesJust 4 o o' → length es ≡ n → (n ≡ MAX_STEPS) ⊎ IsSettled clients facts → MakesBatch clients s new (Ok u) o o'
+    → ((two : Two File) → o.files ≡ Some two → PassedMoments two o o' s.file (BeforeOrWith (file_of two s.file).now s.end framed))
+    → RelatesTold (AppendsFrame s.file s.end framed) o.files o'.files → MakesJust 4 o o' → length es ≡ n → (n ≡ MAX_STEPS) ⊎ IsSettled clients facts → MakesBatch clients s new (Ok u) o o'
 filled_whole stand clients s new facts es framed n u o o' f came end closed passed becomes made long full =
     let less : left_of new.state.facts < left_of s.state.facts =
     subst (λ (g : Facts). left_of g < left_of s.state.facts) (sym came.facts_are) (filled_less clients s facts es framed f) in

@@ -5,15 +5,15 @@ use Rattle.outside.specs.Files.{Two, File, file_of, read_files}
 use Rattle.outside.specs.Outside.{MakesAtMost, MakesJust, Outside}
 use Rattle.outside.proofs.CallCounts.{just_then, most_more, most_then, within}
 use Rattle.frame_journal.specs.Journal.{JournalValue}
-use Rattle.frame_journal.specs.Next.{FrameCalls, Moves, NextFrame}
+use Rattle.frame_journal.specs.Next.{FrameCalls, MovesReader, NextFrame}
 use Rattle.sync_rules.specs.declared.entries.Entry.{Entry}
 use Rattle.sync_rules.specs.Clients.{Meaning}
 use Rattle.entry_codec.specs.Standing.{journal, stands}
 use Rattle.journal_migration.proofs.Fronts.{gate_whole, rest_front}
 use Rattle.journal_state.specs.Whole.{StateValue}
-use Rattle.sync_store.specs.Cited.{CitedLaws}
+use Rattle.sync_store.specs.Cited.{StoreLaws}
 use Rattle.sync_store.specs.Store.{format_meant}
-use Rattle.sync_store.specs.Loading.{HasReadSome, IsAtEnd, LoadsWithin, Plays, ReadsMore, ReadsWithin, TurnCalls}
+use Rattle.sync_store.specs.Loading.{HasReadSome, IsAtJournalEnd, LoadsWithin, PlaysFrame, ReadsMore, ReadsWithin, TurnCalls}
 use Rattle.sync_store.specs.declared.fault.LoadFault.{LoadFault}
 use Rattle.sync_store.proofs.LoadSteps.{more_read}
 
@@ -30,14 +30,14 @@ more_failed clients files j j' s s' e result is = subst (λ (r : Result Bool Loa
 pub turn_calls : {E : Type 0} (more known : Bool) (o o' : Outside) → more ≡ known → FrameCalls more o o' → MakesAtMost 2 o o' → TurnCalls {E = E} (Ok known) o o'
 turn_calls more known o o' is calls most = record { just = subst (λ b. FrameCalls b o o') is calls; most = most }
 
-pub none_more : (clients : Meaning) (files : Option (Two File)) (j j' : JournalValue) (s : StateValue) (more : Bool) → more ≡ false → Moves j j' (Ok more) → ReadsMore clients files j j' s s (Ok false)
+pub none_more : (clients : Meaning) (files : Option (Two File)) (j j' : JournalValue) (s : StateValue) (more : Bool) → more ≡ false → MovesReader j j' (Ok more) → ReadsMore clients files j j' s s (Ok false)
 none_more clients files j j' s more is moves two told batches some =
-    let P : Bool → Type 0 = λ b. Moves j j' (Ok b) in
+    let P : Bool → Type 0 = λ b. MovesReader j j' (Ok b) in
     let same : j' ≡ j = subst P is moves in
     subst (λ (v : JournalValue). HasReadSome clients two v s batches) (sym same) some
 
-pub one_more : CitedLaws → (clients : Meaning) (files : Option (Two File)) (j j' : JournalValue) (s s' : StateValue) (to : List ℕ) (u : Unit {0})
-    → ((two : Two File) → files ≡ Some two → NextFrame (file_of two j.file).now j j' to) → Plays clients j' s s' to (Ok u) → ReadsMore clients files j j' s s' (Ok true)
+pub one_more : StoreLaws → (clients : Meaning) (files : Option (Two File)) (j j' : JournalValue) (s s' : StateValue) (to : List ℕ) (u : Unit {0})
+    → ((two : Two File) → files ≡ Some two → NextFrame (file_of two j.file).now j j' to) → PlaysFrame clients j' s s' to (Ok u) → ReadsMore clients files j j' s s' (Ok true)
 one_more laws clients files j j' s s' to u next played two told batches some = more_read laws clients two j j' s s' to batches some (next two told) played
 
 pub more_as : (clients : Meaning) (files : Option (Two File)) (j j' : JournalValue) (s s' : StateValue) (more known : Bool) → more ≡ known → ReadsMore clients files j j' s s' (Ok more)
@@ -92,7 +92,7 @@ reads_so (Err e) batches o0 o' made = record { just = tt; most = within (2 * bat
 
 pub reads_ended : (result : Result (Unit {0}) LoadFault) (clients : Meaning) (o0 o o' : Outside) (j j' : JournalValue) (s s' : StateValue) (two : Two File) (jn : List (List Entry))
     → stands clients (read_files two) ≡ journal jn → CountsSo clients o0 o j s two → o.files ≡ Some two → ReadsMore clients o.files j j' s s' (Ok false) → FrameCalls false o o' → 15 ≤ j'.end
-    → IsAtEnd (Some two) j' → ReadsWithin (length jn) result o0 o'
+    → IsAtJournalEnd (Some two) j' → ReadsWithin (length jn) result o0 o'
 reads_ended result clients o0 o o' j j' s s' two jn stood so told reads calls started at_end =
     let there = reads two told so.batches so.some in
     let read = there.read in

@@ -10,13 +10,13 @@ use Rattle.sync_rules.specs.Steps.{answer_of}
 use Rattle.outside.specs.Files.{Two, File, IsFileImage, IsImage, file_of, read_files, settled}
 use Rattle.outside.specs.Frames.{format_in, generation_in, HasFrames}
 use Rattle.outside.specs.Links.{Links, sent_of}
-use Rattle.outside.specs.Outside.{Outside, Moment, IsNow, DiskRun, Looks}
-use Rattle.outside.specs.Disk.{Becomes}
+use Rattle.outside.specs.Outside.{Outside, Moment, IsNow, DiskRun, OnlyReads}
+use Rattle.outside.specs.Disk.{RelatesTold}
 use Rattle.outside.proofs.CallSteps.{becomes_told, moments_map, moments_then}
 use Rattle.outside.specs.declared.disk.Place.{Place}
 use Rattle.frame_journal.specs.Gates.{AnyImage, SyncsBoth}
 use Rattle.frame_journal.specs.Journal.{JournalValue, is_format}
-use Rattle.frame_journal.specs.Header.{Starts}
+use Rattle.frame_journal.specs.Header.{StartsJournal}
 use Rattle.frame_journal.specs.declared.fault.StartFault.{StartFault}
 use Rattle.frame_journal.specs.declared.fault.StartFault.TheVariants as start
 use Rattle.entry_codec.specs.Naming.{format_of}
@@ -24,7 +24,7 @@ use Rattle.entry_codec.specs.Payloads.{payloads}
 use Rattle.entry_codec.specs.Standing.{damaged, no_store, room_of, stands}
 use Rattle.entry_codec.specs.Fronts.{Front}
 use Rattle.entry_codec.proofs.FrontLaws.{front_closed, front_format, front_frames, front_none, front_start}
-use Rattle.journal_state.specs.Whole.{Knows, StateValue}
+use Rattle.journal_state.specs.Whole.{KnowsJudgements, StateValue}
 use Rattle.outside.specs.declared.limits.TheConstants.{MAX_JOURNAL}
 use Rattle.sync_store.specs.Store.{StoreValue, format_meant}
 use Rattle.sync_store.specs.Fitting.{FitsSome}
@@ -32,7 +32,7 @@ use Rattle.sync_store.specs.Ready.{IsReady}
 use Rattle.sync_store.specs.Faults.{load_of_start}
 use Rattle.sync_store.specs.declared.fault.LoadFault.{LoadFault}
 use Rattle.sync_store.specs.declared.fault.LoadFault.TheVariants as load
-use Rattle.sync_store.specs.Loading.{AreDamaged, HasReadAll, HasReadSome, IsLoaded, LeavesSettled, ReadsAll, SoFar, StandsFor}
+use Rattle.sync_store.specs.Loading.{AreDamaged, HasReadJournal, HasReadSome, IsJournalLoaded, LeavesSettled, ReadsWholeJournal, PlayedSoFar, StandsFor}
 use Rattle.sync_store.proofs.FormatLaws.{known_format, unknown_format}
 use Rattle.sync_store.proofs.LoadSteps.{as_read}
 
@@ -51,22 +51,22 @@ settled_back old new c reads settles image =
     }
 
 -- calls that only read after a barrier
-pub images_then : (o0 o1 o2 : Outside) → AnyImage o0 o1 → Becomes SyncsBoth o0.files o1.files → DiskRun o0 o1 → Looks o1 o2 → AnyImage o0 o2
+pub images_then : (o0 o1 o2 : Outside) → AnyImage o0 o1 → RelatesTold SyncsBoth o0.files o1.files → DiskRun o0 o1 → OnlyReads o1 o2 → AnyImage o0 o2
 images_then o0 o1 o2 images settles run looks two told =
     let mid = becomes_told SyncsBoth o0.files o1.files two told settles in
     let weaker : (m : Moment) → IsNow mid.0 o1.links m → IsNow two o0.links m =
     λ m now. record { image = settled_back two mid.0 m.files (o0.reads two told) mid.2 now.image; sent = now.sent ∙ ap (λ (l : Links). sent_of l.told) run.same_links } in
     moments_then o0 o1 o2 (IsNow two o0.links) (images two told) (moments_map o1 o2 (IsNow mid.0 o1.links) (IsNow two o0.links) weaker (looks.moments mid.0 mid.1))
 
-pub settles_then : (o0 o1 o2 : Outside) → Becomes SyncsBoth o0.files o1.files → Looks o1 o2 → Becomes SyncsBoth o0.files o2.files
-settles_then o0 o1 o2 settles looks = subst (λ (f : Option (Two File)). Becomes SyncsBoth o0.files f) (sym looks.same_files) settles
+pub settles_then : (o0 o1 o2 : Outside) → RelatesTold SyncsBoth o0.files o1.files → OnlyReads o1 o2 → RelatesTold SyncsBoth o0.files o2.files
+settles_then o0 o1 o2 settles looks = subst (λ (f : Option (Two File)). RelatesTold SyncsBoth o0.files f) (sym looks.same_files) settles
 
 -- the files read as before
 reads_same : (old new : Two File) → SyncsBoth old new → read_files new ≡ read_files old
 reads_same old new settles = ap (λ (t : Two File). read_files t) settles
 
 -- where the files are told before a barrier they are after it, and read as before
-pub barrier_told : (o0 o1 : Outside) (two : Two File) → Becomes SyncsBoth o0.files o1.files → o0.files ≡ Some two → (mid : Two File) × (o1.files ≡ Some mid) × (read_files mid ≡ read_files two)
+pub barrier_told : (o0 o1 : Outside) (two : Two File) → RelatesTold SyncsBoth o0.files o1.files → o0.files ≡ Some two → (mid : Two File) × (o1.files ≡ Some mid) × (read_files mid ≡ read_files two)
 barrier_told o0 o1 two settles told =
     let mid = becomes_told SyncsBoth o0.files o1.files two told settles in
     (mid.0, mid.1, reads_same two mid.0 mid.2)
@@ -79,7 +79,7 @@ no_records f session end empty =
     omega (arith, none)
 
 -- no batch was read yet
-pub starts_some : (clients : Meaning) (two : Two File) (j : JournalValue) (s : StateValue) → Starts (read_files two) (Ok j) → j.end ≡ 15 → s.facts ≡ nothing → HasReadSome clients two j s 0
+pub starts_some : (clients : Meaning) (two : Two File) (j : JournalValue) (s : StateValue) → StartsJournal (read_files two) (Ok j) → j.end ≡ 15 → s.facts ≡ nothing → HasReadSome clients two j s 0
 starts_some clients two j s is fresh empty =
     let same : j.format ≡ format_in (file_of (read_files two) j.file) = ap (λ (v : JournalValue). v.format) is.2 in
     let known = known_format j.format (ap is_format same ∙ is.1) in
@@ -98,8 +98,8 @@ starts_some clients two j s is fresh empty =
     }
 
 -- the first gate
-pub starts_so_far : (clients : Meaning) (files : Option (Two File)) (j : JournalValue) (s : StateValue) → ((two : Two File) → files ≡ Some two → Starts (read_files two) (Ok j)) → (j.end ≡ 15)
-    → s.facts ≡ nothing → Knows clients s → SoFar clients files j s
+pub starts_so_far : (clients : Meaning) (files : Option (Two File)) (j : JournalValue) (s : StateValue) → ((two : Two File) → files ≡ Some two → StartsJournal (read_files two) (Ok j)) → (j.end ≡ 15)
+    → s.facts ≡ nothing → KnowsJudgements clients s → PlayedSoFar clients files j s
 starts_so_far clients files j s starts fresh empty knows = record {
   knows = knows;
   numbers = record {
@@ -113,13 +113,13 @@ starts_so_far clients files j s starts fresh empty knows = record {
   known = λ two told. (starts_some clients two j s (starts two told) fresh empty).read;
 }
 
-starts_none : (clients : Meaning) (o0 o1 : Outside) (two : Two File) → Becomes SyncsBoth o0.files o1.files → ((mid : Two File) → o1.files ≡ Some mid → Starts (read_files mid) (Err start.NoStore))
+starts_none : (clients : Meaning) (o0 o1 : Outside) (two : Two File) → RelatesTold SyncsBoth o0.files o1.files → ((mid : Two File) → o1.files ≡ Some mid → StartsJournal (read_files mid) (Err start.NoStore))
     → o0.files ≡ Some two → stands clients (read_files two) ≡ no_store
 starts_none clients o0 o1 two settles starts told =
     let mid = barrier_told o0 o1 two settles told in
     ap (stands clients) (sym mid.2) ∙ front_none clients (read_files mid.0) (starts mid.0 mid.1)
 
-starts_damaged : (clients : Meaning) (o0 o1 : Outside) (two : Two File) (place : Place) → Becomes SyncsBoth o0.files o1.files → ((mid : Two File) → o1.files ≡ Some mid → Starts (read_files mid) (Err (start.Damaged place)))
+starts_damaged : (clients : Meaning) (o0 o1 : Outside) (two : Two File) (place : Place) → RelatesTold SyncsBoth o0.files o1.files → ((mid : Two File) → o1.files ≡ Some mid → StartsJournal (read_files mid) (Err (start.Damaged place)))
     → o0.files ≡ Some two → stands clients (read_files two) ≡ damaged place.file place.at
 starts_damaged clients o0 o1 two place settles starts told =
     let mid = barrier_told o0 o1 two settles told in
@@ -127,18 +127,18 @@ starts_damaged clients o0 o1 two place settles starts told =
     ap (stands clients) (sym mid.2) ∙ front_format clients (read_files mid.0) place.file is.0 (unknown_format (format_in (file_of (read_files mid.0) place.file)) is.1) ∙ ap (λ (n : ℕ). damaged place.file n) (sym is.2)
 
 -- no journal was found
-pub starts_fault : (clients : Meaning) (o0 o1 : Outside) (two : Two File) (e : StartFault) → Becomes SyncsBoth o0.files o1.files → ((mid : Two File) → o1.files ≡ Some mid → Starts (read_files mid) (Err e))
-    → o0.files ≡ Some two → IsLoaded clients (read_files two) (Err (load_of_start e))
+pub starts_fault : (clients : Meaning) (o0 o1 : Outside) (two : Two File) (e : StartFault) → RelatesTold SyncsBoth o0.files o1.files → ((mid : Two File) → o1.files ≡ Some mid → StartsJournal (read_files mid) (Err e))
+    → o0.files ≡ Some two → IsJournalLoaded clients (read_files two) (Err (load_of_start e))
 starts_fault clients o0 o1 two start.NoStore settles starts told = starts_none clients o0 o1 two settles starts told
 starts_fault clients o0 o1 two start.DiskFault settles starts told = tt
 starts_fault clients o0 o1 two (start.Damaged place) settles starts told = starts_damaged clients o0 o1 two place settles starts told
 
-pub starts_leaves : (o0 o1 o2 : Outside) (e : StartFault) → Becomes SyncsBoth o0.files o1.files → Looks o1 o2 → LeavesSettled o0.files o2.files (Err (load_of_start e))
+pub starts_leaves : (o0 o1 o2 : Outside) (e : StartFault) → RelatesTold SyncsBoth o0.files o1.files → OnlyReads o1 o2 → LeavesSettled o0.files o2.files (Err (load_of_start e))
 starts_leaves o0 o1 o2 start.NoStore settles looks = settles_then o0 o1 o2 settles looks
 starts_leaves o0 o1 o2 start.DiskFault settles looks = tt
 starts_leaves o0 o1 o2 (start.Damaged place) settles looks = settles_then o0 o1 o2 settles looks
 
-pub reads_leaves : (o0 o1 o2 : Outside) (e : LoadFault) → Becomes SyncsBoth o0.files o1.files → Looks o1 o2 → LeavesSettled o0.files o2.files (Err e)
+pub reads_leaves : (o0 o1 o2 : Outside) (e : LoadFault) → RelatesTold SyncsBoth o0.files o1.files → OnlyReads o1 o2 → LeavesSettled o0.files o2.files (Err e)
 reads_leaves o0 o1 o2 load.NoStore settles looks = settles_then o0 o1 o2 settles looks
 reads_leaves o0 o1 o2 load.DiskFault settles looks = tt
 reads_leaves o0 o1 o2 load.Memory settles looks = settles_then o0 o1 o2 settles looks
@@ -147,7 +147,7 @@ reads_leaves o0 o1 o2 (load.Damaged place) settles looks = settles_then o0 o1 o2
 -- ---- the end
 
 -- the journal was read
-pub loaded : (clients : Meaning) (two : Two File) (files : Option (Two File)) (j : JournalValue) (s : StoreValue) → HasReadAll clients files j s.state → files ≡ Some two → StandsFor clients (read_files two) s
+pub loaded : (clients : Meaning) (two : Two File) (files : Option (Two File)) (j : JournalValue) (s : StoreValue) → HasReadJournal clients files j s.state → files ≡ Some two → StandsFor clients (read_files two) s
 loaded clients two files j s all told =
     let read = all.so_far.known two told in
     let format = format_meant j.format in
@@ -155,12 +155,12 @@ loaded clients two files j s all told =
     record { done = read.done; stands_for = front_closed clients (read_files two) j.file format read.done j.end read.front (all.at_end two told) room; facts_are = read.facts_are }
 
 -- what the journal's reading answers, in words of the files before the barrier
-pub answers : (clients : Meaning) (o0 o1 o2 : Outside) (two : Two File) (j : JournalValue) (s : StoreValue) → Becomes SyncsBoth o0.files o1.files → o2.files ≡ o1.files → HasReadAll clients o2.files j s.state → o0.files ≡ Some two → IsLoaded clients (read_files two) (Ok s)
+pub answers : (clients : Meaning) (o0 o1 o2 : Outside) (two : Two File) (j : JournalValue) (s : StoreValue) → RelatesTold SyncsBoth o0.files o1.files → o2.files ≡ o1.files → HasReadJournal clients o2.files j s.state → o0.files ≡ Some two → IsJournalLoaded clients (read_files two) (Ok s)
 answers clients o0 o1 o2 two j s settles same all told =
     let mid = barrier_told o0 o1 two settles told in
     subst (λ (f : Two (List ℕ)). StandsFor clients f s) mid.2 (loaded clients mid.0 o2.files j s all (same ∙ mid.1))
 
-pub answers_damaged : (clients : Meaning) (o0 o1 o2 : Outside) (two : Two File) (place : Place) → Becomes SyncsBoth o0.files o1.files → o2.files ≡ o1.files → AreDamaged clients o2.files place → o0.files ≡ Some two
+pub answers_damaged : (clients : Meaning) (o0 o1 o2 : Outside) (two : Two File) (place : Place) → RelatesTold SyncsBoth o0.files o1.files → o2.files ≡ o1.files → AreDamaged clients o2.files place → o0.files ≡ Some two
     → stands clients (read_files two) ≡ damaged place.file place.at
 answers_damaged clients o0 o1 o2 two place settles same there told =
     let mid = barrier_told o0 o1 two settles told in
@@ -173,7 +173,7 @@ settled_second : (old new : Two File) → SyncsBoth old new → new.second ≡ s
 settled_second old new settles = ap (λ (t : Two File). t.second) settles ∙ ap settled (sym (ap (λ (t : Two File). t.second.now) settles))
 
 -- where files are told after a step they were before it
-becomes_back : {A : Type 0} (step : A → A → Type 0) (old new : Option A) (b : A) → new ≡ Some b → Becomes step old new → (a : A) × (old ≡ Some a) × step a b
+becomes_back : {A : Type 0} (step : A → A → Type 0) (old new : Option A) (b : A) → new ≡ Some b → RelatesTold step old new → (a : A) × (old ≡ Some a) × step a b
 becomes_back step None None b told becomes = cc
 becomes_back step None (Some y) b told becomes = absurd becomes
 becomes_back step (Some x) None b told becomes = absurd becomes
@@ -183,7 +183,7 @@ abbrev pub store_of : JournalValue → StateValue → ℕ → StoreValue
 store_of j s limit = record { state = s; file = j.file; format = j.format; generation = j.generation; end = j.end; limit = limit; closed = false }
 
 -- the disk fits the store
-pub fits_loaded : (clients : Meaning) (o0 o1 o2 : Outside) (j : JournalValue) (s : StateValue) (limit : ℕ) → Becomes SyncsBoth o0.files o1.files → o2.files ≡ o1.files → HasReadAll clients o2.files j s
+pub fits_loaded : (clients : Meaning) (o0 o1 o2 : Outside) (j : JournalValue) (s : StateValue) (limit : ℕ) → RelatesTold SyncsBoth o0.files o1.files → o2.files ≡ o1.files → HasReadJournal clients o2.files j s
     → FitsSome clients (store_of j s limit) o2.files
 unfolding loaded
 fits_loaded clients o0 o1 o2 j s limit settles same all two told =
@@ -212,18 +212,18 @@ fits_loaded clients o0 o1 o2 j s limit settles same all two told =
 
 -- ---- faults
 
-pub answers_fault : (clients : Meaning) (o0 o1 o2 : Outside) (two : Two File) (j : JournalValue) (s : StateValue) (e : LoadFault) → Becomes SyncsBoth o0.files o1.files → o2.files ≡ o1.files → ReadsAll clients o2.files j s (Err e) → o0.files ≡ Some two
-    → IsLoaded clients (read_files two) (Err e)
+pub answers_fault : (clients : Meaning) (o0 o1 o2 : Outside) (two : Two File) (j : JournalValue) (s : StateValue) (e : LoadFault) → RelatesTold SyncsBoth o0.files o1.files → o2.files ≡ o1.files → ReadsWholeJournal clients o2.files j s (Err e) → o0.files ≡ Some two
+    → IsJournalLoaded clients (read_files two) (Err e)
 answers_fault clients o0 o1 o2 two j s load.NoStore settles same there told = absurd there
 answers_fault clients o0 o1 o2 two j s (load.Damaged place) settles same there told = answers_damaged clients o0 o1 o2 two place settles same there told
 answers_fault clients o0 o1 o2 two j s load.DiskFault settles same there told = tt
 answers_fault clients o0 o1 o2 two j s load.Memory settles same there told = tt
 
 -- the state of no entries knows every client's judgements
-pub knows_none : (clients : Meaning) (s : StateValue) → s.facts ≡ nothing → s.answers ≡ [] → Knows clients s
+pub knows_none : (clients : Meaning) (s : StateValue) → s.facts ≡ nothing → s.answers ≡ [] → KnowsJudgements clients s
 knows_none clients s empty none = none ∙ ap (λ (f : Facts). map (answer_of clients f) f.held) (sym empty)
 
-pub ready_loaded : (clients : Meaning) (o0 o1 o2 : Outside) (j : JournalValue) (s : StateValue) (limit : ℕ) → Becomes SyncsBoth o0.files o1.files → o2.files ≡ o1.files → HasReadAll clients o2.files j s
+pub ready_loaded : (clients : Meaning) (o0 o1 o2 : Outside) (j : JournalValue) (s : StateValue) (limit : ℕ) → RelatesTold SyncsBoth o0.files o1.files → o2.files ≡ o1.files → HasReadJournal clients o2.files j s
     → IsReady clients (store_of j s limit) o2.files
 ready_loaded clients o0 o1 o2 j s limit settles same all =
     record { still_open = refl; knows = all.so_far.knows; fits = fits_loaded clients o0 o1 o2 j s limit settles same all }

@@ -2,7 +2,7 @@
 use Rattle.std.proofs.Common.{◌≡◌, ℕ, ◌+◌, true, false, List, [], ◌++◌, Option, Some, Result, Ok, Err, refl, sym, ap, ◌∙◌, subst, arith, append-nil}
 use Rattle.std.specs.List.{AllByRecursion}
 use Rattle.std.specs.Option.{ForSome}
-use Rattle.outside.specs.Disk.{Becomes}
+use Rattle.outside.specs.Disk.{RelatesTold}
 use Rattle.outside.specs.Files.{Two, File, file_of}
 use Rattle.outside.specs.Frames.{HasFrames, format_in}
 use Rattle.outside.specs.Links.{sent_of}
@@ -21,13 +21,13 @@ use Rattle.entry_codec.specs.Standing.{room_of}
 use Rattle.entry_codec.proofs.FormatKinds.{short_journal}
 use Rattle.entry_codec.specs.StandingLaws.{JournalsStand}
 use Rattle.journal_state.specs.Whole.{StateValue}
-use Rattle.journal_migration.specs.Migrating.{HoldsFirst, HoldsSecond, IsNext, KeepsFile, Migrates, StandsStill}
+use Rattle.journal_migration.specs.Migrating.{HoldsFirst, HoldsSecond, IsNextJournal, KeepsFile, MigratesJournal, StandsStill}
 use Rattle.journal_migration.specs.Starting.{IsSettledBoth}
 use Rattle.journal_migration.specs.declared.fault.MigrationFault.{MigrationFault}
 use Rattle.journal_migration.specs.declared.fault.MigrationFault.TheVariants as migration
 use Rattle.outside.specs.declared.limits.TheConstants.{MAX_JOURNAL}
-use Rattle.sync_store.specs.Fitting.{Fits, FitsSome}
-use Rattle.sync_store.specs.Migrations.{IsOld, Moves}
+use Rattle.sync_store.specs.Fitting.{FitsFiles, FitsSome}
+use Rattle.sync_store.specs.Migrations.{IsInOldFormat, MovesJournal}
 use Rattle.sync_store.specs.Moments.{IsBetween, JournalMoment}
 use Rattle.sync_store.specs.Runs.{LeadsBy}
 use Rattle.sync_store.specs.Store.{HasNumbers, IsStore, StoreValue, counts_to, format_meant, written_in}
@@ -50,7 +50,7 @@ leads_still stand clients s o store two told j fits =
 -- ---- before
 
 -- the disk that fits a store in format 1 holds its journal so
-pub holds_of : (clients : Meaning) (s : StoreValue) (j : List (List Entry)) (two : Two File) → IsOld s → Fits clients s j two → HoldsFirst clients s.file s.generation j two
+pub holds_of : (clients : Meaning) (s : StoreValue) (j : List (List Entry)) (two : Two File) → IsInOldFormat s → FitsFiles clients s j two → HoldsFirst clients s.file s.generation j two
 holds_of clients s j two old fits = record {
   first_settled = fits.first_settled;
   second_settled = fits.second_settled;
@@ -73,7 +73,7 @@ moved_with s state n = record { state = state; file = n.file; format = n.format;
 abbrev pub moved_to : StoreValue → JournalValue → StoreValue
 moved_to s n = moved_with s s.state n
 
-pub moves_on : (s : StoreValue) (n : JournalValue) → IsOld s → s.closed ≡ false → IsNext s.file s.generation s.end n → Moves s (moved_to s n)
+pub moves_on : (s : StoreValue) (n : JournalValue) → IsInOldFormat s → s.closed ≡ false → IsNextJournal s.file s.generation s.end n → MovesJournal s (moved_to s n)
 moves_on s n old still next = record {
   was = old;
   state = refl;
@@ -85,7 +85,7 @@ moves_on s n old still next = record {
   closed = still;
 }
 
-pub moved_store : (s : StoreValue) (n : JournalValue) → IsOld s → IsStore s → IsNext s.file s.generation s.end n → IsStore (moved_to s n)
+pub moved_store : (s : StoreValue) (n : JournalValue) → IsInOldFormat s → IsStore s → IsNextJournal s.file s.generation s.end n → IsStore (moved_to s n)
 moved_store s n old store next =
     let f = s.state.facts in
     let short : room_of (format_meant n.format) f ≡ room_of kind.Short f = ap (λ k. room_of (format_meant k) f) next.format_is in
@@ -101,7 +101,7 @@ moved_store s n old store next =
 
 -- the disk fits the store with its journal there
 pub fits_at : (clients : Meaning) (s : StoreValue) (state : StateValue) (n : JournalValue) (j : List (List Entry)) (two : Two File) → facts j ≡ state.facts → n.format ≡ 2 → HoldsSecond clients n j two
-    → Fits clients (moved_with s state n) j two
+    → FitsFiles clients (moved_with s state n) j two
 fits_at clients s state n j two facts_are short holds = record {
   first_settled = holds.first_settled;
   second_settled = holds.second_settled;
@@ -120,8 +120,8 @@ fits_at clients s state n j two facts_are short holds = record {
 }
 
 -- the disk still fits the store
-fits_still : (clients : Meaning) (s : StoreValue) (j : List (List Entry)) (two two' : Two File) → Fits clients s j two → HoldsFirst clients s.file s.generation j two' → file_of two' s.file ≡ file_of two s.file
-    → Fits clients s j two'
+fits_still : (clients : Meaning) (s : StoreValue) (j : List (List Entry)) (two two' : Two File) → FitsFiles clients s j two → HoldsFirst clients s.file s.generation j two' → file_of two' s.file ≡ file_of two s.file
+    → FitsFiles clients s j two'
 fits_still clients s j two two' fits holds same = record {
   first_settled = holds.first_settled;
   second_settled = holds.second_settled;
@@ -151,9 +151,9 @@ still_moments clients j o o' moments =
 abbrev pub Gives : Meaning → StoreValue → Result JournalValue MigrationFault → Outside → Outside → Type 0
 Gives clients s result o o' =
     (j : List (List Entry)) (two : Two File) → o.files ≡ Some two → facts j ≡ s.state.facts → HoldsFirst clients s.file s.generation j two
-    → Migrates clients s.file s.generation j o o' result
+    → MigratesJournal clients s.file s.generation j o o' result
 
-pub leads_moved : (clients : Meaning) (s : StoreValue) (n : JournalValue) (o o' : Outside) → IsOld s → n.format ≡ 2 → Gives clients s (Ok n) o o' → LeadsBy clients s (moved_to s n) o o' []
+pub leads_moved : (clients : Meaning) (s : StoreValue) (n : JournalValue) (o o' : Outside) → IsInOldFormat s → n.format ≡ 2 → Gives clients s (Ok n) o o' → LeadsBy clients s (moved_to s n) o o' []
 leads_moved clients s n o o' old short gives two told j fits =
     let kept = gives j two told fits.facts_are (holds_of clients s j two old fits) in
     record {
@@ -161,7 +161,7 @@ leads_moved clients s n o o' old short gives two told j fits =
       ends = λ still two' told'. (j, sym (append-nil j), fits_at clients s s.state n j two' fits.facts_are short (kept.ends two' told'));
     }
 
-pub leads_memory : (clients : Meaning) (s : StoreValue) (o o' : Outside) → IsOld s → Becomes (KeepsFile s.file) o.files o'.files → Gives clients s (Err migration.Memory) o o'
+pub leads_memory : (clients : Meaning) (s : StoreValue) (o o' : Outside) → IsInOldFormat s → RelatesTold (KeepsFile s.file) o.files o'.files → Gives clients s (Err migration.Memory) o o'
     → LeadsBy clients s s o o' []
 leads_memory clients s o o' old own gives two told j fits =
     let kept = gives j two told fits.facts_are (holds_of clients s j two old fits) in
@@ -174,7 +174,7 @@ leads_memory clients s o o' old own gives two told j fits =
           (j, sym (append-nil j), fits_still clients s j two two' fits (kept.ends two' told') (subst (λ (t : Two File). file_of t s.file ≡ file_of two s.file) one there.2));
     }
 
-pub leads_failed : (clients : Meaning) (s new : StoreValue) (o o' : Outside) → IsOld s → new.closed ≡ true → Gives clients s (Err migration.DiskFault) o o' → LeadsBy clients s new o o' []
+pub leads_failed : (clients : Meaning) (s new : StoreValue) (o o' : Outside) → IsInOldFormat s → new.closed ≡ true → Gives clients s (Err migration.DiskFault) o o' → LeadsBy clients s new o o' []
 leads_failed clients s new o o' old closed gives two told j fits =
     let kept = gives j two told fits.facts_are (holds_of clients s j two old fits) in
     record { moments = still_moments clients j o o' kept.moments; ends = λ still. true≢false new.closed closed still }
@@ -190,13 +190,13 @@ leads_fits clients s new o o' run leads fits still two' told' =
 
 -- the same of numbers that are the store's
 pub gives_of : (clients : Meaning) (s : StoreValue) (result : Result JournalValue MigrationFault) (o o' : Outside) (file generation : ℕ) → file ≡ s.file → generation ≡ s.generation
-    → ((j : List (List Entry)) (two : Two File) → o.files ≡ Some two → facts j ≡ s.state.facts → HoldsFirst clients file generation j two → Migrates clients file generation j o o' result)
+    → ((j : List (List Entry)) (two : Two File) → o.files ≡ Some two → facts j ≡ s.state.facts → HoldsFirst clients file generation j two → MigratesJournal clients file generation j o o' result)
     → Gives clients s result o o'
 gives_of clients s result o o' file generation one other given =
     let At : ℕ → ℕ → Type 0 =
-    λ a b. (j : List (List Entry)) (two : Two File) → o.files ≡ Some two → facts j ≡ s.state.facts → HoldsFirst clients a b j two → Migrates clients a b j o o' result in
+    λ a b. (j : List (List Entry)) (two : Two File) → o.files ≡ Some two → facts j ≡ s.state.facts → HoldsFirst clients a b j two → MigratesJournal clients a b j o o' result in
     subst (λ (a : ℕ). At a s.generation) one (subst (λ (b : ℕ). At file b) other given)
 
-pub next_of : (s : StoreValue) (n : JournalValue) (file generation end : ℕ) → file ≡ s.file → generation ≡ s.generation → end ≡ s.end → IsNext file generation end n → IsNext s.file s.generation s.end n
+pub next_of : (s : StoreValue) (n : JournalValue) (file generation end : ℕ) → file ≡ s.file → generation ≡ s.generation → end ≡ s.end → IsNextJournal file generation end n → IsNextJournal s.file s.generation s.end n
 next_of s n file generation end one other last next =
-    subst (λ (a : ℕ). IsNext a s.generation s.end n) one (subst (λ (b : ℕ). IsNext file b s.end n) other (subst (λ (c : ℕ). IsNext file generation c n) last next))
+    subst (λ (a : ℕ). IsNextJournal a s.generation s.end n) one (subst (λ (b : ℕ). IsNextJournal file b s.end n) other (subst (λ (c : ℕ). IsNextJournal file generation c n) last next))

@@ -17,7 +17,7 @@ use Rattle.sync_rules.specs.Sessions.{is_remembered, is_shown, is_welcome, one_i
 use Rattle.entry_codec.specs.declared.naming.Format.{Format}
 use Rattle.entry_codec.specs.Spelling.{IsOfFormat, IsOld}
 use Rattle.entry_codec.proofs.FormatKinds.{of_old}
-use Rattle.sync_store.specs.Settling.{IsStep}
+use Rattle.sync_store.specs.Settling.{IsEntryOfSettling}
 use Rattle.sync_store.proofs.Steps.{all_steps}
 
 abbrev AreOld : List Entry → Type 0
@@ -30,13 +30,13 @@ kinds_of format (e ∷ es) old = (of_old format e old.0, kinds_of format es old.
 
 -- ---- steps
 
-step_old : (e : Entry) → IsStep e → IsOld e
+step_old : (e : Entry) → IsEntryOfSettling e → IsOld e
 step_old (entry.Judged id) is = tt
 step_old (entry.Deliver id) is = tt
 step_old (entry.Invalid id) is = tt
 step_old _ is = absurd is
 
-steps_old : (es : List Entry) → AllByRecursion IsStep es → AreOld es
+steps_old : (es : List Entry) → AllByRecursion IsEntryOfSettling es → AreOld es
 steps_old [] steps = tt
 steps_old (e ∷ es) steps = (step_old e steps.0, steps_old es steps.1)
 

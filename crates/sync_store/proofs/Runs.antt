@@ -1,7 +1,7 @@
 -- Runs of a store's calls, one behind the other: for whoever calls a store more than once.
 use Rattle.std.proofs.Common.{◌≡◌, ℕ, ◌≤◌, true, false, List, [], ◌∷◌, ◌++◌, Some, Result, Ok, Err, refl, sym, ap, ◌∙◌, subst, inl, inr, append-nil, arith}
 use Rattle.std.specs.Prelude.{IsErrOf}
-use Rattle.outside.specs.Faults.{Rose}
+use Rattle.outside.specs.Faults.{CountRose}
 use Rattle.outside.specs.Files.{Two, File}
 use Rattle.outside.specs.Links.{Links, sent_of}
 use Rattle.outside.specs.Outside.{Outside, DiskRun, MakesAtMost, MakesCalls, MakesJust}
@@ -16,10 +16,10 @@ use Rattle.sync_store.specs.declared.fault.StoreFault.{StoreFault}
 use Rattle.sync_store.specs.declared.fault.StoreFault.TheVariants as fault
 use Rattle.entry_codec.specs.Standing.{room_of}
 use Rattle.sync_store.specs.Store.{StoreValue, HasNumbers, IsStore, counts_to, format_meant, written_in}
-use Rattle.sync_store.specs.Commits.{Commits, Stays, Unasked, needed}
+use Rattle.sync_store.specs.Commits.{AnswersCommit, KeepsStore, UnaskedDisk, needed}
 use Rattle.sync_store.specs.Compactions.{IsBetweenOrBrief, IsOrBrief, LeadsToBrief, compacted_by}
-use Rattle.sync_store.specs.Fitting.{Fits, FitsSome, ImagesStand}
-use Rattle.sync_store.specs.Moments.{Adds, IsBetween, JournalMoment, Leads}
+use Rattle.sync_store.specs.Fitting.{FitsFiles, FitsSome, ImagesStand}
+use Rattle.sync_store.specs.Moments.{RunsCommit, IsBetween, JournalMoment, LeadsTo}
 use Rattle.sync_store.specs.Runs.{AddsBatch, ExtendsSo, HasExtended, LeadsBy, RunsBy, committed_by}
 use Rattle.sync_store.specs.Settling.{HasSettled, SettlesSo}
 use Rattle.sync_store.proofs.FitSteps.{IsSame, fits_same, true≢false}
@@ -27,11 +27,11 @@ use Rattle.sync_store.proofs.SettleSteps.{calls_closed, calls_none, calls_one, c
 
 -- ---- none
 
-same_store : (s new : StoreValue) → Stays s new → IsSame s new
+same_store : (s new : StoreValue) → KeepsStore s new → IsSame s new
 same_store s new stays = record { facts = stays.facts; file = stays.file; format = stays.format; generation = stays.generation; end = stays.end }
 
 -- a store that all is as before of keeps what it kept
-store_back : (s new : StoreValue) → Stays s new → IsStore new → IsStore s
+store_back : (s new : StoreValue) → KeepsStore s new → IsStore new → IsStore s
 store_back s new stays store = record {
   limited = omega (arith, stays.limit, store.limited);
   roomy =
@@ -49,7 +49,7 @@ store_back s new stays store = record {
 }
 
 -- no call was made of the disk
-pub runs_none : ImagesStand → (clients : Meaning) (s new : StoreValue) (o : Outside) → IsStore s → Stays s new → RunsBy clients s new o o []
+pub runs_none : ImagesStand → (clients : Meaning) (s new : StoreValue) (o : Outside) → IsStore s → KeepsStore s new → RunsBy clients s new o o []
 runs_none images clients s new o store stays = record {
   goes_on = tt;
   facts = λ still. stays.facts;
@@ -71,7 +71,7 @@ runs_none images clients s new o store stays = record {
         });
     ends = λ still two' told'.
         let one : two ≡ two' = cc in
-        (j, sym (append-nil j), subst (λ (t : Two File). Fits clients new j t) one (fits_same clients s new j two fits (same_store s new stays)));
+        (j, sym (append-nil j), subst (λ (t : Two File). FitsFiles clients new j t) one (fits_same clients s new j two fits (same_store s new stays)));
   };
   calls = calls_none new o;
 }
@@ -79,8 +79,8 @@ runs_none images clients s new o store stays = record {
 -- ---- one commit
 
 -- a batch was committed
-runs_committed : (clients : Meaning) (s new : StoreValue) (batch : List Entry) (u : Unit {0}) (o o' : Outside) → Allowed clients s.state.facts batch → Commits s new batch (Ok u) → DiskRun o o' → MakesJust 4 o o'
-    → ((two : Two File) → o.files ≡ Some two → (j : List (List Entry)) → Fits clients s j two → Adds clients batch (Ok u) new o o' j) → RunsBy clients s new o o' (batch ∷ [])
+runs_committed : (clients : Meaning) (s new : StoreValue) (batch : List Entry) (u : Unit {0}) (o o' : Outside) → Allowed clients s.state.facts batch → AnswersCommit s new batch (Ok u) → DiskRun o o' → MakesJust 4 o o'
+    → ((two : Two File) → o.files ≡ Some two → (j : List (List Entry)) → FitsFiles clients s j two → RunsCommit clients batch (Ok u) new o o' j) → RunsBy clients s new o o' (batch ∷ [])
 runs_committed clients s new batch u o o' allowed commits run made adds = record {
   goes_on = (allowed, tt);
   facts = λ still. commits.2.facts;
@@ -94,8 +94,8 @@ runs_committed clients s new batch u o o' allowed commits run made adds = record
 }
 
 -- the disk failed
-runs_broken : (clients : Meaning) (s new : StoreValue) (batch : List Entry) (o o' : Outside) → Allowed clients s.state.facts batch → Commits s new batch (Err fault.DiskFault) → DiskRun o o' → MakesAtMost 4 o o'
-    → ((two : Two File) → o.files ≡ Some two → (j : List (List Entry)) → Fits clients s j two → Adds clients batch (Err fault.DiskFault) new o o' j) → RunsBy clients s new o o' (batch ∷ [])
+runs_broken : (clients : Meaning) (s new : StoreValue) (batch : List Entry) (o o' : Outside) → Allowed clients s.state.facts batch → AnswersCommit s new batch (Err fault.DiskFault) → DiskRun o o' → MakesAtMost 4 o o'
+    → ((two : Two File) → o.files ≡ Some two → (j : List (List Entry)) → FitsFiles clients s j two → RunsCommit clients batch (Err fault.DiskFault) new o o' j) → RunsBy clients s new o o' (batch ∷ [])
 runs_broken clients s new batch o o' allowed commits run made adds = record {
   goes_on = (allowed, tt);
   facts = λ still. true≢false new.closed commits.2.closed still;
@@ -110,8 +110,8 @@ runs_broken clients s new batch o o' allowed commits run made adds = record {
 
 -- A commit, whatever it answered: `tells` says what a disk tells, `d` and `d'` are the disk before and after.
 pub runs_commit : ImagesStand → (clients : Meaning) (s new : StoreValue) (batch : List Entry) (result : Result (Unit {0}) StoreFault) (D : Type 0) (tells : D → Outside) (d d' : D) → IsStore new
-    → s.closed ≡ false → Allowed clients s.state.facts batch → Commits s new batch result → Unasked result d d' → DiskRun (tells d) (tells d') → MakesCalls 4 result (tells d) (tells d')
-    → ((two : Two File) → (tells d).files ≡ Some two → (j : List (List Entry)) → Fits clients s j two → Adds clients batch result new (tells d) (tells d') j)
+    → s.closed ≡ false → Allowed clients s.state.facts batch → AnswersCommit s new batch result → UnaskedDisk result d d' → DiskRun (tells d) (tells d') → MakesCalls 4 result (tells d) (tells d')
+    → ((two : Two File) → (tells d).files ≡ Some two → (j : List (List Entry)) → FitsFiles clients s j two → RunsCommit clients batch result new (tells d) (tells d') j)
     → RunsBy clients s new (tells d) (tells d') (committed_by batch result)
 runs_commit images clients s new batch (Ok u) D tells d d' store opened allowed commits unasked run made adds =
     runs_committed clients s new batch u (tells d) (tells d') allowed commits run made.just adds
@@ -170,13 +170,13 @@ between_or_brief j more whole (inr short) = inr short
 
 -- at each moment the files stand for the journal with a front of the batches, or for the brief account of it with all of them
 pub leads_compacted : (clients : Meaning) (s0 s1 s2 : StoreValue) (result : Result (Unit {0}) StoreFault) (o0 o1 o2 : Outside) (more : List (List Entry)) → s1.closed ≡ false → DiskRun o0 o1
-    → LeadsBy clients s0 s1 o0 o1 more → LeadsToBrief clients s1 s2 result o1 o2 → (two : Two File) → o0.files ≡ Some two → (j : List (List Entry)) → Fits clients s0 j two
-    → Leads clients (IsBetweenOrBrief j more) (λ whole. whole ≡ compacted_by (j ++ more) result) s2 o0 o2
+    → LeadsBy clients s0 s1 o0 o1 more → LeadsToBrief clients s1 s2 result o1 o2 → (two : Two File) → o0.files ≡ Some two → (j : List (List Entry)) → FitsFiles clients s0 j two
+    → LeadsTo clients (IsBetweenOrBrief j more) (λ whole. whole ≡ compacted_by (j ++ more) result) s2 o0 o2
 leads_compacted clients s0 s1 s2 result o0 o1 o2 more still run first second two told j fits =
     let begun = first two told j fits in
     let there = told_on o0 o1 two run.same_told told in
     let mid = begun.ends still there.0 there.1 in
-    let later = second there.0 there.1 (j ++ more) (subst (λ (k : List (List Entry)). Fits clients s1 k there.0) mid.1 mid.2) in
+    let later = second there.0 there.1 (j ++ more) (subst (λ (k : List (List Entry)). FitsFiles clients s1 k there.0) mid.1 mid.2) in
     let same : sent_of o1.links.told ≡ sent_of o0.links.told = ap (λ (l : Links). sent_of l.told) run.same_links in
     let sent0 = sent_of o0.links.told in
     record {
@@ -218,7 +218,7 @@ adds_by clients f batch fault.Closed = tt
 adds_by clients f batch fault.Full = tt
 adds_by clients f batch fault.Memory = tt
 
-failed_so : (clients : Meaning) (s new : StoreValue) (batch : List Entry) (e : StoreFault) → s.closed ≡ false → Commits s new batch (Err e)
+failed_so : (clients : Meaning) (s new : StoreValue) (batch : List Entry) (e : StoreFault) → s.closed ≡ false → AnswersCommit s new batch (Err e)
     → ExtendsSo clients s new batch (committed_by batch (Err e)) (Err e)
 failed_so clients s new batch fault.Closed opened commits = true≢false s.closed commits.0 opened
 failed_so clients s new batch fault.Full opened commits = (commits.1, refl, commits.2)
@@ -227,8 +227,8 @@ failed_so clients s new batch fault.DiskFault opened commits = (commits.2.closed
 
 -- the batch was not committed
 pub extends_failed : ImagesStand → (clients : Meaning) (s new : StoreValue) (batch : List Entry) (e : StoreFault) (D : Type 0) (tells : D → Outside) (d d' : D) → IsStore new
-    → s.closed ≡ false → Allowed clients s.state.facts batch → Commits s new batch (Err e) → Unasked (Err e) d d' → DiskRun (tells d) (tells d') → MakesAtMost 4 (tells d) (tells d')
-    → ((two : Two File) → (tells d).files ≡ Some two → (j : List (List Entry)) → Fits clients s j two → Adds clients batch (Err e) new (tells d) (tells d') j)
+    → s.closed ≡ false → Allowed clients s.state.facts batch → AnswersCommit s new batch (Err e) → UnaskedDisk (Err e) d d' → DiskRun (tells d) (tells d') → MakesAtMost 4 (tells d) (tells d')
+    → ((two : Two File) → (tells d).files ≡ Some two → (j : List (List Entry)) → FitsFiles clients s j two → RunsCommit clients batch (Err e) new (tells d) (tells d') j)
     → HasExtended clients s new batch (Err e) (tells d) (tells d')
 extends_failed images clients s new batch e D tells d d' store opened allowed commits unasked run made adds = record {
   more = committed_by batch (Err e);
@@ -247,8 +247,8 @@ settled_so clients s new batch rest (Err fault.DiskFault) roomy so = (so, roomy)
 
 -- the batch was committed, and the store settled as far as its answer says
 pub extends_settled : (clients : Meaning) (s mid new : StoreValue) (batch : List Entry) (u : Unit {0}) (result : Result (Unit {0}) StoreFault) (o o1 o2 : Outside) → Allowed clients s.state.facts batch
-    → Commits s mid batch (Ok u) → DiskRun o o1 → MakesJust 4 o o1
-    → ((two : Two File) → o.files ≡ Some two → (j : List (List Entry)) → Fits clients s j two → Adds clients batch (Ok u) mid o o1 j)
+    → AnswersCommit s mid batch (Ok u) → DiskRun o o1 → MakesJust 4 o o1
+    → ((two : Two File) → o.files ≡ Some two → (j : List (List Entry)) → FitsFiles clients s j two → RunsCommit clients batch (Ok u) mid o o1 j)
     → HasSettled clients mid new result o1 o2 → DiskRun o1 o2 → HasExtended clients s new batch result o o2
 extends_settled clients s mid new batch u result o o1 o2 allowed commits run made adds has run' = record {
   more = batch ∷ has.more;
@@ -260,15 +260,15 @@ extends_settled clients s mid new batch u result o o1 o2 allowed commits run mad
 }
 
 -- a store that was closed answers so, and does nothing
-pub closed_failed : {D : Type 0} (s new : StoreValue) (batch : List Entry) (e : StoreFault) (d d' : D) → s.closed ≡ true → Commits s new batch (Err e) → Unasked (Err e) d d'
-    → (e ≡ fault.Closed) × Stays s new × (d' ≡ d)
+pub closed_failed : {D : Type 0} (s new : StoreValue) (batch : List Entry) (e : StoreFault) (d d' : D) → s.closed ≡ true → AnswersCommit s new batch (Err e) → UnaskedDisk (Err e) d d'
+    → (e ≡ fault.Closed) × KeepsStore s new × (d' ≡ d)
 closed_failed s new batch fault.Closed d d' closed commits unasked = (refl, commits.1, unasked)
 closed_failed s new batch fault.Full d d' closed commits unasked = true≢false s.closed closed commits.0
 closed_failed s new batch fault.Memory d d' closed commits unasked = true≢false s.closed closed commits.0
 closed_failed s new batch fault.DiskFault d d' closed commits unasked = true≢false s.closed closed commits.0
 
 -- a store that is full made no call on the disk
-pub full_unasked : {D : Type 0} (e : StoreFault) (d d' : D) → e ≡ fault.Full → Unasked (Err e) d d' → d' ≡ d
+pub full_unasked : {D : Type 0} (e : StoreFault) (d d' : D) → e ≡ fault.Full → UnaskedDisk (Err e) d d' → d' ≡ d
 full_unasked fault.Full d d' is unasked = unasked
 full_unasked fault.Closed d d' is unasked = unasked
 full_unasked fault.Memory d d' is unasked = unasked
@@ -287,5 +287,5 @@ pub full_is : (r : Result (Unit {0}) StoreFault) (e : StoreFault) → r ≡ Err 
 full_is r e same is = cc
 
 -- a count that rose behind a run rose
-pub rose_later : (a b c : ℕ) → a ≤ b → Rose b c → Rose a c
+pub rose_later : (a b c : ℕ) → a ≤ b → CountRose b c → CountRose a c
 rose_later a b c later rose = omega arith

@@ -21,8 +21,8 @@ use Rattle.entry_codec.specs.StandingLaws.{JournalsStand}
 use Rattle.sync_store.specs.declared.fault.StoreFault.{StoreFault}
 use Rattle.sync_store.specs.declared.fault.StoreFault.TheVariants as fault
 use Rattle.sync_store.specs.Store.{StoreValue, IsStore, format_meant, written_in}
-use Rattle.sync_store.specs.Fitting.{Fits, FitsSome}
-use Rattle.sync_store.specs.Moments.{CallsFor, JournalMoment, Leads, WithAtMost, journal_with, Adds, IsBetween}
+use Rattle.sync_store.specs.Fitting.{FitsFiles, FitsSome}
+use Rattle.sync_store.specs.Moments.{CallsFor, JournalMoment, LeadsTo, WithAtMost, journal_with, RunsCommit, IsBetween}
 use Rattle.sync_store.specs.Runs.{LeadsBy}
 use Rattle.sync_store.specs.Settling.{AreFilled, BatchSo, ComesBy, HasSettled, IsFullBatch, IsOneBatch, MakesBatch, SettlesSo, settling_len, steps_in}
 use Rattle.sync_store.proofs.FitSteps.{IsSame, leads_none, true≢false}
@@ -31,7 +31,7 @@ use Rattle.sync_store.proofs.Steps.{all-append, batches_lower, filled_push, step
 
 -- a weaker word on a run
 leads_map : (clients : Meaning) (P P' Q Q' : List (List Entry) → Type 0) (s : StoreValue) (o o' : Outside) → ((whole : List (List Entry)) → P whole → P' whole)
-    → ((whole : List (List Entry)) → Q whole → Q' whole) → Leads clients P Q s o o' → Leads clients P' Q' s o o'
+    → ((whole : List (List Entry)) → Q whole → Q' whole) → LeadsTo clients P Q s o o' → LeadsTo clients P' Q' s o o'
 leads_map clients P P' Q Q' s o o' p q run = record {
   moments =
       moments_map o o' (JournalMoment clients P (sent_of o.links.told)) (JournalMoment clients P' (sent_of o.links.told))
@@ -98,15 +98,15 @@ comes_none stand clients s new o store same limit = record {
   calls = calls_none new o;
 }
 
-pub leads_one : (clients : Meaning) (j : List (List Entry)) (batch : List Entry) (new : StoreValue) (u : Unit {0}) (o o' : Outside) → Adds clients batch (Ok u) new o o' j
-    → Leads clients (IsBetween j (batch ∷ [])) (λ whole. whole ≡ j ++ batch ∷ []) new o o'
+pub leads_one : (clients : Meaning) (j : List (List Entry)) (batch : List Entry) (new : StoreValue) (u : Unit {0}) (o o' : Outside) → RunsCommit clients batch (Ok u) new o o' j
+    → LeadsTo clients (IsBetween j (batch ∷ [])) (λ whole. whole ≡ j ++ batch ∷ []) new o o'
 leads_one clients j batch new u o o' adds =
     leads_map clients (WithAtMost j batch) (IsBetween j (batch ∷ [])) (λ whole. whole ≡ journal_with j batch (Ok u)) (λ whole. whole ≡ j ++ batch ∷ []) new o o'
     (between_one j batch) (λ whole is. is) adds
 
 -- the store is closed, so nothing is said of its end
-pub leads_one_closed : (clients : Meaning) (j : List (List Entry)) (batch : List Entry) (new : StoreValue) (e : StoreFault) (o o' : Outside) → Adds clients batch (Err e) new o o' j → new.closed ≡ true
-    → Leads clients (IsBetween j (batch ∷ [])) (λ whole. whole ≡ j ++ batch ∷ []) new o o'
+pub leads_one_closed : (clients : Meaning) (j : List (List Entry)) (batch : List Entry) (new : StoreValue) (e : StoreFault) (o o' : Outside) → RunsCommit clients batch (Err e) new o o' j → new.closed ≡ true
+    → LeadsTo clients (IsBetween j (batch ∷ [])) (λ whole. whole ≡ j ++ batch ∷ []) new o o'
 leads_one_closed clients j batch new e o o' adds closed = record {
   moments =
       moments_map o o' (JournalMoment clients (WithAtMost j batch) (sent_of o.links.told)) (JournalMoment clients (IsBetween j (batch ∷ [])) (sent_of o.links.told))
@@ -127,7 +127,7 @@ leads_then clients s0 s1 s2 o0 o1 o2 xs ys still run first second two told j fit
     let begun = first two told j fits in
     let there = told_on o0 o1 two run.same_told told in
     let mid = begun.ends still there.0 there.1 in
-    let later = second there.0 there.1 (j ++ xs) (subst (λ (k : List (List Entry)). Fits clients s1 k there.0) mid.1 mid.2) in
+    let later = second there.0 there.1 (j ++ xs) (subst (λ (k : List (List Entry)). FitsFiles clients s1 k there.0) mid.1 mid.2) in
     let same : sent_of o1.links.told ≡ sent_of o0.links.told = ap (λ (l : Links). sent_of l.told) run.same_links in
     let sent0 = sent_of o0.links.told in
     record {
@@ -179,7 +179,7 @@ comes_fits clients s s' o o' more run comes fits still two' told' =
 
 -- and so it does after a commit
 pub adds_ready_fits : (clients : Meaning) (s s' : StoreValue) (batch : List Entry) (result : Result (Unit {0}) StoreFault) (o o' : Outside) → DiskRun o o'
-    → ((two : Two File) → o.files ≡ Some two → (j : List (List Entry)) → Fits clients s j two → Adds clients batch result s' o o' j) → FitsSome clients s o.files → s'.closed ≡ false
+    → ((two : Two File) → o.files ≡ Some two → (j : List (List Entry)) → FitsFiles clients s j two → RunsCommit clients batch result s' o o' j) → FitsSome clients s o.files → s'.closed ≡ false
     → FitsSome clients s' o'.files
 adds_ready_fits clients s s' batch result o o' run adds fits still two' told' =
     let there = told_back o o' two' run.same_told told' in

@@ -12,18 +12,18 @@ use Rattle.sync_rules.proofs.LeftLaws.{steps_lower}
 use Rattle.sync_rules.specs.Legal.{AllSettling, IsSettling}
 use Rattle.sync_rules.proofs.StepKinds.{next_is_step, settling_only}
 use Rattle.sync_rules.specs.Steps.{IsSettled, next}
-use Rattle.sync_store.specs.Settling.{AreFilled, IsFullBatch, IsStep, steps_in}
+use Rattle.sync_store.specs.Settling.{AreFilled, IsFullBatch, IsEntryOfSettling, steps_in}
 use Rattle.sync_store.specs.Store.{HasNumbers}
 
 -- ---- the entries
 
-is_step : (f : Facts) (e : Entry) → IsStepOf f e → IsStep e
+is_step : (f : Facts) (e : Entry) → IsStepOf f e → IsEntryOfSettling e
 is_step f (entry.Judged id) of = tt
 is_step f (entry.Deliver id) of = tt
 is_step f (entry.Invalid id) of = tt
 is_step f _ of = absurd of
 
-pub all_steps : (clients : Meaning) (f : Facts) (es : List Entry) → IsSettling clients f es → AllByRecursion IsStep es
+pub all_steps : (clients : Meaning) (f : Facts) (es : List Entry) → IsSettling clients f es → AllByRecursion IsEntryOfSettling es
 all_steps clients f [] settling = tt
 all_steps clients f (e ∷ es) settling = (is_step f e (next_is_step clients f e settling.0), all_steps clients (after f e) es settling.1)
 

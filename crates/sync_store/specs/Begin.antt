@@ -37,7 +37,7 @@ IsAnswer two (Err init.DiskFault) = Unit {0}
 
 -- File 0 reads as a journal of format 2 and generation 1 with no frame, the other file as before,
 -- and nothing is pending; so every crash leaves the empty journal, whatever the clients mean.
-pub record Begins (old new : Two File) : Type 0 where
+pub record BeginsJournal (old new : Two File) : Type 0 where
   pub first : new.first ≡ settled (begun_bytes 2 1)
   pub second : new.second ≡ settled old.second.now
   pub each_image : (clients : Meaning) (left : Two (List ℕ)) → IsImage new left → stands clients left ≡ journal []

@@ -4,7 +4,7 @@ use Rattle.sync_rules.specs.Allows.{AllowsIsAllowed}
 use Rattle.entry_codec.specs.Laws.{AllowedNames, PayloadsFitFrames}
 use Rattle.entry_codec.specs.StandingLaws.{AllowedAddOne, AllowedMayBeWritten, AllowedTakeOne, JournalsStand}
 
-pub record CitedLaws : Type 0 where
+pub record StoreLaws : Type 0 where
   pub stand : JournalsStand
   pub fit : PayloadsFitFrames
   pub names : AllowedNames

@@ -20,7 +20,7 @@ abbrev pub needed : StoreValue → List Entry → ℕ
 needed s batch = s.end + 5 + payload_len (written_in s) batch + room_of (written_in s) (after_all s.state.facts batch)
 
 -- all that contracts ask of a store is as before
-pub record Stays (old new : StoreValue) : Type 0 where
+pub record KeepsStore (old new : StoreValue) : Type 0 where
   pub facts : new.state.facts ≡ old.state.facts
   pub answers : new.state.answers ≡ old.state.answers
   pub file : new.file ≡ old.file
@@ -31,7 +31,7 @@ pub record Stays (old new : StoreValue) : Type 0 where
   pub closed : new.closed ≡ old.closed
 
 -- the store has the batch
-pub record Gains (old new : StoreValue) (batch : List Entry) : Type 0 where
+pub record GainsBatch (old new : StoreValue) (batch : List Entry) : Type 0 where
   pub facts : new.state.facts ≡ after_all old.state.facts batch
   pub file : new.file ≡ old.file
   pub format : new.format ≡ old.format
@@ -53,17 +53,17 @@ pub record MayAdd (clients : Meaning) (s : StoreValue) (batch : List Entry) (fra
 
 -- Closed comes exactly where the store was closed, and Full exactly where it was not and the journal would pass the limit; the
 -- others come only behind these. After any error all is as before, but that the store is closed after DiskFault.
-abbrev pub Commits : StoreValue → StoreValue → List Entry → Result (Unit {0}) StoreFault → Type 0
-Commits old new batch (Ok _) = (old.closed ≡ false) × (needed old batch ≤ old.limit) × Gains old new batch
-Commits old new batch (Err fault.Closed) = (old.closed ≡ true) × Stays old new
-Commits old new batch (Err fault.Full) = (old.closed ≡ false) × (old.limit < needed old batch) × Stays old new
-Commits old new batch (Err fault.Memory) = (old.closed ≡ false) × (needed old batch ≤ old.limit) × Stays old new
-Commits old new batch (Err fault.DiskFault) =
-    (old.closed ≡ false) × (needed old batch ≤ old.limit) × Stays (record old { closed = true }) new
+abbrev pub AnswersCommit : StoreValue → StoreValue → List Entry → Result (Unit {0}) StoreFault → Type 0
+AnswersCommit old new batch (Ok _) = (old.closed ≡ false) × (needed old batch ≤ old.limit) × GainsBatch old new batch
+AnswersCommit old new batch (Err fault.Closed) = (old.closed ≡ true) × KeepsStore old new
+AnswersCommit old new batch (Err fault.Full) = (old.closed ≡ false) × (old.limit < needed old batch) × KeepsStore old new
+AnswersCommit old new batch (Err fault.Memory) = (old.closed ≡ false) × (needed old batch ≤ old.limit) × KeepsStore old new
+AnswersCommit old new batch (Err fault.DiskFault) =
+    (old.closed ≡ false) × (needed old batch ≤ old.limit) × KeepsStore (record old { closed = true }) new
 
 -- the disk is as before after an error for which no call on it was made, whether it tells its files or not
-abbrev pub Unasked : {D : Type 0} → Result (Unit {0}) StoreFault → D → D → Type 0
-Unasked (Err fault.Closed) old new = new ≡ old
-Unasked (Err fault.Full) old new = new ≡ old
-Unasked (Err fault.Memory) old new = new ≡ old
-Unasked _ old new = Unit {0}
+abbrev pub UnaskedDisk : {D : Type 0} → Result (Unit {0}) StoreFault → D → D → Type 0
+UnaskedDisk (Err fault.Closed) old new = new ≡ old
+UnaskedDisk (Err fault.Full) old new = new ≡ old
+UnaskedDisk (Err fault.Memory) old new = new ≡ old
+UnaskedDisk _ old new = Unit {0}

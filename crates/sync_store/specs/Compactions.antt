@@ -11,8 +11,8 @@ use Rattle.entry_codec.specs.declared.naming.Format.TheVariants as kind
 use Rattle.entry_codec.specs.Payloads.{journal_end}
 use Rattle.journal_compaction.specs.Compacting.{compacted_len}
 use Rattle.sync_store.specs.Store.{StoreValue}
-use Rattle.sync_store.specs.Fitting.{Fits}
-use Rattle.sync_store.specs.Moments.{IsBetween, Leads}
+use Rattle.sync_store.specs.Fitting.{FitsFiles}
+use Rattle.sync_store.specs.Moments.{IsBetween, LeadsTo}
 use Rattle.sync_store.specs.declared.fault.StoreFault.{StoreFault}
 use Rattle.sync_store.specs.declared.fault.StoreFault.TheVariants as fault
 
@@ -27,7 +27,7 @@ pub record MayShorten (clients : Meaning) (s : StoreValue) : Type 0 where
 
 -- The journal is the brief account, which is in the other file, in format 2 and with the next generation. No session goes on, no
 -- step is left, and all else that contracts see of the store is as before.
-pub record Shortens (clients : Meaning) (old new : StoreValue) : Type 0 where
+pub record ShortensJournal (clients : Meaning) (old new : StoreValue) : Type 0 where
   pub may : MayShorten clients old
   pub facts : new.state.facts ≡ without_sessions old.state.facts
   pub settled : IsSettled clients new.state.facts
@@ -41,12 +41,12 @@ pub record Shortens (clients : Meaning) (old new : StoreValue) : Type 0 where
 
 -- Full comes exactly where the brief account is too long or has no generation, but that memory may be wanting before that is
 -- known. After both all is as before, and after DiskFault too, but that the store is closed then.
-abbrev pub CompactsSo : Meaning → StoreValue → StoreValue → Result (Unit {0}) StoreFault → Type 0
-CompactsSo clients old new (Ok _) = Shortens clients old new
-CompactsSo clients old new (Err fault.Closed) = ⊥
-CompactsSo clients old new (Err fault.Full) = IsTooLong clients old × (new ≡ old)
-CompactsSo clients old new (Err fault.Memory) = (old.generation < 2 ^ 64 - 1) × (new ≡ old)
-CompactsSo clients old new (Err fault.DiskFault) = MayShorten clients old × (new ≡ record old { closed = true })
+abbrev pub AnswersCompact : Meaning → StoreValue → StoreValue → Result (Unit {0}) StoreFault → Type 0
+AnswersCompact clients old new (Ok _) = ShortensJournal clients old new
+AnswersCompact clients old new (Err fault.Closed) = ⊥
+AnswersCompact clients old new (Err fault.Full) = IsTooLong clients old × (new ≡ old)
+AnswersCompact clients old new (Err fault.Memory) = (old.generation < 2 ^ 64 - 1) × (new ≡ old)
+AnswersCompact clients old new (Err fault.DiskFault) = MayShorten clients old × (new ≡ record old { closed = true })
 
 -- the journal by the answer
 abbrev pub compacted_by : List (List Entry) → Result (Unit {0}) StoreFault → List (List Entry)
@@ -65,10 +65,10 @@ IsBetweenOrBrief j more whole = IsBetween j more whole ⊎ (whole ≡ brief (j +
 -- is closed, the disk fits the store with the one of the answer
 abbrev pub LeadsToBrief : Meaning → StoreValue → StoreValue → Result (Unit {0}) StoreFault → Outside → Outside → Type 0
 LeadsToBrief clients old new result o o' =
-    (two : Two File) → o.files ≡ Some two → (j : List (List Entry)) → Fits clients old j two
-    → Leads clients (IsOrBrief j) (λ whole. whole ≡ compacted_by j result) new o o'
+    (two : Two File) → o.files ≡ Some two → (j : List (List Entry)) → FitsFiles clients old j two
+    → LeadsTo clients (IsOrBrief j) (λ whole. whole ≡ compacted_by j result) new o o'
 
 -- a store that is not closed was compacted, as far as the answer says
-pub record HasCompacted (clients : Meaning) (old new : StoreValue) (result : Result (Unit {0}) StoreFault) (o o' : Outside) : Type 0 where
-  pub answer : CompactsSo clients old new result
+pub record StoreHasCompacted (clients : Meaning) (old new : StoreValue) (result : Result (Unit {0}) StoreFault) (o o' : Outside) : Type 0 where
+  pub answer : AnswersCompact clients old new result
   pub leads : LeadsToBrief clients old new result o o'

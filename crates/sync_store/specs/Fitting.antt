@@ -14,7 +14,7 @@ use Rattle.entry_codec.specs.Standing.{stands, journal, room_of}
 use Rattle.outside.specs.declared.limits.TheConstants.{MAX_JOURNAL}
 use Rattle.sync_store.specs.Store.{StoreValue, written_in}
 
-pub record Fits (clients : Meaning) (s : StoreValue) (j : List (List Entry)) (two : Two File) : Type 0 where
+pub record FitsFiles (clients : Meaning) (s : StoreValue) (j : List (List Entry)) (two : Two File) : Type 0 where
   -- nothing is pending in either file
   pub first_settled : NothingPending two 0
   pub second_settled : NothingPending two 1
@@ -37,10 +37,10 @@ pub record Fits (clients : Meaning) (s : StoreValue) (j : List (List Entry)) (tw
 
 -- where the files are told they fit the store with some journal
 abbrev pub FitsSome : Meaning → StoreValue → Option (Two File) → Type 0
-FitsSome clients s files = (two : Two File) → files ≡ Some two → (j : List (List Entry)) × Fits clients s j two
+FitsSome clients s files = (two : Two File) → files ≡ Some two → (j : List (List Entry)) × FitsFiles clients s j two
 
 -- whatever a crash leaves of a disk that fits a store stands for the journal
 abbrev pub ImagesStand : Type 0
 ImagesStand =
-    (clients : Meaning) (s : StoreValue) (j : List (List Entry)) (two : Two File) (left : Two (List ℕ)) → Fits clients s j two
+    (clients : Meaning) (s : StoreValue) (j : List (List Entry)) (two : Two File) (left : Two (List ℕ)) → FitsFiles clients s j two
     → s.end + room_of (written_in s) s.state.facts ≤ MAX_JOURNAL → IsImage two left → stands clients left ≡ journal j

@@ -7,7 +7,7 @@ use Rattle.sync_rules.specs.declared.entries.Entry.{Entry}
 use Rattle.sync_rules.specs.Clients.{Meaning}
 use Rattle.entry_codec.specs.Standing.{stands, journal}
 use Rattle.sync_store.specs.Store.{StoreValue}
-use Rattle.sync_store.specs.Fitting.{Fits}
+use Rattle.sync_store.specs.Fitting.{FitsFiles}
 use Rattle.sync_store.specs.declared.fault.StoreFault.{StoreFault}
 
 -- a moment whose files stand for a journal that has P, nothing more being sent
@@ -19,9 +19,9 @@ pub record JournalMoment (clients : Meaning) (P : List (List Entry) → Type 0) 
 
 -- What a run leads to: at each moment the files stand for a journal that has P; and at its end, unless the store is closed, the
 -- disk fits the store with a journal that has Q.
-pub record Leads (clients : Meaning) (P Q : List (List Entry) → Type 0) (s : StoreValue) (old new : Outside) : Type 0 where
+pub record LeadsTo (clients : Meaning) (P Q : List (List Entry) → Type 0) (s : StoreValue) (old new : Outside) : Type 0 where
   pub moments : MomentsAre old new (JournalMoment clients P (sent_of old.links.told))
-  pub ends : s.closed ≡ false → (two : Two File) → new.files ≡ Some two → (whole : List (List Entry)) × Q whole × Fits clients s whole two
+  pub ends : s.closed ≡ false → (two : Two File) → new.files ≡ Some two → (whole : List (List Entry)) × Q whole × FitsFiles clients s whole two
 
 -- How many calls of the disk so many batches take: four each, and where a call failed, so that the store is closed, no more.
 pub record CallsFor (batches : ℕ) (s : StoreValue) (old new : Outside) : Type 0 where
@@ -40,8 +40,8 @@ journal_with j batch (Ok _) = j ++ batch ∷ []
 journal_with j batch (Err _) = j
 
 -- the run that commits a batch
-abbrev pub Adds : Meaning → List Entry → Result (Unit {0}) StoreFault → StoreValue → Outside → Outside → List (List Entry) → Type 0
-Adds clients batch result s old new j = Leads clients (WithAtMost j batch) (λ whole. whole ≡ journal_with j batch result) s old new
+abbrev pub RunsCommit : Meaning → List Entry → Result (Unit {0}) StoreFault → StoreValue → Outside → Outside → List (List Entry) → Type 0
+RunsCommit clients batch result s old new j = LeadsTo clients (WithAtMost j batch) (λ whole. whole ≡ journal_with j batch result) s old new
 
 -- ---- a list of batches
 

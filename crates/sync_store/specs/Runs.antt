@@ -8,9 +8,9 @@ use Rattle.sync_rules.specs.Facts.{Facts, after_all, after_batches}
 use Rattle.sync_rules.specs.Legal.{AllSettling, GoesOn}
 use Rattle.sync_rules.specs.Steps.{IsSettled}
 use Rattle.sync_store.specs.Store.{StoreValue}
-use Rattle.sync_store.specs.Commits.{Stays, needed}
-use Rattle.sync_store.specs.Fitting.{Fits}
-use Rattle.sync_store.specs.Moments.{CallsFor, IsBetween, Leads}
+use Rattle.sync_store.specs.Commits.{KeepsStore, needed}
+use Rattle.sync_store.specs.Fitting.{FitsFiles}
+use Rattle.sync_store.specs.Moments.{CallsFor, IsBetween, LeadsTo}
 use Rattle.sync_store.specs.Settling.{AreFilled}
 use Rattle.sync_store.specs.declared.fault.StoreFault.{StoreFault}
 use Rattle.sync_store.specs.declared.fault.StoreFault.TheVariants as fault
@@ -19,8 +19,8 @@ use Rattle.sync_store.specs.declared.fault.StoreFault.TheVariants as fault
 -- the store is closed, the disk fits the store with it and all of them
 abbrev pub LeadsBy : Meaning → StoreValue → StoreValue → Outside → Outside → List (List Entry) → Type 0
 LeadsBy clients old new o o' more =
-    (two : Two File) → o.files ≡ Some two → (j : List (List Entry)) → Fits clients old j two
-    → Leads clients (IsBetween j more) (λ whole. whole ≡ j ++ more) new o o'
+    (two : Two File) → o.files ≡ Some two → (j : List (List Entry)) → FitsFiles clients old j two
+    → LeadsTo clients (IsBetween j more) (λ whole. whole ≡ j ++ more) new o o'
 
 -- A store came by these batches to this one: each of them may follow the journal with those before it, and unless the store is
 -- closed it has them all. No link changed, files that were told still are, no count of failed calls fell, and each batch took
@@ -55,7 +55,7 @@ abbrev pub ExtendsSo : Meaning → StoreValue → StoreValue → List Entry → 
 ExtendsSo clients old new batch more (Ok _) =
     (new.closed ≡ false) × (needed old batch ≤ old.limit) × (more ≢ []) × IsSettled clients new.state.facts
 ExtendsSo clients old new batch more (Err fault.Closed) = ⊥
-ExtendsSo clients old new batch more (Err fault.Full) = (old.limit < needed old batch) × (more ≡ []) × Stays old new
+ExtendsSo clients old new batch more (Err fault.Full) = (old.limit < needed old batch) × (more ≡ []) × KeepsStore old new
 ExtendsSo clients old new batch more (Err fault.Memory) = (new.closed ≡ false) × (needed old batch ≤ old.limit)
 ExtendsSo clients old new batch more (Err fault.DiskFault) = (new.closed ≡ true) × (needed old batch ≤ old.limit)
 

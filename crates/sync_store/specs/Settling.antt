@@ -14,17 +14,17 @@ use Rattle.sync_rules.specs.Steps.{IsSettled}
 use Rattle.entry_codec.specs.declared.naming.Format.{Format}
 use Rattle.entry_codec.specs.Standing.{room_of, step_bytes, step_len}
 use Rattle.sync_store.specs.Store.{StoreValue, written_in}
-use Rattle.sync_store.specs.Fitting.{Fits}
-use Rattle.sync_store.specs.Moments.{CallsFor, IsBetween, Leads}
+use Rattle.sync_store.specs.Fitting.{FitsFiles}
+use Rattle.sync_store.specs.Moments.{CallsFor, IsBetween, LeadsTo}
 use Rattle.sync_store.specs.declared.fault.StoreFault.{StoreFault}
 use Rattle.sync_store.specs.declared.fault.StoreFault.TheVariants as fault
 
 -- an entry of settling
-abbrev pub IsStep : Entry → Type 0
-IsStep (entry.Judged id) = Unit {0}
-IsStep (entry.Deliver id) = Unit {0}
-IsStep (entry.Invalid id) = Unit {0}
-IsStep _ = ⊥
+abbrev pub IsEntryOfSettling : Entry → Type 0
+IsEntryOfSettling (entry.Judged id) = Unit {0}
+IsEntryOfSettling (entry.Deliver id) = Unit {0}
+IsEntryOfSettling (entry.Invalid id) = Unit {0}
+IsEntryOfSettling _ = ⊥
 
 -- how many entries batches have
 abbrev pub steps_in : List (List Entry) → ℕ
@@ -64,8 +64,8 @@ pub record ComesBy (clients : Meaning) (old new : StoreValue) (o o' : Outside) (
   pub generation : new.generation ≡ old.generation
   pub limit : new.limit ≡ old.limit
   pub end : new.closed ≡ false → new.end ≡ old.end + settling_len (written_in old) more
-  pub leads : (two : Two File) → o.files ≡ Some two → (j : List (List Entry)) → Fits clients old j two
-      → Leads clients (IsBetween j more) (λ whole. whole ≡ j ++ more) new o o'
+  pub leads : (two : Two File) → o.files ≡ Some two → (j : List (List Entry)) → FitsFiles clients old j two
+      → LeadsTo clients (IsBetween j more) (λ whole. whole ≡ j ++ more) new o o'
   pub calls : CallsFor (length more) new o o'
 
 -- A store that is not closed was settled, as far as the answer says.

@@ -1,12 +1,12 @@
 //! A store begun.
 ghost use Rattle.std.specs.Prelude.{◌≡◌, Some, IfOk, IsErrOf, OnOk};
 ghost use Rattle.std.specs.Option.{ForSome};
-ghost use Rattle.outside.specs.Faults.{HasCause, Rose};
+ghost use Rattle.outside.specs.Faults.{HasCause, CountRose};
 ghost use Rattle.outside.specs.Files.{Two, File};
-ghost use Rattle.outside.specs.Outside.{DiskRun, Looks, MomentsAre};
-ghost use Rattle.outside.specs.Disk.{Becomes};
+ghost use Rattle.outside.specs.Outside.{DiskRun, OnlyReads, MomentsAre};
+ghost use Rattle.outside.specs.Disk.{RelatesTold};
 ghost use Rattle.frame_journal.specs.Gates.{SyncsBoth, AnyImage};
-ghost use Rattle.sync_store.specs.Begin.{Begins, InitMoment, IsAnswer, IsFree, has_open};
+ghost use Rattle.sync_store.specs.Begin.{BeginsJournal, InitMoment, IsAnswer, IsFree, has_open};
 
 use crate::InitFault;
 use crate::laws::cite_laws;
@@ -22,10 +22,10 @@ impl Store {
     /// takes no memory.
     pub fn init<D: Disk>(disk: &mut D) -> Result<(), InitFault>
         ensures answer { ForSome (D.tells disk.old).files (λ two. IsAnswer two result) }
-        ensures begun { OnOk result (Becomes Begins (D.tells disk.old).files
+        ensures begun { OnOk result (RelatesTold BeginsJournal (D.tells disk.old).files
             (D.tells disk.new).files) }
         ensures kept { IsErrOf result InitFault.Exists
-            → Becomes SyncsBoth (D.tells disk.old).files (D.tells disk.new).files }
+            → RelatesTold SyncsBoth (D.tells disk.old).files (D.tells disk.new).files }
         ensures untouched { IsErrOf result InitFault.Exists
             → AnyImage (D.tells disk.old) (D.tells disk.new) }
         ensures any_moment { (two : Two File) → (D.tells disk.old).files ≡ Some two
@@ -33,7 +33,7 @@ impl Store {
             (InitMoment two (D.tells disk.old).links) }
         ensures run { DiskRun (D.tells disk.old) (D.tells disk.new) }
         ensures fault { IsErrOf result InitFault.DiskFault
-            → Rose (D.tells disk.old).disk_faults (D.tells disk.new).disk_faults }
+            → CountRose (D.tells disk.old).disk_faults (D.tells disk.new).disk_faults }
     {
         let found = look(disk)?;
         if found {
@@ -46,7 +46,7 @@ impl Store {
 
 // Syncs both files, and says whether some file has an open header.
 fn look<D: Disk>(disk: &mut D) -> Result<bool, DiskFault>
-    ensures settled { OnOk result (Becomes SyncsBoth (D.tells disk.old).files
+    ensures settled { OnOk result (RelatesTold SyncsBoth (D.tells disk.old).files
         (D.tells disk.new).files) }
     ensures found { IfOk result (λ found. ForSome (D.tells disk.old).files
         (λ two. has_open two ≡ found)) }
@@ -62,7 +62,7 @@ fn look<D: Disk>(disk: &mut D) -> Result<bool, DiskFault>
 fn any_open<D: Disk>(disk: &mut D) -> Result<bool, DiskFault>
     ensures found { IfOk result (λ found. ForSome (D.tells disk.old).files
         (λ two. has_open two ≡ found)) }
-    ensures looks { Looks (D.tells disk.old) (D.tells disk.new) }
+    ensures looks { OnlyReads (D.tells disk.old) (D.tells disk.new) }
     ensures fault { HasCause (D.tells disk.old).disk_faults (D.tells disk.new).disk_faults result }
 {
     let first = read_header(disk, 0)?;
@@ -73,7 +73,7 @@ fn any_open<D: Disk>(disk: &mut D) -> Result<bool, DiskFault>
 // Begins a journal in file 0, where no file has an open header.
 fn begin<D: Disk>(disk: &mut D) -> Result<(), DiskFault>
     requires { ForSome (D.tells disk.old).files IsFree }
-    ensures begun { OnOk result (Becomes Begins (D.tells disk.old).files (D.tells disk.new).files) }
+    ensures begun { OnOk result (RelatesTold BeginsJournal (D.tells disk.old).files (D.tells disk.new).files) }
     ensures any_moment { (two : Two File) → (D.tells disk.old).files ≡ Some two
         → MomentsAre (D.tells disk.old) (D.tells disk.new)
         (InitMoment two (D.tells disk.old).links) }

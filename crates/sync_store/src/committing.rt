@@ -6,19 +6,19 @@ ghost use Rattle.entry_codec.specs.Payloads.{payload, payload_len};
 ghost use Rattle.entry_codec.specs.Spelling.{IsEntry};
 ghost use Rattle.frame_journal.specs.Append.{framed_of};
 ghost use Rattle.outside.specs.declared.limits.TheConstants.{MAX_JOURNAL};
-ghost use Rattle.outside.specs.Faults.{HasCause, Rose};
+ghost use Rattle.outside.specs.Faults.{HasCause, CountRose};
 ghost use Rattle.outside.specs.Files.{Two, File};
 ghost use Rattle.outside.specs.Outside.{DiskRun, MakesCalls};
 ghost use Rattle.journal_state.specs.Taking.{HasRoom};
-ghost use Rattle.journal_state.specs.Whole.{Knows};
+ghost use Rattle.journal_state.specs.Whole.{KnowsJudgements};
 ghost use Rattle.sync_rules.specs.declared.entries.Entry.{Entry};
 ghost use Rattle.sync_rules.specs.Allows.{allows, is_account_kind, is_settling_kind};
 ghost use Rattle.sync_rules.specs.Clients.{Meaning};
 ghost use Rattle.sync_rules.specs.Legal.{Allowed};
 ghost use Rattle.session_core.specs.Known.{IsOfAll};
-ghost use Rattle.sync_store.specs.Commits.{Commits, Gains, MayAdd, Unasked, needed};
-ghost use Rattle.sync_store.specs.Fitting.{Fits};
-ghost use Rattle.sync_store.specs.Moments.{Adds};
+ghost use Rattle.sync_store.specs.Commits.{AnswersCommit, GainsBatch, MayAdd, UnaskedDisk, needed};
+ghost use Rattle.sync_store.specs.Fitting.{FitsFiles};
+ghost use Rattle.sync_store.specs.Moments.{RunsCommit};
 ghost use Rattle.sync_store.specs.Ready.{IsReady};
 ghost use Rattle.sync_store.specs.Store.{IsStore, written_in};
 
@@ -55,20 +55,20 @@ impl Store {
             → Allowed (C.meaning clients.now) self.old.state.facts batch }
         requires kind { is_settling_kind batch ≡ false }
         requires plain { is_account_kind batch ≡ false }
-        ensures answer { Commits self.old self.new batch result }
+        ensures answer { AnswersCommit self.old self.new batch result }
         ensures extends { self.old.closed ≡ false → (two : Two File)
             → (D.tells disk.old).files ≡ Some two → (j : List (List Entry))
-            → Fits (C.meaning clients.now) self.old j two
-            → Adds (C.meaning clients.now) batch result self.new (D.tells disk.old)
+            → FitsFiles (C.meaning clients.now) self.old j two
+            → RunsCommit (C.meaning clients.now) batch result self.new (D.tells disk.old)
             (D.tells disk.new) j }
         ensures ready { self.new.closed ≡ false
             → IsReady (C.meaning clients.now) self.new (D.tells disk.new).files }
-        ensures unasked { Unasked result disk.old disk.new }
+        ensures unasked { UnaskedDisk result disk.old disk.new }
         ensures calls { MakesCalls 4 result (D.tells disk.old) (D.tells disk.new) }
         ensures run { DiskRun (D.tells disk.old) (D.tells disk.new) }
         ensures numbers { IsStore self.new }
         ensures fault { IsErrOf result StoreFault.DiskFault
-            → Rose (D.tells disk.old).disk_faults (D.tells disk.new).disk_faults }
+            → CountRose (D.tells disk.old).disk_faults (D.tells disk.new).disk_faults }
     {
         self.commit_known(disk, clients, batch, None)
     }
@@ -89,20 +89,20 @@ impl Store {
         requires kind { is_settling_kind batch ≡ false }
         requires plain { is_account_kind batch ≡ false }
         requires named { IsOfAll id batch }
-        ensures answer { Commits self.old self.new batch result }
+        ensures answer { AnswersCommit self.old self.new batch result }
         ensures extends { self.old.closed ≡ false → (two : Two File)
             → (D.tells disk.old).files ≡ Some two → (j : List (List Entry))
-            → Fits (C.meaning clients.now) self.old j two
-            → Adds (C.meaning clients.now) batch result self.new (D.tells disk.old)
+            → FitsFiles (C.meaning clients.now) self.old j two
+            → RunsCommit (C.meaning clients.now) batch result self.new (D.tells disk.old)
             (D.tells disk.new) j }
         ensures ready { self.new.closed ≡ false
             → IsReady (C.meaning clients.now) self.new (D.tells disk.new).files }
-        ensures unasked { Unasked result disk.old disk.new }
+        ensures unasked { UnaskedDisk result disk.old disk.new }
         ensures calls { MakesCalls 4 result (D.tells disk.old) (D.tells disk.new) }
         ensures run { DiskRun (D.tells disk.old) (D.tells disk.new) }
         ensures numbers { IsStore self.new }
         ensures fault { IsErrOf result StoreFault.DiskFault
-            → Rose (D.tells disk.old).disk_faults (D.tells disk.new).disk_faults }
+            → CountRose (D.tells disk.old).disk_faults (D.tells disk.new).disk_faults }
     {
         if self.closed {
             return Err(StoreFault::Closed);
@@ -118,7 +118,7 @@ impl Store {
 
     // Whether the journal with the batch and the room for settling passes the limit.
     fn is_full<C: Clients>(&self, clients: &C, batch: &Batch) -> bool
-        requires knows { Knows (C.meaning clients.now) self.now.state }
+        requires knows { KnowsJudgements (C.meaning clients.now) self.now.state }
         requires allowed { Allowed (C.meaning clients.now) self.now.state.facts batch.now }
         requires kind { is_settling_kind batch.now ≡ false }
         requires plain { is_account_kind batch.now ≡ false }
@@ -166,12 +166,12 @@ impl Store {
         requires plain { is_account_kind batch ≡ false }
         requires named { IsOfAll id batch }
         requires room { HasRoom self.old.state batch }
-        ensures ok { OnOk result (Gains self.old self.new batch) }
+        ensures ok { OnOk result (GainsBatch self.old self.new batch) }
         ensures err { IfErr result (λ e. (e ≡ StoreFault.DiskFault)
             × (self.new ≡ record self.old { closed = true })) }
         ensures extends { (two : Two File) → (D.tells disk.old).files ≡ Some two
-            → (j : List (List Entry)) → Fits (C.meaning clients.now) self.old j two
-            → Adds (C.meaning clients.now) batch result self.new (D.tells disk.old)
+            → (j : List (List Entry)) → FitsFiles (C.meaning clients.now) self.old j two
+            → RunsCommit (C.meaning clients.now) batch result self.new (D.tells disk.old)
             (D.tells disk.new) j }
         ensures ready { self.new.closed ≡ false
             → IsReady (C.meaning clients.now) self.new (D.tells disk.new).files }

@@ -1,10 +1,10 @@
 //! A journal replaced by its brief account.
 ghost use Rattle.std.specs.Prelude.{◌≡◌, ◌-◌, ◌^◌, ◌<◌, Err, IsErrOf, false, true};
 ghost use Rattle.entry_codec.specs.declared.naming.Format.TheVariants as kind;
-ghost use Rattle.outside.specs.Faults.{Rose};
+ghost use Rattle.outside.specs.Faults.{CountRose};
 ghost use Rattle.outside.specs.Outside.{DiskRun};
 ghost use Rattle.sync_rules.specs.Steps.{IsSettled};
-ghost use Rattle.sync_store.specs.Compactions.{HasCompacted};
+ghost use Rattle.sync_store.specs.Compactions.{StoreHasCompacted};
 ghost use Rattle.sync_store.specs.Ready.{IsReady};
 ghost use Rattle.sync_store.specs.Store.{IsStore, written_in};
 
@@ -38,7 +38,7 @@ impl Store {
             → IsSettled (C.meaning clients.now) self.old.state.facts }
         requires short { self.old.closed ≡ false → written_in self.old ≡ kind.Short }
         ensures compacted { self.old.closed ≡ false
-            → HasCompacted (C.meaning clients.now) self.old self.new result (D.tells disk.old)
+            → StoreHasCompacted (C.meaning clients.now) self.old self.new result (D.tells disk.old)
             (D.tells disk.new) }
         ensures closed { self.old.closed ≡ true → (result ≡ Err StoreFault.Closed)
             × (self.new ≡ self.old) × (disk.new ≡ disk.old) }
@@ -48,7 +48,7 @@ impl Store {
         ensures run { DiskRun (D.tells disk.old) (D.tells disk.new) }
         ensures numbers { IsStore self.new }
         ensures fault { IsErrOf result StoreFault.DiskFault
-            → Rose (D.tells disk.old).disk_faults (D.tells disk.new).disk_faults }
+            → CountRose (D.tells disk.old).disk_faults (D.tells disk.new).disk_faults }
     {
         if self.is_closed() {
             return Err(StoreFault::Closed);
@@ -66,7 +66,7 @@ impl Store {
         requires settled { IsSettled (C.meaning clients.now) self.old.state.facts }
         requires short { written_in self.old ≡ kind.Short }
         requires generation { self.old.generation < 2 ^ 64 - 1 }
-        ensures compacted { HasCompacted (C.meaning clients.now) self.old self.new result
+        ensures compacted { StoreHasCompacted (C.meaning clients.now) self.old self.new result
             (D.tells disk.old) (D.tells disk.new) }
         ensures full { IsErrOf result StoreFault.Full → disk.new ≡ disk.old }
         ensures ready { self.new.closed ≡ false
@@ -74,7 +74,7 @@ impl Store {
         ensures run { DiskRun (D.tells disk.old) (D.tells disk.new) }
         ensures numbers { IsStore self.new }
         ensures fault { IsErrOf result StoreFault.DiskFault
-            → Rose (D.tells disk.old).disk_faults (D.tells disk.new).disk_faults }
+            → CountRose (D.tells disk.old).disk_faults (D.tells disk.new).disk_faults }
     {
         cite_laws();
         match compact(

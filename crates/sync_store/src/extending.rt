@@ -1,11 +1,11 @@
 //! A batch committed, and the journal settled behind it.
 ghost use Rattle.std.specs.Prelude.{◌≡◌, Err, IsErrOf, false, true};
-ghost use Rattle.outside.specs.Faults.{Rose};
+ghost use Rattle.outside.specs.Faults.{CountRose};
 ghost use Rattle.outside.specs.Outside.{DiskRun};
 ghost use Rattle.sync_rules.specs.Allows.{is_account_kind, is_settling_kind};
 ghost use Rattle.sync_rules.specs.Legal.{Allowed};
 ghost use Rattle.session_core.specs.Known.{IsOfAll};
-ghost use Rattle.sync_store.specs.Commits.{Stays};
+ghost use Rattle.sync_store.specs.Commits.{KeepsStore};
 ghost use Rattle.sync_store.specs.Ready.{IsReady};
 ghost use Rattle.sync_store.specs.Runs.{HasExtended};
 ghost use Rattle.sync_store.specs.Store.{IsStore};
@@ -39,14 +39,14 @@ impl Store {
         ensures extended { self.old.closed ≡ false → HasExtended (C.meaning clients.now)
             self.old self.new batch result (D.tells disk.old) (D.tells disk.new) }
         ensures closed { self.old.closed ≡ true → (result ≡ Err StoreFault.Closed)
-            × Stays self.old self.new × (disk.new ≡ disk.old) }
+            × KeepsStore self.old self.new × (disk.new ≡ disk.old) }
         ensures full { IsErrOf result StoreFault.Full → disk.new ≡ disk.old }
         ensures ready { self.new.closed ≡ false
             → IsReady (C.meaning clients.now) self.new (D.tells disk.new).files }
         ensures run { DiskRun (D.tells disk.old) (D.tells disk.new) }
         ensures numbers { IsStore self.new }
         ensures fault { IsErrOf result StoreFault.DiskFault
-            → Rose (D.tells disk.old).disk_faults (D.tells disk.new).disk_faults }
+            → CountRose (D.tells disk.old).disk_faults (D.tells disk.new).disk_faults }
     {
         self.extend_known(disk, clients, batch, None)
     }
@@ -70,14 +70,14 @@ impl Store {
         ensures extended { self.old.closed ≡ false → HasExtended (C.meaning clients.now)
             self.old self.new batch result (D.tells disk.old) (D.tells disk.new) }
         ensures closed { self.old.closed ≡ true → (result ≡ Err StoreFault.Closed)
-            × Stays self.old self.new × (disk.new ≡ disk.old) }
+            × KeepsStore self.old self.new × (disk.new ≡ disk.old) }
         ensures full { IsErrOf result StoreFault.Full → disk.new ≡ disk.old }
         ensures ready { self.new.closed ≡ false
             → IsReady (C.meaning clients.now) self.new (D.tells disk.new).files }
         ensures run { DiskRun (D.tells disk.old) (D.tells disk.new) }
         ensures numbers { IsStore self.new }
         ensures fault { IsErrOf result StoreFault.DiskFault
-            → Rose (D.tells disk.old).disk_faults (D.tells disk.new).disk_faults }
+            → CountRose (D.tells disk.old).disk_faults (D.tells disk.new).disk_faults }
     {
         images_stand();
         self.commit_known(disk, clients, batch, id)?;

@@ -1,5 +1,5 @@
 //! What holds of every store and disk. Each function's clause is the law; none does anything.
-ghost use Rattle.sync_store.specs.Cited.{CitedLaws};
+ghost use Rattle.sync_store.specs.Cited.{StoreLaws};
 ghost use Rattle.sync_store.specs.Fitting.{ImagesStand};
 
 use entry_codec::laws as codec;
@@ -14,7 +14,7 @@ pub fn images_stand()
 
 // The laws of the crates below that proofs of this crate rest on.
 pub(crate) fn cite_laws()
-    ensures { CitedLaws }
+    ensures { StoreLaws }
 {
     codec::journals_stand();
     codec::payloads_fit_frames();

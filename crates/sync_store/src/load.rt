@@ -1,17 +1,17 @@
 //! Loading a store: the journal is read batch by batch, and never held.
 ghost use Rattle.std.specs.Prelude.{◌≡◌, ◌+◌, ◌-◌, ◌<◌, ◌≤◌, IfOk, IsErrOf, Some};
 ghost use Rattle.std.specs.Option.{ForSome};
-ghost use Rattle.outside.specs.Faults.{Rose};
-ghost use Rattle.outside.specs.Disk.{Becomes};
+ghost use Rattle.outside.specs.Faults.{CountRose};
+ghost use Rattle.outside.specs.Disk.{RelatesTold};
 ghost use Rattle.outside.specs.Files.{Two, File, read_files};
-ghost use Rattle.outside.specs.Outside.{DiskRun, Looks};
+ghost use Rattle.outside.specs.Outside.{DiskRun, OnlyReads};
 ghost use Rattle.frame_journal.specs.Gates.{AnyImage, ReadsSame};
 ghost use Rattle.journal_state.specs.Taking.{HasNextNumbers};
-ghost use Rattle.journal_state.specs.Whole.{Knows};
+ghost use Rattle.journal_state.specs.Whole.{KnowsJudgements};
 ghost use Rattle.sync_rules.specs.Facts.{nothing};
-ghost use Rattle.sync_store.specs.Loading.{HasItsRoom, HasReadSome, IsLoaded, LeavesSettled};
-ghost use Rattle.sync_store.specs.Loading.{LoadsIn, Plays, ReadsAll, TurnCalls, ReadsMore};
-ghost use Rattle.sync_store.specs.Loading.{ReadsIn, SoFar, Turns};
+ghost use Rattle.sync_store.specs.Loading.{HasItsRoom, HasReadSome, IsJournalLoaded, LeavesSettled};
+ghost use Rattle.sync_store.specs.Loading.{LoadsIn, PlaysFrame, ReadsWholeJournal, TurnCalls, ReadsMore};
+ghost use Rattle.sync_store.specs.Loading.{ReadsIn, PlayedSoFar, PlaysNextFrame};
 ghost use Rattle.sync_store.specs.Ready.{IsReady};
 ghost use Rattle.sync_store.specs.Store.{IsStore};
 
@@ -36,9 +36,9 @@ fn play<C: Clients>(
     payload: &[u8],
 ) -> Result<(), LoadFault>
     requires read { 14 ≤ journal.now.last }
-    requires knows { Knows (C.meaning clients.now) state.old }
+    requires knows { KnowsJudgements (C.meaning clients.now) state.old }
     requires numbers { HasNextNumbers state.old.facts }
-    ensures { Plays (C.meaning clients.now) journal.now state.old state.new payload.now result }
+    ensures { PlaysFrame (C.meaning clients.now) journal.now state.old state.new payload.now result }
 {
     let place = journal.place();
     let format = format_meant(journal.format());
@@ -60,15 +60,15 @@ fn read_next<D: Disk, C: Clients>(
     state: &mut State,
     payload: &mut Vec<u8>,
 ) -> Result<bool, LoadFault>
-    requires { SoFar (C.meaning clients.now) (D.tells disk.old).files journal.old state.old }
-    ensures turn { Turns (C.meaning clients.now) (D.tells disk.new).files journal.old journal.new
+    requires { PlayedSoFar (C.meaning clients.now) (D.tells disk.old).files journal.old state.old }
+    ensures turn { PlaysNextFrame (C.meaning clients.now) (D.tells disk.new).files journal.old journal.new
         state.new result }
     ensures more { ReadsMore (C.meaning clients.now) (D.tells disk.old).files journal.old
         journal.new state.old state.new result }
     ensures calls { TurnCalls result (D.tells disk.old) (D.tells disk.new) }
-    ensures looks { Looks (D.tells disk.old) (D.tells disk.new) }
+    ensures looks { OnlyReads (D.tells disk.old) (D.tells disk.new) }
     ensures fault { IsErrOf result LoadFault.DiskFault
-        → Rose (D.tells disk.old).disk_faults (D.tells disk.new).disk_faults }
+        → CountRose (D.tells disk.old).disk_faults (D.tells disk.new).disk_faults }
 {
     cite_laws();
     let more = journal.next_frame(disk, payload)?;
@@ -105,15 +105,15 @@ fn read_all<D: Disk, C: Clients>(
     journal: &mut Journal,
     state: &mut State,
 ) -> Result<(), LoadFault>
-    requires so_far { SoFar (C.meaning clients.now) (D.tells disk.old).files journal.old state.old }
+    requires so_far { PlayedSoFar (C.meaning clients.now) (D.tells disk.old).files journal.old state.old }
     requires unread { (two : Two File) → (D.tells disk.old).files ≡ Some two
         → HasReadSome (C.meaning clients.now) two journal.old state.old 0 }
-    ensures all { ReadsAll (C.meaning clients.now) (D.tells disk.new).files journal.new state.new
+    ensures all { ReadsWholeJournal (C.meaning clients.now) (D.tells disk.new).files journal.new state.new
         result }
     ensures calls { ReadsIn (C.meaning clients.now) result (D.tells disk.old) (D.tells disk.new) }
-    ensures looks { Looks (D.tells disk.old) (D.tells disk.new) }
+    ensures looks { OnlyReads (D.tells disk.old) (D.tells disk.new) }
     ensures fault { IsErrOf result LoadFault.DiskFault
-        → Rose (D.tells disk.old).disk_faults (D.tells disk.new).disk_faults }
+        → CountRose (D.tells disk.old).disk_faults (D.tells disk.new).disk_faults }
 {
     let mut payload = Vec::new(alloc);
     'frames: loop {
@@ -141,7 +141,7 @@ impl Store {
     ) -> Result<Store, LoadFault>
         requires { limit ≤ MAX_JOURNAL }
         ensures answer { (two : Two File) → (D.tells disk.old).files ≡ Some two
-            → IsLoaded (C.meaning clients.now) (read_files two) result }
+            → IsJournalLoaded (C.meaning clients.now) (read_files two) result }
         ensures ready { IfOk result (λ store. IsReady (C.meaning clients.now) store
             (D.tells disk.new).files) }
         ensures numbers { IfOk result (λ store. IsStore store) }
@@ -156,10 +156,10 @@ impl Store {
             (D.tells disk.new) }
 
         // Whatever it answers, the files read as before.
-        ensures reads { Becomes ReadsSame (D.tells disk.old).files (D.tells disk.new).files }
+        ensures reads { RelatesTold ReadsSame (D.tells disk.old).files (D.tells disk.new).files }
         ensures run { DiskRun (D.tells disk.old) (D.tells disk.new) }
         ensures fault { IsErrOf result LoadFault.DiskFault
-            → Rose (D.tells disk.old).disk_faults (D.tells disk.new).disk_faults }
+            → CountRose (D.tells disk.old).disk_faults (D.tells disk.new).disk_faults }
     {
         barrier(disk)?;
         let mut journal = Journal::start(disk)?;

@@ -1,8 +1,8 @@
 //! A journal of format 1 written anew in format 2.
 ghost use Rattle.std.specs.Prelude.{◌≡◌, Err, IsErrOf, false, true};
-ghost use Rattle.outside.specs.Faults.{Rose};
+ghost use Rattle.outside.specs.Faults.{CountRose};
 ghost use Rattle.outside.specs.Outside.{DiskRun};
-ghost use Rattle.sync_store.specs.Migrations.{HasMigrated, IsOld, Untouched};
+ghost use Rattle.sync_store.specs.Migrations.{HasMigrated, IsInOldFormat, UntouchedDisk};
 ghost use Rattle.sync_store.specs.Ready.{IsReady};
 ghost use Rattle.sync_store.specs.Store.{IsStore};
 
@@ -35,13 +35,13 @@ impl Store {
             (D.tells disk.new) }
         ensures closed { self.old.closed ≡ true → (result ≡ Err StoreFault.Closed)
             × (self.new ≡ self.old) × (disk.new ≡ disk.old) }
-        ensures untouched { Untouched self.old disk.old disk.new }
+        ensures untouched { UntouchedDisk self.old disk.old disk.new }
         ensures ready { self.new.closed ≡ false
             → IsReady (C.meaning clients.now) self.new (D.tells disk.new).files }
         ensures run { DiskRun (D.tells disk.old) (D.tells disk.new) }
         ensures numbers { IsStore self.new }
         ensures fault { IsErrOf result StoreFault.DiskFault
-            → Rose (D.tells disk.old).disk_faults (D.tells disk.new).disk_faults }
+            → CountRose (D.tells disk.old).disk_faults (D.tells disk.new).disk_faults }
     {
         if self.is_closed() {
             return Err(StoreFault::Closed);
@@ -61,7 +61,7 @@ impl Store {
     // The same of a journal in format 1 for which there is a further generation.
     fn move_on<D: Disk, C: Clients>(&mut self, disk: &mut D, clients: &C) -> Result<(), StoreFault>
         requires ready { IsReady (C.meaning clients.now) self.old (D.tells disk.old).files }
-        requires old { IsOld self.old }
+        requires old { IsInOldFormat self.old }
         ensures migrated { HasMigrated (C.meaning clients.now) self.old self.new result
             (D.tells disk.old) (D.tells disk.new) }
         ensures ready { self.new.closed ≡ false
@@ -69,7 +69,7 @@ impl Store {
         ensures run { DiskRun (D.tells disk.old) (D.tells disk.new) }
         ensures numbers { IsStore self.new }
         ensures fault { IsErrOf result StoreFault.DiskFault
-            → Rose (D.tells disk.old).disk_faults (D.tells disk.new).disk_faults }
+            → CountRose (D.tells disk.old).disk_faults (D.tells disk.new).disk_faults }
     {
         let _meaning = clients;
         cite_laws();

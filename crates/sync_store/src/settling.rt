@@ -2,14 +2,14 @@
 ghost use Rattle.std.specs.Prelude.{◌≡◌, ◌⊎◌, ◌+◌, ◌≤◌, [], false, true, Err, Some, length};
 ghost use Rattle.std.specs.Prelude.{vec_capacity, vec_len, IfErr, IsErrOf, OnOk};
 ghost use Rattle.std.specs.Option.{ForSome};
-ghost use Rattle.outside.specs.Faults.{HasCause, Rose};
+ghost use Rattle.outside.specs.Faults.{HasCause, CountRose};
 ghost use Rattle.outside.specs.Files.{Two, File, file_of};
 ghost use Rattle.outside.specs.Frames.{IsAtRest};
 ghost use Rattle.outside.specs.Outside.{DiskRun, MakesCalls};
-ghost use Rattle.outside.specs.Disk.{Becomes};
-ghost use Rattle.outside.specs.Steps.{Passed};
-ghost use Rattle.frame_journal.specs.Append.{IsFramed, Appends, BeforeOrWith};
-ghost use Rattle.journal_state.specs.Whole.{Knows};
+ghost use Rattle.outside.specs.Disk.{RelatesTold};
+ghost use Rattle.outside.specs.Steps.{PassedMoments};
+ghost use Rattle.frame_journal.specs.Append.{IsFramed, AppendsFrame, BeforeOrWith};
+ghost use Rattle.journal_state.specs.Whole.{KnowsJudgements};
 ghost use Rattle.sync_rules.specs.Facts.{after_all};
 ghost use Rattle.sync_rules.specs.Legal.{IsSettling};
 ghost use Rattle.sync_rules.specs.Steps.{IsSettled};
@@ -53,7 +53,7 @@ impl Store {
         ensures run { DiskRun (D.tells disk.old) (D.tells disk.new) }
         ensures numbers { IsStore self.new }
         ensures fault { IsErrOf result StoreFault.DiskFault
-            → Rose (D.tells disk.old).disk_faults (D.tells disk.new).disk_faults }
+            → CountRose (D.tells disk.old).disk_faults (D.tells disk.new).disk_faults }
     {
         if self.is_closed() {
             return Err(StoreFault::Closed);
@@ -75,11 +75,11 @@ impl Store {
         requires unsettled { IsSettled (C.meaning clients.now) self.old.state.facts → ⊥ }
         ensures made { MakesBatch (C.meaning clients.now) self.old self.new result
             (D.tells disk.old) (D.tells disk.new) }
-        ensures knows { Knows (C.meaning clients.now) self.new.state }
+        ensures knows { KnowsJudgements (C.meaning clients.now) self.new.state }
         ensures run { DiskRun (D.tells disk.old) (D.tells disk.new) }
         ensures numbers { IsStore self.new }
         ensures fault { IsErrOf result StoreFault.DiskFault
-            → Rose (D.tells disk.old).disk_faults (D.tells disk.new).disk_faults }
+            → CountRose (D.tells disk.old).disk_faults (D.tells disk.new).disk_faults }
     {
         cite_laws();
         let entries = Vec::with_capacity(self.alloc, MAX_STEPS)?;
@@ -103,11 +103,11 @@ impl Store {
         requires frame_room { MOST_FRAMED ≤ vec_capacity framed }
         ensures made { MakesBatch (C.meaning clients.now) self.old self.new result
             (D.tells disk.old) (D.tells disk.new) }
-        ensures knows { Knows (C.meaning clients.now) self.new.state }
+        ensures knows { KnowsJudgements (C.meaning clients.now) self.new.state }
         ensures run { DiskRun (D.tells disk.old) (D.tells disk.new) }
         ensures numbers { IsStore self.new }
         ensures fault { IsErrOf result StoreFault.DiskFault
-            → Rose (D.tells disk.old).disk_faults (D.tells disk.new).disk_faults }
+            → CountRose (D.tells disk.old).disk_faults (D.tells disk.new).disk_faults }
     {
         cite_laws();
         let filled = fill(&mut self.state, self.alloc, clients, &mut entries);
@@ -134,10 +134,10 @@ impl Store {
             (self.new ≡ record self.old { end = self.old.end + length framed.now }) }
         ensures err { IfErr result (λ e. (e ≡ StoreFault.DiskFault)
             × (self.new ≡ record self.old { closed = true })) }
-        ensures appended { OnOk result (Becomes (Appends self.old.file self.old.end framed.now)
+        ensures appended { OnOk result (RelatesTold (AppendsFrame self.old.file self.old.end framed.now)
             (D.tells disk.old).files (D.tells disk.new).files) }
         ensures any_moment { (two : Two File) → (D.tells disk.old).files ≡ Some two
-            → Passed two (D.tells disk.old) (D.tells disk.new) self.old.file
+            → PassedMoments two (D.tells disk.old) (D.tells disk.new) self.old.file
             (BeforeOrWith (file_of two self.old.file).now self.old.end framed.now) }
         ensures calls { MakesCalls 4 result (D.tells disk.old) (D.tells disk.new) }
         ensures run { DiskRun (D.tells disk.old) (D.tells disk.new) }
@@ -163,13 +163,13 @@ fn fill<C: Clients>(
     clients: &C,
     entries: &mut Vec<Entry>,
 ) -> Result<(), AllocError>
-    requires knows { Knows (C.meaning clients.now) state.old }
+    requires knows { KnowsJudgements (C.meaning clients.now) state.old }
     requires empty { entries.old.items ≡ [] }
     requires room { MAX_STEPS ≤ vec_capacity entries.old }
     ensures steps { IsSettling (C.meaning clients.now) state.old.facts entries.new.items }
     ensures few { vec_len entries.new ≤ MAX_STEPS }
     ensures facts { state.new.facts ≡ after_all state.old.facts entries.new.items }
-    ensures knows { Knows (C.meaning clients.now) state.new }
+    ensures knows { KnowsJudgements (C.meaning clients.now) state.new }
     ensures none { OnOk result (entries.new.items ≡ []
         → IsSettled (C.meaning clients.now) state.old.facts) }
     ensures full { OnOk result ((vec_len entries.new ≡ MAX_STEPS)

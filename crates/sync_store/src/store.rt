@@ -6,7 +6,7 @@ ghost use Rattle.entry_codec.specs.Standing.{room_of};
 ghost use Rattle.outside.specs.declared.limits.TheConstants.{MAX_JOURNAL};
 ghost use Rattle.journal_state.specs.Allowing.{due_of};
 ghost use Rattle.journal_state.specs.Lent.{StandsForNodes, StandsForRows};
-ghost use Rattle.journal_state.specs.Whole.{Knows};
+ghost use Rattle.journal_state.specs.Whole.{KnowsJudgements};
 ghost use Rattle.sync_rules.specs.declared.limits.TheConstants.{MAX_CONTACTS};
 ghost use Rattle.sync_rules.specs.Clients.{Meaning};
 ghost use Rattle.sync_rules.specs.Facts.{Id, session_at, takes_of};

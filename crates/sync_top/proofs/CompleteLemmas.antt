@@ -3,7 +3,7 @@ use Rattle.std.proofs.Common.{◌≡◌, ℕ, ◌+◌, ◌<◌, ◌≤◌, Bool,
 use Rattle.std.specs.Prelude.{◌⊎◌, if◌then◌else◌, nat_lt}
 use Rattle.std.proofs.lemmas.List.{take_all}
 use Rattle.outside.specs.declared.limits.TheConstants.{MAX_JOURNAL}
-use Rattle.outside.specs.Faults.{Rose}
+use Rattle.outside.specs.Faults.{CountRose}
 use Rattle.outside.specs.Files.{Two, File, read_files}
 use Rattle.outside.specs.Outside.{Outside}
 use Rattle.outside.proofs.CallSteps.{told_on}
@@ -42,21 +42,21 @@ use Rattle.store_commands.specs.Shown.{Showing, body_shown, denies, listing_show
 use Rattle.tree_commands.specs.Trees.{tree_shown}
 use Rattle.audit_commands.specs.Audits.{HasAudited}
 use Rattle.sync_node.specs.Courses.{ReadsAs}
-use Rattle.sharing_commands.specs.Agreeing.{AreRoomy, HasAgreed, IsCut}
+use Rattle.sharing_commands.specs.Agreeing.{EachFoundRoom, HasAgreed, IsAgreementCut}
 use Rattle.sharing_commands.specs.Agreement.{agree_test}
 use Rattle.sharing_commands.specs.Sayings.{say_plan}
 use Rattle.sharing_commands.proofs.Fronts.{room_at}
 use Rattle.mailbox_core.specs.Files.{box_ending}
 use Rattle.mailbox_commands.specs.declared.sending.Sending.{Sending}
 use Rattle.mailbox_commands.specs.declared.taking.TheConstants.{MAX_MAIL}
-use Rattle.mailbox_commands.specs.Errands.{Errand, HasErrandRoom, IsCut as IsErrandCut, mailbox_test}
+use Rattle.mailbox_commands.specs.Errands.{Errand, HasErrandRoom, IsErrandCutShort as IsErrandCut, mailbox_test}
 use Rattle.mailbox_commands.specs.Running.{FilesRun, IsTested}
 use Rattle.mailbox_commands.specs.Sending.{HasSentMail, out_errand}
 use Rattle.mailbox_commands.specs.Taking.{HasTakenMail, IsMail, TakesMail, in_errand, outcome_at}
 use Rattle.store_commands.proofs.Stood.{last_lacks}
 use Rattle.sync_top.specs.declared.input.TheConstants.{MAX_INPUT}
-use Rattle.sync_top.specs.Complete.{BytesDecide, ComesOut, Complete, HasBriefRoom, HasRoom, HasRooms, MayAdd, MayAgreeOn, MayAudit, MayCompact, MayPost, MaySendMail, MayShow, MayTakeMail, MailDecides, NothingFails, mail_status, Serves, status_at, status_by}
-use Rattle.sync_top.specs.Run.{Comes, ComesOfStore, ReadsStream, ReadsWhole, Reports, Streams, TriesClient, outcome_of, sending_of, speech_of}
+use Rattle.sync_top.specs.Complete.{BytesDecide, ComesOut, Complete, HasBriefRoom, HasRoomForBatch, HasRooms, MayAddPlanned, MayAgreeOn, MayAudit, MayCompact, MayPost, MaySendMail, MayShow, MayTakeMail, MailDecides, NothingFails, mail_status, ServesCommand, status_at, status_by}
+use Rattle.sync_top.specs.Run.{WordsComeTo, ComesOfStore, ReadsStream, ReadsWhole, ReportsOutcome, Streams, TriesClient, outcome_of, sending_of, speech_of}
 use Rattle.sync_top.proofs.CompleteRuns.{run_comes_out}
 
 -- ---- the bytes decide
@@ -90,7 +90,7 @@ module _ (input input' out out' : Stream) where
       ∙ sym (test_by (nat_lt MAX_INPUT (length read)) status.TooMuch (status_at (ending 0 read)) few)
 
   bytes_decide : (text : List ℕ) (came : Outcome) (told : List Item → List ℕ → Type 0) (r : ReadsStream told input input' out out' came)
-      → (Rose input.faults input'.faults → ⊥) → (Rose out.faults out'.faults → ⊥) → BytesDecide input input' (status_of came)
+      → (CountRose input.faults input'.faults → ⊥) → (CountRose out.faults out'.faults → ⊥) → BytesDecide input input' (status_of came)
   bytes_decide text outcome.Done told r source sink =
       record { read = r.read; consumed = r.consumed; whole = inl (r.ended.0.at_end, r.ended.0.within); decides = whole_decides r.read outcome.Done r.ended.0 r.ended.1 }
   bytes_decide text (outcome.Bad place why) told r source sink =
@@ -110,13 +110,13 @@ module _ (input input' out out' : Stream) where
   bytes_decide text outcome.WriteFault told r source sink = absurd (sink r.ended.0)
   bytes_decide text _ told r source sink = absurd r.ended
 
-  streams_decide : (came : Outcome) (told : List Item → List ℕ → Type 0) → Streams told input input' out out' came → (Rose input.faults input'.faults → ⊥) → (Rose out.faults out'.faults → ⊥)
+  streams_decide : (came : Outcome) (told : List Item → List ℕ → Type 0) → Streams told input input' out out' came → (CountRose input.faults input'.faults → ⊥) → (CountRose out.faults out'.faults → ⊥)
       → BytesDecide input input' (status_of came) ⊎ (status_of came ≡ status.Memory)
   streams_decide outcome.Memory told streams source sink = inr refl
   streams_decide came told streams source sink = inl (bytes_decide [] came told streams source sink)
 
   tries_decide : (clients : Meaning) (name descriptor : List ℕ) (o : Option ℕ) (came : Outcome) → is_some o ≡ true → TriesClient clients name descriptor o input input' out out' came
-      → (Rose input.faults input'.faults → ⊥) → (Rose out.faults out'.faults → ⊥) → BytesDecide input input' (status_of came) ⊎ (status_of came ≡ status.Memory)
+      → (CountRose input.faults input'.faults → ⊥) → (CountRose out.faults out'.faults → ⊥) → BytesDecide input input' (status_of came) ⊎ (status_of came ≡ status.Memory)
   tries_decide clients name descriptor None came known tries source sink = cc
   tries_decide clients name descriptor (Some kind) came known tries source sink = streams_decide came _ tries source sink
 
@@ -136,7 +136,7 @@ not_spent files two two' next told spent = absurd (next two told spent.0)
 
 -- there was room for a batch
 not_full : {P : Type 0} (clients : Meaning) (files : Option (Two File)) (two two' : Two File) (j : List (List Entry)) (batch : List Entry)
-    → HasRoom clients j batch → MayMigrate files → files ≡ Some two → IsFull clients j batch two two' → P
+    → HasRoomForBatch clients j batch → MayMigrate files → files ≡ Some two → IsFull clients j batch two two' → P
 not_full clients files two two' j batch has next told (inl over) =
     let room = has over.first over.settles over.settled in
     absurd (omega (arith, room, over.over))
@@ -144,10 +144,10 @@ not_full clients files two two' j batch has next told (inr spent) = not_spent fi
 
 -- there was room for each batch that the targets ask for
 not_cut : {P : Type 0} (clients : Meaning) (contact : ℕ) (group : Id) (files : Option (Two File)) (two two' : Two File) (j : List (List Entry))
-    → HasRooms clients contact group j → MayMigrate files → files ≡ Some two → IsCut clients contact group j two' ⊎ WasSpent two two' → P
+    → HasRooms clients contact group j → MayMigrate files → files ≡ Some two → IsAgreementCut clients contact group j two' ⊎ WasSpent two two' → P
 not_cut clients contact group files two two' j has next told (inl cut) =
-    let roomy : AreRoomy (j ++ cut.first) (cut.front ++ cut.next ∷ cut.rest) =
-    subst (AreRoomy (j ++ cut.first)) cut.parts (has cut.first cut.settles cut.settled) in
+    let roomy : EachFoundRoom (j ++ cut.first) (cut.front ++ cut.next ∷ cut.rest) =
+    subst (EachFoundRoom (j ++ cut.first)) cut.parts (has cut.first cut.settles cut.settled) in
     let room : needed_by (j ++ (cut.first ++ cut.front)) cut.next ≤ MAX_JOURNAL =
     subst (λ (whole : List (List Entry)). needed_by whole cut.next ≤ MAX_JOURNAL) (append_assoc j cut.first cut.front)
     (room_at (j ++ cut.first) cut.front cut.next cut.rest roomy) in
@@ -184,7 +184,7 @@ module _ (clients : Meaning) (old new : Outside) (input input' out out' : Stream
       absurd (let is : true ≡ false = sym (((did.told two told).ends now.0 now.1).0) ∙ none in cc)
   begun_done _ did two told none = absurd did.by
 
-  added_done : (plan : Facts → Plan) (asked : Settling) (came : Outcome) → HasAdded clients plan asked old new out out' came → MayAdd clients plan old.files → Done came
+  added_done : (plan : Facts → Plan) (asked : Settling) (came : Outcome) → HasAdded clients plan asked old new out out' came → MayAddPlanned clients plan old.files → Done came
   added_done plan asked outcome.Done did may = inl refl
   added_done plan asked outcome.Memory did may = inr refl
   added_done plan asked outcome.WriteFault did may = absurd (fails.sink did.by)
@@ -211,8 +211,8 @@ module _ (clients : Meaning) (old new : Outside) (input input' out out' : Stream
       let same : full.before ≡ may.before = cc in
       let is : adds full.entry ≡ adds may.entry = sym full.planned ∙ ap (λ (j : List (List Entry)). plan (facts j)) same ∙ may.planned in
       let one : full.entry ≡ may.entry = cc in
-      let has : HasRoom clients full.before (full.entry ∷ []) =
-      subst (λ (j : List (List Entry)). HasRoom clients j (full.entry ∷ [])) (sym same) (subst (λ (e : Entry). HasRoom clients may.before (e ∷ [])) (sym one) may.room) in
+      let has : HasRoomForBatch clients full.before (full.entry ∷ []) =
+      subst (λ (j : List (List Entry)). HasRoomForBatch clients j (full.entry ∷ [])) (sym same) (subst (λ (e : Entry). HasRoomForBatch clients may.before (e ∷ [])) (sym one) may.room) in
       not_full clients old.files may.stood.0 now.0 full.before (full.entry ∷ []) has may.next may.stood.1 full.leads
   added_done plan asked _ did may = absurd did.by
 
@@ -423,7 +423,7 @@ module _ (clients : Meaning) (old new : Outside) (input input' out out' : Stream
 
 -- what each command comes to
 command_comes_out : (clients : Meaning) (asked : Command) (old new : Outside) (input input' out out' : Stream) (came : Outcome)
-    → Comes clients (Do asked) old new input input' out out' came → Serves clients asked old new input input' → NothingFails old new input input' out out'
+    → WordsComeTo clients (Do asked) old new input input' out out' came → ServesCommand clients asked old new input input' → NothingFails old new input input' out out'
     → ComesOut clients asked old new input input' (status_of came) ⊎ (status_of came ≡ status.Memory)
 command_comes_out clients (command.Try name descriptor) old new input input' out out' came comes serves fails =
     tries_decide input input' out out' clients name descriptor (clients.kind_of name 0) came serves comes fails.source fails.sink
@@ -484,13 +484,13 @@ command_comes_out clients (command.Sync turns quiet links) old new input input' 
       | inr none ↦ inr (ap status_of none.0)
     ]
 
-comes_out : (clients : Meaning) (words : Asked) (old new : Outside) (input input' out out' : Stream) (came : Outcome) → Comes clients words old new input input' out out' came
+comes_out : (clients : Meaning) (words : Asked) (old new : Outside) (input input' out out' : Stream) (came : Outcome) → WordsComeTo clients words old new input input' out out' came
     → Complete clients words old new input input' out out' (status_of came)
 comes_out clients (Usage place) old new input input' out out' came comes = tt
 comes_out clients (Do asked) old new input input' out out' came comes = command_comes_out clients asked old new input input' out out' came comes
 
 -- the status that was given is that of the outcome
 pub complete : (clients : Meaning) (words : Asked) (old new : Outside) (input input' out out' err err' : Stream) (came : Outcome) (given : Status)
-    → Comes clients words old new input input' out out' came → Reports came err err' given → Complete clients words old new input input' out out' given
+    → WordsComeTo clients words old new input input' out out' came → ReportsOutcome came err err' given → Complete clients words old new input input' out out' given
 complete clients words old new input input' out out' err err' came given comes reports =
     subst (Complete clients words old new input input' out out') (sym reports.0) (comes_out clients words old new input input' out out' came comes)

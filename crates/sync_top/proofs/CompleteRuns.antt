@@ -3,7 +3,7 @@ use Rattle.std.proofs.Common.{◌≡◌, ℕ, zero, suc, ◌≤◌, Bool, true, 
 use Rattle.std.specs.Prelude.{◌⊎◌, slice_get, map, ◌||◌}
 use Rattle.std.specs.List.{list_any}
 use Rattle.outside.specs.declared.limits.TheConstants.{MAX_JOURNAL}
-use Rattle.outside.specs.Faults.{Rose}
+use Rattle.outside.specs.Faults.{CountRose}
 use Rattle.outside.specs.Files.{read_files}
 use Rattle.outside.specs.Outside.{Outside}
 use Rattle.record_grammar.specs.Stream.{ending, records, records_of}
@@ -30,7 +30,7 @@ use Rattle.sync_words.specs.declared.status.Status.TheVariants as status
 use Rattle.sync_words.specs.Outcomes.{ends_status, first_bad, link_status, links_came_to, links_status, status_of}
 use Rattle.sync_run.specs.declared.run.Limits.{Limits}
 use Rattle.sync_run.specs.Causes.{FailuresRose, IsCaused}
-use Rattle.sync_run.specs.Courses.{ComesTo, RanToEnd, WasFull, run_test}
+use Rattle.sync_run.specs.Courses.{RunComesTo, RanToEnd, WasFull, run_test}
 use Rattle.sync_run.specs.Ends.{LacksVersion, StandsByHeard}
 use Rattle.sync_run.specs.Ran.{HasRun}
 use Rattle.sync_top.specs.Complete.{AllHeardWell, CourseDecides, HeardWell, MaySync, is_unfailed}
@@ -109,8 +109,8 @@ well_done (end.Bad place why) heard by well fails = let both : ends.Bad place wh
 well_done (end.NoVersion place) heard by well fails = absurd (lacks_none place heard by well.versions)
 well_done end.Failed heard by well fails = absurd (fails refl)
 
-module _ (clients : Meaning) (limits : Limits) (words : List LinkWords) (old new : Outside) (disk : Rose old.disk_faults new.disk_faults → ⊥)
-    (links : (link : ℕ) → Rose (old.links.faults link) (new.links.faults link) → ⊥) where
+module _ (clients : Meaning) (limits : Limits) (words : List LinkWords) (old new : Outside) (disk : CountRose old.disk_faults new.disk_faults → ⊥)
+    (links : (link : ℕ) → CountRose (old.links.faults link) (new.links.faults link) → ⊥) where
   abbrev ComesOut : Outcome → Type 0
   ComesOut came = CourseDecides clients limits words old new (status_of came) ⊎ (status_of came ≡ status.Memory)
 
@@ -154,7 +154,7 @@ module _ (clients : Meaning) (limits : Limits) (words : List LinkWords) (old new
         omega (arith, room, over.over)
     not_full (inr spent) = may.next may.stood.0 may.stood.1 (spent.last may.stood.0 may.stood.1)
 
-    result_comes : (r : Result Closing Outcome) (came : Outcome) → came ≡ links_came_to r → IsCaused words old new r → ComesTo clients limits words stood old new r → ComesOut came
+    result_comes : (r : Result Closing Outcome) (came : Outcome) → came ≡ links_came_to r → IsCaused words old new r → RunComesTo clients limits words stood old new r → ComesOut came
     result_comes (Ok lines) came is caused comes =
         let ran : RanToEnd clients limits words may.begin old new lines =
         subst (λ (j : List (List Entry)). RanToEnd clients limits words j old new lines) (same_begin comes.begin comes.began) comes.has in

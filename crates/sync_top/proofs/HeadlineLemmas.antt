@@ -2,9 +2,9 @@
 use Rattle.std.proofs.Common.{◌≡◌, ℕ, ◌+◌, List, [], ◌∷◌, ◌++◌, length, append-nil, refl, sym, ap, ◌∙◌, subst, inl, inr, arith, Some, Result}
 use Rattle.std.specs.Prelude.{slice_index_or}
 use Rattle.outside.specs.Files.{Two, File, read_files}
-use Rattle.outside.specs.Links.{Link, sent_of}
+use Rattle.outside.specs.Links.{ToldLink, sent_of}
 use Rattle.outside.specs.Outside.{Outside}
-use Rattle.outside.specs.Runs.{IsFront, Told}
+use Rattle.outside.specs.Runs.{IsFront, TellsAll}
 use Rattle.outside.specs.Streams.{Stream}
 use Rattle.sync_rules.specs.Clients.{Meaning}
 use Rattle.sync_rules.specs.Facts.{facts}
@@ -23,16 +23,16 @@ use Rattle.sync_run.specs.Headline.{Headline, StandsForRun}
 use Rattle.sync_run.specs.Leaving.{LeavesLinks}
 use Rattle.sync_run.specs.Ran.{HasRun, RanTold}
 use Rattle.sync_words.specs.Outcomes.{links_came_to}
-use Rattle.sync_top.specs.Run.{AsksSync, Comes, Covered, DoesNothing}
+use Rattle.sync_top.specs.Run.{AsksSync, WordsComeTo, Covered, DoesNothing}
 
 -- nothing was sent on a host without links
-pub no_links : (links : List Link) → length links ≡ 0 → links ≡ []
+pub no_links : (links : List ToldLink) → length links ≡ 0 → links ≡ []
 no_links [] none = refl
 no_links (l ∷ links) none = absurd (omega (arith, none))
 
-none_sent : (o : Outside) → Told o → o.links.dialled ≡ 0 → sent_of o.links.told ≡ []
+none_sent : (o : Outside) → TellsAll o → o.links.dialled ≡ 0 → sent_of o.links.told ≡ []
 none_sent o told none =
-    ap sent_of told.links_are ∙ ap (λ (l : List Link). sent_of (Some l)) (no_links told.links (o.all_told told.links told.links_are ∙ none))
+    ap sent_of told.links_are ∙ ap (λ (l : List ToldLink). sent_of (Some l)) (no_links told.links (o.all_told told.links told.links_are ∙ none))
 
 pub none_at : (sent : List (List ℕ)) (link : ℕ) → sent ≡ [] → slice_index_or sent link [] ≡ []
 none_at sent link none = ap (λ (s : List (List ℕ)). slice_index_or s link []) none
@@ -67,7 +67,7 @@ none_covered clients words old new input input' out out' none unused two files t
     }
 
 pub covers : (clients : Meaning) (words : Asked) (old new : Outside) (input input' out out' : Stream) (came : Outcome)
-    → (AsksSync words → old.links.dialled ≡ 0) → Comes clients words old new input input' out out' came → Covered clients words old new
+    → (AsksSync words → old.links.dialled ≡ 0) → WordsComeTo clients words old new input input' out out' came → Covered clients words old new
 covers clients (Usage place) old new input input' out out' came unused comes = tt
 covers clients (Do (command.Sync turns quiet links)) old new input input' out out' came unused (inl did) = did.0.headline
 covers clients (Do (command.Sync turns quiet links)) old new input input' out out' came unused (inr none) =

@@ -4,7 +4,7 @@ use Rattle.std.proofs.Math.Seq.{take-append-add}
 use Rattle.std.proofs.KnownBytes.{Consumes-trans, Consumes-kept}
 use Rattle.std.proofs.lemmas.List.{append_assoc, take-append-drop, take_all, length-append, take-append-le, length-take-le}
 use Rattle.std.specs.Io.KnownBytes.{Consumes, Keeps, IsAtEnd}
-use Rattle.outside.specs.Faults.{Rose}
+use Rattle.outside.specs.Faults.{CountRose}
 use Rattle.outside.specs.Streams.{Stream}
 use Rattle.record_grammar.specs.Stream.{ending, items}
 use Rattle.record_grammar.specs.declared.stream.Item.{Item}
@@ -14,7 +14,7 @@ use Rattle.record_stream.specs.Reading.{AwaitsBytes, ReaderState, fresh}
 use Rattle.sync_top.specs.declared.input.TheConstants.{MAX_INPUT}
 use Rattle.sync_top.specs.declared.input.Stop.{Stop}
 use Rattle.sync_top.specs.declared.input.Stop.TheVariants as stop
-use Rattle.sync_top.specs.Input.{HearsInput, Reading, StopsAt}
+use Rattle.sync_top.specs.Input.{HearsInput, Reading, StopsReading}
 
 consumes_none : (told : Option (List ℕ)) → Consumes told told []
 consumes_none None = tt
@@ -59,7 +59,7 @@ module _ (join : ReadingsJoin) (are_whole : ReadingsAreWhole) {L : Type 0} (hear
 
   -- the input was heard whole, up to its end or to a fault
   heard_within : (input input' : Stream) (read : List ℕ) (r : ReaderState) (l l' : L) (why : Stop) (end : Ending) → Consumes input.bytes input'.bytes read
-      → length read ≤ MAX_INPUT → Hearing heard read fresh [] r l l' → AwaitsBytes r → end ≡ ending r.place r.bytes → StopsAt why input input' read
+      → length read ≤ MAX_INPUT → Hearing heard read fresh [] r l l' → AwaitsBytes r → end ≡ ending r.place r.bytes → StopsReading why input input' read
       → HearsInput heard input input' l l' why end
   heard_within input input' read r l l' why end consumed within hearing waits ends stops =
       let whole : take MAX_INPUT read ≡ read = take_all MAX_INPUT read within in
@@ -99,16 +99,16 @@ module _ (join : ReadingsJoin) (are_whole : ReadingsAreWhole) {L : Type 0} (hear
 
   -- a read failed
   pub reading_fails : (input input' input'' : Stream) (total : ℕ) (r : ReaderState) (l l' : L) (why : Stop) (end : Ending) → Reading heard input input' total r l l'
-      → Keeps input'.bytes input''.bytes → Rose input'.faults input''.faults → why ≡ stop.ReadFault → end ≡ ending r.place r.bytes
+      → Keeps input'.bytes input''.bytes → CountRose input'.faults input''.faults → why ≡ stop.ReadFault → end ≡ ending r.place r.bytes
       → HearsInput heard input input'' l l' why end
   reading_fails input input' input'' total r l l' why end so_far kept rose fault ends =
       let had = so_far.counted in
       let few = so_far.within in
       let earlier = so_far.later in
       let within : length so_far.read ≤ MAX_INPUT = omega arith in
-      let from_start : Rose input.faults input''.faults = omega arith in
+      let from_start : CountRose input.faults input''.faults = omega arith in
       heard_within input input'' so_far.read r l l' why end (Consumes-kept input.bytes input'.bytes input''.bytes so_far.read so_far.consumed kept) within so_far.hearing so_far.waits ends
-      (subst (λ (w : Stop). StopsAt w input input'' so_far.read) (sym fault) (from_start, within))
+      (subst (λ (w : Stop). StopsReading w input input'' so_far.read) (sym fault) (from_start, within))
 
   -- a read gave nothing: the input is at its end
   pub reading_ends : (input input' input'' : Stream) (total : ℕ) (r : ReaderState) (l l' : L) (why : Stop) (end : Ending) → Reading heard input input' total r l l'
@@ -121,7 +121,7 @@ module _ (join : ReadingsJoin) (are_whole : ReadingsAreWhole) {L : Type 0} (hear
       subst (λ (bytes : List ℕ). Consumes input.bytes input''.bytes bytes) (append-nil so_far.read)
       (Consumes-trans input.bytes input'.bytes input''.bytes so_far.read [] so_far.consumed consumed) in
       heard_within input input'' so_far.read r l l' why end all within so_far.hearing so_far.waits ends
-      (subst (λ (w : Stop). StopsAt w input input'' so_far.read) (sym ended) (at_end, within))
+      (subst (λ (w : Stop). StopsReading w input input'' so_far.read) (sym ended) (at_end, within))
 
   -- a read gave one byte more than the limit, which was not heard
   pub reading_much : (input input' input'' : Stream) (total wanted : ℕ) (piece : List ℕ) (r r' : ReaderState) (l l' l'' : L) (why : Stop) (end : Ending)
@@ -142,5 +142,5 @@ module _ (join : ReadingsJoin) (are_whole : ReadingsAreWhole) {L : Type 0} (hear
         consumed = Consumes-trans input.bytes input'.bytes input''.bytes read piece so_far.consumed consumed;
         hears = all_heard (take MAX_INPUT (read ++ piece)) r' l l'' front waits;
         ends = ends ∙ all_ends (take MAX_INPUT (read ++ piece)) r' l l'' front waits;
-        stops = subst (λ (w : Stop). StopsAt w input input'' (read ++ piece)) (sym too_much) all;
+        stops = subst (λ (w : Stop). StopsReading w input input'' (read ++ piece)) (sym too_much) all;
       }

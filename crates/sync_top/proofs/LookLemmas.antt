@@ -15,7 +15,7 @@ use Rattle.store_commands.specs.declared.listing.Listing.TheVariants as listing
 use Rattle.tree_commands.specs.Trees.{tree_shown}
 use Rattle.audit_commands.specs.Audits.{HasAudited}
 use Rattle.sync_top.specs.Looking.{LooksUnless, OnlyLooks}
-use Rattle.sync_top.specs.Run.{Comes, ComesOfStore, KeepsHost}
+use Rattle.sync_top.specs.Run.{WordsComeTo, ComesOfStore, KeepsHost}
 
 looks_at_none : (o : Outside) → OnlyLooks o o
 looks_at_none o = record { run = run_none o; moments = λ two told. (looks_none o).moments two told }
@@ -36,7 +36,7 @@ module _ {H : Type 0} (tells : H → Outside) (clients : Meaning) (h h' : H) (in
   kept : h' ≡ h → OnlyLooks (tells h) (tells h')
   kept same = subst (λ (x : H). OnlyLooks (tells h) (tells x)) (sym same) (looks_at_none (tells h))
 
-  pub only_looks : (words : Asked) → Comes clients words (tells h) (tells h') input input' out out' came → KeepsHost words h h' → LooksUnless words (tells h) (tells h')
+  pub only_looks : (words : Asked) → WordsComeTo clients words (tells h) (tells h') input input' out out' came → KeepsHost words h h' → LooksUnless words (tells h) (tells h')
   only_looks (Usage place) comes keeps = kept keeps
   only_looks (Do (command.Try name descriptor)) comes keeps = λ reads. kept keeps
   only_looks (Do command.Records) comes keeps = λ reads. kept keeps

@@ -8,7 +8,7 @@ use Rattle.journal_play.specs.Playing.{Played, HasPlayed}
 use Rattle.sync_ids.specs.Values.{GroupValue}
 use Rattle.sync_ids.specs.declared.records.Record.{Record}
 use Rattle.sync_rules.specs.Clients.{Meaning}
-use Rattle.sync_top.specs.Plays.{Plays, and_those_of}
+use Rattle.sync_top.specs.Plays.{PlaysItems, and_those_of}
 
 -- the records of one item more
 records_push : (some : List Item) (i : Item)
@@ -26,7 +26,7 @@ and_those records (item ∷ some) = refl
 
 -- what a play has taken, and what makes it one
 takes_all : (clients : Meaning) (play : Played) (some : List Item) (clients' : Meaning)
-    (play' : Played) → Plays clients play some clients' play'
+    (play' : Played) → PlaysItems clients play some clients' play'
     → (def : GroupValue) (records : List Record) → HasPlayed clients def records play
     → HasPlayed clients def (records ++ records_of some) play'
 takes_all clients play some clients' play' plays def records played =
@@ -37,7 +37,7 @@ plays_by : (clients : Meaning) (play : Played) (some : List Item) (clients' : Me
     (play' : Played) → clients' ≡ clients
     → ((def : GroupValue) (records : List Record) → HasPlayed clients def records play
     → HasPlayed clients def (records ++ records_of some) play')
-    → Plays clients play some clients' play'
+    → PlaysItems clients play some clients' play'
 plays_by clients play some clients' play' same takes = record {
   same = same;
   takes = λ def records played. subst (λ (rs : List Record). HasPlayed clients def rs play')
@@ -45,13 +45,13 @@ plays_by clients play some clients' play' same takes = record {
 }
 
 -- nothing was heard
-pub plays_nothing : (clients : Meaning) (play : Played) → Plays clients play [] clients play
+pub plays_nothing : (clients : Meaning) (play : Played) → PlaysItems clients play [] clients play
 plays_nothing clients play = record { same = refl; takes = λ def records played. played }
 
 -- an item without a record changes nothing
 pub plays_same : (clients : Meaning) (play : Played) (some : List Item) (clients' : Meaning)
     (play' : Played) (i : Item) → records_of (i ∷ []) ≡ []
-    → Plays clients play some clients' play' → Plays clients play (some ++ i ∷ []) clients' play'
+    → PlaysItems clients play some clients' play' → PlaysItems clients play (some ++ i ∷ []) clients' play'
 plays_same clients play some clients' play' i none plays =
     plays_by clients play (some ++ i ∷ []) clients' play' plays.same (λ def records played.
     let all : records_of (some ++ i ∷ []) ≡ records_of some =
@@ -65,7 +65,7 @@ pub plays_more : (clients : Meaning) (play : Played) (some : List Item) (clients
     (play' play'' : Played) (i : Item) (r : Record) → records_of (i ∷ []) ≡ r ∷ []
     → ((def : GroupValue) (records : List Record) → HasPlayed clients' def records play'
     → HasPlayed clients' def (records ++ r ∷ []) play'')
-    → Plays clients play some clients' play' → Plays clients play (some ++ i ∷ []) clients' play''
+    → PlaysItems clients play some clients' play' → PlaysItems clients play (some ++ i ∷ []) clients' play''
 plays_more clients play some clients' play' play'' i r one hears plays =
     plays_by clients play (some ++ i ∷ []) clients' play'' plays.same (λ def records played.
     let all : records_of (some ++ i ∷ []) ≡ records_of some ++ r ∷ [] =
@@ -82,7 +82,7 @@ plays_more clients play some clients' play' play'' i r one hears plays =
 
 -- what a player has taken that was begun with nothing
 pub played_all : (clients clients' : Meaning) (play play' : Played) (some : List Item)
-    (def : GroupValue) → Plays clients play some clients' play' → HasPlayed clients def [] play
+    (def : GroupValue) → PlaysItems clients play some clients' play' → HasPlayed clients def [] play
     → HasPlayed clients def (records_of some) play'
 played_all clients clients' play play' some def plays begun =
     takes_all clients play some clients' play' plays def [] begun

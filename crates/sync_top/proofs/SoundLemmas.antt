@@ -2,9 +2,9 @@
 use Rattle.std.proofs.Common.{◌≡◌, ◌⊎◌, ℕ, ◌+◌, List, [], ◌∷◌, ◌++◌, append_assoc, length, refl, sym, ap, ◌∙◌, subst, inl, inr, Option, None, Some}
 use Rattle.std.proofs.lemmas.List.{append_cancel_left}
 use Rattle.outside.specs.Files.{Two, File, read_files}
-use Rattle.outside.specs.Links.{Link, sent_of}
+use Rattle.outside.specs.Links.{ToldLink, sent_of}
 use Rattle.outside.specs.Outside.{Moment, Outside}
-use Rattle.outside.specs.Runs.{Told}
+use Rattle.outside.specs.Runs.{TellsAll}
 use Rattle.sync_rules.specs.declared.entries.Entry.{Entry}
 use Rattle.sync_rules.specs.declared.entries.Entry.TheVariants as entry
 use Rattle.sync_rules.specs.declared.entries.Session.{Session}
@@ -19,7 +19,7 @@ use Rattle.entry_codec.specs.Standing.{Standing, journal, stands}
 use Rattle.entry_codec.specs.StandingLaws.{StandingIsLegal}
 use Rattle.sync_course.specs.Suits.{TakesHeard}
 use Rattle.sync_node.specs.Output.{Journal, heard_on, sent_on}
-use Rattle.sync_node.specs.Suits.{AllSuit, Suits, SuitsRun}
+use Rattle.sync_node.specs.Suits.{AllSuitSessions, SuitsSessions, SuitsRun}
 use Rattle.commands.specs.declared.command.Command.TheVariants as command
 use Rattle.sync_words.specs.declared.link_words.LinkWords.{LinkWords}
 use Rattle.commands.specs.Reading.{Asked}
@@ -37,12 +37,12 @@ takes_no_step clients f session k rest settling = next_is_settling clients f (en
 
 -- a batch of a run suits it at its place
 suits_at : (clients : Meaning) (first : ℕ) (plans : List Session) (heard : ℕ → List ℕ) (f : Facts) (before behind : Journal) (b : List Entry)
-    → AllSuit clients first plans heard f (before ++ b ∷ behind) → Suits clients first plans heard (after_batches f before) b
+    → AllSuitSessions clients first plans heard f (before ++ b ∷ behind) → SuitsSessions clients first plans heard (after_batches f before) b
 suits_at clients first plans heard f [] behind b suit = suit.0
 suits_at clients first plans heard f (c ∷ before) behind b suit = suits_at clients first plans heard (after_all f c) before behind b suit.1
 
 takes_suited : (clients : Meaning) (first : ℕ) (plans : List Session) (heard : ℕ → List ℕ) (f : Facts) (session k : ℕ) (rest : List Entry)
-    → Suits clients first plans heard f (entry.Take session k ∷ rest) → TakesHeard first heard f session k rest
+    → SuitsSessions clients first plans heard f (entry.Take session k ∷ rest) → TakesHeard first heard f session k rest
 takes_suited clients first plans heard f session k rest (inl settling) = absurd (takes_no_step clients f session k rest settling)
 takes_suited clients first plans heard f session k rest (inr takes) = takes
 
@@ -52,14 +52,14 @@ takes_in_order clients begin whole first plans heard legal suits before behind s
     let b : List Entry = entry.Take session k ∷ rest in
     let more : suits.more ≡ before ++ b ∷ behind =
     append_cancel_left begin suits.more (before ++ b ∷ behind) (sym suits.extends ∙ is ∙ append_assoc begin before (b ∷ behind)) in
-    let suit : Suits clients first plans heard (after_batches (facts begin) before) b =
-    suits_at clients first plans heard (facts begin) before behind b (subst (λ (m : Journal). AllSuit clients first plans heard (facts begin) m) more suits.suits) in
+    let suit : SuitsSessions clients first plans heard (after_batches (facts begin) before) b =
+    suits_at clients first plans heard (facts begin) before behind b (subst (λ (m : Journal). AllSuitSessions clients first plans heard (facts begin) m) more suits.suits) in
     let here : after_batches (facts begin) before ≡ facts (begin ++ before) = sym (after_batches-append nothing begin before) in
     let allowed : Allowed clients (facts (begin ++ before)) b =
     (goes_on_back clients nothing (begin ++ before) (b ∷ behind) (subst (λ (w : Journal). Legal clients w) is legal)).0 in (
       allowed.1.numbered,
       takes_suited clients first plans heard (facts (begin ++ before)) session k rest
-          (subst (λ (f : Facts). Suits clients first plans heard f b) here suit),
+          (subst (λ (f : Facts). SuitsSessions clients first plans heard f b) here suit),
     )
 
 -- ---- the law
@@ -90,9 +90,9 @@ runs_sound brings judges ends order origin open_only legal clients words begin h
 -- ---- the moments of a run
 
 -- nothing was sent on a host without links, by any moment of then
-none_sent : (told : Option (List Link)) → ((links : List Link) → told ≡ Some links → length links ≡ 0) → sent_of told ≡ []
+none_sent : (told : Option (List ToldLink)) → ((links : List ToldLink) → told ≡ Some links → length links ≡ 0) → sent_of told ≡ []
 none_sent None all = refl
-none_sent (Some links) all = ap (λ (l : List Link). sent_of (Some l)) (no_links links (all links refl))
+none_sent (Some links) all = ap (λ (l : List ToldLink). sent_of (Some l)) (no_links links (all links refl))
 
 silent_by : (o : Outside) (m : Moment) (link : ℕ) → o.links.dialled ≡ 0 → m.sent ≡ sent_of o.links.told → sent_by m link ≡ []
 silent_by o m link none sent = none_at m.sent link (sent ∙ none_sent o.links.told (λ links told. o.all_told links told ∙ none))
@@ -101,7 +101,7 @@ module _ (law : RunsAreSound) (clients : Meaning) (words : List LinkWords) (hear
   opens_on : (stood : Standing) (sent : ℕ → List ℕ) (files : Two (List ℕ)) → RunsOn clients words stood heard sent files → OpensOn clients stood heard sent files
   opens_on stood sent files on = record { begin = on.begin; began = on.began; opens = law clients words on.begin heard sent files on.stands_for }
 
-pub opens_told : RunsAreSound → (clients : Meaning) (words : List LinkWords) (two : Two File) (old new : Outside) (told : Told new) → old.links.dialled ≡ 0 → HeadlineTold clients words two old new told
+pub opens_told : RunsAreSound → (clients : Meaning) (words : List LinkWords) (two : Two File) (old new : Outside) (told : TellsAll new) → old.links.dialled ≡ 0 → HeadlineTold clients words two old new told
     → OpensTold clients two old new told
 opens_told law clients words two old new told none headline =
     record {

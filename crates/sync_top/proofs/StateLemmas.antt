@@ -34,7 +34,7 @@ use Rattle.store_commands.specs.Plans.{group_plan}
 use Rattle.sharing_commands.specs.declared.saying.Speech.{Speech}
 use Rattle.sharing_commands.specs.Sayings.{say_plan}
 use Rattle.sync_top.specs.declared.input.TheConstants.{MAX_INPUT}
-use Rattle.sync_top.specs.Run.{AsksSync, Comes, DoesNothing, KeepsHost, Reports, ReadsStream, ReadsWhole, Streams, TriesClient}
+use Rattle.sync_top.specs.Run.{AsksSync, WordsComeTo, DoesNothing, KeepsHost, ReportsOutcome, ReadsStream, ReadsWhole, Streams, TriesClient}
 use Rattle.sync_top.specs.States.{TellsStates, TellsGroup, TellsWhole}
 
 module _ (law : (clients : Meaning) (kind : ℕ) (def : GroupValue) (records : List Record) (text : List ℕ)
@@ -78,7 +78,7 @@ module _ (law : (clients : Meaning) (kind : ℕ) (def : GroupValue) (records : L
   group_states name descriptor (Some kind) (outcome.Links ends) known tries = absurd tries.ended
   group_states name descriptor (Some kind) _ known tries = tt
 
-  pub tells : (words : Asked) (old new : Outside) (err err' : Stream) (came : Outcome) (given : Status) → Comes clients words old new input input' out out' came → Reports came err err' given
+  pub tells : (words : Asked) (old new : Outside) (err err' : Stream) (came : Outcome) (given : Status) → WordsComeTo clients words old new input input' out out' came → ReportsOutcome came err err' given
       → TellsWhole clients words input input' out out' given
   tells (Usage place) old new err err' came given comes reports = tt
   tells (Do (command.Try name descriptor)) old new err err' came given comes reports =
@@ -106,7 +106,7 @@ tries_memory clients name descriptor (Some kind) input input' out out' idle = id
 
 -- memory may be wanting for any words
 pub memory_comes : (clients : Meaning) (words : Asked) (o : Outside) (input input' out out' : Stream) → IsIdle input input' → IsIdle out out'
-    → Comes clients words o o input input' out out' outcome.Memory
+    → WordsComeTo clients words o o input input' out out' outcome.Memory
 memory_comes clients (Usage place) o input input' out out' idle quiet = quiet
 memory_comes clients (Do (command.Try name descriptor)) o input input' out out' idle quiet =
     tries_memory clients name descriptor (clients.kind_of name 0) input input' out out' quiet
@@ -115,9 +115,9 @@ memory_comes clients (Do _) o input input' out out' idle quiet = inr (refl, does
 
 -- words that were not read come to their place, or memory was wanting
 pub words_come : (clients : Meaning) (words : Asked) (o : Outside) (input input' out out' : Stream) (e : WordsFault) → IsReadAs words (Err e) → IsIdle input input' → IsIdle out out'
-    → Comes clients words o o input input' out out' (words_came e)
+    → WordsComeTo clients words o o input input' out out' (words_came e)
 words_come clients words o input input' out out' (fault.Usage place) is idle quiet =
-    subst (λ (a : Asked). Comes clients a o o input input' out out' (outcome.Usage place)) (sym is) (refl, (idle, quiet))
+    subst (λ (a : Asked). WordsComeTo clients a o o input input' out out' (outcome.Usage place)) (sym is) (refl, (idle, quiet))
 words_come clients words o input input' out out' fault.Memory is idle quiet = memory_comes clients words o input input' out out' idle quiet
 
 -- a host that nothing was done to is as before
@@ -140,10 +140,10 @@ def_is name descriptor given rest major def first second made =
 -- a group was added, of the definition that the words give
 pub group_comes : (clients : Meaning) (asked : Command) (name descriptor given rest : List ℕ) (major : ℕ) (def : GroupValue) (old new : Outside) (input input' out out' : Stream) (came : Outcome)
     → asked ≡ command.Group name major descriptor → given ≡ name → rest ≡ descriptor → def ≡ record { name = given; major = major; descriptor = rest }
-    → HasAdded clients (λ f. group_plan clients f def) settling.Before old new out out' came → IsIdle input input' → Comes clients (Do asked) old new input input' out out' came
+    → HasAdded clients (λ f. group_plan clients f def) settling.Before old new out out' came → IsIdle input input' → WordsComeTo clients (Do asked) old new input input' out out' came
 group_comes clients asked name descriptor given rest major def old new input input' out out' came is first second made added idle =
     let words : def ≡ record { name = name; major = major; descriptor = descriptor } = def_is name descriptor given rest major def first second made in
-    subst (λ (a : Command). Comes clients (Do a) old new input input' out out' came) (sym is)
+    subst (λ (a : Command). WordsComeTo clients (Do a) old new input input' out out' came) (sym is)
     (inl (subst (λ (d : GroupValue). HasAdded clients (λ f. group_plan clients f d) settling.Before old new out out' came) words added, idle))
 
 -- what the words say was said
@@ -151,27 +151,27 @@ pub say_comes : (clients : Meaning) (asked : Command) (group : Id) (timestamp : 
     → asked ≡ command.Say group timestamp join name major descriptor → given ≡ name → rest ≡ descriptor → def ≡ record { name = given; major = major; descriptor = rest }
     → speech ≡ record { group = group; timestamp = timestamp; join = join; def = def }
     → HasAdded clients (say_plan clients speech) settling.BeforeAndAfter old new out out' came → IsIdle input input'
-    → Comes clients (Do asked) old new input input' out out' came
+    → WordsComeTo clients (Do asked) old new input input' out out' came
 say_comes clients asked group timestamp join name descriptor given rest major def speech old new input input' out out' came is first second made spoken added idle =
     let said : HasAdded clients (say_plan clients (record { group = group; timestamp = timestamp; join = join; def = def })) settling.BeforeAndAfter old new out out' came =
     subst (λ (s : Speech). HasAdded clients (say_plan clients s) settling.BeforeAndAfter old new out out' came) spoken added in
     let words : def ≡ record { name = name; major = major; descriptor = descriptor } = def_is name descriptor given rest major def first second made in
-    subst (λ (a : Command). Comes clients (Do a) old new input input' out out' came) (sym is)
+    subst (λ (a : Command). WordsComeTo clients (Do a) old new input input' out out' came) (sym is)
     (inl (subst (λ (d : GroupValue). HasAdded clients (say_plan clients (record { group = group; timestamp = timestamp; join = join; def = d })) settling.BeforeAndAfter old new out out' came) words said, idle))
 
 -- ---- answers of commands
 
 -- what holds of a command holds of one that is it
 pub as_command : (clients : Meaning) (asked is : Command) (old new : Outside) (input input' out out' : Stream) (came : Outcome) → asked ≡ is
-    → Comes clients (Do is) old new input input' out out' came → Comes clients (Do asked) old new input input' out out' came
+    → WordsComeTo clients (Do is) old new input input' out out' came → WordsComeTo clients (Do asked) old new input input' out out' came
 as_command clients asked is old new input input' out out' came same comes =
-    subst (λ (a : Command). Comes clients (Do a) old new input input' out out' came) (sym same) comes
+    subst (λ (a : Command). WordsComeTo clients (Do a) old new input input' out out' came) (sym same) comes
 
 -- what is said of an outcome is said of one that is it
-pub came_as : (clients : Meaning) (asked : Command) (old new : Outside) (input input' out out' : Stream) (came given : Outcome) → given ≡ came → Comes clients (Do asked) old new input input' out out' came
-    → Comes clients (Do asked) old new input input' out out' given
+pub came_as : (clients : Meaning) (asked : Command) (old new : Outside) (input input' out out' : Stream) (came given : Outcome) → given ≡ came → WordsComeTo clients (Do asked) old new input input' out out' came
+    → WordsComeTo clients (Do asked) old new input input' out out' given
 came_as clients asked old new input input' out out' came given same comes =
-    subst (λ (o : Outcome). Comes clients (Do asked) old new input input' out out' o) (sym same) comes
+    subst (λ (o : Outcome). WordsComeTo clients (Do asked) old new input input' out out' o) (sym same) comes
 
 -- a command that is not `sync` does not ask for a run
 pub asks_none : (asked : Command) → ((turns quiet : ℕ) (links : List LinkWords) → asked ≡ command.Sync turns quiet links → ⊥) → AsksSync (Do asked) → ⊥
@@ -179,8 +179,8 @@ asks_none (command.Sync turns quiet links) other asks = other turns quiet links 
 asks_none _ other asks = asks
 
 -- the outcome that was reported is that of the command
-pub reports_as : (came came' : Outcome) (err err' : Stream) (given : Status) → came ≡ came' → Reports came err err' given → Reports came' err err' given
-reports_as came came' err err' given same reports = subst (λ (o : Outcome). Reports o err err' given) same reports
+pub reports_as : (came came' : Outcome) (err err' : Stream) (given : Status) → came ≡ came' → ReportsOutcome came err err' given → ReportsOutcome came' err err' given
+reports_as came came' err err' given same reports = subst (λ (o : Outcome). ReportsOutcome o err err' given) same reports
 
 -- what goes on by `?`
 passed : (P : Outcome → Type 0) (r : Result (Unit {0}) Outcome) (x : Outcome) → IsErrAnd r (λ e. e ≡ x) → P x → P (came_to r)
@@ -191,9 +191,9 @@ module _ (r : Result (Unit {0}) Outcome) (x : Outcome) (is : IsErrAnd r (λ e. e
   pub came_on : came_to r ≡ x
   came_on = passed (λ (came : Outcome). came ≡ x) r x is refl
 
-  pub comes_on : (clients : Meaning) (words : Asked) (old new : Outside) (input input' out out' : Stream) → Comes clients words old new input input' out out' x
-      → Comes clients words old new input input' out out' (came_to r)
-  comes_on clients words old new input input' out out' = passed (λ (came : Outcome). Comes clients words old new input input' out out' came) r x is
+  pub comes_on : (clients : Meaning) (words : Asked) (old new : Outside) (input input' out out' : Stream) → WordsComeTo clients words old new input input' out out' x
+      → WordsComeTo clients words old new input input' out out' (came_to r)
+  comes_on clients words old new input input' out out' = passed (λ (came : Outcome). WordsComeTo clients words old new input input' out out' came) r x is
 
   pub streams_on : (told : List Item → List ℕ → Type 0) (input input' out out' : Stream) → Streams told input input' out out' x → Streams told input input' out out' (came_to r)
   streams_on told input input' out out' = passed (λ (came : Outcome). Streams told input input' out out' came) r x is

@@ -32,11 +32,11 @@ use Rattle.sharing_commands.specs.Agreeing.{AgreesMoment, HasAgreed}
 use Rattle.sharing_commands.specs.Sayings.{say_plan}
 use Rattle.mailbox_commands.specs.declared.sending.Sending.{Sending}
 use Rattle.mailbox_commands.specs.Errands.{Errand, ErrandOn}
-use Rattle.mailbox_commands.specs.Running.{FilesRun, MayRun, StopsEarly}
+use Rattle.mailbox_commands.specs.Running.{FilesRun, MayRunErrand, StopsEarly}
 use Rattle.mailbox_commands.specs.Sending.{HasSentMail, out_errand}
 use Rattle.mailbox_commands.specs.Taking.{HasTakenMail, in_errand}
 use Rattle.sync_store.specs.Moments.{JournalMoment}
-use Rattle.sync_top.specs.Run.{Comes, ComesOfStore, Covered, KeepsHost, sending_of, speech_of}
+use Rattle.sync_top.specs.Run.{WordsComeTo, ComesOfStore, Covered, KeepsHost, sending_of, speech_of}
 use Rattle.sync_top.specs.Undamaged.{NeverDamaged, RunUndamaged, StandsForSome, Undamaged}
 use Rattle.sync_run.specs.Headline.{Headline}
 use Rattle.sync_words.specs.declared.link_words.LinkWords.{LinkWords}
@@ -111,7 +111,7 @@ module _ (clients : Meaning) (old new : Outside) where
   of_compacted out out' came did two files each = moments_map old new _ _ (compacted_moment _ came _ two each) (did.told two files).moments
 
   ran_moment : (contact : ℕ) (errand : Errand) (standing : Standing) (sent : List (List ℕ)) (two : Two File) → ((left : Two (List ℕ)) → IsImage two left → StandsForSome clients left)
-      → (m : Moment) → IsNow two old.links m ⊎ MayRun contact standing (λ j. JournalMoment clients (ErrandOn clients errand j) sent m) → StandsForSome clients m.files
+      → (m : Moment) → IsNow two old.links m ⊎ MayRunErrand contact standing (λ j. JournalMoment clients (ErrandOn clients errand j) sent m) → StandsForSome clients m.files
   ran_moment contact errand standing sent two each m (inl now) = each m.files now.image
   ran_moment contact errand standing sent two each m (inr on) = record { of = on.leads.whole; stands_for = on.leads.stands_for }
 
@@ -184,7 +184,7 @@ module _ {H : Type 0} (tells : H → Outside) (clients : Meaning) (h h' : H) (in
   kept : h' ≡ h → Undamaged clients (tells h) (tells h')
   kept same = subst (λ (x : H). Undamaged clients (tells h) (tells x)) (sym same) (nothing_done clients (tells h))
 
-  pub undamaged : (words : Asked) → Comes clients words (tells h) (tells h') input input' out out' came → KeepsHost words h h' → Covered clients words (tells h) (tells h')
+  pub undamaged : (words : Asked) → WordsComeTo clients words (tells h) (tells h') input input' out out' came → KeepsHost words h h' → Covered clients words (tells h) (tells h')
       → NeverDamaged clients words (tells h) (tells h')
   undamaged (Usage place) comes keeps covered = kept keeps
   undamaged (Do (command.Try name descriptor)) comes keeps covered = kept keeps

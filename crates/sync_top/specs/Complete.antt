@@ -4,7 +4,7 @@ use Rattle.std.specs.Prelude.{◌≡◌, ◌⊎◌, ℕ, ◌+◌, ◌≤◌, Boo
 use Rattle.std.specs.Io.KnownBytes.{Consumes, IsAtEnd}
 use Rattle.std.specs.List.{list_any}
 use Rattle.outside.specs.declared.limits.TheConstants.{MAX_JOURNAL}
-use Rattle.outside.specs.Faults.{Rose}
+use Rattle.outside.specs.Faults.{CountRose}
 use Rattle.outside.specs.Files.{Two, File}
 use Rattle.outside.specs.Host.{ReadsClock}
 use Rattle.outside.specs.Links.{HeardOn}
@@ -42,7 +42,7 @@ use Rattle.store_commands.specs.Shown.{Showing, body_shown, listing_shown, shows
 use Rattle.sync_run.specs.declared.run.Limits.{Limits}
 use Rattle.sync_run.specs.Courses.{RanToEnd, WasBroken, run_test, terms_of}
 use Rattle.tree_commands.specs.Trees.{tree_shown}
-use Rattle.sharing_commands.specs.Agreeing.{AreRoomy}
+use Rattle.sharing_commands.specs.Agreeing.{EachFoundRoom}
 use Rattle.sharing_commands.specs.Agreement.{agree_test, agreed_batches}
 use Rattle.sharing_commands.specs.Sayings.{say_plan}
 use Rattle.mailbox_core.specs.Files.{box_ending}
@@ -58,25 +58,25 @@ use Rattle.sync_top.specs.declared.input.TheConstants.{MAX_INPUT}
 
 -- no count of faults rose
 pub record NothingFails (old new : Outside) (input input' out out' : Stream) : Type 0 where
-  pub disk : Rose old.disk_faults new.disk_faults → ⊥
-  pub links : (link : ℕ) → Rose (old.links.faults link) (new.links.faults link) → ⊥
-  pub source : Rose input.faults input'.faults → ⊥
-  pub sink : Rose out.faults out'.faults → ⊥
+  pub disk : CountRose old.disk_faults new.disk_faults → ⊥
+  pub links : (link : ℕ) → CountRose (old.links.faults link) (new.links.faults link) → ⊥
+  pub source : CountRose input.faults input'.faults → ⊥
+  pub sink : CountRose out.faults out'.faults → ⊥
 
 -- behind a journal, however it is settled, there is room for a batch
-abbrev pub HasRoom : Meaning → List (List Entry) → List Entry → Type 0
-HasRoom clients j batch =
+abbrev pub HasRoomForBatch : Meaning → List (List Entry) → List Entry → Type 0
+HasRoomForBatch clients j batch =
     (first : List (List Entry)) → AllSettling clients (facts j) first → IsSettled clients (after_batches (facts j) first)
     → needed_by (j ++ first) batch ≤ MAX_JOURNAL
 
 -- the files as they read stand for a journal to which the command plans to add an entry, and there is room for it; where they are in
 -- format 1, a generation is left
-pub record MayAdd (clients : Meaning) (plan : Facts → Plan) (files : Option (Two File)) : Type 0 where
+pub record MayAddPlanned (clients : Meaning) (plan : Facts → Plan) (files : Option (Two File)) : Type 0 where
   pub before : List (List Entry)
   pub entry : Entry
   pub stood : ReadsAs clients files before
   pub planned : plan (facts before) ≡ adds entry
-  pub room : HasRoom clients before (entry ∷ [])
+  pub room : HasRoomForBatch clients before (entry ∷ [])
   pub next : MayMigrate files
 
 -- the files stand for a journal that knows the group, and the message of the body that is read may be added
@@ -84,13 +84,13 @@ pub record MayPost (clients : Meaning) (group : Id) (timestamp : ℕ) (files : O
   pub before : List (List Entry)
   pub stood : ReadsAs clients files before
   pub known : is_some (group_at (facts before).groups group) ≡ true
-  pub may_add : (body : List ℕ) → IsBody input input' body → MayAdd clients (λ f. post_plan clients f (message_of group timestamp body)) files
+  pub may_add : (body : List ℕ) → IsBody input input' body → MayAddPlanned clients (λ f. post_plan clients f (message_of group timestamp body)) files
 
 -- behind a journal, however it is settled, there is room for each batch that the targets then ask for
 abbrev pub HasRooms : Meaning → ℕ → Id → List (List Entry) → Type 0
 HasRooms clients contact group j =
     (first : List (List Entry)) → AllSettling clients (facts j) first → IsSettled clients (after_batches (facts j) first)
-    → AreRoomy (j ++ first) (agreed_batches clients contact group (after_batches (facts j) first))
+    → EachFoundRoom (j ++ first) (agreed_batches clients contact group (after_batches (facts j) first))
 
 -- the files stand for a journal over which the tests of `agree` hold, and there is room for what is agreed on
 pub record MayAgreeOn (clients : Meaning) (contact : ℕ) (group : Id) (files : Option (Two File)) : Type 0 where
@@ -151,30 +151,30 @@ pub record MaySync (clients : Meaning) (limits : Limits) (words : List LinkWords
   pub next : MayMigrate old.files
 
 -- the tests of a command hold, the files as they read serve it, and there is room
-abbrev pub Serves : Meaning → Command → (old new : Outside) → (input input' : Stream) → Type 0
-Serves clients (command.Try name descriptor) old new input input' = is_some (clients.kind_of name 0) ≡ true
-Serves clients command.Records old new input input' = Unit {0}
-Serves clients command.Init old new input input' = (two : Two File) × (old.files ≡ Some two) × (has_open two ≡ false)
-Serves clients command.Contact old new input input' = MayAdd clients contact_plan old.files
-Serves clients (command.Group name major descriptor) old new input input' =
-    MayAdd clients (λ f. group_plan clients f (record { name = name; major = major; descriptor = descriptor })) old.files
-Serves clients (command.Share contact group level) old new input input' = MayAdd clients (λ f. level_plan f contact group level) old.files
-Serves clients (command.Post group timestamp) old new input input' = MayPost clients group timestamp old.files input input'
-Serves clients command.Show old new input input' = MayShow clients (listing_shown listing.Store) old.files
-Serves clients command.Inbox old new input input' = MayShow clients (listing_shown listing.Inbox) old.files
-Serves clients (command.Body id) old new input input' = MayShow clients (body_shown id) old.files
-Serves clients (command.Tree group from count) old new input input' =
+abbrev pub ServesCommand : Meaning → Command → (old new : Outside) → (input input' : Stream) → Type 0
+ServesCommand clients (command.Try name descriptor) old new input input' = is_some (clients.kind_of name 0) ≡ true
+ServesCommand clients command.Records old new input input' = Unit {0}
+ServesCommand clients command.Init old new input input' = (two : Two File) × (old.files ≡ Some two) × (has_open two ≡ false)
+ServesCommand clients command.Contact old new input input' = MayAddPlanned clients contact_plan old.files
+ServesCommand clients (command.Group name major descriptor) old new input input' =
+    MayAddPlanned clients (λ f. group_plan clients f (record { name = name; major = major; descriptor = descriptor })) old.files
+ServesCommand clients (command.Share contact group level) old new input input' = MayAddPlanned clients (λ f. level_plan f contact group level) old.files
+ServesCommand clients (command.Post group timestamp) old new input input' = MayPost clients group timestamp old.files input input'
+ServesCommand clients command.Show old new input input' = MayShow clients (listing_shown listing.Store) old.files
+ServesCommand clients command.Inbox old new input input' = MayShow clients (listing_shown listing.Inbox) old.files
+ServesCommand clients (command.Body id) old new input input' = MayShow clients (body_shown id) old.files
+ServesCommand clients (command.Tree group from count) old new input input' =
     MayShow clients (tree_shown clients (record { group = group; from = from; count = count }))
     old.files
-Serves clients command.Audit old new input input' = MayAudit clients old.files
-Serves clients (command.Say group timestamp join name major descriptor) old new input input' =
-    MayAdd clients (say_plan clients (speech_of group timestamp join name major descriptor)) old.files
-Serves clients (command.Agree contact group) old new input input' = MayAgreeOn clients contact group old.files
-Serves clients command.Compact old new input input' = MayCompact clients old.files
-Serves clients (command.MailboxIn contact) old new input input' = MayTakeMail clients contact old.files input input'
-Serves clients (command.MailboxOut contact latency count) old new input input' =
+ServesCommand clients command.Audit old new input input' = MayAudit clients old.files
+ServesCommand clients (command.Say group timestamp join name major descriptor) old new input input' =
+    MayAddPlanned clients (say_plan clients (speech_of group timestamp join name major descriptor)) old.files
+ServesCommand clients (command.Agree contact group) old new input input' = MayAgreeOn clients contact group old.files
+ServesCommand clients command.Compact old new input input' = MayCompact clients old.files
+ServesCommand clients (command.MailboxIn contact) old new input input' = MayTakeMail clients contact old.files input input'
+ServesCommand clients (command.MailboxOut contact latency count) old new input input' =
     MaySendMail clients (sending_of contact latency count) old new
-Serves clients (command.Sync turns quiet links) old new input input' = MaySync clients (record { turns = turns; quiet = quiet }) links old new
+ServesCommand clients (command.Sync turns quiet links) old new input input' = MaySync clients (record { turns = turns; quiet = quiet }) links old new
 
 -- ---- what it then comes to
 
@@ -250,5 +250,5 @@ ComesOut clients asked old new input input' given = given ≡ status.Done
 abbrev pub Complete : Meaning → Asked → (old new : Outside) → (input input' out out' : Stream) → Status → Type 0
 Complete clients (Usage place) old new input input' out out' given = Unit {0}
 Complete clients (Do asked) old new input input' out out' given =
-    Serves clients asked old new input input' → NothingFails old new input input' out out'
+    ServesCommand clients asked old new input input' → NothingFails old new input input' out out'
     → ComesOut clients asked old new input input' given ⊎ (given ≡ status.Memory)

@@ -1,7 +1,7 @@
 -- How an input is heard that is read in pieces.
 use Rattle.std.specs.Prelude.{◌≡◌, ℕ, ◌+◌, ◌≤◌, List, [], ◌++◌, length, take}
 use Rattle.std.specs.Io.KnownBytes.{Consumes, IsAtEnd}
-use Rattle.outside.specs.Faults.{Rose}
+use Rattle.outside.specs.Faults.{CountRose}
 use Rattle.outside.specs.Streams.{Stream}
 use Rattle.record_grammar.specs.Stream.{ending, items}
 use Rattle.record_grammar.specs.declared.stream.Ending.{Ending}
@@ -13,10 +13,10 @@ use Rattle.sync_top.specs.declared.input.Stop.{Stop}
 use Rattle.sync_top.specs.declared.input.Stop.TheVariants as stop
 
 -- why the reading of an input stopped
-abbrev pub StopsAt : Stop → (input input' : Stream) → List ℕ → Type 0
-StopsAt stop.End input input' read = IsAtEnd input'.bytes × (length read ≤ MAX_INPUT)
-StopsAt stop.ReadFault input input' read = Rose input.faults input'.faults × (length read ≤ MAX_INPUT)
-StopsAt stop.TooMuch input input' read = length read ≡ MAX_INPUT + 1
+abbrev pub StopsReading : Stop → (input input' : Stream) → List ℕ → Type 0
+StopsReading stop.End input input' read = IsAtEnd input'.bytes × (length read ≤ MAX_INPUT)
+StopsReading stop.ReadFault input input' read = CountRose input.faults input'.faults × (length read ≤ MAX_INPUT)
+StopsReading stop.TooMuch input input' read = length read ≡ MAX_INPUT + 1
 
 -- an input was read, and all items of its first MAX_INPUT bytes were heard, with how they end
 pub record HearsInput {L : Type 0} (heard : L → List Item → L → Type 0) (input input' : Stream) (l l' : L) (why : Stop) (end : Ending) : Type 0 where
@@ -24,7 +24,7 @@ pub record HearsInput {L : Type 0} (heard : L → List Item → L → Type 0) (i
   pub consumed : Consumes input.bytes input'.bytes read
   pub hears : (first : L) (before : List Item) → heard first before l → heard first (before ++ items 0 (take MAX_INPUT read)) l'
   pub ends : end ≡ ending 0 (take MAX_INPUT read)
-  pub stops : StopsAt why input input' read
+  pub stops : StopsReading why input input' read
 
 -- what the reading of an input keeps, piece by piece
 pub record Reading {L : Type 0} (heard : L → List Item → L → Type 0) (input input' : Stream) (total : ℕ) (r : ReaderState) (l l' : L) : Type 0 where

@@ -14,7 +14,7 @@ and_those_of records (item ∷ items) = records ++ records_of (item ∷ items)
 
 -- From a play to a later one, the clients being the same: whatever the first had taken, the other
 -- has taken that and the records of these items.
-pub record Plays (clients : Meaning) (play : Played) (some : List Item) (clients' : Meaning)
+pub record PlaysItems (clients : Meaning) (play : Played) (some : List Item) (clients' : Meaning)
     (play' : Played) : Type 0 where
   pub same : clients' ≡ clients
   pub takes : (def : GroupValue) (records : List Record) → HasPlayed clients def records play

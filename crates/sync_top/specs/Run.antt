@@ -1,7 +1,7 @@
 -- What a run of a command reads and writes, and what it comes to.
 use Rattle.std.specs.Prelude.{◌≡◌, ℕ, ◌+◌, ◌≤◌, ◌⊎◌, Bool, List, Option, None, Some, length, take}
 use Rattle.std.specs.Io.KnownBytes.{Consumes, Appends, IsAtEnd}
-use Rattle.outside.specs.Faults.{Rose}
+use Rattle.outside.specs.Faults.{CountRose}
 use Rattle.outside.specs.Files.{Two, File, read_files}
 use Rattle.outside.specs.Outside.{Outside, DiskRun}
 use Rattle.record_grammar.specs.Stream.{ending, items, records_of}
@@ -16,7 +16,7 @@ use Rattle.sync_rules.specs.Clients.{Meaning}
 use Rattle.store_commands.specs.Compact.{HasCompacted}
 use Rattle.store_commands.specs.Entries.{HasAdded}
 use Rattle.store_commands.specs.Init.{HasBegun}
-use Rattle.store_commands.specs.Show.{HasLooked, Rests}
+use Rattle.store_commands.specs.Show.{HasLooked, LeavesFilesSo}
 use Rattle.store_commands.specs.Plans.{contact_plan, group_plan, level_plan}
 use Rattle.store_commands.specs.Post.{HasPosted}
 use Rattle.store_commands.specs.Shown.{body_shown, listing_shown}
@@ -31,7 +31,7 @@ use Rattle.sync_words.specs.declared.status.Status.{Status}
 use Rattle.sync_words.specs.declared.outcome.Outcome.{Outcome}
 use Rattle.sync_words.specs.declared.outcome.Outcome.TheVariants as outcome
 use Rattle.sync_words.specs.Outcomes.{status_of, text_of}
-use Rattle.outside.specs.Streams.{Stream, IsIdle, GetsFront, Gets}
+use Rattle.outside.specs.Streams.{Stream, IsIdle, GetsFront, GetsText}
 use Rattle.tree_commands.specs.Trees.{tree_shown}
 use Rattle.audit_commands.specs.Audits.{HasAudited}
 use Rattle.sharing_commands.specs.declared.saying.Speech.{Speech}
@@ -58,14 +58,14 @@ outcome_of (ends.Bad place why) = outcome.Bad place why
 
 -- What a command comes to that reads its whole input, by the bytes read, the text for their first MAX_INPUT bytes and how
 -- the stream of these ends.
-abbrev pub Ends : (input input' out out' : Stream) (read text : List ℕ) (end : Ending) → Outcome → Type 0
-Ends input input' out out' read text end outcome.Done = ReadsWhole input input' read × (outcome_of end ≡ outcome.Done) × Appends out.bytes out'.bytes text
-Ends input input' out out' read text end (outcome.Bad place why) = ReadsWhole input input' read × (outcome_of end ≡ outcome.Bad place why) × Appends out.bytes out'.bytes text
-Ends input input' out out' read text end (outcome.Inside place) = ReadsWhole input input' read × (outcome_of end ≡ outcome.Inside place) × Appends out.bytes out'.bytes text
-Ends input input' out out' read text end outcome.TooMuch = (length read ≡ MAX_INPUT + 1) × Gets out out' text
-Ends input input' out out' read text end outcome.ReadFault = Rose input.faults input'.faults × (length read ≤ MAX_INPUT) × Gets out out' text
-Ends input input' out out' read text end outcome.WriteFault = Rose out.faults out'.faults × ReadsWhole input input' read × GetsFront out out' text
-Ends input input' out out' read text end _ = ⊥
+abbrev pub InputComesTo : (input input' out out' : Stream) (read text : List ℕ) (end : Ending) → Outcome → Type 0
+InputComesTo input input' out out' read text end outcome.Done = ReadsWhole input input' read × (outcome_of end ≡ outcome.Done) × Appends out.bytes out'.bytes text
+InputComesTo input input' out out' read text end (outcome.Bad place why) = ReadsWhole input input' read × (outcome_of end ≡ outcome.Bad place why) × Appends out.bytes out'.bytes text
+InputComesTo input input' out out' read text end (outcome.Inside place) = ReadsWhole input input' read × (outcome_of end ≡ outcome.Inside place) × Appends out.bytes out'.bytes text
+InputComesTo input input' out out' read text end outcome.TooMuch = (length read ≡ MAX_INPUT + 1) × GetsText out out' text
+InputComesTo input input' out out' read text end outcome.ReadFault = CountRose input.faults input'.faults × (length read ≤ MAX_INPUT) × GetsText out out' text
+InputComesTo input input' out out' read text end outcome.WriteFault = CountRose out.faults out'.faults × ReadsWhole input input' read × GetsFront out out' text
+InputComesTo input input' out out' read text end _ = ⊥
 
 -- a command read these bytes, and its text is what is told of the items of their first MAX_INPUT bytes
 pub record ReadsStream (told : List Item → List ℕ → Type 0) (input input' out out' : Stream) (came : Outcome) : Type 0 where
@@ -73,7 +73,7 @@ pub record ReadsStream (told : List Item → List ℕ → Type 0) (input input' 
   pub text : List ℕ
   pub consumed : Consumes input.bytes input'.bytes read
   pub text_is : told (items 0 (take MAX_INPUT read)) text
-  pub ended : Ends input input' out out' read text (ending 0 (take MAX_INPUT read)) came
+  pub ended : InputComesTo input input' out out' read text (ending 0 (take MAX_INPUT read)) came
 
 -- memory may be wanting while the input is read, and then nothing was written
 abbrev pub Streams : (List Item → List ℕ → Type 0) → (input input' out out' : Stream) → Outcome → Type 0
@@ -83,15 +83,15 @@ Streams told input input' out out' came = ReadsStream told input input' out out'
 -- what the writing of the text comes to, by why the reading stopped and how the stream ends
 abbrev pub PrintEnds : Stop → Ending → (text : List ℕ) (out out' : Stream) → Outcome → Type 0
 PrintEnds stop.End end text out out' came =
-    ((came ≡ outcome_of end) × Appends out.bytes out'.bytes text) ⊎ ((came ≡ outcome.WriteFault) × Rose out.faults out'.faults × GetsFront out out' text)
-PrintEnds stop.TooMuch end text out out' outcome.TooMuch = Gets out out' text
+    ((came ≡ outcome_of end) × Appends out.bytes out'.bytes text) ⊎ ((came ≡ outcome.WriteFault) × CountRose out.faults out'.faults × GetsFront out out' text)
+PrintEnds stop.TooMuch end text out out' outcome.TooMuch = GetsText out out' text
 PrintEnds stop.TooMuch end text out out' _ = ⊥
-PrintEnds stop.ReadFault end text out out' outcome.ReadFault = Gets out out' text
+PrintEnds stop.ReadFault end text out out' outcome.ReadFault = GetsText out out' text
 PrintEnds stop.ReadFault end text out out' _ = ⊥
 
 -- nothing was read or written
-abbrev pub Untouched : Stream → Stream → Stream → Stream → Type 0
-Untouched input input' out out' = IsIdle input input' × IsIdle out out'
+abbrev pub UntouchedStreams : Stream → Stream → Stream → Stream → Type 0
+UntouchedStreams input input' out out' = IsIdle input input' × IsIdle out out'
 
 -- a played journal was finished, and its text written
 pub record PlayPrinted (play : Played) (why : Stop) (end : Ending) (out out' : Stream) (came : Outcome) : Type 0 where
@@ -105,7 +105,7 @@ PrintsPlay play why end out out' came = ((came ≡ outcome.Memory) × IsIdle out
 
 -- `try` by whether its client is known: its text is that of a journal of the group that takes the records, settling after each
 abbrev pub TriesClient : Meaning → (name descriptor : List ℕ) → Option ℕ → (input input' out out' : Stream) → Outcome → Type 0
-TriesClient clients name descriptor None input input' out out' (outcome.Refused refused.UnknownClient) = Untouched input input' out out'
+TriesClient clients name descriptor None input input' out out' (outcome.Refused refused.UnknownClient) = UntouchedStreams input input' out out'
 TriesClient clients name descriptor None input input' out out' outcome.Memory = IsIdle out out'
 TriesClient clients name descriptor None input input' out out' _ = ⊥
 TriesClient clients name descriptor (Some kind) input input' out out' came =
@@ -113,15 +113,15 @@ TriesClient clients name descriptor (Some kind) input input' out out' came =
 
 -- faulty words come to their place; nothing was read or written
 abbrev pub Faulty : ℕ → (input input' out out' : Stream) → Outcome → Type 0
-Faulty place input input' out out' (outcome.Usage at) = (at ≡ place) × Untouched input input' out out'
+Faulty place input input' out out' (outcome.Usage at) = (at ≡ place) × UntouchedStreams input input' out out'
 Faulty place input input' out out' outcome.Memory = IsIdle out out'
 Faulty place input input' out out' _ = ⊥
 
 -- no call was made on the disk but such as leave it as it was, and nothing was read or written
 pub record DoesNothing (old new : Outside) (input input' out out' : Stream) : Type 0 where
   pub run : DiskRun old new
-  pub rests : (two : Two File) → old.files ≡ Some two → Rests (λ two'. read_files two' ≡ read_files two) two old new
-  pub untouched : Untouched input input' out out'
+  pub rests : (two : Two File) → old.files ≡ Some two → LeavesFilesSo (λ two'. read_files two' ≡ read_files two) two old new
+  pub untouched : UntouchedStreams input input' out out'
 
 -- a command of a store came to what it should; or memory was wanting before it was begun, and nothing was done
 abbrev pub ComesOfStore : (Outcome → Type 0) → (old new : Outside) → (input input' out out' : Stream) → Outcome → Type 0
@@ -142,48 +142,48 @@ abbrev pub sending_of : (contact latency count : ℕ) → Sending
 sending_of contact latency count = record { contact = contact; latency = latency; count = count }
 
 -- what the words ask for, and what it comes to
-abbrev pub Comes : Meaning → Asked → (old new : Outside) → (input input' out out' : Stream) → Outcome → Type 0
-Comes clients (Usage place) old new input input' out out' came = Faulty place input input' out out' came
-Comes clients (Do (command.Try name descriptor)) old new input input' out out' came =
+abbrev pub WordsComeTo : Meaning → Asked → (old new : Outside) → (input input' out out' : Stream) → Outcome → Type 0
+WordsComeTo clients (Usage place) old new input input' out out' came = Faulty place input input' out out' came
+WordsComeTo clients (Do (command.Try name descriptor)) old new input input' out out' came =
     TriesClient clients name descriptor (clients.kind_of name 0) input input' out out' came
-Comes clients (Do command.Records) old new input input' out out' came = Streams (λ items text. text ≡ items_text items) input input' out out' came
-Comes clients (Do command.Init) old new input input' out out' came =
+WordsComeTo clients (Do command.Records) old new input input' out out' came = Streams (λ items text. text ≡ items_text items) input input' out out' came
+WordsComeTo clients (Do command.Init) old new input input' out out' came =
     ComesOfStore (λ did. HasBegun old new out out' did × IsIdle input input') old new input input' out out' came
-Comes clients (Do command.Contact) old new input input' out out' came =
+WordsComeTo clients (Do command.Contact) old new input input' out out' came =
     ComesOfStore (λ did. HasAdded clients contact_plan settling.Before old new out out' did × IsIdle input input') old new input input' out out' came
-Comes clients (Do (command.Group name major descriptor)) old new input input' out out' came =
+WordsComeTo clients (Do (command.Group name major descriptor)) old new input input' out out' came =
     ComesOfStore (λ did. HasAdded clients (λ f. group_plan clients f (record { name = name; major = major; descriptor = descriptor })) settling.Before old new out out' did × IsIdle input input') old new input input' out out' came
-Comes clients (Do (command.Share contact group level)) old new input input' out out' came =
+WordsComeTo clients (Do (command.Share contact group level)) old new input input' out out' came =
     ComesOfStore (λ did. HasAdded clients (λ f. level_plan f contact group level) settling.Before old new out out' did × IsIdle input input') old new input input' out out' came
-Comes clients (Do (command.Post group timestamp)) old new input input' out out' came =
+WordsComeTo clients (Do (command.Post group timestamp)) old new input input' out out' came =
     ComesOfStore (λ did. HasPosted clients group timestamp old new input input' out out' did) old new input input' out out' came
-Comes clients (Do command.Show) old new input input' out out' came =
+WordsComeTo clients (Do command.Show) old new input input' out out' came =
     ComesOfStore (λ did. HasLooked clients (listing_shown listing.Store) old new out out' did × IsIdle input input') old new input input' out out' came
-Comes clients (Do command.Inbox) old new input input' out out' came =
+WordsComeTo clients (Do command.Inbox) old new input input' out out' came =
     ComesOfStore (λ did. HasLooked clients (listing_shown listing.Inbox) old new out out' did × IsIdle input input') old new input input' out out' came
-Comes clients (Do (command.Body id)) old new input input' out out' came =
+WordsComeTo clients (Do (command.Body id)) old new input input' out out' came =
     ComesOfStore (λ did. HasLooked clients (body_shown id) old new out out' did × IsIdle input input') old new input input' out out' came
-Comes clients (Do (command.Tree group from count)) old new input input' out out' came =
+WordsComeTo clients (Do (command.Tree group from count)) old new input input' out out' came =
     ComesOfStore (λ did. HasLooked clients
     (tree_shown clients (record { group = group; from = from; count = count })) old new out out'
     did × IsIdle input input') old new input input'
     out out' came
-Comes clients (Do command.Audit) old new input input' out out' came =
+WordsComeTo clients (Do command.Audit) old new input input' out out' came =
     ComesOfStore (λ did. HasAudited clients old new out out' did × IsIdle input input') old new input
     input' out out' came
-Comes clients (Do (command.Say group timestamp join name major descriptor)) old new input input' out out' came =
+WordsComeTo clients (Do (command.Say group timestamp join name major descriptor)) old new input input' out out' came =
     ComesOfStore (λ did. HasAdded clients (say_plan clients (speech_of group timestamp join name major descriptor)) settling.BeforeAndAfter old new out out' did × IsIdle input input') old new input input' out out' came
-Comes clients (Do (command.Agree contact group)) old new input input' out out' came =
+WordsComeTo clients (Do (command.Agree contact group)) old new input input' out out' came =
     ComesOfStore (λ did. HasAgreed clients contact group old new out out' did × IsIdle input input') old new input input' out out' came
-Comes clients (Do command.Compact) old new input input' out out' came =
+WordsComeTo clients (Do command.Compact) old new input input' out out' came =
     ComesOfStore (λ did. HasCompacted clients old new out out' did × IsIdle input input') old new input input' out out' came
-Comes clients (Do (command.MailboxIn contact)) old new input input' out out' came =
+WordsComeTo clients (Do (command.MailboxIn contact)) old new input input' out out' came =
     ComesOfStore (λ did. HasTakenMail clients contact old new input input' out out' did) old new input input' out out' came
-Comes clients (Do (command.MailboxOut contact latency count)) old new input input' out out' came =
+WordsComeTo clients (Do (command.MailboxOut contact latency count)) old new input input' out out' came =
     ComesOfStore (λ did. HasSentMail clients (sending_of contact latency count) old new out out' did × IsIdle input input')
     old new input input' out out' came
-Comes clients (Do (command.Sync turns quiet links)) old new input input' out out' came =
-    ComesOfStore (λ did. HasRun clients (record { turns = turns; quiet = quiet }) links old new did × Untouched input input' out out') old new input input' out out' came
+WordsComeTo clients (Do (command.Sync turns quiet links)) old new input input' out out' came =
+    ComesOfStore (λ did. HasRun clients (record { turns = turns; quiet = quiet }) links old new did × UntouchedStreams input input' out out') old new input input' out out' came
 
 -- the words ask for a run of sessions
 abbrev pub AsksSync : Asked → Type 0
@@ -203,11 +203,11 @@ KeepsHost (Do command.Records) old new = new ≡ old
 KeepsHost (Do _) old new = Unit {0}
 
 -- the error output got the text of the outcome, and the status is the outcome's
-abbrev pub Reports : Outcome → (err err' : Stream) → Status → Type 0
-Reports came err err' given = (given ≡ status_of came) × Gets err err' (text_of came)
+abbrev pub ReportsOutcome : Outcome → (err err' : Stream) → Status → Type 0
+ReportsOutcome came err err' given = (given ≡ status_of came) × GetsText err err' (text_of came)
 
 -- a run of a command: what the words ask for came to an outcome, and the status and the error output tell it
 pub record Ran (clients : Meaning) (words : Asked) (old new : Outside) (input input' out out' err err' : Stream) (given : Status) : Type 0 where
   pub came : Outcome
-  pub comes : Comes clients words old new input input' out out' came
-  pub reports : Reports came err err' given
+  pub comes : WordsComeTo clients words old new input input' out out' came
+  pub reports : ReportsOutcome came err err' given

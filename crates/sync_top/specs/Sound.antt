@@ -3,11 +3,11 @@
 use Rattle.std.specs.Prelude.{◌≡◌, ◌≢◌, ◌⊎◌, ℕ, List, [], ◌∷◌, ◌++◌, Some}
 use Rattle.outside.specs.Files.{Two, File, read_files}
 use Rattle.outside.specs.Outside.{IsNow, Moment, Outside}
-use Rattle.outside.specs.Runs.{Told}
+use Rattle.outside.specs.Runs.{TellsAll}
 use Rattle.sync_rules.specs.declared.entries.Entry.{Entry}
 use Rattle.sync_rules.specs.declared.entries.Entry.TheVariants as entry
 use Rattle.sync_rules.specs.Clients.{Meaning}
-use Rattle.sync_rules.specs.Facts.{Extends, facts, takes_of}
+use Rattle.sync_rules.specs.Facts.{ExtendsJournal, facts, takes_of}
 use Rattle.sync_rules.specs.Laws.{BringsOnce, EndsOnce, HasOwnOrigin, IsInOrder, JudgesOnce}
 use Rattle.sync_rules.specs.Legal.{Legal}
 use Rattle.sync_rules.specs.Output.{SendsTheOpen}
@@ -30,9 +30,9 @@ TakesInOrder begin whole first heard =
     → (k ≡ takes_of (facts (begin ++ before)).takes session) × TakesHeard first heard (facts (begin ++ before)) session k rest
 
 -- What is so of a journal of a run that began with another one, by what was heard and what was sent on each link of the run.
-pub record IsSound (clients : Meaning) (begin whole : Journal) (heard sent : ℕ → List ℕ) : Type 0 where
+pub record IsRunSound (clients : Meaning) (begin whole : Journal) (heard sent : ℕ → List ℕ) : Type 0 where
   pub legal : Legal clients whole
-  pub extends : Extends whole begin
+  pub extends : ExtendsJournal whole begin
   -- each id comes, is judged and ends at most once
   pub comes_once : BringsOnce whole
   pub judged_once : JudgesOnce whole
@@ -51,7 +51,7 @@ pub record IsSound (clients : Meaning) (begin whole : Journal) (heard sent : ℕ
 pub record OpensSound (clients : Meaning) (begin : Journal) (heard sent : ℕ → List ℕ) (files : Two (List ℕ)) : Type 0 where
   pub whole : Journal
   pub opens : stands clients files ≡ journal whole
-  pub sound : IsSound clients begin whole heard sent
+  pub sound : IsRunSound clients begin whole heard sent
 
 -- every journal of a run is such
 abbrev pub RunsAreSound : Type 0
@@ -75,7 +75,7 @@ pub record IsUntouched (two : Two File) (old : Outside) (m : Moment) : Type 0 wh
 -- Where files, links and what they heard are told; the files were `two` when the command began. At each moment a crash leaves what it
 -- might have left before, nothing being sent, or a sound journal; from the first byte on that was sent, such a journal; and so do the
 -- files as they read at the end.
-pub record OpensTold (clients : Meaning) (two : Two File) (old new : Outside) (told : Told new) : Type 0 where
+pub record OpensTold (clients : Meaning) (two : Two File) (old new : Outside) (told : TellsAll new) : Type 0 where
   pub moments : (m : Moment) → new.moments old.clock m
       → IsUntouched two old m ⊎ OpensOn clients (stands clients (read_files two)) (heard_on new.links) (sent_by m) m.files
   pub once_sent : (m : Moment) → new.moments old.clock m → (link : ℕ) → sent_by m link ≢ []
@@ -85,5 +85,5 @@ pub record OpensTold (clients : Meaning) (two : Two File) (old new : Outside) (t
 
 -- whatever the links bring, whatever call fails and whenever the device stops, it opens to a sound journal
 abbrev pub AlwaysOpens : Meaning → Asked → (old new : Outside) → Type 0
-AlwaysOpens clients (Do (command.Sync turns quiet links)) old new = (two : Two File) → old.files ≡ Some two → (told : Told new) → OpensTold clients two old new told
+AlwaysOpens clients (Do (command.Sync turns quiet links)) old new = (two : Two File) → old.files ≡ Some two → (told : TellsAll new) → OpensTold clients two old new told
 AlwaysOpens clients _ old new = Unit {0}

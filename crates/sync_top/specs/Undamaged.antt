@@ -2,7 +2,7 @@
 use Rattle.std.specs.Prelude.{◌≡◌, ℕ, List, Some}
 use Rattle.outside.specs.Files.{Two, File, IsImage}
 use Rattle.outside.specs.Outside.{Outside, Moment, MomentsAre}
-use Rattle.outside.specs.Runs.{Told}
+use Rattle.outside.specs.Runs.{TellsAll}
 use Rattle.sync_rules.specs.declared.entries.Entry.{Entry}
 use Rattle.sync_rules.specs.Clients.{Meaning}
 use Rattle.entry_codec.specs.Standing.{journal, stands}
@@ -25,7 +25,7 @@ Undamaged clients old new =
 abbrev pub RunUndamaged : Meaning → (old new : Outside) → Type 0
 RunUndamaged clients old new =
     (two : Two File) → old.files ≡ Some two → ((left : Two (List ℕ)) → IsImage two left → StandsForSome clients left)
-    → Told new → (m : Moment) → new.moments old.clock m → StandsForSome clients m.files
+    → TellsAll new → (m : Moment) → new.moments old.clock m → StandsForSome clients m.files
 
 abbrev pub NeverDamaged : Meaning → Asked → (old new : Outside) → Type 0
 NeverDamaged clients (Do (command.Sync turns quiet links)) old new = RunUndamaged clients old new

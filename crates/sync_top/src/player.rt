@@ -21,9 +21,9 @@ pub struct Player<'a, C: Clients> {
 
 impl<'a, C: Clients> Listener for Player<'a, C> {
     ghost use Rattle.std.specs.Prelude.{refl};
-    ghost use Rattle.sync_top.specs.Plays.{Plays};
+    ghost use Rattle.sync_top.specs.Plays.{PlaysItems};
 
-    ghost heard = { λ first items now. Plays (C.meaning first.clients.now) first.play items
+    ghost heard = { λ first items now. PlaysItems (C.meaning first.clients.now) first.play items
         (C.meaning now.clients.now) now.play };
 
     ghost heard_nothing = { λ p. record { same = refl; takes = λ def records played. played } };

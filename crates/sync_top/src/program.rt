@@ -2,13 +2,13 @@
 ghost use Rattle.std.specs.Prelude.{◌≡◌};
 ghost use Rattle.sync_top.specs.Complete.{Complete};
 ghost use Rattle.sync_top.specs.Looking.{LooksUnless};
-ghost use Rattle.sync_top.specs.Run.{AsksSync, Comes, Covered, KeepsHost, Ran, Reports};
+ghost use Rattle.sync_top.specs.Run.{AsksSync, WordsComeTo, Covered, KeepsHost, Ran, ReportsOutcome};
 ghost use Rattle.sync_top.specs.Sound.{AlwaysOpens};
 ghost use Rattle.sync_top.specs.States.{TellsWhole};
 ghost use Rattle.sync_top.specs.Undamaged.{NeverDamaged};
 ghost use Rattle.sync_words.specs.Outcomes.{came_to};
 ghost use Rattle.sync_words.specs.Words.{texts};
-ghost use Rattle.commands.specs.Reading.{asks, IsWithin};
+ghost use Rattle.commands.specs.Reading.{asks, IsCommandWithin};
 ghost use Rattle.commands.specs.Reading.Asked.{Do};
 
 use crate::laws::runs_are_sound;
@@ -83,7 +83,7 @@ fn command<H: Host, S: Source, W: Sink, C: Clients>(
     clients: &C,
 ) -> Outcome
     requires unused { AsksSync (asks (texts words.now)) → (H.tells host.old).links.dialled ≡ 0 }
-    ensures comes { Comes (C.meaning clients.now) (asks (texts words.now)) (H.tells host.old)
+    ensures comes { WordsComeTo (C.meaning clients.now) (asks (texts words.now)) (H.tells host.old)
         (H.tells host.new) (S.tells input.old) (S.tells input.new) (W.tells out.old)
         (W.tells out.new) result }
     ensures host { KeepsHost (asks (texts words.now)) host.old host.new }
@@ -104,9 +104,9 @@ fn obey_any<H: Host, S: Source, W: Sink, C: Clients>(
     out: &mut W,
     clients: &C,
 ) -> Outcome
-    requires within { IsWithin asked }
+    requires within { IsCommandWithin asked }
     requires unused { AsksSync (Do asked) → (H.tells host.old).links.dialled ≡ 0 }
-    ensures comes { Comes (C.meaning clients.now) (Do asked) (H.tells host.old) (H.tells host.new)
+    ensures comes { WordsComeTo (C.meaning clients.now) (Do asked) (H.tells host.old) (H.tells host.new)
         (S.tells input.old) (S.tells input.new) (W.tells out.old) (W.tells out.new) result }
     ensures host { KeepsHost (Do asked) host.old host.new }
 {
@@ -132,9 +132,9 @@ fn obey<H: Host, S: Source, W: Sink, C: Clients>(
     out: &mut W,
     clients: &C,
 ) -> Result<(), Outcome>
-    requires within { IsWithin asked }
+    requires within { IsCommandWithin asked }
     requires alone { AsksSync (Do asked) → ⊥ }
-    ensures comes { Comes (C.meaning clients.now) (Do asked) (H.tells host.old) (H.tells host.new)
+    ensures comes { WordsComeTo (C.meaning clients.now) (Do asked) (H.tells host.old) (H.tells host.new)
         (S.tells input.old) (S.tells input.new) (W.tells out.old) (W.tells out.new)
         (came_to result) }
     ensures host { KeepsHost (Do asked) host.old host.new }
@@ -208,7 +208,7 @@ fn spoken(group: GroupId, timestamp: u64, join: bool, def: GroupDef) -> Speech
 
 /// Writes what the error output gets of an outcome, and says its status. It takes no memory.
 pub fn report<E: Sink>(outcome: &Outcome, err: &mut E) -> Status
-    ensures { Reports outcome.now (E.tells err.old) (E.tells err.new) result }
+    ensures { ReportsOutcome outcome.now (E.tells err.old) (E.tells err.new) result }
 {
     let _ = write_text(err, outcome.text().as_str());
     outcome.status()

@@ -9,15 +9,15 @@ use Rattle.world_links.specs.declared.moves.Move.{Move}
 use Rattle.world_links.specs.declared.moves.Side.{Side}
 use Rattle.world_links.specs.Links.{cut, end_of, moved, side_of}
 use Rattle.world_links.specs.Moves.{is_possible}
-use Rattle.world_laws.specs.Worlds.{Link as RecordLink}
+use Rattle.world_laws.specs.Worlds.{WorldLink as RecordLink}
 use Rattle.sync_world.specs.Cited.{WorldLaws}
-use Rattle.sync_world.specs.Moving.{Becomes, link_cut, link_moved, moved_from}
+use Rattle.sync_world.specs.Moving.{MakesOfLink, link_cut, link_moved, moved_from}
 use Rattle.sync_world.specs.Shown.{MovesShown, ShowsLinks}
 use Rattle.sync_world.proofs.ReachLaws.{cut_shown, move_shown, shown_stays}
 
 -- the links are as before, or one of them becomes another one
 becomes_shown : (clients : Meaning) (o : Option Link) (i : ℕ) (old new : List Link) (result : Result (Unit {0}) StepFault) (xs : List RecordLink)
-    → MovesShown clients old xs → ((l : Link) → o ≡ Some l → MovesShown clients (slice_set old i l) xs) → Becomes o i old new result → MovesShown clients new xs
+    → MovesShown clients old xs → ((l : Link) → o ≡ Some l → MovesShown clients (slice_set old i l) xs) → MakesOfLink o i old new result → MovesShown clients new xs
 becomes_shown clients None i old new (Ok u) xs stays moves becomes = absurd becomes
 becomes_shown clients None i old new (Err fault.Refused) xs stays moves becomes = subst (λ (ls : List Link). MovesShown clients ls xs) (sym becomes) stays
 becomes_shown clients None i old new (Err fault.Full) xs stays moves becomes = absurd becomes
@@ -48,7 +48,7 @@ moved_link how d None m is = cc
 moved_link how d (Some l) m is = moved_side how l m (side_of d l) is
 
 pub move_becomes_shown : WorldLaws → (clients : Meaning) (how : Move) (d i : ℕ) (old new : List Link) (result : Result (Unit {0}) StepFault) (xs : List RecordLink)
-    → Becomes (link_moved how d (slice_get old i)) i old new result → ShowsLinks old xs → MovesShown clients new xs
+    → MakesOfLink (link_moved how d (slice_get old i)) i old new result → ShowsLinks old xs → MovesShown clients new xs
 move_becomes_shown laws clients how d i old new result xs becomes s =
     becomes_shown clients (link_moved how d (slice_get old i)) i old new result xs (shown_stays clients old xs s) (λ m is.
     let moves = moved_link how d (slice_get old i) m is in
@@ -70,7 +70,7 @@ cut_link None m is = cc
 cut_link (Some l) m is = record { link = l; was = refl; is = if_whole l m l.is_cut is }
 
 pub cut_becomes_shown : WorldLaws → (clients : Meaning) (i : ℕ) (old new : List Link) (result : Result (Unit {0}) StepFault) (xs : List RecordLink)
-    → Becomes (link_cut (slice_get old i)) i old new result → ShowsLinks old xs → MovesShown clients new xs
+    → MakesOfLink (link_cut (slice_get old i)) i old new result → ShowsLinks old xs → MovesShown clients new xs
 cut_becomes_shown laws clients i old new result xs becomes s =
     becomes_shown clients (link_cut (slice_get old i)) i old new result xs (shown_stays clients old xs s) (λ m is.
     let made = cut_link (slice_get old i) m is in

@@ -13,8 +13,8 @@ use Rattle.sync_world.specs.Doing.{DoesBy}
 use Rattle.sync_world.specs.Leaving.{IsSame}
 use Rattle.sync_world.specs.Moving.{fault_after}
 use Rattle.sync_world.specs.Refusing.{KnowContacts}
-use Rattle.sync_world.specs.Shown.{Reaches}
-use Rattle.sync_world.specs.Standing.{AllLinksStand, Goes, IsWorld, is_fatal, is_harmed}
+use Rattle.sync_world.specs.Shown.{ReachesWorld}
+use Rattle.sync_world.specs.Standing.{AllLinksStand, LeadsFromShown, IsWorld, is_fatal, is_harmed}
 use Rattle.sync_world.specs.declared.stage.Stage.{Stage}
 use Rattle.sync_world.proofs.CountLaws.{step_count}
 use Rattle.sync_world.proofs.WireLaws.{get_within}
@@ -50,7 +50,7 @@ contacts_steps clients w (x ∷ worlds) steps d =
     let rest : contacts_of (journal_at x d) ≤ contacts_of (journal_at (last_of x worlds) d) = contacts_steps clients x worlds steps.1 d in
     omega (arith, one, rest)
 
-pub contacts_reached : (clients : Meaning) (w after : World) → Reaches clients w after → (d : ℕ) → (facts (journal_at w d)).contacts ≤ (facts (journal_at after d)).contacts
+pub contacts_reached : (clients : Meaning) (w after : World) → ReachesWorld clients w after → (d : ℕ) → (facts (journal_at w d)).contacts ≤ (facts (journal_at after d)).contacts
 contacts_reached clients w after reached d =
     subst (λ (x : World). contacts_of (journal_at w d) ≤ contacts_of (journal_at x d)) reached.last (contacts_steps clients w reached.worlds reached.steps d)
 
@@ -69,7 +69,7 @@ contacts_known s is none stand = λ d device n there runs.
 
 -- a step leaves a world, whatever it answers, by its clauses
 pub world_stepped : (made : WorldStep) (old new : Stage) (result : Result (Unit {0}) StepFault) → IsWorld old → AllLinksStand old.devices.items
-    → (old.fault ≡ None → Goes (is_fatal result) old new) → (old.fault ≡ None → new.fault ≡ fault_after result)
+    → (old.fault ≡ None → LeadsFromShown (is_fatal result) old new) → (old.fault ≡ None → new.fault ≡ fault_after result)
     → ((f : StepFault) → old.fault ≡ Some f → (result ≡ Err f) × (new ≡ old))
     → (old.fault ≡ None → KnowContacts old.devices.items → IsErrOf result fault.Refused → IsSame old new) → (old.fault ≡ None → DoesBy made result old new) → IsWorld new
 world_stepped made old new result is stand goes after for_good same does =

@@ -16,7 +16,7 @@ use Rattle.world_scripts.specs.declared.step.TheConstants.{MAX_DEVICES}
 use Rattle.world_scripts.specs.declared.step.WorldStep.{WorldStep}
 use Rattle.world_scripts.specs.declared.step.WorldStep.TheVariants as step
 use Rattle.std.specs.Prelude.{slice_get}
-use Rattle.sync_world.specs.Doing.{AddsEntry, AttachesOn, DeviceDoes, Does, DoesBy, EndsOn, Ground, LinkBecomes, LinksBoth, LinksTwo, RestsWithin, RoundMade, TurnsFrom, TurnsIf, TurnsOnce, entry_of, ground_of}
+use Rattle.sync_world.specs.Doing.{AddsEntry, AttachesOn, DeviceDoes, MakesStep, DoesBy, EndsOn, Ground, LinkBecomes, LinksBoth, LinksTwo, RestsWithin, RoundMade, TurnsFrom, TurnsIf, TurnsOnce, entry_of, ground_of}
 use Rattle.sync_world.specs.Leaving.{IsSame}
 use Rattle.sync_world.specs.Moving.{link_cut, link_moved}
 use Rattle.sync_world.specs.Standing.{is_fatal}
@@ -91,7 +91,7 @@ becomes_many : (o : Option Link) (link : ℕ) (old new : Ground) → LinkBecomes
 becomes_many None link old new does = absurd does
 becomes_many (Some l) link old new does = record { is = ap length does.0 }
 
-done_many : (made : WorldStep) (s : Stage) (new : Ground) → Does made s new → AsMany (ground_of s) new
+done_many : (made : WorldStep) (s : Stage) (new : Ground) → MakesStep made s new → AsMany (ground_of s) new
 done_many (step.Group d kind descriptor) s new does = adds_many (entry_of (step.Group d kind descriptor) s) d (ground_of s) new does
 done_many (step.Share d e group level) s new does = adds_many (entry_of (step.Share d e group level) s) d (ground_of s) new does
 done_many (step.Post d group time parents text) s new does = adds_many (entry_of (step.Post d group time parents text) s) d (ground_of s) new does
@@ -107,7 +107,7 @@ done_many (step.Stop d calls pick) s new does = device_many _ d _ (ground_of s) 
 done_many (step.Restart d) s new does = device_many _ d _ (ground_of s) new does
 done_many (step.Rest rounds) s new does = rests_many rounds (ground_of s) new does
 
-pub does_count : (made : WorldStep) (s : Stage) (new : Ground) → Does made s new → length new.devices ≡ length s.devices.items
+pub does_count : (made : WorldStep) (s : Stage) (new : Ground) → MakesStep made s new → length new.devices ≡ length s.devices.items
 does_count made s new does = (done_many made s new does).is
 
 -- the same of a step that does not fail for good

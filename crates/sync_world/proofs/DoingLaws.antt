@@ -10,13 +10,13 @@ use Rattle.sync_rules.specs.declared.entries.Entry.TheVariants as entry
 use Rattle.sync_rules.specs.declared.entries.Level.{Level}
 use Rattle.sync_rules.specs.Facts.{Id}
 use Rattle.world_devices.specs.Devices.{DeviceValue}
-use Rattle.world_devices.specs.Doing.{Adds, IsOver}
+use Rattle.world_devices.specs.Doing.{DeviceAddsEntry, EntryPassesLimit}
 use Rattle.world_devices.specs.declared.stop.Ran.{Ran}
 use Rattle.world_devices.specs.declared.stop.StepFault.{StepFault}
 use Rattle.world_devices.specs.declared.stop.StepFault.TheVariants as fault
 use Rattle.world_links.specs.declared.link.Link.{Link}
 use Rattle.world_scripts.specs.declared.step.WorldStep.{WorldStep}
-use Rattle.sync_world.specs.Doing.{AddsEntry, AddsNoOther, DeviceDoes, DoesBy, Fills, FillsWith, LeavesBy, TriesEntry, with_post}
+use Rattle.sync_world.specs.Doing.{AddsEntry, AddsNoOther, DeviceDoes, DoesBy, FillsJournal, FillsWith, LeavesBy, TriesEntry, with_post}
 use Rattle.sync_world.specs.Naming.{IsMade}
 use Rattle.sync_world.specs.Staging.{after_ran}
 use Rattle.sync_world.specs.declared.stage.Stage.{Stage}
@@ -25,12 +25,12 @@ use Rattle.sync_world.proofs.RefusingLaws.{get_at}
 -- ---- answers
 
 -- a fault that was handed on: a full journal has to be shown, and that no other entry was added
-err_does : (made : WorldStep) (old new : Stage) (e : StepFault) → (e ≡ fault.Full → Fills made old) → LeavesBy made old new.devices.items → DoesBy made (Err e) old new
+err_does : (made : WorldStep) (old new : Stage) (e : StepFault) → (e ≡ fault.Full → FillsJournal made old) → LeavesBy made old new.devices.items → DoesBy made (Err e) old new
 err_does made old new fault.Refused fills leaves = tt
 err_does made old new fault.Full fills leaves = (fills refl, leaves)
 err_does made old new fault.Memory fills leaves = leaves
 
-pub passes_does : (made : WorldStep) (old new : Stage) (r : Result (Unit {0}) StepFault) (e : StepFault) → IsErrAnd r (λ y. y ≡ e) → (e ≡ fault.Full → Fills made old)
+pub passes_does : (made : WorldStep) (old new : Stage) (r : Result (Unit {0}) StepFault) (e : StepFault) → IsErrAnd r (λ y. y ≡ e) → (e ≡ fault.Full → FillsJournal made old)
     → LeavesBy made old new.devices.items → DoesBy made r old new
 passes_does made old new (Ok u) e is fills leaves = absurd is
 passes_does made old new (Err x) e is fills leaves = subst (λ (y : StepFault). DoesBy made (Err y) old new) (sym is) (err_does made old new e fills leaves)
@@ -59,27 +59,27 @@ device_does Did d came devices devices' links links' was is within at did is_dev
 
 -- it added an entry
 pub adds_entry : (o : Option Entry) (e : Entry) (d : ℕ) (came : Ran) (devices devices' : List DeviceValue) (links links' : List Link) (was is : DeviceValue)
-    → o ≡ Some e → d < length devices → was ≡ slice_index_or devices d was → Adds e (Ok came) was is → devices' ≡ slice_set devices d is → links' ≡ after_ran came d links
+    → o ≡ Some e → d < length devices → was ≡ slice_index_or devices d was → DeviceAddsEntry e (Ok came) was is → devices' ≡ slice_set devices d is → links' ≡ after_ran came d links
     → AddsEntry o d (record { devices = devices; links = links }) (record { devices = devices'; links = links' })
 adds_entry o e d came devices devices' links links' was is entry_is within at adds is_devices is_links =
     subst (λ (x : Option Entry). AddsEntry x d (record { devices = devices; links = links }) (record { devices = devices'; links = links' })) (sym entry_is)
-    (came, device_does (Adds e (Ok came)) d came devices devices' links links' was is within at adds is_devices is_links)
+    (came, device_does (DeviceAddsEntry e (Ok came)) d came devices devices' links links' was is within at adds is_devices is_links)
 
-over_full : (e : Entry) (f : StepFault) (was is : DeviceValue) → Adds e (Err f) was is → f ≡ fault.Full → IsOver e was.node
+over_full : (e : Entry) (f : StepFault) (was is : DeviceValue) → DeviceAddsEntry e (Err f) was is → f ≡ fault.Full → EntryPassesLimit e was.node
 over_full e fault.Refused was is adds full = absurd (cc full)
 over_full e fault.Full was is adds full = adds.0
 over_full e fault.Memory was is adds full = absurd (cc full)
 
 -- its journal has no room for the entry
 pub fills_with : (o : Option Entry) (e : Entry) (d : ℕ) (devices : List DeviceValue) (f : StepFault) (was is : DeviceValue)
-    → o ≡ Some e → d < length devices → was ≡ slice_index_or devices d was → Adds e (Err f) was is → f ≡ fault.Full → FillsWith o d devices
+    → o ≡ Some e → d < length devices → was ≡ slice_index_or devices d was → DeviceAddsEntry e (Err f) was is → f ≡ fault.Full → FillsWith o d devices
 fills_with o e d devices f was is entry_is within at adds full =
     subst (λ (x : Option Entry). FillsWith x d devices) (sym entry_is)
     (record { device = was; stands = get_at devices d was within at; over = over_full e f was is adds full })
 
 -- at most that entry was added
 pub tries_entry : (o : Option Entry) (e : Entry) (d : ℕ) (devices devices' : List DeviceValue) (answer : Result Ran StepFault) (was is : DeviceValue)
-    → o ≡ Some e → d < length devices → was ≡ slice_index_or devices d was → Adds e answer was is → devices' ≡ slice_set devices d is → AddsNoOther o d devices devices'
+    → o ≡ Some e → d < length devices → was ≡ slice_index_or devices d was → DeviceAddsEntry e answer was is → devices' ≡ slice_set devices d is → AddsNoOther o d devices devices'
 tries_entry o e d devices devices' answer was is entry_is within at adds is_devices =
     inr (subst (λ (x : Option Entry). TriesEntry x d devices devices') (sym entry_is)
     (record { was = was; is = is; answer = answer; stands = get_at devices d was within at; did = adds; devices = is_devices }))

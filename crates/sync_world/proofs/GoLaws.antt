@@ -13,7 +13,7 @@ use Rattle.sync_ids.specs.declared.records.Record.{Record}
 use Rattle.sync_node.specs.Node.{NodeValue}
 use Rattle.sync_rules.proofs.Continuing.{legal-append}
 use Rattle.sync_rules.specs.Lists.{In}
-use Rattle.sync_rules.specs.Facts.{Extends}
+use Rattle.sync_rules.specs.Facts.{ExtendsJournal}
 use Rattle.sync_rules.specs.Legal.{Legal}
 use Rattle.world_laws.specs.Worlds.{Journal, World, journal_at, journal_in}
 use Rattle.world_devices.specs.Brought.{brought_on}
@@ -24,13 +24,13 @@ use Rattle.world_devices.specs.declared.stop.Ran.{Ran}
 use Rattle.world_devices.specs.declared.stop.Ran.TheVariants as ran
 use Rattle.world_devices.specs.declared.stop.StepFault.{StepFault}
 use Rattle.world_devices.specs.declared.stop.StepFault.TheVariants as fault
-use Rattle.world_devices.specs.Running.{DeviceRuns, Holds, Reads, is_session_of, records_for, records_of}
+use Rattle.world_devices.specs.Running.{DeviceRuns, HoldsAfterCrash, ReadsAsJournal, is_session_of, records_for, records_of}
 use Rattle.world_links.specs.Ends.{EndValue, input_of}
 use Rattle.world_links.specs.Links.{cut, detached, left_at, left_by, with_flight}
 use Rattle.world_links.specs.declared.moves.Side.TheVariants as side
 use Rattle.world_links.specs.declared.link.Link.{Link}
 use Rattle.sync_world.specs.Cited.{RecordLaws}
-use Rattle.sync_world.specs.Shown.{IsGivenAt, MovesShown, Reaches, heard_by, left_link, world_of}
+use Rattle.sync_world.specs.Shown.{IsGivenAt, MovesShown, ReachesWorld, heard_by, left_link, world_of}
 use Rattle.sync_world.specs.Staging.{after_ran}
 use Rattle.sync_world.specs.Standing.{AllWired, ArePlaced, AreRead, AreUp, AreWired, IsShown, IsUp, LeadsOn, is_fatal, place_in, place_on}
 use Rattle.sync_world.proofs.HearLaws.{given_front_records}
@@ -41,7 +41,7 @@ use Rattle.sync_world.proofs.WireLaws.{AllMove, EndMoves, LinkMoves, all_map, al
 
 -- ---- journals
 
-pub holds_reads : (j : Journal) (host : MemHostValue) → Holds j host → Reads j host
+pub holds_reads : (j : Journal) (host : MemHostValue) → HoldsAfterCrash j host → ReadsAsJournal j host
 holds_reads j host holds = record { each = λ two told. holds.each two told (read_files two) ((host_told host).reads two told) }
 
 pub up_read : (js : List Journal) (devices : List DeviceValue) → AreUp js devices → AreRead js devices
@@ -60,7 +60,7 @@ up_set js devices d j device within up one = record {
       ];
 }
 
-pub read_set : (js : List Journal) (devices : List DeviceValue) (d : ℕ) (j : Journal) (device : DeviceValue) → d < length devices → AreRead js devices → Reads j device.host
+pub read_set : (js : List Journal) (devices : List DeviceValue) (d : ℕ) (j : Journal) (device : DeviceValue) → d < length devices → AreRead js devices → ReadsAsJournal j device.host
     → AreRead (slice_set js d j) (slice_set devices d device)
 read_set js devices d j device within up one = record {
   same_number = set_length js d j ∙ (up.same_number ∙ sym (set_length devices d device));
@@ -68,8 +68,8 @@ read_set js devices d j device within up one = record {
       elim (get_cases devices d e device other is) [
         | inl (same, new) ↦
             let own : journal_in (slice_set js d j) e ≡ j = ap (journal_in (slice_set js d j)) same ∙ journal_set_own js d j (omega (arith, within, up.same_number)) in
-            subst (λ (k : Journal). Reads k other.host) (sym own) (subst (λ (x : DeviceValue). Reads j x.host) new one)
-        | inr (apart, old) ↦ subst (λ (k : Journal). Reads k other.host) (sym (journal_set_other js d j e apart)) (up.each e other old)
+            subst (λ (k : Journal). ReadsAsJournal k other.host) (sym own) (subst (λ (x : DeviceValue). ReadsAsJournal j x.host) new one)
+        | inr (apart, old) ↦ subst (λ (k : Journal). ReadsAsJournal k other.host) (sym (journal_set_other js d j e apart)) (up.each e other old)
       ];
 }
 
@@ -185,11 +185,11 @@ node_heard laws w devices links d old (Some n) s is running session r inside =
 -- its journal went on, in a world that steps lead to
 pub record RanOn (w : World) (d : ℕ) (new : DeviceValue) : Type 0 where
   pub journal : Journal
-  pub reached : Reaches bundle_meaning w (world_of (slice_set w.journals d journal) w.links)
-  pub reads : Reads journal new.host
-  pub holds : is_some new.node ≡ true → Holds journal new.host
+  pub reached : ReachesWorld bundle_meaning w (world_of (slice_set w.journals d journal) w.links)
+  pub reads : ReadsAsJournal journal new.host
+  pub holds : is_some new.node ≡ true → HoldsAfterCrash journal new.host
   pub legal : Legal bundle_meaning journal
-  pub extends : Extends journal (journal_at w d)
+  pub extends : ExtendsJournal journal (journal_at w d)
 
 pub device_ran : RecordLaws → (w : World) (devices : List DeviceValue) (links : List Link) (d : ℕ) (old new : DeviceValue) → IsShown w devices links
     → slice_get devices d ≡ Some old → DeviceRuns old new → RanOn w d new

@@ -4,10 +4,10 @@ use Rattle.std.proofs.lemmas.Bool.{cases_eq}
 use Rattle.std.specs.Prelude.{slice_get, slice_set}
 use Rattle.client_basic.specs.Bodies.{bundle_meaning}
 use Rattle.sync_ids.specs.declared.records.Record.{Record}
-use Rattle.sync_rules.specs.Facts.{Extends}
+use Rattle.sync_rules.specs.Facts.{ExtendsJournal}
 use Rattle.sync_rules.specs.Legal.{Legal}
 use Rattle.sync_rules.specs.Output.{sent}
-use Rattle.world_laws.specs.Worlds.{HasSession, Journal, Link as RecordLink, World, contact_for, journal_at, journal_in, new_end}
+use Rattle.world_laws.specs.Worlds.{HasSession, Journal, WorldLink as RecordLink, World, contact_for, journal_at, journal_in, new_end}
 use Rattle.world_devices.specs.Cited.{SentGrows}
 use Rattle.world_devices.specs.Devices.{DeviceValue}
 use Rattle.world_devices.specs.Linking.{AddsLink}
@@ -18,9 +18,9 @@ use Rattle.world_links.specs.declared.link.Link.{Link}
 use Rattle.world_links.specs.declared.moves.Side.{Side}
 use Rattle.world_links.specs.declared.moves.Side.TheVariants as side
 use Rattle.sync_world.specs.Cited.{RecordLaws}
-use Rattle.sync_world.specs.Shown.{LinkRuns, LinksRun, Reaches, ShowsEnd, ShowsLink, world_of}
+use Rattle.sync_world.specs.Shown.{RunsLinkOfDevice, LinksRun, ReachesWorld, ShowsEnd, ShowsLink, world_of}
 use Rattle.sync_world.specs.Staging.{HasFreshEnd, attached_at, attached_from, begun_end, new_link, with_end}
-use Rattle.sync_world.specs.Standing.{ArePlaced, AreWired, IsPlaced, IsShown, IsUp, IsWired, LeadsOn, own_end, place_in, place_on}
+use Rattle.sync_world.specs.Standing.{ArePlaced, AreWired, IsLinkPlaced, IsShown, IsUp, IsEndWired, LeadsOn, own_end, place_in, place_on}
 use Rattle.sync_world.proofs.GoLaws.{device_ran, up_read, up_set, wired_set}
 use Rattle.sync_world.proofs.LookLaws.{shown_attached}
 use Rattle.sync_world.proofs.PlanLaws.{far_own, near_own}
@@ -81,8 +81,8 @@ new_placed d e count ls near far two placed i l there =
     elim (get_push ls (new_link d e) i l there) [
       | inl was ↦ placed i l was
       | inr new ↦
-          let one : IsPlaced count (new_link d e) = record { near = near; far = far; apart = two; near_heard = omega arith; far_heard = omega arith } in
-          subst (IsPlaced count) new one
+          let one : IsLinkPlaced count (new_link d e) = record { near = near; far = far; apart = two; near_heard = omega arith; far_heard = omega arith } in
+          subst (IsLinkPlaced count) new one
     ]
 
 pub linked_leads : (w : World) (devices : List DeviceValue) (links : List Link) (d e : ℕ) → IsShown w devices links → (d ≡ e → ⊥) → d < length devices → e < length devices
@@ -138,7 +138,7 @@ begun_at d a session l side.Far own at heard =
 
 record Shows (d : ℕ) (j : Journal) (x : RecordLink) (l' : Link) : Type 0 where
   link : RecordLink
-  runs : LinkRuns d j x link
+  runs : RunsLinkOfDevice d j x link
   shown : ShowsLink l' link
 
 begun_shown : (d a session contact far : ℕ) (j : Journal) (l : Link) (x : RecordLink) (from : Side) → ShowsLink l x → side_of d l ≡ Some from → (end_of from l).session ≡ None
@@ -169,7 +169,7 @@ begun_shown d a session contact far j l x side.Far s own fresh is known =
     }
 
 -- links run on by themselves, while no batch is added
-pub ran_links : (d : ℕ) (js : List Journal) (xs ys : List RecordLink) → LinksRun d (journal_in js d) xs ys → Reaches bundle_meaning (world_of js xs) (world_of js ys)
+pub ran_links : (d : ℕ) (js : List Journal) (xs ys : List RecordLink) → LinksRun d (journal_in js d) xs ys → ReachesWorld bundle_meaning (world_of js xs) (world_of js ys)
 ran_links d js xs ys runs =
     reaches_one bundle_meaning (world_of js xs) (world_of js ys)
     (inl (d, device_runs bundle_meaning d (world_of js xs) (world_of js ys) [] (λ session. []) (sym (append-nil (journal_in js d))) tt refl (λ e apart. refl) tt (λ session r inside. absurd inside) runs))
@@ -178,7 +178,7 @@ drop_none : (xs : List ℕ) (n : ℕ) → n ≡ 0 → drop n xs ≡ xs
 drop_none xs n is = ap (λ (k : ℕ). drop k xs) is
 
 new_end_wired : (j : Journal) (old new : DeviceValue) (cut : Bool) (session contact : ℕ) (e : EndValue) → AddsLink contact session old new → e.heard ≡ 0
-    → IsWired j new cut (begun_end old.links session e) old.links
+    → IsEndWired j new cut (begun_end old.links session e) old.links
 new_end_wired j old new cut session contact e adds heard = record {
   below = omega (arith, adds.one_more);
   session = sym adds.numbered ∙ sym (session_from old.node new.node old.links adds.same_first);
@@ -186,8 +186,8 @@ new_end_wired j old new cut session contact e adds heard = record {
   seen = λ uncut number on. record { before = []; behind = sent j number; sends = refl; counted = refl };
 }
 
-old_end_wired : SentGrows → (j' j : Journal) (old new : DeviceValue) (cut : Bool) (session contact : ℕ) (e : EndValue) (a : ℕ) → Legal bundle_meaning j' → Extends j' j → AddsLink contact session old new
-    → IsWired j old cut e a → IsWired j' new cut e a
+old_end_wired : SentGrows → (j' j : Journal) (old new : DeviceValue) (cut : Bool) (session contact : ℕ) (e : EndValue) (a : ℕ) → Legal bundle_meaning j' → ExtendsJournal j' j → AddsLink contact session old new
+    → IsEndWired j old cut e a → IsEndWired j' new cut e a
 old_end_wired grows j' j old new cut session contact e a legal extends adds w = record {
   below = let was : a < old.links = w.below in omega (arith, adds.one_more, was);
   session = w.session ∙ sym (session_from old.node new.node a adds.same_first);
@@ -207,7 +207,7 @@ attached_is d a session l from own = ap (λ (o : Option Side). attached_from a s
 journal_own : (js : List Journal) (d : ℕ) (j : Journal) → d < length js → journal_in (slice_set js d j) d ≡ j
 journal_own js d j within = journal_set_own js d j within
 
-begun_wired : SentGrows → (j' j : Journal) (d session contact : ℕ) (old new : DeviceValue) (ls : List Link) (i : ℕ) (l l' : Link) → Legal bundle_meaning j' → Extends j' j
+begun_wired : SentGrows → (j' j : Journal) (d session contact : ℕ) (old new : DeviceValue) (ls : List Link) (i : ℕ) (l l' : Link) → Legal bundle_meaning j' → ExtendsJournal j' j
     → AddsLink contact session old new → slice_get ls i ≡ Some l → Begun d old.links session l l' → AreWired j d old ls → AreWired j' d new (slice_set ls i l')
 begun_wired grows j' j d session contact old new ls i l l' legal extends adds is b w =
     let mine : place_on d l' ≡ Some old.links = ap place_in b.own' in
@@ -219,8 +219,8 @@ begun_wired grows j' j d session contact old new ls i l l' legal extends adds is
                 let own'' : own_end d l' ≡ Some e = subst (λ (z : Link). own_end d z ≡ Some e) (sym link) own in
                 let end : begun_end old.links session b.end ≡ e = some_same (begun_end old.links session b.end) e (sym b.own' ∙ own'') in
                 let number : old.links ≡ a = some_same old.links a (ap (λ (z : EndValue). z.at) end ∙ here) in
-                let wired : IsWired j' new m.is_cut (begun_end old.links session b.end) old.links = new_end_wired j' old new m.is_cut session contact b.end adds b.heard in
-                subst (λ (k : ℕ). IsWired j' new m.is_cut e k) number (subst (λ (x : EndValue). IsWired j' new m.is_cut x old.links) end wired)
+                let wired : IsEndWired j' new m.is_cut (begun_end old.links session b.end) old.links = new_end_wired j' old new m.is_cut session contact b.end adds b.heard in
+                subst (λ (k : ℕ). IsEndWired j' new m.is_cut e k) number (subst (λ (x : EndValue). IsEndWired j' new m.is_cut x old.links) end wired)
             | inr (apart, was) ↦ old_end_wired grows j' j old new m.is_cut session contact e a legal extends adds (w.each n m e a was own here)
           ];
       once = λ n k m m' a there there' here here'.

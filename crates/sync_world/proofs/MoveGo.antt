@@ -14,7 +14,7 @@ use Rattle.world_links.specs.declared.moves.Move.{Move}
 use Rattle.world_links.specs.declared.moves.Side.{Side}
 use Rattle.world_links.specs.declared.moves.Side.TheVariants as side
 use Rattle.sync_world.specs.Cited.{WorldLaws}
-use Rattle.sync_world.specs.Moving.{Becomes, link_cut, link_moved, moved_from}
+use Rattle.sync_world.specs.Moving.{MakesOfLink, link_cut, link_moved, moved_from}
 use Rattle.sync_world.specs.Standing.{IsShown, LeadsOn, is_fatal}
 use Rattle.sync_world.proofs.BecomeLaws.{cut_becomes_shown, move_becomes_shown}
 use Rattle.sync_world.proofs.GoLaws.{moved_leads, read_at_all}
@@ -70,7 +70,7 @@ same_all : (k : ℕ) (old new : List Link) → new ≡ old → AllMove k old new
 same_all k old new same = subst (λ (ls : List Link). AllMove k old ls) (sym same) (all_stay k old)
 
 becomes_all : (k : ℕ) (o : Option Link) (i : ℕ) (old new : List Link) (result : Result (Unit {0}) StepFault) → ((l' : Link) → o ≡ Some l' → WasThere k (slice_get old i) l')
-    → Becomes o i old new result → AllMove k old new
+    → MakesOfLink o i old new result → AllMove k old new
 becomes_all k None i old new (Ok u) was b = absurd b
 becomes_all k None i old new (Err fault.Refused) was b = same_all k old new b
 becomes_all k None i old new (Err fault.Full) was b = absurd b
@@ -83,14 +83,14 @@ becomes_all k (Some l') i old new (Err fault.Full) was b = absurd b
 becomes_all k (Some l') i old new (Err fault.Memory) was b = same_all k old new b
 
 pub move_leads : WorldLaws → (how : Move) (d i : ℕ) (devices : List DeviceValue) (old new : List Link) (result : Result (Unit {0}) StepFault)
-    → Becomes (link_moved how d (slice_get old i)) i old new result → (w : World) → IsShown w devices old → LeadsOn w (is_fatal result) devices new
+    → MakesOfLink (link_moved how d (slice_get old i)) i old new result → (w : World) → IsShown w devices old → LeadsOn w (is_fatal result) devices new
 move_leads laws how d i devices old new result becomes w s =
     read_at_all w (is_fatal result) devices new
     (moved_leads w devices old new s (move_becomes_shown laws bundle_meaning how d i old new result w.links becomes s.shown)
     (λ k. becomes_all k (link_moved how d (slice_get old i)) i old new result (λ l' is. was_moved k how d (slice_get old i) l' is) becomes))
 
 pub cut_leads : WorldLaws → (i : ℕ) (devices : List DeviceValue) (old new : List Link) (result : Result (Unit {0}) StepFault)
-    → Becomes (link_cut (slice_get old i)) i old new result → (w : World) → IsShown w devices old → LeadsOn w (is_fatal result) devices new
+    → MakesOfLink (link_cut (slice_get old i)) i old new result → (w : World) → IsShown w devices old → LeadsOn w (is_fatal result) devices new
 cut_leads laws i devices old new result becomes w s =
     read_at_all w (is_fatal result) devices new
     (moved_leads w devices old new s (cut_becomes_shown laws bundle_meaning i old new result w.links becomes s.shown)

@@ -14,7 +14,7 @@ use Rattle.sync_rules.specs.Legal.{IsSettlingBatch}
 use Rattle.sync_rules.specs.Output.{sent}
 use Rattle.sync_rules.proofs.StepKinds.{next_is_step}
 use Rattle.sync_node.specs.Output.{output}
-use Rattle.sync_node.specs.Suits.{AllSuit, Suits}
+use Rattle.sync_node.specs.Suits.{AllSuitSessions, SuitsSessions}
 use Rattle.world_links.specs.Ends.{EndValue, flight_behind}
 use Rattle.world_laws.specs.Worlds.{AllHeard, End, IsHeard, Journal}
 use Rattle.sync_world.specs.Cited.{RecordLaws}
@@ -57,7 +57,7 @@ session_heard first heard session link on =
     ap (λ (b : Bool). if b then [] else records (heard (session - first))) later ∙ ap (λ (i : ℕ). records (heard i)) same
 
 taken_heard : (clients : Meaning) (first : ℕ) (plans : List Session) (heard : ℕ → List ℕ) (f : Facts) (s k : ℕ) (rest : List Entry)
-    → Suits clients first plans heard f (entry.Take s k ∷ rest) → IsHeard (heard_in_run first heard) f (entry.Take s k ∷ rest)
+    → SuitsSessions clients first plans heard f (entry.Take s k ∷ rest) → IsHeard (heard_in_run first heard) f (entry.Take s k ∷ rest)
 taken_heard clients first plans heard f s k rest (inl settles) = absurd (none_settles clients f s k rest settles)
 taken_heard clients first plans heard f s k rest (inr takes) = (
   takes.read,
@@ -65,14 +65,14 @@ taken_heard clients first plans heard f s k rest (inr takes) = (
   takes.so,
 )
 
-batch_heard : (clients : Meaning) (first : ℕ) (plans : List Session) (heard : ℕ → List ℕ) (f : Facts) (batch : List Entry) → Suits clients first plans heard f batch
+batch_heard : (clients : Meaning) (first : ℕ) (plans : List Session) (heard : ℕ → List ℕ) (f : Facts) (batch : List Entry) → SuitsSessions clients first plans heard f batch
     → IsHeard (heard_in_run first heard) f batch
 batch_heard clients first plans heard f (entry.Take s k ∷ rest) suits = taken_heard clients first plans heard f s k rest suits
 batch_heard clients first plans heard f _ suits = tt
 
 -- what the batches of a run take was heard, by the bytes that were heard on its links; the first has the session `first`
 pub suits_heard : (clients : Meaning) (first : ℕ) (plans : List Session) (heard : ℕ → List ℕ) (f : Facts) (more : Journal)
-    → AllSuit clients first plans heard f more → AllHeard (heard_in_run first heard) f more
+    → AllSuitSessions clients first plans heard f more → AllHeard (heard_in_run first heard) f more
 suits_heard clients first plans heard f [] suits = tt
 suits_heard clients first plans heard f (batch ∷ more) suits =
     (batch_heard clients first plans heard f batch suits.0, suits_heard clients first plans heard (after_all f batch) more suits.1)

@@ -12,8 +12,8 @@ use Rattle.sync_node.specs.Node.{NodeValue}
 use Rattle.world_devices.specs.Brought.{brought_on, bytes_of, planned_bytes}
 use Rattle.world_devices.specs.Devices.{DeviceValue}
 use Rattle.world_devices.specs.Linking.{PlansMore, number_of}
-use Rattle.world_devices.specs.Running.{Holds}
-use Rattle.world_laws.specs.Worlds.{Journal, Link as RecordLink, World, journal_at, journal_in, link_in}
+use Rattle.world_devices.specs.Running.{HoldsAfterCrash}
+use Rattle.world_laws.specs.Worlds.{Journal, WorldLink as RecordLink, World, journal_at, journal_in, link_in}
 use Rattle.world_links.specs.Ends.{EndValue, answer_to, input_of}
 use Rattle.world_links.specs.Links.{end_of, side_of}
 use Rattle.world_links.specs.declared.end.TheConstants.{PIECE_LEN}
@@ -21,8 +21,8 @@ use Rattle.world_links.specs.declared.link.Link.{Link}
 use Rattle.world_links.specs.declared.moves.Side.{Side}
 use Rattle.world_links.specs.declared.moves.Side.TheVariants as side
 use Rattle.sync_world.specs.Shown.{ShowsLink, ShowsLinks}
-use Rattle.sync_world.specs.Staging.{Brings, HearsMore, PlansAll, PlansAt, PlansLink, SameFiles, with_end}
-use Rattle.sync_world.specs.Standing.{ArePlaced, AreUp, AreWired, IsShown, IsUp, IsWired, SeenBy, own_end, place_in, place_on, session_on}
+use Rattle.sync_world.specs.Staging.{BringsNextBytes, HearsMore, PlansAll, PlansAt, PlansLink, SameFiles, with_end}
+use Rattle.sync_world.specs.Standing.{ArePlaced, AreUp, AreWired, IsShown, IsUp, IsEndWired, SeenBy, own_end, place_in, place_on, session_on}
 use Rattle.sync_world.proofs.LookLaws.{shown_same}
 use Rattle.sync_world.proofs.ShownMoves.{shown_at, shown_set}
 use Rattle.sync_world.proofs.WireLaws.{EndMoves, LinkMoves, all_placed, all_set, all_wired, end_stays, eqb_not, get_cases, get_set, get_within, own_far, own_near, set_again, set_back, set_length, set_once, set_seat, some_same}
@@ -97,7 +97,7 @@ record Planned (d a : ℕ) (old new : DeviceValue) (l l' : Link) : Type 0 where
   own : own_end d l ≡ Some end
   own' : own_end d l' ≡ Some end'
   here : end.at ≡ Some a
-  brings : Brings a old new end end'
+  brings : BringsNextBytes a old new end end'
   cut : l'.is_cut ≡ l.is_cut
   moves : (k : ℕ) → (k ≡ d → ⊥) → LinkMoves k l l'
   shows : (x : RecordLink) → ShowsLink l x → ShowsLink l' x
@@ -165,7 +165,7 @@ link_back (y ∷ xs) (suc i) x is = ap (λ (zs : List RecordLink). y ∷ zs) (li
 same_session : (old new : DeviceValue) (a : ℕ) → new.node ≡ old.node → session_on new a ≡ session_on old a
 same_session old new a same = ap (λ (o : Option NodeValue). option_map (λ (n : NodeValue). n.first + a) o) same
 
-pub holds_same : (j : Journal) (old new : DeviceValue) → SameFiles old new → Holds j old.host → Holds j new.host
+pub holds_same : (j : Journal) (old new : DeviceValue) → SameFiles old new → HoldsAfterCrash j old.host → HoldsAfterCrash j new.host
 holds_same j old new files holds = record { each = λ two told left image. holds.each two (sym files ∙ told) left image }
 
 up_same : (j : Journal) (old new : DeviceValue) → SameFiles old new → new.node ≡ old.node → new.links ≡ old.links → IsUp j old → IsUp j new
@@ -190,7 +190,7 @@ brought_more : (b t r g g' : List ℕ) → b ++ (t ++ r) ≡ g → g' ≡ g → 
 brought_more b t r g g' is same = append_assoc b t r ∙ (is ∙ sym same)
 
 -- the end that was asked
-asked_wired : (j : Journal) (old new : DeviceValue) (cut cut' : Bool) (e e' : EndValue) (a : ℕ) → Brings a old new e e' → cut' ≡ cut → IsWired j old cut e a → IsWired j new cut' e' a
+asked_wired : (j : Journal) (old new : DeviceValue) (cut cut' : Bool) (e e' : EndValue) (a : ℕ) → BringsNextBytes a old new e e' → cut' ≡ cut → IsEndWired j old cut e a → IsEndWired j new cut' e' a
 asked_wired j old new cut cut' e e' a b same w = record {
   below = subst (λ (n : ℕ). a < n) (sym b.same_links) w.below;
   session = ap (λ (z : EndValue). z.session) b.hears.is ∙ (w.session ∙ sym (same_session old new a b.same_node));
@@ -205,7 +205,7 @@ asked_wired j old new cut cut' e e' a b same w = record {
 }
 
 -- another end
-left_wired : (j : Journal) (old new : DeviceValue) (cut : Bool) (e : EndValue) (a b : ℕ) (x x' : EndValue) → Brings b old new x x' → (a ≡ b → ⊥) → IsWired j old cut e a → IsWired j new cut e a
+left_wired : (j : Journal) (old new : DeviceValue) (cut : Bool) (e : EndValue) (a b : ℕ) (x x' : EndValue) → BringsNextBytes b old new x x' → (a ≡ b → ⊥) → IsEndWired j old cut e a → IsEndWired j new cut e a
 left_wired j old new cut e a b x x' brings apart w = record {
   below = subst (λ (n : ℕ). a < n) (sym brings.same_links) w.below;
   session = w.session ∙ sym (same_session old new a brings.same_node);
@@ -225,8 +225,8 @@ plan_wired j d a old new ls i l l' is p w =
                 let own' : own_end d l' ≡ Some e = subst (λ (z : Link). own_end d z ≡ Some e) (sym link) own in
                 let end : p.end' ≡ e = some_same p.end' e (sym p.own' ∙ own') in
                 let number : a ≡ b = some_same a b (sym at ∙ (ap (λ (z : EndValue). z.at) end ∙ here)) in
-                let wired : IsWired j new l'.is_cut p.end' a = asked_wired j old new l.is_cut l'.is_cut p.end p.end' a p.brings p.cut (w.each i l p.end a is p.own p.here) in
-                subst (λ (k : ℕ). IsWired j new m.is_cut e k) number (subst (λ (x : EndValue). IsWired j new m.is_cut x a) end (subst (λ (z : Link). IsWired j new z.is_cut p.end' a) link wired))
+                let wired : IsEndWired j new l'.is_cut p.end' a = asked_wired j old new l.is_cut l'.is_cut p.end p.end' a p.brings p.cut (w.each i l p.end a is p.own p.here) in
+                subst (λ (k : ℕ). IsEndWired j new m.is_cut e k) number (subst (λ (x : EndValue). IsEndWired j new m.is_cut x a) end (subst (λ (z : Link). IsEndWired j new z.is_cut p.end' a) link wired))
             | inr (other, was) ↦
                 left_wired j old new m.is_cut e b a p.end p.end' p.brings
                 (λ same. other (w.once n i m l a was is (ap place_in own ∙ (here ∙ ap (λ (k : ℕ). Some k) same)) (ap place_in p.own ∙ p.here))) (w.each n m e b was own here)

@@ -11,7 +11,7 @@ use Rattle.sync_ids.specs.declared.message.MessageFault.TheVariants as message
 use Rattle.sync_ids.specs.declared.message.TheConstants.{MAX_BODY, MAX_TIMESTAMP}
 use Rattle.sync_rules.specs.declared.limits.TheConstants.{MAX_DEPS}
 use Rattle.world_devices.specs.declared.stop.StepFault.TheVariants as fault
-use Rattle.world_scripts.specs.Labels.{Pair, are_made, has_twice, suits_kind}
+use Rattle.world_scripts.specs.Labels.{KindAndDescriptor, are_made, has_twice, suits_kind}
 use Rattle.world_scripts.specs.declared.step.TheConstants.{NOTE, THREAD, FEED}
 use Rattle.sync_world.specs.Naming.{IsMade, group_of}
 use Rattle.sync_world.specs.Posting.{body_of, has_text, head_of, ids_of, message_in, message_of, message_with}
@@ -126,7 +126,7 @@ none_refused : (m : Option MessageValue) → m ≡ None → IsMade m (Err fault.
 none_refused None is = tt
 none_refused (Some x) is = absurd (cc is)
 
-none_with : (group : Option Pair) (posts : List (List ℕ)) (time kind : ℕ) (parents text descriptor body : List ℕ) → group ≡ Some (kind, descriptor) → body ≡ body_of kind (ids_of posts parents) text
+none_with : (group : Option KindAndDescriptor) (posts : List (List ℕ)) (time kind : ℕ) (parents text descriptor body : List ℕ) → group ≡ Some (kind, descriptor) → body ≡ body_of kind (ids_of posts parents) text
     → (nat_le time MAX_TIMESTAMP && nat_le (length body) MAX_BODY) ≡ false → message_with posts group time parents text ≡ None
 none_with None posts time kind parents text descriptor body there is unfit = absurd (cc there)
 none_with (Some g) posts time kind parents text descriptor body there is unfit =
@@ -138,7 +138,7 @@ none_with (Some g) posts time kind parents text descriptor body there is unfit =
     (none_in (group_of g.0 g.1) time (body_of g.0 (ids_of posts parents) text) big)
 
 -- a post whose message is over its limits is refused
-pub unfit_refused : (groups : List Pair) (posts ids : List (List ℕ)) (group time kind : ℕ) (parents text descriptor body : List ℕ) → slice_get groups group ≡ Some (kind, descriptor)
+pub unfit_refused : (groups : List KindAndDescriptor) (posts ids : List (List ℕ)) (group time kind : ℕ) (parents text descriptor body : List ℕ) → slice_get groups group ≡ Some (kind, descriptor)
     → ids ≡ ids_of posts parents → body ≡ body_of kind ids text → (nat_le time MAX_TIMESTAMP && nat_le (length body) MAX_BODY) ≡ false
     → IsMade (message_of groups posts group time parents text) (Err fault.Refused)
 unfit_refused groups posts ids group time kind parents text descriptor body there are is unfit =

@@ -7,7 +7,7 @@ use Rattle.sync_words.specs.declared.outcome.Outcome.{Outcome}
 use Rattle.sync_words.specs.declared.outcome.Outcome.TheVariants as outcome
 use Rattle.sync_world.specs.Playing.{ScriptComes}
 use Rattle.sync_world.specs.Asking.{Wanted, Wrong, Wants, answer_of}
-use Rattle.sync_world.specs.Replay.{PlaysOut, Prints, Replays}
+use Rattle.sync_world.specs.Replay.{PlaysOut, PrintsWorld, ReplaysWords}
 use Rattle.sync_world.specs.declared.player.Player.{Player}
 use Rattle.world_scripts.specs.Courses.{Opening, Bad, Opens}
 
@@ -38,7 +38,7 @@ unplayed what outcome.TooMuch out comes = (comes, idle out)
 unplayed what (outcome.BadScript line) out comes = (comes, idle out)
 
 -- a world that was played to its end is printed
-pub played : (what : Opening) (to : Player) (came : Outcome) (out out' : Stream) → ScriptComes what (Ok to) → Prints to out out' came → PlaysOut what out out' came
+pub played : (what : Opening) (to : Player) (came : Outcome) (out out' : Stream) → ScriptComes what (Ok to) → PrintsWorld to out out' came → PlaysOut what out out' came
 played what to outcome.Done out out' comes prints = record { to = to; played = comes; printed = prints }
 played what to outcome.WriteFault out out' comes prints = record { to = to; played = comes; printed = prints }
 played what to outcome.Memory out out' comes prints = prints
@@ -46,9 +46,9 @@ played what to _ out out' comes prints = absurd prints
 
 -- words that were not read
 pub misread : (words : Wanted) (result : Result (Unit {0}) Outcome) (came : Outcome) (input out : Stream) → IsErrAnd result (λ o. o ≡ came) → Err came ≡ answer_of words
-    → Replays words input input out out (came_to result)
+    → ReplaysWords words input input out out (came_to result)
 misread words (Ok u) came input out is asked = absurd is
 misread (Wrong place) (Err o) came input out is asked =
     let named : came ≡ outcome.Usage place = cc in
-    subst (λ (p : Outcome). Replays (Wrong place) input input out out p) (sym (is ∙ named)) (refl, idle input, idle out)
+    subst (λ (p : Outcome). ReplaysWords (Wrong place) input input out out p) (sym (is ∙ named)) (refl, idle input, idle out)
 misread (Wants what) (Err o) came input out is asked = absurd cc

@@ -10,17 +10,17 @@ use Rattle.world_links.specs.declared.moves.Side.TheVariants as side
 use Rattle.world_links.specs.Links.{all_carried, cut, moved}
 use Rattle.world_laws.specs.Moves.{Move as WorldMove, Carry, Cut, link_after, links_after, world_after}
 use Rattle.world_laws.specs.Theorem.{IsSoundWorld}
-use Rattle.world_laws.specs.Worlds.{AreSteps, End, IsStep, Journal, Link as RecordLink, World, last_of, new_end}
+use Rattle.world_laws.specs.Worlds.{AreSteps, End, IsStep, Journal, WorldLink as RecordLink, World, last_of, new_end}
 use Rattle.sync_world.specs.Cited.{WorldLaws}
-use Rattle.sync_world.specs.Shown.{MovesShown, MovesTo, Reaches, ShowsLink, ShowsLinks, arrived, carried, emptied_end, given_more, is_near, move_of, world_of}
+use Rattle.sync_world.specs.Shown.{MovesShown, MovesTo, ReachesWorld, ShowsLink, ShowsLinks, arrived, carried, emptied_end, given_more, is_near, move_of, world_of}
 use Rattle.sync_world.proofs.ShownMoves.{shown_carried, shown_cut_at, shown_moved_at}
 
 -- ---- steps
 
-pub reaches_none : (clients : Meaning) (w : World) → Reaches clients w w
+pub reaches_none : (clients : Meaning) (w : World) → ReachesWorld clients w w
 reaches_none clients w = record { worlds = []; steps = tt; last = refl }
 
-pub reaches_one : (clients : Meaning) (w w' : World) → IsStep clients w w' → Reaches clients w w'
+pub reaches_one : (clients : Meaning) (w w' : World) → IsStep clients w w' → ReachesWorld clients w w'
 reaches_one clients w w' step = record { worlds = w' ∷ []; steps = (step, tt); last = refl }
 
 steps_join : (clients : Meaning) (w : World) (first second : List World) → AreSteps clients w first → AreSteps clients (last_of w first) second → AreSteps clients w (first ++ second)
@@ -31,18 +31,18 @@ last_joined : (w : World) (first second : List World) → last_of w (first ++ se
 last_joined w [] second = refl
 last_joined w (x ∷ first) second = last_joined x first second
 
-pub reaches_then : (clients : Meaning) (a b c : World) → Reaches clients a b → Reaches clients b c → Reaches clients a c
+pub reaches_then : (clients : Meaning) (a b c : World) → ReachesWorld clients a b → ReachesWorld clients b c → ReachesWorld clients a c
 reaches_then clients a b c first second = record {
   worlds = first.worlds ++ second.worlds;
   steps = steps_join clients a first.worlds second.worlds first.steps (subst (λ (w : World). AreSteps clients w second.worlds) (sym first.last) second.steps);
   last = last_joined a first.worlds second.worlds ∙ (ap (λ (w : World). last_of w second.worlds) first.last ∙ second.last);
 }
 
-pub reaches_sound : WorldLaws → (clients : Meaning) (w w' : World) → Reaches clients w w' → IsSoundWorld clients w → IsSoundWorld clients w'
+pub reaches_sound : WorldLaws → (clients : Meaning) (w w' : World) → ReachesWorld clients w w' → IsSoundWorld clients w → IsSoundWorld clients w'
 reaches_sound laws clients w w' reached sound = subst (IsSoundWorld clients) reached.last (laws.steps clients w reached.worlds sound reached.steps)
 
 pub linked_reached : (clients : Meaning) (d e : ℕ) (js : List Journal) (xs : List RecordLink) → (d ≡ e → ⊥)
-    → Reaches clients (world_of js xs) (world_of js (xs ++ record { near = new_end d; far = new_end e } ∷ []))
+    → ReachesWorld clients (world_of js xs) (world_of js (xs ++ record { near = new_end d; far = new_end e } ∷ []))
 linked_reached clients d e js xs two =
     reaches_one clients (world_of js xs) (world_of js (xs ++ record { near = new_end d; far = new_end e } ∷ []))
     (inr (d, e, record { two = two; journals = refl; links = refl }))

@@ -14,7 +14,7 @@ use Rattle.sync_rules.specs.declared.states.Refused.TheVariants as refused
 use Rattle.sync_node.specs.Node.{NodeValue}
 use Rattle.world_devices.specs.Devices.{DeviceValue}
 use Rattle.world_devices.specs.Refusals.{RefusedBy, by_facts, facts_of, is_err, refuses_level, refuses_link}
-use Rattle.world_scripts.specs.Labels.{Pair}
+use Rattle.world_scripts.specs.Labels.{KindAndDescriptor}
 use Rattle.world_laws.specs.Worlds.{contact_for}
 use Rattle.sync_world.specs.Naming.{IsMade, group_of}
 use Rattle.sync_world.specs.Refusing.{KnowContacts, group_labelled, has_room, lacks, refuses_to_attach, refuses_with}
@@ -177,8 +177,8 @@ attach_allowed ds d e known other first second room = room_allows (slice_get ds 
 
 -- ---- a share
 
-pub labelled_made : (o : Option Pair) (kind : ℕ) (descriptor : List ℕ) (def : GroupValue) → o ≡ Some (kind, descriptor) → IsMade (group_of kind descriptor) (Ok def) → IsMade (group_labelled o) (Ok def)
-labelled_made o kind descriptor def is made = subst (λ (p : Option Pair). IsMade (group_labelled p) (Ok def)) (sym is) made
+pub labelled_made : (o : Option KindAndDescriptor) (kind : ℕ) (descriptor : List ℕ) (def : GroupValue) → o ≡ Some (kind, descriptor) → IsMade (group_of kind descriptor) (Ok def) → IsMade (group_labelled o) (Ok def)
+labelled_made o kind descriptor def is made = subst (λ (p : Option KindAndDescriptor). IsMade (group_labelled p) (Ok def)) (sym is) made
 
 is_there : (ds : List DeviceValue) (i : ℕ) → i < length ds → is_none (slice_get ds i) ≡ false
 is_there [] i within = absurd (omega arith)

@@ -11,8 +11,8 @@ use Rattle.sync_rules.proofs.Elements.{In-append_cases, In-append_left, In-appen
 use Rattle.sync_rules.specs.Facts.{Facts, after_all, facts}
 use Rattle.sync_rules.specs.Legal.{GoesOn}
 use Rattle.sync_rules.specs.Output.{sent}
-use Rattle.world_laws.specs.Worlds.{AllHeard, End, HasNoBrief, HasSession, IsHeard, Journal, Link as RecordLink, Runs, WasGiven, WayRuns, WaysRun, World, contact_for, journal_at, journal_in, link_in, way_in, way_of}
-use Rattle.sync_world.specs.Shown.{BeginsAt, EndRuns, IsGivenAt, LinkRuns, LinksRun, MovesTo, Reaches, emptied, emptied_end, given_on, heard_by, is_session, left_link, world_of}
+use Rattle.world_laws.specs.Worlds.{AllHeard, End, HasNoBrief, HasSession, IsHeard, Journal, WorldLink as RecordLink, RunsDevice, WasGiven, WayRuns, WaysRun, World, contact_for, journal_at, journal_in, link_in, way_in, way_of}
+use Rattle.sync_world.specs.Shown.{BeginsAt, EndRuns, IsGivenAt, RunsLinkOfDevice, LinksRun, MovesTo, ReachesWorld, emptied, emptied_end, given_on, heard_by, is_session, left_link, world_of}
 use Rattle.sync_world.proofs.ReachLaws.{reaches_one}
 
 -- ---- ends
@@ -52,13 +52,13 @@ end_begins d j other number more x own fresh known inside = record {
 
 -- ---- links
 
-pub link_same : (d : ℕ) (j : Journal) (x : RecordLink) → LinkRuns d j x x
+pub link_same : (d : ℕ) (j : Journal) (x : RecordLink) → RunsLinkOfDevice d j x x
 link_same d j x = record { near = end_same d j x.far.device x.near; far = end_same d j x.near.device x.far }
 
-pub link_near : (d : ℕ) (j : Journal) (x : RecordLink) (near : End) → EndRuns d j x.far.device x.near near → LinkRuns d j x (record { near = near; far = x.far })
+pub link_near : (d : ℕ) (j : Journal) (x : RecordLink) (near : End) → EndRuns d j x.far.device x.near near → RunsLinkOfDevice d j x (record { near = near; far = x.far })
 link_near d j x near runs = record { near = runs; far = end_same d j x.near.device x.far }
 
-pub link_far : (d : ℕ) (j : Journal) (x : RecordLink) (far : End) → EndRuns d j x.near.device x.far far → LinkRuns d j x (record { near = x.near; far = far })
+pub link_far : (d : ℕ) (j : Journal) (x : RecordLink) (far : End) → EndRuns d j x.near.device x.far far → RunsLinkOfDevice d j x (record { near = x.near; far = far })
 link_far d j x far runs = record { near = end_same d j x.far.device x.near; far = runs }
 
 begins_emptied : (d : ℕ) (j : Journal) (other : ℕ) (x y : End) → (y.session ≡ x.session) ⊎ BeginsAt d j other x y
@@ -75,14 +75,14 @@ runs_emptied d j other x y runs = record {
 }
 
 -- and is cut then
-pub link_emptied : (d : ℕ) (j : Journal) (x y : RecordLink) → LinkRuns d j x y → LinkRuns d j x (emptied y)
+pub link_emptied : (d : ℕ) (j : Journal) (x y : RecordLink) → RunsLinkOfDevice d j x y → RunsLinkOfDevice d j x (emptied y)
 link_emptied d j x y runs = record { near = runs_emptied d j x.far.device x.near y.near runs.near; far = runs_emptied d j x.near.device x.far y.far runs.far }
 
-link_if : (d : ℕ) (j : Journal) (x : RecordLink) (b : Bool) → LinkRuns d j x (if b then emptied x else x)
+link_if : (d : ℕ) (j : Journal) (x : RecordLink) (b : Bool) → RunsLinkOfDevice d j x (if b then emptied x else x)
 link_if d j x true = link_emptied d j x x (link_same d j x)
 link_if d j x false = link_same d j x
 
-pub link_left : (d : ℕ) (j : Journal) (x : RecordLink) → LinkRuns d j x (left_link d x)
+pub link_left : (d : ℕ) (j : Journal) (x : RecordLink) → RunsLinkOfDevice d j x (left_link d x)
 link_left d j x = link_if d j x ((x.near.device == d) || (x.far.device == d))
 
 way_of_ends : (d : ℕ) (j : Journal) (a b a' b' : End) → EndRuns d j b.device a a' → EndRuns d j a.device b b'
@@ -102,7 +102,7 @@ way_of_ends d j a b a' b' sends hears = record {
   given = λ r inside. inl (subst (λ (rs : List Record). In r rs) hears.given inside);
 }
 
-pub way_runs : (d : ℕ) (j : Journal) (near : Bool) (x y : RecordLink) → LinkRuns d j x y → WayRuns d j (way_of near x) (way_of near y)
+pub way_runs : (d : ℕ) (j : Journal) (near : Bool) (x y : RecordLink) → RunsLinkOfDevice d j x y → WayRuns d j (way_of near x) (way_of near y)
 way_runs d j true x y runs = way_of_ends d j x.near x.far y.near y.far runs.near runs.far
 way_runs d j false x y runs = way_of_ends d j x.far x.near y.far y.near runs.far runs.near
 
@@ -112,9 +112,9 @@ pub links_same : (d : ℕ) (j : Journal) (xs : List RecordLink) → LinksRun d j
 links_same d j [] = tt
 links_same d j (x ∷ xs) = (link_same d j x, links_same d j xs)
 
-pub links_set : (d : ℕ) (j : Journal) (i : ℕ) (xs : List RecordLink) (x y : RecordLink) → link_in xs i ≡ Some x → LinkRuns d j x y → LinksRun d j xs (slice_set xs i y)
+pub links_set : (d : ℕ) (j : Journal) (i : ℕ) (xs : List RecordLink) (x y : RecordLink) → link_in xs i ≡ Some x → RunsLinkOfDevice d j x y → LinksRun d j xs (slice_set xs i y)
 links_set d j i [] x y is runs = tt
-links_set d j zero (z ∷ xs) x y is runs = let same : z ≡ x = cc in (subst (λ (k : RecordLink). LinkRuns d j k y) (sym same) runs, links_same d j xs)
+links_set d j zero (z ∷ xs) x y is runs = let same : z ≡ x = cc in (subst (λ (k : RecordLink). RunsLinkOfDevice d j k y) (sym same) runs, links_same d j xs)
 links_set d j (suc i) (z ∷ xs) x y is runs = (link_same d j z, links_set d j i xs x y is runs)
 
 pub links_left : (d : ℕ) (j : Journal) (xs : List RecordLink) → LinksRun d j xs (map (left_link d) xs)
@@ -213,14 +213,14 @@ given_heard d session xs r given =
 record RunsAt (d : ℕ) (j : Journal) (x : RecordLink) (ys : List RecordLink) (i : ℕ) : Type 0 where
   link : RecordLink
   stands : link_in ys i ≡ Some link
-  runs : LinkRuns d j x link
+  runs : RunsLinkOfDevice d j x link
 
 runs_at : (d : ℕ) (j : Journal) (i : ℕ) (xs ys : List RecordLink) (x : RecordLink) → LinksRun d j xs ys → link_in xs i ≡ Some x → RunsAt d j x ys i
 runs_at d j i [] ys x runs is = cc
 runs_at d j i (z ∷ xs) [] x runs is = absurd runs
 runs_at d j zero (z ∷ xs) (y ∷ ys) x runs is =
     let same : z ≡ x = cc in
-    record { link = y; stands = refl; runs = subst (λ (k : RecordLink). LinkRuns d j k y) same runs.0 }
+    record { link = y; stands = refl; runs = subst (λ (k : RecordLink). RunsLinkOfDevice d j k y) same runs.0 }
 runs_at d j (suc i) (z ∷ xs) (y ∷ ys) x runs is =
     let later = runs_at d j i xs ys x runs.1 is in
     record { link = later.link; stands = later.stands; runs = later.runs }
@@ -235,7 +235,7 @@ given_on_stays d j other session x y r runs given = record {
   inside = subst (λ (rs : List Record). In r rs) (sym runs.given) given.inside;
 }
 
-receiver_stays : (d : ℕ) (j : Journal) (session : ℕ) (near : Bool) (x y : RecordLink) (r : Record) → LinkRuns d j x y → IsGivenOn d session (way_of near x).receiver r
+receiver_stays : (d : ℕ) (j : Journal) (session : ℕ) (near : Bool) (x y : RecordLink) (r : Record) → RunsLinkOfDevice d j x y → IsGivenOn d session (way_of near x).receiver r
     → IsGivenOn d session (way_of near y).receiver r
 receiver_stays d j session true x y r runs given = given_on_stays d j x.near.device session x.far y.far r runs.far given
 receiver_stays d j session false x y r runs given = given_on_stays d j x.far.device session x.near y.near r runs.near given
@@ -289,7 +289,7 @@ journal_set_other (k ∷ js) (suc d) j (suc e) other = journal_set_other js d j 
 pub device_runs : (clients : Meaning) (d : ℕ) (old new : World) (more : Journal) (heard : ℕ → List Record) → journal_at new d ≡ journal_at old d ++ more
     → GoesOn clients (facts (journal_at old d)) more → HasNoBrief more → ((e : ℕ) → (e ≡ d → ⊥) → journal_at new e ≡ journal_at old e)
     → AllHeard heard (facts (journal_at old d)) more → ((session : ℕ) (r : Record) → In r (heard session) → In r (heard_by d new.links session))
-    → LinksRun d (journal_at new d) old.links new.links → Runs clients d old new
+    → LinksRun d (journal_at new d) old.links new.links → RunsDevice clients d old new
 device_runs clients d old new more heard goes_on allowed plain others all_heard given links = record {
   more = more;
   goes_on = goes_on;
@@ -306,7 +306,7 @@ device_runs clients d old new more heard goes_on allowed plain others all_heard 
 pub run_reached : (clients : Meaning) (d : ℕ) (js : List Journal) (xs ys : List RecordLink) (j more : Journal) (heard : ℕ → List Record) → d < length js
     → j ≡ journal_in js d ++ more → GoesOn clients (facts (journal_in js d)) more → HasNoBrief more → AllHeard heard (facts (journal_in js d)) more
     → ((session : ℕ) (r : Record) → In r (heard session) → In r (heard_by d ys session)) → LinksRun d j xs ys
-    → Reaches clients (world_of js xs) (world_of (slice_set js d j) ys)
+    → ReachesWorld clients (world_of js xs) (world_of (slice_set js d j) ys)
 run_reached clients d js xs ys j more heard within goes_on allowed plain all_heard given links =
     let own : journal_in (slice_set js d j) d ≡ j = journal_set_own js d j within in
     reaches_one clients (world_of js xs) (world_of (slice_set js d j) ys)

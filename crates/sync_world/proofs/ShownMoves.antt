@@ -15,7 +15,7 @@ use Rattle.world_links.specs.Ends.{EndValue, new_end as byte_end}
 use Rattle.world_links.specs.Links.{all_carried, cut, given_too, joined, left_at, left_by, moved, with_flight}
 use Rattle.world_links.specs.Moves.{flight_after as bytes_after, given_by as bytes_given}
 use Rattle.world_laws.specs.Moves.{Cut, flight_after, given_by, link_after, links_after, other_after, sender_after}
-use Rattle.world_laws.specs.Worlds.{End, Link as RecordLink, new_end}
+use Rattle.world_laws.specs.Worlds.{End, WorldLink as RecordLink, new_end}
 use Rattle.sync_world.specs.Shown.{ShownAt, ShowsEnd, ShowsLink, ShowsLinks, carried, emptied, emptied_end, given_more, is_near, left_link, move_of}
 
 -- ---- records

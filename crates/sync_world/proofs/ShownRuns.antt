@@ -5,13 +5,13 @@ use Rattle.sync_ids.specs.declared.records.Record.{Record}
 use Rattle.sync_rules.specs.Clients.{Meaning}
 use Rattle.sync_rules.specs.Lists.{In}
 use Rattle.sync_rules.proofs.Elements.{In-append_right}
-use Rattle.sync_rules.specs.Facts.{Extends}
+use Rattle.sync_rules.specs.Facts.{ExtendsJournal}
 use Rattle.sync_rules.specs.Output.{sent}
 use Rattle.sync_node.specs.Output.{output}
 use Rattle.world_links.specs.declared.link.Link.{Link}
 use Rattle.world_links.specs.Ends.{EndValue}
 use Rattle.world_links.specs.Links.{cut, left_by}
-use Rattle.world_laws.specs.Worlds.{End, HasSession, Journal, Link as RecordLink, contact_for}
+use Rattle.world_laws.specs.Worlds.{End, HasSession, Journal, WorldLink as RecordLink, contact_for}
 use Rattle.sync_world.specs.Cited.{RecordLaws}
 use Rattle.sync_world.specs.Shown.{AreLike, EndRuns, IsEndLike, IsLinkLike, IsWithinJournal, ShownEndRuns, ShownLinkRuns, ShownLinksRun, ShowsEnd, ShowsLink, ShowsLinks, attached, emptied, emptied_end, left_link, looked}
 use Rattle.sync_world.proofs.LookLaws.{shown_attached, shown_looked_cut, shown_same}
@@ -48,7 +48,7 @@ sent_on_end d j other number more before e x own on parts s =
     end_sends d j other number more x (s.device ∙ own) (s.session ∙ on) (λ r inside. subst (In r) (sym parts) (In-append_right r before more inside))
 
 -- a look at what the session of an end sent, of which was seen what it had sent before; on a link that is cut nothing is seen
-pub end_looks : RecordLaws → (clients : Meaning) (d : ℕ) (j j' : Journal) (other number : ℕ) (cut : Bool) (e : EndValue) (x : End) → IsWithinJournal clients j' → Extends j' j
+pub end_looks : RecordLaws → (clients : Meaning) (d : ℕ) (j j' : Journal) (other number : ℕ) (cut : Bool) (e : EndValue) (x : End) → IsWithinJournal clients j' → ExtendsJournal j' j
     → e.device ≡ d → e.session ≡ Some number → (cut ≡ false → e.seen ≡ length (output j number)) → ShowsEnd e x
     → ShownEndRuns d j' other (looked cut (output j' number) e) x
 end_looks laws clients d j j' other number true e x is extends own on seen s =

@@ -12,7 +12,7 @@ use Rattle.world_links.specs.declared.moves.Side.{Side}
 use Rattle.world_links.specs.declared.moves.Side.TheVariants as side
 use Rattle.world_links.specs.Ends.{new_end as byte_end}
 use Rattle.world_links.specs.Links.{end_of, left_by}
-use Rattle.world_laws.specs.Worlds.{Journal, Link as RecordLink, journal_in, new_end}
+use Rattle.world_laws.specs.Worlds.{Journal, WorldLink as RecordLink, journal_in, new_end}
 use Rattle.sync_world.specs.Cited.{RecordLaws, WorldLaws}
 use Rattle.sync_world.specs.Shown.{AddsHeard, AreLike, IsFrontAt, IsGivenAt, IsNewJournal, MovesShown, ShownAt, ShownLinksRun, ShowsLinks, ShowsSound, WasHeardAt, heard_by, heard_in_run, left_link, world_of}
 use Rattle.sync_world.proofs.FirstLaws.{first_sound}

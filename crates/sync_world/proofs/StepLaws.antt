@@ -7,7 +7,7 @@ use Rattle.world_devices.specs.Cited.{SentGrows}
 use Rattle.world_devices.specs.Devices.{DeviceValue}
 use Rattle.world_devices.specs.Linking.{AddsLink, DeviceLinksStand, IsUnlinked, KeepsLinks, LinksBy, LinksByAttach, LinksByTurn}
 use Rattle.world_devices.specs.Refusals.{IsNotRefused}
-use Rattle.world_devices.specs.Running.{DeviceRuns, Reads}
+use Rattle.world_devices.specs.Running.{DeviceRuns, ReadsAsJournal}
 use Rattle.world_devices.specs.declared.stop.Ran.{Ran}
 use Rattle.world_devices.specs.declared.stop.Ran.TheVariants as ran
 use Rattle.world_devices.specs.declared.stop.StepFault.{StepFault}
@@ -18,8 +18,8 @@ use Rattle.world_links.specs.declared.moves.Side.{Side}
 use Rattle.world_links.specs.declared.moves.Side.TheVariants as side
 use Rattle.world_links.specs.declared.link.Link.{Link}
 use Rattle.sync_world.specs.Cited.{RecordLaws}
-use Rattle.sync_world.specs.Staging.{HasFreshEnd, IsDone, PlansAll, SameFiles, after_ran, attached_at, attached_from, begun_with, new_link}
-use Rattle.sync_world.specs.Standing.{AreRead, Goes, IsShown, LeadsOn, is_fatal}
+use Rattle.sync_world.specs.Staging.{HasFreshEnd, IsCallMade, PlansAll, SameFiles, after_ran, attached_at, attached_from, begun_with, new_link}
+use Rattle.sync_world.specs.Standing.{AreRead, LeadsFromShown, IsShown, LeadsOn, is_fatal}
 use Rattle.sync_world.specs.Turning.{look_link}
 use Rattle.sync_world.specs.declared.stage.Stage.{Stage}
 use Rattle.sync_world.proofs.GoLaws.{call_came, call_failed, crashed_leads, failed_leads, holds_reads, kept_leads, leads_then, stays}
@@ -31,10 +31,10 @@ use Rattle.sync_world.proofs.ReachLaws.{reaches_none}
 use Rattle.sync_world.proofs.WireLaws.{AllMove, LinkMoves, all_set, all_stay, end_stays, forth, get_at, get_cases, get_set, link_stays, set_again, set_length}
 use Rattle.client_basic.specs.Bodies.{bundle_meaning}
 
-pub goes_then : (f : Bool) (a b c : Stage) → Goes false a b → Goes f b c → Goes f a c
+pub goes_then : (f : Bool) (a b c : Stage) → LeadsFromShown false a b → LeadsFromShown f b c → LeadsFromShown f a c
 goes_then f a b c first second = λ w s. leads_then w f b.devices.items c.devices.items b.links.items c.links.items (first w s) second
 
-pub goes_none : (a : Stage) → Goes false a a
+pub goes_none : (a : Stage) → LeadsFromShown false a a
 goes_none a = λ w s. stays w a.devices.items a.links.items s
 
 pub unrefused_same : {A : Type 0} (e : StepFault) (old new : A) → IsNotRefused {A = Unit {0}} (Err e) → e ≡ fault.Refused → new ≡ old
@@ -215,13 +215,13 @@ fatal_is fault.Memory kept = refl
 
 -- ---- a turn: plans, and the call
 
-read_same : (w : World) (devices : List DeviceValue) (links : List Link) (d : ℕ) (new : DeviceValue) → IsShown w devices links → Reads (journal_at w d) new.host
+read_same : (w : World) (devices : List DeviceValue) (links : List Link) (d : ℕ) (new : DeviceValue) → IsShown w devices links → ReadsAsJournal (journal_at w d) new.host
     → AreRead w.journals (slice_set devices d new)
 read_same w devices links d new s reads = record {
   same_number = s.up.same_number ∙ sym (set_length devices d new);
   each = λ e x is.
       elim (get_cases devices d e new x is) [
-        | inl (same, here) ↦ subst (λ (n : ℕ). Reads (journal_at w n) x.host) (sym same) (subst (λ (y : DeviceValue). Reads (journal_at w d) y.host) here reads)
+        | inl (same, here) ↦ subst (λ (n : ℕ). ReadsAsJournal (journal_at w n) x.host) (sym same) (subst (λ (y : DeviceValue). ReadsAsJournal (journal_at w d) y.host) here reads)
         | inr (apart, was) ↦ holds_reads (journal_at w e) x.host (s.up.each e x was).holds
       ];
 }
@@ -323,5 +323,5 @@ pub far_pushed : (d e n : ℕ) (ls ls' : List Link) → (d ≡ e → ⊥) → n 
 far_pushed d e n ls ls' two is pushed =
     subst (λ (x : List Link). HasFreshEnd e d n x) (sym pushed) (subst (λ (k : ℕ). HasFreshEnd e d k (ls ++ new_link d e ∷ [])) (sym is) (far_fresh d e ls two))
 
-pub was_done : (r : Ran) → r ≡ ran.Done → IsDone {E = StepFault} (Ok r)
-was_done r is = subst (λ (x : Ran). IsDone {E = StepFault} (Ok x)) (sym is) tt
+pub was_done : (r : Ran) → r ≡ ran.Done → IsCallMade {E = StepFault} (Ok r)
+was_done r is = subst (λ (x : Ran). IsCallMade {E = StepFault} (Ok x)) (sym is) tt

@@ -3,7 +3,7 @@ use Rattle.std.proofs.Common.{◌≡◌, ℕ, zero, suc, ◌+◌, ◌<◌, Bool,
 use Rattle.std.proofs.lemmas.Bool.{cases_eq}
 use Rattle.std.specs.Prelude.{slice_get}
 use Rattle.std.specs.Io.KnownBytes.{Appends}
-use Rattle.outside.specs.Faults.{Rose}
+use Rattle.outside.specs.Faults.{CountRose}
 use Rattle.outside.specs.Files.{Two, File, read_files}
 use Rattle.outside.specs.HostTold.{host_told}
 use Rattle.outside.specs.MemDisk.{disk_files, files_of}
@@ -16,7 +16,7 @@ use Rattle.sync_node.specs.Node.{NodeValue}
 use Rattle.world_laws.specs.Worlds.{Journal, journal_in}
 use Rattle.world_devices.specs.Devices.{DeviceValue}
 use Rattle.world_devices.specs.Linking.{DeviceLinksStand}
-use Rattle.world_devices.specs.Running.{Holds, Reads}
+use Rattle.world_devices.specs.Running.{HoldsAfterCrash, ReadsAsJournal}
 use Rattle.sync_world.specs.Replay.{IsText, PrintsAll, PrintsFront}
 use Rattle.sync_world.specs.Showing.{device_lines, facts_of, facts_of_node, is_marked, journal_lines, lines_below, lines_then, player_lines}
 use Rattle.sync_world.specs.Standing.{AllLinksStand, AreRead, AreTold, IsManyDevices}
@@ -28,7 +28,7 @@ journal_same : (j k : Journal) → ◌≡◌ {A = Standing} (journal j) (journal
 journal_same j k same = cc
 
 -- files that hold a journal read as it
-read_held : (h : MemHostValue) (j k : Journal) → Holds j h → Reads k h → j ≡ k
+read_held : (h : MemHostValue) (j k : Journal) → HoldsAfterCrash j h → ReadsAsJournal k h → j ≡ k
 read_held h j k holds reads =
     let two : Two File = files_of (disk_files h.disk) in
     let first : stands bundle_meaning (read_files two) ≡ journal j = holds.each two refl (read_files two) ((host_told h).reads two refl) in
@@ -115,7 +115,7 @@ prints_all p text given out out' are run same appended = record {
 }
 
 pub prints_front : (p : Player) (text given : List ℕ) (out out' : Stream) → IsManyDevices p.world.devices.items → player_lines p ≡ Some text → given ≡ text
-    → Rose out.faults out'.faults → GetsFront out out' given → PrintsFront p out out'
+    → CountRose out.faults out'.faults → GetsFront out out' given → PrintsFront p out out'
 prints_front p text given out out' are run same rose got = record {
   text = text;
   is = text_of_journals p text are run;

@@ -12,7 +12,7 @@ use Rattle.sync_rules.specs.Output.{sent}
 use Rattle.sync_node.specs.declared.link.Link.{Link as NodeLink}
 use Rattle.sync_node.specs.Node.{NodeValue}
 use Rattle.sync_node.specs.Output.{output}
-use Rattle.world_laws.specs.Worlds.{End, Journal, Link as RecordLink}
+use Rattle.world_laws.specs.Worlds.{End, Journal, WorldLink as RecordLink}
 use Rattle.world_devices.specs.Brought.{sent_by}
 use Rattle.world_devices.specs.Devices.{DeviceValue}
 use Rattle.world_devices.specs.Linking.{LinksStand, end_at, end_in, is_shut}
@@ -22,7 +22,7 @@ use Rattle.world_links.specs.declared.link.Link.{Link}
 use Rattle.world_links.specs.declared.moves.Side.TheVariants as side
 use Rattle.sync_world.specs.Cited.{RecordLaws}
 use Rattle.sync_world.specs.Shown.{IsWithinJournal, ShownEndRuns, ShownLinkRuns, ShownLinksRun, ShowsEnd, ShowsLink, ShowsLinks, looked}
-use Rattle.sync_world.specs.Standing.{ArePlaced, AreWired, IsWired, SeenBy, own_end, place_in, place_on}
+use Rattle.sync_world.specs.Standing.{ArePlaced, AreWired, IsEndWired, SeenBy, own_end, place_in, place_on}
 use Rattle.sync_world.specs.Turning.{cut_if, look_at, look_link, look_side, shut_at}
 use Rattle.sync_world.proofs.LookLaws.{looked_end, sent_limits, shown_looked_cut}
 use Rattle.sync_world.proofs.OutputLaws.{output_is}
@@ -93,7 +93,7 @@ stands_at n device j a runs stand below =
     }
 
 -- the session of an end that is wired
-session_number : (n : NodeValue) (device : DeviceValue) (j : Journal) (is_cut : Bool) (e : EndValue) (a : ℕ) → device.node ≡ Some n → IsWired j device is_cut e a
+session_number : (n : NodeValue) (device : DeviceValue) (j : Journal) (is_cut : Bool) (e : EndValue) (a : ℕ) → device.node ≡ Some n → IsEndWired j device is_cut e a
     → e.session ≡ Some (n.first + a)
 session_number n device j is_cut e a runs w = w.session ∙ ap (λ (o : Option NodeValue). option_map (λ (m : NodeValue). m.first + a) o) runs
 
@@ -228,28 +228,28 @@ module _ (laws : RecordLaws) (d : ℕ) (j : Journal) (n : NodeValue) (device : D
   limits : IsWithinJournal bundle_meaning j
   limits = record { legal = stand.legal; within = stand.within }
 
-  sees : (other a : ℕ) (is_cut : Bool) (e : EndValue) (x : End) → e.device ≡ d → IsWired j device is_cut e a → sent_by device.host a ≡ output j (n.first + a) → ShowsEnd e x
+  sees : (other a : ℕ) (is_cut : Bool) (e : EndValue) (x : End) → e.device ≡ d → IsEndWired j device is_cut e a → sent_by device.host a ≡ output j (n.first + a) → ShowsEnd e x
       → ShownEndRuns d j other (looked is_cut (sent_by device.host a) e) x
   sees other a is_cut e x own w sent s =
       let on : e.session ≡ Some (n.first + a) = session_number n device j is_cut e a runs w in
       subst (λ (bytes : List ℕ). ShownEndRuns d j other (looked is_cut bytes e) x) (sym sent)
       (end_sees laws d j other (n.first + a) is_cut e x limits own on (λ uncut. w.seen uncut (n.first + a) on) s)
 
-  near_by : (a : ℕ) (l : Link) (x : RecordLink) (shut : Bool) → l.near.device ≡ d → IsWired j device l.is_cut l.near a
+  near_by : (a : ℕ) (l : Link) (x : RecordLink) (shut : Bool) → l.near.device ≡ d → IsEndWired j device l.is_cut l.near a
       → (shut ≡ false → sent_by device.host a ≡ output j (n.first + a)) → ShowsLink l x
       → ShownLinkRuns d j (cut_if shut (record l { near = looked l.is_cut (sent_by device.host a) l.near })) x
   near_by a l x true own w sent s = link_drops_near d j (flight_behind l.is_cut (sent_by device.host a) l.near) (length (sent_by device.host a)) l x s
   near_by a l x false own w sent s =
       link_runs_near d j l (looked l.is_cut (sent_by device.host a) l.near) x s (sees l.far.device a l.is_cut l.near x.near own w (sent refl) s.near)
 
-  far_by : (a : ℕ) (l : Link) (x : RecordLink) (shut : Bool) → l.far.device ≡ d → IsWired j device l.is_cut l.far a
+  far_by : (a : ℕ) (l : Link) (x : RecordLink) (shut : Bool) → l.far.device ≡ d → IsEndWired j device l.is_cut l.far a
       → (shut ≡ false → sent_by device.host a ≡ output j (n.first + a)) → ShowsLink l x
       → ShownLinkRuns d j (cut_if shut (record l { far = looked l.is_cut (sent_by device.host a) l.far })) x
   far_by a l x true own w sent s = link_drops_far d j (flight_behind l.is_cut (sent_by device.host a) l.far) (length (sent_by device.host a)) l x s
   far_by a l x false own w sent s =
       link_runs_far d j l (looked l.is_cut (sent_by device.host a) l.far) x s (sees l.near.device a l.is_cut l.far x.far own w (sent refl) s.far)
 
-  near_shows : (at : Option ℕ) (l : Link) (x : RecordLink) → l.near.device ≡ d → ((a : ℕ) → at ≡ Some a → IsWired j device l.is_cut l.near a) → ShowsLink l x
+  near_shows : (at : Option ℕ) (l : Link) (x : RecordLink) → l.near.device ≡ d → ((a : ℕ) → at ≡ Some a → IsEndWired j device l.is_cut l.near a) → ShowsLink l x
       → ShownLinkRuns d j (cut_if (shut_at device at) (record l { near = look_at device l.is_cut at l.near })) x
   near_shows None l x own wired s = link_stays d j l x s
   near_shows (Some a) l x own wired s =
@@ -258,7 +258,7 @@ module _ (laws : RecordLaws) (d : ℕ) (j : Journal) (n : NodeValue) (device : D
       subst (λ (b : Bool). ShownLinkRuns d j (cut_if b (record l { near = looked l.is_cut (sent_by device.host a) l.near })) x) (sym stands.is)
       (near_by a l x stands.shut own w stands.sent s)
 
-  far_shows : (at : Option ℕ) (l : Link) (x : RecordLink) → l.far.device ≡ d → ((a : ℕ) → at ≡ Some a → IsWired j device l.is_cut l.far a) → ShowsLink l x
+  far_shows : (at : Option ℕ) (l : Link) (x : RecordLink) → l.far.device ≡ d → ((a : ℕ) → at ≡ Some a → IsEndWired j device l.is_cut l.far a) → ShowsLink l x
       → ShownLinkRuns d j (cut_if (shut_at device at) (record l { far = look_at device l.is_cut at l.far })) x
   far_shows None l x own wired s = link_stays d j l x s
   far_shows (Some a) l x own wired s =
@@ -298,8 +298,8 @@ module _ (laws : RecordLaws) (d : ℕ) (j : Journal) (n : NodeValue) (device : D
     counted = ap length (sent_is ∙ (ap (output j) (sym same) ∙ output_is j number));
   }
 
-  seen_wired : (a : ℕ) (is_cut : Bool) (e : EndValue) → IsWired j device is_cut e a → sent_by device.host a ≡ output j (n.first + a)
-      → IsWired j device is_cut (looked is_cut (sent_by device.host a) e) a
+  seen_wired : (a : ℕ) (is_cut : Bool) (e : EndValue) → IsEndWired j device is_cut e a → sent_by device.host a ≡ output j (n.first + a)
+      → IsEndWired j device is_cut (looked is_cut (sent_by device.host a) e) a
   seen_wired a is_cut e w sent_is = record {
     below = w.below;
     session = w.session;
@@ -309,29 +309,29 @@ module _ (laws : RecordLaws) (d : ℕ) (j : Journal) (n : NodeValue) (device : D
         seen_all a number (some_same number (n.first + a) both) sent_is;
   }
 
-  shut_wired : (a seen : ℕ) (is_cut : Bool) (e : EndValue) → IsWired j device is_cut e a → IsWired j device true (record e { flight = []; seen = seen }) a
+  shut_wired : (a seen : ℕ) (is_cut : Bool) (e : EndValue) → IsEndWired j device is_cut e a → IsEndWired j device true (record e { flight = []; seen = seen }) a
   shut_wired a seen is_cut e w = record { below = w.below; session = w.session; brought = w.brought; seen = λ uncut. absurd (false≢true (sym uncut)) }
 
-  near_wired : (a : ℕ) (l : Link) (shut : Bool) → IsWired j device l.is_cut l.near a → (shut ≡ false → sent_by device.host a ≡ output j (n.first + a))
-      → IsWired j device (cut_if shut (record l { near = looked l.is_cut (sent_by device.host a) l.near })).is_cut
+  near_wired : (a : ℕ) (l : Link) (shut : Bool) → IsEndWired j device l.is_cut l.near a → (shut ≡ false → sent_by device.host a ≡ output j (n.first + a))
+      → IsEndWired j device (cut_if shut (record l { near = looked l.is_cut (sent_by device.host a) l.near })).is_cut
       (cut_if shut (record l { near = looked l.is_cut (sent_by device.host a) l.near })).near a
   near_wired a l true w sent_is = shut_wired a (length (sent_by device.host a)) l.is_cut l.near w
   near_wired a l false w sent_is = seen_wired a l.is_cut l.near w (sent_is refl)
 
-  far_wired : (a : ℕ) (l : Link) (shut : Bool) → IsWired j device l.is_cut l.far a → (shut ≡ false → sent_by device.host a ≡ output j (n.first + a))
-      → IsWired j device (cut_if shut (record l { far = looked l.is_cut (sent_by device.host a) l.far })).is_cut
+  far_wired : (a : ℕ) (l : Link) (shut : Bool) → IsEndWired j device l.is_cut l.far a → (shut ≡ false → sent_by device.host a ≡ output j (n.first + a))
+      → IsEndWired j device (cut_if shut (record l { far = looked l.is_cut (sent_by device.host a) l.far })).is_cut
       (cut_if shut (record l { far = looked l.is_cut (sent_by device.host a) l.far })).far a
   far_wired a l true w sent_is = shut_wired a (length (sent_by device.host a)) l.is_cut l.far w
   far_wired a l false w sent_is = seen_wired a l.is_cut l.far w (sent_is refl)
 
   -- the end of the device is this one
-  one_wired : (l : Link) (e : EndValue) (a : ℕ) → own_end d l ≡ Some e → e.at ≡ Some a → IsWired j device l.is_cut e a → LinkWired j d device l
+  one_wired : (l : Link) (e : EndValue) (a : ℕ) → own_end d l ≡ Some e → e.at ≡ Some a → IsEndWired j device l.is_cut e a → LinkWired j d device l
   one_wired l e a own here w e' a' own' here' =
       let same : e ≡ e' = some_same e e' (sym own ∙ own') in
       let place : a ≡ a' = some_same a a' (sym here ∙ (ap (λ (x : EndValue). x.at) same ∙ here')) in
-      subst₂ (λ (x : EndValue) (k : ℕ). IsWired j device l.is_cut x k) same place w
+      subst₂ (λ (x : EndValue) (k : ℕ). IsEndWired j device l.is_cut x k) same place w
 
-  near_stays_wired : (a : ℕ) (l : Link) (shut : Bool) → l.near.device ≡ d → l.near.at ≡ Some a → IsWired j device l.is_cut l.near a
+  near_stays_wired : (a : ℕ) (l : Link) (shut : Bool) → l.near.device ≡ d → l.near.at ≡ Some a → IsEndWired j device l.is_cut l.near a
       → (shut ≡ false → sent_by device.host a ≡ output j (n.first + a)) → LinkWired j d device (cut_if shut (record l { near = looked l.is_cut (sent_by device.host a) l.near }))
   near_stays_wired a l true own here w sent_is =
       let l' : Link = cut (record l { near = looked l.is_cut (sent_by device.host a) l.near }) in
@@ -340,7 +340,7 @@ module _ (laws : RecordLaws) (d : ℕ) (j : Journal) (n : NodeValue) (device : D
       let l' : Link = record l { near = looked l.is_cut (sent_by device.host a) l.near } in
       one_wired l' l'.near a (own_near d l' own) here (near_wired a l false w sent_is)
 
-  far_stays_wired : (a : ℕ) (l : Link) (shut : Bool) → (l.near.device ≡ d → ⊥) → l.far.device ≡ d → l.far.at ≡ Some a → IsWired j device l.is_cut l.far a
+  far_stays_wired : (a : ℕ) (l : Link) (shut : Bool) → (l.near.device ≡ d → ⊥) → l.far.device ≡ d → l.far.at ≡ Some a → IsEndWired j device l.is_cut l.far a
       → (shut ≡ false → sent_by device.host a ≡ output j (n.first + a)) → LinkWired j d device (cut_if shut (record l { far = looked l.is_cut (sent_by device.host a) l.far }))
   far_stays_wired a l true other own here w sent_is =
       let l' : Link = cut (record l { far = looked l.is_cut (sent_by device.host a) l.far }) in

@@ -8,7 +8,7 @@ use Rattle.outside.specs.declared.answer.Answer.{Answer}
 use Rattle.sync_node.specs.declared.node.Plan.{Plan}
 use Rattle.sync_rules.specs.declared.entries.Mode.{Mode}
 use Rattle.world_devices.specs.Devices.{DeviceValue}
-use Rattle.world_devices.specs.Doing.{Attaches, Turns, with_plan}
+use Rattle.world_devices.specs.Doing.{DeviceBeginsSession, DeviceMakesTurn, with_plan}
 use Rattle.world_devices.specs.Linking.{DeviceLinksStand, asks, end_at}
 use Rattle.world_devices.specs.declared.stop.Ran.{Ran}
 use Rattle.world_devices.specs.declared.stop.Ran.TheVariants as ran
@@ -22,7 +22,7 @@ use Rattle.world_links.specs.declared.link.Link.{Link}
 use Rattle.world_links.specs.declared.moves.Side.{Side}
 use Rattle.world_links.specs.declared.moves.Side.TheVariants as side
 use Rattle.world_scripts.specs.declared.step.WorldStep.{WorldStep}
-use Rattle.sync_world.specs.Doing.{AttachesOn, CrashesOn, DoesBy, EndsOn, Fills, FillsAttaching, FillsLinking, FillsTurning, Ground, LeavesBy, LinksTwo, PlansEndBy, PlansEndOn, PlansLinkOn, PlansLinksOn, PlansSideOn, TurnsOnce, dialled, is_asked_at, plan_of, turned_links, with_answer}
+use Rattle.sync_world.specs.Doing.{AttachesOn, CrashesOn, DoesBy, EndsOn, FillsJournal, FillsAttaching, FillsLinking, FillsTurning, Ground, LeavesBy, LinksTwo, PlansEndBy, PlansEndOn, PlansLinkOn, PlansLinksOn, PlansSideOn, TurnsOnce, dialled, is_asked_at, plan_of, turned_links, with_answer}
 use Rattle.sync_world.specs.Naming.{nonce_of}
 use Rattle.sync_world.specs.Parts.{AttachesBy, DialsBy, TurnsBy, WhenFull}
 use Rattle.sync_world.specs.Staging.{begun_with, new_link}
@@ -115,27 +115,27 @@ front_all (suc n) d old new (x ∷ xs) (y ∷ ys) front all same = (front.0, fro
 -- ---- answers that are handed on
 
 -- a fault of one call is that of the other one
-pub handed : {A : Type 0} (By : Result A StepFault → Type 0) (Fills : Type 0) (r : Result A StepFault) (e : StepFault) → ((f : StepFault) → WhenFull f Fills → By (Err f))
-    → IsErrAnd r (λ y. y ≡ e) → WhenFull e Fills → By r
-handed By Fills (Ok a) e faulty is when = absurd is
-handed By Fills (Err f) e faulty is when = faulty f (subst (λ (x : StepFault). WhenFull x Fills) (sym is) when)
+pub handed : {A : Type 0} (By : Result A StepFault → Type 0) (FillsJournal : Type 0) (r : Result A StepFault) (e : StepFault) → ((f : StepFault) → WhenFull f FillsJournal → By (Err f))
+    → IsErrAnd r (λ y. y ≡ e) → WhenFull e FillsJournal → By r
+handed By FillsJournal (Ok a) e faulty is when = absurd is
+handed By FillsJournal (Err f) e faulty is when = faulty f (subst (λ (x : StepFault). WhenFull x FillsJournal) (sym is) when)
 
-pub when_full : (Fills Fills' : Type 0) (e : StepFault) → (Fills → Fills') → WhenFull e Fills → WhenFull e Fills'
-when_full Fills Fills' fault.Refused turns when = tt
-when_full Fills Fills' fault.Full turns when = turns when
-when_full Fills Fills' fault.Memory turns when = tt
+pub when_full : (FillsJournal Fills' : Type 0) (e : StepFault) → (FillsJournal → Fills') → WhenFull e FillsJournal → WhenFull e Fills'
+when_full FillsJournal Fills' fault.Refused turns when = tt
+when_full FillsJournal Fills' fault.Full turns when = turns when
+when_full FillsJournal Fills' fault.Memory turns when = tt
 
 -- only memory was wanting
-pub memory_only : (Fills : Type 0) (e : StepFault) → e ≡ fault.Memory → WhenFull e Fills
-memory_only Fills e is = subst (λ (f : StepFault). WhenFull f Fills) (sym is) tt
+pub memory_only : (FillsJournal : Type 0) (e : StepFault) → e ≡ fault.Memory → WhenFull e FillsJournal
+memory_only FillsJournal e is = subst (λ (f : StepFault). WhenFull f FillsJournal) (sym is) tt
 
-pub does_fault : (made : WorldStep) (old new : Stage) (f : StepFault) → WhenFull f (Fills made old) → LeavesBy made old new.devices.items → DoesBy made (Err f) old new
+pub does_fault : (made : WorldStep) (old new : Stage) (f : StepFault) → WhenFull f (FillsJournal made old) → LeavesBy made old new.devices.items → DoesBy made (Err f) old new
 does_fault made old new fault.Refused when leaves = tt
 does_fault made old new fault.Full when leaves = (when, leaves)
 does_fault made old new fault.Memory when leaves = leaves
 
-pub does_handed : (made : WorldStep) (r : Result (Unit {0}) StepFault) (e : StepFault) (old new : Stage) → IsErrAnd r (λ y. y ≡ e) → WhenFull e (Fills made old) → LeavesBy made old new.devices.items → DoesBy made r old new
-does_handed made r e old new is when leaves = handed (λ x. DoesBy made x old new) (Fills made old) r e (λ f w. does_fault made old new f w leaves) is when
+pub does_handed : (made : WorldStep) (r : Result (Unit {0}) StepFault) (e : StepFault) (old new : Stage) → IsErrAnd r (λ y. y ≡ e) → WhenFull e (FillsJournal made old) → LeavesBy made old new.devices.items → DoesBy made r old new
+does_handed made r e old new is when leaves = handed (λ x. DoesBy made x old new) (FillsJournal made old) r e (λ f w. does_fault made old new f w leaves) is when
 
 pub attaches_handed : (d link : ℕ) (plan : Plan) (nonce : Option (List ℕ)) (r : Result Ran StepFault) (e : StepFault) (old new : Ground) → IsErrAnd r (λ y. y ≡ e)
     → WhenFull e (FillsAttaching d plan nonce old) → AttachesBy d link plan nonce r old new
@@ -155,7 +155,7 @@ module _ (d link : ℕ) (plan : Plan) (nonce : Option (List ℕ)) (devices : Lis
   begins_at : slice_get devices d ≡ Some was
   begins_at = get_at devices d was within at
 
-  pub attach_done : (o : Option ℕ) (session number : ℕ) (links' : List Link) → o ≡ Some session → Attaches plan nonce (Ok o) was is → DeviceLinksStand is → number ≡ was.links
+  pub attach_done : (o : Option ℕ) (session number : ℕ) (links' : List Link) → o ≡ Some session → DeviceBeginsSession plan nonce (Ok o) was is → DeviceLinksStand is → number ≡ was.links
       → links' ≡ map (look_link d is) (begun_with d number session link (slice_get links link) links)
       → AttachesOn d link plan nonce (record { devices = devices; links = links }) (record { devices = slice_set devices d is; links = links' })
   attach_done o session number links' some did sent same written = record {
@@ -163,24 +163,24 @@ module _ (d link : ℕ) (plan : Plan) (nonce : Option (List ℕ)) (devices : Lis
     is = is;
     session = session;
     stands = begins_at;
-    did = subst (λ (x : Option ℕ). Attaches plan nonce (Ok x) was is) some did;
+    did = subst (λ (x : Option ℕ). DeviceBeginsSession plan nonce (Ok x) was is) some did;
     sent = sent;
     devices = refl;
     links = written ∙ ap (λ (n : ℕ). map (look_link d is) (begun_with d n session link (slice_get links link) links)) same;
   }
 
-  pub attach_broken : (o : Option ℕ) (devices' : List DeviceValue) (links' : List Link) → o ≡ None → Attaches plan nonce (Ok o) was is → devices' ≡ slice_set devices d is
+  pub attach_broken : (o : Option ℕ) (devices' : List DeviceValue) (links' : List Link) → o ≡ None → DeviceBeginsSession plan nonce (Ok o) was is → devices' ≡ slice_set devices d is
       → links' ≡ map (left_by d) links → CrashesOn d plan nonce (record { devices = devices; links = links }) (record { devices = devices'; links = links' })
   attach_broken o devices' links' none did now gone = record {
     was = was;
     is = is;
     stands = begins_at;
-    did = subst (λ (x : Option ℕ). Attaches plan nonce (Ok x) was is) none did;
+    did = subst (λ (x : Option ℕ). DeviceBeginsSession plan nonce (Ok x) was is) none did;
     devices = now;
     links = gone;
   }
 
-  pub attach_fault : (e : StepFault) → Attaches plan nonce (Err e) was is → WhenFull e (FillsAttaching d plan nonce (record { devices = devices; links = links }))
+  pub attach_fault : (e : StepFault) → DeviceBeginsSession plan nonce (Err e) was is → WhenFull e (FillsAttaching d plan nonce (record { devices = devices; links = links }))
   attach_fault fault.Refused did = tt
   attach_fault fault.Full did = record { was = was; is = is; stands = begins_at; fills = did }
   attach_fault fault.Memory did = tt
@@ -195,7 +195,7 @@ module _ (d : ℕ) (devices : List DeviceValue) (links planned_from links_planne
   plans_here : PlansLinksOn d was planned links links_planned
   plans_here = subst (λ (ls : List Link). PlansLinksOn d was planned ls links_planned) from plans
 
-  pub turn_made : (o came : Option Bool) (devices' : List DeviceValue) (links' : List Link) → o ≡ came → Turns (Ok o) planned is → (is_some came ≡ true → DeviceLinksStand is) → devices' ≡ slice_set devices d is
+  pub turn_made : (o came : Option Bool) (devices' : List DeviceValue) (links' : List Link) → o ≡ came → DeviceMakesTurn (Ok o) planned is → (is_some came ≡ true → DeviceLinksStand is) → devices' ≡ slice_set devices d is
       → links' ≡ turned_links d came is links_planned → TurnsOnce d came (record { devices = devices; links = links }) (record { devices = devices'; links = links' })
   turn_made o came devices' links' same did sent now are = record {
     was = was;
@@ -204,13 +204,13 @@ module _ (d : ℕ) (devices : List DeviceValue) (links planned_from links_planne
     links_planned = links_planned;
     stands = turns_at;
     plans = plans_here;
-    did = subst (λ (x : Option Bool). Turns (Ok x) planned is) same did;
+    did = subst (λ (x : Option Bool). DeviceMakesTurn (Ok x) planned is) same did;
     sent = sent;
     devices = now;
     links = are;
   }
 
-  pub turn_fault : (e : StepFault) → Turns (Err e) planned is → WhenFull e (FillsTurning d (record { devices = devices; links = links }))
+  pub turn_fault : (e : StepFault) → DeviceMakesTurn (Err e) planned is → WhenFull e (FillsTurning d (record { devices = devices; links = links }))
   turn_fault fault.Refused did = tt
   turn_fault fault.Full did = record { was = was; planned = planned; is = is; links_planned = links_planned; stands = turns_at; plans = plans_here; fills = did }
   turn_fault fault.Memory did = tt

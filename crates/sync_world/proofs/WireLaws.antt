@@ -4,7 +4,7 @@ use Rattle.std.proofs.lemmas.Bool.{cases_eq, eq-eqb, eqb-true, ne_eqb, false≢t
 use Rattle.std.specs.Prelude.{slice_get, slice_index_or, slice_set}
 use Rattle.std.specs.Option.{option_map}
 use Rattle.sync_node.specs.Node.{NodeValue}
-use Rattle.sync_rules.specs.Facts.{Extends}
+use Rattle.sync_rules.specs.Facts.{ExtendsJournal}
 use Rattle.sync_rules.specs.Legal.{Legal}
 use Rattle.client_basic.specs.Bodies.{bundle_meaning}
 use Rattle.sync_ids.specs.declared.records.Record.{Record}
@@ -15,7 +15,7 @@ use Rattle.world_devices.specs.Devices.{DeviceValue}
 use Rattle.world_devices.specs.Linking.{KeepsLinks, first_of}
 use Rattle.world_links.specs.Ends.{EndValue, input_of}
 use Rattle.world_links.specs.declared.link.Link.{Link}
-use Rattle.sync_world.specs.Standing.{ArePlaced, AreWired, IsPlaced, IsSeated, IsWired, SeenBy, own_end, place_in, place_on}
+use Rattle.sync_world.specs.Standing.{ArePlaced, AreWired, IsLinkPlaced, IsSeated, IsEndWired, SeenBy, own_end, place_in, place_on}
 
 -- ---- lists
 
@@ -140,7 +140,7 @@ pub record LinkMoves (k : ℕ) (l l' : Link) : Type 0 where
 
 -- its ends of one link are wired
 abbrev pub LinkWired : Journal → ℕ → DeviceValue → Link → Type 0
-LinkWired j d device l = (e : EndValue) (a : ℕ) → own_end d l ≡ Some e → e.at ≡ Some a → IsWired j device l.is_cut e a
+LinkWired j d device l = (e : EndValue) (a : ℕ) → own_end d l ≡ Some e → e.at ≡ Some a → IsEndWired j device l.is_cut e a
 
 drop_more : (n : ℕ) (xs more : List ℕ) → n ≤ length xs → drop n (xs ++ more) ≡ drop n xs ++ more
 drop_more zero xs more within = refl
@@ -148,7 +148,7 @@ drop_more (suc n) [] more within = absurd (omega arith)
 drop_more (suc n) (x ∷ xs) more within = drop_more n xs more (omega (arith, within))
 
 same_wired : (j : Journal) (device : DeviceValue) (cut cut' : Bool) (e e' : EndValue) (a : ℕ) → SameEnd e e' → e.heard ≤ length e.given → (cut' ≡ false → cut ≡ false)
-    → IsWired j device cut e a → IsWired j device cut' e' a
+    → IsEndWired j device cut e a → IsEndWired j device cut' e' a
 same_wired j device cut cut' e e' a same within uncut_was w = record {
   below = w.below;
   session = same.session ∙ w.session;
@@ -165,7 +165,7 @@ record Moved (k : ℕ) (l l' : Link) (e' : EndValue) : Type 0 where
   end : EndValue
   own : own_end k l ≡ Some end
   same : SameEnd end e'
-  within : (count : ℕ) → IsPlaced count l → end.heard ≤ length end.given
+  within : (count : ℕ) → IsLinkPlaced count l → end.heard ≤ length end.given
 
 moved_from : (k : ℕ) (l l' : Link) (e' : EndValue) → LinkMoves k l l' → own_end k l' ≡ Some e' → Moved k l l' e'
 moved_from k l l' e' m is =
@@ -188,7 +188,7 @@ moved_from k l l' e' m is =
           }
     ]
 
-pub moves_wired : (j : Journal) (k count : ℕ) (device : DeviceValue) (l l' : Link) → LinkMoves k l l' → IsPlaced count l → LinkWired j k device l → LinkWired j k device l'
+pub moves_wired : (j : Journal) (k count : ℕ) (device : DeviceValue) (l l' : Link) → LinkMoves k l l' → IsLinkPlaced count l → LinkWired j k device l → LinkWired j k device l'
 moves_wired j k count device l l' m placed w e' a own here =
     let from = moved_from k l l' e' m own in
     same_wired j device l.is_cut l'.is_cut from.end e' a from.same (from.within count placed) m.cut (w from.end a from.own (sym from.same.at ∙ here))
@@ -206,7 +206,7 @@ place_moved k l l' (Some e') m own =
 pub moves_place : (k : ℕ) (l l' : Link) → LinkMoves k l l' → place_on k l' ≡ place_on k l
 moves_place k l l' m = place_moved k l l' (own_end k l') m refl
 
-pub moves_placed : (k count : ℕ) (l l' : Link) → LinkMoves k l l' → IsPlaced count l → IsPlaced count l'
+pub moves_placed : (k count : ℕ) (l l' : Link) → LinkMoves k l l' → IsLinkPlaced count l → IsLinkPlaced count l'
 moves_placed k count l l' m p = record {
   near = subst (λ (d : ℕ). d < count) (sym m.near.device) p.near;
   far = subst (λ (d : ℕ). d < count) (sym m.far.device) p.far;
@@ -341,7 +341,7 @@ set_wired j d device ls i l l' is place wired w = record {
       elim (get_cases ls i n l' m there) [
         | inl (same, new) ↦
             let own' : own_end d l' ≡ Some e = subst (λ (z : Link). own_end d z ≡ Some e) (sym new) own in
-            subst (λ (z : Link). IsWired j device z.is_cut e a) new (wired e a own' here)
+            subst (λ (z : Link). IsEndWired j device z.is_cut e a) new (wired e a own' here)
         | inr (other, old) ↦ w.each n m e a old own here
       ];
   once = set_once j d device ls i l l' is place w;
@@ -356,7 +356,7 @@ session_from None (Some n) k same = cc
 session_from (Some m) None k same = cc
 session_from (Some m) (Some n) k same = ap (λ (f : ℕ). Some (f + k)) (some_same n.first m.first same)
 
-pub seen_grows : SentGrows → (j' j : Journal) (number seen : ℕ) → Legal bundle_meaning j' → Extends j' j → SeenBy j number seen → SeenBy j' number seen
+pub seen_grows : SentGrows → (j' j : Journal) (number seen : ℕ) → Legal bundle_meaning j' → ExtendsJournal j' j → SeenBy j number seen → SeenBy j' number seen
 seen_grows grows j' j number seen legal extends s =
     let g = grows bundle_meaning j' j number extends legal in
     record {
@@ -367,7 +367,7 @@ seen_grows grows j' j number seen legal extends s =
     }
 
 -- its journal went on, and it has the links that it had
-pub kept_wired : SentGrows → (j' j : Journal) (d : ℕ) (old new : DeviceValue) (ls : List Link) → Legal bundle_meaning j' → Extends j' j → KeepsLinks old new
+pub kept_wired : SentGrows → (j' j : Journal) (d : ℕ) (old new : DeviceValue) (ls : List Link) → Legal bundle_meaning j' → ExtendsJournal j' j → KeepsLinks old new
     → AreWired j d old ls → AreWired j' d new ls
 kept_wired grows j' j d old new ls legal extends keeps w = record {
   each = λ i l e a is own here.

@@ -15,7 +15,7 @@ use Rattle.world_devices.specs.declared.stop.StepFault.{StepFault}
 use Rattle.world_devices.specs.declared.stop.StepFault.TheVariants as fault
 use Rattle.sync_world.specs.Moving.{fault_after}
 use Rattle.sync_world.specs.Shown.{IsNewJournal, world_of}
-use Rattle.sync_world.specs.Standing.{AllLinksStand, AreUp, Goes, IsManyDevices, IsShown, IsUp, IsWorld, LeadsOn, is_fatal, is_harmed}
+use Rattle.sync_world.specs.Standing.{AllLinksStand, AreUp, LeadsFromShown, IsManyDevices, IsShown, IsUp, IsWorld, LeadsOn, is_fatal, is_harmed}
 use Rattle.sync_world.specs.declared.stage.Stage.{Stage}
 use Rattle.sync_world.proofs.FirstLaws.{first_new}
 use Rattle.sync_world.proofs.GoLaws.{leads_then, same_leads, unlinked_wired}
@@ -36,7 +36,7 @@ contacts_on devices devices' start same each d within =
     let had : length devices ≤ (facts (journal_at start d)).contacts + 1 = each d (omega (arith, same, within)) in
     omega (arith, same, had)
 
-world_made : (old new : Stage) (result : Result (Unit {0}) StepFault) → IsWorld old → old.fault ≡ None → Goes (is_fatal result) old new → new.fault ≡ fault_after result
+world_made : (old new : Stage) (result : Result (Unit {0}) StepFault) → IsWorld old → old.fault ≡ None → LeadsFromShown (is_fatal result) old new → new.fault ≡ fault_after result
     → (is_fatal result ≡ false → length new.devices.items ≡ length old.devices.items) → IsWorld new
 world_made old new result is none goes after count =
     let stands : LeadsOn is.start false old.devices.items old.links.items =
@@ -53,7 +53,7 @@ world_made old new result is none goes after count =
     }
 
 -- a step leaves a world, whatever it answers
-pub world_steps : (old new : Stage) (result : Result (Unit {0}) StepFault) → IsWorld old → (old.fault ≡ None → Goes (is_fatal result) old new)
+pub world_steps : (old new : Stage) (result : Result (Unit {0}) StepFault) → IsWorld old → (old.fault ≡ None → LeadsFromShown (is_fatal result) old new)
     → (old.fault ≡ None → new.fault ≡ fault_after result) → ((f : StepFault) → old.fault ≡ Some f → (result ≡ Err f) × (new ≡ old))
     → (old.fault ≡ None → is_fatal result ≡ false → length new.devices.items ≡ length old.devices.items) → IsWorld new
 world_steps old new result is goes after for_good count =

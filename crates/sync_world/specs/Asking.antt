@@ -10,9 +10,9 @@ use Rattle.world_scripts.specs.Forms.{number_between}
 use Rattle.world_scripts.specs.declared.generator.TheConstants.{MAX_POSTS}
 
 -- a generated world has at most so many posts
-abbrev pub IsWithin : Asked → Type 0
-IsWithin asked.Script = Unit {0}
-IsWithin (asked.Generated seed count) = count ≤ MAX_POSTS
+abbrev pub IsWorldWithin : Asked → Type 0
+IsWorldWithin asked.Script = Unit {0}
+IsWorldWithin (asked.Generated seed count) = count ≤ MAX_POSTS
 
 -- what is to be played, or the place of the first word that is wrong or too many, or the number of words where one is missing
 pub data Wanted : Type 0 where

@@ -1,9 +1,9 @@
 -- The laws of the crates below that the proofs of this one rest on.
 use Rattle.std.specs.Prelude.{ℕ, Bool, List}
-use Rattle.record_grammar.specs.Laws.{FrontsHaveFronts, SpelledRecordsAreStreams, SpellingsReadBack}
+use Rattle.record_grammar.specs.Laws.{FrontsHaveFronts, SpelledRecordsAreStreams, RecordsReadBack}
 use Rattle.sync_rules.specs.declared.entries.Entry.{Entry}
 use Rattle.sync_rules.specs.Clients.{Meaning}
-use Rattle.sync_rules.specs.Facts.{Extends}
+use Rattle.sync_rules.specs.Facts.{ExtendsJournal}
 use Rattle.sync_rules.specs.Legal.{Legal}
 use Rattle.sync_rules.specs.Naming.{MessageIdsAreWhole}
 use Rattle.sync_rules.specs.Output.{GoesOnFrom, sent}
@@ -13,11 +13,11 @@ use Rattle.world_laws.specs.Worlds.{AreSteps, IsStep, World, last_of}
 
 -- what spellings are read as, how long the ids of messages are, and that what a session sends only grows
 pub record RecordLaws : Type 0 where
-  pub read_back : SpellingsReadBack
+  pub read_back : RecordsReadBack
   pub streams : SpelledRecordsAreStreams
   pub fronts : FrontsHaveFronts
   pub whole : MessageIdsAreWhole
-  pub grows : (clients : Meaning) (j before : List (List Entry)) (session : ℕ) → Extends j before → Legal clients j
+  pub grows : (clients : Meaning) (j before : List (List Entry)) (session : ℕ) → ExtendsJournal j before → Legal clients j
       → GoesOnFrom (sent j session) (sent before session)
 
 -- what steps of a world keep, and that moves are steps

@@ -9,7 +9,7 @@ use Rattle.sync_rules.specs.declared.entries.Entry.TheVariants as entry
 use Rattle.sync_rules.specs.declared.entries.Mode.{Mode}
 use Rattle.sync_node.specs.declared.node.Plan.{Plan}
 use Rattle.world_devices.specs.Devices.{DeviceValue}
-use Rattle.world_devices.specs.Doing.{Adds, Attaches, IsOver, Restarts, Turns, clocked, stopped, with_plan}
+use Rattle.world_devices.specs.Doing.{DeviceAddsEntry, DeviceBeginsSession, EntryPassesLimit, DeviceRestarts, DeviceMakesTurn, clocked, stopped, with_plan}
 use Rattle.world_devices.specs.Linking.{DeviceLinksStand, asks, end_at}
 use Rattle.world_devices.specs.declared.stop.Ran.{Ran}
 use Rattle.world_devices.specs.declared.stop.Ran.TheVariants as ran
@@ -21,7 +21,7 @@ use Rattle.world_links.specs.Links.{end_of, left_by, side_of}
 use Rattle.world_links.specs.declared.link.Link.{Link}
 use Rattle.world_links.specs.declared.moves.Move.TheVariants as move
 use Rattle.world_links.specs.declared.moves.Side.{Side}
-use Rattle.world_scripts.specs.Labels.{Pair, labelled}
+use Rattle.world_scripts.specs.Labels.{KindAndDescriptor, labelled}
 use Rattle.world_scripts.specs.declared.step.TheConstants.{MAX_DEVICES}
 use Rattle.world_scripts.specs.declared.step.WorldStep.{WorldStep}
 use Rattle.world_scripts.specs.declared.step.WorldStep.TheVariants as step
@@ -64,7 +64,7 @@ entry_of _ s = None
 -- a device adds an entry
 abbrev pub AddsEntry : Option Entry → ℕ → Ground → Ground → Type 0
 AddsEntry None d old new = ⊥
-AddsEntry (Some e) d old new = (came : Ran) × DeviceDoes (Adds e (Ok came)) d came old new
+AddsEntry (Some e) d old new = (came : Ran) × DeviceDoes (DeviceAddsEntry e (Ok came)) d came old new
 
 -- a device made a call with some answer, and all others are as before
 pub record DeviceTries (Did : Result Ran StepFault → DeviceValue → DeviceValue → Type 0) (d : ℕ) (old new : List DeviceValue) : Type 0 where
@@ -78,7 +78,7 @@ pub record DeviceTries (Did : Result Ran StepFault → DeviceValue → DeviceVal
 -- a device added an entry, or at most that was added
 abbrev pub TriesEntry : Option Entry → ℕ → List DeviceValue → List DeviceValue → Type 0
 TriesEntry None d old new = ⊥
-TriesEntry (Some e) d old new = DeviceTries (Adds e) d old new
+TriesEntry (Some e) d old new = DeviceTries (DeviceAddsEntry e) d old new
 
 -- the devices are as before, but for at most the entry at one of them
 abbrev pub AddsNoOther : Option Entry → ℕ → List DeviceValue → List DeviceValue → Type 0
@@ -88,7 +88,7 @@ AddsNoOther e d old new = (new ≡ old) ⊎ TriesEntry e d old new
 pub record FillsBy (e : Entry) (d : ℕ) (devices : List DeviceValue) : Type 0 where
   pub device : DeviceValue
   pub stands : slice_get devices d ≡ Some device
-  pub over : IsOver e device.node
+  pub over : EntryPassesLimit e device.node
 
 abbrev pub FillsWith : Option Entry → ℕ → List DeviceValue → Type 0
 FillsWith None d devices = ⊥
@@ -111,14 +111,14 @@ pub record AttachesOn (d link : ℕ) (plan : Plan) (nonce : Option (List ℕ)) (
   pub is : DeviceValue
   pub session : ℕ
   pub stands : slice_get old.devices d ≡ Some was
-  pub did : Attaches plan nonce (Ok (Some session)) was is
+  pub did : DeviceBeginsSession plan nonce (Ok (Some session)) was is
   pub sent : DeviceLinksStand is
   pub devices : new.devices ≡ slice_set old.devices d is
   pub links : new.links ≡ map (look_link d is) (begun_with d was.links session link (slice_get old.links link) old.links)
 
 -- the device crashed in it
 abbrev pub CrashesOn : ℕ → Plan → Option (List ℕ) → Ground → Ground → Type 0
-CrashesOn d plan nonce old new = DeviceDoes (Attaches plan nonce (Ok None)) d ran.Crashed old new
+CrashesOn d plan nonce old new = DeviceDoes (DeviceBeginsSession plan nonce (Ok None)) d ran.Crashed old new
 
 abbrev pub EndsOn : (d link : ℕ) → Plan → Option (List ℕ) → Ground → Ground → Type 0
 EndsOn d link plan nonce old new = AttachesOn d link plan nonce old new ⊎ CrashesOn d plan nonce old new
@@ -140,7 +140,7 @@ pub record FillsAttaching (d : ℕ) (plan : Plan) (nonce : Option (List ℕ)) (o
   pub was : DeviceValue
   pub is : DeviceValue
   pub stands : slice_get old.devices d ≡ Some was
-  pub fills : Attaches plan nonce (Err fault.Full) was is
+  pub fills : DeviceBeginsSession plan nonce (Err fault.Full) was is
 
 pub record FillsFar (d e : ℕ) (mode : Mode) (latency : ℕ) (old : Ground) : Type 0 where
   pub between : Ground
@@ -200,7 +200,7 @@ pub record TurnsOnce (d : ℕ) (came : Option Bool) (old new : Ground) : Type 0 
   pub links_planned : List Link
   pub stands : slice_get old.devices d ≡ Some was
   pub plans : PlansLinksOn d was planned old.links links_planned
-  pub did : Turns (Ok came) planned is
+  pub did : DeviceMakesTurn (Ok came) planned is
   pub sent : is_some came ≡ true → DeviceLinksStand is
   pub devices : new.devices ≡ slice_set old.devices d is
   pub links : new.links ≡ turned_links d came is links_planned
@@ -213,7 +213,7 @@ pub record FillsTurning (d : ℕ) (old : Ground) : Type 0 where
   pub links_planned : List Link
   pub stands : slice_get old.devices d ≡ Some was
   pub plans : PlansLinksOn d was planned old.links links_planned
-  pub fills : Turns (Err fault.Full) planned is
+  pub fills : DeviceMakesTurn (Err fault.Full) planned is
 
 -- ---- rounds
 
@@ -280,34 +280,34 @@ LinkBecomes None link old new = ⊥
 LinkBecomes (Some l) link old new = (new.devices ≡ old.devices) × (new.links ≡ slice_set old.links link l)
 
 -- what a step that is made makes of the devices and the links
-abbrev pub Does : WorldStep → Stage → Ground → Type 0
-Does (step.Group d kind descriptor) s new = AddsEntry (entry_of (step.Group d kind descriptor) s) d (ground_of s) new
-Does (step.Share d e group level) s new = AddsEntry (entry_of (step.Share d e group level) s) d (ground_of s) new
-Does (step.Post d group time parents text) s new = AddsEntry (entry_of (step.Post d group time parents text) s) d (ground_of s) new
-Does (step.Link d e mode latency) s new = LinksTwo d e mode latency (ground_of s) new
-Does (step.Turn d) s new = (came : Option Bool) × TurnsOnce d came (ground_of s) new
-Does (step.Carry link d) s new = LinkBecomes (link_moved move.Carry d (slice_get s.links.items link)) link (ground_of s) new
-Does (step.Lose link d) s new = LinkBecomes (link_moved move.Lose d (slice_get s.links.items link)) link (ground_of s) new
-Does (step.Repeat link d) s new = LinkBecomes (link_moved move.Repeat d (slice_get s.links.items link)) link (ground_of s) new
-Does (step.Swap link d) s new = LinkBecomes (link_moved move.Swap d (slice_get s.links.items link)) link (ground_of s) new
-Does (step.Cut link) s new = LinkBecomes (link_cut (slice_get s.links.items link)) link (ground_of s) new
-Does (step.Clock at) s new = (new.devices ≡ map (clocked at) s.devices.items) × (new.links ≡ s.links.items)
-Does (step.Stop d calls pick) s new = DeviceDoes (λ was is. is ≡ stopped calls pick was) d ran.Done (ground_of s) new
-Does (step.Restart d) s new = DeviceDoes (Restarts (Ok tt)) d ran.Crashed (ground_of s) new
-Does (step.Rest rounds) s new = RestsWithin rounds (ground_of s) new
+abbrev pub MakesStep : WorldStep → Stage → Ground → Type 0
+MakesStep (step.Group d kind descriptor) s new = AddsEntry (entry_of (step.Group d kind descriptor) s) d (ground_of s) new
+MakesStep (step.Share d e group level) s new = AddsEntry (entry_of (step.Share d e group level) s) d (ground_of s) new
+MakesStep (step.Post d group time parents text) s new = AddsEntry (entry_of (step.Post d group time parents text) s) d (ground_of s) new
+MakesStep (step.Link d e mode latency) s new = LinksTwo d e mode latency (ground_of s) new
+MakesStep (step.Turn d) s new = (came : Option Bool) × TurnsOnce d came (ground_of s) new
+MakesStep (step.Carry link d) s new = LinkBecomes (link_moved move.Carry d (slice_get s.links.items link)) link (ground_of s) new
+MakesStep (step.Lose link d) s new = LinkBecomes (link_moved move.Lose d (slice_get s.links.items link)) link (ground_of s) new
+MakesStep (step.Repeat link d) s new = LinkBecomes (link_moved move.Repeat d (slice_get s.links.items link)) link (ground_of s) new
+MakesStep (step.Swap link d) s new = LinkBecomes (link_moved move.Swap d (slice_get s.links.items link)) link (ground_of s) new
+MakesStep (step.Cut link) s new = LinkBecomes (link_cut (slice_get s.links.items link)) link (ground_of s) new
+MakesStep (step.Clock at) s new = (new.devices ≡ map (clocked at) s.devices.items) × (new.links ≡ s.links.items)
+MakesStep (step.Stop d calls pick) s new = DeviceDoes (λ was is. is ≡ stopped calls pick was) d ran.Done (ground_of s) new
+MakesStep (step.Restart d) s new = DeviceDoes (DeviceRestarts (Ok tt)) d ran.Crashed (ground_of s) new
+MakesStep (step.Rest rounds) s new = RestsWithin rounds (ground_of s) new
 
 -- a call of a device in a step would pass the limit of its journal
-abbrev pub Fills : WorldStep → Stage → Type 0
-Fills (step.Group d kind descriptor) s = FillsWith (entry_of (step.Group d kind descriptor) s) d s.devices.items
-Fills (step.Share d e group level) s = FillsWith (entry_of (step.Share d e group level) s) d s.devices.items
-Fills (step.Post d group time parents text) s = FillsWith (entry_of (step.Post d group time parents text) s) d s.devices.items
-Fills (step.Link d e mode latency) s = FillsLinking d e mode latency (ground_of s)
-Fills (step.Turn d) s = FillsTurning d (ground_of s)
-Fills (step.Rest rounds) s = FillsResting rounds (ground_of s)
-Fills _ s = ⊥
+abbrev pub FillsJournal : WorldStep → Stage → Type 0
+FillsJournal (step.Group d kind descriptor) s = FillsWith (entry_of (step.Group d kind descriptor) s) d s.devices.items
+FillsJournal (step.Share d e group level) s = FillsWith (entry_of (step.Share d e group level) s) d s.devices.items
+FillsJournal (step.Post d group time parents text) s = FillsWith (entry_of (step.Post d group time parents text) s) d s.devices.items
+FillsJournal (step.Link d e mode latency) s = FillsLinking d e mode latency (ground_of s)
+FillsJournal (step.Turn d) s = FillsTurning d (ground_of s)
+FillsJournal (step.Rest rounds) s = FillsResting rounds (ground_of s)
+FillsJournal _ s = ⊥
 
 -- the group labels after a step: a group has a label from the first step on that added it
-abbrev pub groups_after : WorldStep → List Pair → List Pair
+abbrev pub groups_after : WorldStep → List KindAndDescriptor → List KindAndDescriptor
 groups_after (step.Group d kind descriptor) groups = labelled (kind, descriptor) groups
 groups_after _ groups = groups
 
@@ -317,13 +317,13 @@ with_post None posts = posts
 with_post (Some m) posts = posts ++ message_id_of m ∷ []
 
 -- the ids of the posts after a step: a post has the next label, also where its device crashed in it
-abbrev pub posts_after : WorldStep → List Pair → List (List ℕ) → List (List ℕ)
+abbrev pub posts_after : WorldStep → List KindAndDescriptor → List (List ℕ) → List (List ℕ)
 posts_after (step.Post d group time parents text) groups posts = with_post (message_of groups posts group time parents text) posts
 posts_after _ groups posts = posts
 
 -- a step was made
 pub record WasDone (made : WorldStep) (old new : Stage) : Type 0 where
-  pub does : Does made old (ground_of new)
+  pub does : MakesStep made old (ground_of new)
   pub groups : new.groups ≡ groups_after made old.groups
   pub posts : new.posts.items ≡ posts_after made old.groups old.posts.items
 
@@ -339,5 +339,5 @@ LeavesBy _ s new = Unit {0}
 abbrev pub DoesBy : WorldStep → Result (Unit {0}) StepFault → Stage → Stage → Type 0
 DoesBy made (Ok _) old new = WasDone made old new
 DoesBy made (Err fault.Refused) old new = Unit {0}
-DoesBy made (Err fault.Full) old new = Fills made old × LeavesBy made old new.devices.items
+DoesBy made (Err fault.Full) old new = FillsJournal made old × LeavesBy made old new.devices.items
 DoesBy made (Err fault.Memory) old new = LeavesBy made old new.devices.items

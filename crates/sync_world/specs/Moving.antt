@@ -27,15 +27,15 @@ link_cut None = None
 link_cut (Some l) = if l.is_cut then None else Some (cut l)
 
 -- the links after a step that makes this of one of them: refused exactly where it makes nothing
-abbrev pub Becomes : Option Link → ℕ → List Link → List Link → Result (Unit {0}) StepFault → Type 0
-Becomes None link old new (Ok _) = ⊥
-Becomes None link old new (Err fault.Refused) = new ≡ old
-Becomes None link old new (Err fault.Full) = ⊥
-Becomes None link old new (Err fault.Memory) = new ≡ old
-Becomes (Some l) link old new (Ok _) = new ≡ slice_set old link l
-Becomes (Some l) link old new (Err fault.Refused) = ⊥
-Becomes (Some l) link old new (Err fault.Full) = ⊥
-Becomes (Some l) link old new (Err fault.Memory) = new ≡ old
+abbrev pub MakesOfLink : Option Link → ℕ → List Link → List Link → Result (Unit {0}) StepFault → Type 0
+MakesOfLink None link old new (Ok _) = ⊥
+MakesOfLink None link old new (Err fault.Refused) = new ≡ old
+MakesOfLink None link old new (Err fault.Full) = ⊥
+MakesOfLink None link old new (Err fault.Memory) = new ≡ old
+MakesOfLink (Some l) link old new (Ok _) = new ≡ slice_set old link l
+MakesOfLink (Some l) link old new (Err fault.Refused) = ⊥
+MakesOfLink (Some l) link old new (Err fault.Full) = ⊥
+MakesOfLink (Some l) link old new (Err fault.Memory) = new ≡ old
 
 -- the same of the link alone
 abbrev pub BecomesOne : Option Link → Link → Link → Result (Unit {0}) StepFault → Type 0
@@ -50,11 +50,11 @@ BecomesOne (Some l) old new (Err fault.Memory) = new ≡ old
 
 -- what a step makes of the links, where it is a move or a cut
 abbrev pub LinksBecome : WorldStep → List Link → List Link → Result (Unit {0}) StepFault → Type 0
-LinksBecome (step.Carry link d) old new result = Becomes (link_moved move.Carry d (slice_get old link)) link old new result
-LinksBecome (step.Lose link d) old new result = Becomes (link_moved move.Lose d (slice_get old link)) link old new result
-LinksBecome (step.Repeat link d) old new result = Becomes (link_moved move.Repeat d (slice_get old link)) link old new result
-LinksBecome (step.Swap link d) old new result = Becomes (link_moved move.Swap d (slice_get old link)) link old new result
-LinksBecome (step.Cut link) old new result = Becomes (link_cut (slice_get old link)) link old new result
+LinksBecome (step.Carry link d) old new result = MakesOfLink (link_moved move.Carry d (slice_get old link)) link old new result
+LinksBecome (step.Lose link d) old new result = MakesOfLink (link_moved move.Lose d (slice_get old link)) link old new result
+LinksBecome (step.Repeat link d) old new result = MakesOfLink (link_moved move.Repeat d (slice_get old link)) link old new result
+LinksBecome (step.Swap link d) old new result = MakesOfLink (link_moved move.Swap d (slice_get old link)) link old new result
+LinksBecome (step.Cut link) old new result = MakesOfLink (link_cut (slice_get old link)) link old new result
 LinksBecome _ old new result = Unit {0}
 
 -- such a step leaves the devices as they were

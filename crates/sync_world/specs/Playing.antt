@@ -2,12 +2,12 @@
 use Rattle.std.specs.Prelude.{◌≡◌, ◌⊎◌, ℕ, ◌<◌, ◌≤◌, true, false, List, [], ◌∷◌, ◌++◌, map, replicate, Some, None, Result, Ok, Err, slice_set}
 use Rattle.sync_words.specs.declared.outcome.Outcome.{Outcome}
 use Rattle.sync_words.specs.declared.outcome.Outcome.TheVariants as outcome
-use Rattle.sync_world.specs.Beginning.{IsNewWorld}
+use Rattle.sync_world.specs.Beginning.{IsNewStage}
 use Rattle.sync_world.specs.Stepping.{HasStepped}
 use Rattle.sync_world.specs.declared.player.Player.{Player}
 use Rattle.world_devices.specs.declared.stop.StepFault.{StepFault}
 use Rattle.world_devices.specs.declared.stop.StepFault.TheVariants as fault
-use Rattle.world_scripts.specs.Courses.{Course, Opening, Bad, Opens}
+use Rattle.world_scripts.specs.Courses.{ScriptCourse, Opening, Bad, Opens}
 use Rattle.world_scripts.specs.Generator.{steps_of}
 use Rattle.world_scripts.specs.declared.fault.ScriptFault.{ScriptFault}
 use Rattle.world_scripts.specs.declared.fault.ScriptFault.TheVariants as unread
@@ -18,40 +18,40 @@ use Rattle.world_scripts.specs.declared.step.WorldStep.{WorldStep}
 
 -- before the first line: a new world of so many devices, none of which is to be shown
 pub record IsFirst (count : ℕ) (p : Player) : Type 0 where
-  pub world : IsNewWorld count p.world
+  pub world : IsNewStage count p.world
   pub counted : p.devices ≡ count
   pub unshown : p.shown ≡ replicate 8 false
 
 -- a step is made of the world, and nothing else changes
-pub record Steps (made : WorldStep) (old new : Player) (result : Result (Unit {0}) StepFault) : Type 0 where
+pub record StepsWorld (made : WorldStep) (old new : Player) (result : Result (Unit {0}) StepFault) : Type 0 where
   pub stepped : HasStepped made old.world new.world result
   pub same_devices : new.devices ≡ old.devices
   pub same_shown : new.shown ≡ old.shown
 
 -- a device is marked; it is refused exactly where there is no device of this number
-abbrev pub Marks : ℕ → Player → Player → Result (Unit {0}) StepFault → Type 0
-Marks device old new (Ok _) = (device < old.devices) × (new ≡ record old { shown = slice_set old.shown device true })
-Marks device old new (Err fault.Refused) = (old.devices ≤ device) × (new ≡ old)
-Marks device old new (Err _) = ⊥
+abbrev pub MarksDevice : ℕ → Player → Player → Result (Unit {0}) StepFault → Type 0
+MarksDevice device old new (Ok _) = (device < old.devices) × (new ≡ record old { shown = slice_set old.shown device true })
+MarksDevice device old new (Err fault.Refused) = (old.devices ≤ device) × (new ≡ old)
+MarksDevice device old new (Err _) = ⊥
 
 -- an action was made and answered so
-abbrev pub Acts : Action → Player → Player → Result (Unit {0}) StepFault → Type 0
-Acts (action.Step made) old new result = Steps made old new result
-Acts (action.Show device) old new result = Marks device old new result
+abbrev pub AnswersAction : Action → Player → Player → Result (Unit {0}) StepFault → Type 0
+AnswersAction (action.Step made) old new result = StepsWorld made old new result
+AnswersAction (action.Show device) old new result = MarksDevice device old new result
 
 -- these actions are made one after another, and each answers Ok
-abbrev pub Does : Player → List (ℕ × Action) → Player → Type 0
-Does from [] to = to ≡ from
-Does from (x ∷ more) to = (next : Player) × Acts x.1 from next (Ok tt) × Does next more to
+abbrev pub MakesActions : Player → List (ℕ × Action) → Player → Type 0
+MakesActions from [] to = to ≡ from
+MakesActions from (x ∷ more) to = (next : Player) × AnswersAction x.1 from next (Ok tt) × MakesActions next more to
 
 -- a new world of so many devices, in which these actions were made
 pub record Done (devices : ℕ) (actions : List (ℕ × Action)) (to : Player) : Type 0 where
   pub first : Player
   pub begins : IsFirst devices first
-  pub does : Does first actions to
+  pub does : MakesActions first actions to
 
 -- the first action that does not answer Ok is that of this line, and it answers this fault
-pub record StopsAt (devices : ℕ) (actions : List (ℕ × Action)) (line : ℕ) (why : StepFault) : Type 0 where
+pub record StopsAtLine (devices : ℕ) (actions : List (ℕ × Action)) (line : ℕ) (why : StepFault) : Type 0 where
   pub before : List (ℕ × Action)
   pub it : Action
   pub later : List (ℕ × Action)
@@ -59,37 +59,37 @@ pub record StopsAt (devices : ℕ) (actions : List (ℕ × Action)) (line : ℕ)
   pub between : Player
   pub after : Player
   pub done : Done devices before between
-  pub stops : Acts it between after (Err why)
+  pub stops : AnswersAction it between after (Err why)
 
 -- a step answers that a journal is full
-pub record StopsFull (devices : ℕ) (actions : List (ℕ × Action)) : Type 0 where
+pub record PlayingStopsFull (devices : ℕ) (actions : List (ℕ × Action)) : Type 0 where
   pub line : ℕ
-  pub stops : StopsAt devices actions line fault.Full
+  pub stops : StopsAtLine devices actions line fault.Full
 
 -- all actions before the first line that is bad by itself were made
-pub record ComesToBad (devices : ℕ) (course : Course) (line : ℕ) : Type 0 where
+pub record ComesToBad (devices : ℕ) (course : ScriptCourse) (line : ℕ) : Type 0 where
   pub bad : course.bad ≡ Some line
   pub to : Player
   pub done : Done devices course.actions to
 
 -- What a course comes to in a new world of so many devices: all of it is done; or the first line is named that is bad by itself or
 -- refused, where no step before it answered that a journal is full; or such a step stands before. Memory may be wanting.
-abbrev pub Comes : (devices : ℕ) → Course → Result Player Outcome → Type 0
-Comes devices course (Ok to) = (course.bad ≡ None) × Done devices course.actions to
-Comes devices course (Err (outcome.BadScript line)) = StopsAt devices course.actions line fault.Refused ⊎ ComesToBad devices course line
-Comes devices course (Err outcome.Full) = StopsFull devices course.actions
-Comes devices course (Err outcome.Memory) = Unit {0}
-Comes devices course (Err _) = ⊥
+abbrev pub CourseComesTo : (devices : ℕ) → ScriptCourse → Result Player Outcome → Type 0
+CourseComesTo devices course (Ok to) = (course.bad ≡ None) × Done devices course.actions to
+CourseComesTo devices course (Err (outcome.BadScript line)) = StopsAtLine devices course.actions line fault.Refused ⊎ ComesToBad devices course line
+CourseComesTo devices course (Err outcome.Full) = PlayingStopsFull devices course.actions
+CourseComesTo devices course (Err outcome.Memory) = Unit {0}
+CourseComesTo devices course (Err _) = ⊥
 
 -- what a script comes to that says this
 abbrev pub ScriptComes : Opening → Result Player Outcome → Type 0
-ScriptComes (Opens devices course) result = Comes devices course result
+ScriptComes (Opens devices course) result = CourseComesTo devices course result
 ScriptComes (Bad line) (Err (outcome.BadScript at)) = at ≡ line
 ScriptComes (Bad line) (Err outcome.Memory) = Unit {0}
 ScriptComes (Bad line) _ = ⊥
 
 -- these steps, which have no lines: each stands for line 1
-abbrev pub course_of : List WorldStep → Course
+abbrev pub course_of : List WorldStep → ScriptCourse
 course_of made = record { actions = map (λ (s : WorldStep). (1, action.Step s)) made; bad = None }
 
 -- the world that this seed makes with so many posts
@@ -98,9 +98,9 @@ made_by seed count = Opens GENERATED_DEVICES (course_of (steps_of seed count))
 
 -- the action of a line was made; what a fault of it comes to
 abbrev pub ActsAt : (line : ℕ) → Action → Player → Player → Result (Unit {0}) Outcome → Type 0
-ActsAt line it old new (Ok _) = Acts it old new (Ok tt)
-ActsAt line it old new (Err (outcome.BadScript at)) = (at ≡ line) × Acts it old new (Err fault.Refused)
-ActsAt line it old new (Err outcome.Full) = Acts it old new (Err fault.Full)
+ActsAt line it old new (Ok _) = AnswersAction it old new (Ok tt)
+ActsAt line it old new (Err (outcome.BadScript at)) = (at ≡ line) × AnswersAction it old new (Err fault.Refused)
+ActsAt line it old new (Err outcome.Full) = AnswersAction it old new (Err fault.Full)
 ActsAt line it old new (Err outcome.Memory) = Unit {0}
 ActsAt line it old new (Err _) = ⊥
 

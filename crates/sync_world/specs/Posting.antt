@@ -5,7 +5,7 @@ use Rattle.std.specs.List.{flat_map}
 use Rattle.sync_ids.specs.Values.{GroupValue, MessageValue}
 use Rattle.sync_ids.specs.Ids.{group_id_of}
 use Rattle.sync_ids.specs.declared.message.TheConstants.{MAX_BODY, MAX_TIMESTAMP}
-use Rattle.world_scripts.specs.Labels.{Pair, are_made, suits_kind}
+use Rattle.world_scripts.specs.Labels.{KindAndDescriptor, are_made, suits_kind}
 use Rattle.world_scripts.specs.declared.step.TheConstants.{THREAD, FEED}
 use Rattle.sync_world.specs.Naming.{group_of}
 
@@ -40,11 +40,11 @@ message_in (Some def) time body =
 
 -- the message of a post in the group of a label: there is one where the text is not empty, the parents are labels of earlier posts
 -- and suit the kind of the group, and the message is within its limits
-abbrev pub message_with : List (List ℕ) → Option Pair → ℕ → List ℕ → List ℕ → Option MessageValue
+abbrev pub message_with : List (List ℕ) → Option KindAndDescriptor → ℕ → List ℕ → List ℕ → Option MessageValue
 message_with posts None time parents text = None
 message_with posts (Some group) time parents text =
     if has_text text && (are_made parents (length posts) && suits_kind group.0 parents)
     then message_in (group_of group.0 group.1) time (body_of group.0 (ids_of posts parents) text) else None
 
-abbrev pub message_of : List Pair → List (List ℕ) → ℕ → ℕ → List ℕ → List ℕ → Option MessageValue
+abbrev pub message_of : List KindAndDescriptor → List (List ℕ) → ℕ → ℕ → List ℕ → List ℕ → Option MessageValue
 message_of groups posts group time parents text = message_with posts (slice_get groups group) time parents text

@@ -8,7 +8,7 @@ use Rattle.sync_node.specs.Node.{NodeValue}
 use Rattle.world_devices.specs.Devices.{DeviceValue}
 use Rattle.world_devices.specs.Refusals.{by_facts, facts_of, refuses_group, refuses_link, refuses_message}
 use Rattle.world_links.specs.declared.moves.Move.TheVariants as move
-use Rattle.world_scripts.specs.Labels.{Pair}
+use Rattle.world_scripts.specs.Labels.{KindAndDescriptor}
 use Rattle.world_scripts.specs.declared.step.WorldStep.{WorldStep}
 use Rattle.world_scripts.specs.declared.step.WorldStep.TheVariants as step
 use Rattle.world_scripts.specs.declared.step.TheConstants.{MAX_ROUNDS}
@@ -28,7 +28,7 @@ abbrev pub lacks : GroupValue → DeviceValue → Bool
 lacks def d = by_facts (λ f. is_none (group_at f.groups (group_id_of def))) (facts_of d.node)
 
 -- the group of a label that is there
-abbrev pub group_labelled : Option Pair → Option GroupValue
+abbrev pub group_labelled : Option KindAndDescriptor → Option GroupValue
 group_labelled None = None
 group_labelled (Some group) = group_of group.0 group.1
 

@@ -1,9 +1,9 @@
 -- What a replay reads and writes, and what it comes to.
 use Rattle.std.specs.Prelude.{◌≡◌, ℕ, List, Some, Ok, Err}
 use Rattle.std.specs.Io.KnownBytes.{Appends}
-use Rattle.outside.specs.Faults.{Rose}
+use Rattle.outside.specs.Faults.{CountRose}
 use Rattle.outside.specs.Input.{ReadsAll, ReadsPart, ReadsTooMuch}
-use Rattle.outside.specs.Streams.{Stream, IsIdle, Gets, GetsFront}
+use Rattle.outside.specs.Streams.{Stream, IsIdle, GetsText, GetsFront}
 use Rattle.sync_words.specs.Outcomes.{status_of, text_of}
 use Rattle.sync_words.specs.declared.outcome.Outcome.{Outcome}
 use Rattle.sync_words.specs.declared.outcome.Outcome.TheVariants as outcome
@@ -38,26 +38,26 @@ pub record PrintsAll (p : Player) (out out' : Stream) : Type 0 where
 pub record PrintsFront (p : Player) (out out' : Stream) : Type 0 where
   pub text : List ℕ
   pub is : IsText p text
-  pub rose : Rose out.faults out'.faults
+  pub rose : CountRose out.faults out'.faults
   pub got : GetsFront out out' text
 
 -- what the printing of a world comes to; where memory was wanting for its text, nothing was written
-abbrev pub Prints : Player → (out out' : Stream) → Outcome → Type 0
-Prints p out out' outcome.Done = PrintsAll p out out'
-Prints p out out' outcome.WriteFault = PrintsFront p out out'
-Prints p out out' outcome.Memory = IsIdle out out'
-Prints p out out' _ = ⊥
+abbrev pub PrintsWorld : Player → (out out' : Stream) → Outcome → Type 0
+PrintsWorld p out out' outcome.Done = PrintsAll p out out'
+PrintsWorld p out out' outcome.WriteFault = PrintsFront p out out'
+PrintsWorld p out out' outcome.Memory = IsIdle out out'
+PrintsWorld p out out' _ = ⊥
 
 -- a world was played to its end and printed
-pub record PlayPrinted (what : Opening) (out out' : Stream) (came : Outcome) : Type 0 where
+pub record WorldPrinted (what : Opening) (out out' : Stream) (came : Outcome) : Type 0 where
   pub to : Player
   pub played : ScriptComes what (Ok to)
-  pub printed : Prints to out out' came
+  pub printed : PrintsWorld to out out' came
 
 -- A world was played, and printed where it was played to its end; in each other case nothing was written.
 abbrev pub PlaysOut : Opening → (out out' : Stream) → Outcome → Type 0
-PlaysOut what out out' outcome.Done = PlayPrinted what out out' outcome.Done
-PlaysOut what out out' outcome.WriteFault = PlayPrinted what out out' outcome.WriteFault
+PlaysOut what out out' outcome.Done = WorldPrinted what out out' outcome.Done
+PlaysOut what out out' outcome.WriteFault = WorldPrinted what out out' outcome.WriteFault
 PlaysOut what out out' outcome.Memory = IsIdle out out'
 PlaysOut what out out' came = ScriptComes what (Err came) × IsIdle out out'
 
@@ -78,7 +78,7 @@ pub record ReadsOver (input input' : Stream) : Type 0 where
 pub record ReadsNotAll (input input' : Stream) : Type 0 where
   pub front : List ℕ
   pub read : ReadsPart MAX_SCRIPT input.bytes input'.bytes front
-  pub rose : Rose input.faults input'.faults
+  pub rose : CountRose input.faults input'.faults
 
 abbrev pub OfScript : (input input' out out' : Stream) → Outcome → Type 0
 OfScript input input' out out' outcome.TooMuch = ReadsOver input input' × IsIdle out out'
@@ -89,19 +89,19 @@ OfScript input input' out out' came = PlaysScript input input' out out' came
 -- ---- all words
 
 -- the place of the first wrong word is named
-abbrev pub Names : ℕ → Outcome → Type 0
-Names place (outcome.Usage at) = at ≡ place
-Names place _ = ⊥
+abbrev pub NamesWord : ℕ → Outcome → Type 0
+NamesWord place (outcome.Usage at) = at ≡ place
+NamesWord place _ = ⊥
 
 -- What the words ask for, and what it comes to. But for a script nothing is read.
-abbrev pub Replays : Wanted → (input input' out out' : Stream) → Outcome → Type 0
-Replays (Wrong place) input input' out out' came = Names place came × IsIdle input input' × IsIdle out out'
-Replays (Wants asked.Script) input input' out out' came = OfScript input input' out out' came
-Replays (Wants (asked.Generated seed count)) input input' out out' came = IsIdle input input' × PlaysOut (made_by seed count) out out' came
+abbrev pub ReplaysWords : Wanted → (input input' out out' : Stream) → Outcome → Type 0
+ReplaysWords (Wrong place) input input' out out' came = NamesWord place came × IsIdle input input' × IsIdle out out'
+ReplaysWords (Wants asked.Script) input input' out out' came = OfScript input input' out out' came
+ReplaysWords (Wants (asked.Generated seed count)) input input' out out' came = IsIdle input input' × PlaysOut (made_by seed count) out out' came
 
 -- a replay: what the words ask for came to an outcome; the status is that outcome's, and the error output got its line
 pub record Replayed (words : Wanted) (input input' out out' err err' : Stream) (given : Status) : Type 0 where
   pub came : Outcome
-  pub replays : Replays words input input' out out' came
+  pub replays : ReplaysWords words input input' out out' came
   pub status : given ≡ status_of came
-  pub line : Gets err err' (text_of came)
+  pub line : GetsText err err' (text_of came)

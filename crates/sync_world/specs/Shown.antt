@@ -20,7 +20,7 @@ use Rattle.world_links.specs.Ends.{EndValue, flight_behind}
 use Rattle.world_links.specs.Links.{all_carried, end_of}
 use Rattle.world_laws.specs.Moves.{Move as WorldMove, Carry, Lose, Repeat, Swap}
 use Rattle.world_laws.specs.Theorem.{IsSoundWorld}
-use Rattle.world_laws.specs.Worlds.{AllHeard, AreSteps, End, HasNoBrief, HasSession, IsSent, Journal, Link as RecordLink, World, contact_for, last_of, link_in, way_of}
+use Rattle.world_laws.specs.Worlds.{AllHeard, AreSteps, End, HasNoBrief, HasSession, IsSent, Journal, WorldLink as RecordLink, World, contact_for, last_of, link_in, way_of}
 
 -- ---- what is shown
 
@@ -86,14 +86,14 @@ arrived l = if l.is_cut then l else all_carried side.Far (all_carried side.Near 
 -- ---- worlds that are reached
 
 -- a list of steps leads from one world to another
-pub record Reaches (clients : Meaning) (w w' : World) : Type 0 where
+pub record ReachesWorld (clients : Meaning) (w w' : World) : Type 0 where
   pub worlds : List World
   pub steps : AreSteps clients w worlds
   pub last : last_of w worlds ≡ w'
 
 -- steps that leave all journals as they are
 pub record MovesTo (clients : Meaning) (w w' : World) : Type 0 where
-  pub reached : Reaches clients w w'
+  pub reached : ReachesWorld clients w w'
   pub journals : w'.journals ≡ w.journals
 
 -- a world with these journals and links
@@ -130,7 +130,7 @@ pub record EndRuns (d : ℕ) (j : Journal) (other : ℕ) (old new : End) : Type 
   pub session : (new.session ≡ old.session) ⊎ BeginsAt d j other old new
   pub flight : (r : Record) → In r new.flight → In r old.flight ⊎ SendsAt d j old new r
 
-pub record LinkRuns (d : ℕ) (j : Journal) (old new : RecordLink) : Type 0 where
+pub record RunsLinkOfDevice (d : ℕ) (j : Journal) (old new : RecordLink) : Type 0 where
   pub near : EndRuns d j old.far.device old.near new.near
   pub far : EndRuns d j old.near.device old.far new.far
 
@@ -138,7 +138,7 @@ abbrev pub LinksRun : ℕ → Journal → List RecordLink → List RecordLink �
 LinksRun d j [] [] = Unit {0}
 LinksRun d j [] (y ∷ ys) = ⊥
 LinksRun d j (x ∷ xs) [] = ⊥
-LinksRun d j (x ∷ xs) (y ∷ ys) = LinkRuns d j x y × LinksRun d j xs ys
+LinksRun d j (x ∷ xs) (y ∷ ys) = RunsLinkOfDevice d j x y × LinksRun d j xs ys
 
 -- the records that ends of a device with this session were given, of one end and of all links
 abbrev pub is_session : Option ℕ → ℕ → Bool
@@ -198,7 +198,7 @@ pub record ShownEndRuns (d : ℕ) (j : Journal) (other : ℕ) (e : EndValue) (x 
 pub record ShownLinkRuns (d : ℕ) (j : Journal) (l : Link) (x : RecordLink) : Type 0 where
   pub after : RecordLink
   pub shown : ShowsLink l after
-  pub runs : LinkRuns d j x after
+  pub runs : RunsLinkOfDevice d j x after
 
 pub record ShownLinksRun (d : ℕ) (j : Journal) (ls : List Link) (xs : List RecordLink) : Type 0 where
   pub after : List RecordLink

@@ -32,7 +32,7 @@ pub record HearsMore (e e' : EndValue) : Type 0 where
   pub within : e'.heard ≤ length e'.given
 
 -- the link of this number at the device is to bring the next bytes that its end was given
-pub record Brings (a : ℕ) (old new : DeviceValue) (e e' : EndValue) : Type 0 where
+pub record BringsNextBytes (a : ℕ) (old new : DeviceValue) (e e' : EndValue) : Type 0 where
   pub same_node : new.node ≡ old.node
   pub same_links : new.links ≡ old.links
   pub here : a < old.links → brought_on new.host a ≡ brought_on old.host a ++ take PIECE_LEN (input_of e)
@@ -43,7 +43,7 @@ pub record Brings (a : ℕ) (old new : DeviceValue) (e e' : EndValue) : Type 0 w
 pub record PlansAt (old new : DeviceValue) (e e' : EndValue) : Type 0 where
   pub number : ℕ
   pub here : e.at ≡ Some number
-  pub brings : Brings number old new e e'
+  pub brings : BringsNextBytes number old new e e'
 
 -- an end is asked, or left
 abbrev pub PlansEnd : DeviceValue → DeviceValue → EndValue → EndValue → Type 0
@@ -103,7 +103,7 @@ pub record HasFreshEnd (d far i : ℕ) (links : List Link) : Type 0 where
   pub far_is : (end_of (other from) link).device ≡ far
 
 -- the call was made, and the device did not crash in it
-abbrev pub IsDone : {E : Type 0} → Result Ran E → Type 0
-IsDone (Ok ran.Done) = Unit {0}
-IsDone (Ok ran.Crashed) = ⊥
-IsDone (Err fault) = ⊥
+abbrev pub IsCallMade : {E : Type 0} → Result Ran E → Type 0
+IsCallMade (Ok ran.Done) = Unit {0}
+IsCallMade (Ok ran.Crashed) = ⊥
+IsCallMade (Err fault) = ⊥

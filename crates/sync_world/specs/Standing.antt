@@ -13,12 +13,12 @@ use Rattle.world_laws.specs.Worlds.{Journal, World, journal_at, journal_in}
 use Rattle.world_devices.specs.Brought.{brought_on}
 use Rattle.world_devices.specs.Devices.{DeviceValue}
 use Rattle.world_devices.specs.Linking.{DeviceLinksStand, number_of}
-use Rattle.world_devices.specs.Running.{Holds, Reads}
+use Rattle.world_devices.specs.Running.{HoldsAfterCrash, ReadsAsJournal}
 use Rattle.world_devices.specs.declared.stop.StepFault.{StepFault}
 use Rattle.world_devices.specs.declared.stop.StepFault.TheVariants as fault
 use Rattle.world_links.specs.Ends.{EndValue, input_of}
 use Rattle.world_links.specs.declared.link.Link.{Link}
-use Rattle.sync_world.specs.Shown.{Reaches, ShowsLinks, world_of}
+use Rattle.sync_world.specs.Shown.{ReachesWorld, ShowsLinks, world_of}
 use Rattle.sync_world.specs.declared.stage.Stage.{Stage}
 
 -- ---- devices
@@ -26,7 +26,7 @@ use Rattle.sync_world.specs.declared.stage.Stage.{Stage}
 -- it runs, whatever a crash leaves of its files stands for this legal journal, and its node has as many links as it
 pub record IsUp (j : Journal) (device : DeviceValue) : Type 0 where
   pub runs : is_some device.node ≡ true
-  pub holds : Holds j device.host
+  pub holds : HoldsAfterCrash j device.host
   pub legal : Legal bundle_meaning j
   pub numbered : number_of device.node ≡ Some device.links
 
@@ -38,7 +38,7 @@ pub record AreUp (js : List Journal) (devices : List DeviceValue) : Type 0 where
 -- there is a journal for each device, and the files of each as they read stand for its own
 pub record AreRead (js : List Journal) (devices : List DeviceValue) : Type 0 where
   pub same_number : length js ≡ length devices
-  pub each : (d : ℕ) (device : DeviceValue) → slice_get devices d ≡ Some device → Reads (journal_in js d) device.host
+  pub each : (d : ℕ) (device : DeviceValue) → slice_get devices d ≡ Some device → ReadsAsJournal (journal_in js d) device.host
 
 -- ---- ends of links
 
@@ -68,7 +68,7 @@ session_on device a = option_map (λ (n : NodeValue). n.first + a) device.node
 -- An end is wired to the link of this number at its device: it has the session of that link; what the link brings and what
 -- is yet to be heard are all that the end was given; and where the link is not cut, what was seen are the first records of
 -- the session.
-pub record IsWired (j : Journal) (device : DeviceValue) (cut : Bool) (e : EndValue) (a : ℕ) : Type 0 where
+pub record IsEndWired (j : Journal) (device : DeviceValue) (cut : Bool) (e : EndValue) (a : ℕ) : Type 0 where
   pub below : a < device.links
   pub session : e.session ≡ session_on device a
   pub brought : brought_on device.host a ++ input_of e ≡ e.given
@@ -84,13 +84,13 @@ pub record IsSeated (d : ℕ) (links : List Link) (a : ℕ) : Type 0 where
 -- each end that a device has is wired to the link of its number, no two have the same number, and each number has an end
 pub record AreWired (j : Journal) (d : ℕ) (device : DeviceValue) (links : List Link) : Type 0 where
   pub each : (i : ℕ) (l : Link) (e : EndValue) (a : ℕ) → slice_get links i ≡ Some l → own_end d l ≡ Some e → e.at ≡ Some a
-      → IsWired j device l.is_cut e a
+      → IsEndWired j device l.is_cut e a
   pub once : (i k : ℕ) (l m : Link) (a : ℕ) → slice_get links i ≡ Some l → slice_get links k ≡ Some m → place_on d l ≡ Some a
       → place_on d m ≡ Some a → i ≡ k
   pub all : (a : ℕ) → a < device.links → IsSeated d links a
 
 -- a link stands between two of so many devices, and neither end heard more than it was given
-pub record IsPlaced (count : ℕ) (l : Link) : Type 0 where
+pub record IsLinkPlaced (count : ℕ) (l : Link) : Type 0 where
   pub near : l.near.device < count
   pub far : l.far.device < count
   pub apart : l.near.device ≡ l.far.device → ⊥
@@ -98,7 +98,7 @@ pub record IsPlaced (count : ℕ) (l : Link) : Type 0 where
   pub far_heard : l.far.heard ≤ length l.far.given
 
 abbrev pub ArePlaced : ℕ → List Link → Type 0
-ArePlaced count links = (i : ℕ) (l : Link) → slice_get links i ≡ Some l → IsPlaced count l
+ArePlaced count links = (i : ℕ) (l : Link) → slice_get links i ≡ Some l → IsLinkPlaced count l
 
 abbrev pub AllWired : List Journal → List DeviceValue → List Link → Type 0
 AllWired js devices links = (d : ℕ) (device : DeviceValue) → slice_get devices d ≡ Some device → AreWired (journal_in js d) d device links
@@ -123,13 +123,13 @@ is_fatal (Err fault.Memory) = true
 -- devices and links show it.
 pub record LeadsOn (w : World) (fatal : Bool) (devices : List DeviceValue) (links : List Link) : Type 0 where
   pub after : World
-  pub reached : Reaches bundle_meaning w after
+  pub reached : ReachesWorld bundle_meaning w after
   pub read : AreRead after.journals devices
   pub shown : fatal ≡ false → IsShown after devices links
 
 -- so it is from each world that was shown before
-abbrev pub Goes : Bool → Stage → Stage → Type 0
-Goes fatal old new = (w : World) → IsShown w old.devices.items old.links.items → LeadsOn w fatal new.devices.items new.links.items
+abbrev pub LeadsFromShown : Bool → Stage → Stage → Type 0
+LeadsFromShown fatal old new = (w : World) → IsShown w old.devices.items old.links.items → LeadsOn w fatal new.devices.items new.links.items
 
 -- the fault that a stage has answered
 abbrev pub is_harmed : Option StepFault → Bool

@@ -1,7 +1,7 @@
 //! What the words ask for.
 ghost use Rattle.std.specs.Prelude.{◌≡◌, IfOk};
 ghost use Rattle.sync_words.specs.Words.{texts};
-ghost use Rattle.sync_world.specs.Asking.{IsWithin, answer_of, asks, count_asked, wants};
+ghost use Rattle.sync_world.specs.Asking.{IsWorldWithin, answer_of, asks, count_asked, wants};
 ghost use Rattle.sync_world.specs.Asking.{world_asked};
 
 use sync_words::{Outcome, number};
@@ -20,7 +20,7 @@ pub(crate) enum Asked {
 /// words where one is missing.
 pub(crate) fn read_words(words: &[String]) -> Result<Asked, Outcome>
     ensures asked { result ≡ answer_of (asks (texts words.now)) }
-    ensures within { IfOk result IsWithin }
+    ensures within { IfOk result IsWorldWithin }
 {
     let [name, rest @ ..] = words else {
         return Ok(Asked::Script);
@@ -34,7 +34,7 @@ pub(crate) fn read_words(words: &[String]) -> Result<Asked, Outcome>
 // Reads the words behind `gen`.
 fn read_world(words: &[String]) -> Result<Asked, Outcome>
     ensures asked { result ≡ answer_of (world_asked (texts words.now)) }
-    ensures within { IfOk result IsWithin }
+    ensures within { IfOk result IsWorldWithin }
 {
     let [word, rest @ ..] = words else {
         return Err(Outcome::Usage(1));
@@ -48,7 +48,7 @@ fn read_world(words: &[String]) -> Result<Asked, Outcome>
 // Reads the words behind the seed.
 fn read_count(seed: u64, words: &[String]) -> Result<Asked, Outcome>
     ensures asked { result ≡ answer_of (count_asked seed (texts words.now)) }
-    ensures within { IfOk result IsWithin }
+    ensures within { IfOk result IsWorldWithin }
 {
     let [word, rest @ ..] = words else {
         return Err(Outcome::Usage(2));
@@ -61,9 +61,9 @@ fn read_count(seed: u64, words: &[String]) -> Result<Asked, Outcome>
 
 // Behind the count no word is left.
 fn read_end(asked: Asked, words: &[String]) -> Result<Asked, Outcome>
-    requires { IsWithin asked }
+    requires { IsWorldWithin asked }
     ensures asked { result ≡ answer_of (wants asked 3 (texts words.now)) }
-    ensures within { IfOk result IsWithin }
+    ensures within { IfOk result IsWorldWithin }
 {
     if words.is_empty() {
         Ok(asked)

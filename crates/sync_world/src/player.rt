@@ -3,8 +3,8 @@ ghost use Rattle.std.specs.Prelude.{◌≡◌, ◌+◌, ◌<◌, ◌^◌, ◌≤
 ghost use Rattle.std.specs.Prelude.{slice_get};
 ghost use Rattle.std.specs.String.{string_bytes};
 ghost use Rattle.sync_words.specs.Outcomes.{came_to};
-ghost use Rattle.sync_world.specs.Playing.{Acts, IsFirst, Marks, Steps};
-ghost use Rattle.sync_world.specs.Replay.{Prints};
+ghost use Rattle.sync_world.specs.Playing.{AnswersAction, IsFirst, MarksDevice, StepsWorld};
+ghost use Rattle.sync_world.specs.Replay.{PrintsWorld};
 ghost use Rattle.sync_world.specs.Showing.{AddsDevice, CountsOne, HasCounted, device_line};
 ghost use Rattle.sync_world.specs.Showing.{device_lines, facts_of, is_marked, player_lines};
 ghost use Rattle.sync_world.specs.Showing.{total_of};
@@ -59,7 +59,7 @@ impl Player {
     /// Does what a line says.
     pub(crate) fn act(&mut self, action: &Action) -> Result<(), StepFault>
         requires { self.old.devices ≤ MAX_DEVICES }
-        ensures { Acts action.now self.old self.new result }
+        ensures { AnswersAction action.now self.old self.new result }
     {
         match action {
             Action::Step(step) => self.step(step),
@@ -69,7 +69,7 @@ impl Player {
 
     // Makes a step.
     fn step(&mut self, step: &WorldStep) -> Result<(), StepFault>
-        ensures { Steps step.now self.old self.new result }
+        ensures { StepsWorld step.now self.old self.new result }
     {
         self.world.step(step)
     }
@@ -77,7 +77,7 @@ impl Player {
     // Marks a device.
     fn show(&mut self, device: u8) -> Result<(), StepFault>
         requires { self.old.devices ≤ MAX_DEVICES }
-        ensures { Marks device self.old self.new result }
+        ensures { MarksDevice device self.old self.new result }
     {
         if device >= self.devices {
             return Err(StepFault::Refused);
@@ -88,7 +88,7 @@ impl Player {
 
     /// Prints what each device holds: the lines that the journals of the devices make.
     pub(crate) fn print<W: Sink>(&self, alloc: Global, out: &mut W) -> Result<(), Outcome>
-        ensures { Prints self.now (W.tells out.old) (W.tells out.new) (came_to result) }
+        ensures { PrintsWorld self.now (W.tells out.old) (W.tells out.new) (came_to result) }
     {
         self.world.many_devices_stand();
         let text = self.text(alloc)?;

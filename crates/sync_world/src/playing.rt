@@ -3,9 +3,9 @@ ghost use Rattle.std.specs.Prelude.{◌≡◌, ◌≤◌, length};
 ghost use Rattle.sync_words.specs.Outcomes.{came_to};
 ghost use Rattle.sync_words.specs.Words.{texts};
 ghost use Rattle.sync_world.specs.Asking.{asks};
-ghost use Rattle.sync_world.specs.Playing.{ActsAt, Comes, ScriptComes};
+ghost use Rattle.sync_world.specs.Playing.{ActsAt, CourseComesTo, ScriptComes};
 ghost use Rattle.sync_world.specs.Playing.{came_at, came_unread, made_by};
-ghost use Rattle.sync_world.specs.Replay.{OfScript, PlaysOut, Replayed, Replays};
+ghost use Rattle.sync_world.specs.Replay.{OfScript, PlaysOut, Replayed, ReplaysWords};
 ghost use Rattle.world_scripts.specs.Courses.{said};
 
 use crate::asking::{Asked, read_words};
@@ -49,7 +49,7 @@ fn play<S: Source, W: Sink>(
     input: &mut S,
     out: &mut W,
 ) -> Result<(), Outcome>
-    ensures { Replays (asks (texts words.now)) (S.tells input.old) (S.tells input.new)
+    ensures { ReplaysWords (asks (texts words.now)) (S.tells input.old) (S.tells input.new)
         (W.tells out.old) (W.tells out.new) (came_to result) }
 {
     match read_words(words)? {
@@ -130,7 +130,7 @@ fn play_course(
 ) -> Result<Player, Outcome>
     requires least { MIN_DEVICES ≤ devices }
     requires most { devices ≤ MAX_DEVICES }
-    ensures { Comes devices script.old result }
+    ensures { CourseComesTo devices script.old result }
 {
     let mut player = Player::new(alloc, hasher, devices)?;
     'lines: loop {

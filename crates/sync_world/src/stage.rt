@@ -3,14 +3,14 @@ ghost use Rattle.std.specs.Prelude.{◌≡◌, ◌≢◌, ◌<◌, ◌≤◌, �
 ghost use Rattle.std.specs.Prelude.{OnOk, Some};
 ghost use Rattle.std.specs.Prelude.{is_none, length, map, slice_get};
 ghost use Rattle.std.specs.List.{list_any};
-ghost use Rattle.sync_world.specs.Beginning.{IsNewWorld};
+ghost use Rattle.sync_world.specs.Beginning.{IsNewStage};
 ghost use Rattle.sync_world.specs.Shown.{arrived};
 ghost use Rattle.sync_world.specs.Turning.{is_moving};
-ghost use Rattle.sync_world.specs.Staging.{HasFreshEnd, IsDone, after_ran, attached_at, begun_with};
+ghost use Rattle.sync_world.specs.Staging.{HasFreshEnd, IsCallMade, after_ran, attached_at, begun_with};
 ghost use Rattle.world_laws.specs.Worlds as W;
-ghost use Rattle.sync_world.specs.Standing.{Goes, IsWorld, is_fatal};
+ghost use Rattle.sync_world.specs.Standing.{LeadsFromShown, IsWorld, is_fatal};
 ghost use Rattle.sync_rules.specs.Legal.{suits_nonce};
-ghost use Rattle.sync_world.specs.Moving.{Becomes, BecomesOne, LeavesDevices, LinksBecome};
+ghost use Rattle.sync_world.specs.Moving.{MakesOfLink, BecomesOne, LeavesDevices, LinksBecome};
 ghost use Rattle.sync_world.specs.Moving.{fault_after, link_cut, link_moved};
 ghost use Rattle.sync_world.specs.Doing.{DoesBy, ground_of};
 ghost use Rattle.sync_world.specs.Parts.{AttachesBy, DialsBy, RoundBy, TurnsBy, TurnsLinkedBy};
@@ -71,7 +71,7 @@ impl Stage {
     pub fn new(alloc: Global, hasher: RandomState, devices: u8) -> Result<Stage, StepFault>
         requires least { 2 ≤ devices }
         requires most { devices ≤ 8 }
-        ensures new { IfOk result (IsNewWorld devices) }
+        ensures new { IfOk result (IsNewStage devices) }
         ensures world { IfOk result IsWorld }
     {
         let mut all = Vec::new(alloc);
@@ -91,7 +91,7 @@ impl Stage {
     /// Makes a step. After `Refused` the world is as before; after `Memory` or `Full` it answers
     /// that fault for good.
     pub fn step(&mut self, step: &WorldStep) -> Result<(), StepFault>
-        ensures goes { self.old.fault ≡ None → Goes (is_fatal result) self.old self.new }
+        ensures goes { self.old.fault ≡ None → LeadsFromShown (is_fatal result) self.old self.new }
         ensures for_good { (fault : StepFault) → self.old.fault ≡ Some fault
             → (result ≡ Err fault) × (self.new ≡ self.old) }
         ensures fault { self.old.fault ≡ None → self.new.fault ≡ fault_after result }
@@ -120,7 +120,7 @@ impl Stage {
         ensures links { LinksBecome step.now self.old.links.items self.new.links.items result }
         ensures devices { LeavesDevices step.now self.old.devices.items self.new.devices.items }
         ensures fault { self.new.fault ≡ self.old.fault }
-        ensures goes { Goes (is_fatal result) self.old self.new }
+        ensures goes { LeadsFromShown (is_fatal result) self.old self.new }
         ensures refused { KnowContacts self.old.devices.items
             → RefusedBy (refuses step.now self.old) result }
         ensures same { KnowContacts self.old.devices.items → IsErrOf result StepFault.Refused
@@ -154,7 +154,7 @@ impl Stage {
 impl Stage {
     fn add_group(&mut self, d: u8, kind: u8, descriptor: &str) -> Result<(), StepFault>
         ensures fault { self.new.fault ≡ self.old.fault }
-        ensures goes { Goes (is_fatal result) self.old self.new }
+        ensures goes { LeadsFromShown (is_fatal result) self.old self.new }
         ensures refused { RefusedBy (refuses (WorldStep.Group d kind descriptor.now) self.old)
             result }
         ensures same { IsErrOf result StepFault.Refused → IsSame self.old self.new }
@@ -174,7 +174,7 @@ impl Stage {
 
     fn share(&mut self, d: u8, e: u8, group: u64, level: Level) -> Result<(), StepFault>
         ensures fault { self.new.fault ≡ self.old.fault }
-        ensures goes { Goes (is_fatal result) self.old self.new }
+        ensures goes { LeadsFromShown (is_fatal result) self.old self.new }
         ensures refused { KnowContacts self.old.devices.items
             → RefusedBy (refuses (WorldStep.Share d e group level) self.old) result }
         ensures same { KnowContacts self.old.devices.items → IsErrOf result StepFault.Refused
@@ -207,7 +207,7 @@ impl Stage {
         text: &[u8],
     ) -> Result<(), StepFault>
         ensures fault { self.new.fault ≡ self.old.fault }
-        ensures goes { Goes (is_fatal result) self.old self.new }
+        ensures goes { LeadsFromShown (is_fatal result) self.old self.new }
         ensures refused { RefusedBy (refuses (WorldStep.Post d group time parents.now text.now)
             self.old) result }
         ensures same { IsErrOf result StepFault.Refused → IsSame self.old self.new }
@@ -257,7 +257,7 @@ impl Stage {
 
     fn set_clock(&mut self, at: u64) -> Result<(), StepFault>
         ensures fault { self.new.fault ≡ self.old.fault }
-        ensures goes { Goes (is_fatal result) self.old self.new }
+        ensures goes { LeadsFromShown (is_fatal result) self.old self.new }
         ensures refused { RefusedBy (refuses (WorldStep.Clock at) self.old) result }
         ensures same { IsErrOf result StepFault.Refused → IsSame self.old self.new }
         ensures does { DoesBy (WorldStep.Clock at) result self.old self.new }
@@ -272,7 +272,7 @@ impl Stage {
 
     fn stop(&mut self, d: u8, calls: u64, pick: Pick) -> Result<(), StepFault>
         ensures fault { self.new.fault ≡ self.old.fault }
-        ensures goes { Goes (is_fatal result) self.old self.new }
+        ensures goes { LeadsFromShown (is_fatal result) self.old self.new }
         ensures refused { RefusedBy (refuses (WorldStep.Stop d calls pick) self.old) result }
         ensures same { IsErrOf result StepFault.Refused → IsSame self.old self.new }
         ensures does { DoesBy (WorldStep.Stop d calls pick) result self.old self.new }
@@ -288,7 +288,7 @@ impl Stage {
 
     fn restart(&mut self, d: u8) -> Result<(), StepFault>
         ensures fault { self.new.fault ≡ self.old.fault }
-        ensures goes { Goes (is_fatal result) self.old self.new }
+        ensures goes { LeadsFromShown (is_fatal result) self.old self.new }
         ensures refused { RefusedBy (refuses (WorldStep.Restart d) self.old) result }
         ensures same { IsErrOf result StepFault.Refused → IsSame self.old self.new }
         ensures does { DoesBy (WorldStep.Restart d) result self.old self.new }
@@ -322,7 +322,7 @@ impl Stage {
 impl Stage {
     fn link(&mut self, d: u8, e: u8, mode: Mode, latency: u32) -> Result<(), StepFault>
         ensures fault { self.new.fault ≡ self.old.fault }
-        ensures goes { Goes (is_fatal result) self.old self.new }
+        ensures goes { LeadsFromShown (is_fatal result) self.old self.new }
         ensures refused { KnowContacts self.old.devices.items
             → RefusedBy (refuses (WorldStep.Link d e mode latency) self.old) result }
         ensures same { KnowContacts self.old.devices.items → IsErrOf result StepFault.Refused
@@ -350,7 +350,7 @@ impl Stage {
         requires near { d < length self.old.devices.items }
         requires far { e < length self.old.devices.items }
         ensures fault { self.new.fault ≡ self.old.fault }
-        ensures goes { Goes (is_fatal result) self.old self.new }
+        ensures goes { LeadsFromShown (is_fatal result) self.old self.new }
         ensures fresh { IfOk result (λ link. HasFreshEnd d e link self.new.links.items) }
         ensures other { IfOk result (λ link. HasFreshEnd e d link self.new.links.items) }
         ensures devices { self.new.devices.items ≡ self.old.devices.items }
@@ -398,9 +398,9 @@ impl Stage {
         ensures fault { self.new.fault ≡ self.old.fault }
         ensures goes { (far : ℕ) → plan.now.contact ≡ W.contact_for d far
             → HasFreshEnd d far link self.old.links.items
-            → Goes (is_fatal result) self.old self.new }
+            → LeadsFromShown (is_fatal result) self.old self.new }
         ensures fresh { (k far : ℕ) → k ≢ d → HasFreshEnd k far link self.old.links.items
-            → IsDone result → HasFreshEnd k far link self.new.links.items }
+            → IsCallMade result → HasFreshEnd k far link self.new.links.items }
         ensures devices { length self.new.devices.items ≡ length self.old.devices.items }
         ensures refused { RefusedBy (refuses_to_attach plan.now.contact
             (slice_get self.old.devices.items d)) result }
@@ -431,7 +431,7 @@ impl Stage {
     // A turn of a device.
     fn turn_once(&mut self, d: u8) -> Result<(), StepFault>
         ensures fault { self.new.fault ≡ self.old.fault }
-        ensures goes { Goes (is_fatal result) self.old self.new }
+        ensures goes { LeadsFromShown (is_fatal result) self.old self.new }
         ensures refused { RefusedBy (refuses (WorldStep.Turn d) self.old) result }
         ensures same { IsErrOf result StepFault.Refused → IsSame self.old self.new }
         ensures does { DoesBy (WorldStep.Turn d) result self.old self.new }
@@ -443,7 +443,7 @@ impl Stage {
     // A turn of a device. Answers whether all its links were still, or nothing where it crashed.
     fn turn(&mut self, d: u8) -> Result<Option<bool>, StepFault>
         ensures fault { self.new.fault ≡ self.old.fault }
-        ensures goes { Goes (is_fatal result) self.old self.new }
+        ensures goes { LeadsFromShown (is_fatal result) self.old self.new }
         ensures refused { RefusedBy (is_none (slice_get self.old.devices.items d)) result }
         ensures same { IsErrOf result StepFault.Refused → IsSame self.old self.new }
         ensures turns { TurnsBy d result (ground_of self.old) (ground_of self.new) }
@@ -468,10 +468,10 @@ impl Stage {
     // The first records in flight from a device move.
     fn move_first(&mut self, link: u64, d: u8, how: Move) -> Result<(), StepFault>
         ensures devices { self.new.devices.items ≡ self.old.devices.items }
-        ensures links { Becomes (link_moved how d (slice_get self.old.links.items link)) link
+        ensures links { MakesOfLink (link_moved how d (slice_get self.old.links.items link)) link
             self.old.links.items self.new.links.items result }
         ensures fault { self.new.fault ≡ self.old.fault }
-        ensures goes { Goes (is_fatal result) self.old self.new }
+        ensures goes { LeadsFromShown (is_fatal result) self.old self.new }
         ensures groups { self.new.groups ≡ self.old.groups }
         ensures posts { self.new.posts.items ≡ self.old.posts.items }
     {
@@ -484,10 +484,10 @@ impl Stage {
 
     fn cut(&mut self, link: u64) -> Result<(), StepFault>
         ensures devices { self.new.devices.items ≡ self.old.devices.items }
-        ensures links { Becomes (link_cut (slice_get self.old.links.items link)) link
+        ensures links { MakesOfLink (link_cut (slice_get self.old.links.items link)) link
             self.old.links.items self.new.links.items result }
         ensures fault { self.new.fault ≡ self.old.fault }
-        ensures goes { Goes (is_fatal result) self.old self.new }
+        ensures goes { LeadsFromShown (is_fatal result) self.old self.new }
         ensures groups { self.new.groups ≡ self.old.groups }
         ensures posts { self.new.posts.items ≡ self.old.posts.items }
     {
@@ -500,7 +500,7 @@ impl Stage {
 
     fn rest(&mut self, rounds: u32) -> Result<(), StepFault>
         ensures fault { self.new.fault ≡ self.old.fault }
-        ensures goes { Goes (is_fatal result) self.old self.new }
+        ensures goes { LeadsFromShown (is_fatal result) self.old self.new }
         ensures refused { RefusedBy (refuses (WorldStep.Rest rounds) self.old) result }
         ensures same { IsErrOf result StepFault.Refused → IsSame self.old self.new }
         ensures does { DoesBy (WorldStep.Rest rounds) result self.old self.new }
@@ -521,7 +521,7 @@ impl Stage {
     // flight arrives.
     fn round(&mut self) -> Result<Round, StepFault>
         ensures fault { self.new.fault ≡ self.old.fault }
-        ensures goes { Goes (is_fatal result) self.old self.new }
+        ensures goes { LeadsFromShown (is_fatal result) self.old self.new }
         ensures unrefused { IsNotRefused result }
         ensures made { RoundBy result (ground_of self.old) (ground_of self.new) }
         ensures groups { self.new.groups ≡ self.old.groups }
@@ -546,7 +546,7 @@ impl Stage {
     // A turn of a device that has had a link since it was started; another one is still.
     fn turn_if_linked(&mut self, d: u8) -> Result<Option<bool>, StepFault>
         ensures fault { self.new.fault ≡ self.old.fault }
-        ensures goes { Goes (is_fatal result) self.old self.new }
+        ensures goes { LeadsFromShown (is_fatal result) self.old self.new }
         ensures unrefused { IsNotRefused result }
         ensures turns { TurnsLinkedBy d result (ground_of self.old) (ground_of self.new) }
         ensures groups { self.new.groups ≡ self.old.groups }

@@ -1,6 +1,6 @@
 //! The world and its steps.
 ghost use Rattle.std.specs.Prelude.{◌≡◌, ◌≤◌, Err, IfOk, IsErrOf, None, Some};
-ghost use Rattle.sync_world.specs.Beginning.{IsNewWorld};
+ghost use Rattle.sync_world.specs.Beginning.{IsNewStage};
 ghost use Rattle.sync_world.specs.Doing.{DoesBy};
 ghost use Rattle.sync_world.specs.Leaving.{IsSame};
 ghost use Rattle.sync_world.specs.Refusing.{refuses};
@@ -47,7 +47,7 @@ impl World {
     pub fn new(alloc: Global, hasher: RandomState, devices: u8) -> Result<World, StepFault>
         requires least { 2 ≤ devices }
         requires most { devices ≤ 8 }
-        ensures new { IfOk result (IsNewWorld devices) }
+        ensures new { IfOk result (IsNewStage devices) }
         ensures many { IfOk result (λ world. IsManyDevices world.devices.items) }
     {
         many_devices();

@@ -1,6 +1,6 @@
 //! A store with its disk: the value keeps what a call on the one needs of the other.
 ghost use Rattle.std.specs.Prelude.{◌≡◌, ◌≤◌, false, true, IfOk};
-ghost use Rattle.journal_state.specs.Whole.{Knows};
+ghost use Rattle.journal_state.specs.Whole.{KnowsJudgements};
 ghost use Rattle.outside.specs.declared.limits.TheConstants.{MAX_JOURNAL};
 ghost use Rattle.sync_rules.specs.Allows.{is_account_kind, is_settling_kind};
 ghost use Rattle.sync_rules.specs.Legal.{Allowed};
@@ -31,13 +31,13 @@ pub struct Device<D: Disk, C: Clients> {
 }
 
 impl<D: Disk, C: Clients> Model for Device<D, C> {
-    ghost use Rattle.test_device.specs.Device.{IsDevice};
+    ghost use Rattle.test_device.specs.Device.{IsTestStore};
 
     ghost Value = { Unit {0} };
 
     ghost view = { λ _. tt };
 
-    ghost invariant = { λ d. IsDevice (C.meaning d.clients) d.store (D.tells d.disk).files };
+    ghost invariant = { λ d. IsTestStore (C.meaning d.clients) d.store (D.tells d.disk).files };
 }
 
 impl<D: Disk + Drop, C: Clients + Drop> Device<D, C> {
@@ -166,7 +166,7 @@ fn compact<D: Disk, C: Clients>(
 
 // Whether the journal of a store is settled and of format 2.
 fn may_compact(store: &Store) -> bool
-    ensures settled { (clients : Meaning) → Knows clients store.now.state
+    ensures settled { (clients : Meaning) → KnowsJudgements clients store.now.state
         → result ≡ true → IsSettled clients store.now.state.facts }
     ensures short { result ≡ true → written_in store.now ≡ kind.Short }
 {
@@ -181,7 +181,7 @@ fn may_add<C: Clients>(
     clients: &C,
     batch: &Batch,
 ) -> Result<bool, AllocError>
-    requires { store.now.closed ≡ false → Knows (C.meaning clients.now) store.now.state }
+    requires { store.now.closed ≡ false → KnowsJudgements (C.meaning clients.now) store.now.state }
     ensures allowed { IfOk result (λ yes. yes ≡ true → store.now.closed ≡ false
         → Allowed (C.meaning clients.now) store.now.state.facts batch.now) }
     ensures kind { IfOk result (λ yes. yes ≡ true → is_settling_kind batch.now ≡ false) }

@@ -8,10 +8,10 @@ use Rattle.outside.specs.Outside.{DiskRun, Outside}
 use Rattle.sync_rules.specs.Clients.{Meaning}
 use Rattle.sync_node.specs.declared.fault.NodeFault.{NodeFault}
 use Rattle.sync_node.specs.declared.fault.NodeFault.TheVariants as fault
-use Rattle.sync_node.specs.Node.{Answers, Attaches, KeepsJoined, MayRun, NodeValue, StaysClosed}
+use Rattle.sync_node.specs.Node.{AnswersAndCloses, AttachesLink, KeepsJoined, MayRun, NodeValue, StaysClosed}
 use Rattle.sync_store.specs.Ready.{IsReady}
 use Rattle.sync_store.specs.Store.{StoreValue}
-use Rattle.test_links.specs.Device.{IsDevice}
+use Rattle.test_links.specs.Device.{IsTestNode}
 
 -- what an Ok leaves of a node: so many links more, and no fewer that were dialled
 record Grows (more : ℕ) (n n' : NodeValue) (o o' : Outside) : Type 0 where
@@ -20,7 +20,7 @@ record Grows (more : ℕ) (n n' : NodeValue) (o o' : Outside) : Type 0 where
 
 -- a node that is closed
 closed_device : (clients : Meaning) (n' : NodeValue) (o' : Outside) (links : ℕ) (failed : Bool)
-    → failed ≡ true → n'.closed ≡ true → MayRun clients n' o' → IsDevice clients n' o' links failed
+    → failed ≡ true → n'.closed ≡ true → MayRun clients n' o' → IsTestNode clients n' o' links failed
 closed_device clients n' o' links failed fails shut may = record {
   same_closed = fails ∙ sym shut;
   may = may;
@@ -31,12 +31,12 @@ closed_device clients n' o' links failed fails shut may = record {
 -- a call of a node that was not closed
 on_called : {T : Type 0} (clients : Meaning) (n n' : NodeValue) (o o' : Outside) (links more : ℕ)
     (closed : Bool) (result : Result T NodeFault)
-    → IsDevice clients n o links closed
+    → IsTestNode clients n o links closed
     → n.closed ≡ false
-    → Answers result n'
+    → AnswersAndCloses result n'
     → MayRun clients n' o'
     → OnOk result (Grows more n n' o o')
-    → IsDevice clients n' o' (links + more) (is_err result)
+    → IsTestNode clients n' o' (links + more) (is_err result)
 on_called clients n n' o o' links more closed (Ok x) device on answer may grows = record {
   same_closed = sym answer;
   may = may;
@@ -55,14 +55,14 @@ on_called clients n n' o o' links more closed (Err fault.Closed) device on answe
 -- any call
 called : {T H : Type 0} (clients : Meaning) (n n' : NodeValue) (host host' : H) (o o' : Outside)
     (links more : ℕ) (closed : Bool) (result : Result T NodeFault)
-    → IsDevice clients n o links closed
+    → IsTestNode clients n o links closed
     → (n.closed ≡ true → StaysClosed n n' host host' result)
-    → (n.closed ≡ false → Answers result n')
+    → (n.closed ≡ false → AnswersAndCloses result n')
     → MayRun clients n' o'
     → OnOk result (Grows more n n' o o')
-    → IsDevice clients n' o' (links + more) (is_err result)
+    → IsTestNode clients n' o' (links + more) (is_err result)
 called clients n n' host host' o o' links more closed result device stays answer may grows =
-    elim n.closed as (λ b. n.closed ≡ b → IsDevice clients n' o' (links + more) (is_err result)) [
+    elim n.closed as (λ b. n.closed ≡ b → IsTestNode clients n' o' (links + more) (is_err result)) [
       | true ↦ λ shut.
           let same = stays shut in
           closed_device clients n' o' _ (is_err result) (ap is_err same.answer)
@@ -83,7 +83,7 @@ kept clients n n' o o' (Err f) keeps = tt
 
 attached : {T : Type 0} (clients : Meaning) (n n' : NodeValue) (o o' : Outside)
     (result : Result T NodeFault)
-    → OnOk result (Attaches clients n n' o o')
+    → OnOk result (AttachesLink clients n n' o o')
     → OnOk result (Grows 1 n n' o o')
 attached clients n n' o o' (Ok x) attaches = record {
   longer = attaches.one_more;
@@ -94,13 +94,13 @@ attached clients n n' o o' (Err f) attaches = tt
 -- a device before, and what a call of its node says, give a device again
 pub device_kept : {T H : Type 0} (clients : Meaning) (n n' : NodeValue) (host host' : H)
     (o o' : Outside) (links : ℕ) (closed failed : Bool) (result : Result T NodeFault)
-    → IsDevice clients n o links closed
+    → IsTestNode clients n o links closed
     → (n.closed ≡ true → StaysClosed n n' host host' result)
-    → (n.closed ≡ false → Answers result n')
+    → (n.closed ≡ false → AnswersAndCloses result n')
     → MayRun clients n' o'
     → OnOk result (KeepsJoined clients n n' o o')
     → failed ≡ is_err result
-    → IsDevice clients n' o' links failed
+    → IsTestNode clients n' o' links failed
 device_kept clients n n' host host' o o' links closed failed result device stays answer may keeps is =
     let same : links + 0 ≡ links = omega arith in
     rw (is, ← same)
@@ -110,13 +110,13 @@ device_kept clients n n' host host' o o' links closed failed result device stays
 -- the same of a call that begins a session on the next link
 pub device_attached : {T H : Type 0} (clients : Meaning) (n n' : NodeValue) (host host' : H)
     (o o' : Outside) (links : ℕ) (closed failed : Bool) (result : Result T NodeFault)
-    → IsDevice clients n o links closed
+    → IsTestNode clients n o links closed
     → (n.closed ≡ true → StaysClosed n n' host host' result)
-    → (n.closed ≡ false → Answers result n')
+    → (n.closed ≡ false → AnswersAndCloses result n')
     → MayRun clients n' o'
-    → OnOk result (Attaches clients n n' o o')
+    → OnOk result (AttachesLink clients n n' o o')
     → failed ≡ is_err result
-    → IsDevice clients n' o' (links + 1) failed
+    → IsTestNode clients n' o' (links + 1) failed
 device_attached clients n n' host host' o o' links closed failed result device stays answer may
     attaches is =
     rw is
@@ -130,7 +130,7 @@ pub device_begun : (clients : Meaning) (n : NodeValue) (s : StoreValue) (first :
     → IsReady clients s o'.files
     → DiskRun o o'
     → o.links.dialled ≡ LINKS
-    → IsDevice clients n o' 0 false
+    → IsTestNode clients n o' 0 false
 device_begun clients n s first o o' is ready run all = rw is (record {
   same_closed = refl;
   may = λ _. record {

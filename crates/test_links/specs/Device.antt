@@ -7,7 +7,7 @@ use Rattle.sync_node.specs.Node.{MayRun, NodeValue}
 
 -- unless a call of it failed, the node may go on and has so many links, and all that there may be
 -- were dialled
-pub record IsDevice (clients : Meaning) (n : NodeValue) (o : Outside) (links : ℕ) (closed : Bool)
+pub record IsTestNode (clients : Meaning) (n : NodeValue) (o : Outside) (links : ℕ) (closed : Bool)
     : Type 0 where
   pub same_closed : closed ≡ n.closed
   pub may : MayRun clients n o

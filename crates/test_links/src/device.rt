@@ -2,7 +2,7 @@
 ghost use Rattle.std.specs.Prelude.{◌≡◌, ◌∷◌, ◌<◌, ◌≤◌, [], false, length, slice_get, true};
 ghost use Rattle.std.specs.Prelude.{IfOk, IsSome, IsTrue};
 ghost use Rattle.std.specs.Option.{option_map};
-ghost use Rattle.journal_state.specs.Whole.{Knows};
+ghost use Rattle.journal_state.specs.Whole.{KnowsJudgements};
 ghost use Rattle.outside.specs.declared.limits.TheConstants.{LINKS};
 ghost use Rattle.sync_rules.specs.declared.limits.TheConstants.{MAX_SESSIONS};
 ghost use Rattle.outside.specs.HostTold.{host_told};
@@ -37,13 +37,13 @@ pub struct Device<C: Clients> {
 
 impl<C: Clients> Model for Device<C> {
     ghost use Rattle.outside.specs.HostTold.{host_told};
-    ghost use Rattle.test_links.specs.Device.{IsDevice};
+    ghost use Rattle.test_links.specs.Device.{IsTestNode};
 
     ghost Value = { Unit {0} };
 
     ghost view = { λ _. tt };
 
-    ghost invariant = { λ d. IsDevice (C.meaning d.clients) d.node (host_told d.host) d.links
+    ghost invariant = { λ d. IsTestNode (C.meaning d.clients) d.node (host_told d.host) d.links
         d.closed };
 }
 
@@ -252,7 +252,7 @@ fn batch_of<C: Clients>(
     closed: bool,
     entry: Entry,
 ) -> Result<Batch, Fault>
-    requires { closed ≡ false → Knows (C.meaning clients.now) store.now.state }
+    requires { closed ≡ false → KnowsJudgements (C.meaning clients.now) store.now.state }
     ensures plain { IfOk result (λ batch. IsPlain batch) }
     ensures allowed { IfOk result (λ batch. closed ≡ false
         → Allowed (C.meaning clients.now) store.now.state.facts batch) }
@@ -275,7 +275,7 @@ fn may_attach(store: &Store, plan: &Plan, nonce: &Option<Nonce>) -> bool
     ensures begun { IsTrue result → store.now.state.facts.begun < MAX_SESSIONS }
     ensures latency { IsTrue result → 1 ≤ plan.now.latency }
     ensures nonce { IsTrue result → suits_nonce plan.now.mode nonce.now ≡ true }
-    ensures settled { IsTrue result → (clients : Meaning) → Knows clients store.now.state
+    ensures settled { IsTrue result → (clients : Meaning) → KnowsJudgements clients store.now.state
         → IsSettled clients store.now.state.facts }
 {
     let is_known = u32::from(plan.contact) < store.contacts();

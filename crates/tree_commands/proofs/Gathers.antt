@@ -20,7 +20,7 @@ use Rattle.sync_rules.specs.Steps.{answer_of, is_beside, verdict_in}
 use Rattle.sync_rules.specs.Views.{IsFound, IsPlace, place_of}
 use Rattle.journal_state.specs.Firsts.{first_dependency, firsts_of, number_held}
 use Rattle.journal_state.specs.Sound.{AreApart, DeliversJudged}
-use Rattle.journal_state.specs.Whole.{Knows, StateValue, id_at}
+use Rattle.journal_state.specs.Whole.{KnowsJudgements, StateValue, id_at}
 use Rattle.journal_state.proofs.Places.{id_itself, place_found}
 use Rattle.tree_commands.specs.Gathered.{IsThreadOf, StandsAt, with_delivered}
 use Rattle.tree_commands.specs.Threads.{ThreadValue, parent_among, with_number}
@@ -188,7 +188,7 @@ among_at (x ∷ ids) (suc k) id at = or_true (same_id x id) (is_among ids id) (a
     or_true true c t = refl
     or_true false c t = t
 
-module _ (clients : Meaning) (s : StateValue) (knows : Knows clients s) where
+module _ (clients : Meaning) (s : StateValue) (knows : KnowsJudgements clients s) where
   judged_there : DeliversJudged s.facts → (k : ℕ) (id : Id) → slice_get s.facts.delivered k ≡ Some
       id → fin_set.contains s.facts.judged id ≡ true
   judged_there ended k id at =

@@ -17,7 +17,7 @@ use Rattle.store_commands.proofs.Lines.{more_lines}
 use Rattle.journal_state.specs.Whole.{id_at}
 use Rattle.tree_commands.specs.declared.tree.Window.{Window}
 use Rattle.tree_commands.specs.Gathered.{IsThreadOf}
-use Rattle.tree_commands.specs.Threads.{AreItems, ThreadValue}
+use Rattle.tree_commands.specs.Threads.{AreItemNumbers, ThreadValue}
 use Rattle.tree_commands.specs.Trees.{delivered_in, item_line, parents_of, tree_shown, walk_text}
 use Rattle.tree_commands.proofs.Parents.{parents_long, replies_earlier}
 
@@ -42,7 +42,7 @@ module _ (clients : Meaning) (f : Facts) (ids : List Id) (t : ThreadValue)
       ∙ length-map t.numbers (id_at f.held)
 
   pub items_within : (from count : ℕ) (items : List ℕ) → IsWindow t.parents from count items
-      → AreItems t items
+      → AreItemNumbers t items
   items_within from count items w i within =
       let at = in_part w.walk items from count i w.part within in
       let item : ℕ = get_or items i 0 in

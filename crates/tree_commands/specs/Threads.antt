@@ -32,5 +32,5 @@ pub record IsThread (numbers : List ℕ) (parents places : List (Option ℕ)) : 
   pub within : (i : ℕ) → i < length numbers → slice_index_or numbers i 0 < length places
 
 -- these are numbers of items
-abbrev pub AreItems : ThreadValue → List ℕ → Type 0
-AreItems t items = (i : ℕ) → i < length items → slice_index_or items i 0 < length t.numbers
+abbrev pub AreItemNumbers : ThreadValue → List ℕ → Type 0
+AreItemNumbers t items = (i : ℕ) → i < length items → slice_index_or items i 0 < length t.numbers

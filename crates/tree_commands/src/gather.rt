@@ -4,7 +4,7 @@ ghost use Rattle.sync_rules.specs.Clients.{Meaning};
 ghost use Rattle.sync_rules.specs.Facts.{Id};
 ghost use Rattle.sync_rules.specs.Lists.{same_id};
 ghost use Rattle.journal_state.specs.Firsts.{firsts_of};
-ghost use Rattle.journal_state.specs.Whole.{Knows};
+ghost use Rattle.journal_state.specs.Whole.{KnowsJudgements};
 ghost use Rattle.tree_commands.specs.Gathered.{IsThreadOf, with_delivered};
 ghost use Rattle.tree_commands.specs.Trees.{delivered_in};
 
@@ -16,7 +16,7 @@ use sync_store::Store;
 /// The delivered messages of a group as a tree, by the judgements that the store keeps. It fails
 /// only for want of memory.
 pub(crate) fn gather(alloc: Global, store: &Store, group: &GroupId) -> Result<Thread, AllocError>
-    ensures { (clients : Meaning) → Knows clients store.now.state
+    ensures { (clients : Meaning) → KnowsJudgements clients store.now.state
         → IfOk result (IsThreadOf clients store.now.state.facts
         (delivered_in store.now.state.facts group.now)) }
 {
@@ -42,7 +42,7 @@ fn add_delivered(
     requires there { k < length store.now.state.facts.delivered }
     requires few { length thread.old.numbers ≤ k }
     requires sized { thread.old.held ≡ length store.now.state.facts.held }
-    ensures added { OnOk result ((clients : Meaning) → Knows clients store.now.state
+    ensures added { OnOk result ((clients : Meaning) → KnowsJudgements clients store.now.state
         → (ids : List Id) (id : Id) → slice_get store.now.state.facts.delivered k ≡ Some id
         → IsThreadOf clients store.now.state.facts ids thread.old
         → IsThreadOf clients store.now.state.facts

@@ -3,7 +3,7 @@ ghost use Rattle.std.specs.Prelude.{◌≡◌, ◌<◌, ◌++◌, length, map, O
 ghost use Rattle.std.specs.List.{flat_map};
 ghost use Rattle.std.specs.String.{string_bytes};
 ghost use Rattle.journal_state.specs.Whole.{id_at};
-ghost use Rattle.tree_commands.specs.Threads.{AreItems};
+ghost use Rattle.tree_commands.specs.Threads.{AreItemNumbers};
 ghost use Rattle.tree_commands.specs.Trees.{item_line, tree_text};
 
 use crate::thread::Thread;
@@ -36,7 +36,7 @@ pub(crate) fn add_lines(
     to: &mut String,
 ) -> Result<(), AllocError>
     requires sized { thread.now.held ≡ length store.now.state.facts.held }
-    requires within { AreItems thread.now items.now }
+    requires within { AreItemNumbers thread.now items.now }
     ensures { OnOk result (string_bytes to.new ≡ string_bytes to.old ++ flat_map
         (item_line (map (id_at store.now.state.facts.held) thread.now.numbers) thread.now.parents)
         items.now) }

@@ -3,8 +3,8 @@ ghost use Rattle.std.specs.Prelude.{◌≡◌, ◌++◌, OnOk};
 ghost use Rattle.std.specs.String.{string_bytes};
 ghost use Rattle.sync_rules.specs.Clients.{Meaning};
 ghost use Rattle.sync_words.specs.Outcomes.{came_to};
-ghost use Rattle.journal_state.specs.Whole.{Knows};
-ghost use Rattle.store_commands.specs.Show.{HasLooked, Prints, PrintsText};
+ghost use Rattle.journal_state.specs.Whole.{KnowsJudgements};
+ghost use Rattle.store_commands.specs.Show.{HasLooked, PrintsShowing, PrintsText};
 ghost use Rattle.tree_commands.specs.Trees.{delivered_in, parents_of, tree_shown, walk_text};
 
 use crate::gather::gather;
@@ -55,9 +55,9 @@ fn print_window<W: Sink>(
     window: &Window,
     out: &mut W,
 ) -> Result<(), Outcome>
-    requires { (clients : Meaning) × Knows clients store.now.state }
-    ensures { (clients : Meaning) → Knows clients store.now.state
-        → Prints (tree_shown clients window.now store.now.state.facts)
+    requires { (clients : Meaning) × KnowsJudgements clients store.now.state }
+    ensures { (clients : Meaning) → KnowsJudgements clients store.now.state
+        → PrintsShowing (tree_shown clients window.now store.now.state.facts)
         (W.tells out.old) (W.tells out.new) (came_to result) }
 {
     if !store.state().knows_group(&window.group) {
@@ -75,8 +75,8 @@ fn add_window(
     window: &Window,
     to: &mut String,
 ) -> Result<(), AllocError>
-    requires { (clients : Meaning) × Knows clients store.now.state }
-    ensures { (clients : Meaning) → Knows clients store.now.state
+    requires { (clients : Meaning) × KnowsJudgements clients store.now.state }
+    ensures { (clients : Meaning) → KnowsJudgements clients store.now.state
         → OnOk result (string_bytes to.new ≡ string_bytes to.old ++ walk_text
         (delivered_in store.now.state.facts window.now.group)
         (parents_of clients store.now.state.facts

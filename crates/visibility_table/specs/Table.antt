@@ -11,19 +11,19 @@ use Rattle.sync_rules.specs.Lists.{same_id}
 
 -- the number of contacts, the groups in the order in which they were added, the levels that are not Invisible, and for how
 -- many more groups and levels there is room
-pub record Table : Type 0 where
+pub record TableOfLevels : Type 0 where
   pub contacts : ℕ
   pub groups : List Known
   pub levels : LevelMap
   pub spare : ℕ
 
-abbrev pub table_code : Coded Table
+abbrev pub table_code : Coded TableOfLevels
 table_code =
     code_by (ℕ × (List Known × (LevelMap × ℕ))) (coded× coded_ℕ (coded× (coded_list known_code) (coded× levels_code coded_ℕ)))
     (λ t. (t.contacts, (t.groups, (t.levels, t.spare))))
     (λ p. record { contacts = p.0; groups = p.1.0; levels = p.1.1.0; spare = p.1.1.1 }) (λ _. refl)
 
-abbrev pub empty_table : Table
+abbrev pub empty_table : TableOfLevels
 empty_table = record { contacts = 0; groups = []; levels = fin_map.empty; spare = 0 }
 
 -- a group as it is kept: its definition under its id
@@ -35,7 +35,7 @@ abbrev pub number_of : List Known → Id → Option ℕ
 number_of groups id = position (λ g. same_id g.id id) groups
 
 -- a contact has a number left, and a level has room
-abbrev pub CanApply : Table → Entry → Type 0
+abbrev pub CanApply : TableOfLevels → Entry → Type 0
 CanApply table (entry.Contact number) = table.contacts < 2 ^ 32 - 1
 CanApply table (entry.Level contact group level) = 0 < table.spare
 CanApply table _ = ⊤
@@ -46,7 +46,7 @@ room_for (entry.Level contact group level) = 1
 room_for _ = 0
 
 -- what an entry that is no group makes of a table
-abbrev pub after_entry : Table → Entry → Table
+abbrev pub after_entry : TableOfLevels → Entry → TableOfLevels
 after_entry table e = record table {
   contacts = contacts_after table.contacts e;
   levels = levels_after table.levels e;

@@ -27,9 +27,9 @@ pub struct Levels {
 }
 
 impl Model for Levels {
-    ghost use Rattle.visibility_table.specs.Table.{Table, table_code, known};
+    ghost use Rattle.visibility_table.specs.Table.{TableOfLevels, table_code, known};
 
-    ghost Value = { Table };
+    ghost Value = { TableOfLevels };
 
     ghost coded = { table_code };
 

@@ -17,10 +17,10 @@ use Rattle.sync_node.specs.Adding.{AddsAtMost, AddsOne, AddsSettled, AddsWithin}
 use Rattle.sync_node.specs.declared.link.Link.{Link}
 use Rattle.sync_node.specs.Node.{NodeValue}
 use Rattle.world_devices.specs.Devices.{DeviceValue, HostGoesOn, IsAnew, IsRunning}
-use Rattle.world_devices.specs.Doing.{Adds, BreaksOff, CameAdding, HasAdded, HasAtMost, HoldsAtMost, IsAhead, KeepsOwn, KeepsRest, OfNode, StopsIn}
+use Rattle.world_devices.specs.Doing.{DeviceAddsEntry, BreaksOff, CameAdding, HasEntryAdded, HasAtMost, HoldsAtMost, IsAhead, KeepsOwn, KeepsRest, OfNode, StopsIn}
 use Rattle.world_devices.specs.Keeping.{Journal}
 use Rattle.world_devices.specs.Linking.{WhenDone}
-use Rattle.world_devices.specs.Running.{Holds}
+use Rattle.world_devices.specs.Running.{HoldsAfterCrash}
 use Rattle.world_devices.specs.declared.stop.Ran.{Ran}
 use Rattle.world_devices.specs.declared.stop.Ran.TheVariants as ran
 use Rattle.world_devices.specs.declared.stop.StepFault.{StepFault}
@@ -31,7 +31,7 @@ use Rattle.world_devices.proofs.StartLaws.{fits_hold}
 -- ---- the journal that files hold
 
 -- a journal for which they stand as they read is the one that they hold
-same_held : (j j0 : Journal) (h : MemHostValue) (two : Two File) → (host_told h).files ≡ Some two → Holds j h → stands bundle_meaning (read_files two) ≡ journal j0 → j0 ≡ j
+same_held : (j j0 : Journal) (h : MemHostValue) (two : Two File) → (host_told h).files ≡ Some two → HoldsAfterCrash j h → stands bundle_meaning (read_files two) ≡ journal j0 → j0 ≡ j
 same_held j j0 h two is holds stood =
     let reads : stands bundle_meaning (read_files two) ≡ journal j = holds.each two is (read_files two) ((host_told h).reads two is) in
     let both : journal j0 ≡ journal j = sym stood ∙ reads in
@@ -46,7 +46,7 @@ abbrev told_links : MemHostValue → Links
 told_links h = (host_told h).links
 
 has_added : (e : Entry) (batch : List Entry) (s s' : StoreValue) (h h' : MemHostValue) (new : DeviceValue) → batch ≡ e ∷ [] → AddsSettled bundle_meaning batch s s' (host_told h) (host_told h') → new.host ≡ h'
-    → (j : Journal) → Holds j h → HasAdded e j new
+    → (j : Journal) → HoldsAfterCrash j h → HasEntryAdded e j new
 has_added e batch s s' h h' new is added at j holds =
     let has = journal_of s' h' added.commits.ready in
     let came = added.commits.goes_on (told_host h') has.whole has.fits in
@@ -60,17 +60,17 @@ has_added e batch s s' h h' new is added at j holds =
         is = came.is ∙ ap (λ (k : Journal). k ++ (batch ∷ added.more)) same;
       });
       settled = subst (λ (g : Facts). IsSettled bundle_meaning g) (sym has.fits.facts_are) added.settled;
-      holds = subst (λ (x : MemHostValue). Holds has.whole x) (sym at) (fits_hold s' has.whole h' has.fits);
+      holds = subst (λ (x : MemHostValue). HoldsAfterCrash has.whole x) (sym at) (fits_hold s' has.whole h' has.fits);
     }
 
 pub adds_done : (e : Entry) (batch : List Entry) (n n' : NodeValue) (h h' : MemHostValue) (d old new : DeviceValue) → d ≡ old → batch ≡ e ∷ [] → AddsSettled bundle_meaning batch n.store n'.store (host_told h) (host_told h')
     → d.host ≡ h → new.host ≡ h' → d.node ≡ Some n → new.node ≡ Some n' → n'.links ≡ n.links → new.clock ≡ d.clock → new.stop ≡ d.stop
-    → HostGoesOn d.host new.host → IsAhead new.stop new.host → KeepsOwn old new × ((j : Journal) → Holds j old.host → HasAdded e j new) × KeepsRest old new
+    → HostGoesOn d.host new.host → IsAhead new.stop new.host → KeepsOwn old new × ((j : Journal) → HoldsAfterCrash j old.host → HasEntryAdded e j new) × KeepsRest old new
 adds_done e batch n n' h h' d old new seen is added its its' was now links clock stop since ahead =
-    let P : DeviceValue → Type 0 = λ x. KeepsOwn x new × ((j : Journal) → Holds j x.host → HasAdded e j new) × KeepsRest x new in
+    let P : DeviceValue → Type 0 = λ x. KeepsOwn x new × ((j : Journal) → HoldsAfterCrash j x.host → HasEntryAdded e j new) × KeepsRest x new in
     subst P seen (
       record { clock = clock; stop = stop; since = since; ahead = ahead },
-      λ j holds. has_added e batch n.store n'.store h h' new is added its' j (subst (λ (x : MemHostValue). Holds j x) its holds),
+      λ j holds. has_added e batch n.store n'.store h h' new is added its' j (subst (λ (x : MemHostValue). HoldsAfterCrash j x) its holds),
       record {
         node = ap links_of now ∙ ap (λ (l : List Link). Some l) links ∙ sym (ap links_of was);
         told = ap told_links its' ∙ added.commits.same_links ∙ sym (ap told_links its);
@@ -80,7 +80,7 @@ adds_done e batch n n' h h' d old new seen is added its its' was now links clock
 -- ---- the disk stopped
 
 pub at_most : (e : Entry) (batch : List Entry) (n n' : NodeValue) (h h' : MemHostValue) (links : ℕ) → batch ≡ e ∷ [] → LeadsAdding batch n n' h h' → IsRunning n h links
-    → (j : Journal) → Holds j h → HoldsAtMost e j h'
+    → (j : Journal) → HoldsAfterCrash j h → HoldsAtMost e j h'
 at_most e batch n n' h h' links is leads run j holds =
     let has = journal_of n.store h (open_of n h links run) in
     let same : has.whole ≡ j = same_held j has.whole h (told_host h).two (told_host h).files_are holds has.fits.stands_for in
@@ -111,7 +111,7 @@ adds_crashed e batch n n' h h' links d old new seen is leads run its since off c
     subst P seen (record {
       at = h';
       since = since;
-      broken = (λ j holds. at_most e batch n n' h h' links is leads run j (subst (λ (x : MemHostValue). Holds j x) its holds), came);
+      broken = (λ j holds. at_most e batch n n' h h' links is leads run j (subst (λ (x : MemHostValue). HoldsAfterCrash j x) its holds), came);
       off = off;
       clock = clock;
     })
@@ -129,7 +129,7 @@ anew_kept clock old new rest anew =
       upcoming = kept ∙ anew.upcoming;
     }
 
-pub rest_kept : (e : Entry) (r : Result Ran StepFault) (old new : DeviceValue) → Adds e r old new → WhenDone r (KeepsOwn old new × KeepsRest old new)
+pub rest_kept : (e : Entry) (r : Result Ran StepFault) (old new : DeviceValue) → DeviceAddsEntry e r old new → WhenDone r (KeepsOwn old new × KeepsRest old new)
 rest_kept e (Ok ran.Done) old new adds = (adds.0, adds.2)
 rest_kept e (Ok ran.Crashed) old new adds = tt
 rest_kept e (Err f) old new adds = tt

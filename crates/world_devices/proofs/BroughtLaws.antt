@@ -13,7 +13,7 @@ use Rattle.outside.specs.MemLaws.{length-changed_at}
 use Rattle.outside.specs.MemDisk.{answers_after}
 use Rattle.outside.specs.MemHost.{MemHostValue, plans_of}
 use Rattle.sync_course.specs.declared.TheConstants.{PIECE_LEN}
-use Rattle.sync_course.specs.Events.{Event, Commit, Hear, Miss, Read, Break, Pass, PlansAfter, Through, Told, heard_after, heard_by}
+use Rattle.sync_course.specs.Events.{Event, Commit, Hear, Miss, Read, Break, Pass, PlansAfter, ChangesThrough, TellsEvents, heard_after, heard_by}
 use Rattle.world_devices.specs.Brought.{brought_on, planned_bytes}
 
 -- ---- one plan
@@ -180,7 +180,7 @@ stays_event (Break n) heard plans plans' link after sound = stays_same heard pla
 stays_event Pass heard plans plans' link after sound = stays_same heard plans plans' link after sound
 
 -- what is heard behind some events, with what is planned behind them, is what was heard and planned before
-pub brings_stay : (events : List Event) (heard : List HeardOn) (plans plans' : ℕ → List Planned) (link : ℕ) → Through PlansAfter events plans plans' → IsSound heard plans link
+pub brings_stay : (events : List Event) (heard : List HeardOn) (plans plans' : ℕ → List Planned) (link : ℕ) → ChangesThrough PlansAfter events plans plans' → IsSound heard plans link
     → brings (heard_after events heard) plans' link ≡ brings heard plans link
 brings_stay [] heard plans plans' link through sound = ap (λ (p : ℕ → List Planned). brings heard p link) through
 brings_stay (e ∷ events) heard plans plans' link through sound =
@@ -193,7 +193,7 @@ brings_stay (e ∷ events) heard plans plans' link through sound =
 abbrev pub told_heard : MemHostValue → List HeardOn
 told_heard h = heard_on (answers_after [] h.disk.calls) (λ i. slice_index h.silences i)
 
-pub told_brings : (events : List Event) (h h' : MemHostValue) (link : ℕ) → Told events (host_told h) (host_told h')
+pub told_brings : (events : List Event) (h h' : MemHostValue) (link : ℕ) → TellsEvents events (host_told h) (host_told h')
     → (link < length (told_heard h)) ⊎ (planned_bytes (plans_of h.scripts link) ≡ []) → brought_on h' link ≡ brought_on h link
 told_brings events h h' link told sound =
     let some : Some (told_heard h') ≡ Some (heard_after events (told_heard h)) = told.heard in

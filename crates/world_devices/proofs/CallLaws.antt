@@ -17,7 +17,7 @@ use Rattle.sync_rules.specs.declared.entries.Session.{Session}
 use Rattle.sync_rules.specs.Lists.{In}
 use Rattle.sync_rules.proofs.Elements.{In-append_left}
 use Rattle.sync_rules.specs.Facts.{Facts, after_all, facts, session_at}
-use Rattle.sync_node.specs.Courses.{AllRead, BreaksBeginning, BreaksTurn, Begins, MakesTurn}
+use Rattle.sync_node.specs.Courses.{AllRead, BreaksBeginning, BreaksTurn, BeginsNextSession, MakesTurn}
 use Rattle.std.specs.Option.{option_map}
 use Rattle.std.proofs.lemmas.Bool.{eq-eqb}
 use Rattle.std.specs.List.{AllByRecursion}
@@ -35,7 +35,7 @@ use Rattle.sync_rules.specs.Legal.{Legal}
 use Rattle.sync_rules.specs.declared.entries.Entry.TheVariants as entry
 use Rattle.sync_rules.specs.Consistency.{IsConsistent}
 use Rattle.sync_rules.proofs.ConsistencyLaws.{legal_consistent}
-use Rattle.sync_store.specs.Fitting.{Fits}
+use Rattle.sync_store.specs.Fitting.{FitsFiles}
 use Rattle.sync_node.specs.declared.node.Plan.{Plan}
 use Rattle.sync_node.specs.Plans.{session_of}
 use Rattle.world_laws.specs.Worlds.{HasSession}
@@ -45,18 +45,18 @@ use Rattle.sync_store.specs.Settling.{HasSettled}
 use Rattle.sync_store.specs.declared.fault.StoreFault.{StoreFault}
 use Rattle.sync_rules.specs.declared.entries.Entry.{Entry}
 use Rattle.sync_node.specs.Adding.{IsPlain}
-use Rattle.sync_node.specs.Node.{Attaches, KeepsSafe, NodeValue, PlansSafe}
+use Rattle.sync_node.specs.Node.{AttachesLink, KeepsSafe, NodeValue, PlansSafe}
 use Rattle.sync_node.specs.Output.{heard_on, output}
 use Rattle.outside.specs.MemDisk.{disk_files, files_of}
-use Rattle.outside.specs.MemHost.{Crashes, fresh_host}
+use Rattle.outside.specs.MemHost.{CrashesHost, fresh_host}
 use Rattle.outside.specs.declared.pick.Pick.{Pick}
 use Rattle.std.specs.declared.alloc.AllocError.{AllocError}
 use Rattle.world_devices.specs.Brought.{IsSilent, brought_on, bytes_of, planned_bytes}
 use Rattle.world_devices.specs.Linking.{AddsLink, KeepsLinks, LinksStand, PlansMore, first_of, number_of}
-use Rattle.world_devices.specs.Cited.{CitedLaws}
-use Rattle.world_devices.specs.Devices.{DeviceValue, IsReadyStore, IsRunning, MayAdd, links_made}
+use Rattle.world_devices.specs.Cited.{DeviceLaws}
+use Rattle.world_devices.specs.Devices.{DeviceValue, IsReadyStore, IsRunning, MayAddEntry, links_made}
 use Rattle.world_devices.specs.Keeping.{Journal, TellsSame}
-use Rattle.world_devices.specs.Running.{ComesFrom, DeviceRuns, GoOnHearing, Holds, IsStill, LeavesOn, MayLeave, Reads, is_session_of, records_for}
+use Rattle.world_devices.specs.Running.{JournalWentOn, DeviceRuns, GoOnHearing, HoldsAfterCrash, IsStill, LeavesOn, MayLeave, ReadsAsJournal, is_session_of, records_for}
 use Rattle.world_devices.specs.Running as running
 use Rattle.world_devices.proofs.BroughtLaws.{told_brings, told_heard}
 use Rattle.world_devices.proofs.HostLaws.{crash_images, files_anew, silent_linked, silent_on, told_host}
@@ -67,16 +67,16 @@ use Rattle.world_devices.proofs.RunningLaws.{BringsAll, LeadsAdding, journal_of,
 -- ---- calls that leave the files
 
 -- what files hold they read
-holds_reads : (j : Journal) (h : MemHostValue) → Holds j h → Reads j h
+holds_reads : (j : Journal) (h : MemHostValue) → HoldsAfterCrash j h → ReadsAsJournal j h
 holds_reads j h holds = record { each = λ two is. holds.each two is (read_files two) ((host_told h).reads two is) }
 
-holds_files : (j : Journal) (h h' : MemHostValue) → (host_told h').files ≡ (host_told h).files → Holds j h → Holds j h'
+holds_files : (j : Journal) (h h' : MemHostValue) → (host_told h').files ≡ (host_told h).files → HoldsAfterCrash j h → HoldsAfterCrash j h'
 holds_files j h h' same holds = record { each = λ two is left image. holds.each two (sym same ∙ is) left image }
 
 pub runs_files : (old new : DeviceValue) → (host_told new.host).files ≡ (host_told old.host).files → DeviceRuns old new
 runs_files old new same = record {
   comes = λ j holds.
-      let whole : Holds (j ++ []) new.host = subst (λ (k : Journal). Holds k new.host) (sym (append-nil j)) (holds_files j old.host new.host same holds) in
+      let whole : HoldsAfterCrash (j ++ []) new.host = subst (λ (k : Journal). HoldsAfterCrash k new.host) (sym (append-nil j)) (holds_files j old.host new.host same holds) in
       record { more = []; allowed = tt; plain = refl; all_heard = tt; reads = holds_reads (j ++ []) new.host whole; holds = λ _. whole };
 }
 
@@ -98,25 +98,25 @@ known_link n h links link run =
     no_plan_bytes [] b none = none
     no_plan_bytes (x ∷ a) b none = cc
 
-brings_told : (es : List Event) (n : NodeValue) (h h' : MemHostValue) (links : ℕ) → IsRunning n h links → events.Told es (host_told h) (host_told h') → BringsAll h h'
+brings_told : (es : List Event) (n : NodeValue) (h h' : MemHostValue) (links : ℕ) → IsRunning n h links → events.TellsEvents es (host_told h) (host_told h') → BringsAll h h'
 brings_told es n h h' links run told link = told_brings es h h' link told (known_link n h links link run)
 
-all_read : CitedLaws → (n : NodeValue) (h : MemHostValue) (links : ℕ) → IsRunning n h links → AllRead (heard_on (host_told h).links) n.links
+all_read : DeviceLaws → (n : NodeValue) (h : MemHostValue) (links : ℕ) → IsRunning n h links → AllRead (heard_on (host_told h).links) n.links
 all_read laws n h links run = laws.have_read bundle_meaning n h run.attached run.unclosed run.runs.joined (told_host h)
 
-pub brings_turned : CitedLaws → (n n' : NodeValue) (h h' : MemHostValue) (links : ℕ) (quiet : Bool) → IsRunning n h links
+pub brings_turned : DeviceLaws → (n n' : NodeValue) (h h' : MemHostValue) (links : ℕ) (quiet : Bool) → IsRunning n h links
     → MakesTurn bundle_meaning n.first n.links n'.links n.store n'.store (host_told h) (host_told h') quiet → BringsAll h h'
 brings_turned laws n n' h h' links quiet run turn =
     let made = turn.leads (record { first = n.first; turns = 1; quiet = 1 }) (heard_on (host_told h).links) false 0 0 refl (all_read laws n h links run) refl in
     brings_told made.runs.events n h h' links run made.runs.told
 
-pub brings_broken : CitedLaws → (n : NodeValue) (h h' : MemHostValue) (links : ℕ) → IsRunning n h links → BreaksTurn bundle_meaning n.first n.links n.store (host_told h) (host_told h') → BringsAll h h'
+pub brings_broken : DeviceLaws → (n : NodeValue) (h h' : MemHostValue) (links : ℕ) → IsRunning n h links → BreaksTurn bundle_meaning n.first n.links n.store (host_told h) (host_told h') → BringsAll h h'
 brings_broken laws n h h' links run breaks =
     let made = breaks.stops (record { first = n.first; turns = 1; quiet = 1 }) (heard_on (host_told h).links) false 0 0 refl (all_read laws n h links run) refl in
     brings_told made.runs.events n h h' links run made.runs.told
 
 pub brings_begun : (session : Session) (n n' : NodeValue) (h h' : MemHostValue) (links : ℕ) → IsRunning n h links
-    → Begins bundle_meaning session n.links n'.links n.store n'.store (host_told h) (host_told h') → BringsAll h h'
+    → BeginsNextSession bundle_meaning session n.links n'.links n.store n'.store (host_told h) (host_told h') → BringsAll h h'
 brings_begun session n n' h h' links run begins =
     let made = begins.runs (told_host h).two (told_host h).files_are (record { first = n.first; turns = 1; quiet = 1 }) [] (λ _. []) false 0 0 refl in
     brings_told made.events n h h' links run made.told
@@ -163,8 +163,8 @@ was_brought fronts n h h' links run brings session link r on inside =
 
 -- ---- what calls may leave
 
-pub turn_leaves : CitedLaws → (n n' : NodeValue) (h h' : MemHostValue) (links : ℕ) → KeepsSafe bundle_meaning n n' (host_told h) (host_told h') → BringsAll h h' → IsRunning n h links
-    → (j : Journal) → Holds j h → MayLeave (running.records_of (Some n) h) j (host_told h')
+pub turn_leaves : DeviceLaws → (n n' : NodeValue) (h h' : MemHostValue) (links : ℕ) → KeepsSafe bundle_meaning n n' (host_told h) (host_told h') → BringsAll h h' → IsRunning n h links
+    → (j : Journal) → HoldsAfterCrash j h → MayLeave (running.records_of (Some n) h) j (host_told h')
 turn_leaves laws n n' h h' links keeps brings run j holds =
     let has = journal_of n.store h (open_of n h links run) in
     let heard : ℕ → List Record = running.records_of (Some n) h in
@@ -172,8 +172,8 @@ turn_leaves laws n n' h h' links keeps brings run j holds =
     (keeps.safe run.runs.joined (begin_now n.first (host_told h) (told_host h).two has.whole) run.runs.plans refl (safe_now n (host_told h) (told_host h) has.whole has.fits run.runs))
     (was_brought laws.fronts n h h' links run brings)
 
-pub attach_leaves : CitedLaws → (session : Session) (n n' : NodeValue) (h h' : MemHostValue) (links : ℕ) → PlansSafe bundle_meaning session n n' (host_told h) (host_told h') → BringsAll h h' → IsRunning n h links
-    → (j : Journal) → Holds j h → MayLeave (running.records_of (Some n) h) j (host_told h')
+pub attach_leaves : DeviceLaws → (session : Session) (n n' : NodeValue) (h h' : MemHostValue) (links : ℕ) → PlansSafe bundle_meaning session n n' (host_told h) (host_told h') → BringsAll h h' → IsRunning n h links
+    → (j : Journal) → HoldsAfterCrash j h → MayLeave (running.records_of (Some n) h) j (host_told h')
 attach_leaves laws session n n' h h' links keeps brings run j holds =
     let has = journal_of n.store h (open_of n h links run) in
     let heard : ℕ → List Record = running.records_of (Some n) h in
@@ -199,7 +199,7 @@ add_leaves batch n n' h h' links plain leads run =
     leave_adding batch has.whole n.store n'.store (host_told h) (host_told h') (told_host h).two plain (told_host h).files_are has.fits (leads (told_host h).two (told_host h).files_are has.whole has.fits)
 
 -- of a device that is another one by name
-pub runs_by : CitedLaws → (d old new : DeviceValue) → d ≡ old → ((j : Journal) → Holds j d.host → MayLeave (records_for d) j (host_told new.host)) → (is_some new.node ≡ true → IsStill new.host) → DeviceRuns old new
+pub runs_by : DeviceLaws → (d old new : DeviceValue) → d ≡ old → ((j : Journal) → HoldsAfterCrash j d.host → MayLeave (records_for d) j (host_told new.host)) → (is_some new.node ≡ true → IsStill new.host) → DeviceRuns old new
 runs_by laws d old new is leaves still =
     subst (λ (x : DeviceValue). DeviceRuns x new) is (record {
       comes = λ j holds. comes_still laws.legal (records_for d) j new (told_host new.host).two (told_host new.host).files_are (leaves j holds) still;
@@ -207,7 +207,7 @@ runs_by laws d old new is leaves still =
 
 -- ---- a device that starts anew
 
-pub crash_leaves : (pick : Pick) (h h' : MemHostValue) (result : Result (Unit {0}) AllocError) → OnOk result (Crashes pick h h') → OnErr result (h' ≡ h) → LeavesOn (host_told h) (host_told h')
+pub crash_leaves : (pick : Pick) (h h' : MemHostValue) (result : Result (Unit {0}) AllocError) → OnOk result (CrashesHost pick h h') → OnErr result (h' ≡ h) → LeavesOn (host_told h) (host_told h')
 crash_leaves pick h h' (Ok u) ok err heard j k = record { each = crash_images (GoOnHearing heard j) pick h h' ok (λ left image. k.each (files_of (disk_files h.disk)) refl left image) }
 crash_leaves pick h h' (Err e) ok err heard j k = leave_same (host_told h) (host_told h') (ap (λ (x : MemHostValue). (host_told x).files) err) heard j k
 
@@ -245,13 +245,13 @@ pub links_seen : (d old new : DeviceValue) → d ≡ old → KeepsLinks d new �
 links_seen d old new is keeps = subst (λ (x : DeviceValue). KeepsLinks x new) is keeps
 
 -- of a device whose node is this one
-pub of_node : (maybe : Option NodeValue) (n : NodeValue) (h : MemHostValue) (o : Outside) → maybe ≡ Some n → ((j : Journal) → Holds j h → MayLeave (running.records_of (Some n) h) j o)
-    → (j : Journal) → Holds j h → MayLeave (running.records_of maybe h) j o
+pub of_node : (maybe : Option NodeValue) (n : NodeValue) (h : MemHostValue) (o : Outside) → maybe ≡ Some n → ((j : Journal) → HoldsAfterCrash j h → MayLeave (running.records_of (Some n) h) j o)
+    → (j : Journal) → HoldsAfterCrash j h → MayLeave (running.records_of maybe h) j o
 of_node maybe n h o is leaves j holds = subst (λ (x : Option NodeValue). MayLeave (running.records_of x h) j o) (sym is) (leaves j holds)
 
 -- an entry that may be added is none of a session
-pub plain_of : (maybe : Option NodeValue) (n : NodeValue) (e : Entry) → maybe ≡ Some n → MayAdd maybe e → IsPlain (e ∷ [])
-plain_of maybe n e is may = (subst (λ (x : Option NodeValue). MayAdd x e) is may).plain
+pub plain_of : (maybe : Option NodeValue) (n : NodeValue) (e : Entry) → maybe ≡ Some n → MayAddEntry maybe e → IsPlain (e ∷ [])
+plain_of maybe n e is may = (subst (λ (x : Option NodeValue). MayAddEntry x e) is may).plain
 
 -- ---- a session that began
 
@@ -268,19 +268,19 @@ none_begun f consistent None is = refl
 none_begun f consistent (Some s) is = absurd (omega (arith, (consistent.sessions.each f.begun s is).begun))
 
 -- the journal that files hold is that which the store has
-pub holds_fits : (s : StoreValue) (j j0 : Journal) (h : MemHostValue) → Holds j h → Fits bundle_meaning s j0 (told_host h).two → j0 ≡ j
+pub holds_fits : (s : StoreValue) (j j0 : Journal) (h : MemHostValue) → HoldsAfterCrash j h → FitsFiles bundle_meaning s j0 (told_host h).two → j0 ≡ j
 holds_fits s j j0 h holds fits =
     let reads = holds.each (told_host h).two (told_host h).files_are (read_files (told_host h).two) ((host_told h).reads (told_host h).two (told_host h).files_are) in
     let both : journal j0 ≡ journal j = sym fits.stands_for ∙ reads in
     cc
 
-pub holds_facts : (s : StoreValue) (j : Journal) (h : MemHostValue) → IsReady bundle_meaning s (host_told h).files → Holds j h → facts j ≡ s.state.facts
+pub holds_facts : (s : StoreValue) (j : Journal) (h : MemHostValue) → IsReady bundle_meaning s (host_told h).files → HoldsAfterCrash j h → facts j ≡ s.state.facts
 holds_facts s j h ready holds =
     let has = journal_of s h ready in
     sym (ap facts (holds_fits s j has.whole h holds has.fits)) ∙ has.fits.facts_are
 
 has_begun : (s s' : StoreValue) (h h' : MemHostValue) (session : Session) → IsReady bundle_meaning s (host_told h).files → IsReady bundle_meaning s' (host_told h').files
-    → s'.state.facts ≡ after_all s.state.facts (entry.Session session ∷ []) → session.number ≡ s.state.facts.begun → (j : Journal) → Holds j h' → HasSession j session.number session.contact
+    → s'.state.facts ≡ after_all s.state.facts (entry.Session session ∷ []) → session.number ≡ s.state.facts.begun → (j : Journal) → HoldsAfterCrash j h' → HasSession j session.number session.contact
 has_begun s s' h h' session ready ready' is numbered j holds =
     let has = journal_of s h ready in
     let consistent : IsConsistent s.state.facts = subst IsConsistent has.fits.facts_are (legal_consistent bundle_meaning has.whole has.fits.legal) in
@@ -295,7 +295,7 @@ has_begun s s' h h' session ready ready' is numbered j holds =
 
 -- a link more
 pub adds_link : (plan : Plan) (nonce : Option (List ℕ)) (n n' : NodeValue) (h h' : MemHostValue) (links : ℕ) (old new : DeviceValue) → IsRunning n h links → IsReady bundle_meaning n'.store (host_told h').files
-    → Attaches bundle_meaning n n' (host_told h) (host_told h') → BringsAll h h'
+    → AttachesLink bundle_meaning n n' (host_told h) (host_told h') → BringsAll h h'
     → n'.store.state.facts ≡ after_all n.store.state.facts (entry.Session (session_of n.store.state.facts.begun plan nonce) ∷ [])
     → old.node ≡ Some n → new.node ≡ Some n' → old.host ≡ h → new.host ≡ h' → old.links ≡ links → new.links ≡ links + 1 → AddsLink plan.contact n.store.state.facts.begun old new
 adds_link plan nonce n n' h h' links old new run ready attaches brings is was now its its' at at' =
@@ -309,7 +309,7 @@ adds_link plan nonce n n' h h' links old new run ready attaches brings is was no
       brings = brought;
       quiet = brought old.links ∙ ap (λ (x : MemHostValue). brought_on x old.links) its ∙ run.unused old.links (omega (arith, at));
       begun = λ j holds.
-          has_begun n.store n'.store h h' (session_of n.store.state.facts.begun plan nonce) (open_of n h links run) ready is refl j (subst (λ (x : MemHostValue). Holds j x) its' holds);
+          has_begun n.store n'.store h h' (session_of n.store.state.facts.begun plan nonce) (open_of n h links run) ready is refl j (subst (λ (x : MemHostValue). HoldsAfterCrash j x) its' holds);
     }
 
 -- the store that is ready is the node's
@@ -338,7 +338,7 @@ answer_planned answer_kind.Idle = refl
 answer_planned answer_kind.End = refl
 answer_planned answer_kind.Fail = refl
 
-pub brings_more : (h h' : MemHostValue) (link : ℕ) (answer : Answer) → h' ≡ record h { scripts = h'.scripts } → host.PlansMore link answer h.scripts h'.scripts
+pub brings_more : (h h' : MemHostValue) (link : ℕ) (answer : Answer) → h' ≡ record h { scripts = h'.scripts } → host.PlansAnswer link answer h.scripts h'.scripts
     → brought_on h' link ≡ brought_on h link ++ bytes_of answer
 brings_more h h' link answer is plans =
     let heard : List ℕ = heard_bytes (answers_at (host_told h).links.heard link) in
@@ -347,7 +347,7 @@ brings_more h h' link answer is plans =
     ∙ ap (λ (l : List ℕ). heard ++ l) (planned_both (plans_of h.scripts link) (planned_of answer) ∙ ap (λ (l : List ℕ). planned_bytes (plans_of h.scripts link) ++ l) (answer_planned answer))
     ∙ sym (append_assoc heard (planned_bytes (plans_of h.scripts link)) (bytes_of answer))
 
-pub brings_other : (h h' : MemHostValue) (link : ℕ) (answer : Answer) → h' ≡ record h { scripts = h'.scripts } → host.PlansMore link answer h.scripts h'.scripts
+pub brings_other : (h h' : MemHostValue) (link : ℕ) (answer : Answer) → h' ≡ record h { scripts = h'.scripts } → host.PlansAnswer link answer h.scripts h'.scripts
     → (i : ℕ) → (i ≡ link → ⊥) → brought_on h' i ≡ brought_on h i
 brings_other h h' link answer is plans i other =
     ap (λ (x : MemHostValue). heard_bytes (answers_at (host_told x).links.heard i) ++ planned_bytes (plans_of h'.scripts i)) is
@@ -358,7 +358,7 @@ brings_other h h' link answer is plans i other =
 not_failed : (stands : LinkEnd) → is_sent_to stands ≡ true → stands ≡ link_end.Failed → ⊥
 not_failed stands unclosed is = let no : is_sent_to link_end.Failed ≡ true = subst (λ (e : LinkEnd). is_sent_to e ≡ true) is unclosed in cc
 
-pub links_stand : (n : NodeValue) (d : DeviceValue) (j : Journal) → IsRunning n d.host d.links → Holds j d.host → LinksStand n d j
+pub links_stand : (n : NodeValue) (d : DeviceValue) (j : Journal) → IsRunning n d.host d.links → HoldsAfterCrash j d.host → LinksStand n d j
 links_stand n d j run holds =
     let ready = open_of n d.host d.links run in
     let has = journal_of n.store d.host ready in
@@ -376,7 +376,7 @@ links_stand n d j run holds =
           ∙ subst (λ (k : ℕ). session_at n.store.state.facts.sessions k ≡ Some l.session) at.numbered at.known;
       sent = λ link l there unclosed.
           let at = (run.attached.attached run.unclosed).each link l there in
-          (run.runs.joined.each link l there).sent (not_failed l.end unclosed) (told_host d.host) j (subst (λ (k : Journal). Fits bundle_meaning n.store k (told_host d.host).two) same has.fits)
+          (run.runs.joined.each link l there).sent (not_failed l.end unclosed) (told_host d.host) j (subst (λ (k : Journal). FitsFiles bundle_meaning n.store k (told_host d.host).two) same has.fits)
           ∙ ap (output j) at.numbered;
       unused = run.unused;
     }
@@ -385,7 +385,7 @@ links_stand n d j run holds =
 pub own_scripts : (h h' : MemHostValue) (scripts : List (List Planned)) → h' ≡ record h { scripts = scripts } → h' ≡ record h { scripts = h'.scripts }
 own_scripts h h' scripts is = is ∙ ap (λ (s : List (List Planned)). record h { scripts = s }) (sym (ap (λ (x : MemHostValue). x.scripts) is))
 
-pub plans_one : (link : ℕ) (answer : Answer) (d new : DeviceValue) → new.host ≡ record d.host { scripts = new.host.scripts } → host.PlansMore link answer d.host.scripts new.host.scripts → link < d.links
+pub plans_one : (link : ℕ) (answer : Answer) (d new : DeviceValue) → new.host ≡ record d.host { scripts = new.host.scripts } → host.PlansAnswer link answer d.host.scripts new.host.scripts → link < d.links
     → new.node ≡ d.node → new.links ≡ d.links → PlansMore link answer d new
 plans_one link answer d new is plans within same links = record {
   same_node = same;

@@ -2,32 +2,32 @@
 use Rattle.std.proofs.Common.{◌≡◌, ℕ, zero, suc, List, [], ◌∷◌, ◌++◌, length, refl, sym, ap, ◌∙◌, subst, arith, Option, Some, None, Result, Ok, Err, OnOk, OnErr, replicate, slice_index, slice_index_or}
 use Rattle.std.specs.declared.alloc.AllocError.{AllocError}
 use Rattle.outside.specs.declared.failed.Failed.{Failed}
-use Rattle.outside.specs.Disk.{Becomes}
+use Rattle.outside.specs.Disk.{RelatesTold}
 use Rattle.outside.specs.Files.{Two, File, IsImage, settled}
-use Rattle.outside.specs.Host.{Dials}
-use Rattle.outside.specs.Links.{Answered, Link, Links, HeardOn}
+use Rattle.outside.specs.Host.{DialsLink}
+use Rattle.outside.specs.Links.{Answered, ToldLink, Links, HeardOn}
 use Rattle.outside.specs.Outside.{Outside}
-use Rattle.outside.specs.Runs.{Told, answers_at, heard_bytes, sent_at}
+use Rattle.outside.specs.Runs.{TellsAll, answers_at, heard_bytes, sent_at}
 use Rattle.outside.proofs.RunLaws.{others_dial}
 use Rattle.outside.specs.Calls.{CallsGoOn}
 use Rattle.outside.proofs.CallSteps.{go_on_none, go_on_then}
 use Rattle.outside.specs.Changes.{Change, hosted}
 use Rattle.outside.specs.MemDisk.{MemDiskValue, calls_of, KeptFile, kept_after, changed, both_kept, disk_files, files_of, fresh, links_after, answers_after}
-use Rattle.outside.specs.MemHost.{MemHostValue, Readings, Crashes, fresh_host, plans_of}
+use Rattle.outside.specs.MemHost.{MemHostValue, Readings, CrashesHost, fresh_host, plans_of}
 use Rattle.outside.specs.declared.limits.TheConstants.{LINKS}
 use Rattle.world_devices.specs.Brought.{IsSilent, brought_on, planned_bytes}
 use Rattle.outside.specs.HostTold.{host_told}
 use Rattle.outside.specs.LinksTold.{heard_on}
 use Rattle.outside.specs.declared.pick.Pick.{Pick}
 use Rattle.outside.specs.Links.{Planned}
-use Rattle.sync_store.specs.Begin.{Begins}
+use Rattle.sync_store.specs.Begin.{BeginsJournal}
 use Rattle.client_basic.specs.Bodies.{bundle_meaning}
 use Rattle.world_devices.specs.Devices.{HostGoesOn}
-use Rattle.world_devices.specs.Keeping.{GoOnFrom, IsQuiet, Keeps, KeepsOn, TellsSame}
+use Rattle.world_devices.specs.Keeping.{GoOnFrom, AreLinksQuiet, HoldsLaterJournal, KeepsOn, TellsSame}
 use Rattle.world_devices.proofs.KeepLaws.{keeps_same, settled_only}
 
 -- all is told
-pub told_host : (h : MemHostValue) → Told (host_told h)
+pub told_host : (h : MemHostValue) → TellsAll (host_told h)
 told_host h = record {
   two = files_of (disk_files h.disk);
   files_are = refl;
@@ -95,7 +95,7 @@ keeps_anew h h' is = keeps_same (host_told h) (host_told h') (files_anew h h' is
 
 -- what has all that a crash may leave, the host behind it has
 module _ (P : Two (List ℕ) → Type 0) where
-  pub crash_images : (pick : Pick) (h h' : MemHostValue) → Crashes pick h h' → ((left : Two (List ℕ)) → IsImage (files_of (disk_files h.disk)) left → P left)
+  pub crash_images : (pick : Pick) (h h' : MemHostValue) → CrashesHost pick h h' → ((left : Two (List ℕ)) → IsImage (files_of (disk_files h.disk)) left → P left)
       → (two : Two File) → (host_told h').files ≡ Some two → (left : Two (List ℕ)) → IsImage two left → P left
   crash_images pick h h' crashes each two is left image =
       let start = crashes.disk.start in
@@ -109,12 +109,12 @@ module _ (P : Two (List ℕ) → Type 0) where
       let is_start : start ≡ left = (λ i. record { first = sym first i; second = sym second i }) in
       subst (λ (l : Two (List ℕ)). P l) is_start went
 
-pub keeps_crash : (pick : Pick) (h h' : MemHostValue) → Crashes pick h h' → KeepsOn (host_told h) (host_told h')
+pub keeps_crash : (pick : Pick) (h h' : MemHostValue) → CrashesHost pick h h' → KeepsOn (host_told h) (host_told h')
 keeps_crash pick h h' crashes j k = record { each = crash_images (GoOnFrom j) pick h h' crashes (λ left image. k.each (files_of (disk_files h.disk)) refl left image) }
 
 -- ---- a store that was begun
 
-begins_images : (old new : Option (Two File)) → Becomes Begins old new → (two : Two File) → new ≡ Some two → (left : Two (List ℕ)) → IsImage two left → GoOnFrom [] left
+begins_images : (old new : Option (Two File)) → RelatesTold BeginsJournal old new → (two : Two File) → new ≡ Some two → (left : Two (List ℕ)) → IsImage two left → GoOnFrom [] left
 begins_images None None begins two is left image = cc
 begins_images None (Some new) begins two is left image = absurd begins
 begins_images (Some old) None begins two is left image = absurd begins
@@ -126,7 +126,7 @@ begins_images (Some old) (Some new) begins two is left image =
       stands_for = begins.each_image bundle_meaning left (subst (λ (t : Two File). IsImage t left) same image);
     }
 
-pub keeps_begun : (o o' : Outside) → Becomes Begins o.files o'.files → Keeps [] o'
+pub keeps_begun : (o o' : Outside) → RelatesTold BeginsJournal o.files o'.files → HoldsLaterJournal [] o'
 keeps_begun o o' begins = record { each = begins_images o.files o'.files begins }
 
 -- ---- links on which nothing was sent
@@ -143,22 +143,22 @@ no_items : {A : Type 0} (xs : List A) → length xs ≡ 0 → xs ≡ []
 no_items [] none = refl
 no_items (x ∷ xs) none = absurd (omega arith)
 
-pub quiet_none : (o : Outside) → Told o → o.links.dialled ≡ 0 → IsQuiet o
+pub quiet_none : (o : Outside) → TellsAll o → o.links.dialled ≡ 0 → AreLinksQuiet o
 quiet_none o told none =
     let links : told.links ≡ [] = no_items told.links (o.all_told told.links told.links_are ∙ none) in
     let heard : told.heard ≡ [] = no_items told.heard (o.all_heard told.heard told.heard_are ∙ none) in
     record {
-      sent = λ link. ap (λ (t : Option (List Link)). sent_at t link) (told.links_are ∙ ap (λ (l : List Link). Some l) links) ∙ none_sent link;
+      sent = λ link. ap (λ (t : Option (List ToldLink)). sent_at t link) (told.links_are ∙ ap (λ (l : List ToldLink). Some l) links) ∙ none_sent link;
       heard = λ link. ap (λ (t : Option (List HeardOn)). answers_at t link) (told.heard_are ∙ ap (λ (l : List HeardOn). Some l) heard) ∙ none_heard link;
     }
 
-pub quiet_dialled : (spec : List ℕ) (result : Result ℕ Failed) (o o' : Outside) → Dials spec result o.links o'.links → IsQuiet o → IsQuiet o'
+pub quiet_dialled : (spec : List ℕ) (result : Result ℕ Failed) (o o' : Outside) → DialsLink spec result o.links o'.links → AreLinksQuiet o → AreLinksQuiet o'
 quiet_dialled spec result o o' dials quiet = record {
   sent = λ link. (others_dial (suc link) spec result o.links o'.links dials).sent link (λ same. omega (arith, same)) ∙ quiet.sent link;
   heard = λ link. (others_dial (suc link) spec result o.links o'.links dials).answers link (λ same. omega (arith, same)) ∙ quiet.heard link;
 }
 
-pub quiet_same : (o o' : Outside) → o'.links ≡ o.links → IsQuiet o → IsQuiet o'
+pub quiet_same : (o o' : Outside) → o'.links ≡ o.links → AreLinksQuiet o → AreLinksQuiet o'
 quiet_same o o' same quiet = record {
   sent = λ link. ap (λ (l : Links). sent_at l.told link) same ∙ quiet.sent link;
   heard = λ link. ap (λ (l : Links). answers_at l.heard link) same ∙ quiet.heard link;
@@ -185,7 +185,7 @@ brings_linked h h' link same =
     brings_same h h' link (ap (λ (l : Links). l.heard) same) (ap (λ (p : ℕ → List Planned). p link) plans)
 
 -- where nothing is planned and nothing was heard, nothing is brought
-pub brings_none : (h : MemHostValue) (link : ℕ) → IsSilent h → IsQuiet (host_told h) → brought_on h link ≡ []
+pub brings_none : (h : MemHostValue) (link : ℕ) → IsSilent h → AreLinksQuiet (host_told h) → brought_on h link ≡ []
 brings_none h link silent quiet =
     ap (λ (a : List Answered). heard_bytes a ++ planned_bytes (plans_of h.scripts link)) (quiet.heard link)
     ∙ ap planned_bytes (silent.plans link)

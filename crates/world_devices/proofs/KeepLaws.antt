@@ -4,9 +4,9 @@ use Rattle.std.specs.List.{flat_map}
 use Rattle.std.proofs.lemmas.Grind.{flat_map-append}
 use Rattle.std.proofs.lemmas.List.{ext_get_or}
 use Rattle.outside.specs.Files.{Two, File, IsFileImage, read_files, settled}
-use Rattle.outside.specs.Links.{Link, HeardOn, sent_of}
+use Rattle.outside.specs.Links.{ToldLink, HeardOn, sent_of}
 use Rattle.outside.specs.Outside.{Outside, Moment}
-use Rattle.outside.specs.Runs.{IsFront, Told, answers_at, heard_bytes, sent_at}
+use Rattle.outside.specs.Runs.{IsFront, TellsAll, answers_at, heard_bytes, sent_at}
 use Rattle.outside.proofs.RunLaws.{front_then, front_same}
 use Rattle.frame_journal.specs.Gates.{AnyImage}
 use Rattle.client_basic.specs.Bodies.{bundle_meaning}
@@ -19,17 +19,17 @@ use Rattle.sync_rules.specs.Facts.{Facts, facts, takes_of}
 use Rattle.sync_rules.specs.Legal.{AllSettling, Legal}
 use Rattle.sync_rules.specs.Output.{sent}
 use Rattle.sync_store.specs.Store.{StoreValue}
-use Rattle.sync_store.specs.Fitting.{Fits}
-use Rattle.sync_store.specs.Moments.{IsBetween, Leads}
+use Rattle.sync_store.specs.Fitting.{FitsFiles}
+use Rattle.sync_store.specs.Moments.{IsBetween, LeadsTo}
 use Rattle.sync_node.specs.Adding.{AddsAtMost, IsPlain}
 use Rattle.sync_node.specs.declared.link.Link.{Link as NodeLink}
-use Rattle.sync_node.specs.Joined.{HasTaken, IsJoined, IsUnused, Joined}
-use Rattle.sync_node.specs.Node.{Attaches, KeepsJoined, KeepsSafe, NodeValue, PlansSafe}
+use Rattle.sync_node.specs.Joined.{HasTakenItems, IsJoined, IsUnused, Joined}
+use Rattle.sync_node.specs.Node.{AttachesLink, KeepsJoined, KeepsSafe, NodeValue, PlansSafe}
 use Rattle.sync_node.specs.Output.{AreOutput, heard_on, output, sent_on}
 use Rattle.sync_node.specs.Safe.{Begin, IsCovered, IsCoveredNow, Safe, read_now}
 use Rattle.world_devices.specs.Cited.{SentGrows}
 use Rattle.world_devices.proofs.PlainLaws.{WentOn, went_adding, went_between, went_running, went_then}
-use Rattle.world_devices.specs.Keeping.{GoOnFrom, IsQuiet, IsSafeRun, Journal, Keeps, KeepsOn, TellsSame}
+use Rattle.world_devices.specs.Keeping.{GoOnFrom, AreLinksQuiet, IsSafeRun, Journal, HoldsLaterJournal, KeepsOn, TellsSame}
 
 -- ---- files
 
@@ -43,7 +43,7 @@ pub keeps_same : (o o' : Outside) → o'.files ≡ o.files → KeepsOn o o'
 keeps_same o o' same j k = record { each = λ two is left image. k.each two (sym same ∙ is) left image }
 
 -- by what moments since are
-keeps_by : (j : Journal) (o o' : Outside) → o.clock ≤ o'.clock → ((m : Moment) → o'.moments o.clock m → GoOnFrom j m.files) → Keeps j o'
+keeps_by : (j : Journal) (o o' : Outside) → o.clock ≤ o'.clock → ((m : Moment) → o'.moments o.clock m → GoOnFrom j m.files) → HoldsLaterJournal j o'
 keeps_by j o o' later by = record {
   each = λ two is left image.
       let m : Moment = record { files = left; sent = sent_of o'.links.told } in
@@ -59,7 +59,7 @@ same_journal : (a b : Journal) (files : Two (List ℕ)) → stands bundle_meanin
 same_journal a b files first second = let both : journal a ≡ journal b = sym first ∙ second in cc
 
 -- the journal that a store has went on from it
-pub went_fits : (j j0 : Journal) (o : Outside) (s : StoreValue) (two : Two File) → o.files ≡ Some two → Keeps j o → Fits bundle_meaning s j0 two → WentOn j j0
+pub went_fits : (j j0 : Journal) (o : Outside) (s : StoreValue) (two : Two File) → o.files ≡ Some two → HoldsLaterJournal j o → FitsFiles bundle_meaning s j0 two → WentOn j j0
 went_fits j j0 o s two is k fits =
     let reads = k.each two is (read_files two) (o.reads two is) in
     record { more = reads.more; plain = reads.plain; is = same_journal j0 (j ++ reads.more) (read_files two) fits.stands_for reads.stands_for }
@@ -69,8 +69,8 @@ goes_on : (j whole : Journal) (files : Two (List ℕ)) → WentOn j whole → st
 goes_on j whole files went stood = record { more = went.more; plain = went.plain; stands_for = stood ∙ ap journal went.is }
 
 module _ (P Q : Journal → Type 0) where
-  keeps_leads : (j j0 : Journal) (s s' : StoreValue) (o o' : Outside) (two : Two File) → o.files ≡ Some two → Keeps j o → Fits bundle_meaning s j0 two
-      → ((whole : Journal) → P whole → WentOn j0 whole) → Leads bundle_meaning P Q s' o o' → Keeps j o'
+  keeps_leads : (j j0 : Journal) (s s' : StoreValue) (o o' : Outside) (two : Two File) → o.files ≡ Some two → HoldsLaterJournal j o → FitsFiles bundle_meaning s j0 two
+      → ((whole : Journal) → P whole → WentOn j0 whole) → LeadsTo bundle_meaning P Q s' o o' → HoldsLaterJournal j o'
   keeps_leads j j0 s s' o o' two is k fits went leads =
       keeps_by j o o' leads.moments.later (λ m w.
       let at = leads.moments.each m w in
@@ -80,14 +80,14 @@ adds_front : (j0 whole : Journal) (batch : List Entry) → AddsAtMost bundle_mea
 adds_front j0 whole batch (inl same) = front_same j0 whole same
 adds_front j0 whole batch (inr adds) = record { rest = batch ∷ adds.more; whole = adds.is }
 
-pub keeps_settling : (more j0 : Journal) (s s' : StoreValue) (o o' : Outside) (two : Two File) → o.files ≡ Some two → Fits bundle_meaning s j0 two
-    → AllSettling bundle_meaning s.state.facts more → Leads bundle_meaning (IsBetween j0 more) (λ whole. whole ≡ j0 ++ more) s' o o' → KeepsOn o o'
+pub keeps_settling : (more j0 : Journal) (s s' : StoreValue) (o o' : Outside) (two : Two File) → o.files ≡ Some two → FitsFiles bundle_meaning s j0 two
+    → AllSettling bundle_meaning s.state.facts more → LeadsTo bundle_meaning (IsBetween j0 more) (λ whole. whole ≡ j0 ++ more) s' o o' → KeepsOn o o'
 keeps_settling more j0 s s' o o' two is fits settling leads j k =
     let all : AllSettling bundle_meaning (facts j0) more = subst (λ (f : Facts). AllSettling bundle_meaning f more) (sym fits.facts_are) settling in
     keeps_leads (IsBetween j0 more) (λ whole. whole ≡ j0 ++ more) j j0 s s' o o' two is k fits (λ whole at. went_between j0 more whole all at) leads
 
-pub keeps_adding : (batch : List Entry) (j0 : Journal) (s s' : StoreValue) (o o' : Outside) (two : Two File) → IsPlain batch → o.files ≡ Some two → Fits bundle_meaning s j0 two
-    → Leads bundle_meaning (AddsAtMost bundle_meaning j0 batch) (AddsAtMost bundle_meaning j0 batch) s' o o' → KeepsOn o o'
+pub keeps_adding : (batch : List Entry) (j0 : Journal) (s s' : StoreValue) (o o' : Outside) (two : Two File) → IsPlain batch → o.files ≡ Some two → FitsFiles bundle_meaning s j0 two
+    → LeadsTo bundle_meaning (AddsAtMost bundle_meaning j0 batch) (AddsAtMost bundle_meaning j0 batch) s' o o' → KeepsOn o o'
 keeps_adding batch j0 s s' o o' two plain is fits leads j k =
     keeps_leads (AddsAtMost bundle_meaning j0 batch) (AddsAtMost bundle_meaning j0 batch) j j0 s s' o o' two is k fits (λ whole adds. went_adding j0 whole batch plain adds) leads
 
@@ -98,8 +98,8 @@ abbrev pub begin_now : ℕ → Outside → Two File → Journal → Begin
 begin_now first o two j0 = record { files = two; sent = sent_of o.links.told; clock = o.clock; journal = j0; first = first }
 
 -- it is safe where what was sent is output of the journal
-safe_from : (first : ℕ) (plans : List Session) (s : StoreValue) (o : Outside) (told : Told o) (j0 : Journal)
-    → ((told' : Told o) → Fits bundle_meaning s j0 told'.two × AreOutput j0 first (sent_on o.links)) → Safe bundle_meaning (begin_now first o told.two j0) plans s o
+safe_from : (first : ℕ) (plans : List Session) (s : StoreValue) (o : Outside) (told : TellsAll o) (j0 : Journal)
+    → ((told' : TellsAll o) → FitsFiles bundle_meaning s j0 told'.two × AreOutput j0 first (sent_on o.links)) → Safe bundle_meaning (begin_now first o told.two j0) plans s o
 safe_from first plans s o told j0 has = record {
   later = λ _. omega arith;
   moments = λ told' m w.
@@ -114,7 +114,7 @@ safe_from first plans s o told j0 has = record {
 }
 
 -- what was sent is output of the journal that the store has
-has_output : (n : NodeValue) (o : Outside) (told : Told o) (j0 : Journal) → Fits bundle_meaning n.store j0 told.two → IsSafeRun n o → AreOutput j0 n.first (sent_on o.links)
+has_output : (n : NodeValue) (o : Outside) (told : TellsAll o) (j0 : Journal) → FitsFiles bundle_meaning n.store j0 told.two → IsSafeRun n o → AreOutput j0 n.first (sent_on o.links)
 has_output n o told j0 fits run link =
     let now = run.safe.reads told in
     let same : now.whole ≡ j0 = same_journal now.whole j0 (read_files told.two) now.stands_for fits.stands_for in
@@ -122,19 +122,19 @@ has_output n o told j0 fits run link =
     subst (λ (k : ℕ). IsFront (sent_on o.links link) (output j0 (k + link))) begun
     (subst (λ (w : Journal). IsFront (sent_on o.links link) (output w (run.begin.first + link))) same (now.has_sent link))
 
-told_twice : (o : Outside) (told told' : Told o) → told.two ≡ told'.two
+told_twice : (o : Outside) (told told' : TellsAll o) → told.two ≡ told'.two
 told_twice o told told' = let both : Some told.two ≡ Some told'.two = sym told.files_are ∙ told'.files_are in cc
 
-fits_told : (s : StoreValue) (j : Journal) (o : Outside) (told told' : Told o) → Fits bundle_meaning s j told.two → Fits bundle_meaning s j told'.two
-fits_told s j o told told' fits = subst (λ (t : Two File). Fits bundle_meaning s j t) (told_twice o told told') fits
+fits_told : (s : StoreValue) (j : Journal) (o : Outside) (told told' : TellsAll o) → FitsFiles bundle_meaning s j told.two → FitsFiles bundle_meaning s j told'.two
+fits_told s j o told told' fits = subst (λ (t : Two File). FitsFiles bundle_meaning s j t) (told_twice o told told') fits
 
-pub safe_now : (n : NodeValue) (o : Outside) (told : Told o) (j0 : Journal) → Fits bundle_meaning n.store j0 told.two → (run : IsSafeRun n o) → Safe bundle_meaning (begin_now n.first o told.two j0) run.plans n.store o
+pub safe_now : (n : NodeValue) (o : Outside) (told : TellsAll o) (j0 : Journal) → FitsFiles bundle_meaning n.store j0 told.two → (run : IsSafeRun n o) → Safe bundle_meaning (begin_now n.first o told.two j0) run.plans n.store o
 safe_now n o told j0 fits run =
     safe_from n.first run.plans n.store o told j0 (λ told'. (fits_told n.store j0 o told told' fits, has_output n o told j0 fits run))
 
 -- at each moment of a safe run, and at its end, the files stand for a journal that goes on from that of its begin
-keeps_safe : (j j0 : Journal) (first : ℕ) (plans : List Session) (s s' : StoreValue) (o o' : Outside) (told : Told o) → Told o' → Fits bundle_meaning s j0 told.two → Keeps j o
-    → Safe bundle_meaning (begin_now first o told.two j0) plans s' o' → Keeps j o'
+keeps_safe : (j j0 : Journal) (first : ℕ) (plans : List Session) (s s' : StoreValue) (o o' : Outside) (told : TellsAll o) → TellsAll o' → FitsFiles bundle_meaning s j0 told.two → HoldsLaterJournal j o
+    → Safe bundle_meaning (begin_now first o told.two j0) plans s' o' → HoldsLaterJournal j o'
 keeps_safe j j0 first plans s s' o o' told told' fits k safe =
     keeps_by j o o' (safe.later told') (λ m w.
     elim (safe.moments told' m w) [
@@ -145,12 +145,12 @@ keeps_safe j j0 first plans s s' o o' told told' fits k safe =
           covered.stands_for
     ])
 
-pub keeps_turning : (n n' : NodeValue) (o o' : Outside) (told : Told o) → Told o' → (j0 : Journal) → Fits bundle_meaning n.store j0 told.two → IsSafeRun n o → KeepsSafe bundle_meaning n n' o o' → KeepsOn o o'
+pub keeps_turning : (n n' : NodeValue) (o o' : Outside) (told : TellsAll o) → TellsAll o' → (j0 : Journal) → FitsFiles bundle_meaning n.store j0 told.two → IsSafeRun n o → KeepsSafe bundle_meaning n n' o o' → KeepsOn o o'
 keeps_turning n n' o o' told told' j0 fits run keeps j k =
     keeps_safe j j0 n.first run.plans n.store n'.store o o' told told' fits k
     (keeps.safe run.joined (begin_now n.first o told.two j0) run.plans refl (safe_now n o told j0 fits run))
 
-pub keeps_attaching : (session : Session) (n n' : NodeValue) (o o' : Outside) (told : Told o) → Told o' → (j0 : Journal) → Fits bundle_meaning n.store j0 told.two → IsSafeRun n o
+pub keeps_attaching : (session : Session) (n n' : NodeValue) (o o' : Outside) (told : TellsAll o) → TellsAll o' → (j0 : Journal) → FitsFiles bundle_meaning n.store j0 told.two → IsSafeRun n o
     → PlansSafe bundle_meaning session n n' o o' → KeepsOn o o'
 keeps_attaching session n n' o o' told told' j0 fits run keeps j k =
     keeps_safe j j0 n.first (run.plans ++ session ∷ []) n.store n'.store o o' told told' fits k
@@ -171,7 +171,7 @@ run_turned n n' o o' joined keeps run = record {
 one_longer : (plans : List Session) (session : Session) (k k' : ℕ) → length plans ≡ k → k' ≡ k + 1 → length (plans ++ session ∷ []) ≡ k'
 one_longer plans session k k' counted more = omega (arith, length-append plans (session ∷ []), counted, more)
 
-pub run_attached : (session : Session) (n n' : NodeValue) (o o' : Outside) → Attaches bundle_meaning n n' o o' → PlansSafe bundle_meaning session n n' o o' → IsSafeRun n o → IsSafeRun n' o'
+pub run_attached : (session : Session) (n n' : NodeValue) (o o' : Outside) → AttachesLink bundle_meaning n n' o o' → PlansSafe bundle_meaning session n n' o o' → IsSafeRun n o → IsSafeRun n' o'
 run_attached session n n' o o' attaches keeps run = record {
   joined = attaches.joined run.joined;
   begin = run.begin;
@@ -182,8 +182,8 @@ run_attached session n n' o o' attaches keeps run = record {
 }
 
 -- a node over a store begins a run on a host on which nothing was sent or heard
-pub run_begun : (n : NodeValue) (s : StoreValue) (o : Outside) (told : Told o) (j0 : Journal) → Fits bundle_meaning s j0 told.two → n ≡ record { store = s; first = s.state.facts.begun; links = []; closed = false }
-    → IsQuiet o → IsSafeRun n o
+pub run_begun : (n : NodeValue) (s : StoreValue) (o : Outside) (told : TellsAll o) (j0 : Journal) → FitsFiles bundle_meaning s j0 told.two → n ≡ record { store = s; first = s.state.facts.begun; links = []; closed = false }
+    → AreLinksQuiet o → IsSafeRun n o
 run_begun n s o told j0 fits is quiet =
     let P : NodeValue → Type 0 = λ m. IsSafeRun m o in
     subst P (sym is) (record {
@@ -212,14 +212,14 @@ output_grows grows j0 whole session front legal =
       whole = ap (λ (rs : List Record). flat_map spelling rs) more.goes_on ∙ flat_map-append spelling (sent j0 session) more.more;
     }
 
-nothing_sent : (P Q : Journal → Type 0) (s' : StoreValue) (o o' : Outside) → Told o' → Leads bundle_meaning P Q s' o o' → sent_of o'.links.told ≡ sent_of o.links.told
+nothing_sent : (P Q : Journal → Type 0) (s' : StoreValue) (o o' : Outside) → TellsAll o' → LeadsTo bundle_meaning P Q s' o o' → sent_of o'.links.told ≡ sent_of o.links.told
 nothing_sent P Q s' o o' told' leads =
     let m : Moment = record { files = read_files told'.two; sent = sent_of o'.links.told } in
     let now = o'.is_now told'.two m told'.files_are (record { image = o'.reads told'.two told'.files_are; sent = refl }) in
     (leads.moments.each m (o'.since o.clock m leads.moments.later now)).nothing_sent
 
-pub run_added : SentGrows → (batch : List Entry) (n n' : NodeValue) (o o' : Outside) (told : Told o) (told' : Told o') (j0 : Journal) → Fits bundle_meaning n.store j0 told.two
-    → KeepsJoined bundle_meaning n n' o o' → Leads bundle_meaning (AddsAtMost bundle_meaning j0 batch) (AddsAtMost bundle_meaning j0 batch) n'.store o o'
+pub run_added : SentGrows → (batch : List Entry) (n n' : NodeValue) (o o' : Outside) (told : TellsAll o) (told' : TellsAll o') (j0 : Journal) → FitsFiles bundle_meaning n.store j0 told.two
+    → KeepsJoined bundle_meaning n n' o o' → LeadsTo bundle_meaning (AddsAtMost bundle_meaning j0 batch) (AddsAtMost bundle_meaning j0 batch) n'.store o o'
     → n.store.closed ≡ false → n'.store.closed ≡ false → IsSafeRun n o → IsSafeRun n' o'
 run_added grows batch n n' o o' told told' j0 fits joined leads unclosed unclosed' run =
     let (whole, adds, fits') = leads.ends unclosed' told'.two told'.files_are in
@@ -242,7 +242,7 @@ run_added grows batch n n' o o' told told' j0 fits joined leads unclosed unclose
 
 -- ---- the same is told
 
-abbrev tells_before : (o o' : Outside) → TellsSame o o' → Told o' → Told o
+abbrev tells_before : (o o' : Outside) → TellsSame o o' → TellsAll o' → TellsAll o
 tells_before o o' same told = record {
   two = told.two;
   files_are = sym same.files ∙ told.files_are;
@@ -254,15 +254,15 @@ tells_before o o' same told = record {
 
 unused_on : (o o' : Outside) (link : ℕ) → TellsSame o o' → IsUnused link o → IsUnused link o'
 unused_on o o' link same unused = record {
-  nothing_sent = λ told'. ap (λ (l : Option (List Link)). sent_at l link) same.told ∙ unused.nothing_sent (tells_before o o' same told');
+  nothing_sent = λ told'. ap (λ (l : Option (List ToldLink)). sent_at l link) same.told ∙ unused.nothing_sent (tells_before o o' same told');
   nothing_heard = λ told'. ap (λ (h : Option (List HeardOn)). answers_at h link) same.heard ∙ unused.nothing_heard (tells_before o o' same told');
 }
 
 one_on : (link : ℕ) (l : NodeLink) (s : StoreValue) (o o' : Outside) → TellsSame o o' → IsJoined bundle_meaning link [] l s o → IsJoined bundle_meaning link [] l s o'
 one_on link l s o o' same joined = record {
-  sent = λ unfailed told' whole fits. ap (λ (t : Option (List Link)). sent_at t link) same.told ∙ joined.sent unfailed (tells_before o o' same told') whole fits;
+  sent = λ unfailed told' whole fits. ap (λ (t : Option (List ToldLink)). sent_at t link) same.told ∙ joined.sent unfailed (tells_before o o' same told') whole fits;
   taken = λ going told'.
-      subst (λ (h : Option (List HeardOn)). HasTaken (heard_bytes (answers_at h link)) [] l (takes_of s.state.facts.takes l.session.number)) (sym same.heard) (joined.taken going (tells_before o o' same told'));
+      subst (λ (h : Option (List HeardOn)). HasTakenItems (heard_bytes (answers_at h link)) [] l (takes_of s.state.facts.takes l.session.number)) (sym same.heard) (joined.taken going (tells_before o o' same told'));
 }
 
 joined_on : (links : List NodeLink) (s : StoreValue) (o o' : Outside) → TellsSame o o' → Joined bundle_meaning links s o → Joined bundle_meaning links s o'
@@ -279,14 +279,14 @@ now_on : (b : Begin) (plans : List Session) (s : StoreValue) (o o' : Outside) (t
     → IsCoveredNow bundle_meaning b plans (heard_on o'.links) (sent_on o'.links) s two
 now_on b plans s o o' two same covered =
     subst (λ (h : Option (List HeardOn)). IsCoveredNow bundle_meaning b plans (λ link. heard_bytes (answers_at h link)) (sent_on o'.links) s two) (sym same.heard)
-    (subst (λ (t : Option (List Link)). IsCoveredNow bundle_meaning b plans (heard_on o.links) (λ link. sent_at t link) s two) (sym same.told) covered)
+    (subst (λ (t : Option (List ToldLink)). IsCoveredNow bundle_meaning b plans (heard_on o.links) (λ link. sent_at t link) s two) (sym same.told) covered)
 
 safe_on : (b : Begin) (plans : List Session) (s : StoreValue) (o o' : Outside) → TellsSame o o' → Safe bundle_meaning b plans s o → Safe bundle_meaning b plans s o'
 safe_on b plans s o o' same safe = record {
   later = λ told'. omega (arith, same.clock, safe.later (tells_before o o' same told'));
   moments = λ told' m w. elim (safe.moments (tells_before o o' same told') m (same.moments b.clock m w)) [ inl early ↦ inl early | inr covered ↦ inr (covered_on b plans o o' m same covered) ];
   reads = λ told'.
-      subst (λ (t : Option (List Link)). IsCovered bundle_meaning b plans (heard_on o'.links) (record { files = read_files told'.two; sent = sent_of t })) (sym same.told)
+      subst (λ (t : Option (List ToldLink)). IsCovered bundle_meaning b plans (heard_on o'.links) (record { files = read_files told'.two; sent = sent_of t })) (sym same.told)
       (covered_on b plans o o' (read_now told'.two o) same (safe.reads (tells_before o o' same told')));
   now = λ unclosed told'. now_on b plans s o o' told'.two same (safe.now unclosed (tells_before o o' same told'));
 }

@@ -3,7 +3,7 @@ use Rattle.std.proofs.Common.{◌≡◌, ℕ, zero, suc, ◌+◌, ◌≤◌, tru
 use Rattle.outside.specs.Files.{Two, File, IsFileImage, IsImage, NothingPending, read_files}
 use Rattle.outside.specs.Links.{sent_of}
 use Rattle.outside.specs.Outside.{Outside, Moment}
-use Rattle.outside.specs.Runs.{Told}
+use Rattle.outside.specs.Runs.{TellsAll}
 use Rattle.outside.specs.HostTold.{host_told}
 use Rattle.outside.specs.MemHost.{MemHostValue}
 use Rattle.frame_journal.specs.Gates.{AnyImage}
@@ -21,17 +21,17 @@ use Rattle.sync_rules.specs.Facts.{Facts, after_all, after_batches, facts}
 use Rattle.sync_rules.specs.Legal.{AllSettling, IsSettlingBatch}
 use Rattle.sync_rules.proofs.StepLaws.{next_is_settling}
 use Rattle.sync_store.specs.Store.{StoreValue}
-use Rattle.sync_store.specs.Fitting.{Fits}
-use Rattle.sync_store.specs.Moments.{IsBetween, Leads}
+use Rattle.sync_store.specs.Fitting.{FitsFiles}
+use Rattle.sync_store.specs.Moments.{IsBetween, LeadsTo}
 use Rattle.sync_node.specs.Adding.{AddsAtMost, IsPlain}
 use Rattle.sync_node.specs.Output.{heard_on}
 use Rattle.sync_node.specs.Safe.{Safe}
-use Rattle.sync_node.specs.Suits.{AllSuit, IsOfRun, Suits}
+use Rattle.sync_node.specs.Suits.{AllSuitSessions, IsOfRun, SuitsSessions}
 use Rattle.world_laws.specs.Worlds.{AllHeard, HasNoBrief, IsHeard}
 use Rattle.world_laws.proofs.PlainLaws.{plain_append}
 use Rattle.world_devices.specs.Devices.{DeviceValue}
 use Rattle.world_devices.specs.Keeping.{Journal}
-use Rattle.world_devices.specs.Running.{ComesFrom, GoOnHearing, Holds, IsStill, LeavesOn, MayLeave}
+use Rattle.world_devices.specs.Running.{JournalWentOn, GoOnHearing, HoldsAfterCrash, IsStill, LeavesOn, MayLeave}
 use Rattle.world_devices.proofs.KeepLaws.{begin_now, settled_only}
 use Rattle.world_devices.proofs.PlainLaws.{added_plain, some_settling_plain, suits_plain}
 
@@ -75,11 +75,11 @@ module _ (heard : ℕ → List Record) where
     of_run f (entry.Take s k ∷ rest) run = (run.read, takes s run.link run.read run.on (get_in (records (bytes run.link)) k run.read run.stands), run.so)
     of_run f (_ ∷ rest) run = tt
 
-    one_suits : (f : Facts) (b : List Entry) → Suits bundle_meaning first plans bytes f b → IsHeard heard f b
+    one_suits : (f : Facts) (b : List Entry) → SuitsSessions bundle_meaning first plans bytes f b → IsHeard heard f b
     one_suits f b (inl settles) = one_settling f b settles
     one_suits f b (inr run) = of_run f b run
 
-    pub all_suit : (f : Facts) (bs : Journal) → AllSuit bundle_meaning first plans bytes f bs → AllHeard heard f bs
+    pub all_suit : (f : Facts) (bs : Journal) → AllSuitSessions bundle_meaning first plans bytes f bs → AllHeard heard f bs
     all_suit f [] suits = tt
     all_suit f (b ∷ bs) suits = (one_suits f b suits.0, all_suit (after_all f b) bs suits.1)
 
@@ -88,7 +88,7 @@ module _ (heard : ℕ → List Record) where
 leave_none : (heard : ℕ → List Record) (j : Journal) (files : Two (List ℕ)) → stands bundle_meaning files ≡ journal j → GoOnHearing heard j files
 leave_none heard j files is = record { more = []; plain = refl; all_heard = tt; stands_for = is ∙ ap journal (sym (append-nil j)) }
 
-pub leave_held : (heard : ℕ → List Record) (j : Journal) (h : MemHostValue) → Holds j h → MayLeave heard j (host_told h)
+pub leave_held : (heard : ℕ → List Record) (j : Journal) (h : MemHostValue) → HoldsAfterCrash j h → MayLeave heard j (host_told h)
 leave_held heard j h holds = record { each = λ two is left image. leave_none heard j left (holds.each two is left image) }
 
 pub leave_same : (o o' : Outside) → o'.files ≡ o.files → LeavesOn o o'
@@ -114,7 +114,7 @@ pub record Went (heard : ℕ → List Record) (j j0 : Journal) : Type 0 where
   pub all_heard : AllHeard heard (facts j) more
   pub is : j0 ≡ j ++ more
 
-pub went : (heard : ℕ → List Record) (j j0 : Journal) (o : Outside) (s : StoreValue) (two : Two File) → o.files ≡ Some two → MayLeave heard j o → Fits bundle_meaning s j0 two → Went heard j j0
+pub went : (heard : ℕ → List Record) (j j0 : Journal) (o : Outside) (s : StoreValue) (two : Two File) → o.files ≡ Some two → MayLeave heard j o → FitsFiles bundle_meaning s j0 two → Went heard j j0
 went heard j j0 o s two is k fits =
     let reads = k.each two is (read_files two) (o.reads two is) in
     let both : journal j0 ≡ journal (j ++ reads.more) = sym fits.stands_for ∙ reads.stands_for in
@@ -131,8 +131,8 @@ went_on heard j j0 more files w plain all stood = record {
   stands_for = stood ∙ ap (λ (k : Journal). journal (k ++ more)) w.is ∙ ap journal (append_assoc j w.more more);
 }
 
-pub leave_settling : (more j0 : Journal) (s s' : StoreValue) (o o' : Outside) (two : Two File) → o.files ≡ Some two → Fits bundle_meaning s j0 two
-    → AllSettling bundle_meaning s.state.facts more → Leads bundle_meaning (IsBetween j0 more) (λ whole. whole ≡ j0 ++ more) s' o o' → LeavesOn o o'
+pub leave_settling : (more j0 : Journal) (s s' : StoreValue) (o o' : Outside) (two : Two File) → o.files ≡ Some two → FitsFiles bundle_meaning s j0 two
+    → AllSettling bundle_meaning s.state.facts more → LeadsTo bundle_meaning (IsBetween j0 more) (λ whole. whole ≡ j0 ++ more) s' o o' → LeavesOn o o'
 leave_settling more j0 s s' o o' two is fits settling leads heard j k =
     let w = went heard j j0 o s two is k fits in
     leave_by heard j o o' leads.moments.later (λ m since.
@@ -149,8 +149,8 @@ added_at heard j j0 whole batch files plain w (inr adds) stood =
     went_on heard j j0 (batch ∷ adds.more) files w (added_plain (facts j0) batch adds.more plain adds.settling)
     (plain_heard heard (facts j0) batch plain, all_settling heard (after_all (facts j0) batch) adds.more adds.settling) (stood ∙ ap journal adds.is)
 
-pub leave_adding : (batch : List Entry) (j0 : Journal) (s s' : StoreValue) (o o' : Outside) (two : Two File) → IsPlain batch → o.files ≡ Some two → Fits bundle_meaning s j0 two
-    → Leads bundle_meaning (AddsAtMost bundle_meaning j0 batch) (AddsAtMost bundle_meaning j0 batch) s' o o' → LeavesOn o o'
+pub leave_adding : (batch : List Entry) (j0 : Journal) (s s' : StoreValue) (o o' : Outside) (two : Two File) → IsPlain batch → o.files ≡ Some two → FitsFiles bundle_meaning s j0 two
+    → LeadsTo bundle_meaning (AddsAtMost bundle_meaning j0 batch) (AddsAtMost bundle_meaning j0 batch) s' o o' → LeavesOn o o'
 leave_adding batch j0 s s' o o' two plain is fits leads heard j k =
     let w = went heard j j0 o s two is k fits in
     leave_by heard j o o' leads.moments.later (λ m since.
@@ -158,7 +158,7 @@ leave_adding batch j0 s s' o o' two plain is fits leads heard j k =
     added_at heard j j0 at.whole batch m.files plain w at.has at.stands_for)
 
 -- a run that is safe, where what it hears is among what may be taken
-pub leave_safe : (heard : ℕ → List Record) (j j0 : Journal) (first : ℕ) (plans : List Session) (s s' : StoreValue) (o o' : Outside) (told : Told o) → Told o' → Fits bundle_meaning s j0 told.two
+pub leave_safe : (heard : ℕ → List Record) (j j0 : Journal) (first : ℕ) (plans : List Session) (s s' : StoreValue) (o o' : Outside) (told : TellsAll o) → TellsAll o' → FitsFiles bundle_meaning s j0 told.two
     → MayLeave heard j o → Safe bundle_meaning (begin_now first o told.two j0) plans s' o'
     → ((session link : ℕ) (r : Record) → session ≡ first + link → In r (records (heard_on o'.links link)) → In r (heard session)) → MayLeave heard j o'
 leave_safe heard j j0 first plans s s' o o' told told' fits k safe takes =
@@ -182,7 +182,7 @@ still_files two left first second image =
     (λ i. record { first = one i; second = other i })
 
 -- a disk that fits a store is still
-pub still_fits : (s : StoreValue) (j : Journal) (h : MemHostValue) (two : Two File) → (host_told h).files ≡ Some two → Fits bundle_meaning s j two → IsStill h
+pub still_fits : (s : StoreValue) (j : Journal) (h : MemHostValue) (two : Two File) → (host_told h).files ≡ Some two → FitsFiles bundle_meaning s j two → IsStill h
 still_fits s j h two is fits = record {
   each = λ two' is' left image.
       let same : two ≡ two' = (let both : Some two ≡ Some two' = sym is ∙ is' in cc) in
@@ -192,7 +192,7 @@ still_fits s j h two is fits = record {
 
 -- what a call that left the files still came to
 pub comes_still : StandingIsLegal → (heard : ℕ → List Record) (j : Journal) (new : DeviceValue) (two : Two File) → (host_told new.host).files ≡ Some two
-    → MayLeave heard j (host_told new.host) → (is_some new.node ≡ true → IsStill new.host) → ComesFrom heard j new
+    → MayLeave heard j (host_told new.host) → (is_some new.node ≡ true → IsStill new.host) → JournalWentOn heard j new
 comes_still legal heard j new two is k still =
     let reads = k.each two is (read_files two) ((host_told new.host).reads two is) in
     record {

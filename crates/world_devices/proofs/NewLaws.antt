@@ -20,10 +20,10 @@ use Rattle.sync_store.specs.Store.{StoreValue}
 use Rattle.sync_node.specs.Node.{NodeValue}
 use Rattle.world_devices.specs.Cited.{SettlingLeaves}
 use Rattle.world_devices.specs.Devices.{DeviceValue, IsAnew, IsReadyStore, IsRunning, MayBeRunning}
-use Rattle.world_devices.specs.Doing.{Adds, SettlesFrom}
+use Rattle.world_devices.specs.Doing.{DeviceAddsEntry, SettlesFrom}
 use Rattle.world_devices.specs.Linking.{IsBare, IsBareIn, IsNewDevice, IsUnlinked, KeepsLinks, LinksBy, WhenDone, new_journal}
 use Rattle.world_devices.proofs.NewJournals.{new_holds}
-use Rattle.world_devices.specs.Running.{Holds}
+use Rattle.world_devices.specs.Running.{HoldsAfterCrash}
 use Rattle.world_devices.specs.declared.starting.StartFault.{StartFault}
 use Rattle.world_devices.specs.declared.stop.Ran.{Ran}
 use Rattle.world_devices.specs.declared.stop.StepFault.{StepFault}
@@ -37,7 +37,7 @@ bare_of done s none are =
     let f : s.state.facts ≡ facts [] = sym are ∙ ap facts none in
     record { empty = ap (λ (g : Facts). g.held) f; counted = ap (λ (g : Facts). g.contacts) f }
 
-pub bare_loaded : (h : MemHostValue) (s : StoreValue) → Holds [] h → StandsFor bundle_meaning (read_files (told_host h).two) s → IsBare 0 s
+pub bare_loaded : (h : MemHostValue) (s : StoreValue) → HoldsAfterCrash [] h → StandsFor bundle_meaning (read_files (told_host h).two) s → IsBare 0 s
 bare_loaded h s holds so =
     let two = (told_host h).two in
     let is : stands bundle_meaning (read_files two) ≡ journal [] = holds.each two (told_host h).files_are (read_files two) ((host_told h).reads two (told_host h).files_are) in
@@ -56,7 +56,7 @@ bare_settled laws contacts s s' more settling is bare =
     }
 
 -- what a bare device without links is
-new_of : (contacts : ℕ) (n : NodeValue) (d : DeviceValue) → d.node ≡ Some n → IsRunning n d.host d.links → Holds (new_journal contacts) d.host → IsUnlinked d
+new_of : (contacts : ℕ) (n : NodeValue) (d : DeviceValue) → d.node ≡ Some n → IsRunning n d.host d.links → HoldsAfterCrash (new_journal contacts) d.host → IsUnlinked d
     → IsAnew d.clock d.host → d.stop ≡ None → IsNewDevice contacts d.clock d
 new_of contacts n d is run holds unlinked anew unstopped =
     let has = journal_of n.store d.host (open_of n d.host d.links run) in
@@ -74,7 +74,7 @@ new_of contacts n d is run holds unlinked anew unstopped =
       unstopped = unstopped;
     }
 
-pub new_device : (contacts : ℕ) (node : Option NodeValue) (d : DeviceValue) → d.node ≡ node → MayBeRunning node d.host d.links → IsBareIn contacts node → Holds (new_journal contacts) d.host
+pub new_device : (contacts : ℕ) (node : Option NodeValue) (d : DeviceValue) → d.node ≡ node → MayBeRunning node d.host d.links → IsBareIn contacts node → HoldsAfterCrash (new_journal contacts) d.host
     → IsUnlinked d → IsAnew d.clock d.host → d.stop ≡ None → IsNewDevice contacts d.clock d
 new_device contacts None d is run bare holds unlinked anew unstopped = absurd bare
 new_device contacts (Some n) d is run bare holds unlinked anew unstopped = new_of contacts n d is run holds unlinked anew unstopped
@@ -94,10 +94,10 @@ all_settled clients f (b ∷ bs) none settling = absurd (none_settles clients f 
 -- ---- the journal of a new device
 
 -- of a device that was started over empty files
-pub begun_journal : (h : MemHostValue) → SettlesFrom [] h → Holds (new_journal 0) h
+pub begun_journal : (h : MemHostValue) → SettlesFrom [] h → HoldsAfterCrash (new_journal 0) h
 begun_journal h from =
     let is : from.whole ≡ [] = from.goes_on.is ∙ all_settled bundle_meaning (facts []) from.goes_on.more refl from.goes_on.settling in
-    subst (λ (j : List (List Entry)). Holds j h) is from.holds
+    subst (λ (j : List (List Entry)). HoldsAfterCrash j h) is from.holds
 
 answered : (b : Bool) (number known : ℕ) → Ok number ≡ (if b then Ok known else Err refused.TooManyContacts) → number ≡ known
 answered true number known is = cc
@@ -110,15 +110,15 @@ number_is contacts number (Some n) s ready is bare =
     answered (nat_lt s.state.facts.contacts MAX_CONTACTS) number s.state.facts.contacts is ∙ (ap (λ (x : StoreValue). x.state.facts.contacts) ready.0 ∙ bare.counted)
 
 -- one contact more, with nothing to settle behind it
-pub new_journal_kept : (contacts number : ℕ) (r : Result Ran StepFault) (old new : DeviceValue) → number ≡ contacts → Adds (entry.Contact number) r old new → Holds (new_journal contacts) old.host
-    → WhenDone r (Holds (new_journal (contacts + 1)) new.host)
+pub new_journal_kept : (contacts number : ℕ) (r : Result Ran StepFault) (old new : DeviceValue) → number ≡ contacts → DeviceAddsEntry (entry.Contact number) r old new → HoldsAfterCrash (new_journal contacts) old.host
+    → WhenDone r (HoldsAfterCrash (new_journal (contacts + 1)) new.host)
 new_journal_kept contacts number (Ok ran.Done) old new is adds holds =
     let added = adds.1 (new_journal contacts) holds in
     let none : added.adds.more ≡ [] = all_settled bundle_meaning (after_all (facts (new_journal contacts)) (entry.Contact number ∷ [])) added.adds.more (new_holds contacts) added.adds.settling in
     let whole : added.whole ≡ new_journal contacts ++ ((entry.Contact contacts ∷ []) ∷ []) =
     added.adds.is ∙ (ap (λ (more : List (List Entry)). new_journal contacts ++ ((entry.Contact number ∷ []) ∷ more)) none ∙ ap (λ (k : ℕ). new_journal contacts ++ ((entry.Contact k ∷ []) ∷ [])) is) in
     let one_more : suc contacts ≡ contacts + 1 = omega arith in
-    subst (λ (k : ℕ). Holds (new_journal k) new.host) one_more (subst (λ (j : List (List Entry)). Holds j new.host) whole added.holds)
+    subst (λ (k : ℕ). HoldsAfterCrash (new_journal k) new.host) one_more (subst (λ (j : List (List Entry)). HoldsAfterCrash j new.host) whole added.holds)
 new_journal_kept contacts number (Ok ran.Crashed) old new is adds holds = tt
 new_journal_kept contacts number (Err fault) old new is adds holds = tt
 
@@ -139,5 +139,5 @@ unlinked_kept r old new is links unlinked =
 -- ---- files that are told the same
 
 -- the files of a host that tells the same of them hold the same
-pub holds_on : (j : List (List Entry)) (h h' : MemHostValue) → (host_told h').files ≡ (host_told h).files → Holds j h → Holds j h'
+pub holds_on : (j : List (List Entry)) (h h' : MemHostValue) → (host_told h').files ≡ (host_told h).files → HoldsAfterCrash j h → HoldsAfterCrash j h'
 holds_on j h h' same holds = record { each = λ two is left image. holds.each two (sym same ∙ is) left image }

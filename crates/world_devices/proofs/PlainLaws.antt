@@ -15,7 +15,7 @@ use Rattle.sync_rules.proofs.StepLaws.{next_is_settling}
 use Rattle.sync_store.specs.Moments.{IsBetween}
 use Rattle.sync_store.specs.Store.{IsStore, StoreValue, counts_to, written_in}
 use Rattle.sync_node.specs.Adding.{AddsAtMost, IsPlain}
-use Rattle.sync_node.specs.Suits.{AllSuit, IsOfRun, Suits, SuitsRun}
+use Rattle.sync_node.specs.Suits.{AllSuitSessions, IsOfRun, SuitsSessions, SuitsRun}
 use Rattle.world_laws.specs.Worlds.{HasNoBrief, begins_no_brief}
 use Rattle.world_laws.proofs.PlainLaws.{plain_append, plain_listed}
 use Rattle.world_devices.specs.Keeping.{Journal}
@@ -59,12 +59,12 @@ module _ (first : ℕ) (plans : List Session) (bytes : ℕ → List ℕ) where
   run_begins f (entry.Brief n ∷ rest) run = absurd run
   run_begins f (_ ∷ rest) run = refl
 
-  suits_begins : (f : Facts) (b : List Entry) → Suits bundle_meaning first plans bytes f b → begins_no_brief b ≡ true
+  suits_begins : (f : Facts) (b : List Entry) → SuitsSessions bundle_meaning first plans bytes f b → begins_no_brief b ≡ true
   suits_begins f b (inl settles) = settling_begins f b settles
   suits_begins f b (inr run) = run_begins f b run
 
   -- what a run adds
-  pub suits_plain : (f : Facts) (bs : Journal) → AllSuit bundle_meaning first plans bytes f bs → HasNoBrief bs
+  pub suits_plain : (f : Facts) (bs : Journal) → AllSuitSessions bundle_meaning first plans bytes f bs → HasNoBrief bs
   suits_plain f [] suits = refl
   suits_plain f (b ∷ bs) suits =
       let here = suits_begins f b suits.0 in

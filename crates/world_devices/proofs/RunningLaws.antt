@@ -1,11 +1,11 @@
 -- What keeps a device running.
 use Rattle.std.proofs.Common.{◌≡◌, ℕ, ◌+◌, ◌<◌, ◌≤◌, false, List, [], ◌∷◌, refl, sym, ap, ◌∙◌, subst, arith, Option, Some, None, Result, Ok, Err, OnOk, OnErr}
 use Rattle.outside.specs.Files.{Two, File}
-use Rattle.outside.specs.Links.{Link, HeardOn}
+use Rattle.outside.specs.Links.{ToldLink, HeardOn}
 use Rattle.outside.specs.Outside.{Outside}
 use Rattle.outside.specs.Runs.{answers_at, sent_at}
 use Rattle.outside.specs.HostTold.{host_told}
-use Rattle.outside.specs.MemHost.{Crashes, MemHostValue, fresh_host}
+use Rattle.outside.specs.MemHost.{CrashesHost, MemHostValue, fresh_host}
 use Rattle.outside.specs.declared.pick.Pick.{Pick}
 use Rattle.std.specs.declared.alloc.AllocError.{AllocError}
 use Rattle.client_basic.specs.Bodies.{bundle_meaning}
@@ -23,17 +23,17 @@ use Rattle.sync_store.specs.Ready.{IsReady}
 use Rattle.sync_store.specs.Refusals.{contact_answer, group_answer, level_answer, post_answer}
 use Rattle.sync_node.specs.Adding.{IsPlain}
 use Rattle.world_devices.specs.Brought.{IsSilent, brought_on}
-use Rattle.sync_node.specs.Node.{Attaches, IsNode, KeepsJoined, KeepsSafe, NodeValue, MayRun, PlansSafe}
+use Rattle.sync_node.specs.Node.{AttachesLink, IsNode, KeepsJoined, KeepsSafe, NodeValue, MayRun, PlansSafe}
 use Rattle.frame_journal.specs.Gates.{AnyImage}
 use Rattle.sync_rules.specs.declared.entries.Session.{Session}
-use Rattle.sync_store.specs.Fitting.{Fits}
-use Rattle.sync_store.specs.Moments.{Leads}
+use Rattle.sync_store.specs.Fitting.{FitsFiles}
+use Rattle.sync_store.specs.Moments.{LeadsTo}
 use Rattle.sync_store.specs.Settling.{HasSettled}
 use Rattle.sync_store.specs.declared.fault.StoreFault.{StoreFault}
 use Rattle.sync_node.specs.Adding.{AddsAtMost}
 use Rattle.world_devices.specs.Cited.{SentGrows}
-use Rattle.world_devices.specs.Devices.{IsDevice, IsReadyStore, IsRunning, IsStarted, MayAdd, MayBeRunning, links_made}
-use Rattle.world_devices.specs.Keeping.{IsQuiet, Journal, Keeps, KeepsOn, TellsSame}
+use Rattle.world_devices.specs.Devices.{IsDevice, IsReadyStore, IsRunning, IsStarted, MayAddEntry, MayBeRunning, links_made}
+use Rattle.world_devices.specs.Keeping.{AreLinksQuiet, Journal, HoldsLaterJournal, KeepsOn, TellsSame}
 use Rattle.world_devices.proofs.KeepLaws.{keeps_adding, keeps_attaching, keeps_looks, keeps_same, keeps_settling, keeps_turning, run_added, run_attached, run_begun, run_on, run_turned, went_fits}
 use Rattle.world_devices.proofs.PlainLaws.{few_begun}
 use Rattle.world_laws.specs.Worlds.{HasNoBrief}
@@ -84,7 +84,7 @@ running_of o n h links is running = subst (λ (x : Option NodeValue). MayBeRunni
 -- the journal that the store of a device has
 pub record HasJournal (s : StoreValue) (h : MemHostValue) : Type 0 where
   pub whole : Journal
-  pub fits : Fits bundle_meaning s whole (told_host h).two
+  pub fits : FitsFiles bundle_meaning s whole (told_host h).two
 
 pub journal_of : (s : StoreValue) (h : MemHostValue) → IsReady bundle_meaning s (host_told h).files → HasJournal s h
 journal_of s h ready = let fit = ready.fits (told_host h).two (told_host h).files_are in record { whole = fit.0; fits = fit.1 }
@@ -93,7 +93,7 @@ pub open_of : (n : NodeValue) (h : MemHostValue) (links : ℕ) → IsRunning n h
 open_of n h links running = (running.may running.unclosed).ready
 
 -- fewer sessions of a device that runs have begun than one may have
-pub begun_few : (n : NodeValue) (h : MemHostValue) (links : ℕ) → IsStore n.store → Keeps [] (host_told h) → IsRunning n h links → n.store.state.facts.begun < MAX_SESSIONS
+pub begun_few : (n : NodeValue) (h : MemHostValue) (links : ℕ) → IsStore n.store → HoldsLaterJournal [] (host_told h) → IsRunning n h links → n.store.state.facts.begun < MAX_SESSIONS
 begun_few n h links store keeps running =
     let has = journal_of n.store h (open_of n h links running) in
     let went = went_fits [] has.whole (host_told h) n.store (told_host h).two (told_host h).files_are keeps has.fits in
@@ -105,7 +105,7 @@ BringsAll h h' = (link : ℕ) → brought_on h' link ≡ brought_on h link
 
 -- a node over a store that was loaded and settled
 pub begins_running : (n : NodeValue) (s : StoreValue) (h : MemHostValue) → n ≡ record { store = s; first = s.state.facts.begun; links = []; closed = false }
-    → IsStarted s h → LINKS ≤ links_made h → IsQuiet (host_told h) → IsSilent h → IsRunning n h 0
+    → IsStarted s h → LINKS ≤ links_made h → AreLinksQuiet (host_told h) → IsSilent h → IsRunning n h 0
 begins_running n s h is started dialled quiet silent =
     let P : NodeValue → Type 0 = λ m. IsRunning m h 0 in
     let has = journal_of s h started.ready in
@@ -122,7 +122,7 @@ begins_running n s h is started dialled quiet silent =
 
 -- a session began on one link more
 pub attached_running : (session : Session) (n n' : NodeValue) (h h' : MemHostValue) (links : ℕ) → n'.store.limit ≡ n.store.limit → MayRun bundle_meaning n' (host_told h') → n'.closed ≡ false
-    → Attaches bundle_meaning n n' (host_told h) (host_told h') → PlansSafe bundle_meaning session n n' (host_told h) (host_told h') → IsNode n' → BringsAll h h' → IsRunning n h links → IsRunning n' h' (links + 1)
+    → AttachesLink bundle_meaning n n' (host_told h) (host_told h') → PlansSafe bundle_meaning session n n' (host_told h) (host_told h') → IsNode n' → BringsAll h h' → IsRunning n h links → IsRunning n' h' (links + 1)
 attached_running session n n' h h' links limit may unclosed attaches safe is_node brings running = record {
   unclosed = unclosed;
   runs = run_attached session n n' (host_told h) (host_told h') attaches safe running.runs;
@@ -162,8 +162,8 @@ turn_keeps n n' h h' links safe running =
 -- an entry was added
 abbrev pub LeadsAdding : List Entry → NodeValue → NodeValue → MemHostValue → MemHostValue → Type 0
 LeadsAdding batch n n' h h' =
-    (two : Two File) → (host_told h).files ≡ Some two → (j : Journal) → Fits bundle_meaning n.store j two
-    → Leads bundle_meaning (AddsAtMost bundle_meaning j batch) (AddsAtMost bundle_meaning j batch) n'.store (host_told h) (host_told h')
+    (two : Two File) → (host_told h).files ≡ Some two → (j : Journal) → FitsFiles bundle_meaning n.store j two
+    → LeadsTo bundle_meaning (AddsAtMost bundle_meaning j batch) (AddsAtMost bundle_meaning j batch) n'.store (host_told h) (host_told h')
 
 pub added_running : SentGrows → (batch : List Entry) (n n' : NodeValue) (h h' : MemHostValue) (links : ℕ) → n'.store.limit ≡ n.store.limit → MayRun bundle_meaning n' (host_told h') → n'.closed ≡ false
     → KeepsJoined bundle_meaning n n' (host_told h) (host_told h') → LeadsAdding batch n n' h h' → IsNode n' → (host_told h').links ≡ (host_told h).links → IsRunning n h links → IsRunning n' h' links
@@ -199,9 +199,9 @@ load_keeps h h' any = keeps_looks (host_told h) (host_told h') (told_host h).two
 
 -- ---- a device that starts, after a crash or over its files
 
-pub quiet_told : (o o' : Outside) → TellsSame o o' → IsQuiet o → IsQuiet o'
+pub quiet_told : (o o' : Outside) → TellsSame o o' → AreLinksQuiet o → AreLinksQuiet o'
 quiet_told o o' same quiet = record {
-  sent = λ link. ap (λ (t : Option (List Link)). sent_at t link) same.told ∙ quiet.sent link;
+  sent = λ link. ap (λ (t : Option (List ToldLink)). sent_at t link) same.told ∙ quiet.sent link;
   heard = λ link. ap (λ (t : Option (List HeardOn)). answers_at t link) same.heard ∙ quiet.heard link;
 }
 
@@ -209,13 +209,13 @@ pub start_keeps : (h0 h1 h2 h3 : MemHostValue) → (host_told h1).files ≡ (hos
 start_keeps h0 h1 h2 h3 dialled set loaded j k = loaded j (keeps_told h1 h2 set j (keeps_same (host_told h0) (host_told h1) dialled j k))
 
 keeps_equal : (h h' : MemHostValue) → h' ≡ h → KeepsOn (host_told h) (host_told h')
-keeps_equal h h' is j k = subst (λ (x : MemHostValue). Keeps j (host_told x)) (sym is) k
+keeps_equal h h' is j k = subst (λ (x : MemHostValue). HoldsLaterJournal j (host_told x)) (sym is) k
 
 -- of a host that is another one by name
 pub keeps_seen : (h h' : MemHostValue) (o : Outside) → h ≡ h' → KeepsOn (host_told h) o → KeepsOn (host_told h') o
 keeps_seen h h' o is keeps = subst (λ (x : MemHostValue). KeepsOn (host_told x) o) is keeps
 
-pub crash_keeps : (pick : Pick) (h h' : MemHostValue) (result : Result (Unit {0}) AllocError) → OnOk result (Crashes pick h h') → OnErr result (h' ≡ h) → KeepsOn (host_told h) (host_told h')
+pub crash_keeps : (pick : Pick) (h h' : MemHostValue) (result : Result (Unit {0}) AllocError) → OnOk result (CrashesHost pick h h') → OnErr result (h' ≡ h) → KeepsOn (host_told h) (host_told h')
 crash_keeps pick h h' (Ok u) ok err = keeps_crash pick h h' ok
 crash_keeps pick h h' (Err e) ok err = keeps_equal h h' err
 
@@ -225,7 +225,7 @@ anew_keeps h h' (Err e) ok err = keeps_equal h h' err
 
 -- ---- what is added
 
-may_add : (node : Option NodeValue) (s : StoreValue) (e : Entry) → IsReadyStore node s → IsPlain (e ∷ []) → (IsSettled bundle_meaning s.state.facts → Allowed bundle_meaning s.state.facts (e ∷ [])) → MayAdd node e
+may_add : (node : Option NodeValue) (s : StoreValue) (e : Entry) → IsReadyStore node s → IsPlain (e ∷ []) → (IsSettled bundle_meaning s.state.facts → Allowed bundle_meaning s.state.facts (e ∷ [])) → MayAddEntry node e
 may_add None s e ready plain allowed = tt
 may_add (Some n) s e ready plain allowed = record {
   allowed = λ unclosed.
@@ -235,15 +235,15 @@ may_add (Some n) s e ready plain allowed = record {
   plain = plain;
 }
 
-pub may_add_contact : (node : Option NodeValue) (s : StoreValue) (number : ℕ) → IsReadyStore node s → Ok number ≡ contact_answer s.state.facts → MayAdd node (entry.Contact number)
+pub may_add_contact : (node : Option NodeValue) (s : StoreValue) (number : ℕ) → IsReadyStore node s → Ok number ≡ contact_answer s.state.facts → MayAddEntry node (entry.Contact number)
 may_add_contact node s number ready is = may_add node s (entry.Contact number) ready tt (λ settled. contact_allowed bundle_meaning s.state.facts number settled (sym is))
 
-pub may_add_group : (node : Option NodeValue) (s : StoreValue) (def : GroupValue) (id : Id) → IsReadyStore node s → Ok id ≡ group_answer bundle_meaning s.state.facts def → MayAdd node (entry.Group def)
+pub may_add_group : (node : Option NodeValue) (s : StoreValue) (def : GroupValue) (id : Id) → IsReadyStore node s → Ok id ≡ group_answer bundle_meaning s.state.facts def → MayAddEntry node (entry.Group def)
 may_add_group node s def id ready is = may_add node s (entry.Group def) ready tt (λ settled. group_allowed bundle_meaning s.state.facts def id settled (sym is))
 
 pub may_set_level : (node : Option NodeValue) (s : StoreValue) (contact : ℕ) (group : Id) (l : Level) (u : Unit {0}) → IsReadyStore node s → Ok u ≡ level_answer s.state.facts contact group
-    → MayAdd node (entry.Level contact group l)
+    → MayAddEntry node (entry.Level contact group l)
 may_set_level node s contact group l u ready is = may_add node s (entry.Level contact group l) ready tt (λ settled. level_allowed bundle_meaning s.state.facts contact group l u settled (sym is))
 
-pub may_author : (node : Option NodeValue) (s : StoreValue) (m : MessageValue) (id : Id) → IsReadyStore node s → post_answer bundle_meaning s.state.facts m ≡ Ok id → MayAdd node (entry.Author m)
+pub may_author : (node : Option NodeValue) (s : StoreValue) (m : MessageValue) (id : Id) → IsReadyStore node s → post_answer bundle_meaning s.state.facts m ≡ Ok id → MayAddEntry node (entry.Author m)
 may_author node s m id ready is = may_add node s (entry.Author m) ready tt (λ settled. author_allowed bundle_meaning s.state.facts m id settled is)

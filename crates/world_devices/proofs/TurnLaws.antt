@@ -16,7 +16,7 @@ use Rattle.sync_rules.specs.declared.entries.Entry.{Entry}
 use Rattle.sync_rules.specs.declared.entries.Entry.TheVariants as entry
 use Rattle.sync_rules.specs.Facts.{after_all}
 use Rattle.sync_store.specs.Store.{StoreValue}
-use Rattle.sync_node.specs.Courses.{Begins, BreaksBeginning, BreaksTurn, FitsWith, MakesTurn, ReadsAs, RunBreaks, RunRuns, is_still}
+use Rattle.sync_node.specs.Courses.{BeginsNextSession, BreaksBeginning, BreaksTurn, FitsWith, MakesTurn, ReadsAs, RunBreaks, RunRuns, is_still}
 use Rattle.sync_node.specs.Fulls.{FullBeginning, FullTurn}
 use Rattle.sync_node.specs.Node.{NodeValue}
 use Rattle.sync_node.specs.Plans.{session_of}
@@ -27,7 +27,7 @@ use Rattle.sync_node.specs.declared.node.Plan.{Plan}
 use Rattle.sync_node.specs.declared.node.Turned.{Turned}
 use Rattle.sync_node.specs.declared.node.Turned.TheVariants as turned_kind
 use Rattle.world_devices.specs.Devices.{DeviceValue, HostGoesOn}
-use Rattle.world_devices.specs.Doing.{Attaches, BreaksOff, ComesOf, FullAtBeginning, FullInTurn, HasAttached, HasBegun, HasTurned, IsAhead, IsNotFull, OfNodes, Turns, next_session}
+use Rattle.world_devices.specs.Doing.{DeviceBeginsSession, BreaksOff, ComesOf, FullAtBeginning, FullInTurn, HasAttached, HasBegunOnLink, HasTurned, IsAhead, IsNotFull, OfNodes, DeviceMakesTurn, next_session}
 use Rattle.world_devices.specs.Refusals.{IsNotRefused, RefusedBy, refuses_link}
 use Rattle.world_devices.specs.declared.stop.StepFault.{StepFault}
 use Rattle.world_devices.specs.declared.stop.StepFault.TheVariants as fault
@@ -41,12 +41,12 @@ of_nodes P n n' old new was is holds = subst (λ (x : Option NodeValue). OfNodes
 
 -- ---- a turn
 
-pub turns_seen : (r : Result (Option Bool) StepFault) (d old new : DeviceValue) → d ≡ old → Turns r d new → Turns r old new
-turns_seen r d old new is turns = subst (λ (x : DeviceValue). Turns r x new) is turns
+pub turns_seen : (r : Result (Option Bool) StepFault) (d old new : DeviceValue) → d ≡ old → DeviceMakesTurn r d new → DeviceMakesTurn r old new
+turns_seen r d old new is turns = subst (λ (x : DeviceValue). DeviceMakesTurn r x new) is turns
 
 -- one that was made
 pub turn_made : (still quiet : Bool) (n n' : NodeValue) (old new : DeviceValue) → old.node ≡ Some n → new.node ≡ Some n' → new.clock ≡ old.clock → new.stop ≡ old.stop → HostGoesOn old.host new.host → IsAhead new.stop new.host → n'.first ≡ n.first → still ≡ quiet
-    → MakesTurn bundle_meaning n.first n.links n'.links n.store n'.store (host_told old.host) (host_told new.host) quiet → Turns (Ok (Some still)) old new
+    → MakesTurn bundle_meaning n.first n.links n'.links n.store n'.store (host_told old.host) (host_told new.host) quiet → DeviceMakesTurn (Ok (Some still)) old new
 turn_made still quiet n n' old new was is clock stop since ahead first same turn = (
   record { clock = clock; stop = stop; since = since; ahead = ahead },
   of_nodes (λ m m'. HasTurned still old.host new.host m m') n n' old.node new.node was is (record {
@@ -57,7 +57,7 @@ turn_made still quiet n n' old new was is clock stop since ahead first same turn
 
 -- one that was broken off
 pub turn_broken : (n : NodeValue) (at : MemHostValue) (old new : DeviceValue) → old.node ≡ Some n → BreaksTurn bundle_meaning n.first n.links n.store (host_told old.host) (host_told at)
-    → HostGoesOn old.host at → BreaksOff old.stop at new → new.clock ≡ old.clock → Turns (Ok None) old new
+    → HostGoesOn old.host at → BreaksOff old.stop at new → new.clock ≡ old.clock → DeviceMakesTurn (Ok None) old new
 turn_broken n at old new was breaks since off clock = record {
   at = at;
   since = since;
@@ -97,7 +97,7 @@ turn_stops n n' o o' quiet turn = record {
 failed_turn : (r : Result (Unit {0}) StepFault) (e : StepFault) (f : NodeFault) (n : NodeValue) (store : StoreValue) (at : MemHostValue) (old new : DeviceValue) → r ≡ Err e → IsNotRefused r → old.node ≡ Some n
     → (IsErrOf r fault.Full → (f ≡ node_fault.Full) × (new.host ≡ at))
     → store.limit ≡ n.store.limit → (f ≡ node_fault.Full → FullTurn bundle_meaning n.first n.links n.store store (host_told old.host) (host_told at))
-    → BreaksTurn bundle_meaning n.first n.links n.store (host_told old.host) (host_told at) → ComesOf at new.host → HostGoesOn old.host at → Turns (Err e) old new
+    → BreaksTurn bundle_meaning n.first n.links n.store (host_told old.host) (host_told at) → ComesOf at new.host → HostGoesOn old.host at → DeviceMakesTurn (Err e) old new
 failed_turn r fault.Refused f n store at old new is unrefused was full limit fills breaks left since = subst (λ (x : Result (Unit {0}) StepFault). IsNotRefused x) is unrefused
 failed_turn r fault.Full f n store at old new is unrefused was full limit fills breaks left since =
     let at_full = full is in
@@ -111,7 +111,7 @@ failed_turn r fault.Memory f n store at old new is unrefused was full limit fill
 
 -- one whose links or clock found no memory, or that passed the call at which its disk is to stop
 starved_turn : (r : Result (Unit {0}) StepFault) (e : StepFault) (n n' : NodeValue) (quiet : Bool) (old new : DeviceValue) → r ≡ Err e → IsNotRefused r → IsNotFull r → old.node ≡ Some n
-    → MakesTurn bundle_meaning n.first n.links n'.links n.store n'.store (host_told old.host) (host_told new.host) quiet → HostGoesOn old.host new.host → Turns (Err e) old new
+    → MakesTurn bundle_meaning n.first n.links n'.links n.store n'.store (host_told old.host) (host_told new.host) quiet → HostGoesOn old.host new.host → DeviceMakesTurn (Err e) old new
 starved_turn r fault.Refused n n' quiet old new is unrefused unfilled was turn since = subst (λ (x : Result (Unit {0}) StepFault). IsNotRefused x) is unrefused
 starved_turn r fault.Full n n' quiet old new is unrefused unfilled was turn since = absurd (subst (λ (x : Result (Unit {0}) StepFault). IsNotFull x) is unfilled)
 starved_turn r fault.Memory n n' quiet old new is unrefused unfilled was turn since =
@@ -126,13 +126,13 @@ starved_turn r fault.Memory n n' quiet old new is unrefused unfilled was turn si
 pub turn_failed : (r : Result (Option Bool) StepFault) (e : StepFault) (f : NodeFault) (n : NodeValue) (store : StoreValue) (at : MemHostValue) (old new : DeviceValue) → IsErrAnd r (λ x. x ≡ e)
     → IsNotRefused {A = Unit {0}} (Err e) → old.node ≡ Some n → (IsErrOf {T = Unit {0}} (Err e) fault.Full → (f ≡ node_fault.Full) × (new.host ≡ at))
     → store.limit ≡ n.store.limit → (f ≡ node_fault.Full → FullTurn bundle_meaning n.first n.links n.store store (host_told old.host) (host_told at))
-    → BreaksTurn bundle_meaning n.first n.links n.store (host_told old.host) (host_told at) → ComesOf at new.host → HostGoesOn old.host at → Turns r old new
+    → BreaksTurn bundle_meaning n.first n.links n.store (host_told old.host) (host_told at) → ComesOf at new.host → HostGoesOn old.host at → DeviceMakesTurn r old new
 turn_failed (Ok a) e f n store at old new is unrefused was full limit fills breaks left since = absurd is
 turn_failed (Err x) e f n store at old new is unrefused was full limit fills breaks left since =
     failed_turn (Err e) x f n store at old new (ap (λ (y : StepFault). Err y) (sym is)) unrefused was full limit fills breaks left since
 
 pub turn_starved : (r : Result (Option Bool) StepFault) (e : StepFault) (n n' : NodeValue) (quiet : Bool) (old new : DeviceValue) → IsErrAnd r (λ x. x ≡ e) → IsNotRefused {A = Unit {0}} (Err e) → IsNotFull {A = Unit {0}} (Err e)
-    → old.node ≡ Some n → MakesTurn bundle_meaning n.first n.links n'.links n.store n'.store (host_told old.host) (host_told new.host) quiet → HostGoesOn old.host new.host → Turns r old new
+    → old.node ≡ Some n → MakesTurn bundle_meaning n.first n.links n'.links n.store n'.store (host_told old.host) (host_told new.host) quiet → HostGoesOn old.host new.host → DeviceMakesTurn r old new
 turn_starved (Ok a) e n n' quiet old new is unrefused unfilled was turn since = absurd is
 turn_starved (Err x) e n n' quiet old new is unrefused unfilled was turn since = starved_turn (Err e) x n n' quiet old new (ap (λ (y : StepFault). Err y) (sym is)) unrefused unfilled was turn since
 
@@ -143,27 +143,27 @@ still_by turned_kind.Moving b is = is
 
 -- ---- a session that begins
 
-pub attaches_seen : (plan : Plan) (its_nonce : Option (List ℕ)) (r : Result (Option ℕ) StepFault) (d old new : DeviceValue) → d ≡ old → Attaches plan its_nonce r d new → Attaches plan its_nonce r old new
-attaches_seen plan its_nonce r d old new is attaches = subst (λ (x : DeviceValue). Attaches plan its_nonce r x new) is attaches
+pub attaches_seen : (plan : Plan) (its_nonce : Option (List ℕ)) (r : Result (Option ℕ) StepFault) (d old new : DeviceValue) → d ≡ old → DeviceBeginsSession plan its_nonce r d new → DeviceBeginsSession plan its_nonce r old new
+attaches_seen plan its_nonce r d old new is attaches = subst (λ (x : DeviceValue). DeviceBeginsSession plan its_nonce r x new) is attaches
 
 -- it began
 began : (plan : Plan) (its_nonce : Option (List ℕ)) (session : ℕ) (n n' : NodeValue) (old new : DeviceValue) → old.node ≡ Some n → new.node ≡ Some n'
     → session ≡ n.store.state.facts.begun → n'.first ≡ n.first
-    → Begins bundle_meaning (session_of n.store.state.facts.begun plan its_nonce) n.links n'.links n.store n'.store (host_told old.host) (host_told new.host)
+    → BeginsNextSession bundle_meaning (session_of n.store.state.facts.begun plan its_nonce) n.links n'.links n.store n'.store (host_told old.host) (host_told new.host)
     → n'.store.state.facts ≡ after_all n.store.state.facts (entry.Session (session_of n.store.state.facts.begun plan its_nonce) ∷ []) → HasAttached plan its_nonce session old new
 began plan its_nonce session n n' old new was is number first begins facts_are =
-    of_nodes (λ m m'. HasBegun plan its_nonce session old.host new.host m m') n n' old.node new.node was is (record { number = number; same_first = first; begins = begins; facts_are = facts_are })
+    of_nodes (λ m m'. HasBegunOnLink plan its_nonce session old.host new.host m m') n n' old.node new.node was is (record { number = number; same_first = first; begins = begins; facts_are = facts_are })
 
 pub session_begun : (plan : Plan) (its_nonce : Option (List ℕ)) (session : ℕ) (n n' : NodeValue) (old new : DeviceValue) → old.node ≡ Some n → new.node ≡ Some n' → new.clock ≡ old.clock → new.stop ≡ old.stop
     → HostGoesOn old.host new.host → IsAhead new.stop new.host → session ≡ n.store.state.facts.begun → n'.first ≡ n.first
-    → Begins bundle_meaning (session_of n.store.state.facts.begun plan its_nonce) n.links n'.links n.store n'.store (host_told old.host) (host_told new.host)
-    → n'.store.state.facts ≡ after_all n.store.state.facts (entry.Session (session_of n.store.state.facts.begun plan its_nonce) ∷ []) → Attaches plan its_nonce (Ok (Some session)) old new
+    → BeginsNextSession bundle_meaning (session_of n.store.state.facts.begun plan its_nonce) n.links n'.links n.store n'.store (host_told old.host) (host_told new.host)
+    → n'.store.state.facts ≡ after_all n.store.state.facts (entry.Session (session_of n.store.state.facts.begun plan its_nonce) ∷ []) → DeviceBeginsSession plan its_nonce (Ok (Some session)) old new
 session_begun plan its_nonce session n n' old new was is clock stop since ahead number first begins facts_are =
     (record { clock = clock; stop = stop; since = since; ahead = ahead }, began plan its_nonce session n n' old new was is number first begins facts_are)
 
 pub beginning_broken : (plan : Plan) (its_nonce : Option (List ℕ)) (n : NodeValue) (at : MemHostValue) (old new : DeviceValue) → old.node ≡ Some n
     → BreaksBeginning bundle_meaning (session_of n.store.state.facts.begun plan its_nonce) n.links n.store (host_told old.host) (host_told at)
-    → HostGoesOn old.host at → BreaksOff old.stop at new → new.clock ≡ old.clock → Attaches plan its_nonce (Ok None) old new
+    → HostGoesOn old.host at → BreaksOff old.stop at new → new.clock ≡ old.clock → DeviceBeginsSession plan its_nonce (Ok None) old new
 beginning_broken plan its_nonce n at old new was breaks since off clock = record {
   at = at;
   since = since;
@@ -175,7 +175,7 @@ beginning_broken plan its_nonce n at old new was breaks since off clock = record
 failed_beginning : (plan : Plan) (its_nonce : Option (List ℕ)) (r : Result (Unit {0}) StepFault) (e : StepFault) (f : NodeFault) (n : NodeValue) (store : StoreValue) (at : MemHostValue) (old new : DeviceValue) → r ≡ Err e
     → IsNotRefused r → old.node ≡ Some n → (IsErrOf r fault.Full → (f ≡ node_fault.Full) × (new.host ≡ at))
     → store.limit ≡ n.store.limit → (f ≡ node_fault.Full → FullBeginning bundle_meaning (session_of n.store.state.facts.begun plan its_nonce) n.links n.store store (host_told old.host) (host_told at))
-    → BreaksBeginning bundle_meaning (session_of n.store.state.facts.begun plan its_nonce) n.links n.store (host_told old.host) (host_told at) → ComesOf at new.host → HostGoesOn old.host at → Attaches plan its_nonce (Err e) old new
+    → BreaksBeginning bundle_meaning (session_of n.store.state.facts.begun plan its_nonce) n.links n.store (host_told old.host) (host_told at) → ComesOf at new.host → HostGoesOn old.host at → DeviceBeginsSession plan its_nonce (Err e) old new
 failed_beginning plan its_nonce r fault.Refused f n store at old new is unrefused was full limit fills breaks left since = absurd (subst (λ (x : Result (Unit {0}) StepFault). IsNotRefused x) is unrefused)
 failed_beginning plan its_nonce r fault.Full f n store at old new is unrefused was full limit fills breaks left since =
     let at_full = full is in
@@ -193,7 +193,7 @@ failed_beginning plan its_nonce r fault.Memory f n store at old new is unrefused
     }))
 
 starved_beginning : (plan : Plan) (its_nonce : Option (List ℕ)) (r : Result (Unit {0}) StepFault) (e : StepFault) (session : ℕ) (old new : DeviceValue) → r ≡ Err e → IsNotRefused r → IsNotFull r → HasAttached plan its_nonce session old new
-    → Attaches plan its_nonce (Err e) old new
+    → DeviceBeginsSession plan its_nonce (Err e) old new
 starved_beginning plan its_nonce r fault.Refused session old new is unrefused unfilled has = absurd (subst (λ (x : Result (Unit {0}) StepFault). IsNotRefused x) is unrefused)
 starved_beginning plan its_nonce r fault.Full session old new is unrefused unfilled has = absurd (subst (λ (x : Result (Unit {0}) StepFault). IsNotFull x) is unfilled)
 starved_beginning plan its_nonce r fault.Memory session old new is unrefused unfilled has = inr (session, has)
@@ -201,15 +201,15 @@ starved_beginning plan its_nonce r fault.Memory session old new is unrefused unf
 pub beginning_failed : (plan : Plan) (its_nonce : Option (List ℕ)) (r : Result (Option ℕ) StepFault) (e : StepFault) (f : NodeFault) (n : NodeValue) (store : StoreValue) (at : MemHostValue) (old new : DeviceValue)
     → IsErrAnd r (λ x. x ≡ e) → IsNotRefused {A = Unit {0}} (Err e) → old.node ≡ Some n → (IsErrOf {T = Unit {0}} (Err e) fault.Full → (f ≡ node_fault.Full) × (new.host ≡ at))
     → store.limit ≡ n.store.limit → (f ≡ node_fault.Full → FullBeginning bundle_meaning (session_of n.store.state.facts.begun plan its_nonce) n.links n.store store (host_told old.host) (host_told at))
-    → BreaksBeginning bundle_meaning (session_of n.store.state.facts.begun plan its_nonce) n.links n.store (host_told old.host) (host_told at) → ComesOf at new.host → HostGoesOn old.host at → Attaches plan its_nonce r old new
+    → BreaksBeginning bundle_meaning (session_of n.store.state.facts.begun plan its_nonce) n.links n.store (host_told old.host) (host_told at) → ComesOf at new.host → HostGoesOn old.host at → DeviceBeginsSession plan its_nonce r old new
 beginning_failed plan its_nonce (Ok a) e f n store at old new is unrefused was full limit fills breaks left since = absurd is
 beginning_failed plan its_nonce (Err x) e f n store at old new is unrefused was full limit fills breaks left since =
     failed_beginning plan its_nonce (Err e) x f n store at old new (ap (λ (y : StepFault). Err y) (sym is)) unrefused was full limit fills breaks left since
 
 pub beginning_starved : (plan : Plan) (its_nonce : Option (List ℕ)) (r : Result (Option ℕ) StepFault) (e : StepFault) (session : ℕ) (n n' : NodeValue) (old new : DeviceValue) → IsErrAnd r (λ x. x ≡ e) → IsNotRefused {A = Unit {0}} (Err e)
     → IsNotFull {A = Unit {0}} (Err e) → old.node ≡ Some n → new.node ≡ Some n' → session ≡ n.store.state.facts.begun → n'.first ≡ n.first
-    → Begins bundle_meaning (session_of n.store.state.facts.begun plan its_nonce) n.links n'.links n.store n'.store (host_told old.host) (host_told new.host)
-    → n'.store.state.facts ≡ after_all n.store.state.facts (entry.Session (session_of n.store.state.facts.begun plan its_nonce) ∷ []) → Attaches plan its_nonce r old new
+    → BeginsNextSession bundle_meaning (session_of n.store.state.facts.begun plan its_nonce) n.links n'.links n.store n'.store (host_told old.host) (host_told new.host)
+    → n'.store.state.facts ≡ after_all n.store.state.facts (entry.Session (session_of n.store.state.facts.begun plan its_nonce) ∷ []) → DeviceBeginsSession plan its_nonce r old new
 beginning_starved plan its_nonce (Ok a) e session n n' old new is unrefused unfilled was now number first begins facts_are = absurd is
 beginning_starved plan its_nonce (Err x) e session n n' old new is unrefused unfilled was now number first begins facts_are =
     starved_beginning plan its_nonce (Err e) x session old new (ap (λ (y : StepFault). Err y) (sym is)) unrefused unfilled (began plan its_nonce session n n' old new was now number first begins facts_are)

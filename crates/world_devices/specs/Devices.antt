@@ -16,7 +16,7 @@ use Rattle.sync_store.specs.Ready.{IsReady}
 use Rattle.sync_node.specs.Adding.{IsPlain}
 use Rattle.sync_node.specs.Node.{IsNode, NodeValue, node_code, MayRun}
 use Rattle.world_devices.specs.Brought.{IsSilent, brought_on}
-use Rattle.world_devices.specs.Keeping.{IsQuiet, IsSafeRun, Keeps, KeepsOn}
+use Rattle.world_devices.specs.Keeping.{AreLinksQuiet, IsSafeRun, HoldsLaterJournal, KeepsOn}
 use Rattle.world_devices.specs.declared.stop.Stop.{Stop}
 use Rattle.world_devices.specs.contracts.stop.Stop as stop
 
@@ -43,7 +43,7 @@ links_made host = (host_told host).links.dialled
 pub record IsAnew (clock : ℕ) (host : MemHostValue) : Type 0 where
   pub dialled : links_made host ≡ LINKS
   pub silent : IsSilent host
-  pub quiet : IsQuiet (host_told host)
+  pub quiet : AreLinksQuiet (host_told host)
   pub upcoming : upcoming_of host.clock ≡ clock ∷ []
 
 -- Calls of a host more: its disk began with the same files, which of its calls are to fail stays, and what changed it before is a
@@ -77,7 +77,7 @@ MayBeRunning (Some n) host links = IsRunning n host links
 -- What a device always keeps: whatever a crash leaves of its files stands for a journal, of which no batch begins a brief account;
 -- and it has had no more links than it may get.
 abbrev pub IsDevice : Option NodeValue → MemHostValue → ℕ → Type 0
-IsDevice node host links = MayBeRunning node host links × Keeps [] (host_told host) × (links ≤ LINKS)
+IsDevice node host links = MayBeRunning node host links × HoldsLaterJournal [] (host_told host) × (links ≤ LINKS)
 
 -- a call of a device: whatever a crash may leave then stands for a journal that goes on from each that it went on from before
 abbrev pub DeviceKeeps : DeviceValue → DeviceValue → Type 0
@@ -88,9 +88,9 @@ pub record MayAddTo (n : NodeValue) (e : Entry) : Type 0 where
   pub allowed : n.closed ≡ false → Allowed bundle_meaning n.store.state.facts (e ∷ [])
   pub plain : IsPlain (e ∷ [])
 
-abbrev pub MayAdd : Option NodeValue → Entry → Type 0
-MayAdd None e = Unit {0}
-MayAdd (Some n) e = MayAddTo n e
+abbrev pub MayAddEntry : Option NodeValue → Entry → Type 0
+MayAddEntry None e = Unit {0}
+MayAddEntry (Some n) e = MayAddTo n e
 
 -- the store of a device that runs, whose journal is settled
 abbrev pub IsReadyStore : Option NodeValue → StoreValue → Type 0

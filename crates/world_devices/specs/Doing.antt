@@ -7,7 +7,7 @@ use Rattle.outside.specs.Links.{Planned}
 use Rattle.outside.specs.Calls.{CallsGoOn}
 use Rattle.outside.specs.MemDisk.{MemDiskValue, calls_of, disk_files, files_of}
 use Rattle.outside.specs.MemHost.{MemHostValue, reading_set, script_of, with_script}
-use Rattle.outside.specs.MemImage.{Pictures}
+use Rattle.outside.specs.MemImage.{PicturesDisk}
 use Rattle.outside.specs.Outside.{MakesAtMost, Outside}
 use Rattle.outside.specs.declared.pick.Pick.{Pick}
 use Rattle.client_basic.specs.Bodies.{bundle_meaning}
@@ -21,7 +21,7 @@ use Rattle.sync_rules.specs.Steps.{IsSettled}
 use Rattle.sync_store.specs.Store.{StoreValue}
 use Rattle.sync_store.specs.Commits.{needed}
 use Rattle.sync_node.specs.Adding.{AddsAtMost, AddsOne, AddsWithin, GoesOnSettling}
-use Rattle.sync_node.specs.Courses.{Begins, BreaksBeginning, BreaksTurn, MakesTurn}
+use Rattle.sync_node.specs.Courses.{BeginsNextSession, BreaksBeginning, BreaksTurn, MakesTurn}
 use Rattle.sync_node.specs.Fulls.{FullBeginning, FullTurn}
 use Rattle.sync_node.specs.Node.{NodeValue}
 use Rattle.sync_node.specs.Plans.{session_of}
@@ -29,7 +29,7 @@ use Rattle.sync_node.specs.declared.node.Plan.{Plan}
 use Rattle.world_devices.specs.Devices.{DeviceValue, HostGoesOn, IsAnew}
 use Rattle.world_devices.specs.Keeping.{Journal}
 use Rattle.world_devices.specs.Linking.{IsUnlinked}
-use Rattle.world_devices.specs.Running.{Holds}
+use Rattle.world_devices.specs.Running.{HoldsAfterCrash}
 use Rattle.world_devices.specs.declared.stop.Ran.{Ran}
 use Rattle.world_devices.specs.declared.stop.Ran.TheVariants as ran
 use Rattle.world_devices.specs.declared.stop.Stop.{Stop}
@@ -57,7 +57,7 @@ pub record SettlesFrom (j : Journal) (host : MemHostValue) : Type 0 where
   pub whole : Journal
   pub goes_on : GoesOnSettling bundle_meaning j whole
   pub settled : IsSettled bundle_meaning (facts whole)
-  pub holds : Holds whole host
+  pub holds : HoldsAfterCrash whole host
 
 -- files that stand for this journal with settling behind it, as far as that had come
 pub record StandsSettling (j : Journal) (files : Two (List ℕ)) : Type 0 where
@@ -96,7 +96,7 @@ pub record StartsWithin (j : Journal) (old new : Outside) : Type 0 where
 -- no stop is left.
 pub record CrashesTo (pick : Pick) (at : MemHostValue) (new : DeviceValue) : Type 0 where
   pub image : MemDiskValue
-  pub pictured : Pictures pick (disk_files at.disk) image
+  pub pictured : PicturesDisk pick (disk_files at.disk) image
   pub since : CallsGoOn (calls_of image) (calls_of new.host.disk)
   pub loads : (j : Journal) → stands bundle_meaning image.start ≡ journal j → SettlesFrom j new.host
   pub anew : IsAnew new.clock new.host
@@ -142,11 +142,11 @@ OfNodes P (Some n) (Some n') = P n n'
 OfNodes P _ _ = ⊥
 
 -- the journal with the entry and settling behind it
-pub record HasAdded (e : Entry) (j : Journal) (new : DeviceValue) : Type 0 where
+pub record HasEntryAdded (e : Entry) (j : Journal) (new : DeviceValue) : Type 0 where
   pub whole : Journal
   pub adds : AddsOne bundle_meaning j (e ∷ []) whole
   pub settled : IsSettled bundle_meaning (facts whole)
-  pub holds : Holds whole new.host
+  pub holds : HoldsAfterCrash whole new.host
 
 -- files that stand for this journal, or for it with the entry and settling behind it
 pub record StandsAtMost (e : Entry) (j : Journal) (files : Two (List ℕ)) : Type 0 where
@@ -159,9 +159,9 @@ pub record HoldsAtMost (e : Entry) (j : Journal) (host : MemHostValue) : Type 0 
   pub each : (two : Two File) → (host_told host).files ≡ Some two → (left : Two (List ℕ)) → IsImage two left → StandsAtMost e j left
 
 -- with the entry the journal would pass its limit
-abbrev pub IsOver : Entry → Option NodeValue → Type 0
-IsOver e None = ⊥
-IsOver e (Some n) = n.store.limit < needed n.store (e ∷ [])
+abbrev pub EntryPassesLimit : Entry → Option NodeValue → Type 0
+EntryPassesLimit e None = ⊥
+EntryPassesLimit e (Some n) = n.store.limit < needed n.store (e ∷ [])
 
 -- all but its journal is as it was: the links of its node, and what its host tells of links and time
 pub record KeepsRest (old new : DeviceValue) : Type 0 where
@@ -170,7 +170,7 @@ pub record KeepsRest (old new : DeviceValue) : Type 0 where
 
 -- at most the entry stands there in a journal that was held
 abbrev pub HasAtMost : Entry → DeviceValue → MemHostValue → Type 0
-HasAtMost e old at = (j : Journal) → Holds j old.host → HoldsAtMost e j at
+HasAtMost e old at = (j : Journal) → HoldsAfterCrash j old.host → HoldsAtMost e j at
 
 -- adding it came there, by at most four calls of the disk for its batch and for each settling batch behind it
 abbrev pub CameAdding : Entry → DeviceValue → MemHostValue → Type 0
@@ -180,12 +180,12 @@ CameAdding e old at = OfNode (λ n. AddsWithin bundle_meaning (e ∷ []) n.store
 -- most that stood in the files when the disk failed, and no more calls were made than that takes; no more stood there where it
 -- found no memory. It is full where the journal
 -- would pass its limit, and then its host is as before.
-abbrev pub Adds : Entry → Result Ran StepFault → DeviceValue → DeviceValue → Type 0
-Adds e (Ok ran.Done) old new = KeepsOwn old new × ((j : Journal) → Holds j old.host → HasAdded e j new) × KeepsRest old new
-Adds e (Ok ran.Crashed) old new = StopsIn (λ at. HasAtMost e old at × CameAdding e old at) old new
-Adds e (Err fault.Refused) old new = new ≡ old
-Adds e (Err fault.Full) old new = IsOver e old.node × (new.host ≡ old.host)
-Adds e (Err fault.Memory) old new = GivesUpIn (HasAtMost e old) old new
+abbrev pub DeviceAddsEntry : Entry → Result Ran StepFault → DeviceValue → DeviceValue → Type 0
+DeviceAddsEntry e (Ok ran.Done) old new = KeepsOwn old new × ((j : Journal) → HoldsAfterCrash j old.host → HasEntryAdded e j new) × KeepsRest old new
+DeviceAddsEntry e (Ok ran.Crashed) old new = StopsIn (λ at. HasAtMost e old at × CameAdding e old at) old new
+DeviceAddsEntry e (Err fault.Refused) old new = new ≡ old
+DeviceAddsEntry e (Err fault.Full) old new = EntryPassesLimit e old.node × (new.host ≡ old.host)
+DeviceAddsEntry e (Err fault.Memory) old new = GivesUpIn (HasAtMost e old) old new
 
 -- ---- links
 
@@ -194,10 +194,10 @@ abbrev pub next_session : Plan → Option (List ℕ) → NodeValue → Session
 next_session plan its_nonce n = session_of n.store.state.facts.begun plan its_nonce
 
 -- the next session began on the next link, and greeted there, as a course has it; it stands in the journal
-pub record HasBegun (plan : Plan) (its_nonce : Option (List ℕ)) (session : ℕ) (h h' : MemHostValue) (n n' : NodeValue) : Type 0 where
+pub record HasBegunOnLink (plan : Plan) (its_nonce : Option (List ℕ)) (session : ℕ) (h h' : MemHostValue) (n n' : NodeValue) : Type 0 where
   pub number : session ≡ n.store.state.facts.begun
   pub same_first : n'.first ≡ n.first
-  pub begins : Begins bundle_meaning (next_session plan its_nonce n) n.links n'.links n.store n'.store (host_told h) (host_told h')
+  pub begins : BeginsNextSession bundle_meaning (next_session plan its_nonce n) n.links n'.links n.store n'.store (host_told h) (host_told h')
   pub facts_are : n'.store.state.facts ≡ after_all n.store.state.facts (entry.Session (next_session plan its_nonce n) ∷ [])
 
 -- the session's batch, which was next, would pass the limit of the journal
@@ -212,15 +212,15 @@ BreaksAttaching plan its_nonce old at = OfNode (λ n. BreaksBeginning bundle_mea
 
 -- the session began on its link
 abbrev pub HasAttached : Plan → Option (List ℕ) → ℕ → DeviceValue → DeviceValue → Type 0
-HasAttached plan its_nonce session old new = OfNodes (λ n n'. HasBegun plan its_nonce session old.host new.host n n') old.node new.node
+HasAttached plan its_nonce session old new = OfNodes (λ n n'. HasBegunOnLink plan its_nonce session old.host new.host n n') old.node new.node
 
 -- a session begins on a link; where no memory was found it may have begun too
-abbrev pub Attaches : Plan → Option (List ℕ) → Result (Option ℕ) StepFault → DeviceValue → DeviceValue → Type 0
-Attaches plan its_nonce (Ok (Some session)) old new = KeepsOwn old new × HasAttached plan its_nonce session old new
-Attaches plan its_nonce (Ok None) old new = StopsIn (BreaksAttaching plan its_nonce old) old new
-Attaches plan its_nonce (Err fault.Refused) old new = new ≡ old
-Attaches plan its_nonce (Err fault.Full) old new = OfNode (λ n. FullAtBeginning plan its_nonce old.host new.host n) old.node
-Attaches plan its_nonce (Err fault.Memory) old new = GivesUpIn (BreaksAttaching plan its_nonce old) old new ⊎ ((session : ℕ) × HasAttached plan its_nonce session old new)
+abbrev pub DeviceBeginsSession : Plan → Option (List ℕ) → Result (Option ℕ) StepFault → DeviceValue → DeviceValue → Type 0
+DeviceBeginsSession plan its_nonce (Ok (Some session)) old new = KeepsOwn old new × HasAttached plan its_nonce session old new
+DeviceBeginsSession plan its_nonce (Ok None) old new = StopsIn (BreaksAttaching plan its_nonce old) old new
+DeviceBeginsSession plan its_nonce (Err fault.Refused) old new = new ≡ old
+DeviceBeginsSession plan its_nonce (Err fault.Full) old new = OfNode (λ n. FullAtBeginning plan its_nonce old.host new.host n) old.node
+DeviceBeginsSession plan its_nonce (Err fault.Memory) old new = GivesUpIn (BreaksAttaching plan its_nonce old) old new ⊎ ((session : ℕ) × HasAttached plan its_nonce session old new)
 
 -- one turn of a course was made, in which all was still or not
 pub record HasTurned (still : Bool) (h h' : MemHostValue) (n n' : NodeValue) : Type 0 where
@@ -238,12 +238,12 @@ abbrev pub BreaksTurning : DeviceValue → MemHostValue → Type 0
 BreaksTurning old at = OfNode (λ n. BreaksTurn bundle_meaning n.first n.links n.store (host_told old.host) (host_told at)) old.node
 
 -- a turn: one of a course, or one that was broken off
-abbrev pub Turns : Result (Option Bool) StepFault → DeviceValue → DeviceValue → Type 0
-Turns (Ok (Some still)) old new = KeepsOwn old new × OfNodes (λ n n'. HasTurned still old.host new.host n n') old.node new.node
-Turns (Ok None) old new = StopsIn (BreaksTurning old) old new
-Turns (Err fault.Refused) old new = ⊥
-Turns (Err fault.Full) old new = OfNode (λ n. FullInTurn old.host new.host n) old.node
-Turns (Err fault.Memory) old new = GivesUpIn (BreaksTurning old) old new
+abbrev pub DeviceMakesTurn : Result (Option Bool) StepFault → DeviceValue → DeviceValue → Type 0
+DeviceMakesTurn (Ok (Some still)) old new = KeepsOwn old new × OfNodes (λ n n'. HasTurned still old.host new.host n n') old.node new.node
+DeviceMakesTurn (Ok None) old new = StopsIn (BreaksTurning old) old new
+DeviceMakesTurn (Err fault.Refused) old new = ⊥
+DeviceMakesTurn (Err fault.Full) old new = OfNode (λ n. FullInTurn old.host new.host n) old.node
+DeviceMakesTurn (Err fault.Memory) old new = GivesUpIn (BreaksTurning old) old new
 
 -- ---- a host that is told something
 
@@ -280,23 +280,23 @@ pub record StartsAgain (old new : DeviceValue) : Type 0 where
   pub own : KeepsOwn old new
   pub anew : IsAnew new.clock new.host
   pub unlinked : IsUnlinked new
-  pub loads : (j : Journal) → Holds j old.host → SettlesFrom j new.host
+  pub loads : (j : Journal) → HoldsAfterCrash j old.host → SettlesFrom j new.host
 
 -- the files had come to some settling behind a journal that was held
 abbrev pub HasSettling : DeviceValue → MemHostValue → Type 0
-HasSettling old at = (j : Journal) → Holds j old.host → HoldsSettling j at
+HasSettling old at = (j : Journal) → HoldsAfterCrash j old.host → HoldsSettling j at
 
 -- it came there by no more calls of the disk than a start over such a journal takes
 abbrev pub CameStarting : DeviceValue → MemHostValue → Type 0
-CameStarting old at = (j : Journal) → Holds j old.host → StartsWithin j (host_told old.host) (host_told at)
+CameStarting old at = (j : Journal) → HoldsAfterCrash j old.host → StartsWithin j (host_told old.host) (host_told at)
 
 -- It starts again. Where its disk stopped in that, settling had come so far as it had, no more calls were made than that takes, and it
 -- starts once more.
-abbrev pub Restarts : Result (Unit {0}) StepFault → DeviceValue → DeviceValue → Type 0
-Restarts (Ok _) old new = StartsAgain old new ⊎ StopsIn (λ at. HasSettling old at × CameStarting old at) old new
-Restarts (Err fault.Refused) old new = ⊥
-Restarts (Err fault.Full) old new = ⊥
-Restarts (Err fault.Memory) old new = GivesUp (HasSettling old) old new
+abbrev pub DeviceRestarts : Result (Unit {0}) StepFault → DeviceValue → DeviceValue → Type 0
+DeviceRestarts (Ok _) old new = StartsAgain old new ⊎ StopsIn (λ at. HasSettling old at × CameStarting old at) old new
+DeviceRestarts (Err fault.Refused) old new = ⊥
+DeviceRestarts (Err fault.Full) old new = ⊥
+DeviceRestarts (Err fault.Memory) old new = GivesUp (HasSettling old) old new
 
 -- a call that answers something else than that a journal is full
 abbrev pub IsNotFull : {A : Type 0} → Result A StepFault → Type 0

@@ -24,7 +24,7 @@ pub record GoOnFrom (j : Journal) (files : Two (List ℕ)) : Type 0 where
   pub stands_for : stands bundle_meaning files ≡ journal (j ++ more)
 
 -- whatever a crash leaves now stands for a journal that goes on from this one
-pub record Keeps (j : Journal) (o : Outside) : Type 0 where
+pub record HoldsLaterJournal (j : Journal) (o : Outside) : Type 0 where
   pub each : (two : Two File) → o.files ≡ Some two → (left : Two (List ℕ)) → IsImage two left → GoOnFrom j left
 
 -- files that stand for a legal journal
@@ -39,10 +39,10 @@ pub record StandsLegal (o : Outside) : Type 0 where
 
 -- from whatever journal: what went on from it before goes on from it
 abbrev pub KeepsOn : Outside → Outside → Type 0
-KeepsOn o o' = (j : Journal) → Keeps j o → Keeps j o'
+KeepsOn o o' = (j : Journal) → HoldsLaterJournal j o → HoldsLaterJournal j o'
 
 -- nothing was sent and nothing heard on any link
-pub record IsQuiet (o : Outside) : Type 0 where
+pub record AreLinksQuiet (o : Outside) : Type 0 where
   pub sent : (link : ℕ) → sent_on o.links link ≡ []
   pub heard : (link : ℕ) → answers_at o.links.heard link ≡ []
 

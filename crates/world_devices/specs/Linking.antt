@@ -20,7 +20,7 @@ use Rattle.world_laws.specs.Worlds.{HasSession}
 use Rattle.world_devices.specs.Brought.{brought_on, bytes_of, sent_by}
 use Rattle.world_devices.specs.Devices.{DeviceValue, IsAnew}
 use Rattle.world_devices.specs.Keeping.{Journal}
-use Rattle.world_devices.specs.Running.{Holds}
+use Rattle.world_devices.specs.Running.{HoldsAfterCrash}
 use Rattle.world_devices.specs.declared.stop.Ran.{Ran}
 use Rattle.world_devices.specs.declared.stop.Ran.TheVariants as ran
 use Rattle.world_devices.specs.declared.stop.StepFault.{StepFault}
@@ -88,7 +88,7 @@ pub record AddsLink (contact session : ℕ) (old new : DeviceValue) : Type 0 whe
   pub numbered : option_map (λ (n : NodeValue). n.first + old.links) old.node ≡ Some session
   pub brings : (link : ℕ) → brought_on new.host link ≡ brought_on old.host link
   pub quiet : brought_on new.host old.links ≡ []
-  pub begun : (j : Journal) → Holds j new.host → HasSession j session contact
+  pub begun : (j : Journal) → HoldsAfterCrash j new.host → HasSession j session contact
 
 abbrev pub LinksByAttach : ℕ → Result (Option ℕ) StepFault → DeviceValue → DeviceValue → Type 0
 LinksByAttach contact (Ok (Some session)) old new = AddsLink contact session old new
@@ -125,12 +125,12 @@ pub record LinksStand (n : NodeValue) (d : DeviceValue) (j : Journal) : Type 0 w
 -- a journal that the files of a device hold
 pub record HoldsSome (d : DeviceValue) : Type 0 where
   pub journal : Journal
-  pub holds : Holds journal d.host
+  pub holds : HoldsAfterCrash journal d.host
 
 -- where a device runs, its files hold a journal, and all of that stands for whatever journal they hold
 pub record DeviceLinksStand (d : DeviceValue) : Type 0 where
   pub holds : (n : NodeValue) → d.node ≡ Some n → HoldsSome d
-  pub each : (n : NodeValue) → d.node ≡ Some n → (j : Journal) → Holds j d.host → LinksStand n d j
+  pub each : (n : NodeValue) → d.node ≡ Some n → (j : Journal) → HoldsAfterCrash j d.host → LinksStand n d j
 
 -- ---- a new device
 
@@ -159,7 +159,7 @@ new_journal (suc k) = new_journal k ++ ((entry.Contact k ∷ []) ∷ [])
 -- that it may get, and is anew.
 pub record IsNewDevice (contacts clock : ℕ) (d : DeviceValue) : Type 0 where
   pub runs : is_some d.node ≡ true
-  pub holds : Holds (new_journal contacts) d.host
+  pub holds : HoldsAfterCrash (new_journal contacts) d.host
   pub legal : Legal bundle_meaning (new_journal contacts)
   pub unlinked : IsUnlinked d
   pub clock_is : d.clock ≡ clock

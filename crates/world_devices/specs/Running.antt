@@ -19,11 +19,11 @@ use Rattle.world_devices.specs.Keeping.{Journal}
 -- ---- the journal
 
 -- whatever a crash leaves of the files now stands for this journal
-pub record Holds (j : Journal) (host : MemHostValue) : Type 0 where
+pub record HoldsAfterCrash (j : Journal) (host : MemHostValue) : Type 0 where
   pub each : (two : Two File) → (host_told host).files ≡ Some two → (left : Two (List ℕ)) → IsImage two left → stands bundle_meaning left ≡ journal j
 
 -- the files as they read stand for this journal
-pub record Reads (j : Journal) (host : MemHostValue) : Type 0 where
+pub record ReadsAsJournal (j : Journal) (host : MemHostValue) : Type 0 where
   pub each : (two : Two File) → (host_told host).files ≡ Some two → stands bundle_meaning (read_files two) ≡ journal j
 
 -- ---- the records that it may take
@@ -67,15 +67,15 @@ pub record IsStill (host : MemHostValue) : Type 0 where
 -- The journal of a device went on, behind j: by batches that may follow, none of which begins a brief account, each record that
 -- they take being one of `heard`. The files as they read stand for it, and where the device runs whatever a crash leaves of them
 -- does.
-pub record ComesFrom (heard : ℕ → List Record) (j : Journal) (new : DeviceValue) : Type 0 where
+pub record JournalWentOn (heard : ℕ → List Record) (j : Journal) (new : DeviceValue) : Type 0 where
   pub more : Journal
   pub allowed : GoesOn bundle_meaning (facts j) more
   pub plain : HasNoBrief more
   pub all_heard : AllHeard heard (facts j) more
-  pub reads : Reads (j ++ more) new.host
-  pub holds : is_some new.node ≡ true → Holds (j ++ more) new.host
+  pub reads : ReadsAsJournal (j ++ more) new.host
+  pub holds : is_some new.node ≡ true → HoldsAfterCrash (j ++ more) new.host
 
 -- a call of a device: from each journal that its files held, its journal went on, and each record that it took is one that its
 -- links brought by then
 pub record DeviceRuns (old new : DeviceValue) : Type 0 where
-  pub comes : (j : Journal) → Holds j old.host → ComesFrom (records_for old) j new
+  pub comes : (j : Journal) → HoldsAfterCrash j old.host → JournalWentOn (records_for old) j new

@@ -6,7 +6,7 @@ ghost use Rattle.outside.specs.HostTold.{host_told};
 ghost use Rattle.sync_rules.specs.Legal.{suits_nonce};
 ghost use Rattle.sync_rules.specs.declared.entries.Entry.TheVariants as entry_kind;
 ghost use Rattle.world_devices.specs.Devices.{DeviceKeeps, HostGoesOn, IsAnew, IsReadyStore};
-ghost use Rattle.world_devices.specs.Devices.{MayAdd, links_made};
+ghost use Rattle.world_devices.specs.Devices.{MayAddEntry, links_made};
 ghost use Rattle.world_devices.specs.Keeping.{Journal, StandsLegal};
 ghost use Rattle.world_devices.specs.Linking.{DeviceLinksStand, IsBareIn, IsNewDevice, IsUnlinked};
 ghost use Rattle.world_devices.specs.Linking.{new_journal};
@@ -17,11 +17,11 @@ ghost use Rattle.world_devices.specs.Refusals.{IsNotRefused, RefusedBy, refuses_
 ghost use Rattle.world_devices.specs.Refusals.{refuses_group, refuses_level, refuses_link};
 ghost use Rattle.world_devices.specs.Refusals.{refuses_message};
 ghost use Rattle.world_devices.specs.Brought.{IsSilent, sent_by};
-ghost use Rattle.world_devices.specs.Running.{DeviceRuns, Holds, IsStill, LeavesOn};
-ghost use Rattle.world_devices.specs.Doing.{Adds, Attaches, BreaksOff, ComesOf, CrashesTo};
+ghost use Rattle.world_devices.specs.Running.{DeviceRuns, HoldsAfterCrash, IsStill, LeavesOn};
+ghost use Rattle.world_devices.specs.Doing.{DeviceAddsEntry, DeviceBeginsSession, BreaksOff, ComesOf, CrashesTo};
 ghost use Rattle.world_devices.specs.Doing.{HoldsSettling, IsAhead, IsNotFull, KeepsOwn};
-ghost use Rattle.world_devices.specs.Doing.{KeepsRest, Restarts};
-ghost use Rattle.world_devices.specs.Doing.{SettlesFrom, StartsWithin, Turns, clocked, stopped};
+ghost use Rattle.world_devices.specs.Doing.{KeepsRest, DeviceRestarts};
+ghost use Rattle.world_devices.specs.Doing.{SettlesFrom, StartsWithin, DeviceMakesTurn, clocked, stopped};
 ghost use Rattle.world_devices.specs.Doing.{with_plan, with_stop};
 ghost use Rattle.outside.specs.Script.{planned_of};
 
@@ -112,7 +112,7 @@ impl Device {
     // What a device is that has so many contacts, no message and no links. It does nothing.
     fn new_stands(&self)
         ensures { (contacts : ℕ) → IsBareIn contacts self.now.node
-            → Holds (new_journal contacts) self.now.host → IsUnlinked self.now
+            → HoldsAfterCrash (new_journal contacts) self.now.host → IsUnlinked self.now
             → IsAnew self.now.clock self.now.host → self.now.stop ≡ None
             → IsNewDevice contacts self.now.clock self.now }
     {
@@ -209,7 +209,7 @@ impl Device {
         ensures running { OnOk result (is_some self.new.node ≡ true) }
         ensures links { OnOk result (IsUnlinked self.new) }
         ensures unrefused { IsNotRefused result }
-        ensures restarts { Restarts result self.old self.new }
+        ensures restarts { DeviceRestarts result self.old self.new }
     {
         cite_laws();
         self.node = None;
@@ -232,15 +232,15 @@ impl Device {
         ensures running { OnOk result (is_some self.new.node ≡ true) }
         ensures links { OnOk result (IsUnlinked self.new) }
         ensures idle { OnErr result (self.new.node ≡ None) }
-        ensures bare { Holds [] self.old.host → OnOk result (IsBareIn 0 self.new.node) }
+        ensures bare { HoldsAfterCrash [] self.old.host → OnOk result (IsBareIn 0 self.new.node) }
         ensures clock { self.new.clock ≡ self.old.clock }
         ensures stop { self.new.stop ≡ self.old.stop }
-        ensures loads { (j : Journal) → Holds j self.old.host
+        ensures loads { (j : Journal) → HoldsAfterCrash j self.old.host
             → OnOk result (SettlesFrom j self.new.host) }
-        ensures settling { (j : Journal) → Holds j self.old.host → HoldsSettling j self.new.host }
+        ensures settling { (j : Journal) → HoldsAfterCrash j self.old.host → HoldsSettling j self.new.host }
         ensures anew { OnOk result (IsAnew self.new.clock self.new.host) }
         ensures calls { HostGoesOn self.old.host self.new.host }
-        ensures within { (j : Journal) → Holds j self.old.host
+        ensures within { (j : Journal) → HoldsAfterCrash j self.old.host
             → StartsWithin j (host_told self.old.host) (host_told self.new.host) }
     {
         self.node = None;
@@ -356,8 +356,8 @@ impl Device {
         ensures bare { (contacts : ℕ) → IsBareIn contacts self.old.node
             → WhenDone result (IsBareIn (contacts + 1) self.new.node) }
         ensures journal { (contacts : ℕ) → IsBareIn contacts self.old.node
-            → Holds (new_journal contacts) self.old.host
-            → WhenDone result (Holds (new_journal (contacts + 1)) self.new.host) }
+            → HoldsAfterCrash (new_journal contacts) self.old.host
+            → WhenDone result (HoldsAfterCrash (new_journal (contacts + 1)) self.new.host) }
         ensures clock { self.new.clock ≡ self.old.clock }
         ensures rest { WhenDone result (KeepsOwn self.old self.new × KeepsRest self.old self.new) }
     {
@@ -378,7 +378,7 @@ impl Device {
         ensures links { LinksBy result self.old self.new }
         ensures refused { RefusedBy (refuses_group self.old.node def) result }
         ensures same { IsErrOf result StepFault.Refused → self.new ≡ self.old }
-        ensures adds { Adds (entry_kind.Group def) result self.old self.new }
+        ensures adds { DeviceAddsEntry (entry_kind.Group def) result self.old self.new }
     {
         let Some(store) = self.ready() else {
             return Err(StepFault::Memory);
@@ -402,7 +402,7 @@ impl Device {
         ensures links { LinksBy result self.old self.new }
         ensures refused { RefusedBy (refuses_level self.old.node contact group.now) result }
         ensures same { IsErrOf result StepFault.Refused → self.new ≡ self.old }
-        ensures adds { Adds (entry_kind.Level contact group.now level) result self.old self.new }
+        ensures adds { DeviceAddsEntry (entry_kind.Level contact group.now level) result self.old self.new }
     {
         let Some(store) = self.ready() else {
             return Err(StepFault::Memory);
@@ -421,7 +421,7 @@ impl Device {
         ensures links { LinksBy result self.old self.new }
         ensures refused { RefusedBy (refuses_message self.old.node message) result }
         ensures same { IsErrOf result StepFault.Refused → self.new ≡ self.old }
-        ensures adds { Adds (entry_kind.Author message) result self.old self.new }
+        ensures adds { DeviceAddsEntry (entry_kind.Author message) result self.old self.new }
     {
         let Some(store) = self.ready() else {
             return Err(StepFault::Memory);
@@ -435,13 +435,13 @@ impl Device {
 
     // Commits an entry and settles.
     fn add(&mut self, entry: Entry) -> Result<Ran, StepFault>
-        requires { MayAdd self.old.node entry }
+        requires { MayAddEntry self.old.node entry }
         ensures keeps { DeviceKeeps self.old self.new }
         ensures runs { DeviceRuns self.old self.new }
         ensures running { OnOk result (is_some self.new.node ≡ true) }
         ensures links { LinksBy result self.old self.new }
         ensures unrefused { IsNotRefused result }
-        ensures adds { Adds entry result self.old self.new }
+        ensures adds { DeviceAddsEntry entry result self.old self.new }
         ensures bare { (contacts number : ℕ) → entry ≡ entry_kind.Contact number
             → IsBareIn contacts self.old.node
             → WhenDone result (IsBareIn (contacts + 1) self.new.node) }
@@ -480,7 +480,7 @@ impl Device {
         ensures refused { RefusedBy (refuses_link self.old.node self.old.links
             plan.now.contact) result }
         ensures same { IsErrOf result StepFault.Refused → self.new ≡ self.old }
-        ensures attaches { Attaches plan.now nonce result self.old self.new }
+        ensures attaches { DeviceBeginsSession plan.now nonce result self.old self.new }
     {
         let Some(store) = self.ready() else {
             return Err(StepFault::Memory);
@@ -560,7 +560,7 @@ impl Device {
         ensures running { OnOk result (is_some self.new.node ≡ true) }
         ensures links { LinksByTurn result self.old self.new }
         ensures unrefused { IsNotRefused result }
-        ensures turns { Turns result self.old self.new }
+        ensures turns { DeviceMakesTurn result self.old self.new }
     {
         cite_laws();
         let Some(node) = &mut self.node else {

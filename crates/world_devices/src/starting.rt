@@ -6,12 +6,12 @@ ghost use Rattle.outside.specs.declared.limits.TheConstants.{MAX_JOURNAL};
 ghost use Rattle.sync_store.specs.Ready.{IsReady};
 ghost use Rattle.world_devices.specs.Devices.{HostGoesOn, IsStarted, links_made};
 ghost use Rattle.world_devices.specs.Brought.{IsSilent};
-ghost use Rattle.world_devices.specs.Cited.{CitedLaws};
+ghost use Rattle.world_devices.specs.Cited.{DeviceLaws};
 ghost use Rattle.world_devices.specs.Doing.{HoldsSettling, SettlesFrom};
 ghost use Rattle.world_devices.specs.Doing.{SettlesWithin, StartsWithin};
-ghost use Rattle.world_devices.specs.Keeping.{IsQuiet, Journal, Keeps, KeepsOn};
+ghost use Rattle.world_devices.specs.Keeping.{AreLinksQuiet, Journal, HoldsLaterJournal, KeepsOn};
 ghost use Rattle.world_devices.specs.Linking.{IsBare};
-ghost use Rattle.world_devices.specs.Running.{Holds, LeavesOn};
+ghost use Rattle.world_devices.specs.Running.{HoldsAfterCrash, LeavesOn};
 ghost use Rattle.world_devices.specs.declared.starting.StartFault.TheVariants as start_fault;
 
 use client_basic::Bundle;
@@ -45,8 +45,8 @@ impl From<AllocError> for StartFault {
 /// A host without links over a fresh disk with an empty store.
 pub(crate) fn begin(alloc: Global) -> Result<MemHost, StartFault>
     ensures links { IfOk result (λ host. links_made host ≡ 0) }
-    ensures keeps { IfOk result (λ host. Keeps [] (host_told host)) }
-    ensures holds { IfOk result (Holds []) }
+    ensures keeps { IfOk result (λ host. HoldsLaterJournal [] (host_told host)) }
+    ensures holds { IfOk result (HoldsAfterCrash []) }
     ensures silent { IfOk result IsSilent }
 {
     let Ok(disk) = MemDisk::new(alloc, Vec::new(alloc), Vec::new(alloc)) else {
@@ -65,7 +65,7 @@ pub(crate) fn begin(alloc: Global) -> Result<MemHost, StartFault>
 pub(crate) fn dial_all(host: &mut MemHost) -> Result<(), StartFault>
     requires { links_made host.old ≡ 0 }
     ensures dialled { OnOk result (links_made host.new ≡ LINKS) }
-    ensures quiet { OnOk result (IsQuiet (host_told host.new)) }
+    ensures quiet { OnOk result (AreLinksQuiet (host_told host.new)) }
     ensures files { (host_told host.new).files ≡ (host_told host.old).files }
     ensures scripts { host.new.scripts ≡ host.old.scripts }
     ensures calls { HostGoesOn host.old host.new }
@@ -91,10 +91,10 @@ pub(crate) fn load(
     ensures calls { HostGoesOn host.old host.new }
     ensures keeps { KeepsOn (host_told host.old) (host_told host.new) }
     ensures leaves { LeavesOn (host_told host.old) (host_told host.new) }
-    ensures bare { Holds [] host.old → IfOk result (IsBare 0) }
-    ensures loads { (j : Journal) → Holds j host.old → OnOk result (SettlesFrom j host.new) }
-    ensures settling { (j : Journal) → Holds j host.old → HoldsSettling j host.new }
-    ensures within { (j : Journal) → Holds j host.old
+    ensures bare { HoldsAfterCrash [] host.old → IfOk result (IsBare 0) }
+    ensures loads { (j : Journal) → HoldsAfterCrash j host.old → OnOk result (SettlesFrom j host.new) }
+    ensures settling { (j : Journal) → HoldsAfterCrash j host.old → HoldsSettling j host.new }
+    ensures within { (j : Journal) → HoldsAfterCrash j host.old
         → StartsWithin j (host_told host.old) (host_told host.new) }
 {
     match Store::load(alloc, hasher, host, &Bundle::new(), MAX_JOURNAL) {
@@ -114,9 +114,9 @@ fn settle(store: Store, host: &mut MemHost) -> Result<Store, StartFault>
     ensures keeps { KeepsOn (host_told host.old) (host_told host.new) }
     ensures leaves { LeavesOn (host_told host.old) (host_told host.new) }
     ensures bare { (contacts : ℕ) → IsBare contacts store → IfOk result (IsBare contacts) }
-    ensures settles { (j : Journal) → Holds j host.old → OnOk result (SettlesFrom j host.new) }
-    ensures settling { (j : Journal) → Holds j host.old → HoldsSettling j host.new }
-    ensures within { (j : Journal) → Holds j host.old
+    ensures settles { (j : Journal) → HoldsAfterCrash j host.old → OnOk result (SettlesFrom j host.new) }
+    ensures settling { (j : Journal) → HoldsAfterCrash j host.old → HoldsSettling j host.new }
+    ensures within { (j : Journal) → HoldsAfterCrash j host.old
         → SettlesWithin j (host_told host.old) (host_told host.new) }
 {
     cite_laws();
@@ -130,7 +130,7 @@ fn settle(store: Store, host: &mut MemHost) -> Result<Store, StartFault>
 
 /// The laws of the crates below that proofs of this crate rest on.
 pub(crate) fn cite_laws()
-    ensures { CitedLaws }
+    ensures { DeviceLaws }
 {
     sent_grows();
     standing_is_legal();

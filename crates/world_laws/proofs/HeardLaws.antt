@@ -19,7 +19,7 @@ use Rattle.sync_rules.proofs.Elements.{same_id-is, same_id_itself}
 use Rattle.sync_rules.specs.Facts.{Facts, Held, Id, after, after_all, arrived, authored, contact_in, contact_of, entries_of, held_at, row_at, session_at}
 use Rattle.sync_rules.specs.Laws.{IsAuthored}
 use Rattle.sync_rules.specs.Legal.{Allowed, GoesOn, IsSettling}
-use Rattle.sync_rules.specs.Meeting.{AllMeet, Meets}
+use Rattle.sync_rules.specs.Meeting.{AllMeet, MeetsNoStep}
 use Rattle.sync_rules.specs.PeerLaws.{is_shown_seen, is_with}
 use Rattle.sync_rules.proofs.RowLaws.{among-firsts, seen_step}
 use Rattle.sync_rules.specs.Sessions.{is_remembered, is_welcome, one_if, room_after, taken, taken_acks, taken_message, taken_message_of, taken_offer, taken_offers, taken_requests}
@@ -177,7 +177,7 @@ session_with heard f contact session id named same (Some s) at e = record {
 }
 
 -- an entry that shows it
-shown_by : (heard : ℕ → List Record) (clients : Meaning) (f : Facts) (contact : ℕ) (id : Id) (e : Entry) → Meets clients f e → SaysHeard heard e
+shown_by : (heard : ℕ → List Record) (clients : Meaning) (f : Facts) (contact : ℕ) (id : Id) (e : Entry) → MeetsNoStep clients f e → SaysHeard heard e
     → is_shown_seen contact id f e ≡ true → SeenFrom heard f contact id
 shown_by heard clients f contact id (entry.Arrive s m) meets says shows =
     let both = and_parts (is_with contact f s) (same_id (message_id_of m) id) shows in

@@ -4,7 +4,7 @@ use Rattle.sync_ids.specs.declared.records.Record.{Record}
 use Rattle.sync_rules.specs.Clients.{Meaning}
 use Rattle.sync_rules.specs.Lists.{In}
 use Rattle.sync_rules.proofs.Elements.{In-append_cases}
-use Rattle.world_laws.specs.Worlds.{End, IsStep, Journal, Link, Way, WayRuns, WaysRun, World, journal_at, link_in, way_in, way_of}
+use Rattle.world_laws.specs.Worlds.{End, IsStep, Journal, WorldLink, Way, WayRuns, WaysRun, World, journal_at, link_in, way_in, way_of}
 use Rattle.world_laws.specs.Moves.{Carry, Cut, Lose, Move, Repeat, Swap, first_of, flight_after, given_by, link_after, links_after, other_after, receiver_after, sender_after, world_after}
 
 flight_before : (move : Move) (rs : List Record) (r : Record) → In r (flight_after move rs) → In r rs
@@ -82,7 +82,7 @@ sends_back d j Lose s r = record { sender = refl; receiver = refl; session = inl
 sends_back d j Repeat s r = record { sender = refl; receiver = refl; session = inl refl; flight = λ x inside. inl inside; given = λ x inside. inl inside }
 sends_back d j Swap s r = record { sender = refl; receiver = refl; session = inl refl; flight = λ x inside. inl inside; given = λ x inside. inl inside }
 
-way_moves : (d : ℕ) (j : Journal) (move : Move) (near side : Bool) (l : Link) → WayRuns d j (way_of side l) (way_of side (link_after move near l))
+way_moves : (d : ℕ) (j : Journal) (move : Move) (near side : Bool) (l : WorldLink) → WayRuns d j (way_of side l) (way_of side (link_after move near l))
 way_moves d j move true true l = sends_on d j move l.near l.far
 way_moves d j move true false l = sends_back d j move l.near l.far
 way_moves d j move false true l = sends_back d j move l.far l.near
@@ -91,11 +91,11 @@ way_moves d j move false false l = sends_on d j move l.far l.near
 way_stays : (d : ℕ) (j : Journal) (way : Way) → WayRuns d j way way
 way_stays d j way = record { sender = refl; receiver = refl; session = inl refl; flight = λ x inside. inl inside; given = λ x inside. inl inside }
 
-ways_stay : (d : ℕ) (j : Journal) (side : Bool) (o : Option Link) → WaysRun d j (way_in side o) (way_in side o)
+ways_stay : (d : ℕ) (j : Journal) (side : Bool) (o : Option WorldLink) → WaysRun d j (way_in side o) (way_in side o)
 ways_stay d j side None = tt
 ways_stay d j side (Some l) = way_stays d j (way_of side l)
 
-ways_move : (d : ℕ) (j : Journal) (move : Move) (near : Bool) (i : ℕ) (links : List Link) (k : ℕ) (side : Bool)
+ways_move : (d : ℕ) (j : Journal) (move : Move) (near : Bool) (i : ℕ) (links : List WorldLink) (k : ℕ) (side : Bool)
     → WaysRun d j (way_in side (link_in links k)) (way_in side (link_in (links_after move near i links) k))
 ways_move d j move near i [] k side = tt
 ways_move d j move near zero (l ∷ ls) zero side = way_moves d j move near side l

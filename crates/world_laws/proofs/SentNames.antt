@@ -17,11 +17,11 @@ use Rattle.sync_rules.proofs.Continuing.{continues_all}
 use Rattle.sync_rules.proofs.DueLaws.{due_names_distinct}
 use Rattle.sync_rules.specs.Lists.{In, is_among}
 use Rattle.sync_rules.proofs.Elements.{In-append_cases, In-append_left, same_id-is}
-use Rattle.sync_rules.specs.Facts.{Extends, Facts, Held, Id, after, after_all, contact_in, entries_of, facts, held_at, is_held, nothing, session_at}
+use Rattle.sync_rules.specs.Facts.{ExtendsJournal, Facts, Held, Id, after, after_all, contact_in, entries_of, facts, held_at, is_held, nothing, session_at}
 use Rattle.sync_rules.specs.Growth.{output_by, output_in, output_of}
 use Rattle.sync_rules.proofs.Kept.{after_batches-is, sound_after}
 use Rattle.sync_rules.specs.Legal.{Legal}
-use Rattle.sync_rules.specs.Meeting.{AllMeet, Meets}
+use Rattle.sync_rules.specs.Meeting.{AllMeet, MeetsNoStep}
 use Rattle.sync_rules.proofs.MeetingLaws.{legal_meets, meets_fits}
 use Rattle.sync_rules.specs.Naming.{NamesDistinct}
 use Rattle.sync_rules.specs.Output.{first_records, message_record, nonce_record, records_of, sent}
@@ -87,7 +87,7 @@ in_cond : (b : Bool) (xs : List Record) (r : Record) → In r (cond b xs []) →
 in_cond true xs r inside = inside
 in_cond false xs r inside = absurd inside
 
-entry_names : (clients : Meaning) (f : Facts) (n : ℕ) (e : Entry) → IsConsistent f → Meets clients f e → (r : Record) → In r (output_by f n e) → NamesHeld f.held r
+entry_names : (clients : Meaning) (f : Facts) (n : ℕ) (e : Entry) → IsConsistent f → MeetsNoStep clients f e → (r : Record) → In r (output_by f n e) → NamesHeld f.held r
 entry_names clients f n (entry.Session s) c m r inside = first_names f.held s r (in_cond (nat_eq s.number n) (first_records s) r inside)
 entry_names clients f n (entry.Out s now what) c m r inside =
     output_names f c.held (contact_in (session_at f.sessions s)) what (due_names_distinct f c.held c.wanted clients (session_at f.sessions s) now what m.1) r
@@ -139,7 +139,7 @@ sent_message clients j n l m inside =
     record { of = is.of; at = is.at; same = is.same }
 
 -- what was sent stays so in a longer journal
-pub sent_stays : (clients : Meaning) (j before : Journal) → Extends j before → Legal clients j → (o : Option ℕ) (r : Record) → IsSent before o r → IsSent j o r
+pub sent_stays : (clients : Meaning) (j before : Journal) → ExtendsJournal j before → Legal clients j → (o : Option ℕ) (r : Record) → IsSent before o r → IsSent j o r
 sent_stays clients j before e l o r is = record {
   number = is.number;
   on = is.on;

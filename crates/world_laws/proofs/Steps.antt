@@ -16,7 +16,7 @@ use Rattle.sync_rules.specs.Consistency.{HasRows}
 use Rattle.sync_rules.proofs.ConsistencyLaws.{legal_consistent}
 use Rattle.sync_rules.proofs.Continuing.{continues_journals, facts-append, legal-append}
 use Rattle.sync_rules.specs.Lists.{In, is_among}
-use Rattle.sync_rules.specs.Facts.{Extends, Facts, Held, Id, Row, after_all, entries_of, facts, held_at, is_held, is_level_shared, level_at, row_at, row_or, session_at}
+use Rattle.sync_rules.specs.Facts.{ExtendsJournal, Facts, Held, Id, Row, after_all, entries_of, facts, held_at, is_held, is_level_shared, level_at, row_at, row_or, session_at}
 use Rattle.sync_rules.proofs.Kept.{after_batches-is}
 use Rattle.sync_rules.specs.Laws.{IsAuthored}
 use Rattle.sync_rules.specs.Legal.{Legal}
@@ -26,7 +26,7 @@ use Rattle.sync_rules.specs.Output.{sent}
 use Rattle.sync_rules.specs.Sessions.{is_author, shared_ids}
 use Rattle.sync_rules.proofs.Sound.{held_at-In, held_at-id}
 use Rattle.world_laws.specs.Theorem.{HeldIsWritten, IsNewWorld, IsSoundWorld, IsWritten, RestIsDone, SeenIsHeld}
-use Rattle.world_laws.specs.Worlds.{AreSteps, HasNoBrief, HasSession, IsSent, IsStep, Journal, Link, Linked, Runs, WasGiven, Way, WayRuns, WaysRun, World, contact_for, journal_at, last_of, link_in, new_end, way_at, way_in, way_of}
+use Rattle.world_laws.specs.Worlds.{AreSteps, HasNoBrief, HasSession, IsSent, IsStep, Journal, WorldLink, Linked, RunsDevice, WasGiven, Way, WayRuns, WaysRun, World, contact_for, journal_at, last_of, link_in, new_end, way_at, way_in, way_of}
 use Rattle.world_laws.proofs.SentNames.{SentHeld, sent_message, sent_named, sent_stays}
 use Rattle.world_laws.proofs.HeardLaws.{Before, Heard, HeldFrom, Written, batches_say, held_from, seen_from}
 use Rattle.world_laws.proofs.PlainLaws.{plain_append, plain_closed}
@@ -59,7 +59,7 @@ one_contact d e b not_e not_b same =
 abbrev turned : Way → Way
 turned way = record { sender = way.receiver; receiver = way.sender }
 
-turned_in : (near : Bool) (o : Option Link) (way : Way) → way_in near o ≡ Some way → way_in (not near) o ≡ Some (turned way)
+turned_in : (near : Bool) (o : Option WorldLink) (way : Way) → way_in near o ≡ Some way → way_in (not near) o ≡ Some (turned way)
 turned_in near None way e = cc
 turned_in true (Some l) way e = let same : way_of true l ≡ way = cc in ap (λ (w : Way). Some (turned w)) same
 turned_in false (Some l) way e = let same : way_of false l ≡ way = cc in ap (λ (w : Way). Some (turned w)) same
@@ -80,14 +80,14 @@ old_way d j (Some w) (Some x) now r e =
 
 -- ---- longer journals
 
-session_stays : (j before : Journal) → Extends j before → (n contact : ℕ) → HasSession before n contact → HasSession j n contact
+session_stays : (j before : Journal) → ExtendsJournal j before → (n contact : ℕ) → HasSession before n contact → HasSession j n contact
 session_stays j before e n contact h = record {
   session = h.session;
   known = (continues_journals j before e).same_session n h.session h.known;
   same_contact = h.same_contact;
 }
 
-held_stays : (j before : Journal) → Extends j before → (id : Id) (o : Option Held) → held_at (facts before).held id ≡ o → is_some o ≡ true → is_held (facts j).held id ≡ true
+held_stays : (j before : Journal) → ExtendsJournal j before → (id : Id) (o : Option Held) → held_at (facts before).held id ≡ o → is_some o ≡ true → is_held (facts j).held id ≡ true
 held_stays j before e id None at is = absurd (false≢true is)
 held_stays j before e id (Some h) at is = ap is_some ((continues_journals j before e).same_held id h at)
 
@@ -105,19 +105,19 @@ authored_back es fs m a = record {
   stands = ap (λ (t : List Entry). es ++ t) a.stands ∙ sym (append_assoc es a.before (entry.Author m ∷ a.behind));
 }
 
-authored_stays : (j before : Journal) → Extends j before → (m : MessageValue) → IsAuthored (entries_of before) m → IsAuthored (entries_of j) m
+authored_stays : (j before : Journal) → ExtendsJournal j before → (m : MessageValue) → IsAuthored (entries_of before) m → IsAuthored (entries_of j) m
 authored_stays j before e m a =
     subst (λ (t : List Entry). IsAuthored t m) (sym (ap entries_of e.1 ∙ entries_of-append before e.0)) (authored_front (entries_of before) (entries_of e.0) m a)
 
 -- ---- a device runs
 
-module _ (clients : Meaning) (d : ℕ) (old new : World) (s : IsSoundWorld clients old) (r : Runs clients d old new) where
-  extends_at : (e : ℕ) → Extends (journal_at new e) (journal_at old e)
+module _ (clients : Meaning) (d : ℕ) (old new : World) (s : IsSoundWorld clients old) (r : RunsDevice clients d old new) where
+  extends_at : (e : ℕ) → ExtendsJournal (journal_at new e) (journal_at old e)
   extends_at e =
       elim (cases_eq e d) [
         | inl same ↦
-            let own : Extends (journal_at new d) (journal_at old d) = (r.more, r.goes_on) in
-            subst (λ (k : ℕ). Extends (journal_at new k) (journal_at old k)) (sym same) own
+            let own : ExtendsJournal (journal_at new d) (journal_at old d) = (r.more, r.goes_on) in
+            subst (λ (k : ℕ). ExtendsJournal (journal_at new k) (journal_at old k)) (sym same) own
         | inr other ↦ ([], r.others e other ∙ sym (append-nil (journal_at old e)))
       ]
 
@@ -318,14 +318,14 @@ module _ (clients : Meaning) (d : ℕ) (old new : World) (s : IsSoundWorld clien
 
 -- ---- two devices are linked
 
-link_cases : (ls : List Link) (x : Link) (i : ℕ) → (link_in (ls ++ x ∷ []) i ≡ link_in ls i) ⊎ (link_in (ls ++ x ∷ []) i ≡ Some x)
+link_cases : (ls : List WorldLink) (x : WorldLink) (i : ℕ) → (link_in (ls ++ x ∷ []) i ≡ link_in ls i) ⊎ (link_in (ls ++ x ∷ []) i ≡ Some x)
 link_cases [] x zero = inr refl
 link_cases [] x (suc i) = inl refl
 link_cases (l ∷ ls) x zero = inl refl
 link_cases (l ∷ ls) x (suc i) = link_cases ls x i
 
 module _ (clients : Meaning) (d e : ℕ) (two : d ≡ e → ⊥) (old : World) (s : IsSoundWorld clients old) where
-  abbrev new_link : Link
+  abbrev new_link : WorldLink
   new_link = record { near = new_end d; far = new_end e }
 
   abbrev linked : World
@@ -405,7 +405,7 @@ steps_lead clients w (x ∷ worlds) s steps = steps_lead clients x worlds (step_
 
 module _ (clients : Meaning) (w : World) (n : IsNewWorld clients w) where
   no_way : (i : ℕ) (near : Bool) → way_at w i near ≡ None
-  no_way i near = ap (λ (ls : List Link). way_in near (link_in ls i)) n.unlinked
+  no_way i near = ap (λ (ls : List WorldLink). way_in near (link_in ls i)) n.unlinked
 
   row_held : (f : Facts) → HasRows f → (contact : ℕ) (id : Id) (o : Option Row) → fin_map.get f.rows (contact, id) ≡ o → (row_or o).seen ≡ true → is_held f.held id ≡ true
   row_held f has contact id None at seen = absurd (false≢true seen)

@@ -2,7 +2,7 @@
 -- kept, the first two change places, or the link is cut.
 use Rattle.std.specs.Prelude.{ℕ, zero, suc, Bool, true, false, List, [], ◌∷◌, ◌++◌}
 use Rattle.sync_ids.specs.declared.records.Record.{Record}
-use Rattle.world_laws.specs.Worlds.{End, Link, World}
+use Rattle.world_laws.specs.Worlds.{End, WorldLink, World}
 
 pub data Move : Type 0 where
   Carry : Move
@@ -45,12 +45,12 @@ other_after Cut e = record e { flight = [] }
 other_after _ e = e
 
 -- a link after a move of what is in flight from its near end, or from its far one
-abbrev pub link_after : Move → Bool → Link → Link
+abbrev pub link_after : Move → Bool → WorldLink → WorldLink
 link_after move true l = record { near = sender_after move l.near; far = other_after move (receiver_after move l.near.flight l.far) }
 link_after move false l = record { near = other_after move (receiver_after move l.far.flight l.near); far = sender_after move l.far }
 
 -- the link of a number changed
-abbrev pub links_after : Move → Bool → ℕ → List Link → List Link
+abbrev pub links_after : Move → Bool → ℕ → List WorldLink → List WorldLink
 links_after move near i [] = []
 links_after move near zero (l ∷ ls) = link_after move near l ∷ ls
 links_after move near (suc i) (l ∷ ls) = l ∷ links_after move near i ls

@@ -26,7 +26,7 @@ abbrev pub HeldIsWritten : World → Type 0
 HeldIsWritten w = (d : ℕ) (id : Id) (h : Held) → held_at (facts (journal_at w d)).held id ≡ Some h → IsWritten w h
 
 -- a session of a device with another at which nothing is due, and no message waits for a later time
-pub record IsAtRest (clients : Meaning) (f : Facts) (contact number now : ℕ) : Type 0 where
+pub record IsSessionAtRest (clients : Meaning) (f : Facts) (contact number now : ℕ) : Type 0 where
   pub session : Session
   pub known : session_at f.sessions number ≡ Some session
   pub same_contact : session.contact ≡ contact
@@ -45,7 +45,7 @@ pub record IsForContact (clients : Meaning) (f : Facts) (contact : ℕ) (id : Id
 -- where a session of a device with another is at rest, the other holds every message that is to reach it
 abbrev pub RestIsDone : Meaning → World → Type 0
 RestIsDone clients w = (a b number now : ℕ) (id : Id) → (a ≡ b → ⊥)
-    → IsAtRest clients (facts (journal_at w a)) (contact_for a b) number now
+    → IsSessionAtRest clients (facts (journal_at w a)) (contact_for a b) number now
     → IsForContact clients (facts (journal_at w a)) (contact_for a b) id
     → is_held (facts (journal_at w b)).held id ≡ true
 

@@ -37,7 +37,7 @@ pub record End : Type 0 where
   pub given : List Record
 
 -- a link, by the end that dialled and the other
-pub record Link : Type 0 where
+pub record WorldLink : Type 0 where
   pub near : End
   pub far : End
 
@@ -48,7 +48,7 @@ pub record Way : Type 0 where
 
 pub record World : Type 0 where
   pub journals : List Journal
-  pub links : List Link
+  pub links : List WorldLink
 
 -- the journal of a device, empty where there is no such device
 abbrev pub journal_in : List Journal → ℕ → Journal
@@ -59,17 +59,17 @@ journal_in (j ∷ js) (suc d) = journal_in js d
 abbrev pub journal_at : World → ℕ → Journal
 journal_at w d = journal_in w.journals d
 
-abbrev pub link_in : List Link → ℕ → Option Link
+abbrev pub link_in : List WorldLink → ℕ → Option WorldLink
 link_in [] i = None
 link_in (l ∷ ls) zero = Some l
 link_in (l ∷ ls) (suc i) = link_in ls i
 
 -- from the near end, or from the far one
-abbrev pub way_of : Bool → Link → Way
+abbrev pub way_of : Bool → WorldLink → Way
 way_of true l = record { sender = l.near; receiver = l.far }
 way_of false l = record { sender = l.far; receiver = l.near }
 
-abbrev pub way_in : Bool → Option Link → Option Way
+abbrev pub way_in : Bool → Option WorldLink → Option Way
 way_in near None = None
 way_in near (Some l) = Some (way_of near l)
 
@@ -114,7 +114,7 @@ pub record IsSent (j : Journal) (session : Option ℕ) (r : Record) : Type 0 whe
   pub inside : In r (sent j number)
 
 -- the sender of a way is this device, and it begins a session with the contact for the receiver
-pub record Begins (d : ℕ) (j : Journal) (old new : Way) : Type 0 where
+pub record WayBeginsSession (d : ℕ) (j : Journal) (old new : Way) : Type 0 where
   pub own : old.sender.device ≡ d
   pub fresh : old.sender.session ≡ None
   pub number : ℕ
@@ -122,7 +122,7 @@ pub record Begins (d : ℕ) (j : Journal) (old new : Way) : Type 0 where
   pub known : HasSession j number (contact_for d old.receiver.device)
 
 -- the sender of a way is this device, and its session sends the record
-pub record Sends (d : ℕ) (j : Journal) (old new : Way) (r : Record) : Type 0 where
+pub record WaySendsRecord (d : ℕ) (j : Journal) (old new : Way) (r : Record) : Type 0 where
   pub own : old.sender.device ≡ d
   pub is : IsSent j new.sender.session r
 
@@ -131,8 +131,8 @@ pub record Sends (d : ℕ) (j : Journal) (old new : Way) (r : Record) : Type 0 w
 pub record WayRuns (d : ℕ) (j : Journal) (old new : Way) : Type 0 where
   pub sender : new.sender.device ≡ old.sender.device
   pub receiver : new.receiver.device ≡ old.receiver.device
-  pub session : (new.sender.session ≡ old.sender.session) ⊎ Begins d j old new
-  pub flight : (r : Record) → In r new.sender.flight → In r old.sender.flight ⊎ Sends d j old new r
+  pub session : (new.sender.session ≡ old.sender.session) ⊎ WayBeginsSession d j old new
+  pub flight : (r : Record) → In r new.sender.flight → In r old.sender.flight ⊎ WaySendsRecord d j old new r
   pub given : (r : Record) → In r new.receiver.given → In r old.receiver.given ⊎ In r old.sender.flight
 
 abbrev pub WaysRun : ℕ → Journal → Option Way → Option Way → Type 0
@@ -153,7 +153,7 @@ pub record WasGiven (w : World) (d session : ℕ) (r : Record) : Type 0 where
 -- one device runs: its journal goes on by batches that may follow, none of which begins a brief account, each record that they
 -- take was given to an end of it, and each way of each link goes on. Where no batch is added this is any loss, repeat, swap or carrying of what is in flight, a
 -- cut, a restart or a crash; where some are, the device may have stopped anywhere behind the last of them
-pub record Runs (clients : Meaning) (d : ℕ) (old new : World) : Type 0 where
+pub record RunsDevice (clients : Meaning) (d : ℕ) (old new : World) : Type 0 where
   pub more : List (List Entry)
   pub goes_on : journal_at new d ≡ journal_at old d ++ more
   pub allowed : GoesOn clients (facts (journal_at old d)) more
@@ -175,7 +175,7 @@ pub record Linked (d e : ℕ) (old new : World) : Type 0 where
   pub links : new.links ≡ old.links ++ record { near = new_end d; far = new_end e } ∷ []
 
 abbrev pub IsStep : Meaning → World → World → Type 0
-IsStep clients old new = ((d : ℕ) × Runs clients d old new) ⊎ ((d : ℕ) × (e : ℕ) × Linked d e old new)
+IsStep clients old new = ((d : ℕ) × RunsDevice clients d old new) ⊎ ((d : ℕ) × (e : ℕ) × Linked d e old new)
 
 -- the worlds of a list are each a step from the one before, the first from a given one
 abbrev pub AreSteps : Meaning → World → List World → Type 0

@@ -5,7 +5,7 @@ use Rattle.world_scripts.specs.Cuts.{lines}
 use Rattle.world_scripts.specs.Forms.{line_in}
 use Rattle.world_scripts.specs.Courses.{after_line, course}
 use Rattle.world_scripts.specs.Courses.{opening, opening_by}
-use Rattle.world_scripts.specs.Scripts.{Comes, Ends}
+use Rattle.world_scripts.specs.Scripts.{HasNextLine, HasNoLine}
 
 -- what is left of a script says what the whole says
 pub record IsLeft (first : ℕ) (script : List ℕ) (number : ℕ) (left : List ℕ) : Type 0 where
@@ -38,7 +38,7 @@ module _ (first : ℕ) (script : List ℕ) (number : ℕ) (left : List ℕ)
   -- another line comes
   pub found : (line rest : List ℕ) → lines left ≡ line ∷ lines rest → ¬ (length line ≡ 0)
       → length rest < length left
-      → Comes first script number line rest
+      → HasNextLine first script number line rest
   unfolding course opening
   found line rest cut some less = record {
     of_course = is.of_course ∙ ap (course number) cut
@@ -53,7 +53,7 @@ module _ (first : ℕ) (script : List ℕ) (number : ℕ) (left : List ℕ)
   }
 
   -- no line comes
-  pub ended : lines left ≡ [] → Ends first script
+  pub ended : lines left ≡ [] → HasNoLine first script
   unfolding course opening
   ended none = record {
     of_course = is.of_course

@@ -7,7 +7,7 @@ use Rattle.std.specs.Prelude.{codes}
 use Rattle.std.specs.Str.Parse.{digits_value}
 use Rattle.sync_words.specs.Words.{is_number, number_in}
 use Rattle.world_scripts.specs.Cuts.{front_of, behind}
-use Rattle.world_scripts.specs.Forms.{Left, and_then, at_least, beside, device_in, devices_in}
+use Rattle.world_scripts.specs.Forms.{LineLeft, and_then, at_least, beside, device_in, devices_in}
 use Rattle.world_scripts.specs.Forms.{device_step_in, does, group_in, line_in, number_between, over}
 use Rattle.world_scripts.specs.Forms.{post_in, said_in, show_in, word_in, word_then}
 use Rattle.world_scripts.specs.declared.step.Action.TheVariants as action
@@ -57,13 +57,13 @@ abbrev Ended : (List ℕ → Option ℕ) → (ℕ → Line) → Line → Type 0
 Ended read made x = (word : List ℕ) × ((n : ℕ) × ((read word ≡ Some n) × (made n ≡ x)))
 
 ended_by : (read : List ℕ → Option ℕ) (made : ℕ → Line) (x : Line) (word : List ℕ)
-    (number : Option ℕ) (rest : Left) → read word ≡ number
+    (number : Option ℕ) (rest : LineLeft) → read word ≡ number
     → and_then (beside number rest) (λ n. over (made n)) ≡ Some x → Ended read made x
 ended_by read made x word None rest is e = absurd (let no : None ≡ Some x = e in cc)
 ended_by read made x word (Some n) None is e = let same : made n ≡ x = cc in (word, (n, (is, same)))
 ended_by read made x word (Some n) (Some text) is e = absurd (let no : None ≡ Some x = e in cc)
 
-ended : (read : List ℕ → Option ℕ) (made : ℕ → Line) (x : Line) (left : Left)
+ended : (read : List ℕ → Option ℕ) (made : ℕ → Line) (x : Line) (left : LineLeft)
     → word_then read (λ n. over (made n)) left ≡ Some x → Ended read made x
 unfolding word_in
 ended read made x None e = absurd (let no : None ≡ Some x = e in cc)
@@ -72,13 +72,13 @@ ended read made x (Some text) e = ended_by read made x (front_of 32 text) (read 
 
 -- ---- a line that says how many devices there are
 
-devices_within : (left : Left) (n : ℕ) → devices_in left ≡ Some (line.Devices n) → IsBetween 2 8 n
+devices_within : (left : LineLeft) (n : ℕ) → devices_in left ≡ Some (line.Devices n) → IsBetween 2 8 n
 devices_within left n e =
     let at = ended (number_between 2 8) line.Devices (line.Devices n) left e in
     let same : at.1.0 ≡ n = let both : line.Devices at.1.0 ≡ line.Devices n = at.1.1.1 in cc in
     subst (λ (k : ℕ). IsBetween 2 8 k) same (between 2 8 at.0 at.1.0 at.1.1.0)
 
-no_show : (left : Left) (n : ℕ) → show_in left ≡ Some (line.Devices n) → ⊥
+no_show : (left : LineLeft) (n : ℕ) → show_in left ≡ Some (line.Devices n) → ⊥
 no_show left n e =
     let at = ended device_in (λ device. line.Does (action.Show device)) (line.Devices n) left e in
     let no : line.Does (action.Show at.1.0) ≡ line.Devices n = at.1.1.1 in
@@ -96,7 +96,7 @@ either : (test : Bool) (a b : Option Line) (n : ℕ) → cond test a b ≡ Some 
 either true a b n e first second = first e
 either false a b n e first second = second e
 
-said_within : (word : List ℕ) (left : Left) (n : ℕ) → said_in word left ≡ Some (line.Devices n)
+said_within : (word : List ℕ) (left : LineLeft) (n : ℕ) → said_in word left ≡ Some (line.Devices n)
     → IsBetween 2 8 n
 unfolding said_in
 said_within word left n e =

@@ -9,20 +9,20 @@ use Rattle.world_scripts.specs.declared.step.Line.TheVariants as line
 
 -- what is to be done, each with the number of its line, up to the first line that is bad by itself;
 -- and the number of that line, if there is one
-pub record Course : Type 0 where
+pub record ScriptCourse : Type 0 where
   pub actions : List (ℕ × Action)
   pub bad : Option ℕ
 
 -- nothing more is to be done, and no line is bad
-abbrev pub over : Course
+abbrev pub over : ScriptCourse
 over = record { actions = []; bad = None }
 
 -- a line is bad
-abbrev pub bad_at : ℕ → Course
+abbrev pub bad_at : ℕ → ScriptCourse
 bad_at number = record { actions = []; bad = Some number }
 
 -- a line that says this stands before a course
-abbrev pub after_line : Option Line → ℕ → Course → Course
+abbrev pub after_line : Option Line → ℕ → ScriptCourse → ScriptCourse
 after_line (Some (line.Does action)) number course =
     record { actions = (number, action) ∷ course.actions; bad = course.bad }
 after_line (Some (line.Devices n)) number course = bad_at number
@@ -33,7 +33,7 @@ is_empty line = length line == 0
 
 -- the course of these lines, the first of which has this number. Empty lines are skipped and
 -- counted
-unfoldable pub course : ℕ → List (List ℕ) → Course
+unfoldable pub course : ℕ → List (List ℕ) → ScriptCourse
 course number [] = over
 course number (line ∷ lines) =
     if is_empty line then course (number + 1) lines
@@ -42,10 +42,10 @@ course number (line ∷ lines) =
 -- a script says how many devices there are, and what follows is a course; or a line is bad
 pub data Opening : Type 0 where
   Bad : ℕ → Opening
-  Opens : ℕ → Course → Opening
+  Opens : ℕ → ScriptCourse → Opening
 
 -- a first line that says this stands before a course
-abbrev pub opening_by : Option Line → ℕ → Course → Opening
+abbrev pub opening_by : Option Line → ℕ → ScriptCourse → Opening
 opening_by (Some (line.Devices n)) number course = Opens n course
 opening_by (Some (line.Does action)) number course = Bad number
 opening_by None number course = Bad number

@@ -21,34 +21,34 @@ use Rattle.world_scripts.specs.declared.step.WorldStep.TheVariants as step
 -- ---- how words follow one another
 
 -- what is left of a line behind the space that follows a word; nothing where that word was the last
-abbrev pub Left : Type 0
-Left = Option (List ℕ)
+abbrev pub LineLeft : Type 0
+LineLeft = Option (List ℕ)
 
-abbrev pub beside : {V : Type 0} → Option V → Left → Option (V × Left)
+abbrev pub beside : {V : Type 0} → Option V → LineLeft → Option (V × LineLeft)
 beside None left = None
 beside (Some value) left = Some (value, left)
 
 -- the next word, read so, and what is left behind it
-unfoldable pub word_in : {V : Type 0} → (List ℕ → Option V) → Left → Option (V × Left)
+unfoldable pub word_in : {V : Type 0} → (List ℕ → Option V) → LineLeft → Option (V × LineLeft)
 word_in read None = None
 word_in read (Some text) = beside (read (front_of 32 text)) (behind 32 text)
 
-abbrev pub and_then : {V W : Type 0} → Option (V × Left) → (V → Left → Option W) → Option W
+abbrev pub and_then : {V W : Type 0} → Option (V × LineLeft) → (V → LineLeft → Option W) → Option W
 and_then None next = None
 and_then (Some x) next = next x.0 x.1
 
 -- the next word is read so, and then come the others
-abbrev pub word_then : {V W : Type 0} → (List ℕ → Option V) → (V → Left → Option W) → Left
+abbrev pub word_then : {V W : Type 0} → (List ℕ → Option V) → (V → LineLeft → Option W) → LineLeft
     → Option W
 word_then read next left = and_then (word_in read left) next
 
 -- no word is left
-abbrev pub over : {W : Type 0} → W → Left → Option W
+abbrev pub over : {W : Type 0} → W → LineLeft → Option W
 over value None = Some value
 over value (Some text) = None
 
 -- all that is left is the text, which has at least one byte
-abbrev pub text_in : Left → Option (List ℕ)
+abbrev pub text_in : LineLeft → Option (List ℕ)
 text_in None = None
 text_in (Some []) = None
 text_in (Some (b ∷ text)) = Some (b ∷ text)
@@ -111,19 +111,19 @@ labels_in word =
 -- ---- the steps, behind their first words
 
 -- a device, a kind and a descriptor
-unfoldable pub group_in : Left → Option WorldStep
+unfoldable pub group_in : LineLeft → Option WorldStep
 group_in =
     word_then device_in (λ device. word_then kind_in (λ kind. word_then descriptor_in (λ descriptor.
     over (step.Group device kind descriptor))))
 
 -- a device, another device, a group's label and a level
-unfoldable pub share_in : Left → Option WorldStep
+unfoldable pub share_in : LineLeft → Option WorldStep
 share_in =
     word_then device_in (λ device. word_then device_in (λ other. word_then count_in (λ group.
     word_then level_in (λ level. over (step.Share device other group level)))))
 
 -- a device, a group's label and a time
-abbrev pub place_in : Left → Option ((ℕ × ℕ × ℕ) × Left)
+abbrev pub place_in : LineLeft → Option ((ℕ × ℕ × ℕ) × LineLeft)
 place_in =
     word_then device_in (λ device. word_then count_in (λ group.
     word_then (number_between 0 MAX_TIMESTAMP) (λ time left. Some ((device, group, time), left))))
@@ -137,43 +137,43 @@ abbrev pub post_with : ℕ × ℕ × ℕ → List ℕ → List ℕ → Option Wo
 post_with place word text = option_map (λ parents. post_at place parents text) (labels_in word)
 
 -- a device, a group's label and a time, the labels of the parents, and the text
-unfoldable pub post_in : Left → Option WorldStep
+unfoldable pub post_in : LineLeft → Option WorldStep
 post_in left =
     and_then (place_in left) (λ place. word_then labels_in (λ parents left.
     option_map (post_at place parents) (text_in left)))
 
 -- a device, another device, a mode and a latency
-unfoldable pub link_in : Left → Option WorldStep
+unfoldable pub link_in : LineLeft → Option WorldStep
 link_in =
     word_then device_in (λ device. word_then device_in (λ other. word_then mode_in (λ mode.
     word_then (number_between 1 MAX_LATENCY) (λ latency.
     over (step.Link device other mode latency)))))
 
 -- a device, the number of a call, and an image
-unfoldable pub stop_in : Left → Option WorldStep
+unfoldable pub stop_in : LineLeft → Option WorldStep
 stop_in =
     word_then device_in (λ device. word_then count_in (λ call. word_then pick_in (λ pick.
     over (step.Stop device call pick))))
 
 -- a device alone
-abbrev pub of_device : (ℕ → WorldStep) → Left → Option WorldStep
+abbrev pub of_device : (ℕ → WorldStep) → LineLeft → Option WorldStep
 of_device made = word_then device_in (λ device. over (made device))
 
 -- a number alone
-abbrev pub of_count : (ℕ → WorldStep) → Left → Option WorldStep
+abbrev pub of_count : (ℕ → WorldStep) → LineLeft → Option WorldStep
 of_count made = word_then count_in (λ n. over (made n))
 
 -- a link, and the device at one of its ends
-unfoldable pub end_in : Left → Option ((ℕ × ℕ) × Left)
+unfoldable pub end_in : LineLeft → Option ((ℕ × ℕ) × LineLeft)
 end_in =
     word_then count_in (λ link. word_then device_in (λ device left. Some ((link, device), left)))
 
-abbrev pub of_end : (ℕ → ℕ → WorldStep) → Left → Option WorldStep
+abbrev pub of_end : (ℕ → ℕ → WorldStep) → LineLeft → Option WorldStep
 of_end made left = and_then (end_in left) (λ x. over (made x.0 x.1))
 
 -- ---- the forms by their first words
 
-abbrev pub world_step_in : List ℕ → Left → Option WorldStep
+abbrev pub world_step_in : List ℕ → LineLeft → Option WorldStep
 world_step_in word =
     if bytes_eq word (codes "cut") then of_count step.Cut
     else if bytes_eq word (codes "clock") then of_count step.Clock
@@ -181,7 +181,7 @@ world_step_in word =
     word_then (number_between 1 MAX_ROUNDS) (λ rounds. over (step.Rest rounds))
     else (λ left. None)
 
-unfoldable pub record_step_in : List ℕ → Left → Option WorldStep
+unfoldable pub record_step_in : List ℕ → LineLeft → Option WorldStep
 record_step_in word =
     if bytes_eq word (codes "carry") then of_end step.Carry
     else if bytes_eq word (codes "lose") then of_end step.Lose
@@ -189,7 +189,7 @@ record_step_in word =
     else if bytes_eq word (codes "swap") then of_end step.Swap
     else world_step_in word
 
-unfoldable pub device_step_in : List ℕ → Left → Option WorldStep
+unfoldable pub device_step_in : List ℕ → LineLeft → Option WorldStep
 device_step_in word =
     if bytes_eq word (codes "share") then share_in
     else if bytes_eq word (codes "link") then link_in
@@ -202,14 +202,14 @@ abbrev pub does : Option WorldStep → Option Line
 does None = None
 does (Some made) = Some (line.Does (action.Step made))
 
-abbrev pub devices_in : Left → Option Line
+abbrev pub devices_in : LineLeft → Option Line
 devices_in =
     word_then (number_between MIN_DEVICES MAX_DEVICES) (λ devices. over (line.Devices devices))
 
-abbrev pub show_in : Left → Option Line
+abbrev pub show_in : LineLeft → Option Line
 show_in = word_then device_in (λ device. over (line.Does (action.Show device)))
 
-unfoldable pub said_in : List ℕ → Left → Option Line
+unfoldable pub said_in : List ℕ → LineLeft → Option Line
 said_in word left =
     if bytes_eq word (codes "devices") then devices_in left
     else if bytes_eq word (codes "show") then show_in left

@@ -88,6 +88,6 @@ pub record IsPosition (seed count posted number : ℕ) (last_of_first last_of_se
   pub second : last_of_second ≡ last_post seed 1 posted
 
 -- the next of some steps, and what is left behind it
-abbrev pub IsNext : List WorldStep → List WorldStep → Option WorldStep → Type 0
-IsNext old new None = (old ≡ []) × (new ≡ [])
-IsNext old new (Some made) = old ≡ made ∷ new
+abbrev pub IsNextStep : List WorldStep → List WorldStep → Option WorldStep → Type 0
+IsNextStep old new None = (old ≡ []) × (new ≡ [])
+IsNextStep old new (Some made) = old ≡ made ∷ new

@@ -7,18 +7,18 @@ use Rattle.sync_rules.specs.declared.limits.TheConstants.{MAX_DEPS}
 use Rattle.world_scripts.specs.declared.step.TheConstants.{NOTE, THREAD, FEED}
 
 -- a group's kind and descriptor
-abbrev pub Pair : Type 0
-Pair = ℕ × List ℕ
+abbrev pub KindAndDescriptor : Type 0
+KindAndDescriptor = ℕ × List ℕ
 
-abbrev pub is_pair : Pair → Pair → Bool
+abbrev pub is_pair : KindAndDescriptor → KindAndDescriptor → Bool
 is_pair a b = (b.0 == a.0) && bytes_eq b.1 a.1
 
 -- the place of a pair among others, or their number where it is none of them
-unfoldable pub place_of : Pair → List Pair → ℕ
+unfoldable pub place_of : KindAndDescriptor → List KindAndDescriptor → ℕ
 place_of pair pairs = position_or_len (is_pair pair) pairs
 
 -- the pairs that a line names, in the order of the first line that names each
-unfoldable pub labelled : Pair → List Pair → List Pair
+unfoldable pub labelled : KindAndDescriptor → List KindAndDescriptor → List KindAndDescriptor
 labelled pair pairs =
     if nat_lt (place_of pair pairs) (length pairs) then pairs else pairs ++ pair ∷ []
 

@@ -4,7 +4,7 @@ use Rattle.std.specs.Prelude.{Err}
 use Rattle.std.specs.Borrow.{Bor}
 use Rattle.world_scripts.specs.Cuts.{lines}
 use Rattle.world_scripts.specs.Forms.{line_in}
-use Rattle.world_scripts.specs.Courses.{Course, after_line, bad_at, course, over, Opening, Bad}
+use Rattle.world_scripts.specs.Courses.{ScriptCourse, after_line, bad_at, course, over, Opening, Bad}
 use Rattle.world_scripts.specs.Courses.{Opens, opening, opening_by}
 use Rattle.world_scripts.specs.declared.fault.ScriptFault.{ScriptFault}
 use Rattle.world_scripts.specs.declared.fault.ScriptFault.TheVariants as fault
@@ -12,21 +12,21 @@ use Rattle.world_scripts.specs.declared.script.Opened.{Opened}
 use Rattle.world_scripts.specs.declared.step.Action.{Action}
 
 -- the first line was read, and what follows it is left; or a line is bad
-abbrev pub IsOpened : Opening → Result Opened ScriptFault → Type 0
-IsOpened said (Ok opened) = said ≡ Opens opened.devices opened.script
-IsOpened said (Err (fault.BadLine number)) = said ≡ Bad number
-IsOpened said (Err fault.Memory) = Unit {0}
+abbrev pub IsScriptOpened : Opening → Result Opened ScriptFault → Type 0
+IsScriptOpened said (Ok opened) = said ≡ Opens opened.devices opened.script
+IsScriptOpened said (Err (fault.BadLine number)) = said ≡ Bad number
+IsScriptOpened said (Err fault.Memory) = Unit {0}
 
 -- the next action was read, and the rest is left; or there is none, or a line is bad. In these
 -- cases, and for want of memory, all is left
-abbrev pub Goes : Course → Result (Option (ℕ × Action)) ScriptFault → Course → Type 0
-Goes old (Ok (Some x)) new = old ≡ record { actions = x ∷ new.actions; bad = new.bad }
-Goes old (Ok None) new = (old ≡ over) × (new ≡ old)
-Goes old (Err (fault.BadLine number)) new = (old ≡ bad_at number) × (new ≡ old)
-Goes old (Err fault.Memory) new = new ≡ old
+abbrev pub ReadsNextAction : ScriptCourse → Result (Option (ℕ × Action)) ScriptFault → ScriptCourse → Type 0
+ReadsNextAction old (Ok (Some x)) new = old ≡ record { actions = x ∷ new.actions; bad = new.bad }
+ReadsNextAction old (Ok None) new = (old ≡ over) × (new ≡ old)
+ReadsNextAction old (Err (fault.BadLine number)) new = (old ≡ bad_at number) × (new ≡ old)
+ReadsNextAction old (Err fault.Memory) new = new ≡ old
 
 -- a line of this number that is not empty, and then what is behind it
-pub record Comes (number : ℕ) (script : List ℕ) (n : ℕ) (line behind : List ℕ) : Type 0 where
+pub record HasNextLine (number : ℕ) (script : List ℕ) (n : ℕ) (line behind : List ℕ) : Type 0 where
   pub of_course :
       course number (lines script) ≡ after_line (line_in line) n (course (n + 1) (lines behind))
   pub of_opening :
@@ -34,10 +34,10 @@ pub record Comes (number : ℕ) (script : List ℕ) (n : ℕ) (line behind : Lis
   pub within : n + 1 + length behind ≤ number + length script
 
 -- no line is left that is not empty
-pub record Ends (number : ℕ) (script : List ℕ) : Type 0 where
+pub record HasNoLine (number : ℕ) (script : List ℕ) : Type 0 where
   pub of_course : course number (lines script) ≡ over
   pub of_opening : opening number (lines script) ≡ Bad 1
 
-abbrev pub Nexts : ℕ → List ℕ → Option (ℕ × Bor (List ℕ) × Bor (List ℕ)) → Type 0
-Nexts number script None = Ends number script
-Nexts number script (Some x) = Comes number script x.0 x.1.now x.2.now
+abbrev pub ReadsNextLine : ℕ → List ℕ → Option (ℕ × Bor (List ℕ) × Bor (List ℕ)) → Type 0
+ReadsNextLine number script None = HasNoLine number script
+ReadsNextLine number script (Some x) = HasNextLine number script x.0 x.1.now x.2.now

@@ -1,7 +1,7 @@
 //! Worlds that are made from a seed.
 ghost use Rattle.std.specs.Prelude.{◌≡◌, ◌+◌, ◌<◌, ◌≤◌, ◌==◌, IfOk, OnErr, OnOk, codes};
 ghost use Rattle.std.specs.Prelude.{option_to_list, slice_get};
-ghost use Rattle.world_scripts.specs.Generator.{advanced, is_rest_behind, IsNext, opening_steps};
+ghost use Rattle.world_scripts.specs.Generator.{advanced, is_rest_behind, IsNextStep, opening_steps};
 ghost use Rattle.world_scripts.specs.Generator.{post_of, steps_of, text_of};
 
 use crate::lists::{Labels, Text};
@@ -146,7 +146,7 @@ impl Generator {
     /// The next step; `None` at the end. It fails only for want of memory, and then all is as
     /// before.
     pub fn next_step(&mut self, alloc: Global) -> Result<Option<WorldStep>, AllocError>
-        ensures ok { IfOk result (IsNext self.old self.new) }
+        ensures ok { IfOk result (IsNextStep self.old self.new) }
         ensures err { OnErr result (self.new ≡ self.old) }
     {
         if self.opened < OPENING_STEPS {

@@ -1,7 +1,7 @@
 //! Reading a line.
 ghost use Rattle.std.specs.Prelude.{◌≡◌};
 ghost use Rattle.std.specs.Option.{option_copied};
-ghost use Rattle.world_scripts.specs.Answers.{IsReadAs};
+ghost use Rattle.world_scripts.specs.Answers.{IsValueRead};
 ghost use Rattle.world_scripts.specs.Forms.{devices_in, line_in, said_in, show_in, words_in};
 
 use crate::fault::LineFault;
@@ -18,7 +18,7 @@ use std::alloc::Global;
 /// memory.
 #[tactic(auto, unfolding(crate::specs::Forms::line_in))]
 pub fn read_line(alloc: Global, line: &[u8]) -> Result<Line, LineFault>
-    ensures { IsReadAs (line_in line.now) result }
+    ensures { IsValueRead (line_in line.now) result }
 {
     let Ok(text) = str::from_utf8(line) else {
         return Err(LineFault::NoForm);
@@ -29,7 +29,7 @@ pub fn read_line(alloc: Global, line: &[u8]) -> Result<Line, LineFault>
 // What the words of a line say.
 #[tactic(auto, unfolding(crate::specs::Forms::word_in))]
 fn read_words(alloc: Global, text: &str) -> Result<Line, LineFault>
-    ensures { IsReadAs (words_in text.now) result }
+    ensures { IsValueRead (words_in text.now) result }
 {
     let mut words = Words { left: Some(text) };
     let word = words.word().ok_or(LineFault::NoForm)?;
@@ -39,7 +39,7 @@ fn read_words(alloc: Global, text: &str) -> Result<Line, LineFault>
 // What a line says whose first word this is.
 #[tactic(auto, unfolding(crate::specs::Forms::said_in))]
 fn read_said(alloc: Global, word: &str, words: &mut Words) -> Result<Line, LineFault>
-    ensures { IsReadAs (said_in word.now (option_copied words.old.left)) result }
+    ensures { IsValueRead (said_in word.now (option_copied words.old.left)) result }
 {
     match word {
         "devices" => read_devices(words).ok_or(LineFault::NoForm),

@@ -1,7 +1,7 @@
 //! Reading a script.
 ghost use Rattle.std.specs.Prelude.{◌≡◌, ◌+◌, ◌≤◌, IfOk, length};
 ghost use Rattle.world_scripts.specs.Courses.{said};
-ghost use Rattle.world_scripts.specs.Scripts.{Goes, IsOpened, Nexts};
+ghost use Rattle.world_scripts.specs.Scripts.{ReadsNextAction, IsScriptOpened, ReadsNextLine};
 
 use crate::cut::cut_line;
 use crate::fault::{LineFault, ScriptFault};
@@ -17,7 +17,7 @@ use std::alloc::Global;
 /// `Memory` for want of memory.
 pub fn open_script(alloc: Global, bytes: &[u8]) -> Result<Opened<'_>, ScriptFault>
     requires { length bytes.now ≤ MAX_SCRIPT }
-    ensures opened { IsOpened (said bytes.now) result }
+    ensures opened { IsScriptOpened (said bytes.now) result }
     ensures fewest { IfOk result (λ o. MIN_DEVICES ≤ o.devices) }
     ensures most { IfOk result (λ o. o.devices ≤ MAX_DEVICES) }
 {
@@ -44,7 +44,7 @@ impl<'a> Script<'a> {
     /// `BadLine` exactly where the next line that is not empty is bad by itself; each later call
     /// then answers the same. `Memory` for want of memory; the script is then as before.
     pub fn next_action(&mut self, alloc: Global) -> Result<Option<(u32, Action)>, ScriptFault>
-        ensures { Goes self.old result self.new }
+        ensures { ReadsNextAction self.old result self.new }
     {
         let Some((number, line, rest)) = next_line(self.number, self.rest) else {
             return Ok(None);
@@ -67,7 +67,7 @@ impl<'a> Script<'a> {
 // bytes has the number that is given.
 fn next_line(first: u32, bytes: &[u8]) -> Option<(u32, &[u8], &[u8])>
     requires { first + length bytes.now ≤ MAX_SCRIPT + 1 }
-    ensures { Nexts first bytes.now result }
+    ensures { ReadsNextLine first bytes.now result }
 {
     let mut number = first;
     let mut left = bytes;

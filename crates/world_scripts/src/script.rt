@@ -15,11 +15,11 @@ pub struct Script<'a> {
 
 impl<'a> Model for Script<'a> {
     ghost use Rattle.std.specs.Prelude.{◌+◌, ◌≤◌, length};
-    ghost use Rattle.world_scripts.specs.Courses.{Course, course};
+    ghost use Rattle.world_scripts.specs.Courses.{ScriptCourse, course};
     ghost use Rattle.world_scripts.specs.Cuts.{lines};
     ghost use Rattle.world_scripts.specs.declared.script.TheConstants.{MAX_SCRIPT};
 
-    ghost Value = { Course };
+    ghost Value = { ScriptCourse };
 
     ghost view = { λ s. course s.number (lines s.rest.now) };
 

@@ -2,7 +2,7 @@
 ghost use Rattle.std.specs.Prelude.{◌≡◌, MatchOption};
 ghost use Rattle.std.specs.List.{slice_split};
 ghost use Rattle.std.specs.Option.{option_copied};
-ghost use Rattle.world_scripts.specs.Answers.{IsReadAs, Reads};
+ghost use Rattle.world_scripts.specs.Answers.{IsValueRead, ReadsValue};
 ghost use Rattle.world_scripts.specs.Forms.{device_step_in, group_in, labels_in, link_in, post_in};
 ghost use Rattle.world_scripts.specs.Forms.{each_label, end_in, is_comma, place_in, post_with};
 ghost use Rattle.world_scripts.specs.Forms.{record_step_in, share_in, stop_in, world_step_in};
@@ -18,7 +18,7 @@ use sync_words::{Word, number};
 
 // The words of `group`.
 pub(crate) fn read_group(alloc: Global, words: &mut Words) -> Result<WorldStep, LineFault>
-    ensures { IsReadAs (group_in (option_copied words.old.left)) result }
+    ensures { IsValueRead (group_in (option_copied words.old.left)) result }
 {
     let Some((device, kind, descriptor)) = read_pair(words) else {
         return Err(LineFault::NoForm);
@@ -45,7 +45,7 @@ fn read_pair<'a>(words: &mut Words<'a>) -> Option<(u8, u8, &'a str)>
 // The labels of a post's parents: `-`, or numbers with commas between them.
 #[tactic(auto, unfolding(crate::specs::Forms::labels_in))]
 fn read_labels(alloc: Global, word: &str) -> Result<Labels, LineFault>
-    ensures { IsReadAs (labels_in word.now) result }
+    ensures { IsValueRead (labels_in word.now) result }
 {
     if word == "-" {
         return Ok(Labels::new(Vec::new(alloc)));
@@ -55,7 +55,7 @@ fn read_labels(alloc: Global, word: &str) -> Result<Labels, LineFault>
 
 // Labels with one comma between two.
 fn read_each(alloc: Global, word: &str) -> Result<Labels, LineFault>
-    ensures { IsReadAs (each_label (slice_split is_comma word.now)) result }
+    ensures { IsValueRead (each_label (slice_split is_comma word.now)) result }
 {
     let mut labels = Vec::new(alloc);
     let mut left = Some(word);
@@ -72,7 +72,7 @@ fn read_each(alloc: Global, word: &str) -> Result<Labels, LineFault>
 
 // The device, the group and the time of a post.
 fn read_place(words: &mut Words) -> Option<(u8, u64, u64)>
-    ensures { Reads place_in (option_copied words.old.left) result
+    ensures { ReadsValue place_in (option_copied words.old.left) result
         (option_copied words.new.left) }
 {
     let device = words.device()?;
@@ -83,7 +83,7 @@ fn read_place(words: &mut Words) -> Option<(u8, u64, u64)>
 
 // The words of `post`, and the text behind them.
 pub(crate) fn read_post(alloc: Global, words: &mut Words) -> Result<WorldStep, LineFault>
-    ensures { IsReadAs (post_in (option_copied words.old.left)) result }
+    ensures { IsValueRead (post_in (option_copied words.old.left)) result }
 {
     let Some(((device, group, time), parents, text)) = read_parts(words) else {
         return Err(LineFault::NoForm);
@@ -160,7 +160,7 @@ pub(crate) fn read_device_step(word: &str, words: &mut Words) -> Option<WorldSte
 // A link and the device at one of its ends.
 #[tactic(auto, unfolding(crate::specs::Forms::end_in))]
 fn read_end(words: &mut Words) -> Option<(u64, u8)>
-    ensures { Reads end_in (option_copied words.old.left) result
+    ensures { ReadsValue end_in (option_copied words.old.left) result
         (option_copied words.new.left) }
 {
     let link = words.number(0, u64::MAX)?;

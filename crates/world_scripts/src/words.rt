@@ -2,7 +2,7 @@
 ghost use Rattle.std.specs.Prelude.{◌≡◌, ◌≤◌, IfSome};
 ghost use Rattle.std.specs.Option.{option_copied};
 ghost use Rattle.sync_words.specs.Words.{level_in, mode_in, number_in};
-ghost use Rattle.world_scripts.specs.Answers.{Reads, ReadsText};
+ghost use Rattle.world_scripts.specs.Answers.{ReadsValue, ReadsLineText};
 ghost use Rattle.world_scripts.specs.Forms.{descriptor_in, device_in, kind_in};
 ghost use Rattle.world_scripts.specs.Forms.{number_between, over, pick_in, text_in, word_in};
 
@@ -22,7 +22,7 @@ pub(crate) struct Words<'a> {
 impl<'a> Words<'a> {
     #[tactic(auto, unfolding(crate::specs::Forms::word_in))]
     pub(crate) fn word(&mut self) -> Option<&'a str>
-        ensures { ReadsText (word_in Some) (option_copied self.old.left) result
+        ensures { ReadsLineText (word_in Some) (option_copied self.old.left) result
             (option_copied self.new.left) }
     {
         let text = self.left?;
@@ -32,7 +32,7 @@ impl<'a> Words<'a> {
     }
 
     pub(crate) fn number(&mut self, least: u64, most: u64) -> Option<u64>
-        ensures read { Reads (word_in (number_between least most)) (option_copied self.old.left)
+        ensures read { ReadsValue (word_in (number_between least most)) (option_copied self.old.left)
             result (option_copied self.new.left) }
         ensures most { IfSome result (λ n. n ≤ most) }
     {
@@ -41,42 +41,42 @@ impl<'a> Words<'a> {
     }
 
     pub(crate) fn device(&mut self) -> Option<u8>
-        ensures { Reads (word_in device_in) (option_copied self.old.left) result
+        ensures { ReadsValue (word_in device_in) (option_copied self.old.left) result
             (option_copied self.new.left) }
     {
         Some(self.number(0, MAX_DEVICE)? as u8)
     }
 
     pub(crate) fn level(&mut self) -> Option<Level>
-        ensures { Reads (word_in level_in) (option_copied self.old.left) result
+        ensures { ReadsValue (word_in level_in) (option_copied self.old.left) result
             (option_copied self.new.left) }
     {
         level(self.word()?)
     }
 
     pub(crate) fn mode(&mut self) -> Option<Mode>
-        ensures { Reads (word_in mode_in) (option_copied self.old.left) result
+        ensures { ReadsValue (word_in mode_in) (option_copied self.old.left) result
             (option_copied self.new.left) }
     {
         mode(self.word()?)
     }
 
     pub(crate) fn kind(&mut self) -> Option<u8>
-        ensures { Reads (word_in kind_in) (option_copied self.old.left) result
+        ensures { ReadsValue (word_in kind_in) (option_copied self.old.left) result
             (option_copied self.new.left) }
     {
         kind(self.word()?)
     }
 
     pub(crate) fn pick(&mut self) -> Option<Pick>
-        ensures { Reads (word_in pick_in) (option_copied self.old.left) result
+        ensures { ReadsValue (word_in pick_in) (option_copied self.old.left) result
             (option_copied self.new.left) }
     {
         pick(self.word()?)
     }
 
     pub(crate) fn descriptor(&mut self) -> Option<&'a str>
-        ensures { ReadsText (word_in descriptor_in) (option_copied self.old.left) result
+        ensures { ReadsLineText (word_in descriptor_in) (option_copied self.old.left) result
             (option_copied self.new.left) }
     {
         let word = self.word()?;

@@ -1,5 +1,5 @@
 use Rattle.std.proofs.Common.{◌≡◌, List, ℕ, [], ◌∷◌, ◌++◌, length, sym, ap, subst, ◌∙◌}
-use Rattle.entry_codec.specs.Laws.{IsRead}
+use Rattle.entry_codec.specs.Laws.{IsEntryRead}
 use Rattle.client_sharing.specs.Bodies.{whole_def}
 use Rattle.client_sharing.proofs.Spelled.{found_def}
 use Rattle.client_sharing.proofs.bodies.read_def.Goals as goal
@@ -13,4 +13,4 @@ returns c =
     c.as_slice.ensures.value ∙ c.in_ok-extend_from_slice.ensures.items ∙ ap (λ (l : List ℕ). l ++ bytes) tag in
     let len : c.len.result ≡ length (2 ∷ bytes) = c.len.ensures ∙ sym c.as_slice.ensures.len ∙ ap length items in
     c.whole_def.ensures ∙ ap (λ (n : ℕ). whole_def n found) len
-    ∙ found_def bytes found c.spellings_read_back.ensures (subst (λ (l : List ℕ). IsRead l found) items c.in_ok-found.ensures)
+    ∙ found_def bytes found c.spellings_read_back.ensures (subst (λ (l : List ℕ). IsEntryRead l found) items c.in_ok-found.ensures)

@@ -2,7 +2,7 @@ use Rattle.std.proofs.Common.{◌≡◌, inr, false}
 use Rattle.outside.specs.Files.{file_of}
 use Rattle.outside.specs.Frames.{is_open}
 use Rattle.outside.proofs.CallSteps.{becomes_told}
-use Rattle.frame_journal.specs.Create.{ShutsGate, Shortens, Clears, BeforeOrShut}
+use Rattle.frame_journal.specs.Create.{ShutsGate, CutsToFirstByte, ClearsFile, BeforeOrShut}
 use Rattle.frame_journal.proofs.ClearSteps.{on_ok_map, becomes_new, becomes_then, clears, passed_then}
 use Rattle.frame_journal.proofs.gates.clear.Goals as goal
 
@@ -17,7 +17,7 @@ returns-clause-cleared g c =
     let o2 = g.D.Disk.tells c.shorten.new.disk in
     let file = c.args.file in
     on_ok_map c.shorten.result _ _
-    (λ shortened. becomes_then (ShutsGate file) (Shortens file) (Clears file) o0.files o1.files o2.files (clears file) c.in_ok-shut_gate.ensures.shut shortened)
+    (λ shortened. becomes_then (ShutsGate file) (CutsToFirstByte file) (ClearsFile file) o0.files o1.files o2.files (clears file) c.in_ok-shut_gate.ensures.shut shortened)
     c.shorten.ensures.shortened
 
 pub returns-clause-any_moment : goal.returns-clause-any_moment

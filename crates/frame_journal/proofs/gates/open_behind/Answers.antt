@@ -1,7 +1,7 @@
 use Rattle.std.proofs.Common.{◌-◌}
 use Rattle.outside.specs.Files.{file_of}
 use Rattle.outside.proofs.CallSteps.{becomes_told}
-use Rattle.frame_journal.specs.Append.{Opens, Gated}
+use Rattle.frame_journal.specs.Append.{WritesAndOpensGate, Gated}
 use Rattle.frame_journal.specs.Gates.{WritesBehind, OpensGate, KeepsFront, KeepsAllBut}
 use Rattle.frame_journal.proofs.BehindSteps.{behind_fits, other_after}
 use Rattle.frame_journal.proofs.AppendSteps.{gated_behind, gated_after, opens_both, passed_map}
@@ -28,7 +28,7 @@ returns-clause-opened g c =
     let end = c.args.end in
     let bytes = c.args.bytes.now in
     on_ok_map c.open_gate.result _ _
-    (λ opened. becomes_then (WritesBehind file end bytes) (OpensGate file end) (Opens file end bytes) o0.files o1.files o2.files (opens_both file end bytes) c.in_ok-write_behind.ensures.written opened)
+    (λ opened. becomes_then (WritesBehind file end bytes) (OpensGate file end) (WritesAndOpensGate file end bytes) o0.files o1.files o2.files (opens_both file end bytes) c.in_ok-write_behind.ensures.written opened)
     c.open_gate.ensures.opened
 
 pub returns-clause-any_moment : goal.returns-clause-any_moment

@@ -1,9 +1,9 @@
 use Rattle.std.proofs.Common.{◌≡◌, false, subst, List, ℕ}
 use Rattle.outside.specs.Files.{Two, File, file_of}
-use Rattle.outside.specs.Disk.{Becomes}
+use Rattle.outside.specs.Disk.{RelatesTold}
 use Rattle.outside.specs.Frames.{is_open}
 use Rattle.frame_journal.specs.Gates.{WritesBehind, KeepsFront}
-use Rattle.frame_journal.specs.Create.{Prepares, behind_gate}
+use Rattle.frame_journal.specs.Create.{PreparesJournal, behind_gate}
 use Rattle.frame_journal.proofs.AppendSteps.{passed_map, becomes_map}
 use Rattle.frame_journal.proofs.ClearSteps.{on_ok_map}
 use Rattle.frame_journal.proofs.CreateSteps.{cleared_fits, writes_prepares, kept_shut}
@@ -17,9 +17,9 @@ returns-clause-prepared g c =
     let o = g.D.Disk.tells c.args.disk.now in
     let o' = g.D.Disk.tells c.write_behind.new.disk in
     let file = c.args.file in
-    let P : List ℕ → Type 0 = λ l. Becomes (WritesBehind file 1 l) o.files o'.files in
+    let P : List ℕ → Type 0 = λ l. RelatesTold (WritesBehind file 1 l) o.files o'.files in
     on_ok_map c.write_behind.result _ _
-    (λ written. becomes_map (WritesBehind file 1 (behind_gate c.args.format c.args.generation)) (Prepares file c.args.format c.args.generation) o.files o'.files
+    (λ written. becomes_map (WritesBehind file 1 (behind_gate c.args.format c.args.generation)) (PreparesJournal file c.args.format c.args.generation) o.files o'.files
     (λ (two two' : Two File) told. writes_prepares file c.args.format c.args.generation two two' (c.requires.cleared two told)) (subst P c.behind_gate-bytes.ensures written))
     c.write_behind.ensures.written
 

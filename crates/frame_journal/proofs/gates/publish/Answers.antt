@@ -1,6 +1,6 @@
 use Rattle.outside.specs.Files.{Two, File, file_of}
 use Rattle.frame_journal.specs.Gates.{OpensGate, KeepsAllBut}
-use Rattle.frame_journal.specs.Create.{Publishes, ShutOrOpened}
+use Rattle.frame_journal.specs.Create.{PublishesHeader, ShutOrOpened}
 use Rattle.frame_journal.proofs.AppendSteps.{passed_map, becomes_map}
 use Rattle.frame_journal.proofs.ClearSteps.{on_ok_map}
 use Rattle.frame_journal.proofs.Prepared.{prepared_fits, opens_publishes, gate_opened}
@@ -15,7 +15,7 @@ returns-clause-published g c =
     let o' = g.D.Disk.tells c.open_gate.new.disk in
     let file = c.args.file in
     on_ok_map c.open_gate.result _ _
-    (λ opened. becomes_map (OpensGate file 1) (Publishes file) o.files o'.files
+    (λ opened. becomes_map (OpensGate file 1) (PublishesHeader file) o.files o'.files
     (λ (two two' : Two File) told. opens_publishes file two two' (c.requires.prepared two told)) opened)
     c.open_gate.ensures.opened
 

@@ -2,14 +2,14 @@ use Rattle.std.proofs.Common.{Result, sym, ap, subst, ◌∙◌}
 use Rattle.outside.specs.Files.{file_of, read_files}
 use Rattle.journal_audit.specs.declared.fault.AuditFault.{AuditFault}
 use Rattle.journal_audit.specs.declared.files.Taken.{Taken}
-use Rattle.journal_audit.specs.Answers.{IsTaken}
+use Rattle.journal_audit.specs.Answers.{IsFileTaken}
 use Rattle.journal_audit.proofs.Audits.{as_read, err_is, taken_fault, taken_file, taken_other}
 use Rattle.journal_audit.proofs.files.take_file.Goals as goal
 
 pub returns-in_err-file-clause-taken : goal.returns-in_err-file-clause-taken
 returns-in_err-file-clause-taken g c two told clients =
     let e = c.in_err-file.field-0.0 in
-    subst (λ (r : Result Taken AuditFault). IsTaken clients (read_files two) r) (sym (err_is c.from_residual.result e c.from_residual.ensures.1))
+    subst (λ (r : Result Taken AuditFault). IsFileTaken clients (read_files two) r) (sym (err_is c.from_residual.result e c.from_residual.ensures.1))
     (taken_fault clients (read_files two) e (c.in_err-file.ensures.found two told))
 
 pub returns-in_default-clause-taken : goal.returns-in_default-clause-taken

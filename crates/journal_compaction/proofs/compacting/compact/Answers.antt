@@ -1,8 +1,8 @@
 use Rattle.std.proofs.Common.{ℕ, ◌+◌, ◌-◌, ◌^◌, ◌<◌, ◌≤◌, ap, subst, ◌∙◌, arith}
-use Rattle.outside.specs.Disk.{Becomes}
+use Rattle.outside.specs.Disk.{RelatesTold}
 use Rattle.outside.specs.Files.{file_of}
-use Rattle.outside.specs.Steps.{Passed}
-use Rattle.frame_journal.specs.Create.{Publishes, ShutOrOpened}
+use Rattle.outside.specs.Steps.{PassedMoments}
+use Rattle.frame_journal.specs.Create.{PublishesHeader, ShutOrOpened}
 use Rattle.frame_journal.specs.Journal.{JournalValue}
 use Rattle.journal_state.specs.Telling.{told_entries}
 use Rattle.journal_migration.specs.declared.fault.MigrationFault.TheVariants as migration
@@ -195,7 +195,7 @@ returns-in_err-publish-clause-compacts g c j two told same holds =
     plan c.in_ok-write_plan.ensures.within room begun
     c.in_ok-write_plan.ensures.adding c.in_ok-write_plan.ensures.works c.in_ok-write_plan.ensures.shut
     c.write_plan.ensures.run
-    (λ t at. subst (λ (k : ℕ). Passed t o2 o3 k (ShutOrOpened (file_of t k).now)) c.file.ensures.value
+    (λ t at. subst (λ (k : ℕ). PassedMoments t o2 o3 k (ShutOrOpened (file_of t k).now)) c.file.ensures.value
     (c.publish.ensures.any_moment t at)) c.from_residual-in_err-publish.result
     (err_is c.from_residual-in_err-publish.result fault.DiskFault c.from_residual-in_err-publish.ensures.1)
 
@@ -255,6 +255,6 @@ returns-clause-compacts g c j two told same holds =
     c.in_ok-write_plan.ensures.within room begun
     c.in_ok-write_plan.ensures.adding c.in_ok-write_plan.ensures.works c.in_ok-write_plan.ensures.shut
     c.write_plan.ensures.run
-    (λ t at. subst (λ (k : ℕ). Passed t o2 o3 k (ShutOrOpened (file_of t k).now)) c.file.ensures.value
+    (λ t at. subst (λ (k : ℕ). PassedMoments t o2 o3 k (ShutOrOpened (file_of t k).now)) c.file.ensures.value
     (c.publish.ensures.any_moment t at))
-    (subst (λ (k : ℕ). Becomes (Publishes k) o2.files o3.files) c.file.ensures.value c.in_ok-publish.ensures.published)
+    (subst (λ (k : ℕ). RelatesTold (PublishesHeader k) o2.files o3.files) c.file.ensures.value c.in_ok-publish.ensures.published)

@@ -7,7 +7,7 @@ use Rattle.journal_compaction.specs.declared.items.Item.{Item}
 use Rattle.journal_compaction.specs.declared.items.Item.TheVariants as item
 use Rattle.journal_compaction.specs.Items.{entry_of}
 use Rattle.journal_compaction.specs.Paging.{closed_page, pages}
-use Rattle.journal_compaction.specs.Writing.{Adding, Written}
+use Rattle.journal_compaction.specs.Writing.{WritesPayloads, Written}
 use Rattle.journal_compaction.proofs.Pages.{all_more, written_all, written_more, written_none}
 use Rattle.journal_compaction.proofs.Working.{idle_works, shut_none, shut_then}
 use Rattle.journal_compaction.proofs.writing.write_items.Goals as goal
@@ -70,7 +70,7 @@ returns-clause-adding g c =
     let o1 = (g.D.Disk.tells c.items.disk).files in
     let o2 = (g.D.Disk.tells c.flush.new.disk).files in
     let none : drop c.items.item-index items ≡ [] = drop_all c.items.item-index items c.items-test.false in
-    on_ok_map c.flush.result (Adding n1 n2 (closed_page page) o1 o2) (Adding n0 n2 (pages f most 0 [] items) o0 o2)
+    on_ok_map c.flush.result (WritesPayloads n1 n2 (closed_page page) o1 o2) (WritesPayloads n0 n2 (pages f most 0 [] items) o0 o2)
     (λ adding. written_all f most items (drop c.items.item-index items) c.items.left page n0 n1 o0 o1 none
     c.items.invariant.written n2 o2 adding)
     c.flush.ensures.adding

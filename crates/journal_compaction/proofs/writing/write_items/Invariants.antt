@@ -4,7 +4,7 @@ use Rattle.std.specs.Option.{ForSome}
 use Rattle.outside.specs.Outside.{DiskRun}
 use Rattle.entry_codec.specs.Spelling.{IsEntry}
 use Rattle.journal_compaction.specs.Items.{entry_of}
-use Rattle.journal_compaction.specs.Writing.{HasSpace, StaysShut, Works, Written}
+use Rattle.journal_compaction.specs.Writing.{HasSpace, StaysShut, IsWriterShut, Written}
 use Rattle.journal_compaction.proofs.writing.write_items.Given as goal
 
 -- the items so far are written, or are in the payload that is being filled
@@ -15,7 +15,7 @@ invariant-items g l = record {
   written : Written l.state.facts l.most l.items (drop l.item-index l.items) l.left l.page.payload.items l.fn.writer
       l.writer
       (g.D.Disk.tells l.fn.disk).files (g.D.Disk.tells l.disk).files;
-  works : ForSome (g.D.Disk.tells l.disk).files (Works l.writer);
+  works : ForSome (g.D.Disk.tells l.disk).files (IsWriterShut l.writer);
   shut : StaysShut l.fn.writer.file (g.D.Disk.tells l.fn.disk) (g.D.Disk.tells l.disk);
   run : DiskRun (g.D.Disk.tells l.fn.disk) (g.D.Disk.tells l.disk);
 }

@@ -4,7 +4,7 @@ use Rattle.frame_journal.proofs.ClearSteps.{on_ok_map}
 use Rattle.journal_compaction.specs.declared.items.Item.{Item}
 use Rattle.journal_compaction.specs.Paging.{pages}
 use Rattle.journal_compaction.specs.Planning.{plan_pages}
-use Rattle.journal_compaction.specs.Writing.{Adding}
+use Rattle.journal_compaction.specs.Writing.{WritesPayloads}
 use Rattle.journal_compaction.proofs.Working.{adding_then}
 use Rattle.journal_compaction.proofs.writing.write_plan.Goals as goal
 
@@ -20,17 +20,17 @@ returns-clause-adding g c =
     let o1 = (g.D.Disk.tells c.write_items.new.disk).files in
     let o2 = (g.D.Disk.tells c.write_items-2.new.disk).files in
     let o3 = (g.D.Disk.tells c.write_items-3.new.disk).files in
-    let head : Adding n0 n1 (pages f MAX_STEPS 0 [] p.head.items) o0 o1 =
-    subst (λ (l : List Item). Adding n0 n1 (pages f MAX_STEPS 0 [] l) o0 o1) c.as_slice.ensures.value
+    let head : WritesPayloads n0 n1 (pages f MAX_STEPS 0 [] p.head.items) o0 o1 =
+    subst (λ (l : List Item). WritesPayloads n0 n1 (pages f MAX_STEPS 0 [] l) o0 o1) c.as_slice.ensures.value
     c.in_ok-write_items.ensures.adding in
-    let told : Adding n1 n2 (pages f MAX_STEPS 0 [] p.told.items) o1 o2 =
-    subst (λ (l : List Item). Adding n1 n2 (pages f MAX_STEPS 0 [] l) o1 o2) c.as_slice-2.ensures.value
+    let told : WritesPayloads n1 n2 (pages f MAX_STEPS 0 [] p.told.items) o1 o2 =
+    subst (λ (l : List Item). WritesPayloads n1 n2 (pages f MAX_STEPS 0 [] l) o1 o2) c.as_slice-2.ensures.value
     c.in_ok-write_items-2.ensures.adding in
-    on_ok_map c.write_items-3.result (Adding n2 n3 (pages f MAX_ROWS 0 [] c.as_slice-3.result.now) o2 o3)
-    (Adding n0 n3 (plan_pages f p) o0 o3)
+    on_ok_map c.write_items-3.result (WritesPayloads n2 n3 (pages f MAX_ROWS 0 [] c.as_slice-3.result.now) o2 o3)
+    (WritesPayloads n0 n3 (plan_pages f p) o0 o3)
     (λ adding.
-    let peers : Adding n2 n3 (pages f MAX_ROWS 0 [] p.peers.items) o2 o3 =
-    subst (λ (l : List Item). Adding n2 n3 (pages f MAX_ROWS 0 [] l) o2 o3) c.as_slice-3.ensures.value adding in
+    let peers : WritesPayloads n2 n3 (pages f MAX_ROWS 0 [] p.peers.items) o2 o3 =
+    subst (λ (l : List Item). WritesPayloads n2 n3 (pages f MAX_ROWS 0 [] l) o2 o3) c.as_slice-3.ensures.value adding in
     adding_then n0 n1 n3 (pages f MAX_STEPS 0 [] p.head.items)
     (pages f MAX_STEPS 0 [] p.told.items ++ pages f MAX_ROWS 0 [] p.peers.items) o0 o1 o3 head
     (adding_then n1 n2 n3 (pages f MAX_STEPS 0 [] p.told.items) (pages f MAX_ROWS 0 [] p.peers.items) o1 o2 o3 told

@@ -1,5 +1,5 @@
 use Rattle.std.proofs.Common.{ℕ, Option, Result, Ok, Err, subst}
-use Rattle.outside.specs.Disk.{Becomes}
+use Rattle.outside.specs.Disk.{RelatesTold}
 use Rattle.outside.proofs.CallSteps.{run_none, run_then}
 use Rattle.journal_migration.specs.Copying.{CopiesNext}
 use Rattle.journal_migration.specs.Migrating.{KeepsFile, ReadsOnly}
@@ -44,7 +44,7 @@ frames-preserved g c = record {
       (g.D.Disk.tells c.frames.disk) (g.D.Disk.tells c.copy_next.new.disk) (Ok o)) c.in-Some.is (c.in_ok-brought.ensures.copies clients generation j mid at here));
   own =
       own_then c.args.reader.now.file (g.D.Disk.tells c.args.disk.now).files (g.D.Disk.tells c.frames.disk).files (g.D.Disk.tells c.copy_next.new.disk).files c.frames.invariant.own
-      (subst (λ (k : ℕ). Becomes (KeepsFile k) (g.D.Disk.tells c.frames.disk).files (g.D.Disk.tells c.copy_next.new.disk).files) c.frames.invariant.same.reader_file c.in_ok-brought.ensures.own);
+      (subst (λ (k : ℕ). RelatesTold (KeepsFile k) (g.D.Disk.tells c.frames.disk).files (g.D.Disk.tells c.copy_next.new.disk).files) c.frames.invariant.same.reader_file c.in_ok-brought.ensures.own);
   run =
       run_then (g.D.Disk.tells c.args.disk.now) (g.D.Disk.tells c.frames.disk) (g.D.Disk.tells c.copy_next.new.disk) c.frames.invariant.run c.in_ok-brought.ensures.run;
 }
@@ -72,4 +72,4 @@ returns-in-None-clause-own g c =
     let o1 = (g.D.Disk.tells c.frames.disk).files in
     let o2 = (g.D.Disk.tells c.copy_next.new.disk).files in
     own_then c.args.reader.now.file (g.D.Disk.tells c.args.disk.now).files o1 o2 c.frames.invariant.own
-    (subst (λ (k : ℕ). Becomes (KeepsFile k) o1 o2) c.frames.invariant.same.reader_file c.in_ok-brought.ensures.own)
+    (subst (λ (k : ℕ). RelatesTold (KeepsFile k) o1 o2) c.frames.invariant.same.reader_file c.in_ok-brought.ensures.own)

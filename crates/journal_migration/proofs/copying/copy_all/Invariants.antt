@@ -1,24 +1,24 @@
 use Rattle.std.proofs.Common.{◌≡◌, ◌-◌, ℕ, List, Some}
 use Rattle.std.specs.Option.{ForSome}
-use Rattle.outside.specs.Disk.{Becomes}
+use Rattle.outside.specs.Disk.{RelatesTold}
 use Rattle.outside.specs.Files.{Two, File}
 use Rattle.outside.specs.Outside.{DiskRun}
 use Rattle.sync_rules.specs.declared.entries.Entry.{Entry}
 use Rattle.sync_rules.specs.Clients.{Meaning}
-use Rattle.journal_migration.specs.Copying.{Copies, IsPair, IsSamePair, Works}
-use Rattle.journal_migration.specs.Migrating.{Keeps, KeepsFile}
+use Rattle.journal_migration.specs.Copying.{CopiesBatches, IsPair, IsSamePair, AreBothShut}
+use Rattle.journal_migration.specs.Migrating.{KeepsJournal, KeepsFile}
 use Rattle.journal_migration.proofs.copying.copy_all.Given as goal
 
 -- the frames so far are copied
 abbrev pub invariant-frames : goal.invariant-frames
 invariant-frames g l = record {
   pair : IsPair l.reader l.writer;
-  works : ForSome (g.D.Disk.tells l.disk).files (Works l.reader l.writer);
+  works : ForSome (g.D.Disk.tells l.disk).files (AreBothShut l.reader l.writer);
   same : IsSamePair l.fn.reader l.reader l.fn.writer l.writer;
   copies : (clients : Meaning) (generation : ℕ) (j : List (List Entry)) (two : Two File) → (g.D.Disk.tells l.fn.disk).files ≡ Some two
-      → Copies clients l.state.facts generation j l.fn.reader l.fn.writer 0 two
-      → Keeps clients j (Copies clients l.state.facts generation j l.reader l.writer l.count) (g.D.Disk.tells l.fn.disk) (g.D.Disk.tells l.disk);
-  own : Becomes (KeepsFile l.fn.reader.file) (g.D.Disk.tells l.fn.disk).files (g.D.Disk.tells l.disk).files;
+      → CopiesBatches clients l.state.facts generation j l.fn.reader l.fn.writer 0 two
+      → KeepsJournal clients j (CopiesBatches clients l.state.facts generation j l.reader l.writer l.count) (g.D.Disk.tells l.fn.disk) (g.D.Disk.tells l.disk);
+  own : RelatesTold (KeepsFile l.fn.reader.file) (g.D.Disk.tells l.fn.disk).files (g.D.Disk.tells l.disk).files;
   run : DiskRun (g.D.Disk.tells l.fn.disk) (g.D.Disk.tells l.disk);
 }
 

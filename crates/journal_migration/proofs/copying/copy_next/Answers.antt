@@ -1,6 +1,6 @@
 use Rattle.std.proofs.Common.{ℕ, List, take, sym, ap, subst}
 use Rattle.outside.specs.Files.{file_of}
-use Rattle.frame_journal.specs.Append.{Appends}
+use Rattle.frame_journal.specs.Append.{AppendsFrame}
 use Rattle.frame_journal.specs.Journal.{JournalValue}
 use Rattle.entry_codec.specs.Payloads.{names_of}
 use Rattle.journal_migration.specs.Copying.{IsRespelled}
@@ -107,4 +107,4 @@ returns-clause-own g c =
     let file = c.args.reader.now.file in
     let n = c.args.writer.now in
     own_then file o.files o1.files o2.files (own_looks file o o1 c.next_frame.ensures.looks)
-    (own_step (Appends n.file n.end c.as_slice-2.result.now) file n.file o1.files o2.files c.requires.pair.reads c.requires.pair.writes (λ a b x. x.other) c.in_ok-append.ensures.appended)
+    (own_step (AppendsFrame n.file n.end c.as_slice-2.result.now) file n.file o1.files o2.files c.requires.pair.reads c.requires.pair.writes (λ a b x. x.other) c.in_ok-append.ensures.appended)

@@ -1,12 +1,12 @@
 use Rattle.std.proofs.Common.{◌≡◌, ℕ, ◌+◌, ◌-◌, Result, Err, sym, ap, subst, ◌∙◌, arith}
 use Rattle.outside.specs.Files.{file_of}
-use Rattle.outside.specs.Disk.{Becomes}
-use Rattle.outside.specs.Steps.{Passed}
+use Rattle.outside.specs.Disk.{RelatesTold}
+use Rattle.outside.specs.Steps.{PassedMoments}
 use Rattle.outside.proofs.CallSteps.{run_then}
 use Rattle.frame_journal.specs.Journal.{JournalValue}
-use Rattle.frame_journal.specs.Create.{IsPrepared, Publishes, ShutOrOpened}
+use Rattle.frame_journal.specs.Create.{IsPrepared, PublishesHeader, ShutOrOpened}
 use Rattle.journal_migration.specs.Faults.{fault_of_start}
-use Rattle.journal_migration.specs.Migrating.{KeepsFile, Migrates, MigratesSo, ReadsOnly}
+use Rattle.journal_migration.specs.Migrating.{KeepsFile, MigratesJournal, FilesHoldMigrated, ReadsOnly}
 use Rattle.journal_migration.specs.declared.fault.MigrationFault.{MigrationFault}
 use Rattle.journal_migration.specs.declared.fault.MigrationFault.TheVariants as fault
 use Rattle.journal_migration.proofs.Begun.{begun_copies, begun_so}
@@ -28,9 +28,9 @@ returns-in_err-writer-clause-migrates g c clients j two told same holds =
     let o2 = g.D.Disk.tells c.begin.new.disk in
     let r = c.in_ok-reader.reader in
     let result = c.from_residual-in_err-writer.result in
-    subst (λ (x : Result JournalValue MigrationFault). Migrates clients c.args.file c.args.generation j o0 o2 x) (sym (err_is result fault.DiskFault c.from_residual-in_err-writer.ensures.1))
+    subst (λ (x : Result JournalValue MigrationFault). MigratesJournal clients c.args.file c.args.generation j o0 o2 x) (sym (err_is result fault.DiskFault c.from_residual-in_err-writer.ensures.1))
     (begun_so clients c.args.state.now.facts c.args.generation j c.args.file r r o0 (g.D.Disk.tells c.start.new.disk) o2 two told c.requires.file holds c.start.ensures.looks c.begin.ensures.moments
-    (MigratesSo clients c.args.file c.args.generation j (Err fault.DiskFault)) (λ t end. tt))
+    (FilesHoldMigrated clients c.args.file c.args.generation j (Err fault.DiskFault)) (λ t end. tt))
 
 pub copy_all-requires-clause-works : goal.copy_all-requires-clause-works
 copy_all-requires-clause-works g c =
@@ -98,7 +98,7 @@ returns-in_err-publish-clause-migrates g c clients j two told same holds =
     let result = c.from_residual-in_err-publish.result in
     open_failed clients f generation j file r n c.copy_all.new.reader n' o0 o2 o3 two told run reader begun c.cite_laws.ensures o4 (run_then o0 o2 o3 run c.copy_all.ensures.run)
     c.in_ok-copy_all.ensures.pair (omega (arith, c.requires.generation)) (λ mid at copies. c.in_ok-copy_all.ensures.copies clients generation j mid at copies)
-    (λ t at. subst (λ (k : ℕ). Passed t o3 o4 k (ShutOrOpened (file_of t k).now)) c.file-2.ensures.value (c.publish.ensures.any_moment t at)) result
+    (λ t at. subst (λ (k : ℕ). PassedMoments t o3 o4 k (ShutOrOpened (file_of t k).now)) c.file-2.ensures.value (c.publish.ensures.any_moment t at)) result
     (err_is result fault.DiskFault c.from_residual-in_err-publish.ensures.1)
 
 pub returns-clause-migrates : goal.returns-clause-migrates
@@ -120,8 +120,8 @@ returns-clause-migrates g c clients j two told same holds =
     c.in_ok-writer.ensures.value c.in_ok-writer.ensures.prepared in
     opened_so clients f generation j file r n c.copy_all.new.reader n' o0 o2 o3 two told run reader begun c.cite_laws.ensures o4 (run_then o0 o2 o3 run c.copy_all.ensures.run)
     c.in_ok-copy_all.ensures.pair (omega (arith, c.requires.generation)) (λ mid at copies. c.in_ok-copy_all.ensures.copies clients generation j mid at copies)
-    (λ t at. subst (λ (k : ℕ). Passed t o3 o4 k (ShutOrOpened (file_of t k).now)) c.file-2.ensures.value (c.publish.ensures.any_moment t at))
-    (subst (λ (k : ℕ). Becomes (Publishes k) o3.files o4.files) c.file-2.ensures.value c.in_ok-publish.ensures.published)
+    (λ t at. subst (λ (k : ℕ). PassedMoments t o3 o4 k (ShutOrOpened (file_of t k).now)) c.file-2.ensures.value (c.publish.ensures.any_moment t at))
+    (subst (λ (k : ℕ). RelatesTold (PublishesHeader k) o3.files o4.files) c.file-2.ensures.value c.in_ok-publish.ensures.published)
     (c.in_ok-copy_all.ensures.same.writer_generation ∙ ap (λ (v : JournalValue). v.generation) c.in_ok-writer.ensures.value)
 
 pub returns-in_err-reader-clause-own : goal.returns-in_err-reader-clause-own
@@ -164,7 +164,7 @@ returns-then-end-clause-own g c =
     let o3 = g.D.Disk.tells c.copy_all.new.disk in
     let reader : r.file ≡ file = sym c.file.ensures.value ∙ c.if-file.false in
     own_then file o0.files o2.files o3.files (own_begun file (c.args.generation + 1) o0 o1 o2 c.requires.file c.start.ensures.looks c.in_ok-writer.ensures.prepared)
-    (subst (λ (k : ℕ). Becomes (KeepsFile k) o2.files o3.files) reader c.in_ok-copy_all.ensures.own)
+    (subst (λ (k : ℕ). RelatesTold (KeepsFile k) o2.files o3.files) reader c.in_ok-copy_all.ensures.own)
 
 pub returns-in_err-publish-clause-own : goal.returns-in_err-publish-clause-own
 returns-in_err-publish-clause-own g c =
@@ -186,6 +186,6 @@ returns-clause-own g c =
     let writes : n'.file ≡ 1 - file = c.in_ok-copy_all.ensures.same.writer_file ∙ ap (λ (v : JournalValue). v.file) c.in_ok-writer.ensures.value in
     own_then file o0.files o3.files o4.files
     (own_then file o0.files o2.files o3.files (own_begun file (c.args.generation + 1) o0 o1 o2 c.requires.file c.start.ensures.looks c.in_ok-writer.ensures.prepared)
-    (subst (λ (k : ℕ). Becomes (KeepsFile k) o2.files o3.files) reader c.in_ok-copy_all.ensures.own))
-    (own_step (Publishes n'.file) file n'.file o3.files o4.files c.requires.file writes (λ a b x. x.other)
-    (subst (λ (k : ℕ). Becomes (Publishes k) o3.files o4.files) c.file-2.ensures.value c.in_ok-publish.ensures.published))
+    (subst (λ (k : ℕ). RelatesTold (KeepsFile k) o2.files o3.files) reader c.in_ok-copy_all.ensures.own))
+    (own_step (PublishesHeader n'.file) file n'.file o3.files o4.files c.requires.file writes (λ a b x. x.other)
+    (subst (λ (k : ℕ). RelatesTold (PublishesHeader k) o3.files o4.files) c.file-2.ensures.value c.in_ok-publish.ensures.published))

@@ -1,6 +1,6 @@
 use Rattle.std.proofs.Common.{◌≤◌, ◌∙◌, ap, arith}
 use Rattle.sync_rules.specs.Facts.{takes_of}
-use Rattle.mailbox_core.specs.Steps.{HasReadAll, left_of, next_on}
+use Rattle.mailbox_core.specs.Steps.{HasReadRest, left_of, next_on}
 use Rattle.mailbox_core.proofs.Committed.{on_error}
 use Rattle.mailbox_core.proofs.ReadSteps.{way_begins, way_ends, way_goes_on, way_stops, way_within}
 use Rattle.mailbox_core.proofs.reading.take_all.Goals as goal
@@ -61,7 +61,7 @@ returns-in_err-ending-clause-read g c =
     let clients = g.C.Clients.meaning c.args.clients.now in
     let o = g.D.Disk.tells c.args.disk.now in
     on_error c.from_residual.result c.in_err-ending.field-0.0
-    (λ r. HasReadAll clients c.args.session.now.number c.args.store.now c.take_next.new.store
+    (λ r. HasReadRest clients c.args.session.now.number c.args.store.now c.take_next.new.store
     (left_of c.args.reader.now c.args.piece.now) r o (g.D.Disk.tells c.take_next.new.disk))
     c.from_residual.ensures.1
     (way_stops clients c.args.session.now.number c.args.store.now c.items.store

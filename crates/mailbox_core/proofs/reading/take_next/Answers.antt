@@ -1,7 +1,7 @@
 use Rattle.std.proofs.Common.{[], ap, sym, ◌∙◌}
 use Rattle.sync_store.specs.declared.fault.StoreFault.TheVariants as fault
 use Rattle.mailbox_core.specs.Files.{ends_as}
-use Rattle.mailbox_core.specs.Steps.{HasRead, left_of}
+use Rattle.mailbox_core.specs.Steps.{HasReadItem, left_of}
 use Rattle.mailbox_core.proofs.Committed.{on_error}
 use Rattle.mailbox_core.proofs.Lefts.{left_ended, left_one, left_skipped}
 use Rattle.mailbox_core.proofs.ReadSteps.{read_end, read_last, read_one, read_past, read_starved}
@@ -15,7 +15,7 @@ returns-in_err-place-clause-read g c =
     let left = left_of c.args.reader.now c.args.piece.now in
     let left' = left_of c.next_in.new.self c.next_in.new.piece in
     on_error c.from_residual.result fault.Memory
-    (λ r. HasRead clients c.args.session.now.number s s left left' r o o) c.from_residual.ensures.1
+    (λ r. HasReadItem clients c.args.session.now.number s s left left' r o o) c.from_residual.ensures.1
     (read_starved c.images_stand.ensures clients c.args.session.now s left left' o c.requires.able)
 
 pub returns-then-foreign-clause-read : goal.returns-then-foreign-clause-read

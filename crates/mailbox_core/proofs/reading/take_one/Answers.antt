@@ -1,7 +1,7 @@
 use Rattle.std.proofs.Common.{◌∙◌, ap}
 use Rattle.sync_rules.specs.Facts.{takes_of}
 use Rattle.sync_store.specs.declared.fault.StoreFault.TheVariants as fault
-use Rattle.mailbox_core.specs.Steps.{HasTaken}
+use Rattle.mailbox_core.specs.Steps.{HasTakenRecord}
 use Rattle.mailbox_core.proofs.Committed.{on_error}
 use Rattle.mailbox_core.proofs.Taken.{able_taken, has_taken, take_may, taken_starved}
 use Rattle.mailbox_core.proofs.reading.take_one.Goals as goal
@@ -12,7 +12,7 @@ returns-in_err-batch-clause-taken g c =
     let s = c.args.store.now in
     let o = g.D.Disk.tells c.args.disk.now in
     on_error c.from_residual.result fault.Memory
-    (λ r. HasTaken clients c.args.session.now.number c.args.rec s s r o o) c.from_residual.ensures.1
+    (λ r. HasTakenRecord clients c.args.session.now.number c.args.rec s s r o o) c.from_residual.ensures.1
     (taken_starved c.images_stand.ensures clients c.args.session.now c.args.rec s o c.requires.able)
 
 pub returns-clause-taken : goal.returns-clause-taken

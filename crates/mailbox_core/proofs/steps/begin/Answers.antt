@@ -3,7 +3,7 @@ use Rattle.std.proofs.lemmas.Bool.{false≢true}
 use Rattle.sync_rules.specs.Facts.{session_at}
 use Rattle.sync_store.specs.declared.fault.StoreFault.TheVariants as fault
 use Rattle.mailbox_core.specs.Sending.{batch_session}
-use Rattle.mailbox_core.specs.Steps.{HasBegun}
+use Rattle.mailbox_core.specs.Steps.{HasBegunSession}
 use Rattle.mailbox_core.specs.Taking.{first_batch}
 use Rattle.mailbox_core.proofs.BeginSteps.{begun_found, begun_starved, of_its_batch}
 use Rattle.mailbox_core.proofs.Committed.{on_error}
@@ -15,7 +15,7 @@ returns-in_err-batch-clause-begun g c =
     let s = c.args.store.now in
     let o = g.D.Disk.tells c.args.disk.now in
     on_error c.from_residual.result fault.Memory
-    (λ r. HasBegun clients c.args.contact c.args.latency s s r o o) c.from_residual.ensures.1
+    (λ r. HasBegunSession clients c.args.contact c.args.latency s s r o o) c.from_residual.ensures.1
     (begun_starved c.images_stand.ensures clients c.args.contact c.args.latency s o
     c.requires.is_store c.requires.ready.still_open)
 

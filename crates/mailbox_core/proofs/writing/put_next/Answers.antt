@@ -1,6 +1,6 @@
 use Rattle.std.proofs.Common.{◌∙◌, ap, sym, subst}
 use Rattle.journal_state.specs.Allowing.{due_of}
-use Rattle.journal_state.specs.Whole.{Knows, StateValue}
+use Rattle.journal_state.specs.Whole.{KnowsJudgements, StateValue}
 use Rattle.sync_rules.specs.Facts.{session_at}
 use Rattle.sync_store.specs.declared.fault.StoreFault.TheVariants as fault
 use Rattle.mailbox_core.specs.Steps.{HasPut}
@@ -28,7 +28,7 @@ returns-in_default-clause-put g c =
     (g.D.Disk.tells c.args.disk.now) c.requires.able c.args.to.now.items
     (sym c.in_default.is
     ∙ (c.in_ok-out.ensures.due clients
-    (subst (Knows clients) (sym c.state.ensures) c.requires.able.ready.knows)
+    (subst (KnowsJudgements clients) (sym c.state.ensures) c.requires.able.ready.knows)
     ∙ ap (λ (t : StateValue). due_of clients t.facts (session_at t.facts.sessions n) c.args.now)
     c.state.ensures))
 

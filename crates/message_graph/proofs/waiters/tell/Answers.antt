@@ -4,7 +4,7 @@ use Rattle.std.proofs.lemmas.Option.{get_or_from_slice_get}
 use Rattle.message_graph.specs.declared.nodes.Node.{Node}
 use Rattle.message_graph.specs.declared.states.Waiting.TheVariants as waiting
 use Rattle.message_graph.specs.Links.{edge_at, last_before}
-use Rattle.message_graph.specs.Waits.{Waits, told, told_times, wait_at, group_at}
+use Rattle.message_graph.specs.Waits.{NodeWaits, told, told_times, wait_at, group_at}
 use Rattle.message_graph.proofs.Counts.{IsCursor, left, steps_left, left_last, cursor_last, steps_last, before_cursor, tells_one}
 use Rattle.message_graph.proofs.waiters.tell.Goals as goal
 
@@ -46,10 +46,10 @@ loop-cursor-preserved c =
     ap (λ k. (get_or nodes k node).group) waiter ∙ sym (get_or-map (λ (n : Node). n.group) nodes w node 0 inside) in
     let wait : c.get.result ≡ wait_at waits w = sym (get_or_from_slice_get waits w c.get.result waiting.Ended (ap (λ k. slice_get waits k) (sym waiter) ∙ c.get.ensures)) in
     let new : c.told-waiting.result ≡ told c.args.news (group_at nodes w) (wait_at waits w) = c.told-waiting.ensures ∙ (λ i. told c.args.news (group i) (wait i)) in
-    let after : c.set.new.self.waits ≡ set waits w (told c.args.news (group_at nodes w) (wait_at waits w)) = ap (λ (s : Waits). s.waits) c.set.ensures ∙ (λ i. set waits (waiter i) (new i)) in
+    let after : c.set.new.self.waits ≡ set waits w (told c.args.news (group_at nodes w) (wait_at waits w)) = ap (λ (s : NodeWaits). s.waits) c.set.ensures ∙ (λ i. set waits (waiter i) (new i)) in
     record {
       many = ap length after ∙ length-set waits w (told c.args.news (group_at nodes w) (wait_at waits w)) ∙ c.loop-cursor.invariant.many;
-      room = ap (λ (s : Waits). s.room) c.set.ensures ∙ c.loop-cursor.invariant.room;
+      room = ap (λ (s : NodeWaits). s.room) c.set.ensures ∙ c.loop-cursor.invariant.room;
       cursor = λ name last. subst (IsCursor edges name) (sym (before name last)) (cursor_last edges name edge (omega (arith, h.0)));
       waits = λ name last number.
           (λ i. told_times c.args.news (group_at nodes number) (left edges name number (before name last i)) (wait_at (after i) number))

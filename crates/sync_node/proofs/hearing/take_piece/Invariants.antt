@@ -1,7 +1,7 @@
 use Rattle.std.proofs.Common.{◌+◌, length, ◌≡◌}
 use Rattle.sync_node.specs.Causes.{LinkGoes}
 use Rattle.sync_node.specs.Courses.{PieceAsCourse}
-use Rattle.sync_node.specs.Working.{IsAble, Works}
+use Rattle.sync_node.specs.Working.{IsAble, WorksOnLink}
 use Rattle.sync_node.proofs.hearing.take_piece.Given as goal
 
 abbrev pub invariant-items : goal.invariant-items
@@ -12,7 +12,7 @@ invariant-items g l = record {
   format : l.store.format ≡ l.initial.store.format;
   able : IsAble (g.C.Clients.meaning l.clients) l.number l.link.session l.store (g.H.Disk.tells l.host);
   course : PieceAsCourse (g.C.Clients.meaning l.clients) l.number l.initial.piece l.piece l.initial.link l.link l.initial.store l.store (g.H.Disk.tells l.initial.host) (g.H.Disk.tells l.host);
-  works : Works (g.C.Clients.meaning l.clients) l.number l.initial.piece l.piece l.initial.link l.link l.initial.store l.store (g.H.Disk.tells l.initial.host) (g.H.Disk.tells l.host);
+  works : WorksOnLink (g.C.Clients.meaning l.clients) l.number l.initial.piece l.piece l.initial.link l.link l.initial.store l.store (g.H.Disk.tells l.initial.host) (g.H.Disk.tells l.host);
 }
 
 abbrev pub decreases-items : goal.decreases-items

@@ -1,6 +1,6 @@
 use Rattle.std.proofs.Common.{◌≡◌, false, drop, length}
 use Rattle.sync_node.specs.Causes.{FailByCause}
-use Rattle.sync_node.specs.Going.{Goes}
+use Rattle.sync_node.specs.Going.{LetsNothingFall}
 use Rattle.sync_rules.specs.Steps.{IsSettled}
 use Rattle.sync_node.specs.Node.{IsNode, MayRun}
 use Rattle.sync_run.specs.Parts.{SessionsSoFar, sessions_from}
@@ -13,7 +13,7 @@ invariant-links g l = record {
       (sessions_from l.node.store.state.facts.begun (drop l.link-index l.links)) l.node.links
       l.initial.node.store l.node.store (g.H.Disk.tells l.initial.host) (g.H.Disk.tells l.host);
   cause : FailByCause l.initial.node.links l.node.links (g.H.Disk.tells l.initial.host) (g.H.Disk.tells l.host);
-  run : Goes (g.H.Disk.tells l.initial.host) (g.H.Disk.tells l.host);
+  run : LetsNothingFall (g.H.Disk.tells l.initial.host) (g.H.Disk.tells l.host);
   limit : l.node.store.limit ≡ l.initial.node.store.limit;
   format : l.node.store.format ≡ l.initial.node.store.format;
   still_open : l.node.closed ≡ false;

@@ -3,7 +3,7 @@ use Rattle.std.specs.Prelude.{nat_lt}
 use Rattle.sync_course.specs.Turns.{over_by}
 use Rattle.sync_node.specs.Courses.{AllRead}
 use Rattle.sync_node.specs.Causes.{FailByCause}
-use Rattle.sync_node.specs.Going.{Goes}
+use Rattle.sync_node.specs.Going.{LetsNothingFall}
 use Rattle.sync_node.specs.Node.{IsNode, KeepsJoined, KeepsSafe, MayRun, asked_among}
 use Rattle.sync_run.specs.Parts.{TurnsSoFar, before_turns}
 use Rattle.sync_run.proofs.sessions.make_turns.Given as goal
@@ -15,7 +15,7 @@ invariant-turns g l = record {
       l.initial.node.store l.node.store (g.H.Disk.tells l.initial.host) (g.H.Disk.tells l.host) l.still l.counter;
   goes_on : over_by l.limits.quiet l.still (nat_lt 0 (asked_among l.node.links)) ≡ false;
   cause : FailByCause l.initial.node.links l.node.links (g.H.Disk.tells l.initial.host) (g.H.Disk.tells l.host);
-  run : Goes (g.H.Disk.tells l.initial.host) (g.H.Disk.tells l.host);
+  run : LetsNothingFall (g.H.Disk.tells l.initial.host) (g.H.Disk.tells l.host);
   limit : l.node.store.limit ≡ l.initial.node.store.limit;
   format : l.node.store.format ≡ l.initial.node.store.format;
   still_open : l.node.closed ≡ false;

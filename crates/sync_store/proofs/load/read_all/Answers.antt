@@ -1,7 +1,7 @@
 use Rattle.std.proofs.Common.{false, true, sym, subst, ◌∙◌}
 use Rattle.outside.proofs.CallCounts.{just_none}
 use Rattle.outside.proofs.CallSteps.{looks_none, looks_then}
-use Rattle.sync_store.specs.Loading.{IsAtEnd}
+use Rattle.sync_store.specs.Loading.{IsAtJournalEnd}
 use Rattle.sync_store.proofs.Errors.{err_is}
 use Rattle.sync_store.proofs.LoadCounts.{calls_as, counts_more, more_as, reads_ended, reads_failed}
 use Rattle.sync_store.proofs.LoadSteps.{all_read, turns_false, turns_true}
@@ -57,4 +57,4 @@ returns-then-not-more-clause-calls g c two told j stood =
     (c.frames.invariant.counts two told1) told1
     (more_as clients o.files c.frames.journal c.read_next.new.journal c.frames.state c.read_next.new.state c.in_ok-more.more false c.if-not-more.true c.in_ok-more.ensures.more)
     (calls_as c.in_ok-more.more false o o' c.if-not-more.true c.in_ok-more.ensures.calls) turn.0.started
-    (subst (λ f. IsAtEnd f c.read_next.new.journal) told2 turn.1)
+    (subst (λ f. IsAtJournalEnd f c.read_next.new.journal) told2 turn.1)

@@ -2,7 +2,7 @@ use Rattle.std.proofs.Common.{Err, Ok, false, true, sym, subst, Result, Bool}
 use Rattle.outside.specs.Files.{file_of}
 use Rattle.sync_store.specs.declared.fault.LoadFault.{LoadFault}
 use Rattle.sync_store.specs.Faults.{load_of_frame}
-use Rattle.sync_store.specs.Loading.{Turns}
+use Rattle.sync_store.specs.Loading.{PlaysNextFrame}
 use Rattle.sync_store.proofs.Errors.{err_is}
 use Rattle.sync_store.proofs.LoadSteps.{moves_true, next_true, played_as, turn_played, turn_unplayed, turn_unread}
 use Rattle.sync_store.proofs.LoadCounts.{more_failed, none_more, one_more, turn_calls, turn_failed}
@@ -17,7 +17,7 @@ returns-in_err-more-clause-turn g c =
     let files = (g.D.Disk.tells c.args.disk.now).files in
     let files' = (g.D.Disk.tells c.next_frame.new.disk).files in
     let e = c.in_err-more.field-0.0 in
-    subst (λ (r : Result Bool LoadFault). Turns clients files' c.args.journal.now c.next_frame.new.self c.args.state.now r) (sym (err_is c.from_residual.result (load_of_frame e) c.from_residual.ensures.1))
+    subst (λ (r : Result Bool LoadFault). PlaysNextFrame clients files' c.args.journal.now c.next_frame.new.self c.args.state.now r) (sym (err_is c.from_residual.result (load_of_frame e) c.from_residual.ensures.1))
     (turn_unread clients files files' c.args.journal.now c.next_frame.new.self c.args.state.now c.next_frame.new.to.items e c.requires c.next_frame.ensures.looks.same_files
     (λ two told. c.in_err-more.ensures.next two told))
 
@@ -30,7 +30,7 @@ returns-in_err-play-clause-turn g c =
     let j' = c.next_frame.new.self in
     let to = c.next_frame.new.to.items in
     let e = c.in_err-play.field-0.0 in
-    subst (λ (r : Result Bool LoadFault). Turns clients files' j j' c.play.new.state r) (sym (err_is c.from_residual-in_err-play.result e c.from_residual-in_err-play.ensures.1))
+    subst (λ (r : Result Bool LoadFault). PlaysNextFrame clients files' j j' c.play.new.state r) (sym (err_is c.from_residual-in_err-play.result e c.from_residual-in_err-play.ensures.1))
     (turn_unplayed clients files files' j j' c.args.state.now c.play.new.state to e c.requires c.next_frame.ensures.looks.same_files
     (λ two told. next_true (file_of two j.file).now j j' to c.in_ok-more.more c.if-not-more.false (c.in_ok-more.ensures.next two told))
     (moves_true j j' c.in_ok-more.more c.if-not-more.false c.in_ok-more.ensures.moves)

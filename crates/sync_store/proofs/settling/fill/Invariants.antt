@@ -1,5 +1,5 @@
 use Rattle.std.proofs.Common.{◌≡◌, ◌≤◌, vec_capacity, vec_len}
-use Rattle.journal_state.specs.Whole.{Knows}
+use Rattle.journal_state.specs.Whole.{KnowsJudgements}
 use Rattle.sync_rules.specs.declared.limits.TheConstants.{MAX_STEPS}
 use Rattle.sync_rules.specs.Facts.{after_all}
 use Rattle.sync_rules.specs.Legal.{IsSettling}
@@ -10,7 +10,7 @@ abbrev pub invariant-steps : goal.invariant-steps
 invariant-steps g l = record {
   settling : IsSettling (g.C.Clients.meaning l.clients) l.fn.state.facts l.entries.items;
   made : l.state.facts ≡ after_all l.fn.state.facts l.entries.items;
-  knows : Knows (g.C.Clients.meaning l.clients) l.state;
+  knows : KnowsJudgements (g.C.Clients.meaning l.clients) l.state;
   count : vec_len l.entries ≡ l._made;
   capacity : MAX_STEPS ≤ vec_capacity l.entries;
 }

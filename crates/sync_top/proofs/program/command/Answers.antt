@@ -2,7 +2,7 @@ use Rattle.std.proofs.Common.{refl, subst, sym}
 use Rattle.commands.specs.Reading.{asks}
 use Rattle.sync_words.specs.Words.{texts}
 use Rattle.sync_words.specs.declared.outcome.Outcome.{Outcome}
-use Rattle.sync_top.specs.Run.{Comes}
+use Rattle.sync_top.specs.Run.{WordsComeTo}
 use Rattle.sync_top.proofs.StateLemmas.{words_come}
 use Rattle.sync_top.proofs.program.command.Goals as goal
 
@@ -13,5 +13,5 @@ returns-in-Err-clause-comes g c =
     let o = g.H.Disk.tells c.args.host.now in
     let input = g.S.Source.tells c.args.input.now in
     let out = g.W.Sink.tells c.args.out.now in
-    subst (λ (came : Outcome). Comes clients asked o o input input out out came) (sym c.from.ensures)
+    subst (λ (came : Outcome). WordsComeTo clients asked o o input input out out came) (sym c.from.ensures)
     (words_come clients asked o input input out out c.in-Err.fault c.in-Err.ensures.read (record { same = refl; same_faults = refl }) (record { same = refl; same_faults = refl }))

@@ -5,7 +5,7 @@ use Rattle.sync_rules.specs.Clients.{Meaning}
 use Rattle.sync_rules.specs.Facts.{Held, Id}
 use Rattle.sync_rules.specs.Lists.{same_id}
 use Rattle.journal_state.specs.Sound.{AreApart, DeliversJudged}
-use Rattle.journal_state.specs.Whole.{Knows, StateValue}
+use Rattle.journal_state.specs.Whole.{KnowsJudgements, StateValue}
 use Rattle.tree_commands.specs.Gathered.{IsThreadOf, with_delivered}
 use Rattle.tree_commands.specs.Threads.{with_number}
 use Rattle.tree_commands.proofs.Gathers.{beside_is, first_stands, first_within, left_out, on_made, put_in}
@@ -36,7 +36,7 @@ returns-clause-added c =
     subst (λ (v : StateValue). DeliversJudged v.facts) c.state.ensures c.show_sound.ensures.ended in
     let replied : Option ℕ = get_or c.args.firsts.now n None in
     on_made c.add.result
-    (λ t. (clients : Meaning) → Knows clients s → (ids : List Id) (id : Id)
+    (λ t. (clients : Meaning) → KnowsJudgements clients s → (ids : List Id) (id : Id)
     → slice_get f.delivered c.args.k ≡ Some id → IsThreadOf clients f ids old
     → IsThreadOf clients f (with_delivered f group ids id) t) c.add.new.self
     (with_number old n replied)

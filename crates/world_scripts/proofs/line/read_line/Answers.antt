@@ -2,7 +2,7 @@ use Rattle.std.proofs.Common.{◌≡◌, ◌∙◌, ap, sym, subst, cond, true, 
 use Rattle.std.proofs.lemmas.Bool.{false_from_ne_true}
 use Rattle.std.proofs.lemmas.Str.{IsUtf8-from_is_utf8, is_utf8-from_IsUtf8}
 use Rattle.std.specs.Str.{is_utf8}
-use Rattle.world_scripts.specs.Answers.{IsReadAs}
+use Rattle.world_scripts.specs.Answers.{IsValueRead}
 use Rattle.world_scripts.specs.Forms.{line_in, words_in}
 use Rattle.world_scripts.specs.declared.step.Line.{Line}
 use Rattle.world_scripts.proofs.line.read_line.Goals as goal
@@ -23,4 +23,4 @@ returns c =
     let same : words_in c.in-Ok.text.now ≡ line_in c.args.line.now =
     ap words_in c.in-Ok.ensures.cases.0 ∙ sym
     (ap (λ t. cond t (words_in c.args.line.now) None) yes) in
-    subst (λ (o : Option Line). IsReadAs o c.read_words.result) same c.read_words.ensures
+    subst (λ (o : Option Line). IsValueRead o c.read_words.result) same c.read_words.ensures

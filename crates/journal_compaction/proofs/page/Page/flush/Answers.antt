@@ -2,7 +2,7 @@ use Rattle.std.proofs.Common.{◌≡◌, ℕ, ◌+◌, ◌≤◌, cond, List, []
 use Rattle.std.specs.Prelude.{◌==◌}
 use Rattle.frame_journal.specs.Append.{framed_of}
 use Rattle.journal_compaction.specs.Paging.{closed_page}
-use Rattle.journal_compaction.specs.Writing.{Adding}
+use Rattle.journal_compaction.specs.Writing.{WritesPayloads}
 use Rattle.journal_compaction.proofs.Filling.{closed_some}
 use Rattle.journal_compaction.proofs.Working.{adding_one, idle_works, shut_none, shut_one, some_bytes, works_one}
 use Rattle.journal_compaction.proofs.page.Page.flush.Goals as goal
@@ -38,7 +38,7 @@ returns-clause-adding g c =
     c.in_ok-append.ensures.appended in
     let all : cond c.args.stays [] (closed_page p) ≡ p ∷ [] = ap (λ b. cond b [] (closed_page p)) c.if-stays.false
     ∙ closed_some p some in
-    subst (λ (added : List (List ℕ)). Adding n n' added o o') (sym all) one
+    subst (λ (added : List (List ℕ)). WritesPayloads n n' added o o') (sym all) one
 
 pub returns-clause-works : goal.returns-clause-works
 returns-clause-works g c =

@@ -7,9 +7,9 @@ use Rattle.retry_table.specs.Table as retry
 use Rattle.visibility_table.specs.Table as levels
 use Rattle.journal_state.specs.Parts.{Parts, facts_of}
 use Rattle.journal_state.specs.Room.{room_in}
-use Rattle.journal_state.specs.Taking.{Spends}
+use Rattle.journal_state.specs.Taking.{SpendsRoom}
 use Rattle.journal_state.specs.Unwanted.{UnwantsBelow}
-use Rattle.journal_state.specs.Whole.{IsState, Knows, StateValue, value_of}
+use Rattle.journal_state.specs.Whole.{IsState, KnowsJudgements, StateValue, value_of}
 use Rattle.journal_state.specs.Inside.{parts}
 use Rattle.journal_state.proofs.Limited.{limits_same}
 use Rattle.journal_state.proofs.MoreHeld.{no_number, honest_more, held_parts, held_state, held_facts, held_knows}
@@ -98,13 +98,13 @@ returns-clause-facts c =
 
 pub returns-clause-knows : goal.returns-clause-knows
 returns-clause-knows c = λ clients k.
-    subst (λ (p : Parts). Knows clients (value_of p)) (sym (made c))
+    subst (λ (p : Parts). KnowsJudgements clients (value_of p)) (sym (made c))
     (held_knows (parts c.self.inside) c.self.invariant.state (message_held c) c.unwrap-group.result c.unwant_from_all.new.retry (c.self.inside.space - 1) (new_id c) (known c) (unwanted c)
-    clients (subst (Knows clients) (sym c.self.view_is) k))
+    clients (subst (KnowsJudgements clients) (sym c.self.view_is) k))
 
 pub returns-clause-room : goal.returns-clause-room
 returns-clause-room c =
-    subst (λ (v : StateValue). Spends v.room (room_in (c.self.inside.space - 1) c.unwant_from_all.new.retry)) c.self.view_is
+    subst (λ (v : StateValue). SpendsRoom v.room (room_in (c.self.inside.space - 1) c.unwant_from_all.new.retry)) c.self.view_is
     (room_spent c.self.inside.space (c.self.inside.space - 1) c.self.inside.retry c.unwant_from_all.new.retry (one_less c.self.inside.space)
     (λ k. let e = ap (λ (rows : List (List retry.KeptRow)). length (slice_index_or rows k [])) c.unwant_from_all.ensures.rows in omega (arith, e))
     (λ k. let e = c.unwant_from_all.ensures.room k in omega (arith, e)))

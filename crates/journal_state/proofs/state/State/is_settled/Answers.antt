@@ -2,7 +2,7 @@ use Rattle.std.proofs.Common.{◌≡◌, ◌↔◌, Bool, true, false, not, Opti
 use Rattle.std.proofs.lemmas.Bool.{false≢true}
 use Rattle.sync_rules.specs.Clients.{Meaning}
 use Rattle.sync_rules.specs.Steps.{IsSettled}
-use Rattle.journal_state.specs.Whole.{StateValue, Knows}
+use Rattle.journal_state.specs.Whole.{StateValue, KnowsJudgements}
 use Rattle.journal_state.specs.Inside.{parts}
 use Rattle.journal_state.proofs.Next.{settled_same}
 use Rattle.journal_state.proofs.state.State.is_settled.Goals as goal
@@ -15,5 +15,5 @@ none_is (Some x) false e = refl
 
 pub returns : goal.returns
 returns c =
-    subst (λ (v : StateValue). (clients : Meaning) → Knows clients v → (IsTrue c.is_none.result ↔ IsSettled clients v.facts)) c.self.view_is
+    subst (λ (v : StateValue). (clients : Meaning) → KnowsJudgements clients v → (IsTrue c.is_none.result ↔ IsSettled clients v.facts)) c.self.view_is
     (λ clients k. settled_same clients (parts c.self.inside) c.self.invariant.state k c.next.result c.is_none.result c.next.ensures (none_is c.next.result c.is_none.result c.is_none.ensures))

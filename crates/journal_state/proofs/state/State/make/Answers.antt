@@ -7,7 +7,7 @@ use Rattle.message_graph.specs.declared.nodes.Step.{Step}
 use Rattle.message_graph.specs.Nodes.{step_number}
 use Rattle.journal_state.specs.Stepping.{entry_of}
 use Rattle.journal_state.specs.Taking.{moved}
-use Rattle.journal_state.specs.Whole.{StateValue, Knows, id_at}
+use Rattle.journal_state.specs.Whole.{StateValue, KnowsJudgements, id_at}
 use Rattle.journal_state.proofs.Took.{knows_after, noted_facts, noted_knows}
 use Rattle.journal_state.proofs.state.State.make.Goals as goal
 use Rattle.journal_state.proofs.state.State.make.Goals.{in-Judge+in_ok-judge-in-Judge, in-Invalid, in-Deliver+in_ok-deliver-in-Deliver}
@@ -50,12 +50,12 @@ returns-clause-left g c =
 pub returns-clause-knows : goal.returns-clause-knows
 returns-clause-knows g c =
     let clients : Meaning = g.C.Clients.meaning c.args.clients.now in
-    let k : Knows clients c.match-step.self =
+    let k : KnowsJudgements clients c.match-step.self =
     (elim c.match-step.branch [
-      | in-Judge+in_ok-judge-in-Judge w ↦ subst (Knows clients) (sym w.self-is) w.judge.ensures.knows
-      | in-Invalid w ↦ subst (Knows clients) (sym w.self-is) (w.refuse.ensures.knows clients c.requires.knows)
+      | in-Judge+in_ok-judge-in-Judge w ↦ subst (KnowsJudgements clients) (sym w.self-is) w.judge.ensures.knows
+      | in-Invalid w ↦ subst (KnowsJudgements clients) (sym w.self-is) (w.refuse.ensures.knows clients c.requires.knows)
       | in-Deliver+in_ok-deliver-in-Deliver w ↦
-          subst (Knows clients) (sym w.self-is)
+          subst (KnowsJudgements clients) (sym w.self-is)
           (knows_after clients c.args.self.now w.deliver.new.self (moved c.args.self.now.facts (entry.Deliver (id_at c.args.self.now.facts.held w.in-Deliver.n)))
           w.in_ok-deliver-in-Deliver.ensures.facts w.deliver.ensures.answers refl c.requires.knows)
     ]) in

@@ -56,4 +56,4 @@ returns-clause-room c =
     subst (λ (v : StateValue). KeepsRoom v.room (room_in c.self.inside.space c.mark_row.new.retry)) c.self.view_is
     (room_kept c.self.inside.space c.self.inside.space c.self.inside.retry c.mark_row.new.retry (omega arith)
     (λ k. let e = long k in omega (arith, e))
-    (λ k. let e = ap (λ (ws : List retry.Wants). (retry.wants_of (record c.self.inside.retry { wants = ws }) k).room) c.mark_row.ensures.wants in omega (arith, e)))
+    (λ k. let e = ap (λ (ws : List retry.WantedFromContact). (retry.wants_of (record c.self.inside.retry { wants = ws }) k).room) c.mark_row.ensures.wants in omega (arith, e)))

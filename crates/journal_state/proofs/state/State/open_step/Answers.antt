@@ -7,7 +7,7 @@ use Rattle.message_graph.specs.declared.nodes.Node.{Node}
 use Rattle.message_graph.specs.Nodes as nodes
 use Rattle.message_graph.specs.Nodes.{step_number}
 use Rattle.journal_state.specs.Stepping.{entry_of}
-use Rattle.journal_state.specs.Whole.{StateValue, Knows, id_at}
+use Rattle.journal_state.specs.Whole.{StateValue, KnowsJudgements, id_at}
 use Rattle.journal_state.specs.Inside.{parts}
 use Rattle.journal_state.proofs.Next.{found_next, many_nodes, next_within}
 use Rattle.journal_state.proofs.state.State.open_step.Goals as goal
@@ -18,7 +18,7 @@ within_all ns bound many (Some s) is = let below : step_number s < length ns = n
 
 pub returns-clause-next : goal.returns-clause-next
 returns-clause-next c =
-    subst (λ (v : StateValue). (clients : Meaning) → Knows clients v → option_map (entry_of (id_at v.facts.held)) c.next.result ≡ next clients v.facts) c.self.view_is
+    subst (λ (v : StateValue). (clients : Meaning) → KnowsJudgements clients v → option_map (entry_of (id_at v.facts.held)) c.next.result ≡ next clients v.facts) c.self.view_is
     (λ clients k. found_next clients (parts c.self.inside) c.self.invariant.state k c.next.result c.next.ensures)
 
 pub returns-clause-within : goal.returns-clause-within

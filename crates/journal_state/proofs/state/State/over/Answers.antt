@@ -43,7 +43,7 @@ invariant_of-result c = record {
     graph = omega arith;
     shares = let none = ap length c.new-5.ensures.items in omega (arith, none);
   };
-  few = let none = ap (λ (t : levels.Table). t.contacts) c.requires in omega (arith, none);
+  few = let none = ap (λ (t : levels.TableOfLevels). t.contacts) c.requires in omega (arith, none);
   met = ap (λ (ss : List Session). list_all (λ x. nat_lt x.contact c.args.table.contacts) ss) c.new-4.ensures.sessions;
   honest = λ n node at share. absurd (not_there n node (sym (ap (λ (g : nodes.Shown). slice_get g.nodes n) c.in_ok-graph.ensures) ∙ at));
   limited = limits_none c.in_ok-retry.retry c.in_ok-retry.ensures;

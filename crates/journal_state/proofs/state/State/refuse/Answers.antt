@@ -4,7 +4,7 @@ use Rattle.message_graph.specs.declared.nodes.Node.{Node}
 use Rattle.message_graph.specs.declared.nodes.Step.TheVariants as step
 use Rattle.message_graph.specs.declared.nodes.Ending.TheVariants as ending
 use Rattle.message_graph.specs.Nodes as nodes
-use Rattle.journal_state.specs.Whole.{StateValue, Knows, id_at}
+use Rattle.journal_state.specs.Whole.{StateValue, KnowsJudgements, id_at}
 use Rattle.journal_state.specs.Taking.{moved}
 use Rattle.journal_state.specs.Inside.{IsHonest, parts}
 use Rattle.journal_state.proofs.Honest.{honest_ended}
@@ -48,4 +48,4 @@ returns-clause-facts c =
 
 pub returns-clause-knows : goal.returns-clause-knows
 returns-clause-knows c clients k =
-    refused_known (parts c.self.inside) c.self.invariant.state c.args.n (node c) c.apply.new.self.nodes (made c) clients (subst (Knows clients) (sym c.self.view_is) k)
+    refused_known (parts c.self.inside) c.self.invariant.state c.args.n (node c) c.apply.new.self.nodes (made c) clients (subst (KnowsJudgements clients) (sym c.self.view_is) k)

@@ -3,7 +3,7 @@ use Rattle.sync_rules.specs.declared.entries.Entry.TheVariants as entry
 use Rattle.sync_rules.specs.declared.entries.Session.{Session}
 use Rattle.visibility_table.specs.Table as levels
 use Rattle.journal_state.specs.Parts.{Parts}
-use Rattle.journal_state.specs.Taking.{Moves}
+use Rattle.journal_state.specs.Taking.{TakesButBeginning}
 use Rattle.journal_state.specs.Whole.{StateValue, value_of}
 use Rattle.journal_state.specs.Inside.{parts}
 use Rattle.journal_state.proofs.Entries.{contact_state, contact_facts, all_weaker, below_more}
@@ -14,8 +14,8 @@ use Rattle.journal_state.proofs.state.State.take_contact.Goals as goal
 pub invariant_of-self : goal.invariant_of-self
 invariant_of-self c =
     let number : c.args.contact ≡ c.self.inside.table.contacts = c.requires.kind.0 ∙ sym (ap (λ (v : StateValue). v.facts.contacts) c.self.view_is) in
-    let contacts : c.apply.new.self.contacts ≡ c.self.inside.table.contacts + 1 = ap (λ (t : levels.Table). t.contacts) c.apply.ensures in
-    let spare : c.apply.new.self.spare ≡ c.self.inside.table.spare - 0 = ap (λ (t : levels.Table). t.spare) c.apply.ensures in
+    let contacts : c.apply.new.self.contacts ≡ c.self.inside.table.contacts + 1 = ap (λ (t : levels.TableOfLevels). t.contacts) c.apply.ensures in
+    let spare : c.apply.new.self.spare ≡ c.self.inside.table.spare - 0 = ap (λ (t : levels.TableOfLevels). t.spare) c.apply.ensures in
     record {
       state = contact_state (parts c.self.inside) c.self.invariant.state c.args.contact c.apply.new.self c.apply.ensures (c.self.inside.space - 1);
       roomy = record {
@@ -38,7 +38,7 @@ pub returns : goal.returns
 returns c =
     let number : c.args.contact ≡ c.self.inside.table.contacts = c.requires.kind.0 ∙ sym (ap (λ (v : StateValue). v.facts.contacts) c.self.view_is) in
     let after_it : Parts = record (parts c.self.inside) { table = c.apply.new.self; space = c.self.inside.space - 1 } in
-    subst (λ (v : StateValue). Moves v (value_of after_it) (entry.Contact c.args.contact)) c.self.view_is
+    subst (λ (v : StateValue). TakesButBeginning v (value_of after_it) (entry.Contact c.args.contact)) c.self.view_is
     (record {
       facts = contact_facts (parts c.self.inside) c.self.invariant.state c.args.contact c.apply.new.self c.apply.ensures (c.self.inside.space - 1) number;
       knows = λ clients k. k ∙ took clients (value_of (parts c.self.inside)).facts (value_of after_it).facts (entry.Contact c.args.contact)

@@ -4,7 +4,7 @@ use Rattle.sync_rules.specs.declared.entries.Entry.TheVariants as entry
 use Rattle.sync_rules.specs.declared.entries.Session.{Session}
 use Rattle.visibility_table.specs.Table as levels
 use Rattle.journal_state.specs.Parts.{Parts}
-use Rattle.journal_state.specs.Taking.{Moves}
+use Rattle.journal_state.specs.Taking.{TakesButBeginning}
 use Rattle.journal_state.specs.Whole.{StateValue, value_of}
 use Rattle.journal_state.specs.Inside.{parts}
 use Rattle.journal_state.proofs.Entries.{group_state, group_facts, group_knows}
@@ -13,8 +13,8 @@ use Rattle.journal_state.proofs.state.State.take_group.Goals as goal
 
 pub invariant_of-self : goal.invariant_of-self
 invariant_of-self c =
-    let contacts : c.self.inside.table.contacts ≡ c.add_group.new.self.contacts = sym (ap (λ (t : levels.Table). t.contacts) c.add_group.ensures) in
-    let spare : c.add_group.new.self.spare ≡ c.self.inside.table.spare - 1 = ap (λ (t : levels.Table). t.spare) c.add_group.ensures in
+    let contacts : c.self.inside.table.contacts ≡ c.add_group.new.self.contacts = sym (ap (λ (t : levels.TableOfLevels). t.contacts) c.add_group.ensures) in
+    let spare : c.add_group.new.self.spare ≡ c.self.inside.table.spare - 1 = ap (λ (t : levels.TableOfLevels). t.spare) c.add_group.ensures in
     record {
       state = group_state (parts c.self.inside) c.self.invariant.state c.args.def c.add_group.new.self c.add_group.ensures (c.self.inside.space - 1);
       roomy = record {
@@ -34,7 +34,7 @@ invariant_of-self c =
 pub returns : goal.returns
 returns c =
     let after_it : Parts = record (parts c.self.inside) { table = c.add_group.new.self; space = c.self.inside.space - 1 } in
-    subst (λ (v : StateValue). Moves v (value_of after_it) (entry.Group c.args.def)) c.self.view_is
+    subst (λ (v : StateValue). TakesButBeginning v (value_of after_it) (entry.Group c.args.def)) c.self.view_is
     (record {
       facts = group_facts (parts c.self.inside) c.self.invariant.state c.args.def c.add_group.new.self c.add_group.ensures (c.self.inside.space - 1);
       knows = group_knows (parts c.self.inside) c.self.invariant.state c.args.def c.add_group.new.self c.add_group.ensures (c.self.inside.space - 1);

@@ -6,7 +6,7 @@ use Rattle.sync_rules.specs.Facts.{group_at, is_level_shared}
 use Rattle.visibility_table.specs.Table as levels
 use Rattle.journal_state.specs.Levelling.{SetsLevels, levelled_at}
 use Rattle.journal_state.specs.Parts.{Parts}
-use Rattle.journal_state.specs.Taking.{Moves}
+use Rattle.journal_state.specs.Taking.{TakesButBeginning}
 use Rattle.journal_state.specs.Whole.{StateValue, value_of}
 use Rattle.journal_state.specs.Inside.{parts}
 use Rattle.journal_state.proofs.Levelled.{level_row, level_state, level_facts, levels_room}
@@ -26,8 +26,8 @@ done c =
 
 pub invariant_of-self : goal.invariant_of-self
 invariant_of-self c =
-    let contacts : c.self.inside.table.contacts ≡ c.apply.new.self.contacts = sym (ap (λ (t : levels.Table). t.contacts) c.apply.ensures) in
-    let spare : c.apply.new.self.spare ≡ c.self.inside.table.spare - 1 = ap (λ (t : levels.Table). t.spare) c.apply.ensures in
+    let contacts : c.self.inside.table.contacts ≡ c.apply.new.self.contacts = sym (ap (λ (t : levels.TableOfLevels). t.contacts) c.apply.ensures) in
+    let spare : c.apply.new.self.spare ≡ c.self.inside.table.spare - 1 = ap (λ (t : levels.TableOfLevels). t.spare) c.apply.ensures in
     let known : is_some (group_at c.self.inside.table.groups c.args.group) ≡ true = ap (λ (v : StateValue). is_some (group_at v.facts.groups c.args.group)) c.self.view_is ∙ c.requires.kind.0 in
     let met : c.args.contact < c.self.inside.table.contacts = subst (λ (v : StateValue). c.args.contact < v.facts.contacts) (sym c.self.view_is) c.requires.kind.2 in
     record {
@@ -53,7 +53,7 @@ invariant_of-self c =
 pub returns : goal.returns
 returns c =
     let after_it : Parts = record (parts c.self.inside) { table = c.apply.new.self; retry = c.level_all.new.retry; space = c.self.inside.space - 1 } in
-    subst (λ (v : StateValue). Moves v (value_of after_it) (entry.Level c.args.contact c.args.group c.args.level)) c.self.view_is
+    subst (λ (v : StateValue). TakesButBeginning v (value_of after_it) (entry.Level c.args.contact c.args.group c.args.level)) c.self.view_is
     (record {
       facts = level_facts (parts c.self.inside) c.self.invariant.state c.self.invariant.honest c.args.contact c.args.group c.args.level c.apply.new.self c.apply.ensures
           c.level_all.new.retry (done c) (c.self.inside.space - 1);

@@ -3,7 +3,7 @@ use Rattle.std.specs.FinMap as fin_map
 use Rattle.sync_rules.specs.Facts.{wanted_from, without_each}
 use Rattle.retry_table.specs.Table as retry
 use Rattle.journal_state.specs.Room.{room_in}
-use Rattle.journal_state.specs.Taking.{Spends}
+use Rattle.journal_state.specs.Taking.{SpendsRoom}
 use Rattle.journal_state.specs.Whole.{StateValue, value_of}
 use Rattle.journal_state.specs.Inside.{parts}
 use Rattle.journal_state.proofs.Wants.{wants_found}
@@ -21,5 +21,5 @@ returns-clause-facts c =
 
 pub returns-clause-room : goal.returns-clause-room
 returns-clause-room c =
-    subst (λ (v : StateValue). Spends v.room (room_in c.self.inside.space c.unwant_ids.new.retry)) c.self.view_is
+    subst (λ (v : StateValue). SpendsRoom v.room (room_in c.self.inside.space c.unwant_ids.new.retry)) c.self.view_is
     (ids_room c.self.inside.space c.self.inside.retry c.unwant_ids.new.retry c.args.contact (without_each c.args.ids.now (retry.wants_of c.self.inside.retry c.args.contact).ids) c.unwant_ids.ensures)

@@ -3,7 +3,7 @@ use Rattle.std.specs.FinMap as fin_map
 use Rattle.sync_rules.specs.Facts.{Id, is_held, wanted_from, with_want}
 use Rattle.retry_table.specs.Table as retry
 use Rattle.journal_state.specs.Room.{room_in}
-use Rattle.journal_state.specs.Taking.{Spends}
+use Rattle.journal_state.specs.Taking.{SpendsRoom}
 use Rattle.journal_state.specs.Whole.{StateValue, value_of}
 use Rattle.journal_state.specs.Inside.{parts}
 use Rattle.journal_state.proofs.Wants.{wants_found}
@@ -32,5 +32,5 @@ returns-clause-facts c =
 
 pub returns-clause-room : goal.returns-clause-room
 returns-clause-room c =
-    subst (λ (v : StateValue). Spends v.room (room_in c.self.inside.space c.want_id.new.retry)) c.self.view_is
+    subst (λ (v : StateValue). SpendsRoom v.room (room_in c.self.inside.space c.want_id.new.retry)) c.self.view_is
     (ids_room c.self.inside.space c.self.inside.retry c.want_id.new.retry c.args.contact (with_want c.is_some-held.result (retry.wants_of c.self.inside.retry c.args.contact).ids c.args.id) c.want_id.ensures)

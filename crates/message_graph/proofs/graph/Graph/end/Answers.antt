@@ -3,7 +3,7 @@ use Rattle.std.proofs.lemmas.List.{length-set}
 use Rattle.message_graph.specs.declared.nodes.Node.{Node}
 use Rattle.message_graph.specs.declared.states.Waiting.TheVariants as waiting
 use Rattle.message_graph.specs.Nodes.{Shown, next, number_of, with_ending}
-use Rattle.message_graph.specs.Waits.{Waits, told_times, wait_at, group_at}
+use Rattle.message_graph.specs.Waits.{NodeWaits, told_times, wait_at, group_at}
 use Rattle.message_graph.specs.Links.{count_before, last_before}
 use Rattle.message_graph.specs.Whole.{ending_step, ending_news}
 use Rattle.message_graph.proofs.NodeLaws.{next_end, there_within, length-change}
@@ -61,9 +61,9 @@ invariant_of-self c =
     let is : read ≡ there.0 = read_there g.nodes.items c.args.n there.0 read there.1 c.index_mut-node.ensures.value in
     let now : set g.nodes.items c.args.n (record read { ending = Some c.args.ending }) ≡ with_ending c.args.n c.args.ending g.nodes.items =
     set-change (λ (m : Node). record m { ending = Some c.args.ending }) g.nodes.items c.args.n read c.index_mut-node.ensures.value in
-    let set_is : c.set.new.self.waits ≡ set g.states.waits c.args.n waiting.Ended = ap (λ (s : Waits). s.waits) c.set.ensures in
+    let set_is : c.set.new.self.waits ≡ set g.states.waits c.args.n waiting.Ended = ap (λ (s : NodeWaits). s.waits) c.set.ensures in
     let len : length c.tell.new.states.waits ≡ length g.states.waits = c.tell.ensures.many ∙ ap length set_is ∙ length-set g.states.waits c.args.n waiting.Ended in
-    let room : c.tell.new.states.room ≡ g.states.room = c.tell.ensures.room ∙ ap (λ (s : Waits). s.room) c.set.ensures in
+    let room : c.tell.new.states.room ≡ g.states.room = c.tell.ensures.room ∙ ap (λ (s : NodeWaits). s.room) c.set.ensures in
     let told : (k : ℕ) → wait_at c.tell.new.states.waits k ≡ told_times (ending_news c.args.ending) (group_at (with_ending c.args.n c.args.ending g.nodes.items) k) (count_before g.index.edges there.0.name k (length g.index.edges)) (wait_at (set g.states.waits c.args.n waiting.Ended) k) =
     (λ k. c.tell.ensures.waits read.name (last_is c.before) k ∙ (λ i. told_times (c.requires.news i) (group_at ((c.deref.ensures.value ∙ now) i) k) (count_before g.index.edges (is i).name k (length g.index.edges)) (wait_at (set_is i) k))) in
     let kept = end_kept g.nodes.items g.index g.states g.spare c.self.invariant.0 c.args.n there.0 c.args.ending c.tell.new.states there.1 there.2 len room told in

@@ -2,7 +2,7 @@ use Rattle.std.proofs.Common.{◌≡◌, ◌<◌, Some, length, set, ap, ◌∙�
 use Rattle.message_graph.specs.declared.nodes.Node.{Node}
 use Rattle.message_graph.specs.declared.nodes.Step.TheVariants as step
 use Rattle.message_graph.specs.Nodes.{Shown, next, node_named, with_answer}
-use Rattle.message_graph.specs.Waits.{Waits, waiting_open}
+use Rattle.message_graph.specs.Waits.{NodeWaits, waiting_open}
 use Rattle.message_graph.proofs.NodeLaws.{next_judge, there_within, length-change}
 use Rattle.message_graph.proofs.Changes.{read_there, set-change}
 use Rattle.message_graph.proofs.Kept.{judged_kept, many_waits}
@@ -43,9 +43,9 @@ invariant_of-self-2 c =
     let waiting_is : c.in_ok-waiting.waiting ≡ waiting_open (node_named g.nodes.items) there.0.group c.args.answer =
     c.in_ok-waiting.ensures.waiting ∙ (λ i. waiting_open (node_named (c.deref.ensures.value i)) (group_is i) c.args.answer) in
     let waits : c.set.new.self.waits ≡ set g.states.waits c.args.n (waiting_open (node_named g.nodes.items) there.0.group c.args.answer) =
-    ap (λ (s : Waits). s.waits) c.set.ensures ∙ ap (set g.states.waits c.args.n) waiting_is in
+    ap (λ (s : NodeWaits). s.waits) c.set.ensures ∙ ap (set g.states.waits c.args.n) waiting_is in
     let kept = judged_kept g.nodes.items g.index g.states g.spare c.self.invariant.0 c.args.n there.0 c.args.answer c.answered.new.index c.set.new.self there.1 there.2
-    c.answered.ensures.holders c.answered.ensures.numbers c.in_ok-waiting.ensures.edges c.answered.ensures.room waits (ap (λ (s : Waits). s.room) c.set.ensures) in
+    c.answered.ensures.holders c.answered.ensures.numbers c.in_ok-waiting.ensures.edges c.answered.ensures.room waits (ap (λ (s : NodeWaits). s.room) c.set.ensures) in
     (rw now kept, rw (now, length-change) c.self.invariant.1)
 
 pub returns-clause-ok : goal.returns-clause-ok

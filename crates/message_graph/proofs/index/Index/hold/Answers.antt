@@ -3,19 +3,19 @@ use Rattle.std.proofs.lemmas.List.{map-set, length-set, length-map}
 use Rattle.std.proofs.Math.Seq.{map-set_same}
 use Rattle.message_graph.specs.declared.index.Slot.{Slot}
 use Rattle.message_graph.specs.Nodes.{same_name}
-use Rattle.message_graph.specs.Links.{Links, Numbers, place_of, holder_of, holder_at, last_before}
+use Rattle.message_graph.specs.Links.{WaitIndex, Numbers, place_of, holder_of, holder_at, last_before}
 use Rattle.message_graph.proofs.Linked.{relinked, holder-set, holders_of, found_name, last_there, slot_last}
 use Rattle.message_graph.proofs.Placed.{placed-hold}
 use Rattle.message_graph.proofs.index.Index.hold.Goals as goal
 
 found : (c : goal.After-self-1) → place_of c.self.inside.names.keys c.args.name ≡ Some c.place-place.result
-found c = ap (λ (l : Links). place_of l.names c.args.name) c.self.view_is ∙ c.place-place.ensures.place
+found c = ap (λ (l : WaitIndex). place_of l.names c.args.name) c.self.view_is ∙ c.place-place.ensures.place
 
 within : (c : goal.After-self-1) → c.place-place.result < length c.self.inside.slots.items
 within c = let i = c.self.inside in let f = (found_name i.names.keys i.slots.items i.edges.items c.self.invariant.0 c.args.name c.place-place.result (found c)).0 in omega (arith, f, c.self.invariant.0.many)
 
 number_is : (c : goal.After-self-1) → c.args.number ≡ length c.self.inside.places.items
-number_is c = c.requires.next ∙ sym (ap (λ (l : Links). l.numbers.count) c.self.view_is ∙ ap (λ (n : Numbers). n.count) c.place-place.ensures.numbers)
+number_is c = c.requires.next ∙ sym (ap (λ (l : WaitIndex). l.numbers.count) c.self.view_is ∙ ap (λ (n : Numbers). n.count) c.place-place.ensures.numbers)
 
 places_are : (c : goal.After-self-1) → c.push.new.self.items ≡ c.self.inside.places.items ++ c.place-place.result ∷ []
 places_are c = rw c.unwrap.ensures at c.push.ensures.items
@@ -36,11 +36,11 @@ returns-clause-holders c = λ other.
     let len : length (holders_of i.slots.items) ≡ length i.names.keys = length-map i.slots.items (λ (s : Slot). s.holder) ∙ c.self.invariant.0.many in
     ap (λ hs. holder_at hs (place_of i.names.keys other)) (map-set (λ (s : Slot). s.holder) i.slots.items c.place-place.result slot)
     ∙ holder-set i.names.keys i.slots.items i.edges.items c.self.invariant.0 (holders_of i.slots.items) c.args.name c.place-place.result (Some c.args.number) len (found c) other
-    ∙ ap (λ o. if same_name other c.args.name then Some c.args.number else o) (ap (λ (l : Links). holder_of l other) c.self.view_is ∙ c.place-place.ensures.holders other)
+    ∙ ap (λ o. if same_name other c.args.name then Some c.args.number else o) (ap (λ (l : WaitIndex). holder_of l other) c.self.view_is ∙ c.place-place.ensures.holders other)
 
 pub returns-clause-last : goal.returns-clause-last
 returns-clause-last c =
     let i = c.self.inside in
     sym (slot_last i.slots.items c.place-place.result c.index_mut-slot.result.now (within c) c.index_mut-slot.ensures.value)
     ∙ (last_there i.names.keys i.slots.items i.edges.items c.self.invariant.0 c.args.name c.place-place.result (found c)
-    ∙ ap (λ es. last_before es c.args.name (length es)) (ap (λ (l : Links). l.edges) c.self.view_is ∙ c.place-place.ensures.edges))
+    ∙ ap (λ es. last_before es c.args.name (length es)) (ap (λ (l : WaitIndex). l.edges) c.self.view_is ∙ c.place-place.ensures.edges))

@@ -2,7 +2,7 @@ use Rattle.std.proofs.Common.{◌≡◌, Bool, true, false, not, List, ℕ, None
 use Rattle.std.specs.List.{list_any}
 use Rattle.message_graph.specs.declared.index.Slot.{Slot}
 use Rattle.message_graph.specs.Nodes.{same_name}
-use Rattle.message_graph.specs.Links.{Links}
+use Rattle.message_graph.specs.Links.{WaitIndex}
 use Rattle.message_graph.proofs.Linked.{linked-push, named-push}
 use Rattle.message_graph.proofs.Placed.{placed-push}
 use Rattle.message_graph.proofs.Positions.{passes_none}
@@ -58,4 +58,4 @@ invariant_of-self-2 c =
 pub returns-clause-edges : goal.returns-clause-edges
 returns-clause-edges c =
     let i = c.self.inside in
-    rw (keys_are c) (named-push i.names.keys c.args.name i.edges.items c.self.invariant.0.places) ∙ ap (λ (l : Links). l.edges) c.self.view_is
+    rw (keys_are c) (named-push i.names.keys c.args.name i.edges.items c.self.invariant.0.places) ∙ ap (λ (l : WaitIndex). l.edges) c.self.view_is

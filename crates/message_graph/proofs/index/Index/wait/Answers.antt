@@ -3,13 +3,13 @@ use Rattle.std.proofs.lemmas.List.{map-append, length-set}
 use Rattle.std.proofs.Math.Seq.{map-set_same}
 use Rattle.message_graph.specs.declared.index.Slot.{Slot}
 use Rattle.message_graph.specs.declared.index.Edge.{Edge}
-use Rattle.message_graph.specs.Links.{Links, place_of, holder_of, holder_at, named}
+use Rattle.message_graph.specs.Links.{WaitIndex, place_of, holder_of, holder_at, named}
 use Rattle.message_graph.proofs.Linked.{linked-wait, found_name, slot_last, holders_of}
 use Rattle.message_graph.proofs.Placed.{placed-same}
 use Rattle.message_graph.proofs.index.Index.wait.Goals as goal
 
 found : (c : goal.After-self-1) → place_of c.self.inside.names.keys c.args.name ≡ Some c.place-place.result
-found c = ap (λ (l : Links). place_of l.names c.args.name) c.self.view_is ∙ c.place-place.ensures.place
+found c = ap (λ (l : WaitIndex). place_of l.names c.args.name) c.self.view_is ∙ c.place-place.ensures.place
 
 within : (c : goal.After-self-1) → c.place-place.result < length c.self.inside.names.keys
 within c = let i = c.self.inside in (found_name i.names.keys i.slots.items i.edges.items c.self.invariant.0 c.args.name c.place-place.result (found c)).0
@@ -38,7 +38,7 @@ returns-clause-holders c = λ other.
     let i = c.self.inside in
     let slot : Slot = record { holder = c.index_mut-slot.result.now.holder; last = Some c.len-edge.result } in
     ap (λ hs. holder_at hs (place_of i.names.keys other)) (map-set_same (λ (s : Slot). s.holder) i.slots.items c.place-place.result slot c.index_mut-slot.result.now (ap (λ (s : Slot). s.holder) c.index_mut-slot.ensures.value))
-    ∙ ap (λ (l : Links). holder_of l other) c.self.view_is ∙ c.place-place.ensures.holders other
+    ∙ ap (λ (l : WaitIndex). holder_of l other) c.self.view_is ∙ c.place-place.ensures.holders other
 
 pub returns-clause-edges : goal.returns-clause-edges
 returns-clause-edges c =
@@ -46,4 +46,4 @@ returns-clause-edges c =
     let e : Edge = record { place = c.place-place.result; waiter = c.args.waiter; before = c.index.result.now.last } in
     let f = found_name i.names.keys i.slots.items i.edges.items c.self.invariant.0 c.args.name c.place-place.result (found c) in
     ap (map (named i.names.keys)) (edges_are c) ∙ map-append (named i.names.keys) i.edges.items (e ∷ [])
-    ∙ (λ k. (ap (λ (l : Links). l.edges) c.self.view_is ∙ c.place-place.ensures.edges) k ++ (sym f.1 k, c.args.waiter) ∷ [])
+    ∙ (λ k. (ap (λ (l : WaitIndex). l.edges) c.self.view_is ∙ c.place-place.ensures.edges) k ++ (sym f.1 k, c.args.waiter) ∷ [])

@@ -2,12 +2,12 @@ use Rattle.std.proofs.Common.{◌≡◌, ℕ, ◌<◌, List, Bool, length, slice
 use Rattle.std.proofs.lemmas.List.{set-set, set-get_or}
 use Rattle.retry_table.specs.declared.blocks.Times.TheVariants as times
 use Rattle.retry_table.specs.Table.{KeptRow}
-use Rattle.retry_table.specs.Queues.{is_awaited, AreLeast, Follows}
+use Rattle.retry_table.specs.Queues.{is_awaited, AreLeast, HasPassingRows}
 use Rattle.retry_table.proofs.Follows.{follows-set}
 use Rattle.retry_table.proofs.queues.Queues.put.Goals as goal
 
-written : (test : KeptRow → Bool) (rows : List KeptRow) (places new : List Bool) (n : ℕ) (kept : KeptRow) (v : Bool) → Follows test rows places → n < length rows → v ≡ test kept → new ≡ set places n v → Follows test (set rows n kept) new
-written test rows places new n kept v f within is e = subst (λ (p : List Bool). Follows test (set rows n kept) p) (sym e) (follows-set test rows places f n kept v within is)
+written : (test : KeptRow → Bool) (rows : List KeptRow) (places new : List Bool) (n : ℕ) (kept : KeptRow) (v : Bool) → HasPassingRows test rows places → n < length rows → v ≡ test kept → new ≡ set places n v → HasPassingRows test (set rows n kept) new
+written test rows places new n kept v f within is e = subst (λ (p : List Bool). HasPassingRows test (set rows n kept) p) (sym e) (follows-set test rows places f n kept v within is)
 
 -- what was read is put back
 put_back : (rows : List KeptRow) (n : ℕ) (row old : KeptRow) → old ≡ slice_index_or rows n old → rows ≡ set (set rows n row) n old

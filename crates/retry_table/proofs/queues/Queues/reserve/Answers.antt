@@ -3,7 +3,7 @@ use Rattle.std.proofs.lemmas.List.{take_all}
 use Rattle.retry_table.specs.declared.blocks.Times.{Times}
 use Rattle.retry_table.specs.declared.blocks.Times.TheVariants as times
 use Rattle.retry_table.specs.Table.{KeptRow, no_kept}
-use Rattle.retry_table.specs.Queues.{is_awaited, AreLeast, Follows}
+use Rattle.retry_table.specs.Queues.{is_awaited, AreLeast, HasPassingRows}
 use Rattle.retry_table.proofs.BlockLaws.{least-places, least-rows}
 use Rattle.retry_table.proofs.Follows.{follows-places, follows-rows, longer_most}
 use Rattle.retry_table.proofs.queues.Queues.reserve.Goals as goal
@@ -11,17 +11,17 @@ use Rattle.retry_table.proofs.queues.Queues.reserve.Goals as goal
 abbrev owed : KeptRow → Bool
 owed kept = kept.row.owed
 
-grown : (test : KeptRow → Bool) (rows : List KeptRow) (places new : List Bool) (count : ℕ) → Follows test rows places → count < 2 ^ 32 → new ≡ places ++ replicate (count - length places) false → Follows test rows new
-grown test rows places new count f fits e = subst (λ (p : List Bool). Follows test rows p) (sym e) (follows-places test rows places f count fits)
+grown : (test : KeptRow → Bool) (rows : List KeptRow) (places new : List Bool) (count : ℕ) → HasPassingRows test rows places → count < 2 ^ 32 → new ≡ places ++ replicate (count - length places) false → HasPassingRows test rows new
+grown test rows places new count f fits e = subst (λ (p : List Bool). HasPassingRows test rows p) (sym e) (follows-places test rows places f count fits)
 
-kept : (test : KeptRow → Bool) (rows : List KeptRow) (places new : List Bool) → Follows test rows places → new ≡ places → Follows test rows new
-kept test rows places new f e = subst (λ (p : List Bool). Follows test rows p) (sym e) f
+kept : (test : KeptRow → Bool) (rows : List KeptRow) (places new : List Bool) → HasPassingRows test rows places → new ≡ places → HasPassingRows test rows new
+kept test rows places new f e = subst (λ (p : List Bool). HasPassingRows test rows p) (sym e) f
 
 -- with rows for all places too
-filled : (test : KeptRow → Bool) (rows more : List KeptRow) (places new : List Bool) (count : ℕ) → Follows test rows places → count < 2 ^ 32 → new ≡ places ++ replicate (count - length places) false → more ≡ rows ++ replicate (count - length rows) no_kept → Follows test more new
+filled : (test : KeptRow → Bool) (rows more : List KeptRow) (places new : List Bool) (count : ℕ) → HasPassingRows test rows places → count < 2 ^ 32 → new ≡ places ++ replicate (count - length places) false → more ≡ rows ++ replicate (count - length rows) no_kept → HasPassingRows test more new
 filled test rows more places new count f fits e is =
     let all : count ≤ length new = subst (λ (p : List Bool). count ≤ length p) (sym e) (longer_most places false count) in
-    subst (λ (r : List KeptRow). Follows test r new) (sym is) (follows-rows test rows new (grown test rows places new count f fits e) count all)
+    subst (λ (r : List KeptRow). HasPassingRows test r new) (sym is) (follows-rows test rows new (grown test rows places new count f fits e) count all)
 
 -- the same of the blocks
 blocks_grown : (what : Times) (rows : List KeptRow) (tree new : List (Option ℕ)) (count : ℕ) → AreLeast what rows tree → count < 2 ^ 32 → new ≡ tree ++ replicate (count / 64 + 1 - length tree) None → AreLeast what rows new

@@ -4,7 +4,7 @@ use Rattle.sync_node.proofs.AddLaws.{add_attached, add_may, node_adds, node_allo
 use Rattle.sync_node.proofs.NodeLaws.{true≢false, fault_answers, is_closed_node, is_node, node_may, stays_closed}
 use Rattle.sync_node.proofs.SafeLaws.{goes_none}
 use Rattle.std.proofs.Common.{Err, subst}
-use Rattle.sync_store.specs.Commits.{Stays}
+use Rattle.sync_store.specs.Commits.{KeepsStore}
 use Rattle.sync_node.proofs.NodeLaws.{was_full}
 use Rattle.sync_node.proofs.AddLaws.{node_anew}
 use Rattle.sync_node.proofs.node.Node.add.Goals as goal
@@ -116,7 +116,7 @@ pub returns-in-Err-clause-undone : goal.returns-in-Err-clause-undone
 returns-in-Err-clause-undone g c = λ is.
     let done = c.in-Err.ensures.undone (ap (λ e. Err e) (was_full c.in-Err.fault _ c.close.ensures.fault is)) in
     record {
-      stays = subst (λ (n : NodeValue). Stays n.store c.add_settled.new.store) c.self.view_is done.stays;
+      stays = subst (λ (n : NodeValue). KeepsStore n.store c.add_settled.new.store) c.self.view_is done.stays;
       same_host = done.same_host;
     }
 

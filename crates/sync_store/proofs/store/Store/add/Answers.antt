@@ -1,6 +1,6 @@
 use Rattle.std.proofs.Common.{◌≡◌, ◌+◌, List, ℕ, length, refl, sym, ap, ◌∙◌, subst, false, arith, Ok}
 use Rattle.frame_journal.specs.Journal.{JournalValue}
-use Rattle.journal_state.specs.Whole.{Knows, StateValue}
+use Rattle.journal_state.specs.Whole.{KnowsJudgements, StateValue}
 use Rattle.sync_rules.specs.declared.entries.Entry.{Entry}
 use Rattle.sync_rules.specs.Clients.{Meaning}
 use Rattle.sync_rules.specs.Facts.{after_all}
@@ -9,8 +9,8 @@ use Rattle.entry_codec.specs.Payloads.{payload_len}
 use Rattle.sync_store.specs.declared.fault.StoreFault.TheVariants as fault
 use Rattle.sync_store.specs.Store.{StoreValue, written_in}
 use Rattle.sync_store.specs.Inside.{value_of}
-use Rattle.sync_store.specs.Fitting.{Fits, FitsSome}
-use Rattle.sync_store.specs.Commits.{Gains, MayAdd}
+use Rattle.sync_store.specs.Fitting.{FitsFiles, FitsSome}
+use Rattle.sync_store.specs.Commits.{GainsBatch, MayAdd}
 use Rattle.sync_store.proofs.FitSteps.{adds_err, adds_ok, framed_len, rests}
 use Rattle.sync_store.proofs.Growth.{grown_store}
 use Rattle.sync_store.proofs.Limits.{counts_few, few_held}
@@ -20,7 +20,7 @@ use Rattle.sync_store.proofs.store.Store.add.Goals as goal
 -- what the store becomes once the frame is added and the batch taken
 gained : (clients : Meaning) (s : StoreValue) (state : StateValue) (journal : JournalValue) (batch : List Entry) (framed : List ℕ) → MayAdd clients s batch framed → s.closed ≡ false
     → state.facts ≡ after_all s.state.facts batch → journal.file ≡ s.file → journal.end ≡ s.end + length framed → journal.format ≡ s.format → journal.generation ≡ s.generation
-    → Gains s (record { state = state; file = journal.file; format = journal.format; generation = journal.generation; end = journal.end; limit = s.limit; closed = s.closed }) batch
+    → GainsBatch s (record { state = state; file = journal.file; format = journal.format; generation = journal.generation; end = journal.end; limit = s.limit; closed = s.closed }) batch
 gained clients s state journal batch framed may still facts file end format generation =
     let long : length framed ≡ 5 + payload_len (written_in s) batch = framed_len s batch framed may.is_framed may.payload_is in
     record { facts = facts; file = file; format = format; generation = generation; end = omega (arith, end, long); limit = refl; closed = still }
@@ -58,7 +58,7 @@ returns-in-Ok-clause-extends g c two told j fits =
     let clients = g.C.Clients.meaning c.args.clients.now in
     let s = value_of c.self.inside in
     let may = subst (λ (v : StoreValue). MayAdd clients v c.args.batch c.args.framed.now) (sym c.self.view_is) c.requires.may in
-    let fits' = subst (λ (v : StoreValue). Fits clients v j two) (sym c.self.view_is) fits in
+    let fits' = subst (λ (v : StoreValue). FitsFiles clients v j two) (sym c.self.view_is) fits in
     let still : s.closed ≡ false = ap (λ (v : StoreValue). v.closed) c.self.view_is ∙ c.requires.ready.still_open in
     adds_ok c.cite_laws.ensures.stand clients s _ j two c.args.batch c.args.framed.now tt (g.D.Disk.tells c.args.disk.now) (g.D.Disk.tells c.append.new.disk) fits' may told
     (c.in-Ok.ensures.any_moment two told) c.in-Ok.ensures.appended
@@ -76,7 +76,7 @@ returns-in-Ok-clause-ready g c still =
     (ap (λ (j : JournalValue). j.end) c.in-Ok.ensures.ok) (ap (λ (j : JournalValue). j.format) c.in-Ok.ensures.ok) (ap (λ (j : JournalValue). j.generation) c.in-Ok.ensures.ok) in
     record {
       still_open = still;
-      knows = c.take_known.ensures.knows clients (subst (λ (v : StoreValue). Knows clients v.state) (sym c.self.view_is) c.requires.ready.knows);
+      knows = c.take_known.ensures.knows clients (subst (λ (v : StoreValue). KnowsJudgements clients v.state) (sym c.self.view_is) c.requires.ready.knows);
       fits =
           adds_ready_fits clients s _ c.args.batch (Ok tt) o o' c.in-Ok.ensures.run
           (λ two told j fits. adds_ok c.cite_laws.ensures.stand clients s _ j two c.args.batch c.args.framed.now tt o o' fits may told (c.in-Ok.ensures.any_moment two told) c.in-Ok.ensures.appended gains)
@@ -88,7 +88,7 @@ returns-in-Err-clause-extends g c two told j fits =
     let clients = g.C.Clients.meaning c.args.clients.now in
     let s = value_of c.self.inside in
     let may = subst (λ (v : StoreValue). MayAdd clients v c.args.batch c.args.framed.now) (sym c.self.view_is) c.requires.may in
-    let fits' = subst (λ (v : StoreValue). Fits clients v j two) (sym c.self.view_is) fits in
+    let fits' = subst (λ (v : StoreValue). FitsFiles clients v j two) (sym c.self.view_is) fits in
     adds_err c.cite_laws.ensures.stand clients s _ j two c.args.batch c.args.framed.now fault.DiskFault (g.D.Disk.tells c.args.disk.now) (g.D.Disk.tells c.append.new.disk) fits' may
     (c.in-Err.ensures.any_moment two told) refl
 
@@ -110,7 +110,7 @@ returns-in-Ok-clause-ok g c =
     let s = value_of c.self.inside in
     let may = subst (λ (v : StoreValue). MayAdd (g.C.Clients.meaning c.args.clients.now) v c.args.batch c.args.framed.now) (sym c.self.view_is) c.requires.may in
     let still : s.closed ≡ false = ap (λ (v : StoreValue). v.closed) c.self.view_is ∙ c.requires.ready.still_open in
-    subst (λ (v : StoreValue). Gains v (value_of (record { alloc = c.self.inside.alloc; state = c.take_known.new.self; journal = c.append.new.self; limit = c.self.inside.limit; closed = c.self.inside.closed })) c.args.batch)
+    subst (λ (v : StoreValue). GainsBatch v (value_of (record { alloc = c.self.inside.alloc; state = c.take_known.new.self; journal = c.append.new.self; limit = c.self.inside.limit; closed = c.self.inside.closed })) c.args.batch)
     c.self.view_is
     (gained (g.C.Clients.meaning c.args.clients.now) s c.take_known.new.self c.append.new.self c.args.batch c.args.framed.now may still c.take_known.ensures.facts
     (ap (λ (j : JournalValue). j.file) c.in-Ok.ensures.ok) (ap (λ (j : JournalValue). j.end) c.in-Ok.ensures.ok) (ap (λ (j : JournalValue). j.format) c.in-Ok.ensures.ok)

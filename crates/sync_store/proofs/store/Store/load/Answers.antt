@@ -7,7 +7,7 @@ use Rattle.outside.proofs.CallSteps.{looks_then, run_then}
 use Rattle.outside.specs.Files.{read_files}
 use Rattle.sync_store.specs.Store.{StoreValue}
 use Rattle.sync_store.specs.Faults.{load_of_start}
-use Rattle.sync_store.specs.Loading.{IsLoaded, LeavesSettled}
+use Rattle.sync_store.specs.Loading.{IsJournalLoaded, LeavesSettled}
 use Rattle.sync_store.specs.declared.fault.LoadFault.{LoadFault}
 use Rattle.sync_store.proofs.Errors.{err_is}
 use Rattle.sync_store.proofs.LoadEnds.{answers, answers_fault, barrier_told, images_then, knows_none, reads_leaves, ready_loaded, starts_fault, starts_leaves, starts_so_far, starts_some, store_of}
@@ -18,7 +18,7 @@ pub returns-in_err-journal-clause-answer : goal.returns-in_err-journal-clause-an
 returns-in_err-journal-clause-answer g c two told =
     let clients = g.C.Clients.meaning c.args.clients.now in
     let e = c.in_err-journal.field-0.0 in
-    subst (λ (r : Result StoreValue LoadFault). IsLoaded clients (read_files two) r) (sym (err_is c.from_residual-in_err-journal.result (load_of_start e) c.from_residual-in_err-journal.ensures.1))
+    subst (λ (r : Result StoreValue LoadFault). IsJournalLoaded clients (read_files two) r) (sym (err_is c.from_residual-in_err-journal.result (load_of_start e) c.from_residual-in_err-journal.ensures.1))
     (starts_fault clients (g.D.Disk.tells c.args.disk.now) (g.D.Disk.tells c.barrier.new.disk) two e c.in_ok-barrier.ensures.settled (λ mid there. c.in_err-journal.ensures.start mid there) told)
 
 pub returns-in_err-journal-clause-settled : goal.returns-in_err-journal-clause-settled
@@ -53,7 +53,7 @@ pub returns-in_err-read_all-clause-answer : goal.returns-in_err-read_all-clause-
 returns-in_err-read_all-clause-answer g c two told =
     let clients = g.C.Clients.meaning c.args.clients.now in
     let e = c.in_err-read_all.field-0.0 in
-    subst (λ (r : Result StoreValue LoadFault). IsLoaded clients (read_files two) r) (sym (err_is c.from_residual-in_err-read_all.result e c.from_residual-in_err-read_all.ensures.1))
+    subst (λ (r : Result StoreValue LoadFault). IsJournalLoaded clients (read_files two) r) (sym (err_is c.from_residual-in_err-read_all.result e c.from_residual-in_err-read_all.ensures.1))
     (answers_fault clients (g.D.Disk.tells c.args.disk.now) (g.D.Disk.tells c.barrier.new.disk) (g.D.Disk.tells c.read_all.new.disk) two c.read_all.new.journal c.read_all.new.state e
     c.in_ok-barrier.ensures.settled (c.read_all.ensures.looks.same_files ∙ c.start.ensures.looks.same_files) c.in_err-read_all.ensures.all told)
 

@@ -1,12 +1,12 @@
 use Rattle.std.proofs.Common.{◌≡◌, false, true, Ok, Err, inr, refl, sym, ap, ◌∙◌, subst}
-use Rattle.outside.specs.Disk.{Becomes}
-use Rattle.journal_state.specs.Whole.{Knows}
+use Rattle.outside.specs.Disk.{RelatesTold}
+use Rattle.journal_state.specs.Whole.{KnowsJudgements}
 use Rattle.journal_migration.specs.Migrating.{KeepsFile}
 use Rattle.journal_migration.specs.declared.fault.MigrationFault.{MigrationFault}
 use Rattle.sync_store.specs.declared.fault.StoreFault.TheVariants as fault
 use Rattle.sync_store.specs.Fitting.{FitsSome}
 use Rattle.sync_store.specs.Inside.{value_of}
-use Rattle.sync_store.specs.Migrations.{HasMigrated, IsOld}
+use Rattle.sync_store.specs.Migrations.{HasMigrated, IsInOldFormat}
 use Rattle.sync_store.specs.Store.{StoreValue}
 use Rattle.sync_store.proofs.MigrateSteps.{Gives, gives_of, leads_failed, leads_fits, leads_memory, leads_moved, moved_to, moves_on, next_of}
 use Rattle.sync_store.proofs.store.Store.move_on.Goals as goal
@@ -18,7 +18,7 @@ returns-in-Ok-clause-migrated g c =
     let n = c.in-Ok.journal in
     let o = g.D.Disk.tells c.args.disk.now in
     let o' = g.D.Disk.tells c.migrate.new.disk in
-    let old = subst IsOld (sym c.self.view_is) c.requires.old in
+    let old = subst IsInOldFormat (sym c.self.view_is) c.requires.old in
     let still : s.closed ≡ false = ap (λ (v : StoreValue). v.closed) c.self.view_is ∙ c.requires.ready.still_open in
     let next = next_of s n c.file-file.result c.generation-generation.result c.end-end.result c.file-file.ensures.value c.generation-generation.ensures c.end-end.ensures.value c.in-Ok.ensures.next in
     let gives = gives_of clients s (Ok n) o o' c.file-file.result c.generation-generation.result c.file-file.ensures.value c.generation-generation.ensures (c.in-Ok.ensures.migrates clients) in
@@ -32,11 +32,11 @@ returns-in-Ok-clause-ready g c still =
     let n = c.in-Ok.journal in
     let o = g.D.Disk.tells c.args.disk.now in
     let o' = g.D.Disk.tells c.migrate.new.disk in
-    let old = subst IsOld (sym c.self.view_is) c.requires.old in
+    let old = subst IsInOldFormat (sym c.self.view_is) c.requires.old in
     let gives = gives_of clients s (Ok n) o o' c.file-file.result c.generation-generation.result c.file-file.ensures.value c.generation-generation.ensures (c.in-Ok.ensures.migrates clients) in
     record {
       still_open = still;
-      knows = subst (λ (v : StoreValue). Knows clients v.state) (sym c.self.view_is) c.requires.ready.knows;
+      knows = subst (λ (v : StoreValue). KnowsJudgements clients v.state) (sym c.self.view_is) c.requires.ready.knows;
       fits =
           leads_fits clients s (moved_to s n) o o' c.in-Ok.ensures.run (leads_moved clients s n o o' old c.in-Ok.ensures.next.format_is gives)
           (subst (λ (v : StoreValue). FitsSome clients v o.files) (sym c.self.view_is) c.requires.ready.fits) still;
@@ -48,14 +48,14 @@ returns-in-Err-Memory-clause-migrated g c =
     let s = value_of c.self.inside in
     let o = g.D.Disk.tells c.args.disk.now in
     let o' = g.D.Disk.tells c.migrate.new.disk in
-    let old = subst IsOld (sym c.self.view_is) c.requires.old in
+    let old = subst IsInOldFormat (sym c.self.view_is) c.requires.old in
     let gives = gives_of clients s (Err c.in-Err-Memory.field-0) o o' c.file-file.result c.generation-generation.result c.file-file.ensures.value c.generation-generation.ensures (c.in-Err-Memory.ensures.migrates clients) in
-    let own : Becomes (KeepsFile c.file-file.result) o.files o'.files = rw c.in-Err-Memory.field-0-is at c.in-Err-Memory.ensures.own in
+    let own : RelatesTold (KeepsFile c.file-file.result) o.files o'.files = rw c.in-Err-Memory.field-0-is at c.in-Err-Memory.ensures.own in
     subst (λ (v : StoreValue). HasMigrated clients v v (Err fault.Memory) o o') c.self.view_is
     (record {
       answer = (old, refl);
       leads =
-          leads_memory clients s o o' old (subst (λ file. Becomes (KeepsFile file) o.files o'.files) c.file-file.ensures.value own)
+          leads_memory clients s o o' old (subst (λ file. RelatesTold (KeepsFile file) o.files o'.files) c.file-file.ensures.value own)
           (subst (λ (e : MigrationFault). Gives clients s (Err e) o o') c.in-Err-Memory.field-0-is gives);
     })
 
@@ -65,11 +65,11 @@ returns-in-Err-Memory-clause-ready g c still =
     let s = value_of c.self.inside in
     let o = g.D.Disk.tells c.args.disk.now in
     let o' = g.D.Disk.tells c.migrate.new.disk in
-    let old = subst IsOld (sym c.self.view_is) c.requires.old in
+    let old = subst IsInOldFormat (sym c.self.view_is) c.requires.old in
     let gives = gives_of clients s (Err c.in-Err-Memory.field-0) o o' c.file-file.result c.generation-generation.result c.file-file.ensures.value c.generation-generation.ensures (c.in-Err-Memory.ensures.migrates clients) in
-    let own : Becomes (KeepsFile c.file-file.result) o.files o'.files = rw c.in-Err-Memory.field-0-is at c.in-Err-Memory.ensures.own in
+    let own : RelatesTold (KeepsFile c.file-file.result) o.files o'.files = rw c.in-Err-Memory.field-0-is at c.in-Err-Memory.ensures.own in
     let leads =
-    leads_memory clients s o o' old (subst (λ file. Becomes (KeepsFile file) o.files o'.files) c.file-file.ensures.value own)
+    leads_memory clients s o o' old (subst (λ file. RelatesTold (KeepsFile file) o.files o'.files) c.file-file.ensures.value own)
     (subst (λ (e : MigrationFault). Gives clients s (Err e) o o') c.in-Err-Memory.field-0-is gives) in
     record {
       still_open = still;
@@ -87,7 +87,7 @@ returns-in-Err-DiskFault-clause-migrated g c =
     let new : StoreValue = record s { closed = true } in
     let o = g.D.Disk.tells c.args.disk.now in
     let o' = g.D.Disk.tells c.migrate.new.disk in
-    let old = subst IsOld (sym c.self.view_is) c.requires.old in
+    let old = subst IsInOldFormat (sym c.self.view_is) c.requires.old in
     let gives = gives_of clients s (Err c.in-Err-DiskFault.field-0) o o' c.file-file.result c.generation-generation.result c.file-file.ensures.value c.generation-generation.ensures (c.in-Err-DiskFault.ensures.migrates clients) in
     subst (λ (v : StoreValue). HasMigrated clients v new (Err fault.DiskFault) o o') c.self.view_is
     (record {

@@ -1,5 +1,5 @@
 use Rattle.std.proofs.Common.{◌≡◌, ◌↔◌, Bool, IsTrue, false, sym, ◌∙◌, subst, Result}
-use Rattle.journal_state.specs.Whole.{Knows, StateValue}
+use Rattle.journal_state.specs.Whole.{KnowsJudgements, StateValue}
 use Rattle.sync_rules.specs.Clients.{Meaning}
 use Rattle.sync_rules.specs.Steps.{IsSettled}
 use Rattle.sync_store.specs.declared.fault.StoreFault.{StoreFault}
@@ -10,9 +10,9 @@ use Rattle.sync_store.proofs.Steps.{unsettled}
 use Rattle.sync_store.proofs.store.Store.settle.Goals as goal
 
 -- what the state tells is so of the store whose state it is
-told_of : (s t : StateValue) (answer : Bool) → t ≡ s → ((clients : Meaning) → Knows clients t → (IsTrue answer ↔ IsSettled clients t.facts))
-    → (clients : Meaning) → Knows clients s → (IsTrue answer ↔ IsSettled clients s.facts)
-told_of s t answer same told = subst (λ (v : StateValue). (clients : Meaning) → Knows clients v → (IsTrue answer ↔ IsSettled clients v.facts)) same told
+told_of : (s t : StateValue) (answer : Bool) → t ≡ s → ((clients : Meaning) → KnowsJudgements clients t → (IsTrue answer ↔ IsSettled clients t.facts))
+    → (clients : Meaning) → KnowsJudgements clients s → (IsTrue answer ↔ IsSettled clients s.facts)
+told_of s t answer same told = subst (λ (v : StateValue). (clients : Meaning) → KnowsJudgements clients v → (IsTrue answer ↔ IsSettled clients v.facts)) same told
 
 pub batches-init : goal.batches-init
 batches-init g c =

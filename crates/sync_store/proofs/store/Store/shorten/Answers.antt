@@ -1,11 +1,11 @@
 use Rattle.std.proofs.Common.{◌≡◌, ◌-◌, ◌^◌, ◌<◌, false, true, Ok, Err, inr, refl, sym, ap, ◌∙◌, subst}
 use Rattle.sync_rules.specs.Steps.{IsSettled}
 use Rattle.entry_codec.specs.declared.naming.Format.TheVariants as kind
-use Rattle.journal_state.specs.Whole.{Knows}
-use Rattle.journal_compaction.specs.Compacting.{Weighs}
+use Rattle.journal_state.specs.Whole.{KnowsJudgements}
+use Rattle.journal_compaction.specs.Compacting.{WeighsAccount}
 use Rattle.journal_compaction.specs.declared.fault.CompactionFault.{CompactionFault}
 use Rattle.sync_store.specs.declared.fault.StoreFault.TheVariants as fault
-use Rattle.sync_store.specs.Compactions.{HasCompacted}
+use Rattle.sync_store.specs.Compactions.{StoreHasCompacted}
 use Rattle.sync_store.specs.Fitting.{FitsSome}
 use Rattle.sync_store.specs.Inside.{value_of}
 use Rattle.sync_store.specs.Store.{StoreValue, written_in}
@@ -43,7 +43,7 @@ returns-in-Ok-clause-compacted g c =
     let settled = subst (λ (v : StoreValue). IsSettled clients v.state.facts) (sym c.self.view_is) c.requires.settled in
     let short = short_is_two s (subst (λ (v : StoreValue). written_in v ≡ kind.Short) (sym c.self.view_is) c.requires.short) in
     let further = subst (λ (v : StoreValue). v.generation < 2 ^ 64 - 1) (sym c.self.view_is) c.requires.generation in
-    subst (λ (v : StoreValue). HasCompacted clients v (moved_with s state n) (Ok tt) o o') c.self.view_is
+    subst (λ (v : StoreValue). StoreHasCompacted clients v (moved_with s state n) (Ok tt) o o') c.self.view_is
     (record {
       answer = shortens_at clients s state m n refl refl still settled further c.in-Ok.ensures.room c.forget.ensures.facts c.forget.ensures.answers c.in-Ok.ensures.next;
       leads = leads_shortened clients s m o o' short c.self.invariant c.cite_laws.ensures.keeps state n tt settled c.forget.ensures.facts c.in-Ok.ensures.next.format_is c.in-Ok.ensures.compacts;
@@ -62,7 +62,7 @@ returns-in-Ok-clause-ready g c open' =
     let short = short_is_two s (subst (λ (v : StoreValue). written_in v ≡ kind.Short) (sym c.self.view_is) c.requires.short) in
     record {
       still_open = open';
-      knows = c.forget.ensures.knows clients (subst (λ (v : StoreValue). Knows clients v.state) (sym c.self.view_is) c.requires.ready.knows);
+      knows = c.forget.ensures.knows clients (subst (λ (v : StoreValue). KnowsJudgements clients v.state) (sym c.self.view_is) c.requires.ready.knows);
       fits =
           brief_fits clients s (moved_with s state n) (Ok tt) o o' c.in-Ok.ensures.run
           (leads_shortened clients s m o o' short c.self.invariant c.cite_laws.ensures.keeps state n tt settled c.forget.ensures.facts c.in-Ok.ensures.next.format_is c.in-Ok.ensures.compacts)
@@ -77,8 +77,8 @@ returns-in-Err-Full-clause-compacted g c =
     let o = g.D.Disk.tells c.args.disk.now in
     let o' = g.D.Disk.tells c.compact.new.disk in
     let short = short_is_two s (subst (λ (v : StoreValue). written_in v ≡ kind.Short) (sym c.self.view_is) c.requires.short) in
-    let over = subst (λ (e : CompactionFault). Weighs clients s.state.facts s.limit (Err e)) c.in-Err-Full.field-0-is c.in-Err-Full.ensures.room in
-    subst (λ (v : StoreValue). HasCompacted clients v v (Err fault.Full) o o') c.self.view_is
+    let over = subst (λ (e : CompactionFault). WeighsAccount clients s.state.facts s.limit (Err e)) c.in-Err-Full.field-0-is c.in-Err-Full.ensures.room in
+    subst (λ (v : StoreValue). StoreHasCompacted clients v v (Err fault.Full) o o') c.self.view_is
     (record {
       answer = (inr over, refl);
       leads = leads_full clients s m o o' short c.self.invariant (subst (λ (e : CompactionFault). GivesBrief clients s m (Err e) o o') c.in-Err-Full.field-0-is c.in-Err-Full.ensures.compacts);
@@ -111,7 +111,7 @@ returns-in-Err-Memory-clause-compacted g c =
     let o' = g.D.Disk.tells c.compact.new.disk in
     let short = short_is_two s (subst (λ (v : StoreValue). written_in v ≡ kind.Short) (sym c.self.view_is) c.requires.short) in
     let further = subst (λ (v : StoreValue). v.generation < 2 ^ 64 - 1) (sym c.self.view_is) c.requires.generation in
-    subst (λ (v : StoreValue). HasCompacted clients v v (Err fault.Memory) o o') c.self.view_is
+    subst (λ (v : StoreValue). StoreHasCompacted clients v v (Err fault.Memory) o o') c.self.view_is
     (record {
       answer = (further, refl);
       leads = leads_wanting clients s m o o' short c.self.invariant (subst (λ (e : CompactionFault). GivesBrief clients s m (Err e) o o') c.in-Err-Memory.field-0-is c.in-Err-Memory.ensures.compacts);
@@ -145,8 +145,8 @@ returns-in-Err-DiskFault-clause-compacted g c =
     let o' = g.D.Disk.tells c.compact.new.disk in
     let short = short_is_two s (subst (λ (v : StoreValue). written_in v ≡ kind.Short) (sym c.self.view_is) c.requires.short) in
     let further = subst (λ (v : StoreValue). v.generation < 2 ^ 64 - 1) (sym c.self.view_is) c.requires.generation in
-    let room = subst (λ (e : CompactionFault). Weighs clients s.state.facts s.limit (Err e)) c.in-Err-DiskFault.field-0-is c.in-Err-DiskFault.ensures.room in
-    subst (λ (v : StoreValue). HasCompacted clients v new (Err fault.DiskFault) o o') c.self.view_is
+    let room = subst (λ (e : CompactionFault). WeighsAccount clients s.state.facts s.limit (Err e)) c.in-Err-DiskFault.field-0-is c.in-Err-DiskFault.ensures.room in
+    subst (λ (v : StoreValue). StoreHasCompacted clients v new (Err fault.DiskFault) o o') c.self.view_is
     (record {
       answer = (record { generation = further; roomy = room }, refl);
       leads = leads_broken clients s m o o' short c.self.invariant new refl (subst (λ (e : CompactionFault). GivesBrief clients s m (Err e) o o') c.in-Err-DiskFault.field-0-is c.in-Err-DiskFault.ensures.compacts);

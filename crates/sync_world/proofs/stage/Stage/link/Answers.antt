@@ -8,7 +8,7 @@ use Rattle.world_devices.specs.Refusals.{RefusedBy}
 use Rattle.world_laws.specs.Worlds.{contact_for}
 use Rattle.sync_world.specs.Refusing.{refuses_to_attach}
 use Rattle.sync_world.proofs.RefusingLaws.{attach_allowed, err_passes, far_allowed, link_open, never}
-use Rattle.sync_world.specs.Doing.{Fills, ground_of}
+use Rattle.sync_world.specs.Doing.{FillsJournal, ground_of}
 use Rattle.world_scripts.specs.declared.step.WorldStep.TheVariants as step
 use Rattle.sync_world.proofs.TurningLaws.{both_linked, does_handed, far_full, memory_only, near_crashed, near_full, plan_is}
 use Rattle.sync_world.proofs.stage.Stage.link.Goals as goal
@@ -101,7 +101,7 @@ returns-in_err-attach-2-clause-same c = λ known is.
 pub returns-in_err-link-clause-does : goal.returns-in_err-link-clause-does
 returns-in_err-link-clause-does c =
     let made = step.Link c.args.d c.args.e c.args.mode c.args.latency in
-    does_handed made c.from_residual.result c.in_err-link.field-0.0 c.args.self.now _ c.from_residual.ensures.1 (memory_only (Fills made c.args.self.now) c.in_err-link.field-0.0 c.in_err-link.ensures.dials) tt
+    does_handed made c.from_residual.result c.in_err-link.field-0.0 c.args.self.now _ c.from_residual.ensures.1 (memory_only (FillsJournal made c.args.self.now) c.in_err-link.field-0.0 c.in_err-link.ensures.dials) tt
 
 pub returns-in_err-attach-clause-does : goal.returns-in_err-attach-clause-does
 returns-in_err-attach-clause-does c =

@@ -5,7 +5,7 @@ use Rattle.world_devices.specs.Refusals.{RefusedBy}
 use Rattle.sync_world.proofs.RefusingLaws.{by_same, found}
 use Rattle.std.proofs.Common.{Ok}
 use Rattle.world_devices.specs.Devices.{DeviceValue}
-use Rattle.world_devices.specs.Doing.{Restarts}
+use Rattle.world_devices.specs.Doing.{DeviceRestarts}
 use Rattle.world_devices.specs.declared.stop.Ran.TheVariants as ran
 use Rattle.sync_world.proofs.DoingLaws.{device_does}
 use Rattle.sync_world.proofs.stage.Stage.restart.Goals as goal
@@ -39,7 +39,7 @@ pub returns-clause-does : goal.returns-clause-does
 returns-clause-does c =
     let within : c.args.d < length c.args.self.now.devices.items = omega arith in
     record {
-      does = device_does (λ (was is : DeviceValue). Restarts (Ok tt) was is) c.args.d ran.Crashed c.args.self.now.devices.items _ c.args.self.now.links.items _ c.index_mut-device.result.now c.restart.new.self
+      does = device_does (λ (was is : DeviceValue). DeviceRestarts (Ok tt) was is) c.args.d ran.Crashed c.args.self.now.devices.items _ c.args.self.now.links.items _ c.index_mut-device.result.now c.restart.new.self
           within c.index_mut-device.ensures.value c.in_ok-restart.ensures.restarts c.came.ensures.devices c.came.ensures.links;
       groups = c.came.ensures.groups;
       posts = c.came.ensures.posts;

@@ -4,7 +4,7 @@ use Rattle.world_devices.specs.Devices.{DeviceValue}
 use Rattle.world_devices.proofs.CallLaws.{anew_leaves, runs_by}
 use Rattle.outside.specs.MemDisk.{calls_of}
 use Rattle.outside.proofs.CallSteps.{go_on_none}
-use Rattle.world_devices.specs.Doing.{Restarts}
+use Rattle.world_devices.specs.Doing.{DeviceRestarts}
 use Rattle.world_devices.specs.declared.stop.StepFault.TheVariants as fault
 use Rattle.world_devices.proofs.GivingUpLaws.{comes_anew, comes_same, restart_ended, restart_failed}
 use Rattle.world_devices.proofs.HostLaws.{calls_anew, calls_then, files_anew, made_anew, silent_fresh}
@@ -66,7 +66,7 @@ returns-in-Ok-clause-restarts c =
 
 pub returns-in-Err-Memory-clause-restarts : goal.returns-in-Err-Memory-clause-restarts
 returns-in-Err-Memory-clause-restarts c =
-    subst (λ (x : DeviceValue). Restarts (Err fault.Memory) x c.start.new.self) c.self.view_is (record {
+    subst (λ (x : DeviceValue). DeviceRestarts (Err fault.Memory) x c.start.new.self) c.self.view_is (record {
       at = c.start.new.self.host;
       since = (calls_then c.self.inside.host c.restart.new.self c.start.new.self.host (calls_anew c.self.inside.host c.restart.new.self c.restart.result c.restart.ensures.ok c.restart.ensures.err) c.start.ensures.calls);
       broken = λ j holds. c.start.ensures.settling j (holds_on j c.self.inside.host c.restart.new.self (files_anew c.self.inside.host c.restart.new.self c.in_ok-restart.ensures.ok) holds);

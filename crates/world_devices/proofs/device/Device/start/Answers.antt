@@ -10,7 +10,7 @@ use Rattle.world_devices.proofs.RunningLaws.{begins_running, keeps_seen, quiet_t
 use Rattle.outside.specs.MemHost.{MemHostValue}
 use Rattle.sync_node.specs.Node.{NodeValue}
 use Rattle.world_devices.specs.Linking.{IsBare}
-use Rattle.world_devices.specs.Running.{Holds}
+use Rattle.world_devices.specs.Running.{HoldsAfterCrash}
 use Rattle.world_devices.proofs.NewLaws.{holds_on}
 use Rattle.world_devices.proofs.StartLaws.{files_settling, settling_seen, start_anew, start_settling, start_within, within_none, within_seen}
 use Rattle.world_devices.proofs.device.Device.start.Goals as goal
@@ -58,16 +58,16 @@ invariant_of-self-2 c =
 
 pub returns-clause-bare : goal.returns-clause-bare
 returns-clause-bare c = λ holds.
-    let seen : Holds [] c.self.inside.host = subst (λ (h : MemHostValue). Holds [] h) (sym (ap (λ (d : DeviceValue). d.host) c.self.view_is)) holds in
+    let seen : HoldsAfterCrash [] c.self.inside.host = subst (λ (h : MemHostValue). HoldsAfterCrash [] h) (sym (ap (λ (d : DeviceValue). d.host) c.self.view_is)) holds in
     let same = clock_same c.dial_all.new.host c.set_clock.new.self _ c.set_clock.result c.set_clock.ensures.ok c.set_clock.ensures.err in
-    let on : Holds [] c.set_clock.new.self = holds_on [] c.self.inside.host c.set_clock.new.self (same.files ∙ c.dial_all.ensures.files) seen in
+    let on : HoldsAfterCrash [] c.set_clock.new.self = holds_on [] c.self.inside.host c.set_clock.new.self (same.files ∙ c.dial_all.ensures.files) seen in
     subst (λ (n : NodeValue). IsBare 0 n.store) (sym c.in_ok-new.ensures) (c.in_ok-store.ensures.bare on)
 
 pub returns-clause-loads : goal.returns-clause-loads
 returns-clause-loads c = λ j holds.
-    let seen : Holds j c.self.inside.host = subst (λ (h : MemHostValue). Holds j h) (sym (ap (λ (d : DeviceValue). d.host) c.self.view_is)) holds in
+    let seen : HoldsAfterCrash j c.self.inside.host = subst (λ (h : MemHostValue). HoldsAfterCrash j h) (sym (ap (λ (d : DeviceValue). d.host) c.self.view_is)) holds in
     let same = clock_same c.dial_all.new.host c.set_clock.new.self _ c.set_clock.result c.set_clock.ensures.ok c.set_clock.ensures.err in
-    let on : Holds j c.set_clock.new.self = holds_on j c.self.inside.host c.set_clock.new.self (same.files ∙ c.dial_all.ensures.files) seen in
+    let on : HoldsAfterCrash j c.set_clock.new.self = holds_on j c.self.inside.host c.set_clock.new.self (same.files ∙ c.dial_all.ensures.files) seen in
     c.in_ok-store.ensures.loads j on
 
 pub returns-in_err-dial_all-clause-settling : goal.returns-in_err-dial_all-clause-settling
