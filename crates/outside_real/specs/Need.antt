@@ -1,5 +1,5 @@
 -- What is needed of the files of a store.
-use Rattle.std.specs.Prelude.{◌≡◌, Bool, true, false}
+use Rattle.std.specs.Prelude.{Bool, true, false}
 use Rattle.outside_real.specs.declared.need.Need.{Need}
 use Rattle.outside_real.specs.declared.need.Need.TheVariants as need
 

@@ -106,12 +106,14 @@ impl<R: Runtime + Files<File = File> + AllocGlobal + Net> FileHost<R> {
         ensures no_links { IfOk result (λ h. vec_len h.links ≡ 0) }
         ensures reads { IfOk result (λ h. All (λ file. file.may_write ≡ false) h.files) }
     {
-        let mut host = FileHost::shut(rt, folder)?;
-        if let Ok((first, second)) = copied(&host.rt, host.alloc, folder) {
-            host.files[0].read_from(first);
-            host.files[1].read_from(second);
+        let alloc = rt.alloc();
+        let mut first = StoreFile::shut(alloc, folder, "bsp.0")?;
+        let mut second = StoreFile::shut(alloc, folder, "bsp.1")?;
+        if let Ok(copies) = copied(&rt, alloc, folder) {
+            first.read_from(copies.0);
+            second.read_from(copies.1);
         }
-        Ok(host)
+        Ok(FileHost::over(rt, [first, second]))
     }
 
     // Over the files themselves, for as long as the lock is held; over none without it.
