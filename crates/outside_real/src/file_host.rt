@@ -1,7 +1,7 @@
 //! The disk, the links and the clock of this machine.
 ghost use Rattle.std.specs.Prelude.{◌≡◌, ◌+◌, ◌<◌, ◌≤◌, IfOk, Ok, MatchResult, OnOk, OnErr};
-ghost use Rattle.std.specs.Prelude.{All, vec_len, false};
-ghost use Rattle.outside_real.specs.Need.{writes};
+ghost use Rattle.std.specs.Prelude.{vec_len, false};
+ghost use Rattle.outside_real.specs.Need.{IsUnwritten, writes};
 ghost use Rattle.outside.specs.declared.limits.TheConstants.{LINKS};
 ghost use Rattle.outside.specs.Faults.{HasCause};
 
@@ -28,7 +28,8 @@ use std::time::Clock;
 pub struct FileHost<R: Runtime + Net> {
     rt: R,
     alloc: Global,
-    files: [StoreFile<R>; 2],
+    first: StoreFile<R>,
+    second: StoreFile<R>,
     lock: Option<Lock>,
     disk_faults: u64,
     links: Vec<Link<R>>,
@@ -45,29 +46,31 @@ impl<R: Runtime + AllocGlobal + Net> FileHost<R> {
         let alloc = rt.alloc();
         let first = StoreFile::open(alloc, folder, "bsp.0")?;
         let second = StoreFile::open(alloc, folder, "bsp.1")?;
-        Ok(FileHost::over(rt, [first, second]))
+        Ok(FileHost::over(rt, first, second))
     }
 
     /// A host without links that touches no file: each call on one fails.
     pub fn shut(rt: R, folder: &str) -> Result<FileHost<R>, AllocError>
         ensures no_links { IfOk result (λ h. vec_len h.links ≡ 0) }
-        ensures reads { IfOk result (λ h. All (λ file. file.may_write ≡ false) h.files) }
+        ensures reads { IfOk result (λ h. IsUnwritten h.first.may_write h.second.may_write) }
     {
         let alloc = rt.alloc();
         let first = StoreFile::shut(alloc, folder, "bsp.0")?;
         let second = StoreFile::shut(alloc, folder, "bsp.1")?;
-        Ok(FileHost::over(rt, [first, second]))
+        Ok(FileHost::over(rt, first, second))
     }
 
-    fn over(rt: R, files: [StoreFile<R>; 2]) -> FileHost<R>
+    fn over(rt: R, first: StoreFile<R>, second: StoreFile<R>) -> FileHost<R>
         ensures no_links { vec_len result.links ≡ 0 }
-        ensures files { result.files ≡ files }
+        ensures first { result.first ≡ first }
+        ensures second { result.second ≡ second }
     {
         let alloc = rt.alloc();
         FileHost {
             rt,
             alloc,
-            files,
+            first,
+            second,
             lock: None,
             disk_faults: 0,
             links: Vec::new(alloc),
@@ -85,7 +88,7 @@ impl<R: Runtime + Files<File = File> + AllocGlobal + Net> FileHost<R> {
     pub fn with(rt: R, folder: &str, need: Need) -> Result<FileHost<R>, AllocError>
         ensures no_links { IfOk result (λ h. vec_len h.links ≡ 0) }
         ensures reads { writes need ≡ false
-            → IfOk result (λ h. All (λ file. file.may_write ≡ false) h.files) }
+            → IfOk result (λ h. IsUnwritten h.first.may_write h.second.may_write) }
     {
         match need {
             Need::Nothing => FileHost::shut(rt, folder),
@@ -104,16 +107,14 @@ impl<R: Runtime + Files<File = File> + AllocGlobal + Net> FileHost<R> {
     // Over copies of the files, for which others that will be done at once are waited for.
     fn reading(rt: R, folder: &str) -> Result<FileHost<R>, AllocError>
         ensures no_links { IfOk result (λ h. vec_len h.links ≡ 0) }
-        ensures reads { IfOk result (λ h. All (λ file. file.may_write ≡ false) h.files) }
+        ensures reads { IfOk result (λ h. IsUnwritten h.first.may_write h.second.may_write) }
     {
-        let alloc = rt.alloc();
-        let mut first = StoreFile::shut(alloc, folder, "bsp.0")?;
-        let mut second = StoreFile::shut(alloc, folder, "bsp.1")?;
-        if let Ok(copies) = copied(&rt, alloc, folder) {
-            first.read_from(copies.0);
-            second.read_from(copies.1);
+        let mut host = FileHost::shut(rt, folder)?;
+        if let Ok((first, second)) = copied(&host.rt, host.alloc, folder) {
+            host.first.read_from(first);
+            host.second.read_from(second);
         }
-        Ok(FileHost::over(rt, [first, second]))
+        Ok(host)
     }
 
     // Over the files themselves, for as long as the lock is held; over none without it.
@@ -177,27 +178,29 @@ impl<R: Runtime + Net> Disk for FileHost<R> {
     ghost tells = { λ h. silent h.disk_faults (vec_len h.links) h.link_faults };
 
     fn len(&mut self, file: u8) -> Result<u64, Failed> {
-        let answer = self.files[file as usize].len(&self.rt);
+        let answer = numbered(&mut self.first, &mut self.second, file).len(&self.rt);
         self.answer(answer)
     }
 
     fn read_at(&mut self, file: u8, at: u64, buf: &mut [u8]) -> Result<usize, Failed> {
-        let answer = self.files[file as usize].read_at(&self.rt, at, buf);
+        let answer = numbered(&mut self.first, &mut self.second, file).read_at(&self.rt, at, buf);
         self.answer(answer)
     }
 
     fn write_at(&mut self, file: u8, at: u64, bytes: &[u8]) -> Result<(), Failed> {
-        let answer = self.files[file as usize].write_at(&self.rt, at, bytes);
+        let answer = numbered(&mut self.first, &mut self.second, file).write_at(
+            &self.rt, at, bytes,
+        );
         self.answer(answer)
     }
 
     fn cut(&mut self, file: u8, len: u64) -> Result<(), Failed> {
-        let answer = self.files[file as usize].cut(&self.rt, len);
+        let answer = numbered(&mut self.first, &mut self.second, file).cut(&self.rt, len);
         self.answer(answer)
     }
 
     fn sync(&mut self, file: u8) -> Result<(), Failed> {
-        let answer = self.files[file as usize].sync(&self.rt);
+        let answer = numbered(&mut self.first, &mut self.second, file).sync(&self.rt);
         self.answer(answer)
     }
 }
@@ -253,6 +256,15 @@ impl<R: Runtime + Net> Host for FileHost<R> {
     fn now(&mut self) -> u64 {
         milliseconds(&self.rt)
     }
+}
+
+// The file of this number.
+fn numbered<'a, R: Files>(
+    first: &'a mut StoreFile<R>,
+    second: &'a mut StoreFile<R>,
+    file: u8,
+) -> &'a mut StoreFile<R> {
+    if file == 0 { first } else { second }
 }
 
 // The time since 1970, and 0 before it.
