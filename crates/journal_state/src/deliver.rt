@@ -9,6 +9,7 @@ ghost use Rattle.journal_state.specs.Delivery.{goes_to, GrowsRoom, HasRowsAtCont
 ghost use Rattle.journal_state.specs.Taking.{moved};
 ghost use Rattle.journal_state.specs.Whole.{id_at, KnowsJudgements};
 
+use crate::reserve::in_steps;
 use crate::state::State;
 use message_graph::Step;
 use retry_table::Retry;
@@ -46,7 +47,7 @@ fn reserve_row(retry: &mut Retry, contact: u8, numbers: u32, goes: bool) -> Resu
     if !goes {
         return Ok(());
     }
-    retry.reserve(contact, numbers, 0)
+    retry.reserve(contact, in_steps(numbers), 0)
 }
 
 /// Makes room for the rows of all numbers below `numbers` at each contact that is known and that a

@@ -7,6 +7,20 @@ use crate::state::State;
 use std::alloc::AllocError;
 use sync_rules::{Batch, Entry};
 
+/// The rows that a contact is given at a time.
+const STEP: u32 = 256;
+
+/// The entries for which room is made at a time, or more where a batch has more.
+const ENTRIES: usize = 64;
+
+/// So many numbers, or up to the end of their step, so that the rows of a contact are not made one
+/// at a time.
+pub(crate) fn in_steps(numbers: u32) -> u32
+    ensures { numbers ≤ result }
+{
+    numbers.saturating_add(STEP - 1 - numbers % STEP)
+}
+
 impl State {
     /// Makes room for the entries of a batch, so that they can be taken without memory; it never
     /// takes room away. It fails only for want of memory; no fact changes either way.
@@ -45,7 +59,7 @@ impl State {
         ensures answers { self.new.answers ≡ self.old.answers }
         ensures kept { KeepsRoom self.old.room self.new.room }
     {
-        let numbers = self.messages.len().saturating_add(1);
+        let numbers = in_steps(self.messages.len().saturating_add(1));
         self.retry.reserve(contact, numbers, wants)
     }
 
@@ -58,12 +72,16 @@ impl State {
         ensures rows { self.new.room.rows ≡ self.old.room.rows }
         ensures wants { self.new.room.wants ≡ self.old.room.wants }
     {
-        self.table.reserve(entries)?;
-        self.messages.reserve(entries)?;
-        self.sessions.reserve(entries)?;
-        self.graph.reserve(entries)?;
-        self.shares.reserve(entries)?;
-        self.space = self.space.max(entries);
+        if entries <= self.space {
+            return Ok(());
+        }
+        let room = entries.max(ENTRIES);
+        self.table.reserve(room)?;
+        self.messages.reserve(room)?;
+        self.sessions.reserve(room)?;
+        self.graph.reserve(room)?;
+        self.shares.reserve(room)?;
+        self.space = self.space.max(room);
         Ok(())
     }
 }

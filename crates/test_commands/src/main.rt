@@ -3,6 +3,8 @@
 //! independent program, whose BLAKE2b is that of Python's hashlib.
 #![tactic(auto)]
 
+mod audit_rows;
+mod audits;
 mod damage;
 mod damage_tables;
 mod failing;
@@ -50,9 +52,10 @@ enum Table {
     Drawn,
     Old,
     Adding,
+    Audits,
 }
 
-static TABLES: [(&str, Table); 15] = [
+static TABLES: [(&str, Table); 16] = [
     ("session", Table::Session),
     ("stored", Table::Stored),
     ("refusals", Table::Refusals),
@@ -68,6 +71,7 @@ static TABLES: [(&str, Table); 15] = [
     ("sharing, drawn", Table::Drawn),
     ("stores of format 1", Table::Old),
     ("stores of format 1, added to", Table::Adding),
+    ("audits", Table::Audits),
 ];
 
 fn main(rt: HostRuntime) -> Result<()> {
@@ -96,5 +100,6 @@ fn play_table(table: Table, tally: &mut Tally) -> Result<()> {
         Table::Drawn => sharing::play_drawn(tally),
         Table::Old => migrations::play_all(tally),
         Table::Adding => migrations::play_adding(tally),
+        Table::Audits => audits::play_all(tally),
     }
 }

@@ -1,10 +1,9 @@
-use Rattle.std.proofs.Common.{◌≡◌, ◌<◌, ◌+◌, ◌≤◌, Some, refl, sym, ap, subst, ◌∙◌}
+use Rattle.std.proofs.Common.{◌≡◌, ◌+◌, ◌≤◌, Some, refl, sym, ap, subst, ◌∙◌}
 use Rattle.sync_rules.specs.declared.entries.Entry.TheVariants as entry
 use Rattle.sync_rules.specs.Clients.{Meaning}
 use Rattle.sync_rules.specs.Facts.{Facts, after}
 use Rattle.sync_rules.specs.Left.{left_of}
 use Rattle.message_graph.specs.declared.nodes.Step.{Step}
-use Rattle.message_graph.specs.Nodes.{step_number}
 use Rattle.journal_state.specs.Stepping.{entry_of}
 use Rattle.journal_state.specs.Taking.{moved}
 use Rattle.journal_state.specs.Whole.{StateValue, KnowsJudgements, id_at}

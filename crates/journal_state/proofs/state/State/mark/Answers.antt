@@ -1,4 +1,4 @@
-use Rattle.std.proofs.Common.{◌≡◌, ℕ, Option, ap, subst, ◌∙◌}
+use Rattle.std.proofs.Common.{◌≡◌, ℕ, Option, subst, ◌∙◌}
 use Rattle.sync_rules.specs.Facts.{change_row}
 use Rattle.sync_rules.specs.Views.{IsFound, IsPlace}
 use Rattle.journal_state.specs.Marks.{marked}

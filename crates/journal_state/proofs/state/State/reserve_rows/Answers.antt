@@ -9,7 +9,7 @@ use Rattle.journal_state.proofs.Tables.{NoLess, no_less, room_kept}
 use Rattle.journal_state.proofs.state.State.reserve_rows.Goals as goal
 
 kept : (c : goal.After-reserve) → NoLess c.self.inside.retry c.reserve.new.self
-kept c = no_less c.reserve.result c.self.inside.retry c.reserve.new.self c.args.contact c.saturating_add-numbers.result c.args.wants c.reserve.ensures.ok c.reserve.ensures.err
+kept c = no_less c.reserve.result c.self.inside.retry c.reserve.new.self c.args.contact c.in_steps-numbers.result c.args.wants c.reserve.ensures.ok c.reserve.ensures.err
 
 pub invariant_of-self : goal.invariant_of-self
 invariant_of-self c = record {

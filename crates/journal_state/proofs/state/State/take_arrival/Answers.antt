@@ -1,4 +1,4 @@
-use Rattle.std.proofs.Common.{◌≡◌, ℕ, ◌+◌, ◌<◌, ◌≤◌, List, [], ◌∷◌, ◌++◌, length, refl, sym, ap, subst, ◌∙◌, arith, length-append}
+use Rattle.std.proofs.Common.{◌≡◌, ℕ, ◌+◌, ◌≤◌, List, [], ◌∷◌, ◌++◌, length, refl, sym, ap, subst, ◌∙◌, arith, length-append}
 use Rattle.sync_ids.specs.Ids.{message_id_of}
 use Rattle.sync_rules.specs.declared.states.Origin.TheVariants as origin
 use Rattle.sync_rules.specs.Facts.{Facts, Held, arrived, change_row, contact_in, contact_of, row_heard, wanted_by_none}

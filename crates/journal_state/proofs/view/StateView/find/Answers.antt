@@ -1,4 +1,4 @@
-use Rattle.std.proofs.Common.{◌≡◌, ℕ, Option, sym, ap, subst, ◌∙◌}
+use Rattle.std.proofs.Common.{ℕ, Option, sym, ap, subst, ◌∙◌}
 use Rattle.sync_rules.specs.Views.{place_of, IsFound}
 use Rattle.message_graph.specs.Nodes as nodes
 use Rattle.journal_state.specs.Whole.{StateValue}
