@@ -6,7 +6,7 @@
     bench/gate.py rt ci bramble_hash      one crate and those below it
     bench/gate.py --watch SEEN            each `rt ci` and `rt must-fail` of this machine, in whatever clone, until this is
                                           interrupted: it keeps in the file SEEN what they used, and adds to what stands there
-    bench/gate.py --of SEEN LOG..         the table of what was kept so, with the functions and edits that these logs tell
+    bench/gate.py --of SEEN LOG..         the table of what was kept so, with the functions that these logs tell of
     bench/gate.py --write ..              the table is written into docs/COSTS.md too; with any of these but --watch
 
 What the gate prints goes to the error output as it comes, and the table to the standard output. The minutes are those of a
@@ -16,6 +16,7 @@ run, and compiling, count as proof or tests of their crate where `rattle` does t
 the same for a crate, the dearest one counts: a later one has less to prove, or proves it anew after a change.
 """
 import collections
+import glob
 import json
 import os
 import re
@@ -117,17 +118,23 @@ def watch(costs, is_over):
         time.sleep(1)
 
 
+def crates():
+    """The crates in the order of crates.txt."""
+    with open('crates.txt') as file:
+        return [line.split(':')[0].split()[0] for line in file if line.strip() and line[0] != '#']
+
+
 def minutes_of(seen):
     """The minutes of each crate by what they went to, each in the run of the gate that took most for it."""
     minutes = collections.defaultdict(collections.Counter)
     for _, crate, kind, used in seen['used']:
         minutes[crate][kind] = max(minutes[crate][kind], used)
-    return minutes
+    return {crate: minutes[crate] for crate in crates() if crate in minutes}
 
 
-def counts_of(log):
-    """The functions that the gate proved of each crate, and the edits of each."""
-    functions, edits, crate = {}, collections.defaultdict(set), None
+def functions_of(log):
+    """The functions that the gate proved of each crate."""
+    functions, crate = {}, None
     for line in log:
         head = re.match(r'== (\w+)$', line)
         if head or line.startswith('== '):
@@ -135,14 +142,15 @@ def counts_of(log):
         verdict = re.match(r'logic=proved .*?functions=(\d+)', line)
         if verdict and crate:
             functions[crate] = int(verdict[1])
-        edit = re.match(r'rt: must-fail (\w+)/(\S+)', line)
-        if edit:
-            edits[edit[1]].add(edit[2])
-    return functions, {crate: len(names) for crate, names in edits.items()}
+    return functions
 
 
-def table_of(minutes, functions, edits):
-    names = [line.split(':')[0].split()[0] for line in open('crates.txt') if line.strip() and line[0] != '#']
+def edits_of(crate):
+    """How many wrong bodies the crate keeps."""
+    return len(glob.glob(f'crates/{crate}/must-fail/*.edit'))
+
+
+def table_of(minutes, functions):
     lines = ['| Crate | Functions | Proof | Tests | Wrong bodies | Refusing them | All |', '|---|---:|---:|---:|---:|---:|---:|']
 
     def add(name, number, used, tried):
@@ -150,17 +158,27 @@ def table_of(minutes, functions, edits):
         lines.append(f'| {name} | {number} | {proof} | {tests} | {tried} | {refusing} | {sum(used.values()):.1f} |')
 
     whole, all_functions, all_edits = collections.Counter(), 0, 0
-    for name in names:
-        if name in minutes:
-            add(f'`{name}`', functions.get(name, ''), minutes[name], edits.get(name, 0))
-            whole.update(minutes[name])
-            all_functions += functions.get(name, 0)
-            all_edits += edits.get(name, 0)
+    for name, used in minutes.items():
+        tried = edits_of(name) if used['edits'] else 0
+        add(f'`{name}`', functions.get(name, ''), used, tried)
+        whole.update(used)
+        all_functions += functions.get(name, 0)
+        all_edits += tried
     add('all', all_functions, whole, all_edits)
-    missing = [name for name in names if name not in minutes]
+    missing = [name for name in crates() if name not in minutes]
     if missing:
         lines += ['', f'Not in it, since no run that was watched proved them: {", ".join(missing)}.']
     return '\n'.join(lines)
+
+
+def parts_of(minutes):
+    """What the parts of the gate took: the wrong bodies, and beside them the crates that test, the one that measures and the others."""
+    parts = collections.Counter()
+    for name, used in minutes.items():
+        part = 'crates that test' if name.startswith('test_') else 'the one that measures' if name == 'bench' else 'libraries and programs'
+        parts[part] += used['proof'] + used['tests']
+        parts['wrong bodies'] += used['edits']
+    return ', '.join(f'{part} {parts[part]:.1f}' for part in ('libraries and programs', 'crates that test', 'the one that measures', 'wrong bodies'))
 
 
 def write_table(text):
@@ -225,7 +243,8 @@ def main(here, words):
     load = seen['load'] / max(seen['looks'], 1)
     told = (f'Runs of the gate: {runs}. The machine has {os.cpu_count()} processors, and its load was {load:.0f} meanwhile; '
             'what else runs makes a minute of a processor longer.')
-    text = f'{table_of(minutes_of(seen), *counts_of(log))}\n\n{told}'
+    minutes = minutes_of(seen)
+    text = f'{table_of(minutes, functions_of(log))}\n\nMinutes by part: {parts_of(minutes)}.\n\n{told}'
     print(text)
     if writes:
         write_table(text)
