@@ -1,6 +1,6 @@
 //! What a command needs of the files of a store.
 ghost use Rattle.std.specs.Prelude.{◌≡◌};
-ghost use Rattle.bsp.specs.Needs.{touches};
+ghost use Rattle.node_program.specs.Needs.{touches};
 ghost use Rattle.commands.specs.Writing.{may_write, uses_store};
 ghost use Rattle.outside_real.specs.Need.{writes};
 
