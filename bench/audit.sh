@@ -7,7 +7,7 @@
 # The last lines are `ratio NAME VALUE`.
 set -eu
 cd "$(dirname "$0")/.."
-(cd crates/bench_store && rt run -- load 50 200 1 >/dev/null)
+(cd crates/bench && rt run -- store load 50 200 1 >/dev/null)
 exec env PYTHONPATH=bench:oracle PYTHONDONTWRITEBYTECODE=1 python3 - "${RUNS:-3}" "${FEW:-5000}" "${MANY:-20000}" "${WORST:-5000}" <<'PY'
 import math, os, subprocess, sys, tempfile
 
@@ -16,7 +16,7 @@ from journal_files import chain, heard, star
 from measure import least, run
 from store_file import HEADER, Note, framed
 
-PROGRAM = os.path.abspath("crates/bench_store/out/bench_store")
+PROGRAM = os.path.abspath("crates/bench/out/bench")
 SESSIONS, SIZE = 100, 200
 # the greatest memory of a step, told by a process that is itself small
 PEAK = """
@@ -29,12 +29,12 @@ runs, few, many, worst = map(int, sys.argv[1:])
 
 def step(folder, want, *words):
     """One run, which must print what is wanted; its seconds are those of the step alone, as the program tells them."""
-    told = run(PROGRAM, *words, folder=folder, want=want)
+    told = run(PROGRAM, "store", *words, folder=folder, want=want)
     return told._replace(seconds=int(told.err) / 1e6)
 
 
 def peak(folder, *words):
-    words = (sys.executable, "-c", PEAK, folder, PROGRAM, *words)
+    words = (sys.executable, "-c", PEAK, folder, PROGRAM, "store", *words)
     return int(subprocess.run(words, capture_output=True, check=True).stdout)
 
 

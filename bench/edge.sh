@@ -10,7 +10,7 @@
 cd "$(dirname "$0")/.." || exit 1
 bsp=$PWD/crates/bsp/out/bsp
 if [ ! -x "$bsp" ]; then (cd crates/bsp && rt run -- try note d <stdin >/dev/null) || exit 1; fi
-(cd crates/bench_store && rt run -- load 50 200 1 >/dev/null) || exit 1
+(cd crates/bench && rt run -- store load 50 200 1 >/dev/null) || exit 1
 command -v strace >/dev/null || { echo 'strace is missing: apt-get install strace' && exit 1; }
 folder=$(mktemp -d) || exit 1
 trap 'chmod -R u+rwx "$folder"; rm -rf "$folder"' EXIT
@@ -21,7 +21,7 @@ from measure import least, run
 from store_file import GROUP, Note, file_bytes, inbox_text, show_text
 
 bsp, folder, runs = sys.argv[1], os.path.realpath(sys.argv[2]), int(sys.argv[3])
-bench = os.path.abspath('crates/bench_store/out/bench_store')
+bench = os.path.abspath('crates/bench/out/bench')
 NOTES = [Note(time, 200) for time in range(20_000)]
 STORE = os.path.join(folder, 'bsp.0')
 PIECE, OTHERS = 32 << 10, 24
@@ -102,7 +102,7 @@ def compare_files():
         file.write(file_bytes(notes))
 
     def load():
-        told = run(bench, 'file', folder=folder)
+        told = run(bench, 'store', 'file', folder=folder)
         return told._replace(seconds=int(told.err) / 1e6)
 
     (real, _), (memory, _) = least(runs, lambda: run(bsp, 'body', notes[7].id.hex(), folder=folder, want=notes[7].body.decode()), load)

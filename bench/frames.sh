@@ -4,7 +4,7 @@
 # `ratio frames VALUE`; 1 is linear.
 set -eu
 cd "$(dirname "$0")/.."
-(cd crates/bench_frames && rt run >/dev/null)
+(cd crates/bench && rt run -- frames 10 >/dev/null)
 exec env PYTHONPATH=bench PYTHONDONTWRITEBYTECODE=1 python3 - "${RUNS:-9}" <<'PY'
 import sys
 
@@ -14,7 +14,7 @@ runs = int(sys.argv[1])
 
 
 def timed(count):
-    return lambda: run("crates/bench_frames/out/bench_frames", str(count))
+    return lambda: run("crates/bench/out/bench", "frames", str(count))
 
 
 (few, _), (many, _) = least(runs, timed(5000), timed(20000))

@@ -5,7 +5,7 @@
 # of the two grows.
 set -eu
 cd "$(dirname "$0")/.."
-(cd crates/bench_graph && rt run -- chain 10 >/dev/null)
+(cd crates/bench && rt run -- graph chain 10 >/dev/null)
 exec env PYTHONPATH=bench PYTHONDONTWRITEBYTECODE=1 python3 - "${RUNS:-5}" <<'PY'
 import math, sys
 
@@ -17,7 +17,7 @@ few, many = 50_000, 200_000
 
 def play(shape, count):
     told = f"{count} held, {count} delivered, {2 * count} steps\n"
-    return lambda: run("crates/bench_graph/out/bench_graph", shape, str(count), want=told)
+    return lambda: run("crates/bench/out/bench", "graph", shape, str(count), want=told)
 
 
 worst = 0.0

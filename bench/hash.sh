@@ -1,9 +1,9 @@
 #!/bin/sh
-# The digest's speed: bench_hash against `b2sum -l 256` on the same 256 MiB in memory, in turns.
+# The digest's speed: the part `hash` of crates/bench against `b2sum -l 256` on the same 256 MiB in memory, in turns.
 # Prints each one's least time of RUNS (7) runs; the last line is `ratio hash VALUE`.
 set -eu
 cd "$(dirname "$0")/.."
-(cd crates/bench_hash && rt run >/dev/null)
+(cd crates/bench && rt run -- hash <stdin >/dev/null)
 exec env PYTHONPATH=bench PYTHONDONTWRITEBYTECODE=1 python3 - "${RUNS:-7}" <<'PY'
 import os, sys, tempfile
 
@@ -28,13 +28,13 @@ with tempfile.NamedTemporaryFile(dir=shm) as data:
     data.flush()
     (ours, _), (theirs, _) = least(
         runs,
-        lambda: hashed(data.name, "crates/bench_hash/out/bench_hash"),
+        lambda: hashed(data.name, "crates/bench/out/bench", "hash"),
         lambda: hashed(data.name, "b2sum", "-l", "256"),
     )
     if len(digests) != 1:
         sys.exit(f"the digests differ: {digests}")
     print(f"{SIZE} bytes, least processor time of {runs} runs in turns")
-    print(f"bench_hash {ours:.3f} s")
+    print(f"bench hash {ours:.3f} s")
     print(f"b2sum      {theirs:.3f} s")
     print(f"ratio hash {ours / theirs:.3f}")
 PY

@@ -7,7 +7,7 @@
 # chosen and of one slot over random for the OFFER.
 set -eu
 cd "$(dirname "$0")/.."
-(cd crates/bench_store && rt run -- load 50 200 1 >/dev/null)
+(cd crates/bench && rt run -- store load 50 200 1 >/dev/null)
 exec env PYTHONPATH=bench:oracle PYTHONDONTWRITEBYTECODE=1 python3 - "${RUNS:-3}" "${FEW:-5000}" "${MANY:-20000}" <<'PY'
 import hashlib, math, os, struct, sys, tempfile
 
@@ -15,7 +15,7 @@ from digests import group_id, message_id
 from measure import least, run
 from store_file import CLOSED, HEADER, OPEN, frame
 
-PROGRAM = os.path.abspath("crates/bench_store/out/bench_store")
+PROGRAM = os.path.abspath("crates/bench/out/bench")
 runs, few, many = map(int, sys.argv[1:])
 NAMES, IDS, ROUNDS = 100, 1536, 200
 THREAD = group_id(b"thread", 0, b"")
@@ -76,7 +76,7 @@ def write_store(folder, count, name_of):
 
 def step(folder, want, *words):
     """One run, which must print what is wanted; its seconds are those of the step alone, as the program tells them."""
-    told = run(PROGRAM, *words, folder=folder, want=want)
+    told = run(PROGRAM, "store", *words, folder=folder, want=want)
     return told._replace(seconds=int(told.err) / 1e6)
 
 

@@ -2,7 +2,7 @@
 # A journal of format 1 that is written anew in format 2. Files are made by oracle/store_file.py, and each file that a run leaves is
 # compared with what that module says.
 # - A store of COUNT (200,000) notes of 200 bytes over a disk in memory: the least processor time of RUNS (3) runs of the migration
-#   alone, as crates/bench_store takes it, against two loads of the same journal.
+#   alone, as the part `store` of crates/bench takes it, against two loads of the same journal.
 # - `contact` over such a store on real files, in a folder of its own on a disk, beside `body` of an unknown id, which loads the
 #   store and refuses, and a bare program that makes the same writes and syncs (bench/bare_append.c): medians of RUNS runs, on the
 #   clock and of the processor, each with the start of its process. What the program takes beside its load is compared. With COUNT
@@ -13,7 +13,7 @@
 cd "$(dirname "$0")/.." || exit 1
 bsp=$PWD/crates/bsp/out/bsp
 if [ ! -x "$bsp" ]; then (cd crates/bsp && rt run -- try note d <stdin >/dev/null) || exit 1; fi
-(cd crates/bench_store && rt run -- load 50 200 1 >/dev/null) || exit 1
+(cd crates/bench && rt run -- store load 50 200 1 >/dev/null) || exit 1
 folder=$(mktemp -d) || exit 1
 trap 'rm -rf "$folder"' EXIT
 case $(stat -f -c %T "$folder") in
@@ -74,7 +74,7 @@ def timed(words, given=b'', status=0):
 
 def step(name, end):
     """One run, whose seconds are those of the step alone, as the program tells them."""
-    told = run('crates/bench_store/out/bench_store', name, str(count), str(SIZE), '1', want=f'{count} held, {count} delivered, {end} bytes\n')
+    told = run('crates/bench/out/bench', 'store', name, str(count), str(SIZE), '1', want=f'{count} held, {count} delivered, {end} bytes\n')
     return told._replace(seconds=int(told.err) / 1e6)
 
 

@@ -7,7 +7,7 @@
 # to the same journal's file and the same bytes sent as are computed here. The last lines are `ratio NAME VALUE`.
 set -eu
 cd "$(dirname "$0")/.."
-(cd crates/bench_node && rt run -- both hear 50 200 >/dev/null)
+(cd crates/bench && rt run -- node both hear 50 200 >/dev/null)
 exec env PYTHONPATH=bench:oracle PYTHONDONTWRITEBYTECODE=1 python3 - "${RUNS:-5}" <<'PY'
 import hashlib, struct, sys
 from multiprocessing import get_context
@@ -89,7 +89,7 @@ with get_context("fork").Pool(1) as pool:
 
 
 def step(who, way, count):
-    return run("crates/bench_node/out/bench_node", who, way, str(count), str(LENGTH), want=WANTED[way, count])
+    return run("crates/bench/out/bench", "node", who, way, str(count), str(LENGTH), want=WANTED[way, count])
 
 
 def timed(who, way, count, place):

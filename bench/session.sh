@@ -5,7 +5,7 @@
 # number the worse of the two steps grows.
 set -eu
 cd "$(dirname "$0")/.."
-(cd crates/bench_session && rt run -- take 10 1 >/dev/null)
+(cd crates/bench && rt run -- session take 10 1 >/dev/null)
 exec env PYTHONPATH=bench PYTHONDONTWRITEBYTECODE=1 python3 - "${RUNS:-5}" <<'PY'
 import math, sys
 
@@ -19,7 +19,7 @@ last = {"take": 1_001, "due": 1_536}
 
 def ask(step, count, times):
     told = f"{times} rounds, {last[step] if times else 0} in the last\n"
-    return lambda: run("crates/bench_session/out/bench_session", step, str(count), str(times), want=told)
+    return lambda: run("crates/bench/out/bench", "session", step, str(count), str(times), want=told)
 
 
 def one(step, count):

@@ -6,7 +6,7 @@
 # a held message takes beside its body.
 set -eu
 cd "$(dirname "$0")/.."
-(cd crates/bench_store && rt run -- load 50 200 1 >/dev/null)
+(cd crates/bench && rt run -- store load 50 200 1 >/dev/null)
 exec env PYTHONPATH=bench:oracle PYTHONDONTWRITEBYTECODE=1 python3 - "${RUNS:-5}" "${CONTACTS:-1}" <<'PY'
 import os, struct, sys, tempfile
 
@@ -47,7 +47,7 @@ def write_journal(path, count, length, contacts):
 
 def step(name, count, length, contacts, want):
     """One run, which must print what is wanted; its seconds are those of the step alone, as the program tells them."""
-    told = run("crates/bench_store/out/bench_store", name, str(count), str(length), str(contacts), want=want)
+    told = run("crates/bench/out/bench", "store", name, str(count), str(length), str(contacts), want=want)
     return told._replace(seconds=int(told.err) / 1e6)
 
 

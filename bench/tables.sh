@@ -4,7 +4,7 @@
 # of one contact and message, and last `ratio tables VALUE`: how much faster than n log n the work grows.
 set -eu
 cd "$(dirname "$0")/.."
-(cd crates/bench_tables && rt run -- 10 >/dev/null)
+(cd crates/bench && rt run -- tables 10 >/dev/null)
 exec env PYTHONPATH=bench PYTHONDONTWRITEBYTECODE=1 python3 - "${RUNS:-5}" <<'PY'
 import math, sys
 
@@ -17,7 +17,7 @@ contacts, few, many = 8, 50_000, 200_000
 def fill(count):
     rows = contacts * count
     told = f"{2 * rows} sent, {rows} offered, {rows} acknowledged\n"
-    return lambda: run("crates/bench_tables/out/bench_tables", str(count), want=told)
+    return lambda: run("crates/bench/out/bench", "tables", str(count), want=told)
 
 
 (short, _), (long, memory), (_, empty) = least(runs, fill(few), fill(many), fill(1))

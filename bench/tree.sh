@@ -1,5 +1,5 @@
 #!/bin/sh
-# Trees of replies. First a tree alone (bench_tree): 50,000 and 200,000 items as chains of 20,000, as a star and as replies that
+# Trees of replies. First a tree alone (the part `tree` of crates/bench): 50,000 and 200,000 items as chains of 20,000, as a star and as replies that
 # look random; the least processor time of RUNS (5) runs, and how much faster than linear in the sum of the depths it grows, each
 # item's depth counted with the item itself; and the bytes an item, between 2,000,000 and 4,000,000. Then the command over a store
 # of 200,000 messages, as a star and as such replies: `tree GROUP 100000 20`, in turns with `body` of an unknown id, which loads
@@ -7,7 +7,7 @@
 # and one of 100,000 (CHAINS). The last lines are `ratio NAME VALUE`. It takes some minutes.
 set -eu
 cd "$(dirname "$0")/.."
-(cd crates/bench_tree && rt run -- 10 100 >/dev/null)
+(cd crates/bench && rt run -- tree 10 100 >/dev/null)
 bsp=$PWD/crates/bsp/out/bsp
 if [ ! -x "$bsp" ]; then (cd crates/bsp && rt run -- try note d <stdin >/dev/null); fi
 export PYTHONPATH=bench:oracle PYTHONDONTWRITEBYTECODE=1
@@ -16,8 +16,8 @@ export PYTHONPATH=bench:oracle PYTHONDONTWRITEBYTECODE=1
 python3 - <<'PY'
 from measure import run
 
-tree, few, many = 'crates/bench_tree/out/bench_tree', 2_000_000, 4_000_000
-least, most = (run(tree, 'star', str(count)).memory for count in (few, many))
+bench, few, many = 'crates/bench/out/bench', 2_000_000, 4_000_000
+least, most = (run(bench, 'tree', 'star', str(count)).memory for count in (few, many))
 print(f'ratio tree_bytes_an_item {(most - least) / (many - few):.1f}', flush=True)
 PY
 exec python3 - "$bsp" "${RUNS:-5}" "${CHAINS:-20000 100000}" <<'PY'
@@ -36,7 +36,7 @@ UNKNOWN = '0' * 64
 # ---- a tree alone
 
 def scatter(n):
-    """The numbers of bench_tree that look random."""
+    """The numbers of that part that look random."""
     x = n * 0x9e3779b97f4a7c15 & 0xffffffffffffffff
     x ^= x >> 29
     x = x * 0xbf58476d1ce4e5b9 & 0xffffffffffffffff
@@ -74,18 +74,18 @@ def parents_of(shape, count):
 
 
 def adds(shape, count):
-    """A run of bench_tree, and the steps that it makes: one for each item and one for each above it."""
+    """A run of that part, and the steps that it makes: one for each item and one for each above it."""
     depths, _, walk = tree_of(parents_of(shape, count))
     told = f'{count} items, depths {sum(depths)}, {walk[count // 2]} in the middle\n'
     word = str(LENGTH) if shape == 'chains' else shape
-    return (lambda: run('crates/bench_tree/out/bench_tree', word, str(count), want=told)), sum(depths) + count
+    return (lambda: run('crates/bench/out/bench', 'tree', word, str(count), want=told)), sum(depths) + count
 
 
 ratios = []
 for shape in ('chains', 'star', 'random'):
-    (few, few_steps), (many, steps), (one, _) = adds(shape, FEW), adds(shape, MANY), adds(shape, 1)
+    (few, few_steps), (many, many_steps), (one, _) = adds(shape, FEW), adds(shape, MANY), adds(shape, 1)
     (short, _), (long, _), (start, _) = least(runs, few, many, one)
-    growth = (long - start) / max(short - start, 0.001) / (steps / few_steps)
+    growth = (long - start) / max(short - start, 0.001) / (many_steps / few_steps)
     print(f'{shape}: {FEW} in {short:.3f} s, {MANY} in {long:.3f} s, growth over the sum of depths {growth:.3f}', flush=True)
     ratios.append(f'ratio tree_add_{shape} {growth:.3f}')
 

@@ -11,3 +11,4 @@ pub mod Says
 pub mod Work
 pub mod Shown
 pub mod Calls
+pub mod Heads

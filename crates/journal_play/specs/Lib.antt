@@ -2,3 +2,4 @@ pub mod Texts
 pub mod Playing
 pub mod Fates
 pub mod Keeping
+pub mod Holding

@@ -2,6 +2,7 @@
 //! and prints a line for each message.
 #![tactic(auto)]
 
+mod held;
 mod kept;
 mod laws;
 mod lines;

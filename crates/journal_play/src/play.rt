@@ -17,17 +17,15 @@ ghost use Rattle.journal_play.specs.Keeping.{with_head};
 ghost use Rattle.journal_play.specs.Playing.{HasPlayed, IsTextOf, judged_of, shown_of, StoryStandsFor};
 ghost use Rattle.journal_play.specs.Playing.{Story};
 
+use crate::held::HeldGraph;
 use crate::kept::{Fresh, Head};
 use crate::lines::{add_line, make_head};
-use message_graph::{Fate, Graph, Judged, Names, Step};
+use message_graph::{Fate, Judged, Names, Step};
 use std::alloc::{AllocError, Global};
 use std::hash::RandomState;
 use std::marker::Model;
 use sync_ids::{GroupDef, GroupId, Message, MessageId, Record, group_id, records_are_within};
 use sync_rules::{Clients, Judgement};
-
-// The number of the one group.
-const GROUP: u32 = 0;
 
 /// A journal of one group and one session, as far as its lines need it. Contracts see the kind of
 /// the group's client, the group's id, what the lines say of the held messages, their nodes in a
@@ -36,13 +34,11 @@ const GROUP: u32 = 0;
 pub struct Play {
     kind: u8,
     group: GroupId,
-    held: Vec<Head>,
-    graph: Graph,
+    held: HeldGraph,
     text: String,
 }
 
 impl Model for Play {
-    ghost use Rattle.std.specs.Prelude.{◌≡◌, ◌<◌, ◌^◌, length};
     ghost use Rattle.std.specs.String.{string_bytes};
     ghost use Rattle.journal_play.specs.Playing.{Played};
 
@@ -51,14 +47,11 @@ impl Model for Play {
     ghost view = { λ p. record {
       kind = p.kind;
       group = p.group;
-      heads = p.held.items;
-      nodes =
-          p.graph.nodes;
-      text = string_bytes p.text;
+      heads = p.held.heads;
+      nodes = p.held.nodes;
+      text =
+          string_bytes p.text;
     } };
-
-    ghost invariant = { λ p. (length p.graph.nodes ≡ length p.held.items)
-        × (length p.held.items < 2 ^ 32) };
 }
 
 impl Play {
@@ -75,12 +68,11 @@ impl Play {
             → HasPlayed clients def [] play) }
     {
         let group = group_id(&def);
-        let graph = Graph::new(alloc, hasher)?;
+        let held = HeldGraph::new(alloc, hasher)?;
         Ok(Play {
             kind,
             group,
-            held: Vec::new(alloc),
-            graph,
+            held,
             text: String::new(alloc),
         })
     }
@@ -114,10 +106,9 @@ impl Play {
             kind: _,
             group: _,
             held,
-            graph,
             mut text,
         } = self;
-        add_pending(held.as_slice(), &graph, &mut text)?;
+        add_pending(&held, &mut text)?;
         Ok(text)
     }
 
@@ -147,7 +138,7 @@ impl Play {
             return Ok(None);
         }
         let head = make_head(&message);
-        if self.graph.number(&head.id.0).is_some() {
+        if self.held.number(&head.id).is_some() {
             return Ok(None);
         }
         let number = self.hold(head)?;
@@ -160,15 +151,7 @@ impl Play {
         ensures held { OnOk result (self.new ≡ with_head head self.old) }
         ensures number { IfOk result (λ number. number ≡ length self.old.heads) }
     {
-        if self.held.len() >= u32::MAX as usize {
-            return Err(AllocError);
-        }
-        let number = self.held.len() as u32;
-        let id = head.id;
-        self.graph.reserve(1)?;
-        self.held.push(head)?;
-        self.graph.hold(id.0, GROUP);
-        Ok(number)
+        self.held.hold(head)
     }
 
     // ---- settling
@@ -195,7 +178,7 @@ impl Play {
     fn next(&self) -> Option<Step>
         ensures { result ≡ next self.now.nodes }
     {
-        self.graph.next()
+        self.held.next()
     }
 
     fn make<C: Clients>(
@@ -237,7 +220,7 @@ impl Play {
         }
         let judgement = clients.judge(alloc, self.kind, &one.message)?;
         let answer = answer_of(alloc, &judgement)?;
-        self.graph.judged(n, answer)
+        self.held.judged(n, answer)
     }
 
     // Ends the message of that number, as the step says, and adds its line.
@@ -250,9 +233,9 @@ impl Play {
             → self.new ≡ ended_as step state h self.old) }
         ensures done { OnOk result (self.new.nodes ≡ after_step step self.old.nodes) }
     {
-        let head = &self.held[n as usize];
-        add_line(state, head, &mut self.text)?;
-        self.graph.apply(step);
+        let head = self.held.head(n);
+        add_line(state, &head, &mut self.text)?;
+        self.held.apply(step);
         Ok(())
     }
 }
@@ -294,14 +277,12 @@ fn add_if_open(fate: Fate, head: &Head, text: &mut String) -> Result<(), AllocEr
 }
 
 // Adds a line for each message whose node has no end.
-fn add_pending(held: &[Head], graph: &Graph, text: &mut String) -> Result<(), AllocError>
-    requires each { length graph.now.nodes ≡ length held.now }
-    requires few { length held.now < 2 ^ 32 }
-    ensures { OnOk result (string_bytes text.new ≡ string_bytes text.old ++ open_text held.now
-        graph.now.nodes) }
+fn add_pending(held: &HeldGraph, text: &mut String) -> Result<(), AllocError>
+    ensures { OnOk result (string_bytes text.new ≡ string_bytes text.old ++ open_text held.now.heads
+        held.now.nodes) }
 {
-    for (n, head) in held.iter().enumerate() {
-        add_if_open(graph.fate(n as u32), head, text)?;
+    for n in 0..held.len() {
+        add_if_open(held.fate(n), &held.head(n), text)?;
     }
     Ok(())
 }

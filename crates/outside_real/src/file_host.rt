@@ -178,42 +178,29 @@ impl<R: Runtime + Net> Disk for FileHost<R> {
     ghost tells = { λ h. silent h.disk_faults (vec_len h.links) h.link_faults };
 
     fn len(&mut self, file: u8) -> Result<u64, Failed> {
-        let answer = match file {
-            0 => self.first.len(&self.rt),
-            _ => self.second.len(&self.rt),
-        };
+        let answer = numbered(&mut self.first, &mut self.second, file).len(&self.rt);
         self.answer(answer)
     }
 
     fn read_at(&mut self, file: u8, at: u64, buf: &mut [u8]) -> Result<usize, Failed> {
-        let answer = match file {
-            0 => self.first.read_at(&self.rt, at, buf),
-            _ => self.second.read_at(&self.rt, at, buf),
-        };
+        let answer = numbered(&mut self.first, &mut self.second, file).read_at(&self.rt, at, buf);
         self.answer(answer)
     }
 
     fn write_at(&mut self, file: u8, at: u64, bytes: &[u8]) -> Result<(), Failed> {
-        let answer = match file {
-            0 => self.first.write_at(&self.rt, at, bytes),
-            _ => self.second.write_at(&self.rt, at, bytes),
-        };
+        let answer = numbered(&mut self.first, &mut self.second, file).write_at(
+            &self.rt, at, bytes,
+        );
         self.answer(answer)
     }
 
     fn cut(&mut self, file: u8, len: u64) -> Result<(), Failed> {
-        let answer = match file {
-            0 => self.first.cut(&self.rt, len),
-            _ => self.second.cut(&self.rt, len),
-        };
+        let answer = numbered(&mut self.first, &mut self.second, file).cut(&self.rt, len);
         self.answer(answer)
     }
 
     fn sync(&mut self, file: u8) -> Result<(), Failed> {
-        let answer = match file {
-            0 => self.first.sync(&self.rt),
-            _ => self.second.sync(&self.rt),
-        };
+        let answer = numbered(&mut self.first, &mut self.second, file).sync(&self.rt);
         self.answer(answer)
     }
 }
@@ -269,6 +256,15 @@ impl<R: Runtime + Net> Host for FileHost<R> {
     fn now(&mut self) -> u64 {
         milliseconds(&self.rt)
     }
+}
+
+// The file of this number.
+fn numbered<'a, R: Files>(
+    first: &'a mut StoreFile<R>,
+    second: &'a mut StoreFile<R>,
+    file: u8,
+) -> &'a mut StoreFile<R> {
+    if file == 0 { first } else { second }
 }
 
 // The time since 1970, and 0 before it.

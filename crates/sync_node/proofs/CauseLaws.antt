@@ -35,7 +35,7 @@ use Rattle.sync_node.proofs.WorkLaws.{goes_then}
 rose_later : (a b c : ℕ) → CountRose a b → b ≤ c → CountRose a c
 rose_later a b c rose later = let r : one_more a ≤ b = rose in omega (arith, r, later)
 
-rose_before : (a b c : ℕ) → a ≤ b → CountRose b c → CountRose a c
+pub rose_before : (a b c : ℕ) → a ≤ b → CountRose b c → CountRose a c
 rose_before a b c before rose = let r : one_more b ≤ c = rose in omega (arith, before, r)
 
 -- ---- one link

@@ -14,7 +14,7 @@ use Rattle.sync_store.specs.Moments as store_moments
 use Rattle.sync_store.specs.Moments.{IsBetween, LeadsTo, WithAtMost, journal_with}
 use Rattle.sync_store.specs.Settling.{HasSettled}
 use Rattle.sync_store.specs.declared.fault.StoreFault.{StoreFault}
-use Rattle.sync_node.specs.Courses.{CommitsWithinCalls, CommitsSettling, AddsSome, AddsSomeSettling, FitsWith, ReadsFront}
+use Rattle.sync_node.specs.Courses.{CommitsWithinCalls, AddsSome, FitsWith, ReadsFront}
 
 -- files that are told on one side of a call are told on the other
 pub told_as : {A : Type 0} (a b : Option A) (x : A) → is_some b ≡ is_some a → a ≡ Some x
@@ -89,7 +89,7 @@ reads_front clients s s' may o o' P Q fits told between leads = by_files o.files
 
 -- ---- one batch
 
-at_most_between : (batch : List Entry) (j whole : List (List Entry)) → WithAtMost j batch whole
+pub at_most_between : (batch : List Entry) (j whole : List (List Entry)) → WithAtMost j batch whole
     → IsBetween j (batch ∷ []) whole
 at_most_between batch j whole at_most =
     elim at_most [
@@ -116,13 +116,6 @@ commit_reads clients s s' batch result o o' fits told adds =
     (at_most_between batch) adds
 
 -- ---- settling
-
-pub settle_grown : (clients : Meaning) (s s' : StoreValue) (u : Unit {0}) (o o' : Outside)
-    (has : HasSettled clients s s' (Ok u) o o')
-    → is_some o'.files ≡ is_some o.files → (j : List (List Entry)) → FitsWith clients s o.files j
-    → FitsWith clients s' o'.files (j ++ has.more)
-settle_grown clients s s' u o o' has told =
-    fits_grown clients s s' has.more o o' (λ j whole. IsBetween j has.more whole) told has.answer.0 has.comes.leads
 
 pub settle_reads : (clients : Meaning) (s s' : StoreValue) (result : Result (Unit {0}) StoreFault)
     (o o' : Outside) (has : HasSettled clients s s' result o o')
@@ -153,26 +146,6 @@ commit_adds_some clients s s' batch result o o' fits run made adds = record {
   same_links = run.same_links;
   calls = made;
   stood = commit_reads clients s s' batch result o o' fits run.same_told adds;
-}
-
-pub settle_adds : (clients : Meaning) (s s' : StoreValue) (u : Unit {0}) (o o' : Outside)
-    → DiskRun o o' → HasSettled clients s s' (Ok u) o o'
-    → CommitsSettling clients s s' o o'
-settle_adds clients s s' u o o' run has = record {
-  more = has.more;
-  settling = has.comes.settling;
-  facts = has.comes.facts;
-  settled = has.answer.1;
-  adds = record { same_links = run.same_links; grows = settle_grown clients s s' u o o' has run.same_told; calls = has.comes.calls.most };
-}
-
-pub settle_adds_some : (clients : Meaning) (s s' : StoreValue)
-    (result : Result (Unit {0}) StoreFault) (o o' : Outside) → FitsSome clients s o.files
-    → DiskRun o o' → HasSettled clients s s' result o o' → AddsSomeSettling clients s o o'
-settle_adds_some clients s s' result o o' fits run has = record {
-  more = has.more;
-  settling = has.comes.settling;
-  adds = record { same_links = run.same_links; stood = settle_reads clients s s' result o o' has fits run.same_told; calls = has.comes.calls.most };
 }
 
 -- a call on the links or the clock asks the disk nothing

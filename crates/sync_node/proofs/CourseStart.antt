@@ -14,9 +14,7 @@ use Rattle.sync_rules.specs.declared.entries.Entry.{Entry}
 use Rattle.sync_rules.specs.declared.entries.Session.{Session}
 use Rattle.sync_store.specs.Ready.{IsReady}
 use Rattle.sync_store.specs.Store.{StoreValue}
-use Rattle.sync_course.proofs.CallLaws.{runs_commits, runs_none}
-use Rattle.sync_course.specs.Events.{Break, Commit, TellsEvents}
-use Rattle.sync_course.proofs.PathLaws.{path_one}
+use Rattle.sync_course.specs.Events.{Break, TellsEvents}
 use Rattle.sync_course.proofs.LiftLaws.{runs_attached, runs_greeted, runs_ungreeted}
 use Rattle.sync_course.specs.Links as course_links
 use Rattle.sync_course.specs.Links.{link_of}
@@ -29,11 +27,11 @@ use Rattle.sync_node.specs.declared.link.Link.{Link}
 use Rattle.sync_course.specs.declared.ends.LinkEnd.{LinkEnd}
 use Rattle.sync_course.specs.declared.ends.LinkEnd.TheVariants as link_end
 use Rattle.sync_node.proofs.CourseLaws.{fits_on, quiet_most}
-use Rattle.sync_node.proofs.CourseTakes.{full_sent_here, none_or_one}
+use Rattle.sync_node.proofs.CourseTakes.{full_sent_here}
 use Rattle.sync_node.specs.Fulls.{FullBeginning, FullStart, PassesLimit}
 use Rattle.sync_node.specs.Stops.{StaysSame}
 use Rattle.sync_node.proofs.SentLaws.{same_sent}
-use Rattle.sync_node.specs.Courses.{CommitsWithinCalls, AddsSome, BeginsNextSession, BreaksStart, FitsWith, GreetsAsCourse, HaltsBeginning, IsLinkRead, ReadsAs, RunHalts, RunRuns, StartsAsCourse, StartsBehind, attaching_at, link_at, links_from, place_at}
+use Rattle.sync_node.specs.Courses.{CommitsWithinCalls, BeginsNextSession, FitsWith, GreetsAsCourse, HaltsBeginning, IsLinkRead, RunRuns, StartsAsCourse, StartsBehind, attaching_at, link_at, links_from, place_at}
 use Rattle.sync_node.proofs.CourseRuns.{length_from}
 use Rattle.sync_node.specs.Node.{NodeValue}
 use Rattle.sync_node.specs.Sending.{EndsBy, SendsOn}
@@ -83,7 +81,7 @@ session_last (y ∷ ss) x none =
     ] none
 
 -- the next number is free
-is_free : (clients : Meaning) (f : Facts) (x : Session) (j : List (List Entry)) → Legal clients j
+pub is_free : (clients : Meaning) (f : Facts) (x : Session) (j : List (List Entry)) → Legal clients j
     → facts j ≡ f → Allowed clients f (session_batch x)
     → session_at f.sessions x.number ≡ None
 is_free clients f x j legal is allowed =
@@ -93,7 +91,7 @@ is_free clients f x j legal is allowed =
     ap (λ (n : ℕ). session_at (facts j).sessions n) may.2.numbered ∙ none_below (facts j).begun (facts j).sessions has.below in
     subst (λ (g : Facts). session_at g.sessions x.number ≡ None) is none
 
-begun_is : (f f' : Facts) (x begun : Session) → session_at f.sessions x.number ≡ None
+pub begun_is : (f f' : Facts) (x begun : Session) → session_at f.sessions x.number ≡ None
     → f' ≡ after_all f (session_batch x)
     → Some begun ≡ session_at f'.sessions x.number → begun ≡ x
 begun_is f f' x begun free facts_are found =
@@ -124,7 +122,7 @@ module _ (clients : Meaning) (x : Session) (s : StoreValue) (o : Outside) (batch
         (subst (λ (b : List Entry). (j : List (List Entry)) → FitsWith clients s o.files j → FitsWith clients s1 o1.files (j ++ b ∷ [])) is adds.grows))
 
     -- the link behind the others, and the place once the greeting is over
-    begins_as : (begun : Session) (reader : ReaderState) → begun ≡ x
+    pub begins_as : (begun : Session) (reader : ReaderState) → begun ≡ x
         → (l : Link) (e : LinkEnd) (f : Facts)
         → l ≡ record { session = begun; reader = reader; nonce = begun.nonce; end = e }
         → attaching_at left (links ++ link_of x e ∷ []) moved still made f ≡ attaching_at left (links ++ link_at l [] ∷ []) moved still made f
@@ -149,43 +147,6 @@ module _ (clients : Meaning) (x : Session) (s : StoreValue) (o : Outside) (batch
               (runs_ungreeted clients terms (FitsWith clients s1 o1.files) (FitsWith clients s1 o2.files) (fits_on clients s1 o1 o2 same_files) x left from o1 o2 refl
               (subst (λ (k : ℕ). TellsEvents (Break k ∷ []) o1 o2) (sym long) failed.1) greets.0)
         ]
-
-  -- a commit that was broken off
-  pub start_broken : (o' : Outside) → AddsSome clients (batch ∷ []) s o o'
-      → BreaksStart clients x s o o'
-  start_broken o' adds = record {
-    stops = λ terms left links moved still made.
-        let p : Place = attaching_at (x ∷ left) links moved still made s.state.facts in
-        let b : List Entry = session_batch x in
-        let q : Place = greeting_at terms left links moved still made (after_all s.state.facts b) in
-        let step : RunStep clients terms p (Commit b) q = (refl, allowed, refl) in
-        elim (none_or_one clients batch s o o' adds) [
-          | inl none ↦ record {
-            breaks = record {
-              to = p;
-              next = b ∷ [];
-              beyond = q;
-              goes_on = path_one (RunStep clients terms) p q (Commit b) step;
-              runs =
-                  runs_commits (RunStep clients terms) (FitsWith clients s o.files) (ReadsAs clients o'.files) [] none p p o o' adds.same_links
-                  adds.calls refl;
-            };
-            stands = inl refl;
-          }
-          | inr one ↦ record {
-            breaks = record {
-              to = q;
-              next = [];
-              beyond = q;
-              goes_on = refl;
-              runs =
-                  runs_attached clients terms (FitsWith clients s o.files) (ReadsAs clients o'.files) x left p o o' refl allowed adds.same_links adds.calls
-                  (subst (λ (b : List Entry). (j : List (List Entry)) → FitsWith clients s o.files j → ReadsAs clients o'.files (j ++ b ∷ [])) is one);
-            };
-            stands = inl refl;
-          }
-        ];
-  }
 
   -- a session that would have passed the limit
   pub start_full : (s' : StoreValue) (o' : Outside) → PassesLimit clients batch s s' o o'
@@ -219,27 +180,9 @@ module _ (clients : Meaning) (x : Session) (s : StoreValue) (o : Outside) (batch
             (greeted_runs terms left links moved still made n begun reader same l s1 o1 o2 long same_files greets);
       }
 
--- a call that was broken off before it committed anything
-pub start_none : (clients : Meaning) (x : Session) (s : StoreValue) (o : Outside)
-    → BreaksStart clients x s o o
-start_none clients x s o = record {
-  stops = λ terms left links moved still made. record {
-    breaks = record {
-      to = attaching_at (x ∷ left) links moved still made s.state.facts;
-      next = [];
-      beyond = attaching_at (x ∷ left) links moved still made s.state.facts;
-      goes_on = refl;
-      runs =
-          runs_none (RunStep clients terms) (FitsWith clients s o.files) (ReadsAs clients o.files) (λ j fit. (fit.0, fit.1, fit.2.stands_for))
-          (attaching_at (x ∷ left) links moved still made s.state.facts) o;
-    };
-    stands = inl refl;
-  };
-}
-
 -- ---- behind the links of a node
 
-push_from : (k : ℕ) (links : List Link) (l : Link) (heard : ℕ → List ℕ)
+pub push_from : (k : ℕ) (links : List Link) (l : Link) (heard : ℕ → List ℕ)
     → links_from k (links ++ l ∷ []) heard ≡ links_from k links heard ++ link_at l (heard (k + length links)) ∷ []
 push_from k [] l heard =
     let here : k ≡ k + 0 = omega arith in
@@ -273,14 +216,6 @@ module _ (clients : Meaning) (x : Session) (links : List Link) (s : StoreValue)
         (λ (ls : List course_links.Link). RunRuns clients terms (place_at (Attaches (x ∷ left)) links heard moved still made s.state.facts) (attaching_at left ls moved still made s'.state.facts) s s' o o')
         ends
         (behind.starts.runs two told terms left (links_from 0 links heard) moved still made (length_from 0 links heard ∙ last));
-  }
-
-  pub beginning_halted : (links' : List Link) → links' ≡ links → BreaksStart clients x s o o'
-      → HaltsBeginning clients x links links' s o o'
-  beginning_halted links' same breaks = record {
-    stops = λ terms left heard moved still made.
-        subst (λ (ls : List Link). RunHalts clients terms (place_at (Attaches (x ∷ left)) links heard moved still made s.state.facts) (links_from 0 ls heard) s o o')
-        (sym same) (breaks.stops terms left (links_from 0 links heard) moved still made);
   }
 
   pub beginning_full : (s' : StoreValue) → FullStart clients x s s' o o'

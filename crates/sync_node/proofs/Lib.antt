@@ -25,3 +25,17 @@ mod CourseStart
 mod Undone
 pub mod Halts
 pub mod CourseLaws
+pub mod DidLaws
+pub mod WentLaws
+pub mod PrimLaws
+mod BatchLaws
+mod LinkActs
+mod PieceActs
+mod HearActs
+mod SendActs
+mod TurnActs
+mod RunActLaws
+mod NodeActs
+mod StartActs
+pub mod EventLaws
+pub mod NodeRuns

@@ -8,7 +8,6 @@ use Rattle.sync_rules.specs.Clients.{Meaning}
 use Rattle.sync_store.specs.Store.{StoreValue}
 use Rattle.sync_course.proofs.LiftLaws.{get_other}
 use Rattle.sync_course.specs.Links as course_links
-use Rattle.sync_course.specs.declared.ends.LinkEnd.TheVariants as link_end
 use Rattle.sync_node.specs.declared.link.Link.{Link}
 use Rattle.sync_node.specs.Courses.{link_at, links_from}
 use Rattle.sync_node.specs.Fulls.{AllSentOn}

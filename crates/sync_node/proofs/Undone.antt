@@ -9,7 +9,7 @@ use Rattle.sync_node.specs.declared.fault.NodeFault.{NodeFault}
 use Rattle.sync_node.specs.Faults.{fault_of}
 use Rattle.sync_node.specs.declared.link.Link.{Link}
 use Rattle.sync_node.specs.Node.{NodeValue}
-use Rattle.sync_node.specs.Stays.{IsUndone, IsUndoneAt, IsUndoneBy}
+use Rattle.sync_node.specs.Stays.{IsUndoneAt, IsUndoneBy}
 use Rattle.sync_node.proofs.NodeLaws.{node_of}
 
 pub stays_none : (s : StoreValue) → KeepsStore s s
@@ -55,3 +55,9 @@ pub if_err_was : {T E : Type 0} (r : Result T E) (x : E) (P : E → Type 0)
     → IsErrAnd r (λ y. y ≡ x) → P x → IfErr r P
 if_err_was (Ok a) x P is p = tt
 if_err_was (Err y) x P is p = subst P (sym is) p
+
+-- what is said of the error of a call in the tail
+pub if_err_then : {T E : Type 0} (r : Result T E) (P Q : E → Type 0) → ((e : E) → P e → Q e)
+    → IfErr r P → IfErr r Q
+if_err_then (Ok x) P Q then p = tt
+if_err_then (Err e) P Q then p = then e p

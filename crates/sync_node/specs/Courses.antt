@@ -10,13 +10,9 @@ use Rattle.entry_codec.specs.Standing.{stands, journal}
 use Rattle.sync_store.specs.Store.{StoreValue}
 use Rattle.sync_store.specs.Fitting.{FitsFiles}
 use Rattle.record_grammar.specs.declared.stream.Item.{Item}
-use Rattle.record_grammar.specs.declared.stream.Item.TheVariants as item
-use Rattle.sync_ids.specs.declared.records.Record.{Record}
-use Rattle.sync_rules.specs.Legal.{AllSettling}
-use Rattle.sync_rules.specs.Steps.{IsSettled}
-use Rattle.sync_rules.specs.Facts.{Facts, after_batches}
+use Rattle.sync_rules.specs.Facts.{Facts}
 use Rattle.sync_course.specs.Links as course_links
-use Rattle.sync_course.specs.Links.{is_going, is_kept, is_sent_to, items_after, link_after}
+use Rattle.sync_course.specs.Links.{is_going, is_kept, is_sent_to}
 use Rattle.sync_course.specs.declared.TheConstants.{MAX_OUTPUTS}
 use Rattle.sync_course.specs.Reading.{HasRead, IsReading}
 use Rattle.sync_node.specs.declared.link.Link.{Link}
@@ -24,7 +20,7 @@ use Rattle.sync_course.specs.declared.ends.LinkEnd.{LinkEnd}
 use Rattle.sync_course.specs.declared.ends.LinkEnd.TheVariants as link_end
 use Rattle.sync_node.specs.declared.node.Turned.{Turned}
 use Rattle.sync_node.specs.declared.node.Turned.TheVariants as turned
-use Rattle.sync_course.specs.LinkTurns.{Asks, Doing, Done, LinkStep, Sends, Spot, Takes, Waits}
+use Rattle.sync_course.specs.LinkTurns.{Asks, Doing, Done, Sends, Spot, Waits}
 use Rattle.sync_course.specs.Events.{Break, Commit, Event, Pass, TellsEvents}
 use Rattle.sync_course.specs.Paths.{BreaksPath, CountsBatches, RunsPath}
 use Rattle.sync_course.specs.Turns.{Attaches, Between, Place, RunStep, Stage, Terms, Works, is_at_end}
@@ -37,26 +33,6 @@ FitsWith clients s files j = (two : Two File) × (files ≡ Some two) × FitsFil
 abbrev pub ReadsAs : Meaning → Option (Two File) → List (List Entry) → Type 0
 ReadsAs clients files j =
     (two : Two File) × (files ≡ Some two) × (stands clients (read_files two) ≡ journal j)
-
--- a link's turn led from one place to another
-abbrev pub LinkRuns : Meaning → ℕ → ℕ → Spot → Spot → StoreValue → StoreValue → Outside → Outside
-    → Type 0
-LinkRuns clients n session p q s s' o o' =
-    RunsPath (LinkStep clients n session) (FitsWith clients s o.files)
-    (FitsWith clients s' o'.files) p q o o' []
-
--- and so many batches were committed on the way
-abbrev pub LinkCounts : Meaning → ℕ → ℕ → Spot → Spot → StoreValue → StoreValue → Outside → Outside
-    → ℕ → Type 0
-LinkCounts clients n session p q s s' o o' count =
-    CountsBatches (LinkStep clients n session) (FitsWith clients s o.files)
-    (FitsWith clients s' o'.files) p q o o' count
-
--- it was broken off: the files as they read stand for the journal with the batches of some path
-abbrev pub LinkBreaks : Meaning → ℕ → ℕ → Spot → StoreValue → Outside → Outside → Type 0
-LinkBreaks clients n session p s o o' =
-    BreaksPath (LinkStep clients n session) (FitsWith clients s o.files)
-    (ReadsAs clients o'.files) p o o'
 
 -- the same of a run
 abbrev pub RunRuns : Meaning → Terms → Place → Place → StoreValue → StoreValue → Outside → Outside
@@ -89,12 +65,6 @@ pub record CommitsTo {P : Type 0} (step : P → Event → P → Type 0) (Has : P
 -- of the record is committed.
 abbrev pub HasOrWillHave : {P : Type 0} → (P → Event → P → Type 0) → (P → Type 0) → P → Type 0
 HasOrWillHave step Has place = Has place ⊎ CommitsTo step Has place
-
--- a link's turn was broken off at a place where the link stands so
-pub record LinkHalts (clients : Meaning) (n session : ℕ) (p : Spot) (link : course_links.Link)
-    (s : StoreValue) (o o' : Outside) : Type 0 where
-  pub breaks : LinkBreaks clients n session p s o o'
-  pub stands : HasOrWillHave (LinkStep clients n session) (λ (q : Spot). q.link ≡ link) breaks.to
 
 -- the same of a run and all its links
 pub record RunHalts (clients : Meaning) (terms : Terms) (p : Place) (links : List course_links.Link)
@@ -129,35 +99,7 @@ pub record AddsSome (clients : Meaning) (may : List (List Entry)) (s : StoreValu
   pub stood : ReadsFront clients may s o o'
   pub calls : MakesAtMost (4 * length may) o o'
 
--- settling batches were committed, and are all that settling has
-pub record CommitsSettling (clients : Meaning) (s s' : StoreValue) (o o' : Outside) : Type 0 where
-  pub more : List (List Entry)
-  pub settling : AllSettling clients s.state.facts more
-  pub facts : s'.state.facts ≡ after_batches s.state.facts more
-  pub settled : IsSettled clients s'.state.facts
-  pub adds : CommitsWithinCalls clients more s s' o o'
-
-pub record AddsSomeSettling (clients : Meaning) (s : StoreValue) (o o' : Outside) : Type 0 where
-  pub more : List (List Entry)
-  pub settling : AllSettling clients s.state.facts more
-  pub adds : AddsSome clients more s o o'
-
 -- ---- a record that is taken
-
--- where the record is the next of a link's items it is taken, and the journal settled, as a course
--- has it
-pub record TakesAsCourse (clients : Meaning) (session : ℕ) (r : Record) (s s' : StoreValue)
-    (o o' : Outside) : Type 0 where
-  pub runs : (n place : ℕ) (its : List Item) (p : Spot) → p.doing ≡ Takes (item.One place r ∷ its)
-      → p.facts ≡ s.state.facts
-      → LinkRuns clients n session p
-      (record { doing = Takes (items_after r its); link = link_after place r p.link; moved = p.moved; facts = s'.state.facts }) s s' o o'
-
-pub record StopsAsCourse (clients : Meaning) (session : ℕ) (r : Record) (s : StoreValue)
-    (o o' : Outside) : Type 0 where
-  pub stops : (n place : ℕ) (its : List Item) (p : Spot) → p.doing ≡ Takes (item.One place r ∷ its)
-      → p.facts ≡ s.state.facts
-      → LinkHalts clients n session p (link_after place r p.link) s o o'
 
 -- ---- a link of the node as one of a course
 
@@ -184,45 +126,7 @@ abbrev pub IsTaking : List ℕ → List ℕ → Link → List Item → LinkEnd �
 IsTaking heard left l its link_end.Going = IsReading heard left l.reader its
 IsTaking heard left l its _ = its ≡ []
 
--- the next item was taken or passed over, or there was none
-abbrev pub TakesNextItem : Meaning → ℕ → List ℕ → List Item → Bool → List ℕ → Link → Link → StoreValue
-    → StoreValue → Outside → Outside → Bool → Type 0
-TakesNextItem clients n heard its moved left l l' s s' o o' true =
-    (others : List Item) × IsTaking heard left l' others l'.end
-    × LinkRuns clients n l.session.number (spot_at (Takes its) l heard moved s.state.facts)
-    (spot_at (Takes others) l' heard moved s'.state.facts) s s' o o'
-TakesNextItem clients n heard its moved left l l' s s' o o' false =
-    HasRead heard l'.reader
-    × LinkRuns clients n l.session.number (spot_at (Takes its) l heard moved s.state.facts)
-    (spot_at Waits l' heard moved s'.state.facts) s s' o o'
-
-pub record NextAsCourse (clients : Meaning) (n : ℕ) (piece left : List ℕ) (l l' : Link)
-    (s s' : StoreValue) (o o' : Outside) (more : Bool) : Type 0 where
-  pub leads : (heard : List ℕ) (its : List Item) (moved : Bool) → IsReading heard piece l.reader its
-      → TakesNextItem clients n heard its moved left l l' s s' o o' more
-
-pub record NextStops (clients : Meaning) (n : ℕ) (piece : List ℕ) (l l' : Link) (s : StoreValue)
-    (o o' : Outside) : Type 0 where
-  pub stops : (heard : List ℕ) (its : List Item) (moved : Bool) → IsReading heard piece l.reader its
-      → LinkHalts clients n l.session.number
-      (spot_at (Takes its) l heard moved s.state.facts) (link_at l' heard) s o o'
-
 -- ---- a piece
-
--- some items of a piece were taken
-pub record PieceAsCourse (clients : Meaning) (n : ℕ) (piece left : List ℕ) (l l' : Link)
-    (s s' : StoreValue) (o o' : Outside) : Type 0 where
-  pub leads : (heard : List ℕ) (its : List Item) (moved : Bool) → IsReading heard piece l.reader its
-      → TakesNextItem clients n heard its moved left l l' s s' o o' true
-
--- all items of a piece were taken, and the link waits for the clock
-pub record PieceTaken (clients : Meaning) (n : ℕ) (piece : List ℕ) (l l' : Link)
-    (s s' : StoreValue) (o o' : Outside) : Type 0 where
-  pub has_read : (heard : List ℕ) (its : List Item) → IsReading heard piece l.reader its
-      → l'.end ≡ link_end.Going → HasRead heard l'.reader
-  pub runs : (heard : List ℕ) (its : List Item) (moved : Bool) → IsReading heard piece l.reader its
-      → LinkRuns clients n l.session.number (spot_at (Takes its) l heard moved s.state.facts)
-      (spot_at Waits l' heard moved s'.state.facts) s s' o o'
 
 -- ---- hearing
 
@@ -234,27 +138,6 @@ IsLinkRead heard l = l.end ≡ link_end.Going → HasRead heard l.reader
 abbrev pub IsReadyToSend : Doing → Link → Type 0
 IsReadyToSend doing l = (doing ≡ Waits) ⊎ ((doing ≡ Done) × (is_sent_to l.end ≡ false))
 
--- what was heard in a turn, and where the link came
-pub record HearsTo (clients : Meaning) (n : ℕ) (l l' : Link) (s s' : StoreValue) (o o' : Outside)
-    (heard : List ℕ) (moved idle : Bool) : Type 0 where
-  pub heard' : List ℕ
-  pub doing : Doing
-  pub has_read : IsLinkRead heard' l'
-  pub ready : IsReadyToSend doing l'
-  pub runs : LinkRuns clients n l.session.number (spot_at Asks l heard moved s.state.facts)
-      (spot_at doing l' heard' (cond idle moved true) s'.state.facts) s s' o o'
-
-pub record HearsAsCourse (clients : Meaning) (n : ℕ) (l l' : Link) (s s' : StoreValue)
-    (o o' : Outside) (idle : Bool) : Type 0 where
-  pub leads : (heard : List ℕ) (moved : Bool) → IsLinkRead heard l
-      → HearsTo clients n l l' s s' o o' heard moved idle
-
-pub record HearsStops (clients : Meaning) (n : ℕ) (l l' : Link) (s : StoreValue)
-    (o o' : Outside) : Type 0 where
-  pub stops : (heard : List ℕ) (moved : Bool) → IsLinkRead heard l
-      → (heard' : List ℕ) × LinkHalts clients n l.session.number
-      (spot_at Asks l heard moved s.state.facts) (link_at l' heard') s o o'
-
 -- ---- sending
 
 -- a link goes on sending with this room, or it is closed and its turn is done
@@ -262,92 +145,7 @@ abbrev pub GoesOnSending : ℕ → ℕ → Doing → Link → Type 0
 GoesOnSending now room doing l =
     ((doing ≡ Sends now room) × (is_sent_to l.end ≡ true)) ⊎ ((doing ≡ Done) × (is_sent_to l.end ≡ false))
 
--- an output was committed and sent
-pub record PutsTo (clients : Meaning) (n now : ℕ) (l l' : Link) (s s' : StoreValue)
-    (o o' : Outside) (heard : List ℕ) (moved : Bool) (room : ℕ) : Type 0 where
-  pub doing : Doing
-  pub goes_on : GoesOnSending now room doing l'
-  pub runs : LinkCounts clients n l.session.number
-      (spot_at (Sends now (suc room)) l heard moved s.state.facts)
-      (spot_at doing l' heard true s'.state.facts) s s' o o' 1
-
-pub record PutsAsCourse (clients : Meaning) (n now : ℕ) (l l' : Link) (s s' : StoreValue)
-    (o o' : Outside) : Type 0 where
-  pub leads : (heard : List ℕ) (moved : Bool) (room : ℕ) → is_sent_to l.end ≡ true
-      → PutsTo clients n now l l' s s' o o' heard moved room
-  pub same_reader : l'.reader ≡ l.reader
-  pub same_session : l'.session ≡ l.session
-  pub end : (l'.end ≡ l.end) ⊎ (l'.end ≡ link_end.Failed)
-
-pub record PutsStop (clients : Meaning) (n now : ℕ) (l l' : Link) (s : StoreValue)
-    (o o' : Outside) : Type 0 where
-  pub stops : (heard : List ℕ) (moved : Bool) (room : ℕ)
-      → LinkHalts clients n l.session.number
-      (spot_at (Sends now (suc room)) l heard moved s.state.facts) (link_at l' heard) s o o'
-
--- so many outputs were made at a reading
-pub record OutsTo (clients : Meaning) (n now made : ℕ) (l l' : Link) (s s' : StoreValue)
-    (o o' : Outside) (heard : List ℕ) (moved : Bool) : Type 0 where
-  pub room : ℕ
-  pub rest : room + made ≡ MAX_OUTPUTS
-  pub doing : Doing
-  pub goes_on : GoesOnSending now room doing l'
-  pub runs : LinkCounts clients n l.session.number
-      (spot_at (Sends now MAX_OUTPUTS) l heard moved s.state.facts)
-      (spot_at doing l' heard (cond (nat_lt 0 made) true moved) s'.state.facts) s s' o o' made
-
-pub record OutsAsCourse (clients : Meaning) (n now made : ℕ) (l l' : Link) (s s' : StoreValue)
-    (o o' : Outside) : Type 0 where
-  pub leads : (heard : List ℕ) (moved : Bool) → is_sent_to l.end ≡ true
-      → OutsTo clients n now made l l' s s' o o' heard moved
-  pub same_reader : l'.reader ≡ l.reader
-  pub same_session : l'.session ≡ l.session
-  pub end : (l'.end ≡ l.end) ⊎ (l'.end ≡ link_end.Failed)
-
--- all that was due at a reading was sent, so many outputs
-pub record SentAsCourse (clients : Meaning) (n now : ℕ) (l l' : Link) (s s' : StoreValue)
-    (o o' : Outside) (made : ℕ) : Type 0 where
-  pub runs : (heard : List ℕ) (moved : Bool) → is_sent_to l.end ≡ true
-      → LinkCounts clients n l.session.number
-      (spot_at (Sends now MAX_OUTPUTS) l heard moved s.state.facts)
-      (spot_at Done l' heard (cond (nat_lt 0 made) true moved) s'.state.facts) s s' o o' made
-  pub same_reader : l'.reader ≡ l.reader
-  pub end : (l'.end ≡ l.end) ⊎ (l'.end ≡ link_end.Failed)
-
-pub record SentStops (clients : Meaning) (n now : ℕ) (l l' : Link) (s : StoreValue)
-    (o o' : Outside) : Type 0 where
-  pub stops : (heard : List ℕ) (moved : Bool) → is_sent_to l.end ≡ true
-      → LinkHalts clients n l.session.number
-      (spot_at (Sends now MAX_OUTPUTS) l heard moved s.state.facts) (link_at l' heard) s o o'
-
--- what was due on a link was sent, unless it is closed
-pub record SendsAsCourse (clients : Meaning) (n : ℕ) (l l' : Link) (s s' : StoreValue)
-    (o o' : Outside) (made : ℕ) : Type 0 where
-  pub runs : (heard : List ℕ) (moved : Bool) (doing : Doing) → IsReadyToSend doing l
-      → LinkRuns clients n l.session.number (spot_at doing l heard moved s.state.facts)
-      (spot_at Done l' heard (cond (nat_lt 0 made) true moved) s'.state.facts) s s' o o'
-  pub same_reader : l'.reader ≡ l.reader
-  pub end : (l'.end ≡ l.end) ⊎ (l'.end ≡ link_end.Failed)
-
-pub record SendsStop (clients : Meaning) (n : ℕ) (l l' : Link) (s : StoreValue)
-    (o o' : Outside) : Type 0 where
-  pub stops : (heard : List ℕ) (moved : Bool) (doing : Doing) → IsReadyToSend doing l
-      → LinkHalts clients n l.session.number
-      (spot_at doing l heard moved s.state.facts) (link_at l' heard) s o o'
-
 -- ---- a link's turn
-
-pub record TurnTo (clients : Meaning) (n : ℕ) (l l' : Link) (s s' : StoreValue) (o o' : Outside)
-    (heard : List ℕ) (moved still : Bool) : Type 0 where
-  pub heard' : List ℕ
-  pub has_read : IsLinkRead heard' l'
-  pub runs : LinkRuns clients n l.session.number (spot_at Asks l heard moved s.state.facts)
-      (spot_at Done l' heard' (cond still moved true) s'.state.facts) s s' o o'
-
-pub record TurnAsCourse (clients : Meaning) (n : ℕ) (l l' : Link) (s s' : StoreValue)
-    (o o' : Outside) (still : Bool) : Type 0 where
-  pub leads : (heard : List ℕ) (moved : Bool) → IsLinkRead heard l
-      → TurnTo clients n l l' s s' o o' heard moved still
 
 -- ---- all links
 
@@ -369,30 +167,6 @@ place_at stage links heard moved still made f = record {
   made = made;
   facts = f;
 }
-
--- the first links, so many, had their turn
-pub record TurnsTo (clients : Meaning) (terms : Terms) (n : ℕ) (links links' : List Link)
-    (s s' : StoreValue) (o o' : Outside) (heard : ℕ → List ℕ) (moved : Bool) (still made : ℕ)
-    (quiet : Bool) : Type 0 where
-  pub heard' : ℕ → List ℕ
-  pub has_read : AllRead heard' links'
-  pub runs : RunRuns clients terms
-      (place_at (Works 0 Asks) links heard moved still made s.state.facts)
-      (place_at (Works n Asks) links' heard' (cond quiet moved true) still made s'.state.facts) s s' o o'
-
-pub record TurnsAsCourse (clients : Meaning) (first n : ℕ) (links links' : List Link)
-    (s s' : StoreValue) (o o' : Outside) (quiet : Bool) : Type 0 where
-  pub leads : (terms : Terms) (heard : ℕ → List ℕ) (moved : Bool) (still made : ℕ)
-      → terms.first ≡ first → AllRead heard links
-      → TurnsTo clients terms n links links' s s' o o' heard moved still made quiet
-
-pub record TurnsStop (clients : Meaning) (first : ℕ) (links links' : List Link) (s : StoreValue)
-    (o o' : Outside) : Type 0 where
-  pub stops : (terms : Terms) (heard : ℕ → List ℕ) (moved : Bool) (still made : ℕ)
-      → terms.first ≡ first → AllRead heard links
-      → (heard' : ℕ → List ℕ) × RunHalts clients terms
-      (place_at (Works 0 Asks) links heard moved still made s.state.facts)
-      (links_from 0 links' heard') s o o'
 
 -- ---- a whole turn
 
@@ -512,13 +286,6 @@ pub record StartsAsCourse (clients : Meaning) (n : ℕ) (session : Session) (l :
       (links : List course_links.Link) (moved : Bool) (still made : ℕ) → length links ≡ n
       → RunRuns clients terms (attaching_at (session ∷ left) links moved still made s.state.facts)
       (attaching_at left (links ++ link_at l [] ∷ []) moved still made s'.state.facts) s s' o o'
-
-pub record BreaksStart (clients : Meaning) (session : Session) (s : StoreValue)
-    (o o' : Outside) : Type 0 where
-  pub stops : (terms : Terms) (left : List Session) (links : List course_links.Link) (moved : Bool)
-      (still made : ℕ)
-      → RunHalts clients terms
-      (attaching_at (session ∷ left) links moved still made s.state.facts) links s o o'
 
 -- that link stands behind the others
 pub record StartsBehind (clients : Meaning) (n : ℕ) (session : Session) (links links' : List Link)

@@ -1,10 +1,7 @@
 -- Where a call answers Full: it led to a place of the course from which the next step commits a
 -- batch with which the journal, the batch's frame and the room for settling would pass the limit.
-use Rattle.std.specs.Prelude.{◌≡◌, ◌≢◌, ℕ, suc, ◌+◌, ◌<◌, Bool, true, false, List, [], ◌∷◌, Some, slice_get}
+use Rattle.std.specs.Prelude.{◌≡◌, ◌≢◌, ℕ, ◌+◌, ◌<◌, Bool, false, List, [], ◌∷◌, Some, slice_get}
 use Rattle.outside.specs.Outside.{Outside, MakesAtMost}
-use Rattle.record_grammar.specs.declared.stream.Item.{Item}
-use Rattle.record_grammar.specs.declared.stream.Item.TheVariants as item
-use Rattle.sync_ids.specs.declared.records.Record.{Record}
 use Rattle.sync_rules.specs.declared.entries.Entry.{Entry}
 use Rattle.sync_rules.specs.declared.entries.Session.{Session}
 use Rattle.sync_rules.specs.Clients.{Meaning}
@@ -12,14 +9,12 @@ use Rattle.sync_store.specs.Commits.{needed}
 use Rattle.sync_store.specs.Store.{StoreValue}
 use Rattle.sync_course.specs.Events.{Commit, Event}
 use Rattle.sync_course.specs.Links as course_links
-use Rattle.sync_course.specs.Links.{is_sent_to}
-use Rattle.sync_course.specs.LinkTurns.{Asks, Doing, LinkStep, Sends, Spot, Takes}
+use Rattle.sync_course.specs.LinkTurns.{Asks, LinkStep, Sends, Spot}
 use Rattle.sync_course.specs.Paths.{RunsPath}
-use Rattle.sync_course.specs.Reading.{IsReading}
 use Rattle.sync_course.specs.Turns.{Attaches, Between, Place, RunStep, Terms, Works, is_at_end}
 use Rattle.sync_course.specs.declared.TheConstants.{MAX_OUTPUTS}
 use Rattle.sync_course.specs.declared.ends.LinkEnd.TheVariants as link_end
-use Rattle.sync_node.specs.Courses.{AllRead, FitsWith, IsLinkRead, IsReadyToSend, attaching_at, links_from, place_at, spot_at}
+use Rattle.sync_node.specs.Courses.{AllRead, FitsWith, attaching_at, links_from, place_at}
 use Rattle.sync_node.specs.Joined.{IsAllSent, Joined}
 use Rattle.sync_node.specs.declared.link.Link.{Link}
 
@@ -64,43 +59,6 @@ pub record PassesLimit (clients : Meaning) (batch : List Entry) (s s' : StoreVal
   pub calls : MakesAtMost 0 o o'
 
 -- ---- a link's turn
-
--- the record at the front of the items was to be taken
-pub record TakesFull (clients : Meaning) (session : ℕ) (r : Record) (s s' : StoreValue)
-    (o o' : Outside) : Type 0 where
-  pub fills : (n place : ℕ) (its : List Item) (p : Spot) → p.doing ≡ Takes (item.One place r ∷ its)
-      → p.facts ≡ s.state.facts
-      → LinkFull clients n session p s s' o o'
-
--- items of a piece were
-pub record NextFull (clients : Meaning) (n : ℕ) (piece : List ℕ) (l : Link) (s s' : StoreValue)
-    (o o' : Outside) : Type 0 where
-  pub fills : (heard : List ℕ) (its : List Item) (moved : Bool) → IsReading heard piece l.reader its
-      → LinkFull clients n l.session.number
-      (spot_at (Takes its) l heard moved s.state.facts) s s' o o'
-
--- the link was asked, or was to send what is due
-pub record HearsFull (clients : Meaning) (n : ℕ) (l : Link) (s s' : StoreValue)
-    (o o' : Outside) : Type 0 where
-  pub fills : (heard : List ℕ) (moved : Bool) → IsLinkRead heard l
-      → LinkFull clients n l.session.number (spot_at Asks l heard moved s.state.facts) s s' o o'
-
-pub record PutsFull (clients : Meaning) (n now : ℕ) (l : Link) (s s' : StoreValue)
-    (o o' : Outside) : Type 0 where
-  pub fills : (heard : List ℕ) (moved : Bool) (room : ℕ)
-      → LinkFull clients n l.session.number
-      (spot_at (Sends now (suc room)) l heard moved s.state.facts) s s' o o'
-
-pub record TurnLeavesNoRoom (clients : Meaning) (n now : ℕ) (l : Link) (s s' : StoreValue)
-    (o o' : Outside) : Type 0 where
-  pub fills : (heard : List ℕ) (moved : Bool) → is_sent_to l.end ≡ true
-      → LinkFull clients n l.session.number
-      (spot_at (Sends now MAX_OUTPUTS) l heard moved s.state.facts) s s' o o'
-
-pub record LeavesNoRoomFor (clients : Meaning) (n : ℕ) (l : Link) (s s' : StoreValue)
-    (o o' : Outside) : Type 0 where
-  pub fills : (heard : List ℕ) (moved : Bool) (doing : Doing) → IsReadyToSend doing l
-      → LinkFull clients n l.session.number (spot_at doing l heard moved s.state.facts) s s' o o'
 
 -- ---- a run
 

@@ -21,3 +21,8 @@ pub mod Plans
 pub mod Cited
 pub mod Courses
 pub mod Fulls
+pub mod Did
+pub mod Went
+pub mod Batches
+pub mod OnLinks
+pub mod OnRuns

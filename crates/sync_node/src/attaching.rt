@@ -8,10 +8,11 @@ ghost use Rattle.sync_rules.specs.Legal.{Allowed};
 ghost use Rattle.sync_rules.specs.declared.entries.Entry.TheVariants as entry;
 ghost use Rattle.sync_store.specs.Ready.{IsReady};
 ghost use Rattle.sync_node.specs.Causes.{LinkGoes, LinksGo};
-ghost use Rattle.sync_node.specs.Courses.{BreaksStart, GreetsAsCourse, StartsAsCourse};
+ghost use Rattle.sync_node.specs.Courses.{GreetsAsCourse, StartsAsCourse};
 ghost use Rattle.sync_node.specs.Courses.{StartsBehind};
 ghost use Rattle.sync_node.specs.Fulls.{FullStart};
 ghost use Rattle.sync_node.specs.Going.{LetsNothingFall};
+ghost use Rattle.sync_node.specs.OnRuns.{GreetsBy, StartStopped, StartWent, StartWentLast};
 ghost use Rattle.sync_node.specs.Starting.{GreetsOnLink, StartsSession, StartsLast, StartsSafe};
 ghost use Rattle.sync_node.specs.Stays.{IsUndoneBy, KeepsReady};
 ghost use Rattle.sync_node.specs.Stops.{StaysSame};
@@ -44,6 +45,11 @@ pub(crate) fn attach_on<H: Host, C: Clients>(
         (entry.Session session ∷ []) }
     requires last { length links.old.items ≡ number }
     requires dialled { number < (H.tells host.old).links.dialled }
+    ensures went { OnOk result (StartWentLast (C.meaning clients.now) number session
+        links.old.items links.new.items store.old store.new (H.tells host.old)
+        (H.tells host.new)) }
+    ensures stopped { IfErr result (StartStopped (C.meaning clients.now) session store.old
+        store.new (H.tells host.old) (H.tells host.new)) }
     ensures ready { IfErr result (KeepsReady (C.meaning clients.now) store.new
         (H.tells host.new)) }
     ensures starts { OnOk result (StartsLast (C.meaning clients.now) number session
@@ -52,8 +58,6 @@ pub(crate) fn attach_on<H: Host, C: Clients>(
     ensures course { OnOk result (StartsBehind (C.meaning clients.now) number session
         links.old.items links.new.items store.old store.new (H.tells host.old)
         (H.tells host.new)) }
-    ensures halts { OnErr result (BreaksStart (C.meaning clients.now) session store.old
-        (H.tells host.old) (H.tells host.new)) }
     ensures same { OnErr result (links.new.items ≡ links.old.items) }
     ensures safe { StartsSafe (C.meaning clients.now) number session store.old store.new
         (H.tells host.old) (H.tells host.new) }
@@ -94,12 +98,14 @@ fn start<H: Host, C: Clients>(
     requires fresh { reader ≡ fresh }
     requires waits { AwaitsBytes reader }
     requires dialled { number < (H.tells host.old).links.dialled }
+    ensures went { IfOk result (λ link. StartWent (C.meaning clients.now) number session link
+        store.old store.new (H.tells host.old) (H.tells host.new)) }
+    ensures stopped { IfErr result (StartStopped (C.meaning clients.now) session store.old
+        store.new (H.tells host.old) (H.tells host.new)) }
     ensures ready { IfErr result (KeepsReady (C.meaning clients.now) store.new
         (H.tells host.new)) }
     ensures course { IfOk result (λ link. StartsAsCourse (C.meaning clients.now) number session link
         store.old store.new (H.tells host.old) (H.tells host.new)) }
-    ensures halts { OnErr result (BreaksStart (C.meaning clients.now) session store.old
-        (H.tells host.old) (H.tells host.new)) }
     ensures starts { IfOk result (λ link. StartsSession (C.meaning clients.now) number session link
         store.old store.new (H.tells host.old) (H.tells host.new)) }
     ensures safe { StartsSafe (C.meaning clients.now) number session store.old store.new
@@ -146,6 +152,8 @@ fn start<H: Host, C: Clients>(
 fn greet<H: Host>(host: &mut H, number: u8, link: &mut Link, versions: &[u8], priority: &[u8])
     requires dialled { number < (H.tells host.old).links.dialled }
     requires going { link.old.end ≡ LinkEnd.Going }
+    ensures went { GreetsBy number versions.now priority.now link.old link.new
+        (H.tells host.old) (H.tells host.new) }
     ensures run { LinkGoes number link.old link.new (H.tells host.old) (H.tells host.new) }
     ensures told { GreetsAsCourse number link.old link.new (H.tells host.old)
         (H.tells host.new) }

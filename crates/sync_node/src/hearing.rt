@@ -1,16 +1,14 @@
 //! What is heard on a link is taken.
 ghost use Rattle.std.specs.Prelude.{IfErr};
-ghost use Rattle.std.specs.Prelude.{◌≡◌, ◌+◌, ◌<◌, ◌++◌, ◌∷◌, [], false, true, length, IfOk, OnErr};
+ghost use Rattle.std.specs.Prelude.{◌≡◌, ◌<◌, [], false, true, length, IfOk, OnErr};
 ghost use Rattle.std.specs.Prelude.{IsErrOf, OnOk};
 ghost use Rattle.outside.specs.Faults.{CountRose};
 ghost use Rattle.sync_course.specs.declared.TheConstants.{PIECE_LEN};
 ghost use Rattle.sync_node.specs.Causes.{LinkGoes};
-ghost use Rattle.sync_node.specs.Courses.{HearsAsCourse, HearsStops};
-ghost use Rattle.sync_node.specs.Courses.{NextAsCourse, NextStops, PieceTaken, StopsAsCourse};
-ghost use Rattle.sync_node.specs.Courses.{TakesAsCourse};
-ghost use Rattle.sync_node.specs.Fulls.{HearsFull, NextFull, TakesFull};
 ghost use Rattle.sync_node.specs.Going.{LetsNothingFall};
 ghost use Rattle.sync_node.specs.Hearing.{LearnsNonce};
+ghost use Rattle.sync_node.specs.OnLinks.{HearingStopped, HearingWent, ItemsStopped, NextWent};
+ghost use Rattle.sync_node.specs.OnLinks.{PieceWent, RecordStopped, RecordTaken};
 ghost use Rattle.sync_node.specs.Taking.{IsOpenToTake, LeavesLess, TakesOn, TakesSafe};
 ghost use Rattle.sync_node.specs.Working.{IsAble, StaysSafe, HasGivenItems, WorksOnLink};
 ghost use Rattle.sync_node.specs.Stays.{KeepsReady};
@@ -44,17 +42,17 @@ pub(crate) fn receive_on<H: Host, C: Clients>(
     requires asked { link.old.end ≡ LinkEnd.Going }
     requires waits { HasGivenItems link.old }
     requires room { 0 < length buffer.old }
+    ensures went { length buffer.old ≡ PIECE_LEN → IfOk result (HearingWent
+        (C.meaning clients.now) number link.old link.new store.old store.new (H.tells host.old)
+        (H.tells host.new)) }
+    ensures stopped { length buffer.old ≡ PIECE_LEN → IfErr result (HearingStopped
+        (C.meaning clients.now) number link.old link.new store.old store.new (H.tells host.old)
+        (H.tells host.new)) }
     ensures ready { IfErr result (KeepsReady (C.meaning clients.now) store.new
         (H.tells host.new)) }
     ensures able { OnOk result (IsAble (C.meaning clients.now) number link.new.session store.new
         (H.tells host.new)) }
     ensures waits { OnOk result (HasGivenItems link.new) }
-    ensures course { length buffer.old ≡ PIECE_LEN → IfOk result (HearsAsCourse
-        (C.meaning clients.now) number link.old link.new store.old store.new (H.tells host.old)
-        (H.tells host.new)) }
-    ensures stops { length buffer.old ≡ PIECE_LEN → OnErr result (HearsStops
-        (C.meaning clients.now) number link.old link.new store.old (H.tells host.old)
-        (H.tells host.new)) }
     ensures works { OnOk result (WorksOnLink (C.meaning clients.now) number [] [] link.old link.new
         store.old store.new (H.tells host.old) (H.tells host.new)) }
     ensures stays { OnErr result (StaysSafe (C.meaning clients.now) number [] link.old store.old
@@ -64,9 +62,6 @@ pub(crate) fn receive_on<H: Host, C: Clients>(
     ensures run { LinkGoes number link.old link.new (H.tells host.old) (H.tells host.new) }
     ensures limit { store.new.limit ≡ store.old.limit }
     ensures format { store.new.format ≡ store.old.format }
-    ensures full { length buffer.old ≡ PIECE_LEN → IsErrOf result Fault.Full → HearsFull
-        (C.meaning clients.now) number link.old store.old store.new (H.tells host.old)
-        (H.tells host.new) }
     ensures fault { IsErrOf result Fault.DiskFault → CountRose (H.tells host.old).disk_faults
         (H.tells host.new).disk_faults }
 {
@@ -103,15 +98,15 @@ fn take_piece<H: Host, C: Clients>(
     requires able { IsAble (C.meaning clients.now) number link.old.session store.old
         (H.tells host.old) }
     requires asked { link.old.end ≡ LinkEnd.Going }
+    ensures went { OnOk result (PieceWent (C.meaning clients.now) number piece.old link.old
+        link.new store.old store.new (H.tells host.old) (H.tells host.new)) }
+    ensures stopped { IfErr result (ItemsStopped (C.meaning clients.now) number piece.old link.old
+        link.new store.old store.new (H.tells host.old) (H.tells host.new)) }
     ensures ready { IfErr result (KeepsReady (C.meaning clients.now) store.new
         (H.tells host.new)) }
     ensures able { OnOk result (IsAble (C.meaning clients.now) number link.new.session store.new
         (H.tells host.new)) }
     ensures waits { OnOk result (HasGivenItems link.new) }
-    ensures course { OnOk result (PieceTaken (C.meaning clients.now) number piece.old link.old
-        link.new store.old store.new (H.tells host.old) (H.tells host.new)) }
-    ensures stops { OnErr result (NextStops (C.meaning clients.now) number piece.old link.old
-        link.new store.old (H.tells host.old) (H.tells host.new)) }
     ensures works { OnOk result (WorksOnLink (C.meaning clients.now) number piece.old [] link.old link.new
         store.old store.new (H.tells host.old) (H.tells host.new)) }
     ensures stays { OnErr result (StaysSafe (C.meaning clients.now) number piece.old link.old
@@ -121,8 +116,6 @@ fn take_piece<H: Host, C: Clients>(
     ensures run { LinkGoes number link.old link.new (H.tells host.old) (H.tells host.new) }
     ensures limit { store.new.limit ≡ store.old.limit }
     ensures format { store.new.format ≡ store.old.format }
-    ensures full { IsErrOf result Fault.Full → NextFull (C.meaning clients.now) number piece.old
-        link.old store.old store.new (H.tells host.old) (H.tells host.new) }
     ensures fault { IsErrOf result Fault.DiskFault → CountRose (H.tells host.old).disk_faults
         (H.tells host.new).disk_faults }
 {
@@ -148,14 +141,14 @@ fn take_next<H: Host, C: Clients>(
     requires able { IsAble (C.meaning clients.now) number link.old.session store.old
         (H.tells host.old) }
     requires asked { link.old.end ≡ LinkEnd.Going }
+    ensures went { IfOk result (NextWent (C.meaning clients.now) number piece.old piece.new
+        link.old link.new store.old store.new (H.tells host.old) (H.tells host.new)) }
+    ensures stopped { IfErr result (ItemsStopped (C.meaning clients.now) number piece.old link.old
+        link.new store.old store.new (H.tells host.old) (H.tells host.new)) }
     ensures ready { IfErr result (KeepsReady (C.meaning clients.now) store.new
         (H.tells host.new)) }
     ensures able { OnOk result (IsAble (C.meaning clients.now) number link.new.session store.new
         (H.tells host.new)) }
-    ensures course { IfOk result (NextAsCourse (C.meaning clients.now) number piece.old piece.new
-        link.old link.new store.old store.new (H.tells host.old) (H.tells host.new)) }
-    ensures stops { OnErr result (NextStops (C.meaning clients.now) number piece.old link.old
-        link.new store.old (H.tells host.old) (H.tells host.new)) }
     ensures left { IfOk result (LeavesLess link.old piece.old link.new piece.new) }
     ensures works { OnOk result (WorksOnLink (C.meaning clients.now) number piece.old piece.new link.old
         link.new store.old store.new (H.tells host.old) (H.tells host.new)) }
@@ -166,8 +159,6 @@ fn take_next<H: Host, C: Clients>(
     ensures run { LinkGoes number link.old link.new (H.tells host.old) (H.tells host.new) }
     ensures limit { store.new.limit ≡ store.old.limit }
     ensures format { store.new.format ≡ store.old.format }
-    ensures full { IsErrOf result Fault.Full → NextFull (C.meaning clients.now) number piece.old
-        link.old store.old store.new (H.tells host.old) (H.tells host.new) }
     ensures fault { IsErrOf result Fault.DiskFault → CountRose (H.tells host.old).disk_faults
         (H.tells host.new).disk_faults }
 {
@@ -217,12 +208,12 @@ fn take_one<H: Host, C: Clients>(
     rec: Record,
 ) -> Result<(), Fault>
     requires able { IsOpenToTake (C.meaning clients.now) session.now store.old (H.tells host.old) }
+    ensures went { OnOk result (RecordTaken (C.meaning clients.now) session.now.number rec
+        store.old store.new (H.tells host.old) (H.tells host.new)) }
+    ensures stopped { IfErr result (RecordStopped (C.meaning clients.now) session.now.number rec
+        store.old store.new (H.tells host.old) (H.tells host.new)) }
     ensures ready { IfErr result (KeepsReady (C.meaning clients.now) store.new
         (H.tells host.new)) }
-    ensures course { OnOk result (TakesAsCourse (C.meaning clients.now) session.now.number rec
-        store.old store.new (H.tells host.old) (H.tells host.new)) }
-    ensures stops { OnErr result (StopsAsCourse (C.meaning clients.now) session.now.number rec
-        store.old (H.tells host.old) (H.tells host.new)) }
     ensures takes { OnOk result (TakesOn (C.meaning clients.now) session.now rec store.old
         store.new (H.tells host.old) (H.tells host.new)) }
     ensures safe { TakesSafe (C.meaning clients.now) session.now rec store.old store.new
@@ -232,8 +223,6 @@ fn take_one<H: Host, C: Clients>(
     ensures format { store.new.format ≡ store.old.format }
     ensures as_before { IsErrOf result Fault.Full → StaysSame (C.meaning clients.now) store.old
         store.new (H.tells host.old) (H.tells host.new) }
-    ensures full { IsErrOf result Fault.Full → TakesFull (C.meaning clients.now)
-        session.now.number rec store.old store.new (H.tells host.old) (H.tells host.new) }
     ensures fault { IsErrOf result Fault.DiskFault → CountRose (H.tells host.old).disk_faults
         (H.tells host.new).disk_faults }
 {

@@ -119,6 +119,11 @@ impl Node {
     ghost use Rattle.sync_node.specs.Courses.{HaltsReceiving, HaltsSending, HaltsTurn};
     ghost use Rattle.sync_node.specs.Courses.{MakesTurn, ReceivesOnce, SendsDue, is_still};
     ghost use Rattle.sync_node.specs.Node.{IsNode};
+    ghost use Rattle.sync_node.specs.Batches.{Added, AddStops};
+    ghost use Rattle.sync_node.specs.OnRuns.{AskingStopped, AskingWent, BeginStopped, BeginWent};
+    ghost use Rattle.sync_node.specs.OnRuns.{ByFault, OutsSent};
+    ghost use Rattle.sync_node.specs.OnRuns.{OutsStopped, RoundStopped, RoundWent};
+    ghost use Rattle.std.specs.Prelude.{IfErr};
     ghost use Rattle.sync_node.specs.Stays.{IsUndone, IsUndoneAt, StaysReady};
     ghost use Rattle.sync_node.specs.Stops.{NodeSendsAll};
     ghost use Rattle.sync_node.specs.Plans.{session_of};
@@ -185,6 +190,11 @@ impl Node {
         ensures may { MayRun (C.meaning clients.now) self.new (H.tells host.new) }
         ensures stays { self.old.closed ≡ false → StaysReady (C.meaning clients.now) self.new
             (H.tells host.new) result }
+        ensures went { OnOk result (Added (C.meaning clients.now) batch self.old.store
+            self.new.store (H.tells host.old) (H.tells host.new)) }
+        ensures stopped { self.old.closed ≡ false → IfErr result (ByFault (AddStops
+            (C.meaning clients.now) batch self.old.store self.new.store (H.tells host.old)
+            (H.tells host.new))) }
         ensures node { IsNode self.new }
         ensures joined { OnOk result (KeepsJoined (C.meaning clients.now) self.old self.new
             (H.tells host.old) (H.tells host.new)) }
@@ -251,6 +261,13 @@ impl Node {
         ensures may { MayRun (C.meaning clients.now) self.new (H.tells host.new) }
         ensures stays { self.old.closed ≡ false → StaysReady (C.meaning clients.now) self.new
             (H.tells host.new) result }
+        ensures went { self.old.closed ≡ false → OnOk result (BeginWent (C.meaning clients.now)
+            (session_of self.old.store.state.facts.begun plan.now nonce) self.old.links
+            self.new.links self.old.store self.new.store (H.tells host.old) (H.tells host.new)) }
+        ensures stopped { self.old.closed ≡ false → IfErr result (ByFault (BeginStopped
+            (C.meaning clients.now) (session_of self.old.store.state.facts.begun plan.now nonce)
+            self.old.links self.new.links self.old.store self.new.store (H.tells host.old)
+            (H.tells host.new))) }
         ensures node { IsNode self.new }
         ensures course { self.old.closed ≡ false → OnOk result (BeginsNextSession (C.meaning clients.now)
             (session_of self.old.store.state.facts.begun plan.now nonce) self.old.links
@@ -325,6 +342,12 @@ impl Node {
         ensures may { MayRun (C.meaning clients.now) self.new (H.tells host.new) }
         ensures stays { self.old.closed ≡ false → StaysReady (C.meaning clients.now) self.new
             (H.tells host.new) result }
+        ensures went { self.old.closed ≡ false → IfOk result (AskingWent (C.meaning clients.now)
+            self.old.first link self.old.links self.new.links self.old.store self.new.store
+            (H.tells host.old) (H.tells host.new)) }
+        ensures stopped { self.old.closed ≡ false → IfErr result (ByFault (AskingStopped
+            (C.meaning clients.now) self.old.first link self.old.links self.new.links
+            self.old.store self.new.store (H.tells host.old) (H.tells host.new))) }
         ensures node { IsNode self.new }
         ensures course { self.old.closed ≡ false → IfOk result (ReceivesOnce (C.meaning clients.now)
             self.old.first link self.old.links self.new.links self.old.store self.new.store
@@ -384,6 +407,12 @@ impl Node {
         ensures may { MayRun (C.meaning clients.now) self.new (H.tells host.new) }
         ensures stays { self.old.closed ≡ false → StaysReady (C.meaning clients.now) self.new
             (H.tells host.new) result }
+        ensures went { self.old.closed ≡ false → IfOk result (OutsSent (C.meaning clients.now)
+            self.old.first link now self.old.links self.new.links self.old.store self.new.store
+            (H.tells host.old) (H.tells host.new)) }
+        ensures stopped { self.old.closed ≡ false → IfErr result (ByFault (OutsStopped
+            (C.meaning clients.now) self.old.first link now self.old.links self.new.links
+            self.old.store self.new.store (H.tells host.old) (H.tells host.new))) }
         ensures node { IsNode self.new }
         ensures course { self.old.closed ≡ false → IfOk result (SendsDue (C.meaning clients.now)
             self.old.first link now self.old.links self.new.links self.old.store self.new.store
@@ -438,6 +467,12 @@ impl Node {
         ensures may { MayRun (C.meaning clients.now) self.new (H.tells host.new) }
         ensures stays { self.old.closed ≡ false → StaysReady (C.meaning clients.now) self.new
             (H.tells host.new) result }
+        ensures went { self.old.closed ≡ false → IfOk result (λ turned. RoundWent
+            (C.meaning clients.now) self.old.first self.old.links self.new.links self.old.store
+            self.new.store (H.tells host.old) (H.tells host.new) (is_still turned)) }
+        ensures stopped { self.old.closed ≡ false → IfErr result (ByFault (RoundStopped
+            (C.meaning clients.now) self.old.first self.old.links self.new.links self.old.store
+            self.new.store (H.tells host.old) (H.tells host.new))) }
         ensures node { IsNode self.new }
         ensures course { self.old.closed ≡ false → IfOk result (λ turned. MakesTurn
             (C.meaning clients.now) self.old.first self.old.links self.new.links self.old.store

@@ -5,9 +5,8 @@ ghost use Rattle.outside.specs.Faults.{CountRose};
 ghost use Rattle.sync_rules.specs.Legal.{Allowed};
 ghost use Rattle.sync_rules.specs.declared.entries.Entry.TheVariants as entry;
 ghost use Rattle.sync_node.specs.Causes.{LinkGoes};
-ghost use Rattle.sync_node.specs.Courses.{PutsAsCourse, PutsStop, SentAsCourse, SentStops};
 ghost use Rattle.sync_node.specs.Ends.{MaySend};
-ghost use Rattle.sync_node.specs.Fulls.{PutsFull, TurnLeavesNoRoom};
+ghost use Rattle.sync_node.specs.OnLinks.{DueStopped, DueWent, PutStopped, PutWent};
 ghost use Rattle.sync_node.specs.Sending.{SendsOn};
 ghost use Rattle.sync_node.specs.Working.{IsAble, StaysSafe, HasGivenItems, WorksOnLink};
 ghost use Rattle.sync_node.specs.Stays.{KeepsReady};
@@ -37,15 +36,15 @@ pub(crate) fn send_all<H: Host, C: Clients>(
     requires able { IsAble (C.meaning clients.now) number link.old.session store.old
         (H.tells host.old) }
     requires waits { HasGivenItems link.old }
+    ensures went { MaySend link.old.end → IfOk result (DueWent (C.meaning clients.now) number now
+        link.old link.new store.old store.new (H.tells host.old) (H.tells host.new)) }
+    ensures stopped { MaySend link.old.end → IfErr result (DueStopped (C.meaning clients.now) number
+        now link.old link.new store.old store.new (H.tells host.old) (H.tells host.new)) }
     ensures ready { IfErr result (KeepsReady (C.meaning clients.now) store.new
         (H.tells host.new)) }
     ensures able { OnOk result (IsAble (C.meaning clients.now) number link.new.session store.new
         (H.tells host.new)) }
     ensures waits { OnOk result (HasGivenItems link.new) }
-    ensures course { MaySend link.old.end → IfOk result (SentAsCourse (C.meaning clients.now) number
-        now link.old link.new store.old store.new (H.tells host.old) (H.tells host.new)) }
-    ensures stops { MaySend link.old.end → OnErr result (SentStops (C.meaning clients.now) number
-        now link.old link.new store.old (H.tells host.old) (H.tells host.new)) }
     ensures works { OnOk result (WorksOnLink (C.meaning clients.now) number [] [] link.old link.new
         store.old store.new (H.tells host.old) (H.tells host.new)) }
     ensures stays { OnErr result (StaysSafe (C.meaning clients.now) number [] link.old store.old
@@ -55,9 +54,6 @@ pub(crate) fn send_all<H: Host, C: Clients>(
     ensures run { LinkGoes number link.old link.new (H.tells host.old) (H.tells host.new) }
     ensures limit { store.new.limit ≡ store.old.limit }
     ensures format { store.new.format ≡ store.old.format }
-    ensures full { MaySend link.old.end → IsErrOf result Fault.Full → TurnLeavesNoRoom
-        (C.meaning clients.now) number now link.old store.old store.new (H.tells host.old)
-        (H.tells host.new) }
     ensures fault { IsErrOf result Fault.DiskFault → CountRose (H.tells host.old).disk_faults
         (H.tells host.new).disk_faults }
 {
@@ -90,15 +86,15 @@ fn put_out<H: Host, C: Clients>(
     requires unfailed { link.old.end ≢ LinkEnd.Failed }
     requires allowed { Allowed (C.meaning clients.now) store.old.state.facts
         (entry.Out link.old.session.number now out ∷ []) }
+    ensures went { OnOk result (PutWent (C.meaning clients.now) number now link.old link.new
+        store.old store.new (H.tells host.old) (H.tells host.new)) }
+    ensures stopped { IfErr result (PutStopped (C.meaning clients.now) number now link.old link.new
+        store.old store.new (H.tells host.old) (H.tells host.new)) }
     ensures ready { IfErr result (KeepsReady (C.meaning clients.now) store.new
         (H.tells host.new)) }
     ensures able { OnOk result (IsAble (C.meaning clients.now) number link.new.session store.new
         (H.tells host.new)) }
     ensures waits { OnOk result (HasGivenItems link.new) }
-    ensures course { OnOk result (PutsAsCourse (C.meaning clients.now) number now link.old link.new
-        store.old store.new (H.tells host.old) (H.tells host.new)) }
-    ensures stops { OnErr result (PutsStop (C.meaning clients.now) number now link.old link.new
-        store.old (H.tells host.old) (H.tells host.new)) }
     ensures works { OnOk result (WorksOnLink (C.meaning clients.now) number [] [] link.old link.new
         store.old store.new (H.tells host.old) (H.tells host.new)) }
     ensures stays { OnErr result (StaysSafe (C.meaning clients.now) number [] link.old store.old
@@ -108,8 +104,6 @@ fn put_out<H: Host, C: Clients>(
     ensures run { LinkGoes number link.old link.new (H.tells host.old) (H.tells host.new) }
     ensures limit { store.new.limit ≡ store.old.limit }
     ensures format { store.new.format ≡ store.old.format }
-    ensures full { IsErrOf result Fault.Full → PutsFull (C.meaning clients.now) number now link.old
-        store.old store.new (H.tells host.old) (H.tells host.new) }
     ensures fault { IsErrOf result Fault.DiskFault → CountRose (H.tells host.old).disk_faults
         (H.tells host.new).disk_faults }
 {

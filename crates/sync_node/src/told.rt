@@ -14,8 +14,10 @@ ghost use Rattle.sync_store.specs.Moments.{LeadsTo};
 ghost use Rattle.sync_store.specs.Ready.{IsReady};
 ghost use Rattle.sync_store.specs.Store.{IsStore};
 ghost use Rattle.sync_node.specs.Adding.{AddsAtMost, AddsSettled, AddsWithin, IsPlain};
+ghost use Rattle.sync_node.specs.Batches.{Added, AddStops, CommitStops, Committed, Settled};
+ghost use Rattle.sync_node.specs.Batches.{SettleStops};
 ghost use Rattle.sync_node.specs.Cited.{NodeCallLaws};
-ghost use Rattle.sync_node.specs.Courses.{CommitsWithinCalls, CommitsSettling, AddsSome, AddsSomeSettling};
+ghost use Rattle.sync_node.specs.Courses.{CommitsWithinCalls, AddsSome};
 ghost use Rattle.sync_node.specs.Fulls.{PassesLimit};
 ghost use Rattle.sync_node.specs.Going.{CommitsBatches, LetsNothingFall, SettlesStore};
 ghost use Rattle.sync_node.specs.Output.{heard_on, Journal};
@@ -60,6 +62,10 @@ pub(crate) fn commit<H: Host, C: Clients>(
     requires kind { is_settling_kind batch ≡ false }
     requires plain { is_account_kind batch ≡ false }
     requires named { IsOfAll id batch }
+    ensures went { OnOk result (Committed (C.meaning clients.now) batch store.old store.new
+        (H.tells host.old) (H.tells host.new)) }
+    ensures stopped { IfErr result (CommitStops (C.meaning clients.now) batch store.old store.new
+        (H.tells host.old) (H.tells host.new)) }
     ensures ready { IfErr result (KeepsReady (C.meaning clients.now) store.new
         (H.tells host.new)) }
     ensures commits { OnOk result (CommitsBatches (C.meaning clients.now) (batch ∷ []) store.old store.new
@@ -102,13 +108,13 @@ pub(crate) fn settle<H: Host, C: Clients>(
     clients: &C,
 ) -> Result<(), Fault>
     requires ready { IsReady (C.meaning clients.now) store.old (H.tells host.old).files }
+    ensures went { OnOk result (Settled (C.meaning clients.now) store.old store.new
+        (H.tells host.old) (H.tells host.new)) }
+    ensures stopped { IfErr result (SettleStops (C.meaning clients.now) store.old store.new
+        (H.tells host.old) (H.tells host.new)) }
     ensures ready { IfErr result (KeepsReady (C.meaning clients.now) store.new
         (H.tells host.new)) }
     ensures settles { OnOk result (SettlesStore (C.meaning clients.now) store.old store.new
-        (H.tells host.old) (H.tells host.new)) }
-    ensures adds { OnOk result (CommitsSettling (C.meaning clients.now) store.old store.new
-        (H.tells host.old) (H.tells host.new)) }
-    ensures adds_some { OnErr result (AddsSomeSettling (C.meaning clients.now) store.old
         (H.tells host.old) (H.tells host.new)) }
     ensures safe { (b : Begin) (plans : List Session)
         → Safe (C.meaning clients.now) b plans store.old (H.tells host.old)
@@ -140,6 +146,10 @@ pub(crate) fn add_settled<H: Host, C: Clients>(
     requires ready { IsReady (C.meaning clients.now) store.old (H.tells host.old).files }
     requires allowed { Allowed (C.meaning clients.now) store.old.state.facts batch }
     requires plain { IsPlain batch }
+    ensures went { OnOk result (Added (C.meaning clients.now) batch store.old store.new
+        (H.tells host.old) (H.tells host.new)) }
+    ensures stopped { IfErr result (AddStops (C.meaning clients.now) batch store.old store.new
+        (H.tells host.old) (H.tells host.new)) }
     ensures ready { IfErr result (KeepsReady (C.meaning clients.now) store.new
         (H.tells host.new)) }
     ensures added { OnOk result (AddsSettled (C.meaning clients.now) batch store.old store.new

@@ -4,12 +4,12 @@ ghost use Rattle.std.specs.Prelude.{◌≡◌, ℕ, ◌<◌, ◌≤◌, [], leng
 ghost use Rattle.outside.specs.Faults.{CountRose};
 ghost use Rattle.sync_course.specs.declared.TheConstants.{PIECE_LEN};
 ghost use Rattle.sync_node.specs.Causes.{LinkGoes, LinksGo, sessions_of};
-ghost use Rattle.sync_node.specs.Courses.{HaltsTurn, MakesTurn};
-ghost use Rattle.sync_node.specs.Courses.{HearsAsCourse, HearsStops, SendsAsCourse, SendsStop};
-ghost use Rattle.sync_node.specs.Courses.{TurnAsCourse, TurnsAsCourse, TurnsStop};
-ghost use Rattle.sync_node.specs.Fulls.{FullTurn, HearsFull, LeavesNoRoomFor, TurnsFull};
+ghost use Rattle.sync_node.specs.Fulls.{FullTurn, TurnsFull};
 ghost use Rattle.outside.specs.declared.limits.TheConstants.{LINKS};
 ghost use Rattle.sync_node.specs.Node.{AreAttached, AreSome, LinksSafe, LinksWork, MayGoOn};
+ghost use Rattle.sync_node.specs.OnLinks.{HearingStopped, HearingWent, SendingStopped};
+ghost use Rattle.sync_node.specs.OnLinks.{SendingWent, TurnWent};
+ghost use Rattle.sync_node.specs.OnRuns.{LinksStopped, LinksWent, RoundStopped, RoundWent};
 ghost use Rattle.sync_node.specs.Working.{IsAble, StaysSafe, HasGivenItems, WorksOnLink};
 ghost use Rattle.sync_node.specs.Stays.{KeepsReady};
 ghost use Rattle.sync_node.specs.Stops.{LinksSent, StopsSent};
@@ -39,16 +39,16 @@ pub(crate) fn turn_all<H: Host, C: Clients>(
     requires few { length links.old ≤ LINKS }
     requires attached { AreSome links.old store.old.state.facts }
     requires room { 0 < length buffer.old }
+    ensures went { (first : ℕ) → AreAttached first links.old store.old.state.facts
+        → length buffer.old ≡ PIECE_LEN → IfOk result (RoundWent (C.meaning clients.now) first
+        links.old links.new store.old store.new (H.tells host.old) (H.tells host.new)) }
+    ensures stopped { (first : ℕ) → AreAttached first links.old store.old.state.facts
+        → length buffer.old ≡ PIECE_LEN → IfErr result (RoundStopped (C.meaning clients.now) first
+        links.old links.new store.old store.new (H.tells host.old) (H.tells host.new)) }
     ensures ready { IfErr result (KeepsReady (C.meaning clients.now) store.new
         (H.tells host.new)) }
     ensures may { OnOk result (MayGoOn (C.meaning clients.now) links.new store.new
         (H.tells host.new)) }
-    ensures course { (first : ℕ) → AreAttached first links.old store.old.state.facts
-        → length buffer.old ≡ PIECE_LEN → IfOk result (MakesTurn (C.meaning clients.now) first
-        links.old links.new store.old store.new (H.tells host.old) (H.tells host.new)) }
-    ensures halts { (first : ℕ) → AreAttached first links.old store.old.state.facts
-        → length buffer.old ≡ PIECE_LEN → OnErr result (HaltsTurn (C.meaning clients.now) first
-        links.old links.new store.old (H.tells host.old) (H.tells host.new)) }
     ensures works { (first : ℕ) → AreAttached first links.old store.old.state.facts
         → OnOk result (LinksWork (C.meaning clients.now) first links.old links.new store.old
         store.new (H.tells host.old) (H.tells host.new)) }
@@ -87,17 +87,17 @@ fn turn_each<H: Host, C: Clients>(
     requires few { length links.old ≤ LINKS }
     requires attached { AreSome links.old store.old.state.facts }
     requires room { 0 < length buffer.old }
+    ensures went { (first : ℕ) → AreAttached first links.old store.old.state.facts
+        → length buffer.old ≡ PIECE_LEN → IfOk result (LinksWent (C.meaning clients.now) first
+        (length links.old) links.old links.new store.old store.new (H.tells host.old)
+        (H.tells host.new)) }
+    ensures stopped { (first : ℕ) → AreAttached first links.old store.old.state.facts
+        → length buffer.old ≡ PIECE_LEN → IfErr result (LinksStopped (C.meaning clients.now) first
+        links.old links.new store.old store.new (H.tells host.old) (H.tells host.new)) }
     ensures ready { IfErr result (KeepsReady (C.meaning clients.now) store.new
         (H.tells host.new)) }
     ensures may { OnOk result (MayGoOn (C.meaning clients.now) links.new store.new
         (H.tells host.new)) }
-    ensures course { (first : ℕ) → AreAttached first links.old store.old.state.facts
-        → length buffer.old ≡ PIECE_LEN → IfOk result (TurnsAsCourse (C.meaning clients.now) first
-        (length links.old) links.old links.new store.old store.new (H.tells host.old)
-        (H.tells host.new)) }
-    ensures halts { (first : ℕ) → AreAttached first links.old store.old.state.facts
-        → length buffer.old ≡ PIECE_LEN → OnErr result (TurnsStop (C.meaning clients.now) first
-        links.old links.new store.old (H.tells host.old) (H.tells host.new)) }
     ensures works { (first : ℕ) → AreAttached first links.old store.old.state.facts
         → OnOk result (LinksWork (C.meaning clients.now) first links.old links.new store.old
         store.new (H.tells host.old) (H.tells host.new)) }
@@ -142,17 +142,17 @@ fn turn_link<H: Host, C: Clients>(
         (H.tells host.old) }
     requires waits { HasGivenItems link.old }
     requires room { 0 < length buffer.old }
+    ensures went { length buffer.old ≡ PIECE_LEN → IfOk result (TurnWent
+        (C.meaning clients.now) number link.old link.new store.old store.new (H.tells host.old)
+        (H.tells host.new)) }
+    ensures stopped { length buffer.old ≡ PIECE_LEN → IfErr result (HearingStopped
+        (C.meaning clients.now) number link.old link.new store.old store.new (H.tells host.old)
+        (H.tells host.new)) }
     ensures ready { IfErr result (KeepsReady (C.meaning clients.now) store.new
         (H.tells host.new)) }
     ensures able { OnOk result (IsAble (C.meaning clients.now) number link.new.session store.new
         (H.tells host.new)) }
     ensures waits { OnOk result (HasGivenItems link.new) }
-    ensures course { length buffer.old ≡ PIECE_LEN → IfOk result (TurnAsCourse
-        (C.meaning clients.now) number link.old link.new store.old store.new (H.tells host.old)
-        (H.tells host.new)) }
-    ensures halts { length buffer.old ≡ PIECE_LEN → OnErr result (HearsStops
-        (C.meaning clients.now) number link.old link.new store.old (H.tells host.old)
-        (H.tells host.new)) }
     ensures works { OnOk result (WorksOnLink (C.meaning clients.now) number [] [] link.old link.new
         store.old store.new (H.tells host.old) (H.tells host.new)) }
     ensures stays { OnErr result (StaysSafe (C.meaning clients.now) number [] link.old store.old
@@ -162,9 +162,6 @@ fn turn_link<H: Host, C: Clients>(
     ensures run { LinkGoes number link.old link.new (H.tells host.old) (H.tells host.new) }
     ensures limit { store.new.limit ≡ store.old.limit }
     ensures format { store.new.format ≡ store.old.format }
-    ensures full { length buffer.old ≡ PIECE_LEN → IsErrOf result Fault.Full → HearsFull
-        (C.meaning clients.now) number link.old store.old store.new (H.tells host.old)
-        (H.tells host.new) }
     ensures fault { IsErrOf result Fault.DiskFault → CountRose (H.tells host.old).disk_faults
         (H.tells host.new).disk_faults }
 {
@@ -187,17 +184,17 @@ fn hear_now<H: Host, C: Clients>(
         (H.tells host.old) }
     requires waits { HasGivenItems link.old }
     requires room { 0 < length buffer.old }
+    ensures went { length buffer.old ≡ PIECE_LEN → IfOk result (HearingWent
+        (C.meaning clients.now) number link.old link.new store.old store.new (H.tells host.old)
+        (H.tells host.new)) }
+    ensures stopped { length buffer.old ≡ PIECE_LEN → IfErr result (HearingStopped
+        (C.meaning clients.now) number link.old link.new store.old store.new (H.tells host.old)
+        (H.tells host.new)) }
     ensures ready { IfErr result (KeepsReady (C.meaning clients.now) store.new
         (H.tells host.new)) }
     ensures able { OnOk result (IsAble (C.meaning clients.now) number link.new.session store.new
         (H.tells host.new)) }
     ensures waits { OnOk result (HasGivenItems link.new) }
-    ensures course { length buffer.old ≡ PIECE_LEN → IfOk result (HearsAsCourse
-        (C.meaning clients.now) number link.old link.new store.old store.new (H.tells host.old)
-        (H.tells host.new)) }
-    ensures stops { length buffer.old ≡ PIECE_LEN → OnErr result (HearsStops
-        (C.meaning clients.now) number link.old link.new store.old (H.tells host.old)
-        (H.tells host.new)) }
     ensures works { OnOk result (WorksOnLink (C.meaning clients.now) number [] [] link.old link.new
         store.old store.new (H.tells host.old) (H.tells host.new)) }
     ensures stays { OnErr result (StaysSafe (C.meaning clients.now) number [] link.old store.old
@@ -207,9 +204,6 @@ fn hear_now<H: Host, C: Clients>(
     ensures run { LinkGoes number link.old link.new (H.tells host.old) (H.tells host.new) }
     ensures limit { store.new.limit ≡ store.old.limit }
     ensures format { store.new.format ≡ store.old.format }
-    ensures full { length buffer.old ≡ PIECE_LEN → IsErrOf result Fault.Full → HearsFull
-        (C.meaning clients.now) number link.old store.old store.new (H.tells host.old)
-        (H.tells host.new) }
     ensures fault { IsErrOf result Fault.DiskFault → CountRose (H.tells host.old).disk_faults
         (H.tells host.new).disk_faults }
 {
@@ -232,15 +226,15 @@ fn send_now<H: Host, C: Clients>(
     requires able { IsAble (C.meaning clients.now) number link.old.session store.old
         (H.tells host.old) }
     requires waits { HasGivenItems link.old }
+    ensures went { IfOk result (SendingWent (C.meaning clients.now) number link.old link.new
+        store.old store.new (H.tells host.old) (H.tells host.new)) }
+    ensures stopped { IfErr result (SendingStopped (C.meaning clients.now) number link.old link.new
+        store.old store.new (H.tells host.old) (H.tells host.new)) }
     ensures ready { IfErr result (KeepsReady (C.meaning clients.now) store.new
         (H.tells host.new)) }
     ensures able { OnOk result (IsAble (C.meaning clients.now) number link.new.session store.new
         (H.tells host.new)) }
     ensures waits { OnOk result (HasGivenItems link.new) }
-    ensures course { IfOk result (SendsAsCourse (C.meaning clients.now) number link.old link.new
-        store.old store.new (H.tells host.old) (H.tells host.new)) }
-    ensures halts { OnErr result (SendsStop (C.meaning clients.now) number link.old link.new
-        store.old (H.tells host.old) (H.tells host.new)) }
     ensures works { OnOk result (WorksOnLink (C.meaning clients.now) number [] [] link.old link.new
         store.old store.new (H.tells host.old) (H.tells host.new)) }
     ensures stays { OnErr result (StaysSafe (C.meaning clients.now) number [] link.old store.old
@@ -250,8 +244,6 @@ fn send_now<H: Host, C: Clients>(
     ensures run { LinkGoes number link.old link.new (H.tells host.old) (H.tells host.new) }
     ensures limit { store.new.limit ≡ store.old.limit }
     ensures format { store.new.format ≡ store.old.format }
-    ensures full { IsErrOf result Fault.Full → LeavesNoRoomFor (C.meaning clients.now) number link.old
-        store.old store.new (H.tells host.old) (H.tells host.new) }
     ensures fault { IsErrOf result Fault.DiskFault → CountRose (H.tells host.old).disk_faults
         (H.tells host.new).disk_faults }
 {

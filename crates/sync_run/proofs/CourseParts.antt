@@ -1,6 +1,6 @@
 -- The sessions of a run that begin one after another, and its turns.
 use Rattle.std.proofs.Common.{◌≡◌, ◌⊎◌, ℕ, zero, suc, ◌+◌, ◌<◌, ◌≤◌, Bool, true, false, cond, ◌||◌, List, [], ◌∷◌, drop, get_or, length, refl, sym, ◌∙◌, ap, subst, inl, inr, arith, Option, None, Some, is_some, Result, Ok, Err}
-use Rattle.std.specs.Prelude.{nat_le, nat_lt, not, slice_get, IsErrAnd, IsErrOf, OnErr}
+use Rattle.std.specs.Prelude.{nat_le, nat_lt, not, slice_get, IfErr, IsErrAnd, IsErrOf}
 use Rattle.std.proofs.lemmas.Bool.{lt-leb, lt-ltb}
 use Rattle.std.proofs.lemmas.List.{drop_all}
 use Rattle.outside.specs.Outside.{Outside}
@@ -8,17 +8,25 @@ use Rattle.sync_rules.specs.declared.entries.Session.{Session}
 use Rattle.sync_rules.specs.Clients.{Meaning}
 use Rattle.sync_rules.specs.Facts.{Facts}
 use Rattle.sync_store.specs.Store.{StoreValue}
-use Rattle.sync_course.proofs.CallLaws.{runs_none}
-use Rattle.sync_course.proofs.LiftLaws.{runs_all_attached, runs_ended}
+use Rattle.sync_course.specs.Acts.{Does}
+use Rattle.sync_course.specs.Events.{Pass}
+use Rattle.sync_course.specs.LinkTurns.{Asks}
+use Rattle.sync_course.specs.Owing.{Owing, paid}
 use Rattle.sync_course.specs.Links as course_links
-use Rattle.sync_course.proofs.ToldLaws.{breaks_then, runs_then}
-use Rattle.sync_course.specs.Turns.{Attaches, Between, Ended, Place, RunStep, Stage, Terms, is_at_end, is_over, over_by, some_going}
+use Rattle.sync_course.proofs.ToldLaws.{runs_then, told_pass}
+use Rattle.sync_course.specs.Turns.{Attaches, Between, Ended, Place, RunStep, Stage, Terms, Works, is_at_end, is_over, over_by, some_going}
 use Rattle.sync_node.specs.declared.link.Link.{Link}
 use Rattle.sync_course.specs.declared.ends.LinkEnd.{LinkEnd}
 use Rattle.sync_course.specs.declared.ends.LinkEnd.TheVariants as link_end
 use Rattle.sync_node.specs.declared.node.Turned.{Turned}
 use Rattle.sync_node.specs.declared.node.Turned.TheVariants as turned
-use Rattle.sync_node.specs.Courses.{AllRead, BeginsNextSession, BreaksBeginning, BreaksTurn, FitsWith, MakesTurn, ReadsAs, RunBreaks, RunRuns, is_still, links_from, place_at}
+use Rattle.sync_node.specs.Courses.{AllRead, FitsWith, RunBreaks, is_still, links_from, place_at}
+use Rattle.sync_node.specs.OnRuns.{BeginStopped, BeginWent, ByFault, RoundStopped, RoundWent, RunActs, RunStopped, RunWent}
+use Rattle.sync_node.specs.declared.fault.NodeFault.{NodeFault}
+use Rattle.sync_node.specs.declared.fault.NodeFault.TheVariants as node_fault
+use Rattle.sync_node.proofs.NodeRuns.{run_halts, run_went}
+use Rattle.sync_node.proofs.PrimLaws.{did_pass}
+use Rattle.sync_node.proofs.WentLaws.{stopped_then, went_none, went_one, went_then}
 use Rattle.sync_node.specs.Fulls.{AllSentOn, FullBeginning, FullTurn, RunFullSent}
 use Rattle.sync_node.specs.Joined.{Joined}
 use Rattle.sync_node.proofs.SentLaws.{joined_sent}
@@ -27,12 +35,7 @@ use Rattle.sync_node.specs.Plans.{session_of}
 use Rattle.sync_run.specs.declared.dialling.Dialled.{Dialled}
 use Rattle.sync_run.specs.declared.run.Limits.{Limits}
 use Rattle.sync_run.specs.Courses.{terms_at}
-use Rattle.sync_run.specs.Parts.{BreaksRun, BreaksSessions, BreaksTurns, EndsFrom, FullRun, FullSessions, FullTurns, MakesTurns, RunsSessions, SessionsBegin, SessionsSoFar, TurnsSoFar, before_sessions, before_turns, sessions_from, silent}
-
--- what is so of any failure
-pub on_err : {T E : Type 0} {P : Type 0} (result : Result T E) → P → OnErr result P
-on_err (Ok x) p = tt
-on_err (Err e) p = p
+use Rattle.sync_run.specs.Parts.{EndsFrom, FullRun, FullSessions, FullTurns, MakesTurns, RunsSessions, SessionsBegin, SessionsSoFar, SessionsStopped, StopsFrom, StopsRun, TurnsSoFar, TurnsStopped, before_sessions, before_turns, sessions_from, silent}
 
 -- a failure that goes on by `?` is the one that it was
 pub err_same : {T U E : Type 0} (r : Result T E) (x y : E) → IsErrAnd r (λ e. e ≡ x) → IsErrOf r y → IsErrOf {T = U} {E = E} (Err x) y
@@ -40,6 +43,54 @@ err_same (Ok t) x y is same = absurd is
 err_same (Err e) x y is same =
     let one : e ≡ y = cc in
     ap (λ z. Err z) (sym is ∙ one)
+
+-- what is said of the error of a call, of that which goes on by `?`
+pub if_err_was : {T E : Type 0} (r : Result T E) (x : E) (P : E → Type 0) → IsErrAnd r (λ y. y ≡ x) → P x → IfErr r P
+if_err_was (Ok t) x P is p = tt
+if_err_was (Err e) x P is p = subst P (sym is) p
+
+-- and of that in the tail
+pub if_err_then : {T E : Type 0} (r : Result T E) (P Q : E → Type 0) → ((e : E) → P e → Q e) → IfErr r P → IfErr r Q
+if_err_then (Ok t) P Q then p = tt
+if_err_then (Err e) P Q then p = then e p
+
+-- by what a node answers, of each fault
+pub by_fault_map : (P Q : _ → Type 0) → ((e : _) → P e → Q e) → (x : NodeFault) → ByFault P x → ByFault Q x
+by_fault_map P Q then node_fault.Memory p = then _ p
+by_fault_map P Q then node_fault.DiskFault p = then _ p
+by_fault_map P Q then node_fault.Full p = then _ p
+by_fault_map P Q then node_fault.Closed p = p
+
+pub by_fault_any : (P : _ → Type 0) (Q : Type 0) → ((e : _) → P e → Q) → (x : NodeFault) → ByFault P x → Q
+by_fault_any P Q then node_fault.Memory p = then _ p
+by_fault_any P Q then node_fault.DiskFault p = then _ p
+by_fault_any P Q then node_fault.Full p = then _ p
+by_fault_any P Q then node_fault.Closed p = absurd p
+
+-- a place that is told of nothing
+passes : (clients : Meaning) (terms : Terms) (p q : Place) (s : StoreValue) (o : Outside) → RunStep clients terms p Pass q
+    → RunWent clients terms p q s s o o
+passes clients terms p q s o steps =
+    went_one clients (RunActs clients terms) (paid p) (paid q) (Does Pass) s s o o (λ link. refl, steps, λ link. refl)
+    (did_pass clients (Does Pass) s o refl (λ link. refl) (told_pass o o refl))
+
+-- a run stopped behind what was done
+stops_then : (clients : Meaning) (terms : Terms) (p q : Place) (s0 s s' : StoreValue) (o0 o o' : Outside) (x : NodeFault)
+    → RunWent clients terms p q s0 s o0 o → StopsFrom clients terms q s s' o o' x → StopsFrom clients terms p s0 s' o0 o' x
+stops_then clients terms p q s0 s s' o0 o o' x first second =
+    by_fault_map (λ e. (links : List course_links.Link) × RunStopped clients terms q links s s' o o' e)
+    (λ e. (links : List course_links.Link) × RunStopped clients terms p links s0 s' o0 o' e)
+    (λ e stopped. (
+      stopped.0,
+      stopped_then clients (RunActs clients terms) (λ (y : Owing Place). y.at.links ≡ stopped.0) (paid p) (paid q) s0 s s' o0 o o' e first stopped.1,
+    )) x second
+
+-- it was broken off
+pub stops_halted : (clients : Meaning) (terms : Terms) (p : Place) (s s' : StoreValue) (o o' : Outside) (x : NodeFault)
+    → StopsFrom clients terms p s s' o o' x → RunBreaks clients terms p s o o'
+stops_halted clients terms p s s' o o' x stops =
+    by_fault_any (λ e. (links : List course_links.Link) × RunStopped clients terms p links s s' o o' e) (RunBreaks clients terms p s o o')
+    (λ e stopped. (run_halts clients terms p stopped.0 s s' o o' e stopped.1).breaks) x stops
 
 -- files that are told on one side of a call are told on the other
 pub told_too : {A : Type 0} (a b : Option A) (x : A) → is_some b ≡ is_some a → a ≡ Some x → (y : A) × (b ≡ Some y)
@@ -66,43 +117,48 @@ pub no_session_yet : (clients : Meaning) (sessions : List Session) (links : List
 no_session_yet clients sessions links s o none = record {
   same_told = refl;
   has_read = subst (AllRead silent) (sym none) (λ i l at. cc);
-  runs = λ two files terms.
-      subst (λ (ls : List Link). RunRuns clients terms (before_sessions sessions s.state.facts) (place_at (Attaches sessions) ls silent false 0 0 s.state.facts) s s o o)
+  went = λ two files terms same.
+      subst (λ (ls : List Link). RunWent clients terms (before_sessions sessions s.state.facts) (place_at (Attaches sessions) ls silent false 0 0 s.state.facts) s s o o)
       (sym none)
-      (runs_none (RunStep clients terms) (FitsWith clients s o.files) (FitsWith clients s o.files) (λ j fit. fit) (before_sessions sessions s.state.facts) o);
+      (went_none clients (RunActs clients terms) (paid (before_sessions sessions s.state.facts)) s o);
 }
 
 module _ (clients : Meaning) (sessions left : List Session) (session : Session) (links : List Link) (s0 s : StoreValue) (o0 o : Outside)
     (so : SessionsSoFar clients sessions (session ∷ left) links s0 s o0 o) where
   pub session_more : (links' : List Link) (s' : StoreValue) (o' : Outside) → is_some o'.files ≡ is_some o.files
-      → BeginsNextSession clients session links links' s s' o o' → SessionsSoFar clients sessions left links' s0 s' o0 o'
-  session_more links' s' o' told begins = record {
+      → session.number ≡ s0.state.facts.begun + length links → BeginWent clients session links links' s s' o o'
+      → SessionsSoFar clients sessions left links' s0 s' o0 o'
+  session_more links' s' o' told numbered begins = record {
     same_told = told ∙ so.same_told;
     has_read = begins.has_read silent refl so.has_read;
-    runs = λ two files terms.
+    went = λ two files terms same.
         let there = told_too o0.files o.files two so.same_told files in
-        runs_then (RunStep clients terms) (FitsWith clients s0 o0.files) (FitsWith clients s o.files) (FitsWith clients s' o'.files)
-        (before_sessions sessions s0.state.facts) (place_at (Attaches (session ∷ left)) links silent false 0 0 s.state.facts)
-        (place_at (Attaches left) links' silent false 0 0 s'.state.facts) o0 o o'
-        (so.runs two files terms) (begins.runs there.0 there.1 terms left silent false 0 0 refl);
+        went_then clients (RunActs clients terms) (paid (before_sessions sessions s0.state.facts))
+        (paid (place_at (Attaches (session ∷ left)) links silent false 0 0 s.state.facts)) (paid (place_at (Attaches left) links' silent false 0 0 s'.state.facts))
+        s0 s s' o0 o o' (so.went two files terms same)
+        (begins.went there.0 there.1 terms left silent false 0 0 refl (numbered ∙ ap (λ (n : ℕ). n + length links) (sym same)));
   }
 
-  pub session_broken : (o' : Outside) → BreaksBeginning clients session links s o o' → BreaksSessions clients sessions s0 o0 o'
-  session_broken o' breaks = record {
-    stops = λ two files terms.
-        breaks_then (RunStep clients terms) (FitsWith clients s0 o0.files) (FitsWith clients s o.files) (ReadsAs clients o'.files)
-        (before_sessions sessions s0.state.facts) (place_at (Attaches (session ∷ left)) links silent false 0 0 s.state.facts) o0 o o'
-        (so.runs two files terms) (breaks.stops terms left silent false 0 0);
+  pub session_stopped : (links' : List Link) (s' : StoreValue) (o' : Outside) (x : NodeFault)
+      → ByFault (BeginStopped clients session links links' s s' o o') x → SessionsStopped clients sessions s0 s' o0 o' x
+  session_stopped links' s' o' x stopped = record {
+    stops = λ two files terms same.
+        let here : Place = place_at (Attaches (session ∷ left)) links silent false 0 0 s.state.facts in
+        stops_then clients terms (before_sessions sessions s0.state.facts) here s0 s s' o0 o o' x (so.went two files terms same)
+        (by_fault_map (BeginStopped clients session links links' s s' o o')
+        (λ e. (ls : List course_links.Link) × RunStopped clients terms here ls s s' o o' e)
+        (λ e begins. (links_from 0 links' silent, begins.stops terms left silent false 0 0)) x stopped);
   }
 
 -- a batch would have passed the limit, behind a run of calls
-pub full_then : (clients : Meaning) (terms : Terms) (p q : Place) (Given Given' : Type 0) (s0 s s' : StoreValue) (o0 o o' : Outside) → RunRuns clients terms p q s0 s o0 o → (Given → Given')
+pub full_then : (clients : Meaning) (terms : Terms) (p q : Place) (Given Given' : Type 0) (s0 s s' : StoreValue) (o0 o o' : Outside) → RunWent clients terms p q s0 s o0 o → (Given → Given')
     → RunFullSent clients terms q Given' s s' o o' → RunFullSent clients terms p Given s0 s' o0 o'
-full_then clients terms p q Given Given' s0 s s' o0 o o' first leads second = record {
+full_then clients terms p q Given Given' s0 s s' o0 o o' went leads second = record {
   full = record {
     to = second.full.to;
     runs =
-        runs_then (RunStep clients terms) (FitsWith clients s0 o0.files) (FitsWith clients s o.files) (FitsWith clients s' o'.files) p q second.full.to o0 o o' first second.full.runs;
+        runs_then (RunStep clients terms) (FitsWith clients s0 o0.files) (FitsWith clients s o.files) (FitsWith clients s' o'.files) p q second.full.to o0 o o'
+        (run_went clients terms p q s0 s o0 o went) second.full.runs;
     batch = second.full.batch;
     next = second.full.next;
     steps = second.full.steps;
@@ -115,12 +171,11 @@ pub sessions_all : (clients : Meaning) (sessions : List Session) (links : List L
     → SessionsSoFar clients sessions [] links s0 s o0 o → SessionsBegin clients sessions links s0 s o0 o
 sessions_all clients sessions links s0 s o0 o so = record {
   has_read = so.has_read;
-  runs = λ two files terms.
+  went = λ two files terms same.
       let place : Place = place_at (Attaches []) links silent false 0 0 s.state.facts in
-      runs_then (RunStep clients terms) (FitsWith clients s0 o0.files) (FitsWith clients s o.files) (FitsWith clients s o.files)
-      (before_sessions sessions s0.state.facts) place (before_turns links silent s.state.facts) o0 o o
-      (so.runs two files terms)
-      (runs_all_attached clients terms (FitsWith clients s o.files) (FitsWith clients s o.files) (λ j fit. fit) place o refl);
+      let next : Place = before_turns links silent s.state.facts in
+      went_then clients (RunActs clients terms) (paid (before_sessions sessions s0.state.facts)) (paid place) (paid next) s0 s s o0 o o
+      (so.went two files terms same) (passes clients terms place next s o refl);
 }
 
 -- the sessions left, of which that of this link is the next
@@ -135,7 +190,7 @@ sessions_next first (suc i) (x ∷ links) d within is =
     (sessions_next (suc first) i links d less is)
 
 module _ (clients : Meaning) (sessions : List Session) (links : List Dialled) (first i : ℕ) (d : Dialled) (nodes : List Link) (s0 s : StoreValue) (o0 o : Outside)
-    (at : s.state.facts.begun ≡ first + i) (within : i < length links) (is : d ≡ get_or links i d)
+    (at : s.state.facts.begun ≡ first + i) (within : i < length links) (is : d ≡ get_or links i d) (named : first ≡ s0.state.facts.begun) (many : length nodes ≡ i)
     (so : SessionsSoFar clients sessions (sessions_from s.state.facts.begun (drop i links)) nodes s0 s o0 o) where
   so_next : SessionsSoFar clients sessions (session_of s.state.facts.begun d.plan d.nonce ∷ sessions_from (suc s.state.facts.begun) (drop (i + 1) links)) nodes s0 s o0 o
   so_next =
@@ -147,13 +202,14 @@ module _ (clients : Meaning) (sessions : List Session) (links : List Dialled) (f
       subst (λ (left : List Session). SessionsSoFar clients sessions left nodes s0 s o0 o) next so
 
   pub attached_more : (nodes' : List Link) (s' : StoreValue) (o' : Outside) → s'.state.facts.begun ≡ s.state.facts.begun + 1 → is_some o'.files ≡ is_some o.files
-      → BeginsNextSession clients (session_of s.state.facts.begun d.plan d.nonce) nodes nodes' s s' o o'
+      → BeginWent clients (session_of s.state.facts.begun d.plan d.nonce) nodes nodes' s s' o o'
       → SessionsSoFar clients sessions (sessions_from s'.state.facts.begun (drop (i + 1) links)) nodes' s0 s' o0 o'
   attached_more nodes' s' o' more told begins =
       let one : suc s.state.facts.begun ≡ s'.state.facts.begun = omega (arith, more) in
+      let numbered : s.state.facts.begun ≡ s0.state.facts.begun + length nodes = omega (arith, at, named, many) in
       subst (λ (k : ℕ). SessionsSoFar clients sessions (sessions_from k (drop (i + 1) links)) nodes' s0 s' o0 o') one
       (session_more clients sessions (sessions_from (suc s.state.facts.begun) (drop (i + 1) links)) (session_of s.state.facts.begun d.plan d.nonce) nodes s0 s o0 o so_next
-      nodes' s' o' told begins)
+      nodes' s' o' told numbered begins)
 
   pub attaching_full : (number : ℕ) (nodes0 : List Link) (s' : StoreValue) (o' : Outside) → number ≡ s0.state.facts.begun → AreAttached number nodes s.state.facts → nodes0 ≡ []
       → (Joined clients nodes0 s0 o0 → Joined clients nodes s o) → FullBeginning clients (session_of s.state.facts.begun d.plan d.nonce) nodes s s' o o'
@@ -164,7 +220,7 @@ module _ (clients : Meaning) (sessions : List Session) (links : List Dialled) (f
         full_then clients terms (before_sessions sessions s0.state.facts)
         (place_at (Attaches (session_of s.state.facts.begun d.plan d.nonce ∷ left)) nodes silent false 0 0 s.state.facts) (Joined clients [] s0 o0)
         (AllSentOn clients terms.first (links_from 0 nodes silent) s o) s0 s s' o0 o o'
-        (so_next.runs two files terms)
+        (so_next.went two files terms same)
         (λ joined.
         joined_sent clients terms.first nodes silent s o
         (λ k l there. (attached.each k l there).numbered ∙ ap (λ (n : ℕ). n + k) (named ∙ sym same))
@@ -172,9 +228,11 @@ module _ (clients : Meaning) (sessions : List Session) (links : List Dialled) (f
         (full.fills terms left silent false 0 0);
   }
 
-  pub attaching_broken : (o' : Outside) → BreaksBeginning clients (session_of s.state.facts.begun d.plan d.nonce) nodes s o o' → BreaksSessions clients sessions s0 o0 o'
-  attaching_broken o' breaks =
-      session_broken clients sessions (sessions_from (suc s.state.facts.begun) (drop (i + 1) links)) (session_of s.state.facts.begun d.plan d.nonce) nodes s0 s o0 o so_next o' breaks
+  pub attaching_stopped : (nodes' : List Link) (s' : StoreValue) (o' : Outside) (x : NodeFault)
+      → ByFault (BeginStopped clients (session_of s.state.facts.begun d.plan d.nonce) nodes nodes' s s' o o') x
+      → SessionsStopped clients sessions s0 s' o0 o' x
+  attaching_stopped nodes' s' o' x stopped =
+      session_stopped clients sessions (sessions_from (suc s.state.facts.begun) (drop (i + 1) links)) (session_of s.state.facts.begun d.plan d.nonce) nodes s0 s o0 o so_next nodes' s' o' x stopped
 
 pub attached_all : (clients : Meaning) (sessions : List Session) (links : List Dialled) (i : ℕ) (nodes : List Link) (s0 s : StoreValue) (o0 o : Outside) → length links ≤ i
     → SessionsSoFar clients sessions (sessions_from s.state.facts.begun (drop i links)) nodes s0 s o0 o → SessionsBegin clients sessions nodes s0 s o0 o
@@ -237,9 +295,7 @@ no_turn_yet clients limits first links s o heard read = record {
   heard = heard;
   moved = false;
   has_read = read;
-  runs =
-      runs_none (RunStep clients (terms_at limits first)) (FitsWith clients s o.files) (FitsWith clients s o.files) (λ j fit. fit)
-      (before_turns links heard s.state.facts) o;
+  went = went_none clients (RunActs clients (terms_at limits first)) (paid (before_turns links heard s.state.facts)) s o;
 }
 
 module _ (clients : Meaning) (limits : Limits) (first : ℕ) (from : Place) (links : List Link) (s0 s : StoreValue) (o0 o : Outside) (still made : ℕ)
@@ -254,7 +310,7 @@ module _ (clients : Meaning) (limits : Limits) (first : ℕ) (from : Place) (lin
         ∙ lt-leb limits.turns made left
 
     pub turn_more : (at : ℕ) (links' : List Link) (s' : StoreValue) (o' : Outside) (quiet : Bool) (still' made' : ℕ) → at ≡ first → still' ≡ cond quiet (suc still) 0
-        → made' ≡ made + 1 → MakesTurn clients at links links' s s' o o' quiet → TurnsSoFar clients limits first from links' s0 s' o0 o' still' made'
+        → made' ≡ made + 1 → RoundWent clients at links links' s s' o o' quiet → TurnsSoFar clients limits first from links' s0 s' o0 o' still' made'
     turn_more at links' s' o' quiet still' made' same is_still is_made turn =
         let t = turn.leads (terms_at limits first) so.heard so.moved still made (sym same) so.has_read not_at_end in
         let one : suc made ≡ made' = omega (arith, is_made) in
@@ -262,22 +318,27 @@ module _ (clients : Meaning) (limits : Limits) (first : ℕ) (from : Place) (lin
           heard = t.heard';
           moved = not quiet;
           has_read = t.has_read;
-          runs =
-              subst (λ (k : ℕ). RunRuns clients (terms_at limits first) from (place_at Between links' t.heard' (not quiet) k made' s'.state.facts) s0 s' o0 o') (sym is_still)
-              (subst (λ (k : ℕ). RunRuns clients (terms_at limits first) from (place_at Between links' t.heard' (not quiet) (cond quiet (suc still) 0) k s'.state.facts) s0 s' o0 o') one
-              (runs_then (RunStep clients (terms_at limits first)) (FitsWith clients s0 o0.files) (FitsWith clients s o.files) (FitsWith clients s' o'.files) from place
-              (place_at Between links' t.heard' (not quiet) (cond quiet (suc still) 0) (suc made) s'.state.facts) o0 o o' so.runs t.runs));
+          went =
+              subst (λ (k : ℕ). RunWent clients (terms_at limits first) from (place_at Between links' t.heard' (not quiet) k made' s'.state.facts) s0 s' o0 o') (sym is_still)
+              (subst (λ (k : ℕ). RunWent clients (terms_at limits first) from (place_at Between links' t.heard' (not quiet) (cond quiet (suc still) 0) k s'.state.facts) s0 s' o0 o') one
+              (went_then clients (RunActs clients (terms_at limits first)) (paid from) (paid place)
+              (paid (place_at Between links' t.heard' (not quiet) (cond quiet (suc still) 0) (suc made) s'.state.facts)) s0 s s' o0 o o' so.went t.went));
         }
 
-    pub turn_broken : (at : ℕ) (o' : Outside) → at ≡ first → BreaksTurn clients at links s o o' → RunBreaks clients (terms_at limits first) from s0 o0 o'
-    turn_broken at o' same breaks =
-        breaks_then (RunStep clients (terms_at limits first)) (FitsWith clients s0 o0.files) (FitsWith clients s o.files) (ReadsAs clients o'.files) from place o0 o o'
-        so.runs (breaks.stops (terms_at limits first) so.heard so.moved still made (sym same) so.has_read not_at_end)
+    pub turn_stopped : (at : ℕ) (links' : List Link) (s' : StoreValue) (o' : Outside) (x : NodeFault) → at ≡ first
+        → ByFault (RoundStopped clients at links links' s s' o o') x → StopsFrom clients (terms_at limits first) from s0 s' o0 o' x
+    turn_stopped at links' s' o' x same stopped =
+        stops_then clients (terms_at limits first) from place s0 s s' o0 o o' x so.went
+        (by_fault_map (RoundStopped clients at links links' s s' o o')
+        (λ e. (ls : List course_links.Link) × RunStopped clients (terms_at limits first) place ls s s' o o' e)
+        (λ e round.
+        let t = round.stops (terms_at limits first) so.heard so.moved still made (sym same) so.has_read not_at_end in
+        (links_from 0 links' t.0, t.1)) x stopped)
 
     pub turn_full : (at : ℕ) (Given : Type 0) (s' : StoreValue) (o' : Outside) → at ≡ first → (Given → Joined clients links s o) → FullTurn clients at links s s' o o'
         → RunFullSent clients (terms_at limits first) from Given s0 s' o0 o'
     turn_full at Given s' o' same joins full =
-        full_then clients (terms_at limits first) from place Given (Joined clients links s o) s0 s s' o0 o o' so.runs joins
+        full_then clients (terms_at limits first) from place Given (Joined clients links s o) s0 s s' o0 o o' so.went joins
         (full.fills (terms_at limits first) so.heard so.moved still made (sym same) so.has_read not_at_end)
 
   pub turns_end : (over : Bool) → over ≡ over_by limits.quiet still (nat_lt 0 (asked_among links)) → (over || nat_le limits.turns made) ≡ true
@@ -287,20 +348,32 @@ module _ (clients : Meaning) (limits : Limits) (first : ℕ) (from : Place) (lin
     moved = so.moved;
     still = still;
     made = made;
-    runs =
-        runs_then (RunStep clients (terms_at limits first)) (FitsWith clients s0 o0.files) (FitsWith clients s o.files) (FitsWith clients s o.files) from place
-        (place_at Ended links so.heard so.moved still made s.state.facts) o0 o o so.runs
-        (runs_ended clients (terms_at limits first) (FitsWith clients s o.files) (FitsWith clients s o.files) (λ j fit. fit) place o refl
-        (ap (λ (b : Bool). b || nat_le limits.turns made) (over_here limits.quiet Between links so.heard so.moved still made s.state.facts ∙ sym is) ∙ at_end));
+    went =
+        let last : Place = place_at Ended links so.heard so.moved still made s.state.facts in
+        let ended : is_at_end (terms_at limits first) place ≡ true =
+        ap (λ (b : Bool). b || nat_le limits.turns made) (over_here limits.quiet Between links so.heard so.moved still made s.state.facts ∙ sym is) ∙ at_end in
+        went_then clients (RunActs clients (terms_at limits first)) (paid from) (paid place) (paid last) s0 s s o0 o o so.went
+        (passes clients (terms_at limits first) place last s o
+        (ap (λ (b : Bool). cond b last (record place { stage = Works 0 Asks; moved = false })) (sym ended)));
     is_so = is ∙ sym (over_here limits.quiet Ended links so.heard so.moved still made s.state.facts);
   }
+
+-- a turn stopped, wherever the run began
+pub turns_stopped : (clients : Meaning) (limits : Limits) (first : ℕ) (links0 links links' : List Link) (s0 s s' : StoreValue) (o0 o o' : Outside) (still made : ℕ) (x : NodeFault)
+    → ((heard : ℕ → List ℕ) → AllRead heard links0 → TurnsSoFar clients limits first (before_turns links0 heard s0.state.facts) links s0 s o0 o still made)
+    → over_by limits.quiet still (nat_lt 0 (asked_among links)) ≡ false → made < limits.turns → (at : ℕ) → at ≡ first
+    → ByFault (RoundStopped clients at links links' s s' o o') x → TurnsStopped clients limits first links0 s0 s' o0 o' x
+turns_stopped clients limits first links0 links links' s0 s s' o0 o o' still made x so going left at same stopped = record {
+  stops = λ heard read.
+      turn_stopped clients limits first (before_turns links0 heard s0.state.facts) links s0 s o0 o still made (so heard read) going left at links' s' o' x same stopped;
+}
 
 -- ---- both
 
 pub run_ends : (clients : Meaning) (limits : Limits) (first at : ℕ) (sessions : List Session) (links links' : List Link) (s0 s s' : StoreValue) (o0 o o' : Outside) (over : Bool)
-    → at ≡ first → SessionsBegin clients sessions links s0 s o0 o → MakesTurns clients limits at links links' s s' o o' over
+    → at ≡ first → first ≡ s0.state.facts.begun → SessionsBegin clients sessions links s0 s o0 o → MakesTurns clients limits at links links' s s' o o' over
     → RunsSessions clients limits first sessions links' s0 s' o0 o' over
-run_ends clients limits first at sessions links links' s0 s s' o0 o o' over same begins turns = record {
+run_ends clients limits first at sessions links links' s0 s s' o0 o o' over same named begins turns = record {
   ends = λ two files.
       let end = (subst (λ (k : ℕ). MakesTurns clients limits k links links' s s' o o' over) same turns).ends silent begins.has_read in
       record {
@@ -308,22 +381,21 @@ run_ends clients limits first at sessions links links' s0 s s' o0 o o' over same
         moved = end.moved;
         still = end.still;
         made = end.made;
-        runs =
-            runs_then (RunStep clients (terms_at limits first)) (FitsWith clients s0 o0.files) (FitsWith clients s o.files) (FitsWith clients s' o'.files)
-            (before_sessions sessions s0.state.facts) (before_turns links silent s.state.facts)
-            (place_at Ended links' end.heard end.moved end.still end.made s'.state.facts) o0 o o'
-            (begins.runs two files (terms_at limits first)) end.runs;
+        went =
+            went_then clients (RunActs clients (terms_at limits first)) (paid (before_sessions sessions s0.state.facts)) (paid (before_turns links silent s.state.facts))
+            (paid (place_at Ended links' end.heard end.moved end.still end.made s'.state.facts)) s0 s s' o0 o o'
+            (begins.went two files (terms_at limits first) named) end.went;
         is_so = end.is_so;
       };
 }
 
-pub run_full : (clients : Meaning) (limits : Limits) (first at : ℕ) (sessions : List Session) (links : List Link) (s0 s s' : StoreValue) (o0 o o' : Outside) → at ≡ first
+pub run_full : (clients : Meaning) (limits : Limits) (first at : ℕ) (sessions : List Session) (links : List Link) (s0 s s' : StoreValue) (o0 o o' : Outside) → at ≡ first → first ≡ s0.state.facts.begun
     → (nodes0 : List Link) → nodes0 ≡ [] → (Joined clients nodes0 s0 o0 → Joined clients links s o)
     → SessionsBegin clients sessions links s0 s o0 o → FullTurns clients limits at links s s' o o' → FullRun clients limits first sessions s0 s' o0 o'
-run_full clients limits first at sessions links s0 s s' o0 o o' same nodes0 none joins begins turns = record {
+run_full clients limits first at sessions links s0 s s' o0 o o' same named nodes0 none joins begins turns = record {
   fills = λ two files.
       full_then clients (terms_at limits first) (before_sessions sessions s0.state.facts) (before_turns links silent s.state.facts) (Joined clients [] s0 o0) (Joined clients links s o) s0 s s' o0 o o'
-      (begins.runs two files (terms_at limits first)) (λ joined. joins (subst (λ (ls : List Link). Joined clients ls s0 o0) (sym none) joined))
+      (begins.went two files (terms_at limits first) named) (λ joined. joins (subst (λ (ls : List Link). Joined clients ls s0 o0) (sym none) joined))
       ((subst (λ (k : ℕ). FullTurns clients limits k links s s' o o') same turns).fills silent begins.has_read);
 }
 
@@ -331,16 +403,16 @@ pub run_unfilled : (clients : Meaning) (limits : Limits) (first : ℕ) (sessions
     → FullSessions clients sessions s0 s' o0 o' → FullRun clients limits first sessions s0 s' o0 o'
 run_unfilled clients limits first sessions s0 s' o0 o' same full = record { fills = λ two files. full.fills two files (terms_at limits first) same }
 
-pub run_unbegun : (clients : Meaning) (limits : Limits) (first : ℕ) (sessions : List Session) (s0 : StoreValue) (o0 o' : Outside)
-    → BreaksSessions clients sessions s0 o0 o' → BreaksRun clients limits first sessions s0 o0 o'
-run_unbegun clients limits first sessions s0 o0 o' breaks = record { stops = λ two files. breaks.stops two files (terms_at limits first) }
+pub run_unbegun : (clients : Meaning) (limits : Limits) (first : ℕ) (sessions : List Session) (s0 s' : StoreValue) (o0 o' : Outside) (x : NodeFault) → first ≡ s0.state.facts.begun
+    → SessionsStopped clients sessions s0 s' o0 o' x → StopsRun clients limits first sessions s0 s' o0 o' x
+run_unbegun clients limits first sessions s0 s' o0 o' x named stopped = record { stops = λ two files. stopped.stops two files (terms_at limits first) named }
 
-pub run_breaks : (clients : Meaning) (limits : Limits) (first at : ℕ) (sessions : List Session) (links : List Link) (s0 s : StoreValue) (o0 o o' : Outside) → at ≡ first
-    → SessionsBegin clients sessions links s0 s o0 o → BreaksTurns clients limits at links s o o' → BreaksRun clients limits first sessions s0 o0 o'
-run_breaks clients limits first at sessions links s0 s o0 o o' same begins turns = record {
+pub run_stopped : (clients : Meaning) (limits : Limits) (first at : ℕ) (sessions : List Session) (links : List Link) (s0 s s' : StoreValue) (o0 o o' : Outside) (x : NodeFault)
+    → at ≡ first → first ≡ s0.state.facts.begun → SessionsBegin clients sessions links s0 s o0 o → TurnsStopped clients limits at links s s' o o' x
+    → StopsRun clients limits first sessions s0 s' o0 o' x
+run_stopped clients limits first at sessions links s0 s s' o0 o o' x same named begins stopped = record {
   stops = λ two files.
-      breaks_then (RunStep clients (terms_at limits first)) (FitsWith clients s0 o0.files) (FitsWith clients s o.files) (ReadsAs clients o'.files)
-      (before_sessions sessions s0.state.facts) (before_turns links silent s.state.facts) o0 o o'
-      (begins.runs two files (terms_at limits first))
-      ((subst (λ (k : ℕ). BreaksTurns clients limits k links s o o') same turns).stops silent begins.has_read);
+      stops_then clients (terms_at limits first) (before_sessions sessions s0.state.facts) (before_turns links silent s.state.facts) s0 s s' o0 o o' x
+      (begins.went two files (terms_at limits first) named)
+      ((subst (λ (k : ℕ). TurnsStopped clients limits k links s s' o o' x) same stopped).stops silent begins.has_read);
 }

@@ -1,5 +1,5 @@
 -- A run over a journal, from its first place on: settling, the sessions on the links that were dialled, and its end.
-use Rattle.std.proofs.Common.{◌≡◌, ℕ, ◌+◌, ◌<◌, Bool, true, false, List, [], ◌++◌, refl, sym, ◌∙◌, ap, subst, arith, inl, inr, Some, Result, Ok, Err}
+use Rattle.std.proofs.Common.{◌≡◌, ℕ, ◌+◌, ◌<◌, Bool, true, false, List, [], ◌++◌, refl, sym, ◌∙◌, ap, subst, arith, inr, Some, Result, Ok, Err}
 use Rattle.std.specs.Prelude.{IsErrAnd}
 use Rattle.outside.specs.declared.limits.TheConstants.{MAX_JOURNAL}
 use Rattle.outside.specs.Files.{Two, File}
@@ -24,10 +24,12 @@ use Rattle.sync_store.specs.Store.{StoreValue, format_meant, written_in}
 use Rattle.sync_course.specs.Events.{Event, batches_of}
 use Rattle.sync_course.proofs.LiftLaws.{runs_settled_begun}
 use Rattle.sync_course.specs.Quiet.{EndsQuiet}
-use Rattle.sync_course.specs.Turns.{Attaches, Course, Ended, Place, RunStep, Terms, first_place, is_over}
+use Rattle.sync_course.specs.Turns.{Attaches, Course, Ended, Place, Terms, first_place, is_over}
 use Rattle.sync_node.specs.declared.link.Link.{Link}
 use Rattle.sync_node.proofs.CourseLaws.{fits_grown, reads_front}
-use Rattle.sync_node.specs.Courses.{FitsWith, ReadsAs, RunBreaks, RunRuns, place_at}
+use Rattle.sync_node.specs.declared.fault.NodeFault.{NodeFault}
+use Rattle.sync_node.specs.Courses.{FitsWith, ReadsAs, RunBreaks, place_at}
+use Rattle.sync_node.proofs.NodeRuns.{run_went}
 use Rattle.sync_node.specs.Fulls.{RunFullSent}
 use Rattle.sync_node.specs.Joined.{Joined}
 use Rattle.sync_node.specs.Node.{NodeValue}
@@ -35,15 +37,15 @@ use Rattle.sync_node.specs.Output.{Journal}
 use Rattle.sync_course.specs.Closing.{Closing}
 use Rattle.sync_words.specs.declared.outcome.Outcome.{Outcome}
 use Rattle.sync_words.specs.declared.outcome.Outcome.TheVariants as outcome
-use Rattle.store_commands.specs.Commit.{ComesAnew, HasLastGeneration, MayMigrate, SettledAnew, SettlesAnew, needed_by}
+use Rattle.store_commands.specs.Commit.{ComesAnew, MayMigrate, SettledAnew, SettlesAnew, needed_by}
 use Rattle.store_commands.proofs.Stood.{last_here, spent_here}
 use Rattle.sync_run.specs.declared.dialling.Dialled.{Dialled}
 use Rattle.sync_run.specs.declared.run.Limits.{Limits}
 use Rattle.sync_run.specs.Courses.{terms_of}
 use Rattle.sync_run.specs.Closed.{closed_by}
-use Rattle.sync_run.specs.Parts.{BreaksRun, EndsFrom, FullRun, RunBroken, RunEnded, RunFilled, RunSpent, RunsOver, RunsSessions, before_sessions, sessions_from}
+use Rattle.sync_run.specs.Parts.{EndsFrom, FullRun, RunBroken, RunEnded, RunFilled, RunSpent, RunsOver, RunsSessions, StopsFrom, StopsRun, before_sessions, sessions_from}
 use Rattle.sync_run.proofs.Coming.{Came, came_settling, came_then, front_settles}
-use Rattle.sync_run.proofs.CourseParts.{told_too}
+use Rattle.sync_run.proofs.CourseParts.{stops_halted, told_too}
 use Rattle.sync_run.proofs.LineLaws.{links_close}
 
 -- the law of what stands at the end of a run that is over
@@ -202,16 +204,18 @@ module _ (clients : Meaning) (limits : Limits) (links : List Dialled) (j : Journ
       here : ComesTo (before_sessions sessions s1.state.facts) s1 o1
       here = comes_settled opened settled
 
-      pub run_stops : (t : StoreValue) (o : Outside) → t ≡ s1 → BreaksRun clients limits t.state.facts.begun (sessions_from t.state.facts.begun links) t o1 o
+      pub run_stops : (t s : StoreValue) (o : Outside) (x : NodeFault) → t ≡ s1 → StopsRun clients limits t.state.facts.begun (sessions_from t.state.facts.begun links) t s o1 o x
           → RunBroken clients limits sessions j o0 o
-      run_stops t o same breaks =
-          let here_too : BreaksRun clients limits s1.state.facts.begun (sessions_from s1.state.facts.begun links) s1 o1 o =
-          subst (λ (s : StoreValue). BreaksRun clients limits s.state.facts.begun (sessions_from s.state.facts.begun links) s o1 o) same breaks in
-          let stops : RunBreaks clients terms (before_sessions sessions s1.state.facts) s1 o1 o =
-          (subst (λ (k : ℕ). BreaksRun clients limits k (sessions_from k links) s1 o1 o) begun_same here_too).stops told.0 told.1 in
-          broken_by stops.to o
+      run_stops t s o x same stopped =
+          let here_too : StopsRun clients limits s1.state.facts.begun (sessions_from s1.state.facts.begun links) s1 s o1 o x =
+          subst (λ (y : StoreValue). StopsRun clients limits y.state.facts.begun (sessions_from y.state.facts.begun links) y s o1 o x) same stopped in
+          let from : Place = before_sessions sessions s1.state.facts in
+          let stops : StopsFrom clients terms from s1 s o1 o x =
+          (subst (λ (k : ℕ). StopsRun clients limits k (sessions_from k links) s1 s o1 o x) begun_same here_too).stops told.0 told.1 in
+          let breaks : RunBreaks clients terms from s1 o1 o = stops_halted clients terms from s1 s o1 o x stops in
+          broken_by breaks.to o
           (came_then clients terms (FitsWith clients s0 o0.files) (FitsWith clients s1 o1.files) (ReadsAs clients o.files) (first_place sessions (facts j))
-          (before_sessions sessions s1.state.facts) stops.to o0 o1 o here stops.runs)
+          from breaks.to o0 o1 o here breaks.runs)
 
       pub run_fills : (t s : StoreValue) (o : Outside) → t ≡ s1 → s.limit ≡ MAX_JOURNAL → written_in s ≡ kind.Short → Joined clients [] s1 o1
           → FullRun clients limits t.state.facts.begun (sessions_from t.state.facts.begun links) t s o1 o → RunFilled clients limits sessions j o0 o
@@ -235,7 +239,8 @@ module _ (clients : Meaning) (limits : Limits) (links : List Dialled) (j : Journ
         ended : ComesTo last s o
         ended =
             came_then clients terms (FitsWith clients s0 o0.files) (FitsWith clients s1 o1.files) (FitsWith clients s o.files) (first_place sessions (facts j))
-            (before_sessions sessions s1.state.facts) last o0 o1 o here end.runs
+            (before_sessions sessions s1.state.facts) last o0 o1 o here
+            (run_went clients terms (before_sessions sessions s1.state.facts) last s1 s o1 o end.went)
 
         -- but how its links ended was not written down
         pub run_unclosed : RunBroken clients limits sessions j o0 o
@@ -288,10 +293,10 @@ module _ (clients : Meaning) (limits : Limits) (links : List Dialled) (s0 s1 : S
       (comes_settled clients limits links j s0 o0 fit s1 o1 settles.more run settles.comes settles.answer.0 settles.answer.1)
 
   module _ (n : NodeValue) (is : n.store ≡ s1) where
-    pub over_broken : (o : Outside) → BreaksRun clients limits n.store.state.facts.begun (sessions_from n.store.state.facts.begun links) n.store o1 o
+    pub over_broken : (s : StoreValue) (o : Outside) (x : NodeFault) → StopsRun clients limits n.store.state.facts.begun (sessions_from n.store.state.facts.begun links) n.store s o1 o x
         → RunBroken clients limits (sessions_from (facts j).begun links) j o0 o
-    over_broken o breaks =
-        run_stops clients limits links j s0 o0 fit s1 o1 settles.more run settles.comes settles.answer.0 settles.answer.1 n.store o is breaks
+    over_broken s o x stopped =
+        run_stops clients limits links j s0 o0 fit s1 o1 settles.more run settles.comes settles.answer.0 settles.answer.1 n.store s o x is stopped
 
     pub over_filled : (s : StoreValue) (o : Outside) → s0.limit ≡ MAX_JOURNAL → s.limit ≡ n.store.limit → s.format ≡ n.store.format → Joined clients [] s1 o1
         → FullRun clients limits n.store.state.facts.begun (sessions_from n.store.state.facts.begun links) n.store s o1 o

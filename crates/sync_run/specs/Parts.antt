@@ -13,7 +13,10 @@ use Rattle.sync_course.specs.Events.{Commit, Event, TellsEvents, batches_of}
 use Rattle.sync_course.specs.Quiet.{EndsQuiet}
 use Rattle.sync_course.specs.Turns.{Attaches, Between, Broken, Course, Ended, Place, RunStep, Terms, is_over}
 use Rattle.sync_node.specs.declared.link.Link.{Link}
-use Rattle.sync_node.specs.Courses.{AllRead, ReadsAs, RunBreaks, RunRuns, place_at}
+use Rattle.sync_node.specs.Courses.{AllRead, ReadsAs, place_at}
+use Rattle.sync_node.specs.OnRuns.{ByFault, RunStopped, RunWent}
+use Rattle.sync_node.specs.declared.fault.NodeFault.{NodeFault}
+use Rattle.sync_course.specs.Links as course_links
 use Rattle.sync_node.specs.Fulls.{RunFullSent}
 use Rattle.sync_node.specs.Joined.{Joined}
 use Rattle.sync_node.specs.Output.{Journal}
@@ -48,18 +51,23 @@ before_turns links heard f = place_at Between links heard false 0 0 f
 pub record SessionsSoFar (clients : Meaning) (sessions left : List Session) (links : List Link) (s s' : StoreValue) (o o' : Outside) : Type 0 where
   pub same_told : is_some o'.files ≡ is_some o.files
   pub has_read : AllRead silent links
-  pub runs : (two : Two File) → o.files ≡ Some two → (terms : Terms)
-      → RunRuns clients terms (before_sessions sessions s.state.facts) (place_at (Attaches left) links silent false 0 0 s'.state.facts) s s' o o'
+  pub went : (two : Two File) → o.files ≡ Some two → (terms : Terms) → terms.first ≡ s.state.facts.begun
+      → RunWent clients terms (before_sessions sessions s.state.facts) (place_at (Attaches left) links silent false 0 0 s'.state.facts) s s' o o'
 
 -- where files are told, all these sessions began, and these are their links
 pub record SessionsBegin (clients : Meaning) (sessions : List Session) (links : List Link) (s s' : StoreValue) (o o' : Outside) : Type 0 where
   pub has_read : AllRead silent links
-  pub runs : (two : Two File) → o.files ≡ Some two → (terms : Terms)
-      → RunRuns clients terms (before_sessions sessions s.state.facts) (before_turns links silent s'.state.facts) s s' o o'
+  pub went : (two : Two File) → o.files ≡ Some two → (terms : Terms) → terms.first ≡ s.state.facts.begun
+      → RunWent clients terms (before_sessions sessions s.state.facts) (before_turns links silent s'.state.facts) s s' o o'
 
-pub record BreaksSessions (clients : Meaning) (sessions : List Session) (s : StoreValue) (o o' : Outside) : Type 0 where
-  pub stops : (two : Two File) → o.files ≡ Some two → (terms : Terms)
-      → RunBreaks clients terms (before_sessions sessions s.state.facts) s o o'
+-- a run stopped at a place, whatever its links are there, by what the node answered
+abbrev pub StopsFrom : Meaning → Terms → Place → StoreValue → StoreValue → Outside → Outside → NodeFault → Type 0
+StopsFrom clients terms p s s' o o' x = ByFault (λ e. (links : List course_links.Link) × RunStopped clients terms p links s s' o o' e) x
+
+-- while its sessions began
+pub record SessionsStopped (clients : Meaning) (sessions : List Session) (s s' : StoreValue) (o o' : Outside) (x : NodeFault) : Type 0 where
+  pub stops : (two : Two File) → o.files ≡ Some two → (terms : Terms) → terms.first ≡ s.state.facts.begun
+      → StopsFrom clients terms (before_sessions sessions s.state.facts) s s' o o' x
 
 -- the batch of the next of these sessions would have passed the limit
 pub record FullSessions (clients : Meaning) (sessions : List Session) (s s' : StoreValue) (o o' : Outside) : Type 0 where
@@ -73,7 +81,7 @@ pub record TurnsSoFar (clients : Meaning) (limits : Limits) (first : ℕ) (from 
   pub heard : ℕ → List ℕ
   pub moved : Bool
   pub has_read : AllRead heard links
-  pub runs : RunRuns clients (terms_at limits first) from (place_at Between links heard moved still made s'.state.facts) s s' o o'
+  pub went : RunWent clients (terms_at limits first) from (place_at Between links heard moved still made s'.state.facts) s s' o o'
 
 -- from a place a run came to its end with these links, over or not
 pub record EndsFrom (clients : Meaning) (limits : Limits) (first : ℕ) (from : Place) (links : List Link) (s s' : StoreValue) (o o' : Outside) (over : Bool) : Type 0 where
@@ -81,7 +89,7 @@ pub record EndsFrom (clients : Meaning) (limits : Limits) (first : ℕ) (from : 
   pub moved : Bool
   pub still : ℕ
   pub made : ℕ
-  pub runs : RunRuns clients (terms_at limits first) from (place_at Ended links heard moved still made s'.state.facts) s s' o o'
+  pub went : RunWent clients (terms_at limits first) from (place_at Ended links heard moved still made s'.state.facts) s s' o o'
   pub is_so : over ≡ is_over limits.quiet (place_at Ended links heard moved still made s'.state.facts)
 
 -- the turns of a run were made, from before the first one on
@@ -89,9 +97,9 @@ pub record MakesTurns (clients : Meaning) (limits : Limits) (first : ℕ) (links
   pub ends : (heard : ℕ → List ℕ) → AllRead heard links
       → EndsFrom clients limits first (before_turns links heard s.state.facts) links' s s' o o' over
 
-pub record BreaksTurns (clients : Meaning) (limits : Limits) (first : ℕ) (links : List Link) (s : StoreValue) (o o' : Outside) : Type 0 where
+pub record TurnsStopped (clients : Meaning) (limits : Limits) (first : ℕ) (links : List Link) (s s' : StoreValue) (o o' : Outside) (x : NodeFault) : Type 0 where
   pub stops : (heard : ℕ → List ℕ) → AllRead heard links
-      → RunBreaks clients (terms_at limits first) (before_turns links heard s.state.facts) s o o'
+      → StopsFrom clients (terms_at limits first) (before_turns links heard s.state.facts) s s' o o' x
 
 -- a batch would have passed the limit
 pub record FullTurns (clients : Meaning) (limits : Limits) (first : ℕ) (links : List Link) (s s' : StoreValue) (o o' : Outside) : Type 0 where
@@ -105,9 +113,9 @@ pub record RunsSessions (clients : Meaning) (limits : Limits) (first : ℕ) (ses
   pub ends : (two : Two File) → o.files ≡ Some two
       → EndsFrom clients limits first (before_sessions sessions s.state.facts) links s s' o o' over
 
-pub record BreaksRun (clients : Meaning) (limits : Limits) (first : ℕ) (sessions : List Session) (s : StoreValue) (o o' : Outside) : Type 0 where
+pub record StopsRun (clients : Meaning) (limits : Limits) (first : ℕ) (sessions : List Session) (s s' : StoreValue) (o o' : Outside) (x : NodeFault) : Type 0 where
   pub stops : (two : Two File) → o.files ≡ Some two
-      → RunBreaks clients (terms_at limits first) (before_sessions sessions s.state.facts) s o o'
+      → StopsFrom clients (terms_at limits first) (before_sessions sessions s.state.facts) s s' o o' x
 
 pub record FullRun (clients : Meaning) (limits : Limits) (first : ℕ) (sessions : List Session) (s s' : StoreValue) (o o' : Outside) : Type 0 where
   pub fills : (two : Two File) → o.files ≡ Some two

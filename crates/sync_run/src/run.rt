@@ -1,6 +1,6 @@
 // The command `sync`.
 ghost use Rattle.std.specs.Prelude.{◌≡◌, ◌+◌, ◌≤◌, [], false, length, vec_capacity, ◌<◌, IfOk, IsErrOf};
-ghost use Rattle.std.specs.Prelude.{OnErr, OnOk, Some};
+ghost use Rattle.std.specs.Prelude.{IfErr, OnOk, Some};
 ghost use Rattle.outside.specs.Faults.{CountRose};
 ghost use Rattle.std.specs.List.{All};
 ghost use Rattle.outside.specs.Files.{Two, File, read_files};
@@ -21,7 +21,7 @@ ghost use Rattle.sync_run.specs.Causes.{FailsAlone, IsCaused, RunCaused};
 ghost use Rattle.sync_run.specs.Courses.{RunComesTo, HaveSpecs, RunComes, TestsContacts, TestsWords};
 ghost use Rattle.sync_run.specs.Headline.{Headline, LeavesFilesAtRest, AllSentWhenFull, SentWhole};
 ghost use Rattle.sync_run.specs.Leaving.{DoesNotBegin, LeavesLinks, MayNotBegin};
-ghost use Rattle.sync_run.specs.Parts.{BreaksRun, FullRun, RunsOver, RunsSessions, sessions_from};
+ghost use Rattle.sync_run.specs.Parts.{FullRun, RunsOver, RunsSessions, StopsRun, sessions_from};
 ghost use Rattle.sync_run.specs.SafeRuns.{AllMayBegin, AreUnused, AttachesAll, IsKnown, RunsSafe};
 ghost use Rattle.sync_run.specs.SafeRuns.{SessionsSentWhenFull, SendsWhole, SessionsSafe, SessionsSent};
 ghost use Rattle.sync_run.specs.SafeRuns.{WordsSafe};
@@ -261,14 +261,14 @@ fn run_node<H: Host, C: Clients>(
         node.new.store (H.tells host.old) (H.tells host.new) }
     ensures fault { IsErrOf result NodeFault.DiskFault → CountRose (H.tells host.old).disk_faults
         (H.tells host.new).disk_faults }
-    ensures course { IfOk result (RunsSessions (C.meaning clients.now) limits
+    ensures went { IfOk result (RunsSessions (C.meaning clients.now) limits
         node.old.store.state.facts.begun
         (sessions_from node.old.store.state.facts.begun links.now) node.new.links node.old.store
         node.new.store (H.tells host.old) (H.tells host.new)) }
-    ensures halts { OnErr result (BreaksRun (C.meaning clients.now) limits
+    ensures stopped { IfErr result (StopsRun (C.meaning clients.now) limits
         node.old.store.state.facts.begun
         (sessions_from node.old.store.state.facts.begun links.now) node.old.store
-        (H.tells host.old) (H.tells host.new)) }
+        node.new.store (H.tells host.old) (H.tells host.new)) }
 {
     attach_all(node, host, clients, links)?;
     make_turns(node, host, clients, limits)

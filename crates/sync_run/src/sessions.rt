@@ -1,5 +1,5 @@
 // The sessions of a run: they begin, and the turns are made.
-ghost use Rattle.std.specs.Prelude.{◌≡◌, ◌+◌, ◌≤◌, [], false, length, IfOk, IsErrOf, OnErr, OnOk};
+ghost use Rattle.std.specs.Prelude.{◌≡◌, ◌+◌, ◌≤◌, [], false, length, IfErr, IfOk, IsErrOf, OnOk};
 ghost use Rattle.outside.specs.Faults.{CountRose};
 ghost use Rattle.outside.specs.declared.limits.TheConstants.{LINKS};
 ghost use Rattle.sync_rules.specs.Steps.{IsSettled};
@@ -10,7 +10,7 @@ ghost use Rattle.sync_node.specs.Node.{AnswersAndCloses, IsNode, KeepsJoined, Ke
 ghost use Rattle.sync_node.specs.Stays.{StaysReady};
 ghost use Rattle.sync_node.specs.Stops.{NodeSendsAll};
 ghost use Rattle.sync_run.specs.SafeRuns.{AllMayBegin, AttachesAll, SessionsSafe, SessionsSent};
-ghost use Rattle.sync_run.specs.Parts.{BreaksSessions, BreaksTurns, MakesTurns};
+ghost use Rattle.sync_run.specs.Parts.{MakesTurns, SessionsStopped, TurnsStopped};
 ghost use Rattle.sync_run.specs.Parts.{FullSessions, FullTurns, SessionsBegin, sessions_from};
 
 use crate::dialling::Dialled;
@@ -56,12 +56,12 @@ pub fn attach_all<H: Host, C: Clients>(
         (H.tells host.old) (H.tells host.new) }
     ensures fault { IsErrOf result NodeFault.DiskFault → CountRose (H.tells host.old).disk_faults
         (H.tells host.new).disk_faults }
-    ensures course { OnOk result (SessionsBegin (C.meaning clients.now)
+    ensures went { OnOk result (SessionsBegin (C.meaning clients.now)
         (sessions_from node.old.store.state.facts.begun links.now) node.new.links node.old.store
         node.new.store (H.tells host.old) (H.tells host.new)) }
-    ensures halts { OnErr result (BreaksSessions (C.meaning clients.now)
+    ensures stopped { IfErr result (SessionsStopped (C.meaning clients.now)
         (sessions_from node.old.store.state.facts.begun links.now) node.old.store
-        (H.tells host.old) (H.tells host.new)) }
+        node.new.store (H.tells host.old) (H.tells host.new)) }
 {
     let mut number = 0;
     'links: for link in links {
@@ -101,11 +101,11 @@ pub fn make_turns<H: Host, C: Clients>(
         (H.tells host.new) }
     ensures fault { IsErrOf result NodeFault.DiskFault → CountRose (H.tells host.old).disk_faults
         (H.tells host.new).disk_faults }
-    ensures course { IfOk result (MakesTurns (C.meaning clients.now) limits node.old.first
+    ensures went { IfOk result (MakesTurns (C.meaning clients.now) limits node.old.first
         node.old.links node.new.links node.old.store node.new.store (H.tells host.old)
         (H.tells host.new)) }
-    ensures halts { OnErr result (BreaksTurns (C.meaning clients.now) limits node.old.first
-        node.old.links node.old.store (H.tells host.old) (H.tells host.new)) }
+    ensures stopped { IfErr result (TurnsStopped (C.meaning clients.now) limits node.old.first
+        node.old.links node.old.store node.new.store (H.tells host.old) (H.tells host.new)) }
 {
     let mut still = 0;
     'turns: for _ in 0..limits.turns {

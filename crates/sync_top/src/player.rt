@@ -20,12 +20,13 @@ pub struct Player<'a, C: Clients> {
 }
 
 impl<'a, C: Clients> Listener for Player<'a, C> {
-    ghost use Rattle.sync_top.specs.Plays.{PlaysItems, plays_nothing};
+    ghost use Rattle.std.specs.Prelude.{refl};
+    ghost use Rattle.sync_top.specs.Plays.{PlaysItems};
 
     ghost heard = { λ first items now. PlaysItems (C.meaning first.clients.now) first.play items
         (C.meaning now.clients.now) now.play };
 
-    ghost heard_nothing = { λ p. plays_nothing (C.meaning p.clients.now) p.play };
+    ghost heard_nothing = { λ p. record { same = refl; takes = λ def records played. played } };
 
     fn hear(&mut self, alloc: Global, item: Item) -> Result<(), AllocError> {
         let Some(record) = record_in(item) else {

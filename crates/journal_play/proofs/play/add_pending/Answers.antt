@@ -7,6 +7,6 @@ use Rattle.journal_play.proofs.play.add_pending.Goals as goal
 
 pub loop-n-preserved : goal.loop-n-preserved
 loop-n-preserved c =
-    pending_more (string_bytes c.args.text.now ++ open_text c.args.held.now c.args.graph.now.nodes) (string_bytes c.loop-n.text)
-    (string_bytes c.add_if_open.new.text) c.args.held.now c.args.graph.now.nodes c.loop-n.n c.index-held-n.result c.fate.result c.loop-n-test.true
-    c.index-held-n.is c.fate.ensures c.in_ok-add_if_open.ensures c.loop-n.invariant
+    let held = c.args.held.now in
+    pending_more (string_bytes c.args.text.now ++ open_text held.heads held.nodes) (string_bytes c.loop-n.text) (string_bytes c.add_if_open.new.text) held.heads held.nodes
+    c.loop-n.n c.head.result c.fate.result c.head.ensures c.fate.ensures c.in_ok-add_if_open.ensures c.loop-n.invariant

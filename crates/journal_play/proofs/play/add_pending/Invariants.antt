@@ -5,4 +5,6 @@ use Rattle.journal_play.specs.Keeping.{open_text}
 use Rattle.journal_play.proofs.play.add_pending.Given as goal
 
 abbrev pub invariant-loop-n : goal.invariant-loop-n
-invariant-loop-n l = string_bytes l.text ++ open_text (drop l.n l.held) (drop l.n l.graph.nodes) ≡ string_bytes l.fn.text ++ open_text l.held l.graph.nodes
+invariant-loop-n l =
+    string_bytes l.text ++ open_text (drop l.n l.held.heads) (drop l.n l.held.nodes)
+    ≡ string_bytes l.fn.text ++ open_text l.held.heads l.held.nodes

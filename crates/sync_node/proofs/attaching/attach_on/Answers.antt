@@ -1,13 +1,13 @@
 use Rattle.sync_node.proofs.Undone.{if_err_all, if_err_was, undone_none}
-use Rattle.sync_node.proofs.CourseStart.{start_none}
 use Rattle.sync_node.proofs.SafeLaws.{goes_none}
 use Rattle.sync_node.proofs.StartLaws.{starts_as_before}
-use Rattle.sync_node.proofs.WorkLaws.{on_err}
 use Rattle.std.proofs.Common.{List, [], ◌∷◌, ◌++◌, ap, ◌∙◌}
 use Rattle.sync_node.specs.declared.link.Link.{Link}
 use Rattle.sync_node.proofs.CauseLaws.{links_go_none, links_go_push, links_go_same}
 use Rattle.std.proofs.Common.{Err}
 use Rattle.sync_node.proofs.WorkLaws.{err_was}
+use Rattle.sync_node.specs.declared.fault.Fault.TheVariants as fault
+use Rattle.sync_node.proofs.StartActs.{start_no_memory}
 use Rattle.sync_node.proofs.attaching.attach_on.Goals as goal
 
 pub returns-in_err-reader-clause-safe : goal.returns-in_err-reader-clause-safe
@@ -15,12 +15,6 @@ returns-in_err-reader-clause-safe g c = starts_as_before c.cite_laws.ensures.fro
 
 pub returns-in_err-reserve-clause-safe : goal.returns-in_err-reserve-clause-safe
 returns-in_err-reserve-clause-safe g c = starts_as_before c.cite_laws.ensures.fronts _ _ _ _ _
-
-pub returns-in_err-reader-clause-halts : goal.returns-in_err-reader-clause-halts
-returns-in_err-reader-clause-halts g c = on_err _ _ (start_none _ _ _ _)
-
-pub returns-in_err-reserve-clause-halts : goal.returns-in_err-reserve-clause-halts
-returns-in_err-reserve-clause-halts g c = on_err _ _ (start_none _ _ _ _)
 
 pub returns-in_err-reader-clause-run : goal.returns-in_err-reader-clause-run
 returns-in_err-reader-clause-run g c = links_go_none _ _
@@ -53,3 +47,23 @@ returns-in_err-reserve-clause-undone g c = if_err_all _ _ (λ e. undone_none _ _
 pub returns-in_err-link-clause-undone : goal.returns-in_err-link-clause-undone
 returns-in_err-link-clause-undone g c =
     if_err_was _ c.in_err-link.field-0.0 _ c.from_residual-in_err-link.ensures.1 c.in_err-link.ensures.undone
+
+pub returns-in_err-reader-clause-stopped : goal.returns-in_err-reader-clause-stopped
+returns-in_err-reader-clause-stopped g c =
+    if_err_was _ fault.Memory _ c.from_residual.ensures.1 (start_no_memory _ _ _ _ c.requires.ready)
+
+pub returns-in_err-reserve-clause-stopped : goal.returns-in_err-reserve-clause-stopped
+returns-in_err-reserve-clause-stopped g c =
+    if_err_was _ fault.Memory _ c.from_residual-in_err-reserve.ensures.1
+    (start_no_memory _ _ _ _ c.requires.ready)
+
+pub returns-in_err-link-clause-stopped : goal.returns-in_err-link-clause-stopped
+returns-in_err-link-clause-stopped g c =
+    if_err_was _ c.in_err-link.field-0.0 _ c.from_residual-in_err-link.ensures.1 c.in_err-link.ensures.stopped
+
+pub returns-clause-went : goal.returns-clause-went
+returns-clause-went g c = record {
+  link = c.in_ok-link.link;
+  starts = c.in_ok-link.ensures.went;
+  pushed = (rw c.unwrap.ensures at c.push.ensures.items) ∙ ap (λ (ls : List Link). ls ++ c.in_ok-link.link ∷ []) c.reserve.ensures.items;
+}

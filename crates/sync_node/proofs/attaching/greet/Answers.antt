@@ -3,6 +3,9 @@ use Rattle.sync_node.proofs.OutLaws.{failed_then, may_unfailed}
 use Rattle.sync_node.proofs.CourseStart.{greets_once, greets_twice}
 use Rattle.sync_node.proofs.StartLaws.{greets_alone, greets_failed, greets_one, greets_then, none_long}
 use Rattle.sync_node.proofs.CauseLaws.{link_sent, link_then}
+use Rattle.std.proofs.Common.{◌∙◌, ap, subst}
+use Rattle.sync_node.specs.Ends.{MaySend}
+use Rattle.sync_node.proofs.StartActs.{greeted_once, greeted_twice}
 use Rattle.sync_node.proofs.attaching.greet.Goals as goal
 use Rattle.sync_node.proofs.attaching.greet.Goals.{else-may_send-via-then-may_send+else-not-is_empty, else-may_send-via-else-may_send}
 
@@ -40,3 +43,20 @@ returns-then-not-is_empty-clause-run g c =
 
 pub returns-else-may_send-clause-run : goal.returns-else-may_send-clause-run
 returns-else-may_send-clause-run g c = link_sent _ _ _ _ _ _ c.send_on.ensures
+
+pub returns-then-not-is_empty-clause-went : goal.returns-then-not-is_empty-clause-went
+returns-then-not-is_empty-clause-went g c =
+    greeted_twice c.cite_laws.ensures.images _ _ _ _ _ _ _ _ _ c.requires.dialled
+    (omega (arith, c.requires.dialled, c.send_on.ensures.sends.same_dialled))
+    (may_unfailed _ (c.may_send.ensures.0 c.if-may_send.true)) c.send_on.ensures
+    c.send_on-then-not-is_empty.ensures
+
+pub returns-else-may_send-clause-went : goal.returns-else-may_send-clause-went
+returns-else-may_send-clause-went g c =
+    greeted_once c.cite_laws.ensures.images _ _ _ _ _ _ _ c.requires.dialled c.send_on.ensures
+    (λ same. elim c.else-may_send.branch [
+      | else-may_send-via-then-may_send+else-not-is_empty w ↦ none_long _ (eqb-true _ 0 (sym w.if-not-is_empty.ensures))
+      | else-may_send-via-else-may_send w ↦
+          let may = subst MaySend (sym (ap (λ x. x.end) same ∙ c.requires.going)) tt in
+          absurd (let yes = c.may_send.ensures.1 may in let no = w.if-may_send.false in cc)
+    ])

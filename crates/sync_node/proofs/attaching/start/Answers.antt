@@ -2,9 +2,8 @@ use Rattle.session_core.proofs.Unknown.{unknown}
 use Rattle.sync_node.proofs.Undone.{if_err_all, if_err_was, undone_none}
 use Rattle.std.proofs.Common.{arith, refl, sym, ◌∙◌, subst}
 use Rattle.record_stream.specs.Reading.{AwaitsBytes, ReaderState}
-use Rattle.sync_node.proofs.CourseStart.{start_broken, start_none, starts_course}
+use Rattle.sync_node.proofs.CourseStart.{starts_course}
 use Rattle.sync_node.proofs.StartLaws.{allowed_as, commits_as, commits_safe_as, first_bytes, kind_as, own_as, session_found, starts, starts_as_before, starts_failed, starts_safe}
-use Rattle.sync_node.proofs.WorkLaws.{on_err}
 use Rattle.sync_node.proofs.CauseLaws.{greeted_cause}
 use Rattle.sync_node.proofs.SafeLaws.{goes_none}
 use Rattle.sync_node.proofs.WorkLaws.{goes_then}
@@ -12,6 +11,8 @@ use Rattle.std.proofs.Common.{Err, ap}
 use Rattle.sync_node.proofs.WorkLaws.{err_was}
 use Rattle.sync_node.proofs.CourseStart.{start_full}
 use Rattle.sync_node.proofs.StateLaws.{session_told}
+use Rattle.sync_node.specs.declared.fault.Fault.TheVariants as fault
+use Rattle.sync_node.proofs.StartActs.{start_no_memory, start_stopped, start_went}
 use Rattle.sync_node.proofs.attaching.start.Goals as goal
 
 pub returns-in_err-versions-clause-safe : goal.returns-in_err-versions-clause-safe
@@ -68,19 +69,6 @@ returns-clause-safe g c =
     (commits_safe_as _ c.in_ok-batch.batch _ _ _ _ _ c.in_ok-batch.ensures c.in_ok-commit.ensures.safe)
     (first_bytes c.args.session _ _ (c.as_slice.ensures.value ∙ c.in_ok-versions.ensures) (c.as_slice-2.ensures.value ∙ c.in_ok-priority.ensures)) c.in_ok-commit.ensures.numbers.roomy c.greet.ensures.greets
 
-pub returns-in_err-versions-clause-halts : goal.returns-in_err-versions-clause-halts
-returns-in_err-versions-clause-halts g c = on_err _ _ (start_none _ _ _ _)
-
-pub returns-in_err-priority-clause-halts : goal.returns-in_err-priority-clause-halts
-returns-in_err-priority-clause-halts g c = on_err _ _ (start_none _ _ _ _)
-
-pub returns-in_err-batch-clause-halts : goal.returns-in_err-batch-clause-halts
-returns-in_err-batch-clause-halts g c = on_err _ _ (start_none _ _ _ _)
-
-pub returns-in_err-commit-clause-halts : goal.returns-in_err-commit-clause-halts
-returns-in_err-commit-clause-halts g c =
-    on_err _ _ (start_broken _ c.args.session _ _ c.in_ok-batch.batch c.in_ok-batch.ensures c.requires.allowed _ c.in_err-commit.ensures.adds_some)
-
 pub returns-clause-course : goal.returns-clause-course
 returns-clause-course g c =
     starts_course _ c.args.session _ _ c.in_ok-batch.batch c.in_ok-batch.ensures c.requires.allowed _ c.in-Some.begun c.args.reader _ _ _ _ c.requires.ready
@@ -128,3 +116,30 @@ commit-requires-clause-named g c = unknown c.in_ok-batch.batch
 pub returns-in_err-commit-clause-undone : goal.returns-in_err-commit-clause-undone
 returns-in_err-commit-clause-undone g c =
     if_err_was _ c.in_err-commit.field-0.0 _ c.from_residual-in_err-commit.ensures.1 c.in_err-commit.ensures.undone
+
+pub returns-in_err-versions-clause-stopped : goal.returns-in_err-versions-clause-stopped
+returns-in_err-versions-clause-stopped g c =
+    if_err_was _ fault.Memory _ c.from_residual.ensures.1 (start_no_memory _ _ _ _ c.requires.ready)
+
+pub returns-in_err-priority-clause-stopped : goal.returns-in_err-priority-clause-stopped
+returns-in_err-priority-clause-stopped g c =
+    if_err_was _ fault.Memory _ c.from_residual-in_err-priority.ensures.1
+    (start_no_memory _ _ _ _ c.requires.ready)
+
+pub returns-in_err-batch-clause-stopped : goal.returns-in_err-batch-clause-stopped
+returns-in_err-batch-clause-stopped g c =
+    if_err_was _ fault.Memory _ c.from_residual-in_err-batch.ensures.1
+    (start_no_memory _ _ _ _ c.requires.ready)
+
+pub returns-in_err-commit-clause-stopped : goal.returns-in_err-commit-clause-stopped
+returns-in_err-commit-clause-stopped g c =
+    if_err_was _ c.in_err-commit.field-0.0 _ c.from_residual-in_err-commit.ensures.1
+    (start_stopped _ c.args.session _ _ c.in_ok-batch.batch c.in_ok-batch.ensures c.requires.allowed _ _ _ c.in_err-commit.ensures.stopped)
+
+pub returns-clause-went : goal.returns-clause-went
+returns-clause-went g c =
+    start_went _ c.args.session _ _ c.in_ok-batch.batch c.in_ok-batch.ensures c.requires.allowed _ _ _ c.in-Some.begun c.args.reader _ _ _ _
+    c.requires.ready c.in_ok-commit.ensures.went c.in_ok-commit.ensures.numbers.roomy
+    (first_bytes c.args.session _ _ (c.as_slice.ensures.value ∙ c.in_ok-versions.ensures) (c.as_slice-2.ensures.value ∙ c.in_ok-priority.ensures))
+    (sym c.in-Some.is ∙ session_told _ _ _ _ c.state.ensures c.session.ensures.value)
+    c.requires.fresh (subst (λ (r : ReaderState). AwaitsBytes r) c.requires.fresh c.requires.waits) c.greet.ensures.went

@@ -2,15 +2,14 @@ use Rattle.std.proofs.Common.{refl, sym, ◌∙◌}
 use Rattle.outside.specs.declared.host.Heard.TheVariants as heard
 use Rattle.sync_node.proofs.WorkLaws.{able_calm, ended_not_going, on_err, stays_then, works_ended, works_heard, works_then}
 use Rattle.std.proofs.Common.{ap}
-use Rattle.sync_node.proofs.CourseTurns.{hears_ended, hears_failed, hears_idle, hears_piece, hears_stops}
 use Rattle.sync_course.specs.Links.{stands_ended}
 use Rattle.sync_node.proofs.CauseLaws.{ended_unfailed, link_failed, link_kept, link_then, link_unfailed}
 use Rattle.sync_node.proofs.WorkLaws.{goes_heard}
 use Rattle.std.proofs.Common.{Err}
 use Rattle.sync_node.proofs.WorkLaws.{err_was}
-use Rattle.sync_node.proofs.CourseTurns.{hears_full}
 use Rattle.sync_node.proofs.StopLaws.{stops_then}
-use Rattle.sync_node.proofs.CourseLaws.{quiet_most}
+use Rattle.sync_node.proofs.HearActs.{hear_ended, hear_failed, hear_idle, hear_piece, hear_stops}
+use Rattle.sync_node.proofs.Undone.{if_err_was}
 use Rattle.sync_node.proofs.hearing.receive_on.Goals as goal
 
 pub recv-requires-clause-link : goal.recv-requires-clause-link
@@ -85,30 +84,6 @@ returns-in-Failed-clause-works g c =
     (works_heard c.cite_laws.ensures.fronts c.cite_laws.ensures.widen (g.C.Clients.meaning c.args.clients.now) c.args.number heard.Failed c.recv.new.buf c.args.link.now c.args.store.now _ _ c.requires.able.dialled c.in-Failed.ensures.call c.in-Failed.ensures.links)
     (works_ended _ _ _ _ _ _ _ _ refl (λ going. cc) c.requires.asked)
 
-pub returns-in_err-take_piece-in-Got-clause-stops : goal.returns-in_err-take_piece-in-Got-clause-stops
-returns-in_err-take_piece-in-Got-clause-stops g c = λ whole.
-    on_err _ _
-    (hears_stops _ _ _ _ _ _ c.recv.new.buf (c.recv.auto.buf ∙ whole) c.requires.asked c.in-Got.ensures.call.same_files (quiet_most _ _ _ c.in-Got.ensures.call) c.cite_laws.ensures.widen c.in-Got.count _ _
-    c.in-Got.ensures.links c.in-Got.ensures.answer (rw c.new-piece.ensures at c.in_err-take_piece-in-Got.ensures.stops))
-
-pub returns-in_ok-take_piece-in-Got-clause-course : goal.returns-in_ok-take_piece-in-Got-clause-course
-returns-in_ok-take_piece-in-Got-clause-course g c = λ whole.
-    hears_piece _ _ _ _ _ _ c.recv.new.buf (c.recv.auto.buf ∙ whole) c.requires.asked c.in-Got.ensures.call.same_files (quiet_most _ _ _ c.in-Got.ensures.call) c.cite_laws.ensures.widen c.in-Got.count _ _ _
-    c.in-Got.ensures.links c.in-Got.ensures.answer (rw c.new-piece.ensures at c.in_ok-take_piece-in-Got.ensures.course)
-
-pub returns-in-Idle-clause-course : goal.returns-in-Idle-clause-course
-returns-in-Idle-clause-course g c = λ whole.
-    hears_idle _ _ _ _ _ _ c.recv.new.buf (c.recv.auto.buf ∙ whole) c.requires.asked c.in-Idle.ensures.call.same_files (quiet_most _ _ _ c.in-Idle.ensures.call) c.in-Idle.ensures.links c.in-Idle.ensures.answer
-
-pub returns-in-End-clause-course : goal.returns-in-End-clause-course
-returns-in-End-clause-course g c = λ whole.
-    hears_ended _ _ _ _ _ _ c.recv.new.buf (c.recv.auto.buf ∙ whole) c.requires.asked c.in-End.ensures.call.same_files (quiet_most _ _ _ c.in-End.ensures.call) _
-    (c.ended-link.ensures ∙ ap stands_ended c.end.ensures.ending) c.in-End.ensures.links c.in-End.ensures.answer
-
-pub returns-in-Failed-clause-course : goal.returns-in-Failed-clause-course
-returns-in-Failed-clause-course g c = λ whole.
-    hears_failed _ _ _ _ _ _ c.recv.new.buf (c.recv.auto.buf ∙ whole) c.requires.asked c.in-Failed.ensures.call.same_files (quiet_most _ _ _ c.in-Failed.ensures.call) c.in-Failed.ensures.links c.in-Failed.ensures.answer
-
 pub returns-in_err-take_piece-in-Got-clause-run : goal.returns-in_err-take_piece-in-Got-clause-run
 returns-in_err-take_piece-in-Got-clause-run g c =
     link_then _ _ _ _ _ _ _ (link_kept _ _ _ _ _ (goes_heard _ _ _ _ _ c.recv.ensures.call c.recv.ensures.links) refl refl) c.take_piece.ensures.run
@@ -129,14 +104,32 @@ pub returns-in-Failed-clause-run : goal.returns-in-Failed-clause-run
 returns-in-Failed-clause-run g c =
     link_failed _ _ _ _ _ (goes_heard _ _ _ _ _ c.recv.ensures.call c.recv.ensures.links) refl c.in-Failed.ensures.answer
 
-pub returns-in_err-take_piece-in-Got-clause-full : goal.returns-in_err-take_piece-in-Got-clause-full
-returns-in_err-take_piece-in-Got-clause-full g c = λ whole is.
-    hears_full _ _ _ _ _ _ c.recv.new.buf (c.recv.auto.buf ∙ whole) c.requires.asked c.in-Got.ensures.call.same_files (quiet_most _ _ _ c.in-Got.ensures.call) c.cite_laws.ensures.widen c.in-Got.count _ _
-    c.in-Got.ensures.links c.in-Got.ensures.answer
-    (rw c.new-piece.ensures at (c.in_err-take_piece-in-Got.ensures.full (ap (λ e. Err e) (err_was _ c.in_err-take_piece-in-Got.field-0.0 _ c.from_residual.ensures.1 is))))
-
 pub returns-in_err-take_piece-in-Got-clause-sent : goal.returns-in_err-take_piece-in-Got-clause-sent
 returns-in_err-take_piece-in-Got-clause-sent g c = λ is.
     stops_then _ _ _ _ _ _ _ _ _ _ _ _
     (works_heard c.cite_laws.ensures.fronts c.cite_laws.ensures.widen (g.C.Clients.meaning c.args.clients.now) c.args.number (heard.Got c.in-Got.count) c.recv.new.buf c.args.link.now c.args.store.now _ _ c.requires.able.dialled c.in-Got.ensures.call c.in-Got.ensures.links)
     (rw c.new-piece.ensures at (c.in_err-take_piece-in-Got.ensures.sent (ap (λ e. Err e) (err_was _ c.in_err-take_piece-in-Got.field-0.0 _ c.from_residual.ensures.1 is))))
+
+pub returns-in_err-take_piece-in-Got-clause-stopped : goal.returns-in_err-take_piece-in-Got-clause-stopped
+returns-in_err-take_piece-in-Got-clause-stopped g c = λ whole.
+    if_err_was _ c.in_err-take_piece-in-Got.field-0.0 _ c.from_residual.ensures.1
+    (hear_stops _ _ _ _ _ _ c.recv.new.buf (c.recv.auto.buf ∙ whole) c.requires.asked c.in-Got.ensures.call c.cite_laws.ensures.widen c.in-Got.count _ _ _ _
+    c.in-Got.ensures.links c.in-Got.ensures.answer (rw c.new-piece.ensures at c.in_err-take_piece-in-Got.ensures.stopped))
+
+pub returns-in_ok-take_piece-in-Got-clause-went : goal.returns-in_ok-take_piece-in-Got-clause-went
+returns-in_ok-take_piece-in-Got-clause-went g c = λ whole.
+    hear_piece _ _ _ _ _ _ c.recv.new.buf (c.recv.auto.buf ∙ whole) c.requires.asked c.in-Got.ensures.call c.cite_laws.ensures.widen c.in-Got.count _ _ _
+    c.in-Got.ensures.links c.in-Got.ensures.answer (rw c.new-piece.ensures at c.in_ok-take_piece-in-Got.ensures.went)
+
+pub returns-in-Idle-clause-went : goal.returns-in-Idle-clause-went
+returns-in-Idle-clause-went g c = λ whole.
+    hear_idle _ _ _ _ _ _ c.recv.new.buf (c.recv.auto.buf ∙ whole) c.requires.asked c.in-Idle.ensures.call c.in-Idle.ensures.links c.in-Idle.ensures.answer
+
+pub returns-in-End-clause-went : goal.returns-in-End-clause-went
+returns-in-End-clause-went g c = λ whole.
+    hear_ended _ _ _ _ _ _ c.recv.new.buf (c.recv.auto.buf ∙ whole) c.requires.asked c.in-End.ensures.call _
+    (c.ended-link.ensures ∙ ap stands_ended c.end.ensures.ending) c.in-End.ensures.links c.in-End.ensures.answer
+
+pub returns-in-Failed-clause-went : goal.returns-in-Failed-clause-went
+returns-in-Failed-clause-went g c = λ whole.
+    hear_failed _ _ _ _ _ _ c.recv.new.buf (c.recv.auto.buf ∙ whole) c.requires.asked c.in-Failed.ensures.call c.in-Failed.ensures.links c.in-Failed.ensures.answer

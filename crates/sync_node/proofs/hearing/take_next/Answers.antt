@@ -2,13 +2,14 @@ use Rattle.std.proofs.Common.{refl, ap, length, arith}
 use Rattle.record_stream.specs.Reading.{ReaderState}
 use Rattle.sync_node.proofs.TakeLaws.{more_works, open_for, skip_works, taken_able, taken_stays, taken_works}
 use Rattle.sync_node.proofs.WorkLaws.{on_err, stays_none, works_ended}
-use Rattle.sync_node.proofs.CourseTakes.{next_bad, next_more, next_one, next_skipped, next_stops, next_stops_at_none}
 use Rattle.sync_node.proofs.CauseLaws.{learnt_unfailed, link_kept, link_unfailed}
 use Rattle.sync_node.proofs.SafeLaws.{goes_none}
 use Rattle.std.proofs.Common.{Err}
 use Rattle.sync_node.proofs.WorkLaws.{err_was}
-use Rattle.sync_node.proofs.CourseTakes.{next_full}
 use Rattle.sync_node.proofs.StopLaws.{stops_none}
+use Rattle.sync_node.specs.declared.fault.Fault.TheVariants as fault
+use Rattle.sync_node.proofs.PieceActs.{item_bad, item_more, item_no_memory, item_one, item_skipped, item_stops}
+use Rattle.sync_node.proofs.Undone.{if_err_was}
 use Rattle.sync_node.proofs.hearing.take_next.Goals as goal
 
 pub take_one-requires : goal.take_one-requires
@@ -71,37 +72,6 @@ returns-in-Bad-clause-left g c =
 pub returns-in-Bad-clause-works : goal.returns-in-Bad-clause-works
 returns-in-Bad-clause-works g c = works_ended _ _ _ _ _ _ _ _ refl (λ going. cc) c.requires.asked
 
-pub returns-in_err-place-clause-stops : goal.returns-in_err-place-clause-stops
-returns-in_err-place-clause-stops g c = on_err _ _ (next_stops_at_none _ _ _ _ _ _ _ refl refl refl)
-
-pub returns-in_err-take_one-in-One-clause-stops : goal.returns-in_err-take_one-in-One-clause-stops
-returns-in_err-take_one-in-One-clause-stops g c =
-    on_err _ _
-    (next_stops c.cite_laws.ensures.follow _ _ c.in-One.place c.in-One.rec _ _ _ _ c.learn.new.link _ _ _ refl refl refl
-    (rw c.in-One.is at c.in_ok-place.ensures.stream) c.learn.ensures c.in_err-take_one-in-One.ensures.stops)
-
-pub returns-in_ok-take_one-in-One-clause-course : goal.returns-in_ok-take_one-in-One-clause-course
-returns-in_ok-take_one-in-One-clause-course g c =
-    next_one c.cite_laws.ensures.follow _ _ c.in-One.place c.in-One.rec _ _ _ _ c.learn.new.link _ _ _ _ c.requires.asked refl refl refl
-    (rw c.in-One.is at c.in_ok-place.ensures.stream) c.learn.ensures c.in_ok-take_one-in-One.ensures.course
-
-pub returns-in-Skipped-clause-course : goal.returns-in-Skipped-clause-course
-returns-in-Skipped-clause-course g c =
-    next_skipped c.cite_laws.ensures.follow _ _ c.in-Skipped.field-0 c.in-Skipped.field-1 c.in-Skipped.field-2 _ _ _ _ _ _ c.requires.asked refl refl refl
-    c.requires.able.settled (rw c.in-Skipped.is at c.in_ok-place.ensures.stream)
-
-pub returns-in-More-clause-course : goal.returns-in-More-clause-course
-returns-in-More-clause-course g c =
-    let left = rw c.in-More.is at c.in_ok-place.ensures.left in
-    next_more c.cite_laws.ensures.follow c.cite_laws.ensures.ends c.cite_laws.ensures.rests_give _ _ _ _ _ _ _ _ c.requires.asked refl refl refl
-    c.requires.able.settled (rw c.in-More.is at c.in_ok-place.ensures.stream) left.0 left.1 left.3
-
-pub returns-in-Bad-clause-course : goal.returns-in-Bad-clause-course
-returns-in-Bad-clause-course g c =
-    let left = rw c.in-Bad.is at c.in_ok-place.ensures.left in
-    next_bad c.cite_laws.ensures.follow _ _ c.in-Bad.place c.in-Bad.reason _ _ _ _ _ _ c.requires.asked refl refl refl c.requires.able.settled
-    (rw c.in-Bad.is at c.in_ok-place.ensures.stream) left.0 left.1 left.2
-
 pub returns-in_err-place-clause-run : goal.returns-in_err-place-clause-run
 returns-in_err-place-clause-run g c = link_kept _ _ _ _ _ (goes_none _) refl refl
 
@@ -122,13 +92,40 @@ returns-in-More-clause-run g c = link_kept _ _ _ _ _ (goes_none _) refl refl
 pub returns-in-Bad-clause-run : goal.returns-in-Bad-clause-run
 returns-in-Bad-clause-run g c = link_unfailed _ _ _ _ _ (goes_none _) refl (λ failed. cc)
 
-pub returns-in_err-take_one-in-One-clause-full : goal.returns-in_err-take_one-in-One-clause-full
-returns-in_err-take_one-in-One-clause-full g c = λ is.
-    next_full c.cite_laws.ensures.follow _ _ c.in-One.place c.in-One.rec _ _ _ _ c.learn.new.link _ _ _ _ refl
-    (rw c.in-One.is at c.in_ok-place.ensures.stream) c.learn.ensures
-    (c.in_err-take_one-in-One.ensures.full (ap (λ e. Err e) (err_was _ c.in_err-take_one-in-One.field-0.0 _ c.from_residual-in_err-take_one-in-One.ensures.1 is)))
-
 pub returns-in_err-take_one-in-One-clause-sent : goal.returns-in_err-take_one-in-One-clause-sent
 returns-in_err-take_one-in-One-clause-sent g c = λ is.
     stops_none _ _ _ _ _ _ _ _ (λ failed. let asked = c.requires.asked in cc)
     (c.in_err-take_one-in-One.ensures.as_before (ap (λ e. Err e) (err_was _ c.in_err-take_one-in-One.field-0.0 _ c.from_residual-in_err-take_one-in-One.ensures.1 is)))
+
+pub returns-in_err-place-clause-stopped : goal.returns-in_err-place-clause-stopped
+returns-in_err-place-clause-stopped g c =
+    if_err_was _ fault.Memory _ c.from_residual.ensures.1
+    (item_no_memory _ _ _ _ _ _ _ c.requires.able.ready refl refl refl)
+
+pub returns-in_err-take_one-in-One-clause-stopped : goal.returns-in_err-take_one-in-One-clause-stopped
+returns-in_err-take_one-in-One-clause-stopped g c =
+    if_err_was _ c.in_err-take_one-in-One.field-0.0 _ c.from_residual-in_err-take_one-in-One.ensures.1
+    (item_stops c.cite_laws.ensures.follow _ _ c.in-One.place c.in-One.rec _ _ _ _ c.learn.new.link _ _ _ _ _ refl refl refl
+    (rw c.in-One.is at c.in_ok-place.ensures.stream) c.learn.ensures c.in_err-take_one-in-One.ensures.stopped)
+
+pub returns-in_ok-take_one-in-One-clause-went : goal.returns-in_ok-take_one-in-One-clause-went
+returns-in_ok-take_one-in-One-clause-went g c =
+    item_one c.cite_laws.ensures.follow _ _ c.in-One.place c.in-One.rec _ _ _ _ c.learn.new.link _ _ _ _ c.requires.asked refl refl refl
+    (rw c.in-One.is at c.in_ok-place.ensures.stream) c.learn.ensures c.in_ok-take_one-in-One.ensures.went
+
+pub returns-in-Skipped-clause-went : goal.returns-in-Skipped-clause-went
+returns-in-Skipped-clause-went g c =
+    item_skipped c.cite_laws.ensures.follow _ _ c.in-Skipped.field-0 c.in-Skipped.field-1 c.in-Skipped.field-2 _ _ _ _ _ _ c.requires.asked refl refl refl
+    c.requires.able.settled (rw c.in-Skipped.is at c.in_ok-place.ensures.stream)
+
+pub returns-in-More-clause-went : goal.returns-in-More-clause-went
+returns-in-More-clause-went g c =
+    let left = rw c.in-More.is at c.in_ok-place.ensures.left in
+    item_more c.cite_laws.ensures.follow c.cite_laws.ensures.ends c.cite_laws.ensures.rests_give _ _ _ _ _ _ _ _ c.requires.asked refl refl refl
+    c.requires.able.settled (rw c.in-More.is at c.in_ok-place.ensures.stream) left.0 left.1 left.3
+
+pub returns-in-Bad-clause-went : goal.returns-in-Bad-clause-went
+returns-in-Bad-clause-went g c =
+    let left = rw c.in-Bad.is at c.in_ok-place.ensures.left in
+    item_bad c.cite_laws.ensures.follow _ _ c.in-Bad.place c.in-Bad.reason _ _ _ _ _ _ c.requires.asked refl refl refl c.requires.able.settled
+    (rw c.in-Bad.is at c.in_ok-place.ensures.stream) left.0 left.1 left.2

@@ -1,13 +1,15 @@
 use Rattle.sync_node.proofs.TakeLaws.{take_allowed, take_is, take_kind, take_own, take_safe, take_safe_none, take_safe_then, taken_on}
-use Rattle.sync_node.proofs.WorkLaws.{on_err, on_err_then, on_ok}
-use Rattle.sync_node.proofs.CourseTakes.{stops_at_commit, stops_at_none, stops_at_settle, takes_course, take_named}
+use Rattle.sync_node.proofs.WorkLaws.{on_ok}
+use Rattle.sync_node.proofs.CourseTakes.{take_named}
 use Rattle.sync_node.proofs.SafeLaws.{goes_none}
 use Rattle.sync_node.proofs.WorkLaws.{goes_then}
 use Rattle.std.proofs.Common.{Err, ap, refl}
 use Rattle.session_core.specs.Taking.{take_of}
 use Rattle.sync_node.proofs.WorkLaws.{err_was}
-use Rattle.sync_node.proofs.CourseTakes.{take_full}
 use Rattle.sync_node.proofs.StateLaws.{takes_told}
+use Rattle.sync_node.specs.declared.fault.Fault.TheVariants as fault
+use Rattle.sync_node.proofs.LinkActs.{record_no_memory, record_stops_at_commit, record_stops_at_settle, record_taken}
+use Rattle.sync_node.proofs.Undone.{if_err_then, if_err_was}
 use Rattle.sync_node.proofs.hearing.take_one.Goals as goal
 
 pub commit-requires-clause-ready : goal.commit-requires-clause-ready
@@ -49,60 +51,11 @@ returns-clause-safe g c =
     (take_safe _ _ _ _ _ _ _ c.in_ok-known.known.0 c.requires.able (take_is c.args.store.now.state.facts c.args.session.now c.takes-taken.result c.args.rec c.in_ok-known.known.0 (takes_told c.args.store.now.state _ _ _ c.state.ensures c.takes-taken.ensures) c.in_ok-known.ensures.batch) c.in_ok-commit.ensures.safe)
     c.settle.ensures.safe
 
-pub returns-in_err-known-clause-stops : goal.returns-in_err-known-clause-stops
-returns-in_err-known-clause-stops g c =
-    let batch = take_of c.args.store.now.state.facts c.args.session.now c.takes-taken.result c.args.rec in
-    on_err _ _
-    (stops_at_none _ _ c.args.rec _ _ batch
-    (take_named c.args.store.now.state.facts c.args.session.now c.args.rec batch c.requires.able.known
-    (take_is c.args.store.now.state.facts c.args.session.now c.takes-taken.result c.args.rec batch (takes_told c.args.store.now.state _ _ _ c.state.ensures c.takes-taken.ensures) refl))
-    (take_allowed _ _ c.takes-taken.result c.args.rec _ _ batch c.requires.able c.records_are_within.ensures (takes_told c.args.store.now.state _ _ _ c.state.ensures c.takes-taken.ensures) refl))
-
-pub returns-in_err-commit-clause-stops : goal.returns-in_err-commit-clause-stops
-returns-in_err-commit-clause-stops g c =
-    let allowed = take_allowed _ _ c.takes-taken.result c.args.rec _ _ c.in_ok-known.known.0 c.requires.able c.records_are_within.ensures (takes_told c.args.store.now.state _ _ _ c.state.ensures c.takes-taken.ensures) c.in_ok-known.ensures.batch in
-    on_err _ _
-    (stops_at_commit _ _ c.args.rec _ _ _ c.in_ok-known.known.0
-    (take_named c.args.store.now.state.facts c.args.session.now c.args.rec c.in_ok-known.known.0 c.requires.able.known
-    (take_is c.args.store.now.state.facts c.args.session.now c.takes-taken.result c.args.rec c.in_ok-known.known.0 (takes_told c.args.store.now.state _ _ _ c.state.ensures c.takes-taken.ensures) c.in_ok-known.ensures.batch)) allowed
-    c.in_err-commit.ensures.adds_some)
-
-pub returns-clause-course : goal.returns-clause-course
-returns-clause-course g c =
-    let allowed = take_allowed _ _ c.takes-taken.result c.args.rec _ _ c.in_ok-known.known.0 c.requires.able c.records_are_within.ensures (takes_told c.args.store.now.state _ _ _ c.state.ensures c.takes-taken.ensures) c.in_ok-known.ensures.batch in
-    on_ok c.settle.result _ _
-    (takes_course _ _ c.args.rec _ _ _ _ _ _ c.in_ok-known.known.0
-    (take_named c.args.store.now.state.facts c.args.session.now c.args.rec c.in_ok-known.known.0 c.requires.able.known
-    (take_is c.args.store.now.state.facts c.args.session.now c.takes-taken.result c.args.rec c.in_ok-known.known.0 (takes_told c.args.store.now.state _ _ _ c.state.ensures c.takes-taken.ensures) c.in_ok-known.ensures.batch)) allowed
-    c.in_ok-commit.ensures.commits.facts c.in_ok-commit.ensures.adds)
-    c.settle.ensures.adds
-
-pub returns-clause-stops : goal.returns-clause-stops
-returns-clause-stops g c =
-    let allowed = take_allowed _ _ c.takes-taken.result c.args.rec _ _ c.in_ok-known.known.0 c.requires.able c.records_are_within.ensures (takes_told c.args.store.now.state _ _ _ c.state.ensures c.takes-taken.ensures) c.in_ok-known.ensures.batch in
-    on_err_then c.settle.result _ _
-    (stops_at_settle _ _ c.args.rec _ _ _ _ _ c.in_ok-known.known.0
-    (take_named c.args.store.now.state.facts c.args.session.now c.args.rec c.in_ok-known.known.0 c.requires.able.known
-    (take_is c.args.store.now.state.facts c.args.session.now c.takes-taken.result c.args.rec c.in_ok-known.known.0 (takes_told c.args.store.now.state _ _ _ c.state.ensures c.takes-taken.ensures) c.in_ok-known.ensures.batch)) allowed
-    c.in_ok-commit.ensures.commits.facts c.in_ok-commit.ensures.adds)
-    c.settle.ensures.adds_some
-
 pub returns-in_err-known-clause-run : goal.returns-in_err-known-clause-run
 returns-in_err-known-clause-run g c = goes_none _
 
 pub returns-clause-run : goal.returns-clause-run
 returns-clause-run g c = goes_then _ _ _ c.commit.ensures.run c.settle.ensures.run
-
-pub returns-in_err-commit-clause-full : goal.returns-in_err-commit-clause-full
-returns-in_err-commit-clause-full g c = λ is.
-    let allowed = take_allowed _ _ c.takes-taken.result c.args.rec _ _ c.in_ok-known.known.0 c.requires.able c.records_are_within.ensures (takes_told c.args.store.now.state _ _ _ c.state.ensures c.takes-taken.ensures) c.in_ok-known.ensures.batch in
-    take_full _ _ c.args.rec _ _ _ _ c.in_ok-known.known.0
-    (take_named c.args.store.now.state.facts c.args.session.now c.args.rec c.in_ok-known.known.0 c.requires.able.known
-    (take_is c.args.store.now.state.facts c.args.session.now c.takes-taken.result c.args.rec c.in_ok-known.known.0 (takes_told c.args.store.now.state _ _ _ c.state.ensures c.takes-taken.ensures) c.in_ok-known.ensures.batch)) allowed
-    (c.in_err-commit.ensures.full (ap (λ e. Err e) (err_was _ c.in_err-commit.field-0.0 _ c.from_residual-in_err-commit.ensures.1 is)))
-
-pub returns-clause-full : goal.returns-clause-full
-returns-clause-full g c = λ is. absurd (c.settle.ensures.never is)
 
 pub returns-in_err-commit-clause-as_before : goal.returns-in_err-commit-clause-as_before
 returns-in_err-commit-clause-as_before g c = λ is. c.in_err-commit.ensures.as_before (ap (λ e. Err e) (err_was _ c.in_err-commit.field-0.0 _ c.from_residual-in_err-commit.ensures.1 is))
@@ -112,3 +65,42 @@ returns-clause-as_before g c = λ is. absurd (c.settle.ensures.never is)
 
 pub commit-requires-clause-named : goal.commit-requires-clause-named
 commit-requires-clause-named g c = c.in_ok-known.ensures.named
+
+pub returns-in_err-known-clause-stopped : goal.returns-in_err-known-clause-stopped
+returns-in_err-known-clause-stopped g c =
+    let batch = take_of c.args.store.now.state.facts c.args.session.now c.takes-taken.result c.args.rec in
+    if_err_was _ fault.Memory _ c.from_residual.ensures.1
+    (record_no_memory _ _ c.args.rec _ _ batch
+    (take_named c.args.store.now.state.facts c.args.session.now c.args.rec batch c.requires.able.known
+    (take_is c.args.store.now.state.facts c.args.session.now c.takes-taken.result c.args.rec batch (takes_told c.args.store.now.state _ _ _ c.state.ensures c.takes-taken.ensures) refl))
+    (take_allowed _ _ c.takes-taken.result c.args.rec _ _ batch c.requires.able c.records_are_within.ensures (takes_told c.args.store.now.state _ _ _ c.state.ensures c.takes-taken.ensures) refl)
+    c.requires.able.ready)
+
+pub returns-in_err-commit-clause-stopped : goal.returns-in_err-commit-clause-stopped
+returns-in_err-commit-clause-stopped g c =
+    let allowed = take_allowed _ _ c.takes-taken.result c.args.rec _ _ c.in_ok-known.known.0 c.requires.able c.records_are_within.ensures (takes_told c.args.store.now.state _ _ _ c.state.ensures c.takes-taken.ensures) c.in_ok-known.ensures.batch in
+    if_err_was _ c.in_err-commit.field-0.0 _ c.from_residual-in_err-commit.ensures.1
+    (record_stops_at_commit _ _ c.args.rec _ _ c.in_ok-known.known.0
+    (take_named c.args.store.now.state.facts c.args.session.now c.args.rec c.in_ok-known.known.0 c.requires.able.known
+    (take_is c.args.store.now.state.facts c.args.session.now c.takes-taken.result c.args.rec c.in_ok-known.known.0 (takes_told c.args.store.now.state _ _ _ c.state.ensures c.takes-taken.ensures) c.in_ok-known.ensures.batch)) allowed
+    _ _ _ c.in_err-commit.ensures.stopped)
+
+pub returns-clause-went : goal.returns-clause-went
+returns-clause-went g c =
+    let allowed = take_allowed _ _ c.takes-taken.result c.args.rec _ _ c.in_ok-known.known.0 c.requires.able c.records_are_within.ensures (takes_told c.args.store.now.state _ _ _ c.state.ensures c.takes-taken.ensures) c.in_ok-known.ensures.batch in
+    on_ok c.settle.result _ _
+    (record_taken _ _ c.args.rec _ _ c.in_ok-known.known.0
+    (take_named c.args.store.now.state.facts c.args.session.now c.args.rec c.in_ok-known.known.0 c.requires.able.known
+    (take_is c.args.store.now.state.facts c.args.session.now c.takes-taken.result c.args.rec c.in_ok-known.known.0 (takes_told c.args.store.now.state _ _ _ c.state.ensures c.takes-taken.ensures) c.in_ok-known.ensures.batch)) allowed
+    _ _ _ _ c.in_ok-commit.ensures.went)
+    c.settle.ensures.went
+
+pub returns-clause-stopped : goal.returns-clause-stopped
+returns-clause-stopped g c =
+    let allowed = take_allowed _ _ c.takes-taken.result c.args.rec _ _ c.in_ok-known.known.0 c.requires.able c.records_are_within.ensures (takes_told c.args.store.now.state _ _ _ c.state.ensures c.takes-taken.ensures) c.in_ok-known.ensures.batch in
+    if_err_then c.settle.result _ _
+    (λ e stops. record_stops_at_settle _ _ c.args.rec _ _ c.in_ok-known.known.0
+    (take_named c.args.store.now.state.facts c.args.session.now c.args.rec c.in_ok-known.known.0 c.requires.able.known
+    (take_is c.args.store.now.state.facts c.args.session.now c.takes-taken.result c.args.rec c.in_ok-known.known.0 (takes_told c.args.store.now.state _ _ _ c.state.ensures c.takes-taken.ensures) c.in_ok-known.ensures.batch)) allowed
+    _ _ _ _ e c.in_ok-commit.ensures.went stops)
+    c.settle.ensures.stopped

@@ -2,13 +2,14 @@ use Rattle.session_core.proofs.Unknown.{unknown}
 use Rattle.std.proofs.Common.{arith, ◌∙◌}
 use Rattle.sync_node.proofs.OutLaws.{put_able, put_stays, put_waits, put_works}
 use Rattle.sync_node.proofs.WorkLaws.{on_err, stays_none}
-use Rattle.sync_node.proofs.CourseTurns.{puts_course, puts_stops, puts_stops_there}
 use Rattle.std.proofs.Common.{refl}
 use Rattle.sync_node.proofs.CauseLaws.{link_kept, link_none, link_sent, link_then}
 use Rattle.std.proofs.Common.{Err, ap}
 use Rattle.sync_node.proofs.WorkLaws.{err_was}
-use Rattle.sync_node.proofs.CourseTurns.{puts_full}
 use Rattle.sync_node.proofs.StopLaws.{stops_none}
+use Rattle.sync_node.specs.declared.fault.Fault.TheVariants as fault
+use Rattle.sync_node.proofs.SendActs.{put_no_memory, put_stops, put_went}
+use Rattle.sync_node.proofs.Undone.{if_err_was}
 use Rattle.sync_node.proofs.sending.put_out.Goals as goal
 
 pub returns-in_err-bytes-clause-stays : goal.returns-in_err-bytes-clause-stays
@@ -39,21 +40,6 @@ returns-clause-works g c =
     (c.as_slice.ensures.value ∙ c.in_ok-bytes.ensures)
     c.in_ok-commit.ensures.numbers.roomy c.requires.able.dialled c.requires.unfailed c.send_on.ensures
 
-pub returns-in_err-bytes-clause-stops : goal.returns-in_err-bytes-clause-stops
-returns-in_err-bytes-clause-stops g c = on_err _ _ (puts_stops_there _ _ _ _ _ _)
-
-pub returns-in_err-batch-clause-stops : goal.returns-in_err-batch-clause-stops
-returns-in_err-batch-clause-stops g c = on_err _ _ (puts_stops_there _ _ _ _ _ _)
-
-pub returns-in_err-commit-clause-stops : goal.returns-in_err-commit-clause-stops
-returns-in_err-commit-clause-stops g c =
-    on_err _ _ (puts_stops _ _ c.args.now c.args.out _ _ _ c.in_ok-batch.batch c.in_ok-batch.ensures c.requires.allowed _ c.in_err-commit.ensures.adds_some)
-
-pub returns-clause-course : goal.returns-clause-course
-returns-clause-course g c =
-    puts_course _ _ c.args.now c.args.out _ _ _ c.in_ok-batch.batch c.in_ok-batch.ensures c.requires.allowed _ _ _ _ _ c.in_ok-commit.ensures.commits.facts
-    c.in_ok-commit.ensures.adds c.send_on.ensures
-
 pub returns-in_err-bytes-clause-run : goal.returns-in_err-bytes-clause-run
 returns-in_err-bytes-clause-run g c = link_none _ _ _
 
@@ -68,14 +54,34 @@ returns-clause-run g c =
     link_then _ _ _ _ _ _ _ (link_kept _ _ _ _ _ c.commit.ensures.run refl refl)
     (link_sent _ _ _ _ _ _ c.send_on.ensures)
 
-pub returns-in_err-commit-clause-full : goal.returns-in_err-commit-clause-full
-returns-in_err-commit-clause-full g c = λ is.
-    puts_full _ _ c.args.now c.args.out _ _ _ c.in_ok-batch.batch c.in_ok-batch.ensures c.requires.allowed _ _
-    (c.in_err-commit.ensures.full (ap (λ e. Err e) (err_was _ c.in_err-commit.field-0.0 _ c.from_residual-in_err-commit.ensures.1 is)))
-
 pub returns-in_err-commit-clause-sent : goal.returns-in_err-commit-clause-sent
 returns-in_err-commit-clause-sent g c = λ is.
     stops_none _ _ _ _ _ _ _ _ c.requires.unfailed (c.in_err-commit.ensures.as_before (ap (λ e. Err e) (err_was _ c.in_err-commit.field-0.0 _ c.from_residual-in_err-commit.ensures.1 is)))
 
 pub commit-requires-clause-named : goal.commit-requires-clause-named
 commit-requires-clause-named g c = unknown c.in_ok-batch.batch
+
+pub returns-in_err-bytes-clause-stopped : goal.returns-in_err-bytes-clause-stopped
+returns-in_err-bytes-clause-stopped g c =
+    if_err_was _ fault.Memory _ c.from_residual.ensures.1
+    (put_no_memory _ _ c.args.now _ _ _ c.requires.able.ready)
+
+pub returns-in_err-batch-clause-stopped : goal.returns-in_err-batch-clause-stopped
+returns-in_err-batch-clause-stopped g c =
+    if_err_was _ fault.Memory _ c.from_residual-in_err-batch.ensures.1
+    (put_no_memory _ _ c.args.now _ _ _ c.requires.able.ready)
+
+pub returns-in_err-commit-clause-stopped : goal.returns-in_err-commit-clause-stopped
+returns-in_err-commit-clause-stopped g c =
+    if_err_was _ c.in_err-commit.field-0.0 _ c.from_residual-in_err-commit.ensures.1
+    (put_stops _ _ c.args.now c.args.out _ _ _ c.in_ok-batch.batch c.in_ok-batch.ensures
+    c.requires.allowed _ _ _ c.in_err-commit.ensures.stopped)
+
+pub returns-clause-went : goal.returns-clause-went
+returns-clause-went g c =
+    put_went _ _ c.args.now c.args.out _ _ _ c.in_ok-batch.batch c.in_ok-batch.ensures
+    c.requires.allowed c.cite_laws.ensures.images _ _ _ _ c.as_slice.result.now
+    c.in_ok-commit.ensures.went (c.as_slice.ensures.value ∙ c.in_ok-bytes.ensures)
+    c.in_ok-commit.ensures.numbers.roomy
+    (omega (arith, c.requires.able.dialled, c.in_ok-commit.ensures.commits.goes.links.dialled))
+    c.send_on.ensures

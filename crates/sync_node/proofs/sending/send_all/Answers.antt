@@ -1,18 +1,20 @@
 use Rattle.sync_node.proofs.OutLaws.{may_unfailed}
 use Rattle.sync_node.proofs.WorkLaws.{on_err, stays_then, works_none, works_then}
 use Rattle.std.proofs.Common.{sym, ◌∙◌, refl}
-use Rattle.sync_node.proofs.CourseTurns.{full, may_end, may_not_end, none_due, option_none, outs_end, outs_none, outs_stop, outs_stop_there, outs_then}
+use Rattle.sync_node.proofs.CourseTurns.{full, may_end, may_not_end, none_due, option_none}
 use Rattle.std.proofs.lemmas.Bool.{false≢true}
 use Rattle.sync_node.proofs.CauseLaws.{link_none, link_then}
 use Rattle.std.proofs.Common.{Err, ap}
 use Rattle.sync_node.proofs.WorkLaws.{err_was}
-use Rattle.sync_node.proofs.CourseTurns.{outs_full}
 use Rattle.sync_node.proofs.StopLaws.{stops_then}
 use Rattle.sync_node.proofs.StateLaws.{allowed_told, due_told}
+use Rattle.sync_node.specs.declared.fault.Fault.TheVariants as fault
+use Rattle.sync_node.proofs.SendActs.{due_end, due_no_memory, due_none, due_stops, due_then}
+use Rattle.sync_node.proofs.Undone.{if_err_was}
 use Rattle.sync_node.proofs.sending.send_all.Goals as goal
 
 pub outs-init : goal.outs-init
-outs-init g c = record { run = link_none _ _ _; limit = refl; format = refl; able = c.requires.able; waits = c.requires.waits; course = outs_none _ _ _ _ _ _; works = works_none _ _ _ _ _ _ }
+outs-init g c = record { run = link_none _ _ _; limit = refl; format = refl; able = c.requires.able; waits = c.requires.waits; went = due_none _ _ _ _ _ _; works = works_none _ _ _ _ _ _ }
 
 pub returns-in_err-out-clause-stays : goal.returns-in_err-out-clause-stays
 returns-in_err-out-clause-stays g c = on_err _ _ c.outs.invariant.works.stays
@@ -51,7 +53,7 @@ outs-preserved g c = record {
   format = c.put_out.ensures.format ∙ c.outs.invariant.format;
   able = c.in_ok-put_out.ensures.able;
   waits = c.in_ok-put_out.ensures.waits;
-  course = outs_then _ _ _ _ _ _ _ _ _ _ c.outs.invariant.course (may_end _ (c.may_send.ensures.0 c.if-may_send.true)) _ _ _ c.outs-test.true c.in_ok-put_out.ensures.course;
+  went = due_then _ _ _ _ _ _ _ _ _ _ c.outs.invariant.went (may_end _ (c.may_send.ensures.0 c.if-may_send.true)) _ _ _ c.outs-test.true c.in_ok-put_out.ensures.went;
   works = works_then _ _ _ _ _ _ _ _ _ _ _ _ _ _ c.outs.invariant.works c.in_ok-put_out.ensures.works;
 }
 
@@ -73,30 +75,6 @@ returns-after-outs-clause-waits g c = c.outs.invariant.waits
 pub returns-after-outs-clause-works : goal.returns-after-outs-clause-works
 returns-after-outs-clause-works g c = c.outs.invariant.works
 
-pub returns-in_err-out-clause-stops : goal.returns-in_err-out-clause-stops
-returns-in_err-out-clause-stops g c =
-    λ may. on_err _ _ (outs_stop_there _ _ _ _ _ _ _ _ _ _ c.outs.invariant.course)
-
-pub returns-in_default-clause-course : goal.returns-in_default-clause-course
-returns-in_default-clause-course g c = λ may.
-    let due = due_told c.outs.store.state _ _ _ _ c.state.ensures c.in_ok-out.ensures.due (g.C.Clients.meaning c.args.clients.now) c.outs.invariant.able.ready.knows in
-    outs_end _ _ _ _ _ _ _ _ _ _ c.outs.invariant.course
-    (λ open_is room rest. none_due (g.C.Clients.meaning c.args.clients.now) c.outs.store.state.facts c.outs.link.session.number c.args.now (sym due ∙ option_none _ c.in_default.not-Some) room)
-
-pub returns-in_err-put_out-clause-stops : goal.returns-in_err-put_out-clause-stops
-returns-in_err-put_out-clause-stops g c = λ may.
-    on_err _ _
-    (outs_stop _ _ _ _ _ _ _ _ _ _ c.outs.invariant.course (may_end _ (c.may_send.ensures.0 c.if-may_send.true)) _ _ c.outs-test.true c.in_err-put_out.ensures.stops)
-
-pub returns-else-may_send-clause-course : goal.returns-else-may_send-clause-course
-returns-else-may_send-clause-course g c = λ may.
-    outs_end _ _ _ _ _ _ _ _ _ _ c.outs.invariant.course
-    (λ open_is room rest. absurd (false≢true (sym (may_not_end _ (λ yes. let is = c.may_send.ensures.1 yes in let no = c.if-may_send.false in cc)) ∙ open_is)))
-
-pub returns-after-outs-clause-course : goal.returns-after-outs-clause-course
-returns-after-outs-clause-course g c = λ may.
-    outs_end _ _ _ _ _ _ _ _ _ _ c.outs.invariant.course (λ open_is room rest. full (g.C.Clients.meaning c.args.clients.now) c.outs.store.state.facts c.outs.link.session.number c.args.now c.outs.made c.outs-test.false room rest)
-
 pub returns-in_err-out-clause-run : goal.returns-in_err-out-clause-run
 returns-in_err-out-clause-run g c = c.outs.invariant.run
 
@@ -113,11 +91,32 @@ returns-else-may_send-clause-run g c = c.outs.invariant.run
 pub returns-after-outs-clause-run : goal.returns-after-outs-clause-run
 returns-after-outs-clause-run g c = c.outs.invariant.run
 
-pub returns-in_err-put_out-clause-full : goal.returns-in_err-put_out-clause-full
-returns-in_err-put_out-clause-full g c = λ may is.
-    outs_full _ _ _ _ _ _ _ _ _ _ c.outs.invariant.course (may_end _ (c.may_send.ensures.0 c.if-may_send.true)) _ _ c.outs-test.true
-    (c.in_err-put_out.ensures.full (ap (λ e. Err e) (err_was _ c.in_err-put_out.field-0.0 _ c.from_residual-in_err-put_out.ensures.1 is)))
-
 pub returns-in_err-put_out-clause-sent : goal.returns-in_err-put_out-clause-sent
 returns-in_err-put_out-clause-sent g c = λ is.
     stops_then _ _ _ _ _ _ _ _ _ _ _ _ c.outs.invariant.works (c.in_err-put_out.ensures.sent (ap (λ e. Err e) (err_was _ c.in_err-put_out.field-0.0 _ c.from_residual-in_err-put_out.ensures.1 is)))
+
+pub returns-in_err-out-clause-stopped : goal.returns-in_err-out-clause-stopped
+returns-in_err-out-clause-stopped g c = λ may.
+    if_err_was _ fault.Memory _ c.from_residual.ensures.1
+    (due_no_memory _ _ _ _ _ _ _ _ _ _ c.outs.invariant.went c.outs.invariant.able.ready)
+
+pub returns-in_err-put_out-clause-stopped : goal.returns-in_err-put_out-clause-stopped
+returns-in_err-put_out-clause-stopped g c = λ may.
+    if_err_was _ c.in_err-put_out.field-0.0 _ c.from_residual-in_err-put_out.ensures.1
+    (due_stops _ _ _ _ _ _ _ _ _ _ c.outs.invariant.went (may_end _ (c.may_send.ensures.0 c.if-may_send.true)) _ _ _ _
+    c.outs-test.true c.in_err-put_out.ensures.stopped)
+
+pub returns-in_default-clause-went : goal.returns-in_default-clause-went
+returns-in_default-clause-went g c = λ may.
+    let due = due_told c.outs.store.state _ _ _ _ c.state.ensures c.in_ok-out.ensures.due (g.C.Clients.meaning c.args.clients.now) c.outs.invariant.able.ready.knows in
+    due_end _ _ _ _ _ _ _ _ _ _ c.outs.invariant.went
+    (λ open_is room rest. none_due (g.C.Clients.meaning c.args.clients.now) c.outs.store.state.facts c.outs.link.session.number c.args.now (sym due ∙ option_none _ c.in_default.not-Some) room)
+
+pub returns-else-may_send-clause-went : goal.returns-else-may_send-clause-went
+returns-else-may_send-clause-went g c = λ may.
+    due_end _ _ _ _ _ _ _ _ _ _ c.outs.invariant.went
+    (λ open_is room rest. absurd (false≢true (sym (may_not_end _ (λ yes. let is = c.may_send.ensures.1 yes in let no = c.if-may_send.false in cc)) ∙ open_is)))
+
+pub returns-after-outs-clause-went : goal.returns-after-outs-clause-went
+returns-after-outs-clause-went g c = λ may.
+    due_end _ _ _ _ _ _ _ _ _ _ c.outs.invariant.went (λ open_is room rest. full (g.C.Clients.meaning c.args.clients.now) c.outs.store.state.facts c.outs.link.session.number c.args.now c.outs.made c.outs-test.false room rest)

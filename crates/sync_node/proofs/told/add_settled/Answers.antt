@@ -1,5 +1,6 @@
 use Rattle.std.proofs.Common.{Err, ap, ◌∙◌}
 use Rattle.sync_node.proofs.AddLaws.{extended, extended_goes, extended_leads, extended_within, plain_kind, plain_own}
+use Rattle.sync_node.proofs.BatchLaws.{add_breaks, add_by, add_did, add_full}
 use Rattle.sync_node.proofs.told.add_settled.Goals as goal
 
 pub extend-requires-clause-kind : goal.extend-requires-clause-kind
@@ -96,3 +97,23 @@ returns-in-Err-DiskFault-clause-within g c = extended_within _ c.args.batch _ _ 
 
 pub returns-in-Err-Full-clause-within : goal.returns-in-Err-Full-clause-within
 returns-in-Err-Full-clause-within g c = extended_within _ c.args.batch _ _ _ _ _ (c.in-Err-Full.ensures.extended c.requires.ready.still_open)
+
+pub returns-in-Ok-clause-went : goal.returns-in-Ok-clause-went
+returns-in-Ok-clause-went g c =
+    add_did _ c.args.batch _ _ _ _ _ c.requires.ready (c.in-Ok.ensures.extended c.requires.ready.still_open) c.in-Ok.ensures.ready
+
+pub returns-in-Err-Memory-clause-stopped : goal.returns-in-Err-Memory-clause-stopped
+returns-in-Err-Memory-clause-stopped g c =
+    let has = rw c.in-Err-Memory.field-0-is at (c.in-Err-Memory.ensures.extended c.requires.ready.still_open) in
+    add_by _ c.args.batch _ _ _ _ _ c.requires.ready has has.answer.0 c.in-Err-Memory.ensures.ready
+
+pub returns-in-Err-DiskFault-clause-stopped : goal.returns-in-Err-DiskFault-clause-stopped
+returns-in-Err-DiskFault-clause-stopped g c =
+    add_breaks _ c.args.batch _ _ _ _ _ c.requires.ready (c.in-Err-DiskFault.ensures.extended c.requires.ready.still_open)
+    (c.in-Err-DiskFault.ensures.fault (ap (λ e. Err e) c.in-Err-DiskFault.field-0-is))
+
+pub returns-in-Err-Full-clause-stopped : goal.returns-in-Err-Full-clause-stopped
+returns-in-Err-Full-clause-stopped g c =
+    let has = rw c.in-Err-Full.field-0-is at (c.in-Err-Full.ensures.extended c.requires.ready.still_open) in
+    add_full _ c.args.batch _ _ _ _ _ c.requires.ready has has.answer.1 has.answer.0
+    (has.answer.2.closed ∙ c.requires.ready.still_open) c.in-Err-Full.ensures.ready

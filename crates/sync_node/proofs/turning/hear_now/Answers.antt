@@ -1,6 +1,6 @@
 use Rattle.sync_node.proofs.WorkLaws.{works_none}
-use Rattle.sync_node.proofs.CourseTurns.{hears_nothing}
 use Rattle.sync_node.proofs.CauseLaws.{link_none}
+use Rattle.sync_node.proofs.HearActs.{hear_nothing}
 use Rattle.sync_node.proofs.turning.hear_now.Goals as goal
 
 pub returns-then-not-is_asked-clause-able : goal.returns-then-not-is_asked-clause-able
@@ -24,24 +24,21 @@ returns-clause-works g c = c.receive_on.ensures.works
 pub returns-clause-stays : goal.returns-clause-stays
 returns-clause-stays g c = c.receive_on.ensures.stays
 
-pub returns-then-not-is_asked-clause-course : goal.returns-then-not-is_asked-clause-course
-returns-then-not-is_asked-clause-course g c = λ whole.
-    hears_nothing _ _ _ _ _ (λ going. let yes = c.is_asked.ensures.1 going in let no = c.if-not-is_asked.true in cc)
-
-pub returns-clause-course : goal.returns-clause-course
-returns-clause-course g c = c.receive_on.ensures.course
-
-pub returns-clause-stops : goal.returns-clause-stops
-returns-clause-stops g c = c.receive_on.ensures.stops
-
 pub returns-then-not-is_asked-clause-run : goal.returns-then-not-is_asked-clause-run
 returns-then-not-is_asked-clause-run g c = link_none _ _ _
 
 pub returns-clause-run : goal.returns-clause-run
 returns-clause-run g c = c.receive_on.ensures.run
 
-pub returns-clause-full : goal.returns-clause-full
-returns-clause-full g c = c.receive_on.ensures.full
-
 pub returns-clause-sent : goal.returns-clause-sent
 returns-clause-sent g c = c.receive_on.ensures.sent
+
+pub returns-then-not-is_asked-clause-went : goal.returns-then-not-is_asked-clause-went
+returns-then-not-is_asked-clause-went g c = λ whole.
+    hear_nothing _ _ _ _ _ (λ going. let yes = c.is_asked.ensures.1 going in let no = c.if-not-is_asked.true in cc)
+
+pub returns-clause-went : goal.returns-clause-went
+returns-clause-went g c = c.receive_on.ensures.went
+
+pub returns-clause-stopped : goal.returns-clause-stopped
+returns-clause-stopped g c = c.receive_on.ensures.stopped

@@ -1,11 +1,11 @@
 use Rattle.sync_node.proofs.WorkLaws.{able_calm, on_err_then, on_ok, stays_then, works_clock, works_none, works_then}
-use Rattle.sync_node.proofs.CourseTurns.{if_ok_then, sends_closed, sends_read, sends_stop}
+use Rattle.sync_node.proofs.CourseTurns.{if_ok_then}
 use Rattle.std.proofs.Common.{refl}
 use Rattle.sync_node.proofs.CauseLaws.{link_kept, link_none, link_then}
 use Rattle.sync_node.proofs.WorkLaws.{goes_read}
-use Rattle.sync_node.proofs.CourseTurns.{sends_full}
 use Rattle.sync_node.proofs.StopLaws.{stops_then}
-use Rattle.sync_node.proofs.CourseLaws.{quiet_most}
+use Rattle.sync_node.proofs.SendActs.{sending_closed, sending_read, sending_stops}
+use Rattle.sync_node.proofs.Undone.{if_err_then}
 use Rattle.sync_node.proofs.turning.send_now.Goals as goal
 
 pub returns-then-not-may_send-clause-able : goal.returns-then-not-may_send-clause-able
@@ -42,22 +42,6 @@ returns-clause-stays g c =
     (stays_then _ _ _ _ _ _ _ _ _ _ _ _ (works_clock c.cite_laws.ensures.fronts _ _ _ _ _ _ _ _ c.now-now.ensures.call c.now-now.ensures.links))
     c.send_all.ensures.stays
 
-pub returns-then-not-may_send-clause-course : goal.returns-then-not-may_send-clause-course
-returns-then-not-may_send-clause-course g c =
-    sends_closed _ _ _ _ _ (λ may. let yes = c.may_send.ensures.1 may in let no = c.if-not-may_send.true in cc)
-
-pub returns-clause-course : goal.returns-clause-course
-returns-clause-course g c =
-    let may = c.may_send.ensures.0 c.if-not-may_send.false in
-    if_ok_then c.send_all.result _ _
-    (λ made sent. sends_read _ _ _ _ _ _ _ may c.now-now.ensures.links c.now-now.ensures.call.same_files (quiet_most _ _ _ c.now-now.ensures.call) _ _ _ made sent) (c.send_all.ensures.course may)
-
-pub returns-clause-halts : goal.returns-clause-halts
-returns-clause-halts g c =
-    let may = c.may_send.ensures.0 c.if-not-may_send.false in
-    on_err_then c.send_all.result _ _
-    (sends_stop _ _ _ _ _ _ _ may c.now-now.ensures.links c.now-now.ensures.call.same_files (quiet_most _ _ _ c.now-now.ensures.call) _ _) (c.send_all.ensures.stops may)
-
 pub returns-then-not-may_send-clause-run : goal.returns-then-not-may_send-clause-run
 returns-then-not-may_send-clause-run g c = link_none _ _ _
 
@@ -65,11 +49,24 @@ pub returns-clause-run : goal.returns-clause-run
 returns-clause-run g c =
     link_then _ _ _ _ _ _ _ (link_kept _ _ _ _ _ (goes_read _ _ _ c.now-now.ensures.call c.now-now.ensures.links) refl refl) c.send_all.ensures.run
 
-pub returns-clause-full : goal.returns-clause-full
-returns-clause-full g c = λ is.
-    let may = c.may_send.ensures.0 c.if-not-may_send.false in
-    sends_full _ _ _ _ _ _ _ may c.now-now.ensures.links c.now-now.ensures.call.same_files (quiet_most _ _ _ c.now-now.ensures.call) _ _ (c.send_all.ensures.full may is)
-
 pub returns-clause-sent : goal.returns-clause-sent
 returns-clause-sent g c = λ is.
     stops_then _ _ _ _ _ _ _ _ _ _ _ _ (works_clock c.cite_laws.ensures.fronts _ _ _ _ _ _ _ _ c.now-now.ensures.call c.now-now.ensures.links) (c.send_all.ensures.sent is)
+
+pub returns-then-not-may_send-clause-went : goal.returns-then-not-may_send-clause-went
+returns-then-not-may_send-clause-went g c =
+    sending_closed _ _ _ _ _ (λ may. let yes = c.may_send.ensures.1 may in let no = c.if-not-may_send.true in cc)
+
+pub returns-clause-went : goal.returns-clause-went
+returns-clause-went g c =
+    let may = c.may_send.ensures.0 c.if-not-may_send.false in
+    if_ok_then c.send_all.result _ _
+    (λ made sent. sending_read _ _ _ _ _ _ _ may c.now-now.ensures.links c.now-now.ensures.call _ _ _ made sent)
+    (c.send_all.ensures.went may)
+
+pub returns-clause-stopped : goal.returns-clause-stopped
+returns-clause-stopped g c =
+    let may = c.may_send.ensures.0 c.if-not-may_send.false in
+    if_err_then c.send_all.result _ _
+    (λ e sent. sending_stops _ _ _ _ _ _ _ may c.now-now.ensures.links c.now-now.ensures.call _ _ _ e sent)
+    (c.send_all.ensures.stopped may)

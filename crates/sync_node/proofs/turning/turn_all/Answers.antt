@@ -1,11 +1,12 @@
 use Rattle.std.proofs.Common.{arith, ◌∙◌}
 use Rattle.sync_node.proofs.NodeLaws.{links_closed, links_may, links_then}
-use Rattle.sync_node.proofs.CourseCalls.{turn_halted, turn_made}
 use Rattle.sync_node.proofs.WorkLaws.{on_err}
 use Rattle.sync_node.proofs.CauseLaws.{links_go_closed, sessions_closed}
 use Rattle.std.proofs.Common.{Err, ap}
 use Rattle.sync_node.proofs.WorkLaws.{err_was}
 use Rattle.sync_node.proofs.CourseCalls.{turn_limit}
+use Rattle.sync_node.proofs.RunActLaws.{round_stopped, round_went}
+use Rattle.sync_node.proofs.Undone.{if_err_was}
 use Rattle.sync_node.proofs.turning.turn_all.Goals as goal
 
 pub returns-in_err-still-clause-safe : goal.returns-in_err-still-clause-safe
@@ -20,15 +21,6 @@ returns-clause-works g c = λ first attached.
 pub returns-clause-may : goal.returns-clause-may
 returns-clause-may g c =
     links_may _ _ _ _ _ c.close_redundant.ensures.some.same_number c.in_ok-still.ensures.may
-
-pub returns-in_err-still-clause-halts : goal.returns-in_err-still-clause-halts
-returns-in_err-still-clause-halts g c = λ first attached whole.
-    on_err _ _ (turn_halted _ first _ _ _ _ _ (c.in_err-still.ensures.halts first attached whole))
-
-pub returns-clause-course : goal.returns-clause-course
-returns-clause-course g c = λ first attached whole.
-    turn_made _ first _ _ c.turn_each.new.links _ _ _ _ _ c.in_ok-still.still (omega (arith, c.turn_each.auto.links))
-    (c.in_ok-still.ensures.course first attached whole) c.close_redundant.ensures.some c.close_redundant.ensures.exact
 
 pub returns-in_err-still-clause-run : goal.returns-in_err-still-clause-run
 returns-in_err-still-clause-run g c = c.turn_each.ensures.run
@@ -47,3 +39,13 @@ returns-in_err-still-clause-sent g c = λ first attached is. c.in_err-still.ensu
 pub returns-clause-sessions : goal.returns-clause-sessions
 returns-clause-sessions g c =
     sessions_closed c.turn_each.new.links _ c.close_redundant.ensures.some ∙ c.turn_each.ensures.sessions
+
+pub returns-in_err-still-clause-stopped : goal.returns-in_err-still-clause-stopped
+returns-in_err-still-clause-stopped g c = λ first attached whole.
+    if_err_was _ c.in_err-still.field-0.0 _ c.from_residual.ensures.1
+    (round_stopped _ first _ _ _ _ _ _ _ (c.in_err-still.ensures.stopped first attached whole))
+
+pub returns-clause-went : goal.returns-clause-went
+returns-clause-went g c = λ first attached whole.
+    round_went _ first _ _ c.turn_each.new.links _ _ _ _ _ c.in_ok-still.still (omega (arith, c.turn_each.auto.links))
+    (c.in_ok-still.ensures.went first attached whole) c.close_redundant.ensures.some c.close_redundant.ensures.exact

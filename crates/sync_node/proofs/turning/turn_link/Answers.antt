@@ -1,10 +1,10 @@
 use Rattle.sync_node.proofs.WorkLaws.{on_err, stays_then, works_then}
-use Rattle.sync_node.proofs.CourseTurns.{turn_loud, turn_quiet, turn_stops}
 use Rattle.sync_node.proofs.CauseLaws.{link_then}
 use Rattle.std.proofs.Common.{Err, ap}
 use Rattle.sync_node.proofs.WorkLaws.{err_was}
-use Rattle.sync_node.proofs.CourseTurns.{turn_full}
 use Rattle.sync_node.proofs.StopLaws.{stops_then}
+use Rattle.sync_node.proofs.TurnActs.{turned_loud, turned_quiet, turned_stops}
+use Rattle.sync_node.proofs.Undone.{if_err_was}
 use Rattle.sync_node.proofs.turning.turn_link.Goals as goal
 
 pub returns-in_err-quiet-clause-stays : goal.returns-in_err-quiet-clause-stays
@@ -40,21 +40,6 @@ pub returns-else-quiet-clause-works : goal.returns-else-quiet-clause-works
 returns-else-quiet-clause-works g c =
     works_then _ _ _ _ _ _ _ _ _ _ _ _ _ _ c.in_ok-quiet.ensures.works c.in_ok-made.ensures.works
 
-pub returns-in_err-quiet-clause-halts : goal.returns-in_err-quiet-clause-halts
-returns-in_err-quiet-clause-halts g c = λ whole. on_err _ _ (c.in_err-quiet.ensures.stops whole)
-
-pub returns-in_err-made-clause-halts : goal.returns-in_err-made-clause-halts
-returns-in_err-made-clause-halts g c = λ whole.
-    on_err _ _ (turn_stops _ _ _ _ _ _ _ _ _ c.in_ok-quiet.ensures.works.same_session (c.in_ok-quiet.ensures.course whole) _ _ c.in_err-made.ensures.halts)
-
-pub returns-then-quiet-clause-course : goal.returns-then-quiet-clause-course
-returns-then-quiet-clause-course g c = λ whole.
-    turn_quiet _ _ _ _ _ _ _ _ _ c.in_ok-quiet.ensures.works.same_session (c.in_ok-quiet.ensures.course whole) _ _ _ _ c.if-quiet.true c.in_ok-made.ensures.course
-
-pub returns-else-quiet-clause-course : goal.returns-else-quiet-clause-course
-returns-else-quiet-clause-course g c = λ whole.
-    turn_loud _ _ _ _ _ _ _ _ _ c.in_ok-quiet.ensures.works.same_session (c.in_ok-quiet.ensures.course whole) _ _ _ _ c.if-quiet.false c.in_ok-made.ensures.course
-
 pub returns-in_err-quiet-clause-run : goal.returns-in_err-quiet-clause-run
 returns-in_err-quiet-clause-run g c = c.hear_now.ensures.run
 
@@ -70,18 +55,30 @@ pub returns-else-quiet-clause-run : goal.returns-else-quiet-clause-run
 returns-else-quiet-clause-run g c =
     link_then _ _ _ _ _ _ _ c.hear_now.ensures.run c.send_now.ensures.run
 
-pub returns-in_err-quiet-clause-full : goal.returns-in_err-quiet-clause-full
-returns-in_err-quiet-clause-full g c =
-    λ whole is. c.in_err-quiet.ensures.full whole (ap (λ e. Err e) (err_was _ c.in_err-quiet.field-0.0 _ c.from_residual.ensures.1 is))
-
-pub returns-in_err-made-clause-full : goal.returns-in_err-made-clause-full
-returns-in_err-made-clause-full g c = λ whole is.
-    turn_full _ _ _ _ _ _ _ _ _ c.in_ok-quiet.ensures.works.same_session (c.in_ok-quiet.ensures.course whole) _ _
-    (c.in_err-made.ensures.full (ap (λ e. Err e) (err_was _ c.in_err-made.field-0.0 _ c.from_residual-in_err-made.ensures.1 is)))
-
 pub returns-in_err-quiet-clause-sent : goal.returns-in_err-quiet-clause-sent
 returns-in_err-quiet-clause-sent g c = λ is. c.in_err-quiet.ensures.sent (ap (λ e. Err e) (err_was _ c.in_err-quiet.field-0.0 _ c.from_residual.ensures.1 is))
 
 pub returns-in_err-made-clause-sent : goal.returns-in_err-made-clause-sent
 returns-in_err-made-clause-sent g c = λ is.
     stops_then _ _ _ _ _ _ _ _ _ _ _ _ c.in_ok-quiet.ensures.works (c.in_err-made.ensures.sent (ap (λ e. Err e) (err_was _ c.in_err-made.field-0.0 _ c.from_residual-in_err-made.ensures.1 is)))
+
+pub returns-in_err-quiet-clause-stopped : goal.returns-in_err-quiet-clause-stopped
+returns-in_err-quiet-clause-stopped g c = λ whole.
+    if_err_was _ c.in_err-quiet.field-0.0 _ c.from_residual.ensures.1
+    (c.in_err-quiet.ensures.stopped whole)
+
+pub returns-in_err-made-clause-stopped : goal.returns-in_err-made-clause-stopped
+returns-in_err-made-clause-stopped g c = λ whole.
+    if_err_was _ c.in_err-made.field-0.0 _ c.from_residual-in_err-made.ensures.1
+    (turned_stops _ _ _ _ _ _ _ _ _ c.in_ok-quiet.ensures.works.same_session (c.in_ok-quiet.ensures.went whole) _ _ _ _
+    c.in_err-made.ensures.stopped)
+
+pub returns-then-quiet-clause-went : goal.returns-then-quiet-clause-went
+returns-then-quiet-clause-went g c = λ whole.
+    turned_quiet _ _ _ _ _ _ _ _ _ c.in_ok-quiet.ensures.works.same_session (c.in_ok-quiet.ensures.went whole) _ _ _ _
+    c.if-quiet.true c.in_ok-made.ensures.went
+
+pub returns-else-quiet-clause-went : goal.returns-else-quiet-clause-went
+returns-else-quiet-clause-went g c = λ whole.
+    turned_loud _ _ _ _ _ _ _ _ _ c.in_ok-quiet.ensures.works.same_session (c.in_ok-quiet.ensures.went whole) _ _ _ _
+    c.if-quiet.false c.in_ok-made.ensures.went

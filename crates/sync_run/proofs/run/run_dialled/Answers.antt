@@ -111,12 +111,12 @@ returns-in_err-close-in-Ok-clause-course g c = λ j fit.
     passed (λ r. RunsOver (g.C.Clients.meaning c.args.clients.now) c.args.limits (sessions_from (facts j).begun c.args.links.now) j (g.H.Disk.tells c.args.host.now) (g.H.Disk.tells c.run_node.new.host) r)
     c.from_residual-in_err-close-in-Ok.result outcome.Memory c.from_residual-in_err-close-in-Ok.ensures.1
     (over_unclosed _ c.args.limits c.args.links.now _ _ _ _ c.in_ok-migrate_and_settle.field-0 c.migrate_and_settle.ensures.run c.in_ok-migrate_and_settle.ensures.settled j fit c.in_ok-node.node
-    (ap (λ (n : NodeValue). n.store) c.in_ok-node.ensures) _ _ _ c.in-Ok.over c.in-Ok.ensures.course)
+    (ap (λ (n : NodeValue). n.store) c.in_ok-node.ensures) _ _ _ c.in-Ok.over c.in-Ok.ensures.went)
 
 pub returns-in-Ok-clause-course : goal.returns-in-Ok-clause-course
 returns-in-Ok-clause-course g c = λ j fit.
     over_closed _ c.args.limits c.args.links.now _ _ _ _ c.in_ok-migrate_and_settle.field-0 c.migrate_and_settle.ensures.run c.in_ok-migrate_and_settle.ensures.settled j fit c.in_ok-node.node
-    (ap (λ (n : NodeValue). n.store) c.in_ok-node.ensures) _ _ _ c.in-Ok.over c.in-Ok.ensures.course c.runs_end_quiet.ensures c.in_ok-close-in-Ok.field-0 c.in_ok-close-in-Ok.ensures
+    (ap (λ (n : NodeValue). n.store) c.in_ok-node.ensures) _ _ _ c.in-Ok.over c.in-Ok.ensures.went c.runs_end_quiet.ensures c.in_ok-close-in-Ok.field-0 c.in_ok-close-in-Ok.ensures
 
 pub returns-in-Ok-clause-caused : goal.returns-in-Ok-clause-caused
 returns-in-Ok-clause-caused g c =
@@ -126,12 +126,12 @@ returns-in-Ok-clause-caused g c =
 pub returns-in-Err-Memory-clause-course : goal.returns-in-Err-Memory-clause-course
 returns-in-Err-Memory-clause-course g c = λ j fit.
     over_broken _ c.args.limits c.args.links.now _ _ _ _ c.in_ok-migrate_and_settle.field-0 c.migrate_and_settle.ensures.run c.in_ok-migrate_and_settle.ensures.settled j fit c.in_ok-node.node
-    (ap (λ (n : NodeValue). n.store) c.in_ok-node.ensures) _ c.in-Err-Memory.ensures.halts
+    (ap (λ (n : NodeValue). n.store) c.in_ok-node.ensures) _ _ _ c.in-Err-Memory.ensures.stopped
 
 pub returns-in-Err-DiskFault-clause-course : goal.returns-in-Err-DiskFault-clause-course
 returns-in-Err-DiskFault-clause-course g c = λ j fit.
     over_broken _ c.args.limits c.args.links.now _ _ _ _ c.in_ok-migrate_and_settle.field-0 c.migrate_and_settle.ensures.run c.in_ok-migrate_and_settle.ensures.settled j fit c.in_ok-node.node
-    (ap (λ (n : NodeValue). n.store) c.in_ok-node.ensures) _ c.in-Err-DiskFault.ensures.halts
+    (ap (λ (n : NodeValue). n.store) c.in_ok-node.ensures) _ _ _ c.in-Err-DiskFault.ensures.stopped
 
 pub returns-in-Err-Full-clause-course : goal.returns-in-Err-Full-clause-course
 returns-in-Err-Full-clause-course g c = λ j fit.

@@ -1,10 +1,9 @@
-use Rattle.sync_node.proofs.Halts.{beginning_breaks}
 use Rattle.std.proofs.Common.{ℕ, ◌+◌, List, drop, length, arith, refl, sym, ap, ◌∙◌}
 use Rattle.sync_rules.specs.Facts.{Facts}
 use Rattle.sync_node.specs.declared.link.Link.{Link}
 use Rattle.sync_run.specs.Parts.{sessions_from}
 use Rattle.sync_run.proofs.CauseLaws.{causes_then, goes_none, goes_then, no_causes}
-use Rattle.sync_run.proofs.CourseParts.{err_same, attached_all, attaching_full, attached_more, attaching_broken, is_node_without, no_session_yet, on_err}
+use Rattle.sync_run.proofs.CourseParts.{attached_all, attached_more, attaching_full, attaching_stopped, err_same, if_err_was, is_node_without, no_session_yet}
 use Rattle.sync_run.proofs.SafeTurns.{begun_all, begun_attached, begun_end, begun_left, begun_next, begun_none, begun_planned, item_may}
 use Rattle.std.proofs.Common.{Err}
 use Rattle.sync_run.proofs.SafeFull.{err_was, sessions_sent}
@@ -12,7 +11,7 @@ use Rattle.sync_run.proofs.sessions.attach_all.Goals as goal
 
 pub links-init : goal.links-init
 links-init g c = record {
-  course = no_session_yet _ _ _ _ _ c.requires.none;
+  went = no_session_yet _ _ _ _ _ c.requires.none;
   cause = no_causes _ (g.H.Disk.tells c.args.host.now);
   run = goes_none (g.H.Disk.tells c.args.host.now);
   limit = refl;
@@ -29,11 +28,11 @@ links-init g c = record {
 
 pub links-preserved : goal.links-preserved
 links-preserved g c = record {
-  course =
+  went =
       attached_more _ (sessions_from c.args.node.now.store.state.facts.begun c.args.links.now) c.args.links.now c.args.node.now.store.state.facts.begun c.links.link-index
       c.link-item.result _ _ _ _ _
-      (omega (arith, (c.links.invariant.node.attached c.links.invariant.still_open).begun, c.links.invariant.same_first, c.requires.first, c.links.invariant.numbered, c.links.invariant.count)) c.links-test.true c.link-item.is c.links.invariant.course _ _ _ (ap (λ (f : Facts). f.begun) c.in_ok-attach.ensures.facts)
-      c.in_ok-attach.ensures.run.same_files (c.in_ok-attach.ensures.course c.links.invariant.still_open);
+      (omega (arith, (c.links.invariant.node.attached c.links.invariant.still_open).begun, c.links.invariant.same_first, c.requires.first, c.links.invariant.numbered, c.links.invariant.count)) c.links-test.true c.link-item.is refl (omega (arith, c.links.invariant.numbered, c.links.invariant.count)) c.links.invariant.went _ _ _ (ap (λ (f : Facts). f.begun) c.in_ok-attach.ensures.facts)
+      c.in_ok-attach.ensures.run.same_files (c.in_ok-attach.ensures.went c.links.invariant.still_open);
   cause = causes_then _ _ _ _ _ _ c.links.invariant.run c.in_ok-attach.ensures.run c.links.invariant.cause c.in_ok-attach.ensures.cause;
   run = goes_then _ _ _ c.links.invariant.run c.in_ok-attach.ensures.run;
   limit = c.in_ok-attach.ensures.limit ∙ c.links.invariant.limit;
@@ -51,15 +50,16 @@ links-preserved g c = record {
       c.in_ok-attach.ensures.safe c.in_ok-attach.ensures.joined c.in_ok-attach.ensures.facts;
 }
 
-pub returns-in_err-attach-clause-halts : goal.returns-in_err-attach-clause-halts
-returns-in_err-attach-clause-halts g c =
-    on_err c.from_residual.result
-    (attaching_broken _ (sessions_from c.args.node.now.store.state.facts.begun c.args.links.now) c.args.links.now c.args.node.now.store.state.facts.begun c.links.link-index
+pub returns-in_err-attach-clause-stopped : goal.returns-in_err-attach-clause-stopped
+returns-in_err-attach-clause-stopped g c =
+    if_err_was c.from_residual.result c.in_err-attach.field-0.0 _ c.from_residual.ensures.1
+    (attaching_stopped _ (sessions_from c.args.node.now.store.state.facts.begun c.args.links.now) c.args.links.now c.args.node.now.store.state.facts.begun c.links.link-index
     c.link-item.result _ _ _ _ _
-    (omega (arith, (c.links.invariant.node.attached c.links.invariant.still_open).begun, c.links.invariant.same_first, c.requires.first, c.links.invariant.numbered, c.links.invariant.count)) c.links-test.true c.link-item.is c.links.invariant.course _ (beginning_breaks _ _ _ _ _ _ _ (c.in_err-attach.ensures.halts c.links.invariant.still_open)))
+    (omega (arith, (c.links.invariant.node.attached c.links.invariant.still_open).begun, c.links.invariant.same_first, c.requires.first, c.links.invariant.numbered, c.links.invariant.count)) c.links-test.true c.link-item.is refl (omega (arith, c.links.invariant.numbered, c.links.invariant.count)) c.links.invariant.went
+    c.attach.new.self.links c.attach.new.self.store (g.H.Disk.tells c.attach.new.host) c.in_err-attach.field-0.0 (c.in_err-attach.ensures.stopped c.links.invariant.still_open))
 
-pub returns-clause-course : goal.returns-clause-course
-returns-clause-course g c = attached_all _ _ c.args.links.now c.links.link-index _ _ _ _ _ c.links-test.false c.links.invariant.course
+pub returns-clause-went : goal.returns-clause-went
+returns-clause-went g c = attached_all _ _ c.args.links.now c.links.link-index _ _ _ _ _ c.links-test.false c.links.invariant.went
 
 pub returns-in_err-attach-clause-run : goal.returns-in_err-attach-clause-run
 returns-in_err-attach-clause-run g c = goes_then _ _ _ c.links.invariant.run c.in_err-attach.ensures.run
@@ -118,6 +118,6 @@ pub returns-in_err-attach-clause-full : goal.returns-in_err-attach-clause-full
 returns-in_err-attach-clause-full g c = λ is.
     attaching_full _ (sessions_from c.args.node.now.store.state.facts.begun c.args.links.now) c.args.links.now c.args.node.now.store.state.facts.begun c.links.link-index
     c.link-item.result _ _ _ _ _
-    (omega (arith, (c.links.invariant.node.attached c.links.invariant.still_open).begun, c.links.invariant.same_first, c.requires.first, c.links.invariant.numbered, c.links.invariant.count)) c.links-test.true c.link-item.is c.links.invariant.course c.links.node.first c.args.node.now.links _ _
+    (omega (arith, (c.links.invariant.node.attached c.links.invariant.still_open).begun, c.links.invariant.same_first, c.requires.first, c.links.invariant.numbered, c.links.invariant.count)) c.links-test.true c.link-item.is refl (omega (arith, c.links.invariant.numbered, c.links.invariant.count)) c.links.invariant.went c.links.node.first c.args.node.now.links _ _
     (c.links.invariant.same_first ∙ sym c.requires.first) (c.links.invariant.node.attached c.links.invariant.still_open) c.requires.none c.links.invariant.begun.joined
     (c.in_err-attach.ensures.full (err_same c.from_residual.result c.in_err-attach.field-0.0 _ c.from_residual.ensures.1 is))

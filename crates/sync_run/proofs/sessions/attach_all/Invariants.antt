@@ -9,7 +9,7 @@ use Rattle.sync_run.proofs.sessions.attach_all.Given as goal
 
 abbrev pub invariant-links : goal.invariant-links
 invariant-links g l = record {
-  course : SessionsSoFar (g.C.Clients.meaning l.clients) (sessions_from l.initial.node.store.state.facts.begun l.links)
+  went : SessionsSoFar (g.C.Clients.meaning l.clients) (sessions_from l.initial.node.store.state.facts.begun l.links)
       (sessions_from l.node.store.state.facts.begun (drop l.link-index l.links)) l.node.links
       l.initial.node.store l.node.store (g.H.Disk.tells l.initial.host) (g.H.Disk.tells l.host);
   cause : FailByCause l.initial.node.links l.node.links (g.H.Disk.tells l.initial.host) (g.H.Disk.tells l.host);

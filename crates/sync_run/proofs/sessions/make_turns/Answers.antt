@@ -1,9 +1,8 @@
-use Rattle.sync_node.proofs.Halts.{turn_breaks}
 use Rattle.std.proofs.Common.{◌+◌, true, false, arith, refl, sym, ◌∙◌, inl, inr}
 use Rattle.std.proofs.lemmas.Bool.{le-leb}
 use Rattle.sync_node.specs.Node.{asked_among}
 use Rattle.sync_run.proofs.CauseLaws.{causes_then, goes_none, goes_then, no_causes}
-use Rattle.sync_run.proofs.CourseParts.{err_same, CountsStill, few_behind, no_turn_yet, on_err, over_asked, still_behind, turn_broken, turn_full, turn_more, turns_end}
+use Rattle.sync_run.proofs.CourseParts.{err_same, CountsStill, few_behind, if_err_was, no_turn_yet, over_asked, still_behind, turn_full, turn_more, turns_end, turns_stopped}
 use Rattle.sync_run.proofs.SafeTurns.{kept_none, kept_then, safe_none, safe_then}
 use Rattle.std.proofs.Common.{Err, ap}
 use Rattle.sync_run.proofs.SafeFull.{err_was, sends_then}
@@ -12,7 +11,7 @@ use Rattle.sync_run.proofs.sessions.make_turns.Goals.{in-Still, in-Moving}
 
 pub turns-init : goal.turns-init
 turns-init g c = record {
-  course = λ heard read. no_turn_yet _ c.args.limits c.args.node.now.first _ _ _ heard read;
+  went = λ heard read. no_turn_yet _ c.args.limits c.args.node.now.first _ _ _ heard read;
   goes_on = refl;
   cause = no_causes _ (g.H.Disk.tells c.args.host.now);
   run = goes_none (g.H.Disk.tells c.args.host.now);
@@ -27,23 +26,22 @@ turns-init g c = record {
   safe = safe_none _ _ _;
 }
 
-pub returns-in_err-turn-clause-halts : goal.returns-in_err-turn-clause-halts
-returns-in_err-turn-clause-halts g c =
-    on_err c.from_residual.result (record {
-      stops = λ heard read.
-          turn_broken _ c.args.limits c.args.node.now.first _ _ _ _ _ _ _ _ (c.turns.invariant.course heard read) c.turns.invariant.goes_on c.turns-test.true _ _
-          c.turns.invariant.same_first (turn_breaks _ _ _ _ _ _ _ (c.in_err-turn.ensures.halts c.turns.invariant.still_open));
-    })
+pub returns-in_err-turn-clause-stopped : goal.returns-in_err-turn-clause-stopped
+returns-in_err-turn-clause-stopped g c =
+    if_err_was c.from_residual.result c.in_err-turn.field-0.0 _ c.from_residual.ensures.1
+    (turns_stopped _ c.args.limits c.args.node.now.first c.args.node.now.links c.turns.node.links c.turn.new.self.links c.args.node.now.store c.turns.node.store c.turn.new.self.store
+    _ _ (g.H.Disk.tells c.turn.new.host) c.turns.still c.turns.counter c.in_err-turn.field-0.0 c.turns.invariant.went c.turns.invariant.goes_on c.turns-test.true _
+    c.turns.invariant.same_first (c.in_err-turn.ensures.stopped c.turns.invariant.still_open))
 
-pub returns-then-is_over-clause-course : goal.returns-then-is_over-clause-course
-returns-then-is_over-clause-course g c =
+pub returns-then-is_over-clause-went : goal.returns-then-is_over-clause-went
+returns-then-is_over-clause-went g c =
     let branch : CountsStill c.in_ok-turn.field-0 c.turns.still c.match-branch-2.still =
     elim c.match-branch-2.branch [ in-Still w ↦ inl (w.in-Still.is, w.still-is) | in-Moving w ↦ inr (w.in-Moving.is, w.still-is) ] in
     record {
       ends = λ heard read.
-          let so = turn_more _ c.args.limits c.args.node.now.first _ _ _ _ _ _ _ _ (c.turns.invariant.course heard read) c.turns.invariant.goes_on c.turns-test.true _ _ _ _ _
+          let so = turn_more _ c.args.limits c.args.node.now.first _ _ _ _ _ _ _ _ (c.turns.invariant.went heard read) c.turns.invariant.goes_on c.turns-test.true _ _ _ _ _
           c.match-branch-2.still (c.turns.counter + 1) c.turns.invariant.same_first (still_behind c.in_ok-turn.field-0 c.turns.still c.match-branch-2.still branch) refl
-          (c.in_ok-turn.ensures.course c.turns.invariant.still_open) in
+          (c.in_ok-turn.ensures.went c.turns.invariant.still_open) in
           turns_end _ c.args.limits c.args.node.now.first _ _ _ _ _ _ _ _ so true
           (sym c.if-is_over.true ∙ over_asked _ _ c.args.limits.quiet _ _ (asked_among c.turn.new.self.links) c.is_over.ensures c.from.ensures c.asked.ensures) refl;
     }
@@ -53,10 +51,10 @@ turns-preserved g c =
     let branch : CountsStill c.in_ok-turn.field-0 c.turns.still c.match-branch-2.still =
     elim c.match-branch-2.branch [ in-Still w ↦ inl (w.in-Still.is, w.still-is) | in-Moving w ↦ inr (w.in-Moving.is, w.still-is) ] in
     record {
-      course = λ heard read.
-          turn_more _ c.args.limits c.args.node.now.first _ _ _ _ _ _ _ _ (c.turns.invariant.course heard read) c.turns.invariant.goes_on c.turns-test.true _ _ _ _ _
+      went = λ heard read.
+          turn_more _ c.args.limits c.args.node.now.first _ _ _ _ _ _ _ _ (c.turns.invariant.went heard read) c.turns.invariant.goes_on c.turns-test.true _ _ _ _ _
           c.match-branch-2.still (c.turns.counter + 1) c.turns.invariant.same_first (still_behind c.in_ok-turn.field-0 c.turns.still c.match-branch-2.still branch) refl
-          (c.in_ok-turn.ensures.course c.turns.invariant.still_open);
+          (c.in_ok-turn.ensures.went c.turns.invariant.still_open);
       goes_on = sym (over_asked _ _ c.args.limits.quiet _ _ (asked_among c.turn.new.self.links) c.is_over.ensures c.from.ensures c.asked.ensures) ∙ c.if-is_over.false;
       cause = causes_then _ _ _ _ _ _ c.turns.invariant.run c.in_ok-turn.ensures.run c.turns.invariant.cause c.in_ok-turn.ensures.cause;
       run = goes_then _ _ _ c.turns.invariant.run c.in_ok-turn.ensures.run;
@@ -71,10 +69,10 @@ turns-preserved g c =
       safe = safe_then _ _ _ _ _ _ _ c.turns.invariant.joined c.turns.invariant.safe c.in_ok-turn.ensures.safe;
     }
 
-pub returns-clause-course : goal.returns-clause-course
-returns-clause-course g c = record {
+pub returns-clause-went : goal.returns-clause-went
+returns-clause-went g c = record {
   ends = λ heard read.
-      turns_end _ c.args.limits c.args.node.now.first _ _ _ _ _ _ _ _ (c.turns.invariant.course heard read) false (sym c.turns.invariant.goes_on)
+      turns_end _ c.args.limits c.args.node.now.first _ _ _ _ _ _ _ _ (c.turns.invariant.went heard read) false (sym c.turns.invariant.goes_on)
       (le-leb c.args.limits.turns c.turns.counter c.turns-test.false);
 }
 
@@ -128,6 +126,6 @@ returns-in_err-turn-clause-sent g c = λ is.
 pub returns-in_err-turn-clause-full : goal.returns-in_err-turn-clause-full
 returns-in_err-turn-clause-full g c = λ is. record {
   fills = λ heard read.
-      turn_full _ c.args.limits c.args.node.now.first _ _ _ _ _ _ _ _ (c.turns.invariant.course heard read) c.turns.invariant.goes_on c.turns-test.true _ _ _ _
+      turn_full _ c.args.limits c.args.node.now.first _ _ _ _ _ _ _ _ (c.turns.invariant.went heard read) c.turns.invariant.goes_on c.turns-test.true _ _ _ _
       c.turns.invariant.same_first c.turns.invariant.joined.joined (c.in_err-turn.ensures.full (err_same c.from_residual.result c.in_err-turn.field-0.0 _ c.from_residual.ensures.1 is));
 }

@@ -10,7 +10,7 @@ use Rattle.sync_run.proofs.sessions.make_turns.Given as goal
 
 abbrev pub invariant-turns : goal.invariant-turns
 invariant-turns g l = record {
-  course : (heard : ℕ → List ℕ) → AllRead heard l.initial.node.links
+  went : (heard : ℕ → List ℕ) → AllRead heard l.initial.node.links
       → TurnsSoFar (g.C.Clients.meaning l.clients) l.limits l.initial.node.first (before_turns l.initial.node.links heard l.initial.node.store.state.facts) l.node.links
       l.initial.node.store l.node.store (g.H.Disk.tells l.initial.host) (g.H.Disk.tells l.host) l.still l.counter;
   goes_on : over_by l.limits.quiet l.still (nat_lt 0 (asked_among l.node.links)) ≡ false;

@@ -3,8 +3,7 @@ use Rattle.record_grammar.specs.Stream.{items, records_of}
 use Rattle.journal_play.specs.Playing.{IsTextOf}
 use Rattle.sync_words.specs.declared.outcome.Outcome.TheVariants as outcome
 use Rattle.sync_top.specs.declared.input.TheConstants.{MAX_INPUT}
-use Rattle.sync_top.specs.Plays.{plays_nothing}
-use Rattle.sync_top.proofs.PlayLemmas.{played_all}
+use Rattle.sync_top.proofs.PlayLemmas.{played_all, plays_nothing}
 use Rattle.sync_top.proofs.StateLemmas.{streams_on}
 use Rattle.sync_top.proofs.StreamLemmas.{play_streams}
 use Rattle.sync_top.proofs.streams.try_input.Goals as goal

@@ -9,6 +9,4 @@ use Rattle.journal_play.proofs.play.Play.finish.Goals as goal
 pub returns : goal.returns
 returns c = λ clients def records played.
     finishes_shown clients def records c.args.self (string_bytes c.add_pending.new.text) played
-    (c.in_ok-add_pending.ensures
-    ∙ (λ i. string_bytes c.self.inside.text ++ open_text (c.as_slice.ensures.value i) c.self.inside.graph.nodes)
-    ∙ ap (λ (p : Played). p.text ++ open_text p.heads p.nodes) c.self.view_is)
+    (c.in_ok-add_pending.ensures ∙ ap (λ (p : Played). p.text ++ open_text p.heads p.nodes) c.self.view_is)

@@ -7,6 +7,7 @@ use Rattle.std.proofs.Common.{Err, subst}
 use Rattle.sync_store.specs.Commits.{KeepsStore}
 use Rattle.sync_node.proofs.NodeLaws.{was_full}
 use Rattle.sync_node.proofs.AddLaws.{node_anew}
+use Rattle.sync_node.proofs.NodeActs.{node_add_stops, node_added}
 use Rattle.sync_node.proofs.node.Node.add.Goals as goal
 
 pub same-self : goal.same-self
@@ -140,3 +141,15 @@ returns-in-Ok-clause-within g c = λ opened.
 pub returns-in-Err-clause-within : goal.returns-in-Err-clause-within
 returns-in-Err-clause-within g c = λ opened.
     node_within _ c.self.inside.store c.self.inside.first c.self.inside.links.items c.self.inside.closed _ c.args.batch _ _ c.self.view_is c.in-Err.ensures.within
+
+pub returns-in-Ok-clause-went : goal.returns-in-Ok-clause-went
+returns-in-Ok-clause-went g c =
+    node_added _ c.self.inside.store _ c.self.inside.first c.self.inside.links.items c.self.inside.closed _ c.args.batch _ _ c.self.view_is c.in-Ok.ensures.went
+
+pub returns-then-self-clause-stopped : goal.returns-then-self-clause-stopped
+returns-then-self-clause-stopped g c =
+    λ opened. absurd (let yes = ap (λ (n : NodeValue). n.closed) c.self.view_is in let is = c.if-self.true in cc)
+
+pub returns-in-Err-clause-stopped : goal.returns-in-Err-clause-stopped
+returns-in-Err-clause-stopped g c = λ opened.
+    node_add_stops _ c.self.inside.store _ c.self.inside.first c.self.inside.links.items c.self.inside.closed _ c.args.batch _ _ c.in-Err.fault _ c.self.view_is c.close.ensures.fault c.in-Err.ensures.stopped

@@ -2,7 +2,7 @@ use Rattle.std.proofs.Common.{inl, List, [], ◌∷◌, ◌++◌, ◌<◌, ℕ, 
 use Rattle.sync_rules.specs.declared.limits.TheConstants.{MAX_SESSIONS}
 use Rattle.sync_node.specs.declared.link.Link.{Link}
 use Rattle.sync_node.specs.Node.{NodeValue}
-use Rattle.sync_node.proofs.CourseStart.{beginning_halted, begins_behind, node_beginning_halted, node_begins}
+use Rattle.sync_node.proofs.CourseStart.{begins_behind, node_beginning_halted, node_begins}
 use Rattle.sync_node.proofs.AttachLaws.{attached_last, attached_may, node_attaches, node_plans, node_settled, one_longer, plan_allowed, plans_as, plans_same, session_begun}
 use Rattle.sync_node.specs.Plans.{session_of}
 use Rattle.sync_node.proofs.NodeLaws.{true≢false, fault_answers, is_closed_node, is_node, node_may, stays_closed}
@@ -13,6 +13,9 @@ use Rattle.sync_node.proofs.Undone.{undone_answer}
 use Rattle.sync_node.proofs.NodeLaws.{was_full}
 use Rattle.sync_node.proofs.CourseStart.{beginning_full, node_beginning_full}
 use Rattle.sync_node.proofs.StopLaws.{links_same, node_sends}
+use Rattle.sync_node.proofs.NodeActs.{node_begin_stopped, node_begin_went}
+use Rattle.sync_node.proofs.StartActs.{begin_stopped, begin_went}
+use Rattle.sync_node.proofs.NodeRuns.{beginning_halts}
 use Rattle.sync_node.proofs.node.Node.attach.Goals as goal
 
 pub same-self : goal.same-self
@@ -111,7 +114,8 @@ pub returns-in-Err-clause-halts : goal.returns-in-Err-clause-halts
 returns-in-Err-clause-halts g c = λ opened.
     node_beginning_halted _ (session_of c.sessions.result c.args.plan.now c.args.nonce) c.self.inside.links.items _ _ _ c.self.inside.first c.self.inside.closed _ c.self.view_is _
     (ap (λ (k : ℕ). session_of k c.args.plan.now c.args.nonce) (c.sessions.ensures ∙ ap (λ (n : NodeValue). n.store.state.facts.begun) c.self.view_is))
-    _ (beginning_halted _ (session_of c.sessions.result c.args.plan.now c.args.nonce) c.self.inside.links.items _ _ _ _ c.in-Err.ensures.same c.in-Err.ensures.halts)
+    _ (beginning_halts _ (session_of c.sessions.result c.args.plan.now c.args.nonce) c.self.inside.links.items _ _ _ _ _ c.in-Err.fault
+    (begin_stopped _ (session_of c.sessions.result c.args.plan.now c.args.nonce) c.self.inside.links.items _ _ _ _ _ c.in-Err.fault c.in-Err.ensures.same c.in-Err.ensures.stopped))
 
 pub attach_on-requires-clause-last : goal.attach_on-requires-clause-last
 attach_on-requires-clause-last g c =
@@ -182,3 +186,24 @@ pub returns-in-Err-clause-undone : goal.returns-in-Err-clause-undone
 returns-in-Err-clause-undone g c =
     undone_answer (Unit {0}) c.self.inside.store c.attach_on.new.store c.self.inside.first c.self.inside.links.items c.self.inside.closed _ _ _ c.in-Err.fault _
     c.self.view_is c.close.ensures.fault c.in-Err.ensures.undone
+
+pub returns-then-self-clause-went : goal.returns-then-self-clause-went
+returns-then-self-clause-went g c =
+    λ opened. absurd (let yes = ap (λ (n : NodeValue). n.closed) c.self.view_is in let is = c.if-self.true in cc)
+
+pub returns-then-self-clause-stopped : goal.returns-then-self-clause-stopped
+returns-then-self-clause-stopped g c =
+    λ opened. absurd (let yes = ap (λ (n : NodeValue). n.closed) c.self.view_is in let is = c.if-self.true in cc)
+
+pub returns-in-Ok-clause-went : goal.returns-in-Ok-clause-went
+returns-in-Ok-clause-went g c = λ opened.
+    node_begin_went _ _ c.self.inside.first c.self.inside.links.items c.self.inside.closed _ _ _ c.self.view_is (session_of c.sessions.result c.args.plan.now c.args.nonce) _
+    (ap (λ (k : ℕ). session_of k c.args.plan.now c.args.nonce) (c.sessions.ensures ∙ ap (λ (n : NodeValue). n.store.state.facts.begun) c.self.view_is)) _ _
+    (begin_went _ (session_of c.sessions.result c.args.plan.now c.args.nonce) c.self.inside.links.items _ _ _ c.args.link _ _
+    (omega (arith, c.requires.next, ap (λ (n : NodeValue). length n.links) c.self.view_is)) c.in-Ok.ensures.went)
+
+pub returns-in-Err-clause-stopped : goal.returns-in-Err-clause-stopped
+returns-in-Err-clause-stopped g c = λ opened.
+    node_begin_stopped _ _ c.self.inside.first c.self.inside.links.items c.self.inside.closed _ _ _ c.self.view_is (session_of c.sessions.result c.args.plan.now c.args.nonce) _
+    (ap (λ (k : ℕ). session_of k c.args.plan.now c.args.nonce) (c.sessions.ensures ∙ ap (λ (n : NodeValue). n.store.state.facts.begun) c.self.view_is)) _ _ c.in-Err.fault _ c.close.ensures.fault
+    (begin_stopped _ (session_of c.sessions.result c.args.plan.now c.args.nonce) c.self.inside.links.items _ _ _ _ _ c.in-Err.fault c.in-Err.ensures.same c.in-Err.ensures.stopped)

@@ -3,15 +3,15 @@ use Rattle.std.specs.List.{slice_get}
 use Rattle.std.proofs.lemmas.Option.{slice_get-get_or}
 use Rattle.sync_node.specs.Node.{NodeValue}
 use Rattle.sync_node.proofs.NodeLaws.{true≢false, fault_answers, all_safe, is_closed_node, is_node, kept_long, length_set, link_able, links_go_on, links_one, node_keeps, node_may, node_safe, node_same, stays_closed}
-use Rattle.sync_node.proofs.CourseCalls.{receives, receiving_halted}
+use Rattle.sync_node.proofs.NodeRuns.{once_received, receiving_full, receiving_halts}
 use Rattle.sync_node.proofs.CourseNode.{node_receives, node_receiving_halted}
 use Rattle.sync_node.proofs.SafeLaws.{goes_none}
 use Rattle.sync_node.specs.Causes.{sessions_of}
 use Rattle.sync_node.proofs.CauseLaws.{links_go_none, links_go_set, node_causes, sessions_set}
-use Rattle.std.proofs.Common.{Err}
 use Rattle.sync_node.proofs.NodeLaws.{was_full}
-use Rattle.sync_node.proofs.CourseCalls.{receiving_full}
 use Rattle.sync_node.proofs.CourseNode.{node_receiving_full}
+use Rattle.sync_node.proofs.NodeActs.{node_asked, node_asking_stopped}
+use Rattle.sync_node.proofs.RunActLaws.{asking_stopped, asking_went}
 use Rattle.sync_node.proofs.node.Node.receive.Goals as goal
 
 pub same-self : goal.same-self
@@ -128,7 +128,8 @@ returns-in-Ok-clause-course g c = λ opened.
     let here = slice_get-get_or c.self.inside.links.items c.args.link c.index_mut.result.now within ∙ ap Some (sym c.index_mut.ensures.value) in
     let numbered = ((c.self.invariant.1.attached c.if-self.false).each c.args.link _ here).numbered in
     node_receives _ _ c.self.inside.first _ c.self.inside.closed _ _ _ c.self.view_is c.args.link _ _ c.in-Ok.idle
-    (receives _ c.self.inside.first c.args.link c.self.inside.links.items _ _ _ here numbered c.receive_on.new.link _ _ c.in-Ok.idle (c.in-Ok.ensures.course (ap (λ (b : List ℕ). length b) c.as_mut_slice.ensures.value ∙ c.self.invariant.0)))
+    (once_received _ c.self.inside.first c.self.inside.links.items _ _ _ _ _ c.args.link c.in-Ok.idle
+    (asking_went _ c.self.inside.first c.args.link c.self.inside.links.items _ _ _ here numbered c.receive_on.new.link _ _ c.in-Ok.idle (c.in-Ok.ensures.went (ap (λ (b : List ℕ). length b) c.as_mut_slice.ensures.value ∙ c.self.invariant.0))))
 
 pub returns-in-Err-clause-halts : goal.returns-in-Err-clause-halts
 returns-in-Err-clause-halts g c = λ opened.
@@ -136,7 +137,8 @@ returns-in-Err-clause-halts g c = λ opened.
     let here = slice_get-get_or c.self.inside.links.items c.args.link c.index_mut.result.now within ∙ ap Some (sym c.index_mut.ensures.value) in
     let numbered = ((c.self.invariant.1.attached c.if-self.false).each c.args.link _ here).numbered in
     node_receiving_halted _ _ c.self.inside.first _ c.self.inside.closed _ _ _ c.self.view_is c.args.link _
-    (receiving_halted _ c.self.inside.first c.args.link c.self.inside.links.items _ _ _ here numbered c.receive_on.new.link _ (c.in-Err.ensures.stops (ap (λ (b : List ℕ). length b) c.as_mut_slice.ensures.value ∙ c.self.invariant.0)))
+    (receiving_halts _ c.self.inside.first c.self.inside.links.items _ _ _ _ _ c.args.link c.in-Err.fault
+    (asking_stopped _ c.self.inside.first c.args.link c.self.inside.links.items _ _ _ here numbered c.receive_on.new.link _ _ _ (c.in-Err.ensures.stopped (ap (λ (b : List ℕ). length b) c.as_mut_slice.ensures.value ∙ c.self.invariant.0))))
 
 pub returns-then-self-clause-run : goal.returns-then-self-clause-run
 returns-then-self-clause-run g c = goes_none _
@@ -170,8 +172,8 @@ returns-in-Err-clause-full g c = λ is.
     let here = slice_get-get_or c.self.inside.links.items c.args.link c.index_mut.result.now within ∙ ap Some (sym c.index_mut.ensures.value) in
     let numbered = ((c.self.invariant.1.attached c.if-self.false).each c.args.link _ here).numbered in
     node_receiving_full _ _ c.self.inside.first _ c.self.inside.closed _ _ _ c.self.view_is c.args.link _
-    (receiving_full _ c.self.inside.first c.args.link c.self.inside.links.items _ _ _ here numbered _ _
-    (c.in-Err.ensures.full (ap (λ (b : List ℕ). length b) c.as_mut_slice.ensures.value ∙ c.self.invariant.0) (ap (λ e. Err e) (was_full c.in-Err.fault _ c.close.ensures.fault is))))
+    (receiving_full _ c.self.inside.first c.self.inside.links.items _ _ _ _ _ c.args.link c.in-Err.fault (was_full c.in-Err.fault _ c.close.ensures.fault is)
+    (asking_stopped _ c.self.inside.first c.args.link c.self.inside.links.items _ _ _ here numbered c.receive_on.new.link _ _ _ (c.in-Err.ensures.stopped (ap (λ (b : List ℕ). length b) c.as_mut_slice.ensures.value ∙ c.self.invariant.0))))
 
 pub returns-in-Ok-clause-node : goal.returns-in-Ok-clause-node
 returns-in-Ok-clause-node g c = (invariant_of-self g c).1
@@ -190,3 +192,27 @@ returns-in-Err-clause-kept g c =
     let within : c.args.link < length c.self.inside.links.items = omega (arith, c.requires.attached, ap (λ (n : NodeValue). length n.links) c.self.view_is) in
     let here = slice_get-get_or c.self.inside.links.items c.args.link c.index_mut.result.now within ∙ ap Some (sym c.index_mut.ensures.value) in
     record { same_first = ap (λ (n : NodeValue). n.first) c.self.view_is; same_sessions = sessions_set c.args.link c.self.inside.links.items _ c.receive_on.new.link here c.receive_on.ensures.run.same_session ∙ ap (λ (n : NodeValue). sessions_of n.links) c.self.view_is }
+
+pub returns-then-self-clause-went : goal.returns-then-self-clause-went
+returns-then-self-clause-went g c =
+    λ opened. absurd (let yes = ap (λ (n : NodeValue). n.closed) c.self.view_is in let is = c.if-self.true in cc)
+
+pub returns-then-self-clause-stopped : goal.returns-then-self-clause-stopped
+returns-then-self-clause-stopped g c =
+    λ opened. absurd (let yes = ap (λ (n : NodeValue). n.closed) c.self.view_is in let is = c.if-self.true in cc)
+
+pub returns-in-Ok-clause-went : goal.returns-in-Ok-clause-went
+returns-in-Ok-clause-went g c = λ opened.
+    let within : c.args.link < length c.self.inside.links.items = omega (arith, c.requires.attached, ap (λ (n : NodeValue). length n.links) c.self.view_is) in
+    let here = slice_get-get_or c.self.inside.links.items c.args.link c.index_mut.result.now within ∙ ap Some (sym c.index_mut.ensures.value) in
+    let numbered = ((c.self.invariant.1.attached c.if-self.false).each c.args.link _ here).numbered in
+    node_asked _ _ c.self.inside.first _ c.self.inside.closed _ _ _ c.self.view_is c.args.link _ _ c.in-Ok.idle
+    (asking_went _ c.self.inside.first c.args.link c.self.inside.links.items _ _ _ here numbered c.receive_on.new.link _ _ c.in-Ok.idle (c.in-Ok.ensures.went (ap (λ (b : List ℕ). length b) c.as_mut_slice.ensures.value ∙ c.self.invariant.0)))
+
+pub returns-in-Err-clause-stopped : goal.returns-in-Err-clause-stopped
+returns-in-Err-clause-stopped g c = λ opened.
+    let within : c.args.link < length c.self.inside.links.items = omega (arith, c.requires.attached, ap (λ (n : NodeValue). length n.links) c.self.view_is) in
+    let here = slice_get-get_or c.self.inside.links.items c.args.link c.index_mut.result.now within ∙ ap Some (sym c.index_mut.ensures.value) in
+    let numbered = ((c.self.invariant.1.attached c.if-self.false).each c.args.link _ here).numbered in
+    node_asking_stopped _ _ c.self.inside.first _ c.self.inside.closed _ _ _ c.self.view_is c.args.link _ _ c.in-Err.fault _ c.close.ensures.fault
+    (asking_stopped _ c.self.inside.first c.args.link c.self.inside.links.items _ _ _ here numbered c.receive_on.new.link _ _ _ (c.in-Err.ensures.stopped (ap (λ (b : List ℕ). length b) c.as_mut_slice.ensures.value ∙ c.self.invariant.0)))

@@ -3,15 +3,15 @@ use Rattle.std.specs.List.{slice_get}
 use Rattle.std.proofs.lemmas.Option.{slice_get-get_or}
 use Rattle.sync_node.specs.Node.{NodeValue}
 use Rattle.sync_node.proofs.NodeLaws.{true≢false, fault_answers, all_safe, is_closed_node, is_node, length_set, link_able, links_go_on, links_one, node_keeps, node_may, node_safe, node_same, stays_closed}
-use Rattle.sync_node.proofs.CourseCalls.{sending_halted, sends_due}
+use Rattle.sync_node.proofs.NodeRuns.{due_sent, sending_full, sending_halts}
 use Rattle.sync_node.proofs.CourseNode.{node_sending_halted, node_sends}
 use Rattle.sync_node.proofs.SafeLaws.{goes_none}
 use Rattle.sync_node.specs.Causes.{sessions_of}
 use Rattle.sync_node.proofs.CauseLaws.{links_go_none, links_go_set, node_causes, sessions_set}
-use Rattle.std.proofs.Common.{Err}
 use Rattle.sync_node.proofs.NodeLaws.{was_full}
-use Rattle.sync_node.proofs.CourseCalls.{sending_full}
 use Rattle.sync_node.proofs.CourseNode.{node_sending_full}
+use Rattle.sync_node.proofs.NodeActs.{node_outs_sent, node_outs_stopped}
+use Rattle.sync_node.proofs.RunActLaws.{outs_sent, outs_stopped}
 use Rattle.sync_node.proofs.node.Node.send_due.Goals as goal
 
 pub same-self : goal.same-self
@@ -113,7 +113,8 @@ returns-in-Ok-clause-course g c = λ opened.
     let numbered = ((c.self.invariant.1.attached c.if-self.false).each c.args.link _ here).numbered in
     let may = c.requires.unclosed _ (ap (λ (n : NodeValue). slice_get n.links c.args.link) (sym c.self.view_is) ∙ here) in
     node_sends _ _ c.self.inside.first _ c.self.inside.closed _ _ _ c.self.view_is c.args.link c.args.now _ _ c.in-Ok.made
-    (sends_due _ c.self.inside.first c.args.link c.self.inside.links.items _ _ _ here numbered c.args.now may c.send_all.new.link _ _ c.in-Ok.made (c.in-Ok.ensures.course may))
+    (due_sent _ c.self.inside.first c.self.inside.links.items _ _ _ _ _ c.args.link c.args.now c.in-Ok.made
+    (outs_sent _ c.self.inside.first c.args.link c.self.inside.links.items _ _ _ here numbered c.args.now may c.send_all.new.link _ _ c.in-Ok.made (c.in-Ok.ensures.went may)))
 
 pub returns-in-Err-clause-halts : goal.returns-in-Err-clause-halts
 returns-in-Err-clause-halts g c = λ opened.
@@ -122,7 +123,8 @@ returns-in-Err-clause-halts g c = λ opened.
     let numbered = ((c.self.invariant.1.attached c.if-self.false).each c.args.link _ here).numbered in
     let may = c.requires.unclosed _ (ap (λ (n : NodeValue). slice_get n.links c.args.link) (sym c.self.view_is) ∙ here) in
     node_sending_halted _ _ c.self.inside.first _ c.self.inside.closed _ _ _ c.self.view_is c.args.link c.args.now _
-    (sending_halted _ c.self.inside.first c.args.link c.self.inside.links.items _ _ _ here numbered c.args.now may c.send_all.new.link _ (c.in-Err.ensures.stops may))
+    (sending_halts _ c.self.inside.first c.self.inside.links.items _ _ _ _ _ c.args.link c.args.now c.in-Err.fault
+    (outs_stopped _ c.self.inside.first c.args.link c.self.inside.links.items _ _ _ here numbered c.args.now may c.send_all.new.link _ _ _ (c.in-Err.ensures.stopped may)))
 
 pub returns-then-self-clause-run : goal.returns-then-self-clause-run
 returns-then-self-clause-run g c = goes_none _
@@ -157,8 +159,8 @@ returns-in-Err-clause-full g c = λ is.
     let numbered = ((c.self.invariant.1.attached c.if-self.false).each c.args.link _ here).numbered in
     let may = c.requires.unclosed _ (ap (λ (n : NodeValue). slice_get n.links c.args.link) (sym c.self.view_is) ∙ here) in
     node_sending_full _ _ c.self.inside.first _ c.self.inside.closed _ _ _ c.self.view_is c.args.link c.args.now _
-    (sending_full _ c.self.inside.first c.args.link c.self.inside.links.items _ _ _ here numbered c.args.now may _ _
-    (c.in-Err.ensures.full may (ap (λ e. Err e) (was_full c.in-Err.fault _ c.close.ensures.fault is))))
+    (sending_full _ c.self.inside.first c.self.inside.links.items _ _ _ _ _ c.args.link c.args.now c.in-Err.fault (was_full c.in-Err.fault _ c.close.ensures.fault is)
+    (outs_stopped _ c.self.inside.first c.args.link c.self.inside.links.items _ _ _ here numbered c.args.now may c.send_all.new.link _ _ _ (c.in-Err.ensures.stopped may)))
 
 pub returns-in-Ok-clause-node : goal.returns-in-Ok-clause-node
 returns-in-Ok-clause-node g c = (invariant_of-self g c).1
@@ -177,3 +179,29 @@ returns-in-Err-clause-kept g c =
     let within : c.args.link < length c.self.inside.links.items = omega (arith, c.requires.attached, ap (λ (n : NodeValue). length n.links) c.self.view_is) in
     let here = slice_get-get_or c.self.inside.links.items c.args.link c.index_mut.result.now within ∙ ap Some (sym c.index_mut.ensures.value) in
     record { same_first = ap (λ (n : NodeValue). n.first) c.self.view_is; same_sessions = sessions_set c.args.link c.self.inside.links.items _ c.send_all.new.link here c.send_all.ensures.run.same_session ∙ ap (λ (n : NodeValue). sessions_of n.links) c.self.view_is }
+
+pub returns-then-self-clause-went : goal.returns-then-self-clause-went
+returns-then-self-clause-went g c =
+    λ opened. absurd (let yes = ap (λ (n : NodeValue). n.closed) c.self.view_is in let is = c.if-self.true in cc)
+
+pub returns-then-self-clause-stopped : goal.returns-then-self-clause-stopped
+returns-then-self-clause-stopped g c =
+    λ opened. absurd (let yes = ap (λ (n : NodeValue). n.closed) c.self.view_is in let is = c.if-self.true in cc)
+
+pub returns-in-Ok-clause-went : goal.returns-in-Ok-clause-went
+returns-in-Ok-clause-went g c = λ opened.
+    let within : c.args.link < length c.self.inside.links.items = omega (arith, c.requires.attached, ap (λ (n : NodeValue). length n.links) c.self.view_is) in
+    let here = slice_get-get_or c.self.inside.links.items c.args.link c.index_mut.result.now within ∙ ap Some (sym c.index_mut.ensures.value) in
+    let numbered = ((c.self.invariant.1.attached c.if-self.false).each c.args.link _ here).numbered in
+    let may = c.requires.unclosed _ (ap (λ (n : NodeValue). slice_get n.links c.args.link) (sym c.self.view_is) ∙ here) in
+    node_outs_sent _ _ c.self.inside.first _ c.self.inside.closed _ _ _ c.self.view_is c.args.link c.args.now _ _ c.in-Ok.made
+    (outs_sent _ c.self.inside.first c.args.link c.self.inside.links.items _ _ _ here numbered c.args.now may c.send_all.new.link _ _ c.in-Ok.made (c.in-Ok.ensures.went may))
+
+pub returns-in-Err-clause-stopped : goal.returns-in-Err-clause-stopped
+returns-in-Err-clause-stopped g c = λ opened.
+    let within : c.args.link < length c.self.inside.links.items = omega (arith, c.requires.attached, ap (λ (n : NodeValue). length n.links) c.self.view_is) in
+    let here = slice_get-get_or c.self.inside.links.items c.args.link c.index_mut.result.now within ∙ ap Some (sym c.index_mut.ensures.value) in
+    let numbered = ((c.self.invariant.1.attached c.if-self.false).each c.args.link _ here).numbered in
+    let may = c.requires.unclosed _ (ap (λ (n : NodeValue). slice_get n.links c.args.link) (sym c.self.view_is) ∙ here) in
+    node_outs_stopped _ _ c.self.inside.first _ c.self.inside.closed _ _ _ c.self.view_is c.args.link c.args.now _ _ c.in-Err.fault _ c.close.ensures.fault
+    (outs_stopped _ c.self.inside.first c.args.link c.self.inside.links.items _ _ _ here numbered c.args.now may c.send_all.new.link _ _ _ (c.in-Err.ensures.stopped may))

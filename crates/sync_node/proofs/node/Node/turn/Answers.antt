@@ -4,6 +4,7 @@ use Rattle.sync_node.specs.declared.node.Turned.{Turned}
 use Rattle.sync_node.specs.Node.{NodeValue}
 use Rattle.sync_node.proofs.NodeLaws.{true≢false, fault_answers, attached_as, is_closed_node, is_node, kept_long, kept_same, links_as, may_as, node_keeps, node_may, node_safe, node_same, safe_as, some_as, stays_closed, works_safe}
 use Rattle.sync_node.proofs.CourseNode.{node_turn_halted, node_turns}
+use Rattle.sync_node.proofs.NodeRuns.{turn_halts, turn_made}
 use Rattle.sync_node.proofs.SafeLaws.{goes_none}
 use Rattle.sync_node.specs.Causes.{sessions_of}
 use Rattle.sync_node.proofs.CauseLaws.{links_go_as, node_causes, sessions_as}
@@ -11,6 +12,7 @@ use Rattle.std.proofs.Common.{Err}
 use Rattle.sync_node.proofs.NodeLaws.{was_full}
 use Rattle.sync_node.proofs.CourseNode.{node_turn_full}
 use Rattle.sync_node.proofs.StopLaws.{node_sends, sent_as}
+use Rattle.sync_node.proofs.NodeActs.{node_round, node_round_stopped}
 use Rattle.sync_node.proofs.node.Node.turn.Goals as goal
 
 pub same-self : goal.same-self
@@ -182,8 +184,8 @@ returns-in-Ok-true-clause-course g c = λ opened.
     (kept_same c.self.inside.links.len c.self.inside.links.items c.turn_all.new.links
     (omega (arith, c.as_mut_slice.ensures.len, ap (λ (ls : List Link). length ls) c.as_mut_slice.ensures.value))
     (omega (arith, c.turn_all.auto.links, ap (λ (ls : List Link). length ls) c.as_mut_slice.ensures.value)))
-    c.in-Ok-true.field-0-test (c.in-Ok-true.ensures.course c.self.inside.first (attached_as c.self.inside.first _ _ _ c.as_mut_slice.ensures.value (c.self.invariant.1.attached c.if-self.false))
-    (ap (λ (b : List ℕ). length b) c.as_mut_slice-2.ensures.value ∙ c.self.invariant.0))
+    c.in-Ok-true.field-0-test (turn_made _ c.self.inside.first _ _ _ _ _ _ _ (c.in-Ok-true.ensures.went c.self.inside.first (attached_as c.self.inside.first _ _ _ c.as_mut_slice.ensures.value (c.self.invariant.1.attached c.if-self.false))
+    (ap (λ (b : List ℕ). length b) c.as_mut_slice-2.ensures.value ∙ c.self.invariant.0)))
 
 pub returns-in-Ok-false-clause-course : goal.returns-in-Ok-false-clause-course
 returns-in-Ok-false-clause-course g c = λ opened.
@@ -191,8 +193,8 @@ returns-in-Ok-false-clause-course g c = λ opened.
     (kept_same c.self.inside.links.len c.self.inside.links.items c.turn_all.new.links
     (omega (arith, c.as_mut_slice.ensures.len, ap (λ (ls : List Link). length ls) c.as_mut_slice.ensures.value))
     (omega (arith, c.turn_all.auto.links, ap (λ (ls : List Link). length ls) c.as_mut_slice.ensures.value)))
-    c.in-Ok-false.field-0-test (c.in-Ok-false.ensures.course c.self.inside.first (attached_as c.self.inside.first _ _ _ c.as_mut_slice.ensures.value (c.self.invariant.1.attached c.if-self.false))
-    (ap (λ (b : List ℕ). length b) c.as_mut_slice-2.ensures.value ∙ c.self.invariant.0))
+    c.in-Ok-false.field-0-test (turn_made _ c.self.inside.first _ _ _ _ _ _ _ (c.in-Ok-false.ensures.went c.self.inside.first (attached_as c.self.inside.first _ _ _ c.as_mut_slice.ensures.value (c.self.invariant.1.attached c.if-self.false))
+    (ap (λ (b : List ℕ). length b) c.as_mut_slice-2.ensures.value ∙ c.self.invariant.0)))
 
 pub returns-in-Err-clause-halts : goal.returns-in-Err-clause-halts
 returns-in-Err-clause-halts g c = λ opened.
@@ -200,8 +202,8 @@ returns-in-Err-clause-halts g c = λ opened.
     (kept_same c.self.inside.links.len c.self.inside.links.items c.turn_all.new.links
     (omega (arith, c.as_mut_slice.ensures.len, ap (λ (ls : List Link). length ls) c.as_mut_slice.ensures.value))
     (omega (arith, c.turn_all.auto.links, ap (λ (ls : List Link). length ls) c.as_mut_slice.ensures.value)))
-    (c.in-Err.ensures.halts c.self.inside.first (attached_as c.self.inside.first _ _ _ c.as_mut_slice.ensures.value (c.self.invariant.1.attached c.if-self.false))
-    (ap (λ (b : List ℕ). length b) c.as_mut_slice-2.ensures.value ∙ c.self.invariant.0))
+    (turn_halts _ c.self.inside.first _ _ _ _ _ _ c.in-Err.fault (c.in-Err.ensures.stopped c.self.inside.first (attached_as c.self.inside.first _ _ _ c.as_mut_slice.ensures.value (c.self.invariant.1.attached c.if-self.false))
+    (ap (λ (b : List ℕ). length b) c.as_mut_slice-2.ensures.value ∙ c.self.invariant.0)))
 
 pub returns-then-self-clause-run : goal.returns-then-self-clause-run
 returns-then-self-clause-run g c = goes_none _
@@ -305,3 +307,39 @@ returns-in-Err-clause-kept g c =
           c.turn_all.ensures.sessions
           ∙ ap (λ (n : NodeValue). sessions_of n.links) c.self.view_is;
     }
+
+pub returns-then-self-clause-went : goal.returns-then-self-clause-went
+returns-then-self-clause-went g c =
+    λ opened. absurd (let yes = ap (λ (n : NodeValue). n.closed) c.self.view_is in let is = c.if-self.true in cc)
+
+pub returns-then-self-clause-stopped : goal.returns-then-self-clause-stopped
+returns-then-self-clause-stopped g c =
+    λ opened. absurd (let yes = ap (λ (n : NodeValue). n.closed) c.self.view_is in let is = c.if-self.true in cc)
+
+pub returns-in-Ok-true-clause-went : goal.returns-in-Ok-true-clause-went
+returns-in-Ok-true-clause-went g c = λ opened.
+    node_round _ _ c.self.inside.first _ c.self.inside.closed _ _ _ c.self.view_is _ _ _ _ _ _ c.as_mut_slice.ensures.value
+    (kept_same c.self.inside.links.len c.self.inside.links.items c.turn_all.new.links
+    (omega (arith, c.as_mut_slice.ensures.len, ap (λ (ls : List Link). length ls) c.as_mut_slice.ensures.value))
+    (omega (arith, c.turn_all.auto.links, ap (λ (ls : List Link). length ls) c.as_mut_slice.ensures.value)))
+    c.in-Ok-true.field-0-test (c.in-Ok-true.ensures.went c.self.inside.first (attached_as c.self.inside.first _ _ _ c.as_mut_slice.ensures.value (c.self.invariant.1.attached c.if-self.false))
+    (ap (λ (b : List ℕ). length b) c.as_mut_slice-2.ensures.value ∙ c.self.invariant.0))
+
+pub returns-in-Ok-false-clause-went : goal.returns-in-Ok-false-clause-went
+returns-in-Ok-false-clause-went g c = λ opened.
+    node_round _ _ c.self.inside.first _ c.self.inside.closed _ _ _ c.self.view_is _ _ _ _ _ _ c.as_mut_slice.ensures.value
+    (kept_same c.self.inside.links.len c.self.inside.links.items c.turn_all.new.links
+    (omega (arith, c.as_mut_slice.ensures.len, ap (λ (ls : List Link). length ls) c.as_mut_slice.ensures.value))
+    (omega (arith, c.turn_all.auto.links, ap (λ (ls : List Link). length ls) c.as_mut_slice.ensures.value)))
+    c.in-Ok-false.field-0-test (c.in-Ok-false.ensures.went c.self.inside.first (attached_as c.self.inside.first _ _ _ c.as_mut_slice.ensures.value (c.self.invariant.1.attached c.if-self.false))
+    (ap (λ (b : List ℕ). length b) c.as_mut_slice-2.ensures.value ∙ c.self.invariant.0))
+
+pub returns-in-Err-clause-stopped : goal.returns-in-Err-clause-stopped
+returns-in-Err-clause-stopped g c = λ opened.
+    node_round_stopped _ _ c.self.inside.first _ c.self.inside.closed _ _ _ c.self.view_is _ _ _ _ c.in-Err.fault _ c.as_mut_slice.ensures.value
+    (kept_same c.self.inside.links.len c.self.inside.links.items c.turn_all.new.links
+    (omega (arith, c.as_mut_slice.ensures.len, ap (λ (ls : List Link). length ls) c.as_mut_slice.ensures.value))
+    (omega (arith, c.turn_all.auto.links, ap (λ (ls : List Link). length ls) c.as_mut_slice.ensures.value)))
+    c.close.ensures.fault
+    (c.in-Err.ensures.stopped c.self.inside.first (attached_as c.self.inside.first _ _ _ c.as_mut_slice.ensures.value (c.self.invariant.1.attached c.if-self.false))
+    (ap (λ (b : List ℕ). length b) c.as_mut_slice-2.ensures.value ∙ c.self.invariant.0))

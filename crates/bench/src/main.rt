@@ -1,0 +1,56 @@
+//! What the scripts of `bench/` measure: parts, each by its name and words, as `frames 10`. A word
+//! `and` stands between two parts of one run, which make one after the other what they print.
+//!
+//! - `hash`: the digest of the standard input.
+//! - `frames COUNT`: frames that are added to a journal on a disk in memory.
+//! - `graph SHAPE COUNT`: messages that come in the worst order, through the waiting graph.
+//! - `tree SHAPE COUNT`: items that are added to a tree of replies.
+//! - `tables COUNT`: the table of what is due, for eight contacts.
+//! - `session STEP COUNT ROUNDS`: the steps of a session over a view by maps.
+//! - `store STEP ..`: a store on a disk in memory, or that of the folder's file.
+//! - `node WHO WAY COUNT LENGTH`: a node on a host in memory, and a store beside it.
+#![tactic(auto)]
+
+mod frames;
+mod graph;
+mod group;
+mod hash;
+mod node;
+mod session;
+mod stop;
+mod store;
+mod tables;
+mod tree;
+mod words;
+
+use anyhow::{Result, bail};
+use std::env;
+
+// The word that stands between two parts.
+const BETWEEN: &str = "and";
+
+// Measures the part of this name.
+fn measure(rt: &HostRuntime, name: &str, words: &[String]) -> Result<()> {
+    match name {
+        "hash" => hash::measure(rt),
+        "frames" => frames::measure(rt, words),
+        "graph" => graph::measure(rt, words),
+        "tree" => tree::measure(rt, words),
+        "tables" => tables::measure(rt, words),
+        "session" => session::measure(rt, words),
+        "store" => store::measure(rt, words),
+        "node" => node::measure(rt, words),
+        other => bail!("no part: {other}"),
+    }
+}
+
+fn main(rt: HostRuntime) -> Result<()> {
+    let words = env::args(&rt)?.skip(1).collect::<Vec<String>>(rt.alloc())?;
+    for part in words.as_slice().split(|word| word.as_str() == BETWEEN) {
+        let Some((name, words)) = part.split_first() else {
+            bail!("a part is missing");
+        };
+        measure(&rt, name.as_str(), words)?;
+    }
+    Ok(())
+}

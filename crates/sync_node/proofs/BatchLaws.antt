@@ -1,0 +1,203 @@
+-- What the calls of a store come to, as acts.
+use Rattle.std.proofs.Common.{◌≡◌, ◌<◌, false, List, [], ◌∷◌, ◌++◌, ◌∙◌, subst, Result, Ok, Err, Some}
+use Rattle.outside.specs.Faults.{CountRose}
+use Rattle.outside.specs.Files.{Two, File}
+use Rattle.outside.specs.Outside.{DiskRun, MakesAtMost, Outside}
+use Rattle.sync_rules.specs.declared.entries.Entry.{Entry}
+use Rattle.sync_rules.specs.Clients.{Meaning}
+use Rattle.sync_store.specs.Commits as store_commits
+use Rattle.sync_store.specs.Commits.{needed}
+use Rattle.sync_store.specs.Fitting.{FitsFiles}
+use Rattle.sync_store.specs.Moments as store_moments
+use Rattle.sync_store.specs.Moments.{IsBetween, WithAtMost}
+use Rattle.sync_store.specs.Ready.{IsReady}
+use Rattle.sync_store.specs.Runs.{HasExtended}
+use Rattle.sync_store.specs.Settling.{HasSettled}
+use Rattle.sync_store.specs.Store.{StoreValue}
+use Rattle.sync_store.specs.declared.fault.StoreFault.{StoreFault}
+use Rattle.sync_store.specs.declared.fault.StoreFault.TheVariants as store_fault
+use Rattle.sync_course.specs.Acts.{commit_acts}
+use Rattle.sync_node.specs.Batches.{Added, AddingBreaks, AddingFull, CommitsAndSettles, Breaks, Committed, HasNoRoom, Settled, SettlesBy, SettlingBreaks, NodeStaysIdle}
+use Rattle.sync_node.specs.Courses.{ReadsFront}
+use Rattle.sync_node.specs.Did.{Did}
+use Rattle.sync_node.specs.Fulls.{PassesLimit}
+use Rattle.sync_node.specs.Output.{Journal}
+use Rattle.sync_node.proofs.CourseLaws.{at_most_between, commit_reads, reads_front, settle_reads, told_as}
+use Rattle.sync_node.proofs.PrimLaws.{did_batches, did_some, did_unasked}
+
+-- ---- one batch
+
+-- what a commit says of each journal that the files stood for
+abbrev pub AddsTo : Meaning → List Entry → Result (Unit {0}) StoreFault → StoreValue → StoreValue
+    → Outside → Outside → Type 0
+AddsTo clients batch result s s' o o' =
+    (two : Two File) → o.files ≡ Some two → (j : Journal) → FitsFiles clients s j two
+    → store_moments.RunsCommit clients batch result s' o o' j
+
+pub commit_did : (clients : Meaning) (s s' : StoreValue) (batch : List Entry) (u : Unit {0})
+    (o o' : Outside) → IsReady clients s o.files → DiskRun o o' → MakesAtMost 4 o o'
+    → store_commits.AnswersCommit s s' batch (Ok u) → (s'.closed ≡ false → IsReady clients s' o'.files)
+    → AddsTo clients batch (Ok u) s s' o o' → Committed clients batch s s' o o'
+commit_did clients s s' batch u o o' ready run made answer ready' adds = record {
+  did =
+      did_batches clients s s' (batch ∷ []) o o' (λ j whole. WithAtMost j batch whole)
+      (λ j whole. whole ≡ j ++ batch ∷ []) ready.fits run made answer.2.limit answer.2.format
+      (at_most_between batch) adds answer.2.closed (λ j whole is. is);
+  facts = answer.2.facts;
+  ready = ready' answer.2.closed;
+}
+
+pub commit_breaks : (clients : Meaning) (s s' : StoreValue) (batch : List Entry) (o o' : Outside)
+    → IsReady clients s o.files → DiskRun o o' → MakesAtMost 4 o o'
+    → store_commits.AnswersCommit s s' batch (Err store_fault.DiskFault)
+    → AddsTo clients batch (Err store_fault.DiskFault) s s' o o'
+    → CountRose o.disk_faults o'.disk_faults → Breaks clients (batch ∷ []) s s' o o'
+commit_breaks clients s s' batch o o' ready run made answer adds rose =
+    let stood =
+    commit_reads clients s s' batch (Err store_fault.DiskFault) o o' ready.fits run.same_told adds in
+    record {
+      front = stood.front;
+      others = stood.others;
+      parts = stood.parts;
+      did =
+          did_some clients s s' (batch ∷ []) o o' (λ j whole. WithAtMost j batch whole)
+          (λ j whole. whole ≡ j) ready.fits run made answer.2.limit answer.2.format
+          (at_most_between batch) adds stood;
+      rose = rose;
+    }
+
+-- the host was not called, and the store is as it was
+pub commit_idle : {H : Type 0} (tells : H → Outside) (clients : Meaning) (s s' : StoreValue)
+    (batch : List Entry) (e : StoreFault) (host host' : H) → IsReady clients s (tells host).files
+    → DiskRun (tells host) (tells host') → store_commits.KeepsStore s s'
+    → (s'.closed ≡ false → IsReady clients s' (tells host').files) → host' ≡ host
+    → AddsTo clients batch (Err e) s s' (tells host) (tells host')
+    → NodeStaysIdle clients s s' (tells host) (tells host')
+commit_idle tells clients s s' batch e host host' ready run stays ready' same adds =
+    let still : s'.closed ≡ false = stays.closed ∙ ready.still_open in
+    record {
+      did =
+          did_unasked tells clients s s' host host' same stays.limit stays.format
+          (λ j fit.
+          let two' = told_as (tells host).files (tells host').files fit.0 run.same_told fit.1 in
+          let end = (adds fit.0 fit.1 j fit.2).ends still two'.0 two'.1 in
+          (two'.0, two'.1, subst (λ (whole : Journal). FitsFiles clients s' whole two'.0) end.1 end.2));
+      ready = ready' still;
+    }
+
+pub commit_full : (clients : Meaning) (batch : List Entry) (s s' : StoreValue) (o o' : Outside)
+    → NodeStaysIdle clients s s' o o' → PassesLimit clients batch s s' o o'
+    → HasNoRoom clients batch s s' o o'
+commit_full clients batch s s' o o' idle over =
+    record { idle = idle; before = over.before; over = over.over }
+
+-- ---- settling
+
+pub settle_by : (clients : Meaning) (s s' : StoreValue) (result : Result (Unit {0}) StoreFault)
+    (o o' : Outside) → IsReady clients s o.files → DiskRun o o'
+    → HasSettled clients s s' result o o' → s'.closed ≡ false
+    → (s'.closed ≡ false → IsReady clients s' o'.files) → SettlesBy clients s s' o o'
+settle_by clients s s' result o o' ready run has still ready' = record {
+  more = has.more;
+  settling = has.comes.settling;
+  did =
+      did_batches clients s s' has.more o o' (λ j whole. IsBetween j has.more whole)
+      (λ j whole. whole ≡ j ++ has.more) ready.fits run has.comes.calls.most has.comes.limit
+      has.comes.format (λ j whole between. between) has.comes.leads still (λ j whole is. is);
+  facts = has.comes.facts;
+  ready = ready' still;
+}
+
+pub settle_did : (clients : Meaning) (s s' : StoreValue) (u : Unit {0}) (o o' : Outside)
+    → IsReady clients s o.files → DiskRun o o' → HasSettled clients s s' (Ok u) o o'
+    → (s'.closed ≡ false → IsReady clients s' o'.files) → Settled clients s s' o o'
+settle_did clients s s' u o o' ready run has ready' = record {
+  by = settle_by clients s s' (Ok u) o o' ready run has has.answer.0 ready';
+  settled = has.answer.1;
+}
+
+pub settle_breaks : (clients : Meaning) (s s' : StoreValue) (result : Result (Unit {0}) StoreFault)
+    (o o' : Outside) → IsReady clients s o.files → DiskRun o o'
+    → HasSettled clients s s' result o o' → CountRose o.disk_faults o'.disk_faults
+    → SettlingBreaks clients s s' o o'
+settle_breaks clients s s' result o o' ready run has rose =
+    let stood = settle_reads clients s s' result o o' has ready.fits run.same_told in
+    record {
+      more = has.more;
+      settling = has.comes.settling;
+      breaks = record {
+        front = stood.front;
+        others = stood.others;
+        parts = stood.parts;
+        did =
+            did_some clients s s' has.more o o' (λ j whole. IsBetween j has.more whole)
+            (λ j whole. whole ≡ j ++ has.more) ready.fits run has.comes.calls.most has.comes.limit
+            has.comes.format (λ j whole between. between) has.comes.leads stood;
+        rose = rose;
+      };
+    }
+
+-- ---- a batch that is added
+
+module _ (clients : Meaning) (batch : List Entry) (s s' : StoreValue)
+    (result : Result (Unit {0}) StoreFault) (o o' : Outside) (ready : IsReady clients s o.files)
+    (has : HasExtended clients s s' batch result o o') where
+  all_did : s'.closed ≡ false → Did clients (commit_acts has.more) s s' o o'
+  all_did still =
+      did_batches clients s s' has.more o o' (λ j whole. IsBetween j has.more whole)
+      (λ j whole. whole ≡ j ++ has.more) ready.fits has.runs.run has.runs.calls.most has.runs.limit
+      has.runs.format (λ j whole between. between) has.runs.leads still (λ j whole is. is)
+
+  pub add_by : s'.closed ≡ false → (s'.closed ≡ false → IsReady clients s' o'.files)
+      → CommitsAndSettles clients batch s s' o o'
+  add_by still ready' = record {
+    more = has.more;
+    adds = has.adds;
+    did = all_did still;
+    ready = ready' still;
+  }
+
+  pub add_breaks : CountRose o.disk_faults o'.disk_faults → AddingBreaks clients batch s s' o o'
+  add_breaks rose =
+      let stood : ReadsFront clients has.more s o o' =
+      reads_front clients s s' has.more o o' (λ j whole. IsBetween j has.more whole)
+      (λ j whole. whole ≡ j ++ has.more) ready.fits has.runs.run.same_told (λ j whole between. between)
+      has.runs.leads in
+      record {
+        more = has.more;
+        adds = has.adds;
+        breaks = record {
+          front = stood.front;
+          others = stood.others;
+          parts = stood.parts;
+          did =
+              did_some clients s s' has.more o o' (λ j whole. IsBetween j has.more whole)
+              (λ j whole. whole ≡ j ++ has.more) ready.fits has.runs.run has.runs.calls.most
+              has.runs.limit has.runs.format (λ j whole between. between) has.runs.leads stood;
+          rose = rose;
+        };
+      }
+
+  pub add_full : has.more ≡ [] → s.limit < needed s batch → s'.closed ≡ false
+      → (s'.closed ≡ false → IsReady clients s' o'.files) → AddingFull clients batch s s' o o'
+  add_full none over still ready' = record {
+    idle = record {
+      did = subst (λ (bs : Journal). Did clients (commit_acts bs) s s' o o') none (all_did still);
+      ready = ready' still;
+    };
+    before = over;
+  }
+
+pub add_did : (clients : Meaning) (batch : List Entry) (s s' : StoreValue) (u : Unit {0})
+    (o o' : Outside) → IsReady clients s o.files → HasExtended clients s s' batch (Ok u) o o'
+    → (s'.closed ≡ false → IsReady clients s' o'.files) → Added clients batch s s' o o'
+add_did clients batch s s' u o o' ready has ready' = record {
+  by = record {
+    more = has.more;
+    adds = has.adds;
+    did = all_did clients batch s s' (Ok u) o o' ready has has.answer.0;
+    ready = ready' has.answer.0;
+  };
+  some = has.answer.2;
+  settled = has.answer.3;
+}

@@ -1,0 +1,268 @@
+-- What calls did as acts, as events that are told: a path of acts is one of events, but for parts of
+-- what was owed, which are told of nothing.
+use Rattle.std.proofs.Common.{◌≡◌, ℕ, ◌*◌, ◌||◌, List, [], ◌∷◌, ◌++◌, length, refl, sym, ◌∙◌, ap, subst, inl, inr, Bool, Option, None, Some}
+use Rattle.std.specs.Option.{option_map}
+use Rattle.outside.specs.Disk.{RelatesTold}
+use Rattle.outside.specs.Links.{HeardOn, Planned}
+use Rattle.outside.specs.Outside.{MakesAtMost, Outside}
+use Rattle.sync_rules.specs.Clients.{Meaning}
+use Rattle.sync_rules.specs.Facts.{Facts}
+use Rattle.sync_store.specs.Store.{StoreValue}
+use Rattle.sync_course.specs.Acts.{Act, Does, Fail, Send, batches_in, commit_acts, events_of}
+use Rattle.sync_course.specs.Events.{Break, Event, GrowsBy, Pass, PlansAfter, RoseIf, ChangesThrough, TellsEvents, UpcomingAfter, batches_of, commits, has_failure, heard_after, heard_by, is_failure, readings_of}
+use Rattle.sync_course.specs.Owing.{ActStep, Owing}
+use Rattle.sync_course.specs.Paths.{BreaksPath, CountsBatches, Path, RunsPath}
+use Rattle.sync_course.proofs.ToldLaws.{batches_of-append, readings_of-append}
+use Rattle.sync_node.specs.declared.fault.Fault.{Fault}
+use Rattle.sync_node.specs.declared.fault.Fault.TheVariants as fault
+use Rattle.sync_node.specs.Courses.{FitsWith, HasOrWillHave, ReadsAs}
+use Rattle.sync_node.specs.Did.{Did}
+use Rattle.sync_node.specs.Fulls as fulls
+use Rattle.sync_node.specs.Output.{Journal}
+use Rattle.sync_node.specs.Went.{HasSoon, Stopped, StopsFull, Went}
+
+-- ---- events without some that tell of nothing
+
+pub record Thins (es fs : List Event) : Type 0 where
+  pub batches : batches_of es ≡ batches_of fs
+  pub heard : (h : List HeardOn) → heard_after fs h ≡ heard_after es h
+  pub readings : readings_of es ≡ readings_of fs
+  pub failures : (link : ℕ) → has_failure link es ≡ has_failure link fs
+  pub planned : (a b : ℕ → List Planned) → ChangesThrough PlansAfter fs a b → ChangesThrough PlansAfter es a b
+  pub upcoming : (a b : List ℕ) → ChangesThrough UpcomingAfter fs a b → ChangesThrough UpcomingAfter es a b
+
+thins_none : Thins [] []
+thins_none = record {
+  batches = refl;
+  heard = λ h. refl;
+  readings = refl;
+  failures = λ link. refl;
+  planned = λ a b through. through;
+  upcoming = λ a b through. through;
+}
+
+-- the same event in front of both
+thins_same : (e : Event) (es fs : List Event) → Thins es fs → Thins (e ∷ es) (e ∷ fs)
+thins_same e es fs t = record {
+  batches =
+      batches_of-append (e ∷ []) es ∙ ap (λ (l : Journal). batches_of (e ∷ []) ++ l) t.batches
+      ∙ sym (batches_of-append (e ∷ []) fs);
+  heard = λ h. t.heard (heard_by e h);
+  readings =
+      readings_of-append (e ∷ []) es ∙ ap (λ (l : List ℕ). readings_of (e ∷ []) ++ l) t.readings
+      ∙ sym (readings_of-append (e ∷ []) fs);
+  failures = λ link. ap (λ (b : Bool). is_failure link e || b) (t.failures link);
+  planned = λ a b through. (through.0, through.1, t.planned through.0 b through.2);
+  upcoming = λ a b through. (through.0, through.1, t.upcoming through.0 b through.2);
+}
+
+-- one that tells of nothing in front of those that have it
+thins_pass : (es fs : List Event) → Thins es fs → Thins es (Pass ∷ fs)
+thins_pass es fs t = record {
+  batches = t.batches;
+  heard = t.heard;
+  readings = t.readings;
+  failures = t.failures;
+  planned = λ a b through.
+      t.planned a b
+      (subst (λ (x : ℕ → List Planned). ChangesThrough PlansAfter fs x b) through.1 through.2);
+  upcoming = λ a b through.
+      t.upcoming a b (subst (λ (x : List ℕ). ChangesThrough UpcomingAfter fs x b) through.1 through.2);
+}
+
+-- what is told of the one is told of the other
+same_heard : (f g : List HeardOn → List HeardOn) → ((h : List HeardOn) → f h ≡ g h)
+    → (heard : Option (List HeardOn)) → option_map f heard ≡ option_map g heard
+same_heard f g same None = refl
+same_heard f g same (Some h) = ap (λ (x : List HeardOn). Some x) (same h)
+
+becomes_as : {A : Type 0} (R S : A → A → Type 0) → ((x y : A) → R x y → S x y) → (a b : Option A)
+    → RelatesTold R a b → RelatesTold S a b
+becomes_as R S then None None becomes = tt
+becomes_as R S then None (Some b) becomes = becomes
+becomes_as R S then (Some a) None becomes = becomes
+becomes_as R S then (Some a) (Some b) becomes = then a b becomes
+
+thins_told : (es fs : List Event) (o o' : Outside) → Thins es fs → TellsEvents fs o o' → TellsEvents es o o'
+thins_told es fs o o' t told = record {
+  heard =
+      told.heard ∙ same_heard (heard_after fs) (heard_after es) t.heard o.links.heard;
+  readings =
+      subst (λ (l : List ℕ). GrowsBy l o.links.readings o'.links.readings) (sym t.readings)
+      told.readings;
+  faults = λ link.
+      subst (λ (b : Bool). RoseIf b (o.links.faults link) (o'.links.faults link))
+      (sym (t.failures link)) (told.faults link);
+  planned =
+      becomes_as (ChangesThrough PlansAfter fs) (ChangesThrough PlansAfter es) t.planned o.links.planned
+      o'.links.planned told.planned;
+  upcoming =
+      becomes_as (ChangesThrough UpcomingAfter fs) (ChangesThrough UpcomingAfter es) t.upcoming o.links.upcoming
+      o'.links.upcoming told.upcoming;
+}
+
+-- ---- paths
+
+pub record EventPath {P : Type 0} (step : P → Event → P → Type 0) (p q : P)
+    (fs : List Event) : Type 0 where
+  pub events : List Event
+  pub path : Path step p events q
+  pub thins : Thins events fs
+
+module _ {P : Type 0} (clients : Meaning) (facts_of : P → Facts) (first : ℕ)
+    (step : P → Event → P → Type 0) where
+  one_more : (p m q : P) (e : Event) (fs : List Event) → step p e m → EventPath step m q fs
+      → EventPath step p q (e ∷ fs)
+  one_more p m q e fs steps rest = record {
+    events = e ∷ rest.events;
+    path = (m, steps, rest.path);
+    thins = thins_same e rest.events fs rest.thins;
+  }
+
+  none_more : (p m q : P) (fs : List Event) → m ≡ p → EventPath step m q fs
+      → EventPath step p q (Pass ∷ fs)
+  none_more p m q fs stays rest = record {
+    events = rest.events;
+    path = subst (λ (x : P). Path step x rest.events q) stays rest.path;
+    thins = thins_pass rest.events fs rest.thins;
+  }
+
+  by_act : (p m : Owing P) (q : P) (a : Act) (fs : List Event) → ActStep facts_of first step p a m
+      → EventPath step m.at q fs → EventPath step p.at q (events_of (a ∷ []) ++ fs)
+  by_act p m q (Does e) fs steps rest = one_more p.at m.at q e fs steps.1 rest
+  by_act p m q (Send n bytes) fs steps rest = elim steps [
+    | inl all ↦ one_more p.at m.at q Pass fs all.1 rest
+    | inr some ↦ none_more p.at m.at q fs some.stays rest
+  ]
+  by_act p m q (Fail n bytes count) fs steps rest =
+      one_more p.at m.at q (Break n) fs steps.1 rest
+
+  as_events : (p q : Owing P) (acts : List Act) → Path (ActStep facts_of first step) p acts q
+      → EventPath step p.at q.at (events_of acts)
+  as_events p q [] path =
+      record { events = []; path = ap (λ (x : Owing P). x.at) path; thins = thins_none }
+  as_events p q (a ∷ acts) path =
+      by_act p path.0 q.at a (events_of acts) path.1 (as_events path.0 q acts path.2)
+
+  commits_path : (p q : Owing P) (bs : Journal)
+      → Path (ActStep facts_of first step) p (commit_acts bs) q → Path step p.at (commits bs) q.at
+  commits_path p q [] path = ap (λ (x : Owing P). x.at) path
+  commits_path p q (b ∷ bs) path = (path.0.at, path.1.1, commits_path path.0 q bs path.2)
+
+  -- ---- what calls did
+
+  abbrev run_by : (p q : P) (acts : List Act) (s s' : StoreValue) (o o' : Outside)
+      → EventPath step p q (events_of acts) → Did clients acts s s' o o'
+      → RunsPath step (FitsWith clients s o.files) (FitsWith clients s' o'.files) p q o o' []
+  run_by p q acts s s' o o' way did = record {
+    events = way.events;
+    path = way.path;
+    told = thins_told way.events (events_of acts) o o' way.thins did.tells;
+    journal = λ j fit.
+        subst (λ (bs : Journal). FitsWith clients s' o'.files (j ++ bs)) (sym way.thins.batches)
+        (did.fits j fit);
+    calls =
+        subst (λ (bs : Journal). MakesAtMost (4 * length bs) o o') (sym way.thins.batches) did.calls;
+  }
+
+  pub runs_of : (p q : Owing P) (s s' : StoreValue) (o o' : Outside)
+      → Went clients (ActStep facts_of first step) p q s s' o o'
+      → RunsPath step (FitsWith clients s o.files) (FitsWith clients s' o'.files) p.at q.at o o' []
+  runs_of p q s s' o o' went =
+      run_by p.at q.at went.acts s s' o o' (as_events p q went.acts went.path) went.did
+
+  pub counts_of : (p q : Owing P) (s s' : StoreValue) (o o' : Outside) (count : ℕ)
+      → (went : Went clients (ActStep facts_of first step) p q s s' o o')
+      → length (batches_in went.acts) ≡ count
+      → CountsBatches step (FitsWith clients s o.files) (FitsWith clients s' o'.files) p.at q.at o o' count
+  counts_of p q s s' o o' count went is =
+      let way : EventPath step p.at q.at (events_of went.acts) = as_events p q went.acts went.path in
+      record {
+        runs = run_by p.at q.at went.acts s s' o o' way went.did;
+        counts = ap (λ (bs : Journal). length bs) way.thins.batches ∙ is;
+      }
+
+  -- ---- where they stopped
+
+  -- a run was broken off at a place that has this, or will have
+  pub record HaltsWith (Has : P → Type 0) (p : P) (s : StoreValue) (o o' : Outside) : Type 1 where
+    pub breaks : BreaksPath step (FitsWith clients s o.files) (ReadsAs clients o'.files) p o o'
+    pub stands : HasOrWillHave step Has breaks.to
+
+  soon_of : (Has : P → Type 0) (q : Owing P)
+      → HasSoon (ActStep facts_of first step) (λ (x : Owing P). Has x.at) q
+      → HasOrWillHave step Has q.at
+  soon_of Has q soon = elim soon [
+    | inl has ↦ inl has
+    | inr c ↦
+        inr (record { batch = c.batch; next = c.next.at; steps = c.steps.1; has = c.has })
+  ]
+
+  halts_ready : (Has : P → Type 0) (p q : Owing P) (s s' : StoreValue) (o o' : Outside)
+      → Went clients (ActStep facts_of first step) p q s s' o o'
+      → HasSoon (ActStep facts_of first step) (λ (x : Owing P). Has x.at) q
+      → HaltsWith Has p.at s o o'
+  halts_ready Has p q s s' o o' went soon =
+      let way : EventPath step p.at q.at (events_of went.acts) = as_events p q went.acts went.path in
+      let run : RunsPath step (FitsWith clients s o.files) (FitsWith clients s' o'.files) p.at q.at o o' [] =
+      run_by p.at q.at went.acts s s' o o' way went.did in
+      record {
+        breaks = record {
+          to = q.at;
+          next = [];
+          beyond = q.at;
+          goes_on = refl;
+          runs = record {
+            events = way.events;
+            path = way.path;
+            told = run.told;
+            journal = λ j fit. let fits = run.journal j fit in (fits.0, fits.1, fits.2.stands_for);
+            calls = run.calls;
+          };
+        };
+        stands = soon_of Has q soon;
+      }
+
+  pub halts_of : (Has : P → Type 0) (p : Owing P) (s s' : StoreValue) (o o' : Outside) (e : Fault)
+      → Stopped clients (ActStep facts_of first step) (λ (x : Owing P). Has x.at) p s s' o o' e
+      → HaltsWith Has p.at s o o'
+  halts_of Has p s s' o o' fault.Memory stops =
+      halts_ready Has p stops.to s s' o o' stops.went stops.stands
+  halts_of Has p s s' o o' fault.Full stops =
+      halts_ready Has p stops.to s s' o o' stops.went stops.stands
+  halts_of Has p s s' o o' fault.DiskFault stops =
+      let way : EventPath step p.at stops.to.at (events_of stops.acts) =
+      as_events p stops.to stops.acts stops.path in
+      record {
+        breaks = record {
+          to = stops.to.at;
+          next = stops.next;
+          beyond = stops.beyond.at;
+          goes_on = commits_path stops.to stops.beyond stops.next stops.goes_on;
+          runs = record {
+            events = way.events;
+            path = way.path;
+            told = thins_told way.events (events_of stops.acts) o o' way.thins stops.did.tells;
+            journal = λ j fit.
+                subst (λ (bs : Journal). ReadsAs clients o'.files (j ++ bs)) (sym way.thins.batches)
+                (stops.did.reads j fit);
+            calls =
+                subst (λ (bs : Journal). MakesAtMost (4 * length (stops.next ++ bs)) o o')
+                (sym way.thins.batches) stops.did.calls;
+          };
+        };
+        stands = soon_of Has stops.to stops.stands;
+      }
+
+  -- a batch was to be committed that had no room
+  pub full_of : (Has : Owing P → Type 0) (p : Owing P) (s s' : StoreValue) (o o' : Outside)
+      → StopsFull clients (ActStep facts_of first step) Has p s s' o o'
+      → fulls.StopsFull clients step p.at s s' o o'
+  full_of Has p s s' o o' stops = record {
+    to = stops.to.at;
+    runs = runs_of p stops.to s s' o o' stops.went;
+    batch = stops.batch;
+    next = stops.next.at;
+    steps = stops.steps.1;
+    over = stops.over;
+  }

@@ -1,0 +1,440 @@
+-- The turns of all links, and a whole turn, as paths of a run's acts.
+use Rattle.std.proofs.Common.{◌≡◌, ℕ, suc, ◌+◌, ◌<◌, Bool, true, false, cond, ◌&&◌, List, [], length, refl, sym, ◌∙◌, ap, subst, inl, inr, arith, Some}
+use Rattle.std.specs.Prelude.{nat_lt, not, slice_get, slice_set}
+use Rattle.outside.specs.Outside.{Outside}
+use Rattle.sync_rules.specs.Clients.{Meaning}
+use Rattle.sync_store.specs.Store.{StoreValue}
+use Rattle.sync_course.specs.Acts.{Act, Does, Fail, Send, commit_acts}
+use Rattle.sync_course.specs.Events.{Break, Commit, Pass}
+use Rattle.sync_course.specs.Links as course_links
+use Rattle.sync_course.specs.Links.{without_redundant}
+use Rattle.sync_course.specs.LinkTurns.{Asks, Doing, Done, Sends, Spot}
+use Rattle.sync_course.specs.Owing.{Owing, paid}
+use Rattle.sync_course.specs.Paths.{Path}
+use Rattle.sync_course.specs.declared.TheConstants.{MAX_OUTPUTS}
+use Rattle.sync_course.specs.Turns.{Between, Place, RunStep, Terms, Works, is_at_end, turn_ended, with_spot}
+use Rattle.sync_course.proofs.LiftLaws.{begin_step, end_step, get_set, get_within, lifted_step, next_step}
+use Rattle.sync_course.proofs.PathLaws.{path_maps}
+use Rattle.sync_course.proofs.ToldLaws.{told_pass}
+use Rattle.sync_node.specs.declared.fault.Fault.{Fault}
+use Rattle.sync_node.specs.declared.fault.Fault.TheVariants as fault
+use Rattle.sync_node.specs.declared.link.Link.{Link}
+use Rattle.sync_node.specs.Courses.{IsLinkRead, IsReadyToSend, link_at, links_from, place_at, spot_at}
+use Rattle.sync_node.specs.Ends.{MaySend}
+use Rattle.sync_node.specs.OnLinks.{DueStopped, DueWent, HearingStopped, HearingWent, LinkActs, LinkMakes, LinkStopped, LinkWent, TurnWent}
+use Rattle.sync_node.specs.OnRuns.{AskingStopped, AskingWent, LinksStopped, LinksWent, OutsSent, OutsStopped, RoundStopped, RoundWent, RunActs, RunMakes, RunStopped, RunWent}
+use Rattle.sync_node.specs.Redundant.{ClosesSome}
+use Rattle.sync_node.specs.Went.{HasSoon, Went}
+use Rattle.sync_node.proofs.CourseCalls.{closed_read, ended_at, same_cond, same_heard}
+use Rattle.sync_node.proofs.CourseRuns.{all_read, and_cond, at_course, end_there, get_at, heard_with, in_terms, length_from, set_at, start_here}
+use Rattle.sync_node.proofs.CourseTurns.{may_end, read_on}
+use Rattle.sync_node.proofs.PrimLaws.{did_pass}
+use Rattle.sync_node.proofs.WentLaws.{stopped_then, went_none, went_one, went_then}
+
+-- ---- a link's turn in the run
+
+module _ (clients : Meaning) (terms : Terms) (n : ℕ) (place : Place) (within : n < length place.links) where
+  abbrev lift_spot : Owing Spot → Owing Place
+  lift_spot p = record { at = with_spot n p.at place; owed = p.owed }
+
+  lift_act : (p q : Owing Spot) (a : Act) → LinkActs clients terms.first n p a q
+      → RunActs clients terms (lift_spot p) a (lift_spot q)
+  lift_act p q (Does e) step =
+      (step.0, lifted_step clients terms n place within p.at q.at e step.1, step.2)
+  lift_act p q (Send link bytes) step = elim step [
+    | inl all ↦ inl (all.0, lifted_step clients terms n place within p.at q.at Pass all.1, all.2)
+    | inr some ↦
+        inr (record {
+          rest = some.rest;
+          parts = some.parts;
+          stays = ap (λ (s : Spot). with_spot n s place) some.stays;
+          left = some.left;
+        })
+  ]
+  lift_act p q (Fail link bytes count) step =
+      (step.0, lifted_step clients terms n place within p.at q.at (Break link) step.1, step.2)
+
+  lift_path : (p q : Owing Spot) (acts : List Act) → Path (LinkActs clients terms.first n) p acts q
+      → Path (RunActs clients terms) (lift_spot p) acts (lift_spot q)
+  lift_path p q acts path =
+      path_maps (LinkActs clients terms.first n) (RunActs clients terms) lift_spot lift_act p q acts path
+
+  went_lifted : (p q : Owing Spot) (s s' : StoreValue) (o o' : Outside)
+      → Went clients (LinkActs clients terms.first n) p q s s' o o'
+      → Went clients (RunActs clients terms) (lift_spot p) (lift_spot q) s s' o o'
+  went_lifted p q s s' o o' went = record {
+    acts = went.acts;
+    path = lift_path p q went.acts went.path;
+    did = went.did;
+  }
+
+  stands_lifted : (p : Owing Spot) (link : course_links.Link)
+      → HasSoon (LinkActs clients terms.first n) (λ (q : Owing Spot). q.at.link ≡ link) p
+      → HasSoon (RunActs clients terms) (λ (q : Owing Place). q.at.links ≡ slice_set place.links n link) (lift_spot p)
+  stands_lifted p link stands = elim stands [
+    | inl has ↦ inl (ap (λ (x : course_links.Link). slice_set place.links n x) has)
+    | inr will ↦
+        inr (record {
+          batch = will.batch;
+          next = lift_spot will.next;
+          steps = lift_act p will.next (Does (Commit will.batch)) will.steps;
+          has = ap (λ (x : course_links.Link). slice_set place.links n x) will.has;
+        })
+  ]
+
+  stopped_lifted : (p : Spot) (link : course_links.Link) (s s' : StoreValue) (o o' : Outside)
+      (e : Fault) → LinkStopped clients n (terms.first + n) p link s s' o o' e
+      → RunStopped clients terms (with_spot n p place) (slice_set place.links n link) s s' o o' e
+  stopped_lifted p link s s' o o' fault.Memory stopped =
+      let stops = stopped terms.first refl in
+      record {
+        to = lift_spot stops.to;
+        went = went_lifted (paid p) stops.to s s' o o' stops.went;
+        stands = stands_lifted stops.to link stops.stands;
+        ready = stops.ready;
+      }
+  stopped_lifted p link s s' o o' fault.Full stopped =
+      let stops = stopped terms.first refl in
+      record {
+        to = lift_spot stops.to;
+        went = went_lifted (paid p) stops.to s s' o o' stops.went;
+        stands = stands_lifted stops.to link stops.stands;
+        ready = stops.ready;
+        batch = stops.batch;
+        next = lift_spot stops.next;
+        steps = lift_act stops.to stops.next (Does (Commit stops.batch)) stops.steps;
+        over = stops.over;
+      }
+  stopped_lifted p link s s' o o' fault.DiskFault stopped =
+      let stops = stopped terms.first refl in
+      record {
+        to = lift_spot stops.to;
+        acts = stops.acts;
+        path = lift_path (paid p) stops.to stops.acts stops.path;
+        next = stops.next;
+        beyond = lift_spot stops.beyond;
+        goes_on = lift_path stops.to stops.beyond (commit_acts stops.next) stops.goes_on;
+        did = stops.did;
+        stands = stands_lifted stops.to link stops.stands;
+        rose = stops.rose;
+      }
+
+-- ---- steps of the run that call nothing
+
+module _ (clients : Meaning) (terms : Terms) where
+  run_passes : (p q : Place) (s : StoreValue) (o : Outside) → RunStep clients terms p Pass q
+      → RunWent clients terms p q s s o o
+  run_passes p q s o step =
+      went_one clients (RunActs clients terms) (paid p) (paid q) (Does Pass) s s o o
+      (λ link. refl, step, λ link. refl)
+      (did_pass clients (Does Pass) s o refl (λ link. refl) (told_pass o o refl))
+
+  run_joins : (p q r : Place) (s s1 s' : StoreValue) (o o1 o' : Outside)
+      → RunWent clients terms p q s s1 o o1 → RunWent clients terms q r s1 s' o1 o'
+      → RunWent clients terms p r s s' o o'
+  run_joins p q r s s1 s' o o1 o' first second =
+      went_then clients (RunActs clients terms) (paid p) (paid q) (paid r) s s1 s' o o1 o' first second
+
+  run_stops_then : (links : List course_links.Link) (p q : Place) (s s1 s' : StoreValue)
+      (o o1 o' : Outside) (e : Fault) → RunWent clients terms p q s s1 o o1
+      → RunStopped clients terms q links s1 s' o1 o' e
+      → RunStopped clients terms p links s s' o o' e
+  run_stops_then links p q s s1 s' o o1 o' e first second =
+      stopped_then clients (RunActs clients terms) (λ (x : Owing Place). x.at.links ≡ links) (paid p)
+      (paid q) s s1 s' o o1 o' e first second
+
+-- ---- one link in the run
+
+module _ (clients : Meaning) (first n : ℕ) (links : List Link) (l : Link) (s : StoreValue) (o : Outside) (at : slice_get links n ≡ Some l)
+    (numbered : l.session.number ≡ first + n) where
+  module _ (terms : Terms) (same : terms.first ≡ first) (heard : ℕ → List ℕ) (moved : Bool)
+      (still made : ℕ) where
+    link_within : (doing : Doing)
+        → n < length (place_at (Works n doing) links heard moved still made s.state.facts).links
+    link_within doing =
+        get_within (links_from 0 links heard) n (link_at l (heard n))
+        (at_course clients first n links l s o at numbered terms same heard moved still made)
+
+    pub link_goes : (doing doing' : Doing) (l' : Link) (s' : StoreValue) (o' : Outside)
+        (bytes : List ℕ) (moved' : Bool)
+        → LinkWent clients n l.session.number (spot_at doing l (heard n) moved s.state.facts)
+        (spot_at doing' l' bytes moved' s'.state.facts) s s' o o'
+        → RunWent clients terms (place_at (Works n doing) links heard moved still made s.state.facts)
+        (place_at (Works n doing') (slice_set links n l') (heard_with n bytes heard) moved' still made s'.state.facts) s s' o o'
+    link_goes doing doing' l' s' o' bytes moved' went =
+        let place : Place = place_at (Works n doing) links heard moved still made s.state.facts in
+        let p : Spot = spot_at doing l (heard n) moved s.state.facts in
+        let q : Spot = spot_at doing' l' bytes moved' s'.state.facts in
+        let lifted : RunWent clients terms (with_spot n p place) (with_spot n q place) s s' o o' =
+        went_lifted clients terms n place (link_within doing) (paid p) (paid q) s s' o o'
+        (went terms.first (in_terms clients first n links l s o at numbered terms same heard moved still made)) in
+        subst (λ (x : Place). RunWent clients terms x (place_at (Works n doing') (slice_set links n l') (heard_with n bytes heard) moved' still made s'.state.facts) s s' o o')
+        (start_here clients first n links l s o at numbered terms same heard moved still made doing)
+        (subst (λ (x : Place). RunWent clients terms (with_spot n p place) x s s' o o')
+        (end_there clients first n links l s o at numbered terms same heard moved still made doing doing' l' s'.state.facts bytes moved') lifted)
+
+    -- the same, with the number of batches that were committed
+    pub link_makes : (doing doing' : Doing) (l' : Link) (s' : StoreValue) (o' : Outside)
+        (bytes : List ℕ) (moved' : Bool) (count : ℕ)
+        → LinkMakes clients n l.session.number (spot_at doing l (heard n) moved s.state.facts)
+        (spot_at doing' l' bytes moved' s'.state.facts) s s' o o' count
+        → RunMakes clients terms (place_at (Works n doing) links heard moved still made s.state.facts)
+        (place_at (Works n doing') (slice_set links n l') (heard_with n bytes heard) moved' still made s'.state.facts) s s' o o' count
+    link_makes doing doing' l' s' o' bytes moved' count makes =
+        let place : Place = place_at (Works n doing) links heard moved still made s.state.facts in
+        let p : Spot = spot_at doing l (heard n) moved s.state.facts in
+        let q : Spot = spot_at doing' l' bytes moved' s'.state.facts in
+        let by = makes terms.first (in_terms clients first n links l s o at numbered terms same heard moved still made) in
+        let lifted : RunMakes clients terms (with_spot n p place) (with_spot n q place) s s' o o' count =
+        record {
+          went = record {
+            acts = by.went.acts;
+            path = lift_path clients terms n place (link_within doing) (paid p) (paid q) by.went.acts by.went.path;
+            did = by.went.did;
+          };
+          counts = by.counts;
+        } in
+        subst (λ (x : Place). RunMakes clients terms x (place_at (Works n doing') (slice_set links n l') (heard_with n bytes heard) moved' still made s'.state.facts) s s' o o' count)
+        (start_here clients first n links l s o at numbered terms same heard moved still made doing)
+        (subst (λ (x : Place). RunMakes clients terms (with_spot n p place) x s s' o o' count)
+        (end_there clients first n links l s o at numbered terms same heard moved still made doing doing' l' s'.state.facts bytes moved') lifted)
+
+    pub link_stops : (doing : Doing) (l' : Link) (s' : StoreValue) (o' : Outside) (bytes : List ℕ)
+        (e : Fault)
+        → LinkStopped clients n l.session.number (spot_at doing l (heard n) moved s.state.facts) (link_at l' bytes) s s' o o' e
+        → RunStopped clients terms (place_at (Works n doing) links heard moved still made s.state.facts)
+        (links_from 0 (slice_set links n l') (heard_with n bytes heard)) s s' o o' e
+    link_stops doing l' s' o' bytes e stopped =
+        let place : Place = place_at (Works n doing) links heard moved still made s.state.facts in
+        let p : Spot = spot_at doing l (heard n) moved s.state.facts in
+        let plain : 0 + n ≡ n = omega arith in
+        let set : slice_set (links_from 0 links heard) n (link_at l' bytes) ≡ links_from 0 (slice_set links n l') (heard_with n bytes heard) =
+        set_at 0 n links heard l' bytes ∙ ap (λ (j : ℕ). links_from 0 (slice_set links n l') (heard_with j bytes heard)) plain in
+        subst (λ (x : Place). RunStopped clients terms x (links_from 0 (slice_set links n l') (heard_with n bytes heard)) s s' o o' e)
+        (start_here clients first n links l s o at numbered terms same heard moved still made doing)
+        (subst (λ (ls : List course_links.Link). RunStopped clients terms (with_spot n p place) ls s s' o o' e) set
+        (stopped_lifted clients terms n place (link_within doing) p (link_at l' bytes) s s' o o' e
+        (subst (λ (k : ℕ). LinkStopped clients n k p (link_at l' bytes) s s' o o' e)
+        (in_terms clients first n links l s o at numbered terms same heard moved still made) stopped)))
+
+-- ---- all links, one after the other
+
+pub links_none : (clients : Meaning) (first : ℕ) (links : List Link) (s : StoreValue) (o : Outside)
+    → LinksWent clients first 0 links links s s o o true
+links_none clients first links s o = record {
+  leads = λ terms heard moved still made same read. record {
+    heard' = heard;
+    has_read = read;
+    went =
+        went_none clients (RunActs clients terms)
+        (paid (place_at (Works 0 Asks) links heard moved still made s.state.facts)) s o;
+  };
+}
+
+-- all links had their turn
+pub links_all : (clients : Meaning) (first n k : ℕ) (links links' : List Link) (s s' : StoreValue)
+    (o o' : Outside) (quiet : Bool) → n ≡ k
+    → LinksWent clients first n links links' s s' o o' quiet
+    → LinksWent clients first k links links' s s' o o' quiet
+links_all clients first n k links links' s s' o o' quiet same went =
+    subst (λ (j : ℕ). LinksWent clients first j links links' s s' o o' quiet) same went
+
+module _ (clients : Meaning) (first n : ℕ) (links0 links : List Link) (l : Link) (s0 s : StoreValue) (o0 o : Outside) (quiet : Bool)
+    (at : slice_get links n ≡ Some l) (numbered : l.session.number ≡ first + n)
+    (a : LinksWent clients first n links0 links s0 s o0 o quiet) where
+  module _ (terms : Terms) (same : terms.first ≡ first) (heard : ℕ → List ℕ) (moved : Bool)
+      (still made : ℕ) where
+    turn_goes : (l' : Link) (s' : StoreValue) (o' : Outside) (bytes : List ℕ) (moved' : Bool)
+        → LinkWent clients n l.session.number (spot_at Asks l (heard n) moved s.state.facts)
+        (spot_at Done l' bytes moved' s'.state.facts) s s' o o'
+        → RunWent clients terms (place_at (Works n Asks) links heard moved still made s.state.facts)
+        (place_at (Works (suc n) Asks) (slice_set links n l') (heard_with n bytes heard) moved' still made s'.state.facts) s s' o o'
+    turn_goes l' s' o' bytes moved' went =
+        let heard' : ℕ → List ℕ = heard_with n bytes heard in
+        let done : Place = place_at (Works n Done) (slice_set links n l') heard' moved' still made s'.state.facts in
+        let there : slice_get (slice_set links n l') n ≡ Some l' = get_set links n l' (get_within links n l at) in
+        run_joins clients terms (place_at (Works n Asks) links heard moved still made s.state.facts) done
+        (place_at (Works (suc n) Asks) (slice_set links n l') heard' moved' still made s'.state.facts) s s' s' o o' o'
+        (link_goes clients first n links l s o at numbered terms same heard moved still made Asks Done l' s' o' bytes moved' went)
+        (run_passes clients terms done (place_at (Works (suc n) Asks) (slice_set links n l') heard' moved' still made s'.state.facts) s' o'
+        (next_step clients terms n (link_at l' (heard' (0 + n))) done refl (get_at 0 n (slice_set links n l') heard' l' there)))
+
+  links_then : (l' : Link) (s' : StoreValue) (o' : Outside) (still_too : Bool)
+      → TurnWent clients n l l' s s' o o' still_too
+      → LinksWent clients first (suc n) links0 (slice_set links n l') s0 s' o0 o' (quiet && still_too)
+  links_then l' s' o' still_too turn = record {
+    leads = λ terms heard moved still made same read.
+        let so = a.leads terms heard moved still made same read in
+        let t = turn.leads (so.heard' n) (cond quiet moved true) (so.has_read n l at) in
+        record {
+          heard' = heard_with n t.heard' so.heard';
+          has_read = all_read n links so.heard' l l' t.heard' at so.has_read t.has_read;
+          went =
+              subst (λ (b : Bool). RunWent clients terms (place_at (Works 0 Asks) links0 heard moved still made s0.state.facts)
+              (place_at (Works (suc n) Asks) (slice_set links n l') (heard_with n t.heard' so.heard') b still made s'.state.facts) s0 s' o0 o')
+              (and_cond quiet still_too moved)
+              (run_joins clients terms (place_at (Works 0 Asks) links0 heard moved still made s0.state.facts)
+              (place_at (Works n Asks) links so.heard' (cond quiet moved true) still made s.state.facts)
+              (place_at (Works (suc n) Asks) (slice_set links n l') (heard_with n t.heard' so.heard') (cond still_too (cond quiet moved true) true) still made s'.state.facts)
+              s0 s s' o0 o o' so.went
+              (turn_goes terms same so.heard' (cond quiet moved true) still made l' s' o' t.heard' (cond still_too (cond quiet moved true) true) t.went));
+        };
+  }
+
+  pub links_stop : (l' : Link) (s' : StoreValue) (o' : Outside) (e : Fault)
+      → HearingStopped clients n l l' s s' o o' e
+      → LinksStopped clients first links0 (slice_set links n l') s0 s' o0 o' e
+  links_stop l' s' o' e stopped = record {
+    stops = λ terms heard moved still made same read.
+        let so = a.leads terms heard moved still made same read in
+        let halts = stopped.stops (so.heard' n) (cond quiet moved true) (so.has_read n l at) in
+        let heard' : ℕ → List ℕ = heard_with n halts.0 so.heard' in (
+          heard',
+          run_stops_then clients terms (links_from 0 (slice_set links n l') heard')
+              (place_at (Works 0 Asks) links0 heard moved still made s0.state.facts)
+              (place_at (Works n Asks) links so.heard' (cond quiet moved true) still made s.state.facts) s0 s s' o0 o o' e so.went
+              (link_stops clients first n links l s o at numbered terms same so.heard' (cond quiet moved true) still made Asks l' s' o' halts.0 e halts.1),
+        );
+  }
+
+  -- one more, by the number of the next link and whether all were still
+  pub links_next : (l' : Link) (s' : StoreValue) (o' : Outside) (still_too : Bool)
+      → TurnWent clients n l l' s s' o o' still_too → (k : ℕ) (all : Bool)
+      → k ≡ n + 1 → all ≡ (quiet && still_too)
+      → LinksWent clients first k links0 (slice_set links n l') s0 s' o0 o' all
+  links_next l' s' o' still_too turn k all more is =
+      let next : suc n ≡ k = omega (arith, more) in
+      subst (λ (j : ℕ). LinksWent clients first j links0 (slice_set links n l') s0 s' o0 o' all) next
+      (subst (λ (b : Bool). LinksWent clients first (suc n) links0 (slice_set links n l') s0 s' o0 o' b) (sym is) (links_then l' s' o' still_too turn))
+
+-- ---- a whole turn
+
+-- a turn begins
+round_begun : (clients : Meaning) (terms : Terms) (links : List Link) (s : StoreValue) (o : Outside)
+    (heard : ℕ → List ℕ) (moved : Bool) (still made : ℕ)
+    → is_at_end terms (place_at Between links heard moved still made s.state.facts) ≡ false
+    → RunWent clients terms (place_at Between links heard moved still made s.state.facts)
+    (place_at (Works 0 Asks) links heard false still made s.state.facts) s s o o
+round_begun clients terms links s o heard moved still made on =
+    let from : Place = place_at Between links heard moved still made s.state.facts in
+    run_passes clients terms from (record from { stage = Works 0 Asks; moved = false }) s o
+    (begin_step clients terms from refl on)
+
+module _ (clients : Meaning) (n : ℕ) (mid links' : List Link) (s : StoreValue) (o : Outside) (all : n ≡ length mid)
+    (exact : (heard : ℕ → List ℕ) → links_from 0 links' heard ≡ without_redundant (links_from 0 mid heard)) where
+  -- and ends, and the redundant links are closed
+  round_closed : (terms : Terms) (heard : ℕ → List ℕ) (still made : ℕ) (quiet : Bool)
+      → RunWent clients terms (place_at (Works n Asks) mid heard (cond quiet false true) still made s.state.facts)
+      (place_at Between links' heard (not quiet) (cond quiet (suc still) 0) (suc made) s.state.facts) s s o o
+  round_closed terms heard still made quiet =
+      let place : Place = place_at (Works n Asks) mid heard (cond quiet false true) still made s.state.facts in
+      subst (λ (q : Place). RunWent clients terms place q s s o o) (ended_at clients n mid links' s o all exact heard still made quiet)
+      (run_passes clients terms place (turn_ended place) s o
+      (end_step clients terms place (ap (λ (k : ℕ). Works k Asks) (all ∙ sym (length_from 0 mid heard)))))
+
+pub round_went : (clients : Meaning) (first n : ℕ) (links mid links' : List Link)
+    (s s' : StoreValue) (o o' : Outside) (quiet : Bool) → n ≡ length mid
+    → LinksWent clients first n links mid s s' o o' quiet → ClosesSome mid links'
+    → ((heard : ℕ → List ℕ) → links_from 0 links' heard ≡ without_redundant (links_from 0 mid heard))
+    → RoundWent clients first links links' s s' o o' quiet
+round_went clients first n links mid links' s s' o o' quiet all turns closes exact = record {
+  leads = λ terms heard moved still made same read on.
+      let so = turns.leads terms heard false still made same read in
+      let from : Place = place_at Between links heard moved still made s.state.facts in
+      let begun : Place = place_at (Works 0 Asks) links heard false still made s.state.facts in
+      let behind : Place = place_at (Works n Asks) mid so.heard' (cond quiet false true) still made s'.state.facts in
+      let to : Place = place_at Between links' so.heard' (not quiet) (cond quiet (suc still) 0) (suc made) s'.state.facts in
+      record {
+        heard' = so.heard';
+        has_read = closed_read mid links' so.heard' closes so.has_read;
+        went =
+            run_joins clients terms from begun to s s s' o o o'
+            (round_begun clients terms links s o heard moved still made on)
+            (run_joins clients terms begun behind to s s' s' o o' o'
+            so.went (round_closed clients n mid links' s' o' all exact terms so.heard' still made quiet));
+      };
+}
+
+pub round_stopped : (clients : Meaning) (first : ℕ) (links links' : List Link) (s s' : StoreValue)
+    (o o' : Outside) (e : Fault) → LinksStopped clients first links links' s s' o o' e
+    → RoundStopped clients first links links' s s' o o' e
+round_stopped clients first links links' s s' o o' e stopped = record {
+  stops = λ terms heard moved still made same read on.
+      let halts = stopped.stops terms heard false still made same read in (
+        halts.0,
+        run_stops_then clients terms (links_from 0 links' halts.0) (place_at Between links heard moved still made s.state.facts)
+            (place_at (Works 0 Asks) links heard false still made s.state.facts) s s s' o o o' e (round_begun clients terms links s o heard moved still made on) halts.1,
+      );
+}
+
+-- ---- one call on a link
+
+module _ (clients : Meaning) (first n : ℕ) (links : List Link) (l : Link) (s : StoreValue) (o : Outside) (at : slice_get links n ≡ Some l)
+    (numbered : l.session.number ≡ first + n) where
+  -- it was asked once
+  pub asking_went : (l' : Link) (s' : StoreValue) (o' : Outside) (idle : Bool)
+      → HearingWent clients n l l' s s' o o' idle
+      → AskingWent clients first n links (slice_set links n l') s s' o o' idle
+  asking_went l' s' o' idle hears = record {
+    leads = λ terms heard moved still made same read.
+        let to = hears.leads (heard n) moved (read n l at) in
+        record {
+          heard' = heard_with n to.heard' heard;
+          doing = to.doing;
+          has_read = all_read n links heard l l' to.heard' at read to.has_read;
+          ready = λ x there.
+              let both : Some l' ≡ Some x = sym (get_set links n l' (get_within links n l at)) ∙ there in
+              let is : l' ≡ x = cc in
+              subst (IsReadyToSend to.doing) is to.ready;
+          went = link_goes clients first n links l s o at numbered terms same heard moved still made Asks to.doing l' s' o' to.heard' (cond idle moved true) to.went;
+        };
+  }
+
+  pub asking_stopped : (l' : Link) (s' : StoreValue) (o' : Outside) (e : Fault)
+      → HearingStopped clients n l l' s s' o o' e
+      → AskingStopped clients first n links (slice_set links n l') s s' o o' e
+  asking_stopped l' s' o' e stopped = record {
+    stops = λ terms heard moved still made same read.
+        let halts = stopped.stops (heard n) moved (read n l at) in (
+          heard_with n halts.0 heard,
+          link_stops clients first n links l s o at numbered terms same heard moved still made Asks l' s' o' halts.0 e halts.1,
+        );
+  }
+
+  -- what is due on it was sent
+  module _ (now : ℕ) (may : MaySend l.end) where
+    pub outs_sent : (l' : Link) (s' : StoreValue) (o' : Outside) (outs : ℕ)
+        → DueWent clients n now l l' s s' o o' outs
+        → OutsSent clients first n now links (slice_set links n l') s s' o o' outs
+    outs_sent l' s' o' outs sent = record {
+      has_read = λ heard read i x there.
+          subst (λ (bytes : List ℕ). IsLinkRead bytes x) (same_cond i n heard)
+          (all_read n links heard l l' (heard n) at read (read_on (heard n) l l' sent.same_reader sent.end (read n l at)) i x there);
+      makes = λ terms heard moved still made same.
+          let to : (h : ℕ → List ℕ) → Place = λ h. place_at (Works n Done) (slice_set links n l') h (cond (nat_lt 0 outs) true moved) still made s'.state.facts in
+          let from : Place = place_at (Works n (Sends now MAX_OUTPUTS)) links heard moved still made s.state.facts in
+          let is : to (heard_with n (heard n) heard) ≡ to heard =
+          ap (λ (ls : List course_links.Link). record {
+            stage = Works n Done;
+            links = ls;
+            moved = cond (nat_lt 0 outs) true moved;
+            still = still;
+            made = made;
+            facts = s'.state.facts;
+          }) (same_heard 0 n (slice_set links n l') heard) in
+          subst (λ (q : Place). RunMakes clients terms from q s s' o o' outs) is
+          (link_makes clients first n links l s o at numbered terms same heard moved still made (Sends now MAX_OUTPUTS) Done l' s' o' (heard n) (cond (nat_lt 0 outs) true moved) outs
+          (sent.makes (heard n) moved (may_end l.end may)));
+    }
+
+    pub outs_stopped : (l' : Link) (s' : StoreValue) (o' : Outside) (e : Fault)
+        → DueStopped clients n now l l' s s' o o' e
+        → OutsStopped clients first n now links (slice_set links n l') s s' o o' e
+    outs_stopped l' s' o' e stopped = record {
+      stops = λ terms heard moved still made same.
+          subst (λ (ls : List course_links.Link). RunStopped clients terms
+          (place_at (Works n (Sends now MAX_OUTPUTS)) links heard moved still made s.state.facts) ls s s' o o' e)
+          (same_heard 0 n (slice_set links n l') heard)
+          (link_stops clients first n links l s o at numbered terms same heard moved still made (Sends now MAX_OUTPUTS) l' s' o' (heard n) e
+          (stopped.stops (heard n) moved (may_end l.end may)));
+    }

@@ -1,0 +1,325 @@
+-- A session that begins on the next link, as acts of a run.
+use Rattle.std.proofs.Common.{◌≡◌, ◌≢◌, ◌⊎◌, ℕ, ◌+◌, ◌<◌, ◌≤◌, Bool, cond, nat_eq, eq-eqb, List, [], ◌∷◌, ◌++◌, append-nil, length, refl, sym, ◌∙◌, ap, subst, inl, inr, arith, Some, Result, Ok, Err}
+use Rattle.std.specs.Prelude.{slice_get}
+use Rattle.std.proofs.lemmas.Bool.{cases_eq, ne_eqb}
+use Rattle.entry_codec.specs.Standing.{room_of}
+use Rattle.outside.specs.declared.failed.Failed.{Failed}
+use Rattle.outside.specs.declared.limits.TheConstants.{MAX_JOURNAL}
+use Rattle.outside.specs.Host.{SendsOnLink}
+use Rattle.outside.specs.Outside.{Outside}
+use Rattle.outside.proofs.RunLaws.{front_same}
+use Rattle.record_grammar.specs.Spelling.{spelled}
+use Rattle.record_stream.specs.Reading.{AwaitsBytes, ReaderState, fresh}
+use Rattle.sync_rules.specs.declared.entries.Entry.{Entry}
+use Rattle.sync_rules.specs.declared.entries.Session.{Session}
+use Rattle.sync_rules.specs.Clients.{Meaning}
+use Rattle.sync_rules.specs.Facts.{Facts, after_all, session_at}
+use Rattle.sync_rules.specs.Growth.{output_in}
+use Rattle.sync_rules.specs.Legal.{Allowed}
+use Rattle.sync_rules.specs.Output.{first_records}
+use Rattle.sync_store.specs.Fitting.{ImagesStand}
+use Rattle.sync_store.specs.Ready.{IsReady}
+use Rattle.sync_store.specs.Store.{StoreValue, written_in}
+use Rattle.sync_course.specs.Acts.{Act, Does, Fail, Send, commit_acts}
+use Rattle.sync_course.specs.Events.{Commit}
+use Rattle.sync_course.specs.Links as course_links
+use Rattle.sync_course.specs.Owing.{Owing, adds_to, paid}
+use Rattle.sync_course.specs.Paths.{Path}
+use Rattle.sync_course.specs.Reading.{HasRead}
+use Rattle.sync_course.specs.Turns.{Attaches, Greets, Place, Terms, attached, unattached}
+use Rattle.sync_course.specs.declared.ends.LinkEnd.TheVariants as link_end
+use Rattle.sync_course.proofs.ReadingLaws.{fresh_has_read}
+use Rattle.sync_course.proofs.RunLaws.{get_push_cases}
+use Rattle.sync_node.specs.declared.fault.Fault.{Fault}
+use Rattle.sync_node.specs.declared.fault.Fault.TheVariants as fault
+use Rattle.sync_node.specs.declared.link.Link.{Link}
+use Rattle.sync_node.specs.Batches.{CommitStops, Committed}
+use Rattle.sync_node.specs.Courses.{IsLinkRead, attaching_at, link_at, links_from, place_at}
+use Rattle.sync_node.specs.Did.{Did}
+use Rattle.sync_node.specs.OnRuns.{BeginStopped, BeginWent, GreetsBy, IsGreeting, RunActs, RunStopped, RunWent, StartStopped, StartWent, StartWentLast}
+use Rattle.sync_node.specs.Sending.{EndsBy, SendsOn}
+use Rattle.sync_node.proofs.CourseRuns.{length_from}
+use Rattle.sync_node.proofs.CourseStart.{begins_as, begun_is, is_free, push_from}
+use Rattle.sync_node.proofs.DidLaws.{did_then}
+use Rattle.sync_node.proofs.PrimLaws.{did_fail, did_send}
+use Rattle.sync_node.proofs.StartLaws.{session_batch}
+use Rattle.sync_node.proofs.WentLaws.{commit_stopped, no_memory}
+
+-- ---- a greeting
+
+pub greeted_once : ImagesStand → (n : ℕ) (first second : List ℕ) (l l' : Link) (o o' : Outside)
+    → n < o.links.dialled → SendsOn n first l l' o o' → (l' ≡ l → second ≡ [])
+    → GreetsBy n first second l l' o o'
+greeted_once stand n first second l l' o o' within sends over =
+    by_result sends.result sends.sends sends.ends
+  where
+    by_result : (result : Result (Unit {0}) Failed) → SendsOnLink n first result o.links o'.links
+        → EndsBy result l l' → GreetsBy n first second l l' o o'
+    by_result (Ok u) went ends = record {
+      acts = Send n first ∷ [];
+      is = inl (refl, over ends, ends);
+      did = λ clients s roomy. did_send stand clients n first s o o' roomy within sends.call u went;
+    }
+    by_result (Err why) went ends = record {
+      acts = Fail n first went.sent.0 ∷ [];
+      is = inr (inr (inl (went.sent.0, refl, ends)));
+      did = λ clients s roomy. did_fail stand clients n first s o o' roomy within sends.call why went;
+    }
+
+pub greeted_twice : ImagesStand → (n : ℕ) (first second : List ℕ) (l mid l' : Link)
+    (o o1 o' : Outside) → n < o.links.dialled → n < o1.links.dialled → mid.end ≢ link_end.Failed
+    → SendsOn n first l mid o o1 → SendsOn n second mid l' o1 o'
+    → GreetsBy n first second l l' o o'
+greeted_twice stand n first second l mid l' o o1 o' within within1 unfailed one two =
+    by_results one.result two.result one.sends one.ends two.sends two.ends
+  where
+    by_results : (a b : Result (Unit {0}) Failed) → SendsOnLink n first a o.links o1.links
+        → EndsBy a l mid → SendsOnLink n second b o1.links o'.links → EndsBy b mid l'
+        → GreetsBy n first second l l' o o'
+    by_results (Ok u) (Ok v) went ends went' ends' = record {
+      acts = Send n first ∷ (Send n second ∷ []);
+      is = inr (inl (refl, ends' ∙ ends));
+      did = λ clients s roomy.
+          did_then clients (Send n first ∷ []) (Send n second ∷ []) s s s o o1 o'
+          (did_send stand clients n first s o o1 roomy within one.call u went)
+          (did_send stand clients n second s o1 o' roomy within1 two.call v went');
+    }
+    by_results (Ok u) (Err why) went ends went' ends' = record {
+      acts = Send n first ∷ (Fail n second went'.sent.0 ∷ []);
+      is = inr (inr (inr (went'.sent.0, refl, ends' ∙ ap (λ (x : Link). record x { end = link_end.Failed }) ends)));
+      did = λ clients s roomy.
+          did_then clients (Send n first ∷ []) (Fail n second went'.sent.0 ∷ []) s s s o o1 o'
+          (did_send stand clients n first s o o1 roomy within one.call u went)
+          (did_fail stand clients n second s o1 o' roomy within1 two.call why went');
+    }
+    by_results (Err why) b went ends went' ends' = absurd (unfailed (ap (λ (x : Link). x.end) ends))
+
+-- ---- what is owed by a session that begins
+
+begins_own : (f : Facts) (x : Session) (number : ℕ) → x.number ≡ number
+    → output_in f number (session_batch x) ≡ first_records x
+begins_own f x number same =
+    append-nil _ ∙ ap (λ b. cond b (first_records x) []) (eq-eqb x.number number same)
+
+begins_none : (f : Facts) (x : Session) (number : ℕ) → x.number ≢ number
+    → output_in f number (session_batch x) ≡ []
+begins_none f x number apart =
+    append-nil _ ∙ ap (λ b. cond b (first_records x) []) (ne_eqb x.number number apart)
+
+module _ (clients : Meaning) (x : Session) (s : StoreValue) (o : Outside) (batch : List Entry) (is : batch ≡ session_batch x)
+    (allowed : Allowed clients s.state.facts (session_batch x)) where
+  module _ (terms : Terms) (left : List Session) (links : List course_links.Link) (moved : Bool)
+      (still made : ℕ) where
+    abbrev before_at : Place
+    before_at = attaching_at (x ∷ left) links moved still made s.state.facts
+
+    abbrev greets_at : Place
+    greets_at = record { stage = Greets x left; links = links; moved = moved; still = still; made = made; facts = after_all s.state.facts (session_batch x) }
+
+    abbrev owing_greeting : Owing Place
+    owing_greeting = record { at = greets_at; owed = adds_to s.state.facts terms.first (Commit (session_batch x)) }
+
+    begin_step : RunActs clients terms (paid before_at) (Does (Commit (session_batch x))) owing_greeting
+    begin_step = (λ link. refl, (refl, allowed, refl), λ link. refl)
+
+    pub start_stops : (s' : StoreValue) (o' : Outside) (e : Fault)
+        → CommitStops clients batch s s' o o' e
+        → RunStopped clients terms before_at links s s' o o' e
+    start_stops s' o' e stops =
+        commit_stopped clients (RunActs clients terms) (λ (q : Owing Place). q.at.links ≡ links) (paid before_at) owing_greeting
+        (session_batch x) begin_step refl s s' o o' e
+        (subst (λ (b : List Entry). CommitStops clients b s s' o o' e) is stops)
+
+    module _ (n : ℕ) (long : length links ≡ n) (numbered : x.number ≡ terms.first + n)
+        (first second : List ℕ) (bytes : first ++ second ≡ spelled (first_records x)) where
+      owed_here : adds_to s.state.facts terms.first (Commit (session_batch x)) n ≡ first ++ second
+      owed_here = ap spelled (begins_own s.state.facts x (terms.first + n) numbered) ∙ sym bytes
+
+      owed_off : (link : ℕ) → link ≢ n
+          → adds_to s.state.facts terms.first (Commit (session_batch x)) link ≡ []
+      owed_off link other =
+          ap spelled (begins_none s.state.facts x (terms.first + link) (λ same. other (omega (arith, same, numbered))))
+
+      -- the second part is owed still
+      abbrev owing_second : Owing Place
+      owing_second = record {
+        at = greets_at;
+        owed = λ link. cond (nat_eq n link) second (adds_to s.state.facts terms.first (Commit (session_batch x)) link);
+      }
+
+      -- nothing is owed on the link any more
+      paid_now : (rest : List ℕ) (link : ℕ)
+          → [] ≡ cond (nat_eq n link) [] (cond (nat_eq n link) rest (adds_to s.state.facts terms.first (Commit (session_batch x)) link))
+      paid_now rest link = elim (cases_eq link n) [
+        | inl same ↦
+            sym (ap (λ (b : Bool). cond b [] (cond b rest (adds_to s.state.facts terms.first (Commit (session_batch x)) link))) (eq-eqb n link (sym same)))
+        | inr other ↦
+            sym (ap (λ (b : Bool). cond b [] (cond b rest (adds_to s.state.facts terms.first (Commit (session_batch x)) link))) (ne_eqb n link (λ same. other (sym same)))
+            ∙ owed_off link other)
+      ]
+
+      paid_once : (link : ℕ)
+          → [] ≡ cond (nat_eq n link) [] (adds_to s.state.facts terms.first (Commit (session_batch x)) link)
+      paid_once link = elim (cases_eq link n) [
+        | inl same ↦
+            sym (ap (λ (b : Bool). cond b [] (adds_to s.state.facts terms.first (Commit (session_batch x)) link)) (eq-eqb n link (sym same)))
+        | inr other ↦
+            sym (ap (λ (b : Bool). cond b [] (adds_to s.state.facts terms.first (Commit (session_batch x)) link)) (ne_eqb n link (λ same. other (sym same)))
+            ∙ owed_off link other)
+      ]
+
+      second_here : cond (nat_eq n n) second (adds_to s.state.facts terms.first (Commit (session_batch x)) n) ≡ second
+      second_here =
+          ap (λ (b : Bool). cond b second (adds_to s.state.facts terms.first (Commit (session_batch x)) n)) (eq-eqb n n refl)
+
+      sends_first : RunActs clients terms owing_greeting (Send n first) owing_second
+      sends_first = inr (record { rest = second; parts = owed_here; stays = refl; left = λ link. refl })
+
+      -- how the greeting goes on from where the session has begun
+      greets_by : (l l' : Link) (acts : List Act) → IsGreeting n first second l l' acts
+          → ((l' ≡ l) × Path (RunActs clients terms) owing_greeting acts (paid (attached x left greets_at)))
+          ⊎ ((l' ≡ record l { end = link_end.Failed })
+          × Path (RunActs clients terms) owing_greeting acts (paid (unattached x left greets_at)))
+      greets_by l l' acts greeting = elim greeting [
+        | inl one ↦
+            let bytes_are : first ≡ adds_to s.state.facts terms.first (Commit (session_batch x)) n =
+            sym (owed_here ∙ ap (λ (b : List ℕ). first ++ b) one.1 ∙ append-nil first) in
+            inl (
+              one.2,
+              subst (λ (done : List Act). Path (RunActs clients terms) owing_greeting done (paid (attached x left greets_at))) (sym one.0)
+                  (paid (attached x left greets_at), inl (bytes_are, refl, paid_once), refl),
+            )
+        | inr others ↦ elim others [
+          | inl both ↦
+              inl (
+                both.1,
+                subst (λ (done : List Act). Path (RunActs clients terms) owing_greeting done (paid (attached x left greets_at))) (sym both.0)
+                    (owing_second, sends_first, (paid (attached x left greets_at), inl (sym second_here, refl, paid_now second), refl)),
+              )
+          | inr failed ↦ elim failed [
+            | inl at_first ↦
+                inr (
+                  at_first.2,
+                  subst (λ (done : List Act). Path (RunActs clients terms) owing_greeting done (paid (unattached x left greets_at))) (sym at_first.1)
+                      (paid (unattached x left greets_at), (record { rest = second; whole = owed_here }, (sym long, refl), paid_once), refl),
+                )
+            | inr at_second ↦
+                inr (
+                  at_second.2,
+                  subst (λ (done : List Act). Path (RunActs clients terms) owing_greeting done (paid (unattached x left greets_at))) (sym at_second.1)
+                      (owing_second, sends_first, (paid (unattached x left greets_at), (front_same _ _ second_here, (sym long, refl), paid_now second), refl)),
+                )
+          ]
+        ]
+      ]
+
+      module _ (s1 : StoreValue) (o1 o2 : Outside) (commits : Committed clients batch s s1 o o1)
+          (roomy : s1.end + room_of (written_in s1) s1.state.facts ≤ MAX_JOURNAL) (begun : Session) (reader : ReaderState) (same : begun ≡ x)
+          (l : Link) (greets : GreetsBy n first second (record { session = begun; reader = reader; nonce = begun.nonce; end = link_end.Going }) l o1 o2) where
+        facts_are : after_all s.state.facts (session_batch x) ≡ s1.state.facts
+        facts_are = ap (after_all s.state.facts) (sym is) ∙ sym commits.facts
+
+        goes_by : (q : Place) → Path (RunActs clients terms) owing_greeting greets.acts (paid q)
+            → RunWent clients terms before_at q s s1 o o2
+        goes_by q path = record {
+          acts = Does (Commit (session_batch x)) ∷ greets.acts;
+          path = (owing_greeting, begin_step, path);
+          did =
+              did_then clients (commit_acts (session_batch x ∷ [])) greets.acts s s1 s1 o o1 o2
+              (subst (λ (b : List Entry). Did clients (commit_acts (b ∷ [])) s s1 o o1) is commits.did)
+              (greets.did clients s1 roomy);
+        }
+
+        pub starts_there : RunWent clients terms before_at (attaching_at left (links ++ link_at l [] ∷ []) moved still made s1.state.facts) s s1 o o2
+        starts_there =
+            subst (λ (f : Facts). RunWent clients terms before_at (attaching_at left (links ++ link_at l [] ∷ []) moved still made f) s s1 o o2) facts_are
+            (elim (greets_by _ l greets.acts greets.is) [
+              | inl went ↦
+                  subst (λ (q : Place). RunWent clients terms before_at q s s1 o o2)
+                  (begins_as clients x s o batch is allowed terms left links moved still made begun reader same l link_end.Going (after_all s.state.facts (session_batch x)) went.0)
+                  (goes_by (attached x left greets_at) went.1)
+              | inr failed ↦
+                  subst (λ (q : Place). RunWent clients terms before_at q s s1 o o2)
+                  (begins_as clients x s o batch is allowed terms left links moved still made begun reader same l link_end.Failed (after_all s.state.facts (session_batch x)) failed.0)
+                  (goes_by (unattached x left greets_at) failed.1)
+            ])
+
+  pub start_stopped : (s' : StoreValue) (o' : Outside) (e : Fault)
+      → CommitStops clients batch s s' o o' e → StartStopped clients x s s' o o' e
+  start_stopped s' o' e stops = record {
+    stops = λ terms left links moved still made. start_stops terms left links moved still made s' o' e stops;
+  }
+
+  pub start_went : (n : ℕ) (first second : List ℕ) (begun : Session) (reader : ReaderState)
+      (l : Link) (s1 : StoreValue) (o1 o2 : Outside) → IsReady clients s o.files
+      → Committed clients batch s s1 o o1
+      → s1.end + room_of (written_in s1) s1.state.facts ≤ MAX_JOURNAL
+      → first ++ second ≡ spelled (first_records x)
+      → Some begun ≡ session_at s1.state.facts.sessions x.number
+      → reader ≡ fresh → AwaitsBytes fresh
+      → GreetsBy n first second (record { session = begun; reader = reader; nonce = begun.nonce; end = link_end.Going }) l o1 o2
+      → StartWent clients n x l s s1 o o2
+  start_went n first second begun reader l s1 o1 o2 ready commits roomy bytes found is_fresh awaits greets =
+      let as_is : s1.state.facts ≡ after_all s.state.facts (session_batch x) = commits.facts ∙ ap (λ (b : List Entry). after_all s.state.facts b) is in
+      record {
+        has_read = λ going. subst (λ (r : ReaderState). HasRead [] r) (sym (reader_of greets.is)) (fresh_has_read awaits awaits.nothing);
+        went = λ two told terms left links moved still made long numbered.
+            let some = ready.fits two told in
+            let same : begun ≡ x = begun_is s.state.facts s1.state.facts x begun (is_free clients s.state.facts x some.0 some.1.legal some.1.facts_are allowed) as_is found in
+            starts_there terms left links moved still made n long numbered first second bytes s1 o1 o2 commits roomy begun reader same l greets;
+      }
+    where
+      reader_of : IsGreeting n first second (record { session = begun; reader = reader; nonce = begun.nonce; end = link_end.Going }) l greets.acts → l.reader ≡ fresh
+      reader_of greeting = elim greeting [
+        | inl one ↦ ap (λ (y : Link). y.reader) one.2 ∙ is_fresh
+        | inr others ↦ elim others [
+          | inl both ↦ ap (λ (y : Link). y.reader) both.1 ∙ is_fresh
+          | inr failed ↦ elim failed [
+            | inl at_first ↦ ap (λ (y : Link). y.reader) at_first.2 ∙ is_fresh
+            | inr at_second ↦ ap (λ (y : Link). y.reader) at_second.2 ∙ is_fresh
+          ]
+        ]
+      ]
+
+pub start_no_memory : (clients : Meaning) (x : Session) (s : StoreValue) (o : Outside)
+    → IsReady clients s o.files → StartStopped clients x s s o o fault.Memory
+start_no_memory clients x s o ready = record {
+  stops = λ terms left links moved still made.
+      no_memory clients (RunActs clients terms) (λ (q : Owing Place). q.at.links ≡ links)
+      (paid (attaching_at (x ∷ left) links moved still made s.state.facts)) s o ready (inl refl);
+}
+
+-- ---- behind the links of a node
+
+module _ (clients : Meaning) (x : Session) (links : List Link) (s : StoreValue) (o o' : Outside) where
+  pub begin_went : (n : ℕ) (links' : List Link) (s' : StoreValue) → length links ≡ n
+      → StartWentLast clients n x links links' s s' o o' → BeginWent clients x links links' s s' o o'
+  begin_went n links' s' last behind = record {
+    has_read = λ heard none read i y there.
+        elim (get_push_cases links behind.link i y (subst (λ (ls : List Link). slice_get ls i ≡ Some y) behind.pushed there)) [
+          | inl old ↦ read i y old
+          | inr new ↦
+              subst (λ (k : ℕ). IsLinkRead (heard k) y) (sym new.0)
+              (subst (λ (bytes : List ℕ). IsLinkRead bytes y) (sym none) (subst (IsLinkRead []) (sym new.1) behind.starts.has_read))
+        ];
+    went = λ two told terms left heard moved still made none numbered.
+        let plain : length links ≡ 0 + length links = omega arith in
+        let ends : links_from 0 links heard ++ link_at behind.link [] ∷ [] ≡ links_from 0 links' heard =
+        ap (λ (bytes : List ℕ). links_from 0 links heard ++ link_at behind.link bytes ∷ []) (sym none)
+        ∙ ap (λ (j : ℕ). links_from 0 links heard ++ link_at behind.link (heard j) ∷ []) plain
+        ∙ sym (push_from 0 links behind.link heard)
+        ∙ ap (λ (ls : List Link). links_from 0 ls heard) (sym behind.pushed) in
+        subst
+        (λ (ls : List course_links.Link). RunWent clients terms (place_at (Attaches (x ∷ left)) links heard moved still made s.state.facts) (attaching_at left ls moved still made s'.state.facts) s s' o o')
+        ends
+        (behind.starts.went two told terms left (links_from 0 links heard) moved still made (length_from 0 links heard ∙ last)
+        (numbered ∙ ap (λ (k : ℕ). terms.first + k) last));
+  }
+
+  pub begin_stopped : (links' : List Link) (s' : StoreValue) (e : Fault) → links' ≡ links
+      → StartStopped clients x s s' o o' e → BeginStopped clients x links links' s s' o o' e
+  begin_stopped links' s' e same stopped = record {
+    stops = λ terms left heard moved still made.
+        subst (λ (ls : List Link). RunStopped clients terms (place_at (Attaches (x ∷ left)) links heard moved still made s.state.facts) (links_from 0 ls heard) s s' o o' e)
+        (sym same) (stopped.stops terms left (links_from 0 links heard) moved still made);
+  }

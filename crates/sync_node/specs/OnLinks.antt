@@ -1,0 +1,220 @@
+-- What the calls of one link's turn came to: where they led on the machine of the turn, or where
+-- they stopped. One name for each piece of work, and one for where it stops.
+use Rattle.std.specs.Prelude.{◌≡◌, ◌⊎◌, ℕ, suc, ◌+◌, Bool, true, false, cond, nat_lt, List, [], ◌∷◌, length}
+use Rattle.outside.specs.Outside.{Outside}
+use Rattle.record_grammar.specs.declared.stream.Item.{Item}
+use Rattle.record_grammar.specs.declared.stream.Item.TheVariants as item
+use Rattle.sync_ids.specs.declared.records.Record.{Record}
+use Rattle.sync_rules.specs.Clients.{Meaning}
+use Rattle.sync_store.specs.Store.{StoreValue}
+use Rattle.sync_course.specs.Acts.{Act, batches_in}
+use Rattle.sync_course.specs.Links as course_links
+use Rattle.sync_course.specs.Links.{is_sent_to, items_after, link_after}
+use Rattle.sync_course.specs.LinkTurns.{Asks, Doing, Done, LinkStep, Sends, Spot, Takes, Waits}
+use Rattle.sync_course.specs.Owing.{ActStep, Owing, paid}
+use Rattle.sync_course.specs.Reading.{HasRead, IsReading}
+use Rattle.sync_course.specs.declared.TheConstants.{MAX_OUTPUTS}
+use Rattle.sync_course.specs.declared.ends.LinkEnd.TheVariants as link_end
+use Rattle.sync_node.specs.declared.fault.Fault.{Fault}
+use Rattle.sync_node.specs.declared.link.Link.{Link}
+use Rattle.sync_node.specs.Courses.{GoesOnSending, IsLinkRead, IsReadyToSend, IsTaking, link_at, spot_at}
+use Rattle.sync_node.specs.Went.{Stopped, Went}
+
+-- ---- the machine of a link's turn
+
+-- the link has this number, and the session of link 0 is the first
+abbrev pub LinkActs : Meaning → ℕ → ℕ → Owing Spot → Act → Owing Spot → Type 0
+LinkActs clients first n = ActStep (λ (p : Spot). p.facts) first (LinkStep clients n (first + n))
+
+-- a link's turn led from one place to another, and what was owed was sent
+abbrev pub LinkWent : Meaning → ℕ → ℕ → Spot → Spot → StoreValue → StoreValue → Outside → Outside
+    → Type 0
+LinkWent clients n session p q s s' o o' =
+    (first : ℕ) → session ≡ first + n
+    → Went clients (LinkActs clients first n) (paid p) (paid q) s s' o o'
+
+-- and so many batches were committed on the way
+pub record Makes (clients : Meaning) (first n : ℕ) (p q : Spot) (s s' : StoreValue)
+    (o o' : Outside) (count : ℕ) : Type 0 where
+  pub went : Went clients (LinkActs clients first n) (paid p) (paid q) s s' o o'
+  pub counts : length (batches_in went.acts) ≡ count
+
+abbrev pub LinkMakes : Meaning → ℕ → ℕ → Spot → Spot → StoreValue → StoreValue → Outside → Outside
+    → ℕ → Type 0
+LinkMakes clients n session p q s s' o o' count =
+    (first : ℕ) → session ≡ first + n → Makes clients first n p q s s' o o' count
+
+-- it stopped at a place at which the link stands so
+abbrev pub LinkStopped : Meaning → ℕ → ℕ → Spot → course_links.Link → StoreValue → StoreValue
+    → Outside → Outside → Fault → Type 0
+LinkStopped clients n session p link s s' o o' e =
+    (first : ℕ) → session ≡ first + n
+    → Stopped clients (LinkActs clients first n) (λ (q : Owing Spot). q.at.link ≡ link) (paid p) s s' o o' e
+
+-- ---- a record that is taken
+
+-- the record at the front of the items was taken, and the journal settled
+pub record RecordTaken (clients : Meaning) (session : ℕ) (r : Record) (s s' : StoreValue)
+    (o o' : Outside) : Type 0 where
+  pub went : (n place : ℕ) (its : List Item) (p : Spot) → p.doing ≡ Takes (item.One place r ∷ its)
+      → p.facts ≡ s.state.facts
+      → LinkWent clients n session p
+      (record { doing = Takes (items_after r its); link = link_after place r p.link; moved = p.moved; facts = s'.state.facts }) s s' o o'
+
+pub record RecordStopped (clients : Meaning) (session : ℕ) (r : Record) (s s' : StoreValue)
+    (o o' : Outside) (e : Fault) : Type 0 where
+  pub stops : (n place : ℕ) (its : List Item) (p : Spot)
+      → p.doing ≡ Takes (item.One place r ∷ its) → p.facts ≡ s.state.facts
+      → LinkStopped clients n session p (link_after place r p.link) s s' o o' e
+
+-- ---- the items of a piece
+
+-- the next item was taken or passed over, or there was none
+abbrev pub TakesOrPassesItem : Meaning → ℕ → List ℕ → List Item → Bool → List ℕ → Link → Link → StoreValue
+    → StoreValue → Outside → Outside → Bool → Type 0
+TakesOrPassesItem clients n heard its moved left l l' s s' o o' true =
+    (others : List Item) × IsTaking heard left l' others l'.end
+    × LinkWent clients n l.session.number (spot_at (Takes its) l heard moved s.state.facts)
+    (spot_at (Takes others) l' heard moved s'.state.facts) s s' o o'
+TakesOrPassesItem clients n heard its moved left l l' s s' o o' false =
+    HasRead heard l'.reader
+    × LinkWent clients n l.session.number (spot_at (Takes its) l heard moved s.state.facts)
+    (spot_at Waits l' heard moved s'.state.facts) s s' o o'
+
+pub record NextWent (clients : Meaning) (n : ℕ) (piece left : List ℕ) (l l' : Link)
+    (s s' : StoreValue) (o o' : Outside) (more : Bool) : Type 0 where
+  pub leads : (heard : List ℕ) (its : List Item) (moved : Bool) → IsReading heard piece l.reader its
+      → TakesOrPassesItem clients n heard its moved left l l' s s' o o' more
+
+pub record ItemsStopped (clients : Meaning) (n : ℕ) (piece : List ℕ) (l l' : Link)
+    (s s' : StoreValue) (o o' : Outside) (e : Fault) : Type 0 where
+  pub stops : (heard : List ℕ) (its : List Item) (moved : Bool) → IsReading heard piece l.reader its
+      → LinkStopped clients n l.session.number
+      (spot_at (Takes its) l heard moved s.state.facts) (link_at l' heard) s s' o o' e
+
+-- some items of a piece were taken
+pub record ItemsWent (clients : Meaning) (n : ℕ) (piece left : List ℕ) (l l' : Link)
+    (s s' : StoreValue) (o o' : Outside) : Type 0 where
+  pub leads : (heard : List ℕ) (its : List Item) (moved : Bool) → IsReading heard piece l.reader its
+      → TakesOrPassesItem clients n heard its moved left l l' s s' o o' true
+
+-- all of them were, and the link waits for the clock
+pub record PieceWent (clients : Meaning) (n : ℕ) (piece : List ℕ) (l l' : Link)
+    (s s' : StoreValue) (o o' : Outside) : Type 0 where
+  pub has_read : (heard : List ℕ) (its : List Item) → IsReading heard piece l.reader its
+      → l'.end ≡ link_end.Going → HasRead heard l'.reader
+  pub went : (heard : List ℕ) (its : List Item) (moved : Bool) → IsReading heard piece l.reader its
+      → LinkWent clients n l.session.number (spot_at (Takes its) l heard moved s.state.facts)
+      (spot_at Waits l' heard moved s'.state.facts) s s' o o'
+
+-- ---- hearing
+
+pub record HeardTo (clients : Meaning) (n : ℕ) (l l' : Link) (s s' : StoreValue) (o o' : Outside)
+    (heard : List ℕ) (moved idle : Bool) : Type 0 where
+  pub heard' : List ℕ
+  pub doing : Doing
+  pub has_read : IsLinkRead heard' l'
+  pub ready : IsReadyToSend doing l'
+  pub went : LinkWent clients n l.session.number (spot_at Asks l heard moved s.state.facts)
+      (spot_at doing l' heard' (cond idle moved true) s'.state.facts) s s' o o'
+
+-- the link was asked once, and what came was taken
+pub record HearingWent (clients : Meaning) (n : ℕ) (l l' : Link) (s s' : StoreValue)
+    (o o' : Outside) (idle : Bool) : Type 0 where
+  pub leads : (heard : List ℕ) (moved : Bool) → IsLinkRead heard l
+      → HeardTo clients n l l' s s' o o' heard moved idle
+
+pub record HearingStopped (clients : Meaning) (n : ℕ) (l l' : Link) (s s' : StoreValue)
+    (o o' : Outside) (e : Fault) : Type 0 where
+  pub stops : (heard : List ℕ) (moved : Bool) → IsLinkRead heard l
+      → (heard' : List ℕ) × LinkStopped clients n l.session.number
+      (spot_at Asks l heard moved s.state.facts) (link_at l' heard') s s' o o' e
+
+-- ---- sending
+
+pub record PutTo (clients : Meaning) (n now : ℕ) (l l' : Link) (s s' : StoreValue)
+    (o o' : Outside) (heard : List ℕ) (moved : Bool) (room : ℕ) : Type 0 where
+  pub doing : Doing
+  pub goes_on : GoesOnSending now room doing l'
+  pub makes : LinkMakes clients n l.session.number
+      (spot_at (Sends now (suc room)) l heard moved s.state.facts)
+      (spot_at doing l' heard true s'.state.facts) s s' o o' 1
+
+-- an output was committed and sent, or the call failed
+pub record PutWent (clients : Meaning) (n now : ℕ) (l l' : Link) (s s' : StoreValue)
+    (o o' : Outside) : Type 0 where
+  pub leads : (heard : List ℕ) (moved : Bool) (room : ℕ) → is_sent_to l.end ≡ true
+      → PutTo clients n now l l' s s' o o' heard moved room
+  pub same_reader : l'.reader ≡ l.reader
+  pub same_session : l'.session ≡ l.session
+  pub end : (l'.end ≡ l.end) ⊎ (l'.end ≡ link_end.Failed)
+
+pub record PutStopped (clients : Meaning) (n now : ℕ) (l l' : Link) (s s' : StoreValue)
+    (o o' : Outside) (e : Fault) : Type 0 where
+  pub stops : (heard : List ℕ) (moved : Bool) (room : ℕ)
+      → LinkStopped clients n l.session.number
+      (spot_at (Sends now (suc room)) l heard moved s.state.facts) (link_at l' heard) s s' o o' e
+
+-- so many outputs were made at a reading
+pub record OutsMadeTo (clients : Meaning) (n now made : ℕ) (l l' : Link) (s s' : StoreValue)
+    (o o' : Outside) (heard : List ℕ) (moved : Bool) : Type 0 where
+  pub room : ℕ
+  pub rest : room + made ≡ MAX_OUTPUTS
+  pub doing : Doing
+  pub goes_on : GoesOnSending now room doing l'
+  pub makes : LinkMakes clients n l.session.number
+      (spot_at (Sends now MAX_OUTPUTS) l heard moved s.state.facts)
+      (spot_at doing l' heard (cond (nat_lt 0 made) true moved) s'.state.facts) s s' o o' made
+
+pub record OutsWent (clients : Meaning) (n now made : ℕ) (l l' : Link) (s s' : StoreValue)
+    (o o' : Outside) : Type 0 where
+  pub leads : (heard : List ℕ) (moved : Bool) → is_sent_to l.end ≡ true
+      → OutsMadeTo clients n now made l l' s s' o o' heard moved
+  pub same_reader : l'.reader ≡ l.reader
+  pub same_session : l'.session ≡ l.session
+  pub end : (l'.end ≡ l.end) ⊎ (l'.end ≡ link_end.Failed)
+
+-- all that was due at a reading was sent, so many outputs
+pub record DueWent (clients : Meaning) (n now : ℕ) (l l' : Link) (s s' : StoreValue)
+    (o o' : Outside) (made : ℕ) : Type 0 where
+  pub makes : (heard : List ℕ) (moved : Bool) → is_sent_to l.end ≡ true
+      → LinkMakes clients n l.session.number
+      (spot_at (Sends now MAX_OUTPUTS) l heard moved s.state.facts)
+      (spot_at Done l' heard (cond (nat_lt 0 made) true moved) s'.state.facts) s s' o o' made
+  pub same_reader : l'.reader ≡ l.reader
+  pub end : (l'.end ≡ l.end) ⊎ (l'.end ≡ link_end.Failed)
+
+pub record DueStopped (clients : Meaning) (n now : ℕ) (l l' : Link) (s s' : StoreValue)
+    (o o' : Outside) (e : Fault) : Type 0 where
+  pub stops : (heard : List ℕ) (moved : Bool) → is_sent_to l.end ≡ true
+      → LinkStopped clients n l.session.number
+      (spot_at (Sends now MAX_OUTPUTS) l heard moved s.state.facts) (link_at l' heard) s s' o o' e
+
+-- what was due on a link was sent, unless it is closed
+pub record SendingWent (clients : Meaning) (n : ℕ) (l l' : Link) (s s' : StoreValue)
+    (o o' : Outside) (made : ℕ) : Type 0 where
+  pub went : (heard : List ℕ) (moved : Bool) (doing : Doing) → IsReadyToSend doing l
+      → LinkWent clients n l.session.number (spot_at doing l heard moved s.state.facts)
+      (spot_at Done l' heard (cond (nat_lt 0 made) true moved) s'.state.facts) s s' o o'
+  pub same_reader : l'.reader ≡ l.reader
+  pub end : (l'.end ≡ l.end) ⊎ (l'.end ≡ link_end.Failed)
+
+pub record SendingStopped (clients : Meaning) (n : ℕ) (l l' : Link) (s s' : StoreValue)
+    (o o' : Outside) (e : Fault) : Type 0 where
+  pub stops : (heard : List ℕ) (moved : Bool) (doing : Doing) → IsReadyToSend doing l
+      → LinkStopped clients n l.session.number
+      (spot_at doing l heard moved s.state.facts) (link_at l' heard) s s' o o' e
+
+-- ---- a link's turn
+
+pub record TurnedTo (clients : Meaning) (n : ℕ) (l l' : Link) (s s' : StoreValue) (o o' : Outside)
+    (heard : List ℕ) (moved still : Bool) : Type 0 where
+  pub heard' : List ℕ
+  pub has_read : IsLinkRead heard' l'
+  pub went : LinkWent clients n l.session.number (spot_at Asks l heard moved s.state.facts)
+      (spot_at Done l' heard' (cond still moved true) s'.state.facts) s s' o o'
+
+pub record TurnWent (clients : Meaning) (n : ℕ) (l l' : Link) (s s' : StoreValue) (o o' : Outside)
+    (still : Bool) : Type 0 where
+  pub leads : (heard : List ℕ) (moved : Bool) → IsLinkRead heard l
+      → TurnedTo clients n l l' s s' o o' heard moved still
