@@ -140,7 +140,7 @@ new_may clients s o ready opened = record { ready = ready; settled = λ some. ab
 
 -- ---- what was sent
 
-end_there : (links : List node_link.Link) (i : ℕ) (stands : link_ends.LinkEnd) → slice_get (map (λ (l : node_link.Link). l.end) links) i ≡ Some stands
+pub end_there : (links : List node_link.Link) (i : ℕ) (stands : link_ends.LinkEnd) → slice_get (map (λ (l : node_link.Link). l.end) links) i ≡ Some stands
     → (l : node_link.Link) × (slice_get links i ≡ Some l) × (stands ≡ l.end)
 end_there [] i stands there = cc
 end_there (x ∷ links) zero stands there =

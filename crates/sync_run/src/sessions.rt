@@ -43,8 +43,6 @@ pub fn attach_all<H: Host, C: Clients>(
         (H.tells host.old) (H.tells host.new)) }
     ensures safe { SessionsSafe (C.meaning clients.now) links.now node.old node.new
         (H.tells host.old) (H.tells host.new) }
-    ensures sent { IsErrOf result NodeFault.Full → SessionsSent (C.meaning clients.now) node.old
-        node.new (H.tells host.old) (H.tells host.new) }
     ensures stays { StaysReady (C.meaning clients.now) node.new (H.tells host.new) result }
     ensures run { LetsNothingFall (H.tells host.old) (H.tells host.new) }
     ensures cause { FailByCause node.old.links node.new.links (H.tells host.old)
@@ -88,8 +86,6 @@ pub fn make_turns<H: Host, C: Clients>(
         (H.tells host.old) (H.tells host.new)) }
     ensures safe { KeepsSafe (C.meaning clients.now) node.old node.new (H.tells host.old)
         (H.tells host.new) }
-    ensures sent { IsErrOf result NodeFault.Full → NodeSendsAll (C.meaning clients.now) node.old
-        node.new (H.tells host.old) (H.tells host.new) }
     ensures stays { StaysReady (C.meaning clients.now) node.new (H.tells host.new) result }
     ensures run { LetsNothingFall (H.tells host.old) (H.tells host.new) }
     ensures cause { FailByCause node.old.links node.new.links (H.tells host.old)

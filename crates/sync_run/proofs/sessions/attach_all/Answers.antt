@@ -109,11 +109,6 @@ returns-clause-joined g c =
 pub returns-clause-safe : goal.returns-clause-safe
 returns-clause-safe g c = begun_all _ c.args.links.now _ _ _ _ (begun_end _ c.args.links.now c.links.link-index _ _ _ _ c.links-test.false c.links.invariant.begun)
 
-pub returns-in_err-attach-clause-sent : goal.returns-in_err-attach-clause-sent
-returns-in_err-attach-clause-sent g c = λ is.
-    sessions_sent _ _ _ _ _ _ _ c.requires.none c.links.invariant.cause c.links.invariant.run c.in_err-attach.ensures.run c.links.invariant.begun.joined c.links.invariant.same_first c.links.invariant.node
-    c.links.invariant.still_open (c.in_err-attach.ensures.sent c.links.invariant.still_open (ap (λ e. Err e) (err_was _ c.in_err-attach.field-0.0 _ c.from_residual.ensures.1 is)))
-
 pub returns-in_err-attach-clause-full : goal.returns-in_err-attach-clause-full
 returns-in_err-attach-clause-full g c = λ is.
     attaching_full _ (sessions_from c.args.node.now.store.state.facts.begun c.args.links.now) c.args.links.now c.args.node.now.store.state.facts.begun c.links.link-index

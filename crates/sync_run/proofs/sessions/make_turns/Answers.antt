@@ -118,11 +118,6 @@ returns-clause-joined g c = c.turns.invariant.joined
 pub returns-clause-safe : goal.returns-clause-safe
 returns-clause-safe g c = c.turns.invariant.safe
 
-pub returns-in_err-turn-clause-sent : goal.returns-in_err-turn-clause-sent
-returns-in_err-turn-clause-sent g c = λ is.
-    sends_then _ _ _ _ _ _ _ c.turns.invariant.joined c.turns.invariant.cause c.requires.node c.requires.still_open c.turns.invariant.node c.turns.invariant.still_open c.in_err-turn.ensures.run
-    (c.in_err-turn.ensures.sent c.turns.invariant.still_open (ap (λ e. Err e) (err_was _ c.in_err-turn.field-0.0 _ c.from_residual.ensures.1 is)))
-
 pub returns-in_err-turn-clause-full : goal.returns-in_err-turn-clause-full
 returns-in_err-turn-clause-full g c = λ is. record {
   fills = λ heard read.
