@@ -1,5 +1,5 @@
 -- What a run of sessions sent, from its acts: all output, but where a call of the link failed.
-use Rattle.std.proofs.Common.{◌≡◌, ◌≢◌, ◌⊎◌, ℕ, ◌+◌, Bool, true, false, List, [], ◌∷◌, ◌++◌, refl, sym, ◌∙◌, ap, subst, inl, inr, Some, Result}
+use Rattle.std.proofs.Common.{◌≡◌, ◌⊎◌, ℕ, ◌+◌, Bool, true, false, List, [], ◌∷◌, ◌++◌, refl, sym, ◌∙◌, ap, subst, inl, inr, Some, Result}
 use Rattle.std.specs.Prelude.{slice_get}
 use Rattle.outside.specs.Files.{Two, File, read_files}
 use Rattle.outside.specs.Faults.{CountRose}

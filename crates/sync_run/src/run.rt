@@ -23,7 +23,7 @@ ghost use Rattle.sync_run.specs.Headline.{Headline, LeavesFilesAtRest, AllSentWh
 ghost use Rattle.sync_run.specs.Leaving.{DoesNotBegin, LeavesLinks, MayNotBegin};
 ghost use Rattle.sync_run.specs.Parts.{FullRun, RunsOver, RunsSessions, StopsRun, sessions_from};
 ghost use Rattle.sync_run.specs.SafeRuns.{AllMayBegin, AreUnused, AttachesAll, IsKnown, RunsSafe};
-ghost use Rattle.sync_run.specs.SafeRuns.{SessionsSentWhenFull, SendsWhole, SessionsSafe, SessionsSent};
+ghost use Rattle.sync_run.specs.SafeRuns.{SessionsSentWhenFull, SendsWhole, SessionsSafe};
 ghost use Rattle.sync_run.specs.SafeRuns.{WordsSafe};
 
 use crate::closing::close;

@@ -8,8 +8,7 @@ ghost use Rattle.sync_node.specs.Causes.{FailByCause};
 ghost use Rattle.sync_node.specs.Going.{LetsNothingFall};
 ghost use Rattle.sync_node.specs.Node.{AnswersAndCloses, IsNode, KeepsJoined, KeepsSafe, MayRun};
 ghost use Rattle.sync_node.specs.Stays.{StaysReady};
-ghost use Rattle.sync_node.specs.Stops.{NodeSendsAll};
-ghost use Rattle.sync_run.specs.SafeRuns.{AllMayBegin, AttachesAll, SessionsSafe, SessionsSent};
+ghost use Rattle.sync_run.specs.SafeRuns.{AllMayBegin, AttachesAll, SessionsSafe};
 ghost use Rattle.sync_run.specs.Parts.{MakesTurns, SessionsStopped, TurnsStopped};
 ghost use Rattle.sync_run.specs.Parts.{FullSessions, FullTurns, SessionsBegin, sessions_from};
 

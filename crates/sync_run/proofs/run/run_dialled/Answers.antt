@@ -6,10 +6,9 @@ use Rattle.sync_rules.specs.Facts.{facts}
 use Rattle.sync_run.proofs.CourseRun.{over_broken, over_closed, over_filled, over_settling, over_unclosed, over_unmade, passed}
 use Rattle.sync_run.proofs.SafeCalm.{err_is}
 use Rattle.sync_run.proofs.SafeBegin.{joined_none}
-use Rattle.sync_run.proofs.SafeRunning.{unused_disk, goes_settled, node_begins, node_begun, node_may, node_sends, rests_at, rests_fault, rests_ready, rests_stays, runs_node, runs_settling}
+use Rattle.sync_run.proofs.SafeRunning.{unused_disk, goes_settled, node_begins, node_begun, node_may, rests_at, rests_fault, rests_ready, rests_stays, runs_node, runs_settling}
 use Rattle.sync_run.proofs.CauseLaws.{ends_rose, goes_then}
-use Rattle.std.proofs.Common.{refl}
-use Rattle.sync_run.proofs.SafeFull.{dialled_full, err_was, unrun_full}
+use Rattle.sync_run.proofs.SafeFull.{err_was, unrun_full}
 use Rattle.sync_run.proofs.SentActs.{run_sends_full, run_sends_whole}
 use Rattle.sync_run.proofs.run.run_dialled.Goals as goal
 

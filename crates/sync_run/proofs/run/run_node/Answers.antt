@@ -4,8 +4,6 @@ use Rattle.sync_run.specs.Parts.{sessions_from}
 use Rattle.sync_run.proofs.CauseLaws.{causes_then, goes_then}
 use Rattle.sync_run.proofs.CourseParts.{err_same, if_err_then, if_err_was, run_ends, run_full, run_stopped, run_unbegun, run_unfilled}
 use Rattle.sync_run.proofs.SafeTurns.{attached_then, on_ok_map, sessions_then}
-use Rattle.std.proofs.Common.{Err, ap}
-use Rattle.sync_run.proofs.SafeFull.{err_was, sessions_sent}
 use Rattle.sync_run.proofs.run.run_node.Goals as goal
 
 pub returns-in_err-attach_all-clause-stopped : goal.returns-in_err-attach_all-clause-stopped

@@ -5,8 +5,6 @@ use Rattle.sync_run.specs.Parts.{sessions_from}
 use Rattle.sync_run.proofs.CauseLaws.{causes_then, goes_none, goes_then, no_causes}
 use Rattle.sync_run.proofs.CourseParts.{attached_all, attached_more, attaching_full, attaching_stopped, err_same, if_err_was, is_node_without, no_session_yet}
 use Rattle.sync_run.proofs.SafeTurns.{begun_all, begun_attached, begun_end, begun_left, begun_next, begun_none, begun_planned, item_may}
-use Rattle.std.proofs.Common.{Err}
-use Rattle.sync_run.proofs.SafeFull.{err_was, sessions_sent}
 use Rattle.sync_run.proofs.sessions.attach_all.Goals as goal
 
 pub links-init : goal.links-init

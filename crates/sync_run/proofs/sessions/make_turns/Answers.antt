@@ -4,8 +4,6 @@ use Rattle.sync_node.specs.Node.{asked_among}
 use Rattle.sync_run.proofs.CauseLaws.{causes_then, goes_none, goes_then, no_causes}
 use Rattle.sync_run.proofs.CourseParts.{err_same, CountsStill, few_behind, if_err_was, no_turn_yet, over_asked, still_behind, turn_full, turn_more, turns_end, turns_stopped}
 use Rattle.sync_run.proofs.SafeTurns.{kept_none, kept_then, safe_none, safe_then}
-use Rattle.std.proofs.Common.{Err, ap}
-use Rattle.sync_run.proofs.SafeFull.{err_was, sends_then}
 use Rattle.sync_run.proofs.sessions.make_turns.Goals as goal
 use Rattle.sync_run.proofs.sessions.make_turns.Goals.{in-Still, in-Moving}
 
