@@ -1,5 +1,5 @@
 -- What calls one after another leave, and why links stand Failed.
-use Rattle.std.proofs.Common.{◌≡◌, ℕ, zero, suc, ◌+◌, ◌≤◌, Bool, true, false, List, [], ◌∷◌, inl, inr, arith, refl, sym, ap, subst, ◌∙◌, Some}
+use Rattle.std.proofs.Common.{◌≡◌, ℕ, zero, suc, ◌≤◌, Bool, List, [], ◌∷◌, inl, inr, arith, refl, subst, ◌∙◌, Some}
 use Rattle.std.specs.Prelude.{map, slice_get}
 use Rattle.outside.specs.Faults.{CountRose, one_more}
 use Rattle.outside.specs.Links.{Links}

@@ -19,7 +19,7 @@ use Rattle.sync_rules.specs.Facts.{Facts, facts}
 use Rattle.entry_codec.specs.Standing.{Standing, journal, stands}
 use Rattle.sync_store.specs.Fitting.{FitsFiles, FitsSome}
 use Rattle.sync_store.specs.Store.{StoreValue}
-use Rattle.sync_course.specs.Events.{Event, GrowsBy, batches_of, RoseIf, has_failure, heard_after, readings_of}
+use Rattle.sync_course.specs.Events.{Event, GrowsBy, RoseIf, has_failure, heard_after, readings_of}
 use Rattle.sync_node.specs.Courses.{FitsWith, ReadsAs}
 use Rattle.sync_node.specs.Output.{Journal, heard_on, sent_on}
 use Rattle.store_commands.specs.Commit.{HasLastGeneration}

@@ -1,5 +1,5 @@
 -- What a run leaves on the links that ends before its first session, by the calls that it made.
-use Rattle.std.proofs.Common.{◌≡◌, ℕ, Bool, true, false, List, [], sym, ap, ◌∙◌, subst, refl, Option, None, Some, is_some, Result, Ok, Err}
+use Rattle.std.proofs.Common.{◌≡◌, ℕ, true, false, List, [], sym, ap, ◌∙◌, subst, refl, Option, None, Some, is_some, Result, Ok, Err}
 use Rattle.outside.specs.declared.failed.Failed.{Failed}
 use Rattle.outside.specs.Disk.{RelatesTold}
 use Rattle.outside.specs.Files.{Two, File}
@@ -8,7 +8,7 @@ use Rattle.outside.specs.Outside.{DiskRun, IsNow, MomentsAre, Outside}
 use Rattle.frame_journal.specs.Gates.{ReadsSame}
 use Rattle.sync_rules.specs.declared.states.Refused.{Refused}
 use Rattle.sync_rules.specs.Facts.{Facts, facts}
-use Rattle.entry_codec.specs.Standing.{Standing, journal}
+use Rattle.entry_codec.specs.Standing.{Standing}
 use Rattle.sync_store.specs.Store.{StoreValue}
 use Rattle.store_commands.specs.Load.{HasFacts}
 use Rattle.sync_words.specs.declared.link_words.LinkWords.{LinkWords}

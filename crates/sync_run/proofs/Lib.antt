@@ -14,3 +14,4 @@ mod SafeFull
 mod LeavingLaws
 mod EndLaws
 mod HeardLaws
+mod SentActs

@@ -1,5 +1,5 @@
 -- Sessions that run over a store that was loaded and settled: what each answer leaves.
-use Rattle.std.proofs.Common.{◌≡◌, ◌≢◌, ℕ, zero, suc, ◌+◌, ◌<◌, ◌≤◌, Bool, true, false, List, [], ◌∷◌, ◌++◌, length, map, refl, sym, ap, ◌∙◌, subst, arith, Option, None, Some, Result, Ok, Err, is_some}
+use Rattle.std.proofs.Common.{◌≡◌, ℕ, zero, suc, ◌+◌, ◌<◌, ◌≤◌, true, List, [], ◌∷◌, ◌++◌, length, map, refl, sym, ap, ◌∙◌, subst, arith, Option, None, Some, Result, Ok, Err, is_some}
 use Rattle.std.specs.Prelude.{IfOk}
 use Rattle.std.specs.List.{All, slice_get}
 use Rattle.std.specs.Option.{option_map}
@@ -21,7 +21,6 @@ use Rattle.sync_rules.specs.Legal.{suits_nonce}
 use Rattle.sync_rules.proofs.StepKinds.{all_settling_only}
 use Rattle.entry_codec.specs.Standing.{journal, stands}
 use Rattle.sync_store.specs.Store.{StoreValue}
-use Rattle.sync_store.specs.Fitting.{FitsFiles}
 use Rattle.sync_store.specs.Ready.{IsReady}
 use Rattle.store_commands.specs.Commit.{SettlesAnew}
 use Rattle.store_commands.specs.Commit as commits
@@ -29,10 +28,8 @@ use Rattle.store_commands.specs.Load.{HasFacts, LoadLeavesSettled}
 use Rattle.sync_node.specs.Begun.{begin_at}
 use Rattle.sync_node.specs.declared.link.Link as node_link
 use Rattle.sync_course.specs.declared.ends.LinkEnd as link_ends
-use Rattle.sync_course.specs.declared.ends.LinkEnd.TheVariants as link_end
 use Rattle.sync_node.specs.Going.{LetsNothingFall, specs_of}
-use Rattle.sync_node.specs.Joined.{Joined}
-use Rattle.sync_node.specs.Node.{IsNode, MayRun, NodeValue, new_node}
+use Rattle.sync_node.specs.Node.{MayRun, NodeValue, new_node}
 use Rattle.sync_node.specs.Plans.{session_of}
 use Rattle.sync_node.specs.Output.{Journal, output, sent_on}
 use Rattle.sync_words.specs.declared.link_words.LinkWords.{LinkWords}
@@ -45,10 +42,9 @@ use Rattle.sync_run.specs.Causes.{FailsAlone}
 use Rattle.sync_run.specs.Courses.{HaveSpecs}
 use Rattle.sync_run.specs.Dialling.{AreDialled, DialsOnly, IsDialled, MakesLinks, PassesTime, fresh_links}
 use Rattle.sync_run.specs.Headline.{AtRest, Headline, LeavesFilesAtRest, SentWhole}
-use Rattle.sync_run.specs.Closed.{closed_by}
 use Rattle.sync_run.specs.Parts.{sessions_from}
 use Rattle.sync_run.specs.Plans.{ArePlanned, IsPlanned}
-use Rattle.sync_run.specs.SafeRuns.{AllMayBegin, AreUnused, AttachesAll, IsKnown, MayBeginOn, RunsSafe, SendsWhole, SessionsSafe, WordsSafe}
+use Rattle.sync_run.specs.SafeRuns.{AllMayBegin, AreUnused, IsKnown, MayBeginOn, RunsSafe, SendsWhole, SessionsSafe, WordsSafe}
 use Rattle.sync_run.proofs.SafeBegin.{image_read, joined_none, safe_calms, safe_settled, safe_stills, told_file, told_stills}
 use Rattle.sync_run.proofs.SafeEnds.{headline_safe, safe_loaded}
 
@@ -140,24 +136,13 @@ new_may clients s o ready opened = record { ready = ready; settled = λ some. ab
 
 -- ---- what was sent
 
-end_there : (links : List node_link.Link) (i : ℕ) (stands : link_ends.LinkEnd) → slice_get (map (λ (l : node_link.Link). l.end) links) i ≡ Some stands
+pub end_there : (links : List node_link.Link) (i : ℕ) (stands : link_ends.LinkEnd) → slice_get (map (λ (l : node_link.Link). l.end) links) i ≡ Some stands
     → (l : node_link.Link) × (slice_get links i ≡ Some l) × (stands ≡ l.end)
 end_there [] i stands there = cc
 end_there (x ∷ links) zero stands there =
     let is : stands ≡ x.end = cc in
     (x, refl, is)
 end_there (x ∷ links) (suc i) stands there = end_there links i stands there
-
-pub sends_whole : (clients : Meaning) (first : ℕ) (n : NodeValue) (o : Outside) (over : Bool) (ends : Closing) → n.closed ≡ false → IsNode n → MayRun clients n o → Joined clients n.links n.store o → n.first ≡ first
-    → ends ≡ closed_by over n.links → SendsWhole clients first o ends
-sends_whole clients first n o over ends opened node may joined begins are told whole stood i stands there unfailed =
-    let at = end_there n.links i stands (subst (λ (c : Closing). slice_get c.ends i ≡ Some stands) are there) in
-    let l = at.0 in
-    let stands_open : l.end ≢ link_end.Failed = λ is. unfailed (at.2 ∙ is) in
-    let fit = (may opened).ready.fits told.two told.files_are in
-    let same : fit.0 ≡ whole = let is = sym fit.1.stands_for ∙ stood in cc in
-    let number : l.session.number ≡ first + i = ((node.attached opened).each i l at.1).numbered ∙ ap (λ (k : ℕ). k + i) begins in
-    (joined.each i l at.1).sent stands_open told whole (subst (λ (j : Journal). FitsFiles clients n.store j told.two) same fit.1) ∙ ap (output whole) number
 
 -- ---- the words
 
@@ -301,15 +286,6 @@ pub node_begun : (clients : Meaning) (s s1 : StoreValue) (n : NodeValue) (o o1 :
     → n.store.state.facts.begun ≡ s.state.facts.begun
 node_begun clients s s1 n o o1 r settles made =
     ap (λ (m : NodeValue). m.store.state.facts.begun) made ∙ (settles_only clients s s1 o o1 r settles).begun
-
-pub node_sends : (clients : Meaning) (links : List Dialled) (s s1 : StoreValue) (n0 n : NodeValue) (o o1 o2 : Outside) (r : Result (Unit {0}) Outcome) (over : Bool) (ends : Closing) → AreUnused o → DiskRun o o1
-    → SettlesAnew clients s s1 o o1 r → n0 ≡ new_node s1 → AttachesAll clients links n0 n o1 o2 → n.closed ≡ false → IsNode n → MayRun clients n o2 → ends ≡ closed_by over n.links
-    → SendsWhole clients s.state.facts.begun o2 ends
-node_sends clients links s s1 n0 n o o1 o2 r over ends unused run settles made attaches opened node may are =
-    let joined0 : Joined clients n0.links n0.store o1 =
-    subst (λ (m : NodeValue). Joined clients m.links m.store o1) (sym made) (joined_none clients s1 o1 (unused_disk o o1 run unused)) in
-    let first : n.first ≡ s.state.facts.begun = attaches.same_first ∙ ap (λ (m : NodeValue). m.first) made ∙ (settles_only clients s s1 o o1 r settles).begun in
-    sends_whole clients s.state.facts.begun n o2 over ends opened node may (attaches.joined joined0) first are
 
 pub fails_unsent : (link : ℕ) (r : Result Closing Outcome) (P : Closing → Type 0) → FailsAlone link r → IfOk r P
 fails_unsent link (Ok ends) P fails = absurd fails

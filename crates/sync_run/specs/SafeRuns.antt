@@ -11,7 +11,7 @@ use Rattle.sync_rules.specs.Facts.{facts}
 use Rattle.sync_rules.specs.Legal.{suits_nonce}
 use Rattle.entry_codec.specs.Standing.{journal, stands}
 use Rattle.sync_store.specs.Store.{StoreValue}
-use Rattle.sync_node.specs.Joined.{IsAllSent, IsUnused, Joined}
+use Rattle.sync_node.specs.Joined.{IsUnused, Joined}
 use Rattle.sync_node.specs.Node.{NodeValue}
 use Rattle.sync_node.specs.Output.{Journal, output, sent_on}
 use Rattle.sync_node.specs.Safe.{Begin, Safe}
@@ -87,12 +87,6 @@ SendsWhole clients first o ends =
     → sent_on o.links i ≡ output whole (first + i)
 
 -- ---- no room
-
--- Sessions of a node that had none were broken off where a batch found no room: on each link whose
--- session had begun all output of that was sent, but where a call of the link failed.
-pub record SessionsSent (clients : Meaning) (n n' : NodeValue) (o o' : Outside) : Type 0 where
-  pub sent : Joined clients n.links n.store o → (i : ℕ) → n.first + i < n'.store.state.facts.begun
-      → CountRose (o.links.faults i) (o'.links.faults i) ⊎ IsAllSent clients (n.first + i) i n'.store o'
 
 -- the same in words of the journal that the files stand for; the first session has this number
 abbrev pub SessionsSentWhenFull : Meaning → ℕ → (o o' : Outside) → Type 0

@@ -8,8 +8,7 @@ ghost use Rattle.sync_node.specs.Causes.{FailByCause};
 ghost use Rattle.sync_node.specs.Going.{LetsNothingFall};
 ghost use Rattle.sync_node.specs.Node.{AnswersAndCloses, IsNode, KeepsJoined, KeepsSafe, MayRun};
 ghost use Rattle.sync_node.specs.Stays.{StaysReady};
-ghost use Rattle.sync_node.specs.Stops.{NodeSendsAll};
-ghost use Rattle.sync_run.specs.SafeRuns.{AllMayBegin, AttachesAll, SessionsSafe, SessionsSent};
+ghost use Rattle.sync_run.specs.SafeRuns.{AllMayBegin, AttachesAll, SessionsSafe};
 ghost use Rattle.sync_run.specs.Parts.{MakesTurns, SessionsStopped, TurnsStopped};
 ghost use Rattle.sync_run.specs.Parts.{FullSessions, FullTurns, SessionsBegin, sessions_from};
 
@@ -43,8 +42,6 @@ pub fn attach_all<H: Host, C: Clients>(
         (H.tells host.old) (H.tells host.new)) }
     ensures safe { SessionsSafe (C.meaning clients.now) links.now node.old node.new
         (H.tells host.old) (H.tells host.new) }
-    ensures sent { IsErrOf result NodeFault.Full → SessionsSent (C.meaning clients.now) node.old
-        node.new (H.tells host.old) (H.tells host.new) }
     ensures stays { StaysReady (C.meaning clients.now) node.new (H.tells host.new) result }
     ensures run { LetsNothingFall (H.tells host.old) (H.tells host.new) }
     ensures cause { FailByCause node.old.links node.new.links (H.tells host.old)
@@ -88,8 +85,6 @@ pub fn make_turns<H: Host, C: Clients>(
         (H.tells host.old) (H.tells host.new)) }
     ensures safe { KeepsSafe (C.meaning clients.now) node.old node.new (H.tells host.old)
         (H.tells host.new) }
-    ensures sent { IsErrOf result NodeFault.Full → NodeSendsAll (C.meaning clients.now) node.old
-        node.new (H.tells host.old) (H.tells host.new) }
     ensures stays { StaysReady (C.meaning clients.now) node.new (H.tells host.new) result }
     ensures run { LetsNothingFall (H.tells host.old) (H.tells host.new) }
     ensures cause { FailByCause node.old.links node.new.links (H.tells host.old)

@@ -6,10 +6,10 @@ use Rattle.sync_rules.specs.Facts.{facts}
 use Rattle.sync_run.proofs.CourseRun.{over_broken, over_closed, over_filled, over_settling, over_unclosed, over_unmade, passed}
 use Rattle.sync_run.proofs.SafeCalm.{err_is}
 use Rattle.sync_run.proofs.SafeBegin.{joined_none}
-use Rattle.sync_run.proofs.SafeRunning.{unused_disk, goes_settled, node_begins, node_begun, node_may, node_sends, rests_at, rests_fault, rests_ready, rests_stays, runs_node, runs_settling}
+use Rattle.sync_run.proofs.SafeRunning.{unused_disk, goes_settled, node_begins, node_begun, node_may, rests_at, rests_fault, rests_ready, rests_stays, runs_node, runs_settling}
 use Rattle.sync_run.proofs.CauseLaws.{ends_rose, goes_then}
-use Rattle.std.proofs.Common.{refl}
-use Rattle.sync_run.proofs.SafeFull.{dialled_full, err_was, unrun_full}
+use Rattle.sync_run.proofs.SafeFull.{err_was, unrun_full}
+use Rattle.sync_run.proofs.SentActs.{run_sends_full, run_sends_whole}
 use Rattle.sync_run.proofs.run.run_dialled.Goals as goal
 
 pub returns-in_err-migrate_and_settle-clause-safe : goal.returns-in_err-migrate_and_settle-clause-safe
@@ -61,8 +61,8 @@ returns-in-Ok-clause-rests g c = rests_ready _ _ _ (c.run_node.ensures.may c.in-
 
 pub returns-in-Ok-clause-sent : goal.returns-in-Ok-clause-sent
 returns-in-Ok-clause-sent g c =
-    node_sends _ c.args.links.now _ _ _ _ _ _ _ _ c.in-Ok.over _ c.requires.unused c.migrate_and_settle.ensures.run c.migrate_and_settle.ensures.settled c.in_ok-node.ensures c.in-Ok.ensures.joined c.in-Ok.ensures.answer
-    c.run_node.ensures.node c.run_node.ensures.may c.in_ok-close-in-Ok.ensures
+    run_sends_whole _ c.args.limits c.args.links.now _ _ _ _ _ _ _ c.requires.unused c.migrate_and_settle.ensures.run c.migrate_and_settle.ensures.settled c.in_ok-node.ensures
+    c.in_ok-migrate_and_settle.ensures.ready c.run_node.ensures.run c.all_is_sent.ensures.whole _ _ c.in-Ok.over _ c.in-Ok.ensures.went c.in_ok-close-in-Ok.ensures
 
 pub returns-in-Ok-clause-run : goal.returns-in-Ok-clause-run
 returns-in-Ok-clause-run g c = goes_then _ _ _ (goes_settled _ _ _ _ _ _ c.requires.ready c.migrate_and_settle.ensures.run c.migrate_and_settle.ensures.settled) c.run_node.ensures.run
@@ -148,5 +148,5 @@ returns-in_err-migrate_and_settle-clause-sent_full g c = λ is.
 
 pub returns-in-Err-Full-clause-sent_full : goal.returns-in-Err-Full-clause-sent_full
 returns-in-Err-Full-clause-sent_full g c = λ is.
-    dialled_full _ _ _ _ _ _ _ _ _ c.requires.unused c.migrate_and_settle.ensures.run c.migrate_and_settle.ensures.settled c.in_ok-node.ensures (rw c.in-Err-Full.field-0-is at c.in-Err-Full.ensures.stays)
-    ((rw c.in-Err-Full.field-0-is at c.in-Err-Full.ensures.sent) refl)
+    run_sends_full _ c.args.limits c.args.links.now _ _ _ _ _ _ _ c.requires.unused c.migrate_and_settle.ensures.run c.migrate_and_settle.ensures.settled c.in_ok-node.ensures
+    c.in_ok-migrate_and_settle.ensures.ready c.run_node.ensures.run c.all_is_sent.ensures.full _ (rw c.in-Err-Full.field-0-is at c.in-Err-Full.ensures.stopped)

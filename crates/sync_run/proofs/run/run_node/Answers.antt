@@ -4,8 +4,6 @@ use Rattle.sync_run.specs.Parts.{sessions_from}
 use Rattle.sync_run.proofs.CauseLaws.{causes_then, goes_then}
 use Rattle.sync_run.proofs.CourseParts.{err_same, if_err_then, if_err_was, run_ends, run_full, run_stopped, run_unbegun, run_unfilled}
 use Rattle.sync_run.proofs.SafeTurns.{attached_then, on_ok_map, sessions_then}
-use Rattle.std.proofs.Common.{Err, ap}
-use Rattle.sync_run.proofs.SafeFull.{err_was, sessions_sent}
 use Rattle.sync_run.proofs.run.run_node.Goals as goal
 
 pub returns-in_err-attach_all-clause-stopped : goal.returns-in_err-attach_all-clause-stopped
@@ -35,19 +33,8 @@ returns-clause-stopped g c =
     (c.in_ok-attach_all.ensures.joined.same_first ∙ sym c.requires.first) refl c.in_ok-attach_all.ensures.went turns)
     c.make_turns.ensures.stopped
 
-pub returns-clause-joined : goal.returns-clause-joined
-returns-clause-joined g c = on_ok_map c.make_turns.result _ _ (attached_then _ _ _ _ _ _ _ _ c.in_ok-attach_all.ensures.joined) c.make_turns.ensures.joined
-
 pub returns-clause-safe : goal.returns-clause-safe
 returns-clause-safe g c = sessions_then _ _ _ _ _ _ _ _ c.in_ok-attach_all.ensures.joined c.in_ok-attach_all.ensures.safe c.make_turns.ensures.safe
-
-pub returns-in_err-attach_all-clause-sent : goal.returns-in_err-attach_all-clause-sent
-returns-in_err-attach_all-clause-sent g c = λ is. c.in_err-attach_all.ensures.sent (ap (λ e. Err e) (err_was _ c.in_err-attach_all.field-0.0 _ c.from_residual.ensures.1 is))
-
-pub returns-clause-sent : goal.returns-clause-sent
-returns-clause-sent g c = λ is.
-    sessions_sent _ _ _ _ _ _ _ c.requires.none c.in_ok-attach_all.ensures.cause c.in_ok-attach_all.ensures.run c.make_turns.ensures.run c.in_ok-attach_all.ensures.joined.joined
-    c.in_ok-attach_all.ensures.joined.same_first c.in_ok-attach_all.ensures.node c.in_ok-attach_all.ensures.answer (c.make_turns.ensures.sent is)
 
 pub returns-in_err-attach_all-clause-full : goal.returns-in_err-attach_all-clause-full
 returns-in_err-attach_all-clause-full g c = λ is.
@@ -58,3 +45,6 @@ pub returns-clause-full : goal.returns-clause-full
 returns-clause-full g c = λ is.
     run_full _ _ _ _ _ _ _ _ _ _ _ _ (c.in_ok-attach_all.ensures.joined.same_first ∙ sym c.requires.first) refl c.args.node.now.links c.requires.none c.in_ok-attach_all.ensures.joined.joined
     c.in_ok-attach_all.ensures.went (c.make_turns.ensures.full is)
+
+pub returns-clause-joined : goal.returns-clause-joined
+returns-clause-joined g c = on_ok_map c.make_turns.result _ _ (attached_then _ _ _ _ _ _ _ _ c.in_ok-attach_all.ensures.joined) c.make_turns.ensures.joined

@@ -1,4 +1,4 @@
-use Rattle.sync_run.proofs.CourseLinks.{contacts_fail, tests_hold, too_many_fail}
+use Rattle.sync_run.proofs.CourseLinks.{contacts_fail}
 use Rattle.sync_run.proofs.run.test_words.Goals as goal
 
 pub returns-in_err-test_contacts-clause-tested : goal.returns-in_err-test_contacts-clause-tested

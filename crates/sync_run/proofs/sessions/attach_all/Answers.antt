@@ -5,8 +5,6 @@ use Rattle.sync_run.specs.Parts.{sessions_from}
 use Rattle.sync_run.proofs.CauseLaws.{causes_then, goes_none, goes_then, no_causes}
 use Rattle.sync_run.proofs.CourseParts.{attached_all, attached_more, attaching_full, attaching_stopped, err_same, if_err_was, is_node_without, no_session_yet}
 use Rattle.sync_run.proofs.SafeTurns.{begun_all, begun_attached, begun_end, begun_left, begun_next, begun_none, begun_planned, item_may}
-use Rattle.std.proofs.Common.{Err}
-use Rattle.sync_run.proofs.SafeFull.{err_was, sessions_sent}
 use Rattle.sync_run.proofs.sessions.attach_all.Goals as goal
 
 pub links-init : goal.links-init
@@ -108,11 +106,6 @@ returns-clause-joined g c =
 
 pub returns-clause-safe : goal.returns-clause-safe
 returns-clause-safe g c = begun_all _ c.args.links.now _ _ _ _ (begun_end _ c.args.links.now c.links.link-index _ _ _ _ c.links-test.false c.links.invariant.begun)
-
-pub returns-in_err-attach-clause-sent : goal.returns-in_err-attach-clause-sent
-returns-in_err-attach-clause-sent g c = λ is.
-    sessions_sent _ _ _ _ _ _ _ c.requires.none c.links.invariant.cause c.links.invariant.run c.in_err-attach.ensures.run c.links.invariant.begun.joined c.links.invariant.same_first c.links.invariant.node
-    c.links.invariant.still_open (c.in_err-attach.ensures.sent c.links.invariant.still_open (ap (λ e. Err e) (err_was _ c.in_err-attach.field-0.0 _ c.from_residual.ensures.1 is)))
 
 pub returns-in_err-attach-clause-full : goal.returns-in_err-attach-clause-full
 returns-in_err-attach-clause-full g c = λ is.

@@ -4,8 +4,6 @@ use Rattle.sync_node.specs.Node.{asked_among}
 use Rattle.sync_run.proofs.CauseLaws.{causes_then, goes_none, goes_then, no_causes}
 use Rattle.sync_run.proofs.CourseParts.{err_same, CountsStill, few_behind, if_err_was, no_turn_yet, over_asked, still_behind, turn_full, turn_more, turns_end, turns_stopped}
 use Rattle.sync_run.proofs.SafeTurns.{kept_none, kept_then, safe_none, safe_then}
-use Rattle.std.proofs.Common.{Err, ap}
-use Rattle.sync_run.proofs.SafeFull.{err_was, sends_then}
 use Rattle.sync_run.proofs.sessions.make_turns.Goals as goal
 use Rattle.sync_run.proofs.sessions.make_turns.Goals.{in-Still, in-Moving}
 
@@ -117,11 +115,6 @@ returns-clause-joined g c = c.turns.invariant.joined
 
 pub returns-clause-safe : goal.returns-clause-safe
 returns-clause-safe g c = c.turns.invariant.safe
-
-pub returns-in_err-turn-clause-sent : goal.returns-in_err-turn-clause-sent
-returns-in_err-turn-clause-sent g c = λ is.
-    sends_then _ _ _ _ _ _ _ c.turns.invariant.joined c.turns.invariant.cause c.requires.node c.requires.still_open c.turns.invariant.node c.turns.invariant.still_open c.in_err-turn.ensures.run
-    (c.in_err-turn.ensures.sent c.turns.invariant.still_open (ap (λ e. Err e) (err_was _ c.in_err-turn.field-0.0 _ c.from_residual.ensures.1 is)))
 
 pub returns-in_err-turn-clause-full : goal.returns-in_err-turn-clause-full
 returns-in_err-turn-clause-full g c = λ is. record {
