@@ -1,13 +1,13 @@
 -- A run by its acts: in the middle of them a crash leaves files that stand for a journal of the run,
 -- and what went out on each link is a front of its session's output.
-use Rattle.std.proofs.Common.{◌≡◌, ◌⊎◌, ℕ, ◌+◌, ◌≤◌, false, true, List, [], ◌∷◌, ◌++◌, append-nil, append_assoc, length, refl, sym, ◌∙◌, ap, subst, inl, inr, arith, None, Option, Some, is_some, slice_index_or}
+use Rattle.std.proofs.Common.{◌≡◌, ◌⊎◌, ℕ, suc, ◌+◌, ◌≤◌, Bool, false, true, List, [], ◌∷◌, ◌++◌, append-nil, append_assoc, length, refl, sym, ◌∙◌, ap, subst, inl, inr, arith, None, Option, Some, is_some, slice_index_or, Ok}
 use Rattle.std.specs.Prelude.{slice_get}
 use Rattle.std.specs.Option.{option_map}
-use Rattle.outside.specs.Files.{read_files}
-use Rattle.outside.specs.Links.{HeardOn}
-use Rattle.outside.specs.Outside.{Moment, Outside}
+use Rattle.outside.specs.Files.{Two, File, read_files}
+use Rattle.outside.specs.Links.{HeardOn, Links}
+use Rattle.outside.specs.Outside.{DiskRun, Moment, Outside}
 use Rattle.outside.specs.Runs.{IsFront, TellsAll, answers_at, heard_bytes}
-use Rattle.record_grammar.specs.Laws.{FrontsHaveFronts, RecordsJoin, StreamsGoOn}
+use Rattle.record_grammar.specs.Laws.{FrontsHaveFronts}
 use Rattle.record_grammar.specs.Spelling.{spelled}
 use Rattle.record_grammar.specs.Stream.{records}
 use Rattle.entry_codec.specs.Standing.{journal, stands}
@@ -21,7 +21,9 @@ use Rattle.sync_rules.specs.Output.{sent}
 use Rattle.sync_rules.specs.Steps.{IsSettled}
 use Rattle.sync_rules.proofs.Continuing.{facts-append}
 use Rattle.sync_store.specs.Fitting.{FitsFiles}
+use Rattle.sync_store.specs.Ready.{IsReady}
 use Rattle.sync_store.specs.Store.{StoreValue}
+use Rattle.store_commands.specs.Commit.{SettlesAnew}
 use Rattle.sync_course.specs.Acts.{Act, AtFront, Does, Fail, Send, batches_in, commit_acts, event_of, events_of, next_bytes, sends_on}
 use Rattle.sync_course.specs.Events.{Break, Event, Pass, TellsEvents, batches_of, heard_after, heard_by}
 use Rattle.sync_course.specs.Free.{Free, FreeStep, first_free, forget, owing_free}
@@ -31,12 +33,13 @@ use Rattle.sync_course.specs.Story.{AllSuitNode, FreeActs, IsOfCourse, MomentSta
 use Rattle.sync_course.specs.Turns.{Attaches, Between, Ended, Greets, Place, RunStep, Settles, Stage, Terms, Works, first_place}
 use Rattle.sync_course.proofs.ActLaws.{batches_in-append}
 use Rattle.sync_course.proofs.FreeLaws.{run_acts_are_free}
-use Rattle.sync_course.proofs.FreeSuits.{moment_stands}
 use Rattle.sync_course.proofs.PathLaws.{path_then}
 use Rattle.sync_course.proofs.PlanLaws.{BegunFirst, NonePlain, path_plans}
 use Rattle.sync_course.proofs.RunLaws.{get_front}
 use Rattle.sync_course.proofs.ToldLaws.{batches_of-append}
+use Rattle.sync_node.specs.declared.link.Link.{Link}
 use Rattle.sync_node.specs.Courses.{FitsWith, ReadsAs}
+use Rattle.sync_node.specs.Node.{NodeValue}
 use Rattle.sync_node.specs.Did.{ComesAtFronts, HasSentBy, SinceThen}
 use Rattle.sync_node.specs.Going.{LetsNothingFall}
 use Rattle.sync_node.specs.declared.fault.NodeFault.{NodeFault}
@@ -46,10 +49,21 @@ use Rattle.sync_node.specs.Output.{AreOutput, Journal, heard_on, output, sent_on
 use Rattle.sync_node.specs.Safe.{Begin, IsCovered, IsCoveredNow, IsEarly, Safe, read_now}
 use Rattle.sync_node.specs.Suits.{AllSuitSessions, IsOfRun, SuitsRun}
 use Rattle.sync_node.specs.Went.{StopsBroken, Went}
-use Rattle.sync_run.specs.Parts.{StopsFrom, before_sessions}
-use Rattle.sync_run.specs.SafeRuns.{AreUnused}
+use Rattle.sync_run.specs.declared.dialling.Dialled.{Dialled}
+use Rattle.sync_run.specs.declared.run.Limits.{Limits}
+use Rattle.sync_run.specs.Courses.{terms_at}
+use Rattle.sync_run.specs.Parts.{RunsSessions, StopsFrom, StopsRun, before_sessions, sessions_from}
+use Rattle.sync_run.specs.SafeRuns.{AreUnused, RunsSafe}
 use Rattle.sync_run.proofs.HeardLaws.{path_told}
-use Rattle.sync_run.proofs.SafeBegin.{all_suit_append, all_suit_heard}
+use Rattle.sync_run.proofs.SafeBegin.{all_suit_append, all_suit_heard, safe_settled}
+use Rattle.sync_run.proofs.SafeRunning.{settles_only, unused_disk}
+
+-- the law of the moments in the middle of a node's acts
+abbrev pub MomentsStand : Type 0
+MomentsStand =
+    (clients : Meaning) (j : Journal) (acts : List Act) (to : Owing Free) (m : Moment) → Legal clients j
+    → FreeActs clients j acts to → AtFront clients acts j (λ link. []) m
+    → MomentStands clients j (begun_by (batches_in acts)) (heard_at to.at) m
 
 -- ---- acts as events
 
@@ -220,7 +234,7 @@ module _ (clients : Meaning) (terms : Terms) (sessions : List Session) (f : Fact
       (subst (λ (bs : Journal). BegunFirst sessions bs to.at.stage) ways.same
       (path_plans clients terms sessions f to.at (Pass ∷ ways.events) from_first).begun)
 
-module _ (go_on : StreamsGoOn) (join : RecordsJoin) (fronts : FrontsHaveFronts) (clients : Meaning)
+module _ (stand : MomentsStand) (fronts : FrontsHaveFronts) (clients : Meaning)
     (b : Begin) (terms : Terms) (sessions : List Session) (f : Facts) (acts : List Act)
     (to : Owing Place) (heard : ℕ → List ℕ) (settled : IsSettled clients f)
     (is_first : terms.first ≡ f.begun) (begins : f.begun ≡ b.first)
@@ -241,7 +255,7 @@ module _ (go_on : StreamsGoOn) (join : RecordsJoin) (fronts : FrontsHaveFronts) 
       → Covers clients b plans heard (λ link. slice_index_or m.sent link []) (j ++ batches_in at.before)
   covers j legal are run m at =
       let st : MomentStands clients j plans (heard_at (forget to.at)) m =
-      moment_stands go_on join fronts clients j acts (owing_free to) m legal (free_acts j are) at in
+      stand clients j acts (owing_free to) m legal (free_acts j are) at in
       let both : journal (j ++ st.more) ≡ journal (j ++ batches_in at.before) = sym st.stands_for ∙ at.stands_for in
       let whole : j ++ st.more ≡ j ++ batches_in at.before = cc in
       let same : st.more ≡ batches_in at.before = same_behind j st.more (batches_in at.before) whole in
@@ -300,7 +314,7 @@ told_before o o' goes told =
       heard_are = heard.1;
     }
 
-module _ (go_on : StreamsGoOn) (join : RecordsJoin) (fronts : FrontsHaveFronts) (clients : Meaning)
+module _ (stand : MomentsStand) (fronts : FrontsHaveFronts) (clients : Meaning)
     (b : Begin) (terms : Terms) (sessions : List Session) (s : StoreValue) (o o' : Outside)
     (acts : List Act) (next : Journal) (to : Owing Place) (is_settled : IsSettled clients s.state.facts)
     (is_first : terms.first ≡ s.state.facts.begun) (begins : s.state.facts.begun ≡ b.first)
@@ -349,7 +363,7 @@ module _ (go_on : StreamsGoOn) (join : RecordsJoin) (fronts : FrontsHaveFronts) 
     covers_at : (m : Moment) → (at : AtFront clients all now.whole (λ link. []) m)
         → Covers clients b began (heard_on o'.links) (λ link. slice_index_or m.sent link []) (now.whole ++ batches_in at.before)
     covers_at m at =
-        covers go_on join fronts clients b terms sessions s.state.facts all to (heard_on o'.links) is_settled is_first begins path (hears told)
+        covers stand fronts clients b terms sessions s.state.facts all to (heard_on o'.links) is_settled is_first begins path (hears told)
         now.whole now.fits.legal now.fits.facts_are
         (suits_wide fronts clients b.first began (heard_on o.links) (heard_on o'.links) (silent told) b.journal now.whole now.suits) m at
 
@@ -467,7 +481,7 @@ pub record BeganSafe (clients : Meaning) (sessions : List Session) (s : StoreVal
   pub safe : (b : Begin) → s.state.facts.begun ≡ b.first → Safe clients b [] s o
       → Safe clients b plans store o'
 
-module _ (go_on : StreamsGoOn) (join : RecordsJoin) (fronts : FrontsHaveFronts) (clients : Meaning)
+module _ (stand : MomentsStand) (fronts : FrontsHaveFronts) (clients : Meaning)
     (terms : Terms) (sessions : List Session) (s : StoreValue) (o o' : Outside)
     (opened : s.closed ≡ false) (settled : IsSettled clients s.state.facts)
     (is_first : terms.first ≡ s.state.facts.begun) (few : length sessions ≤ o.links.dialled)
@@ -482,7 +496,7 @@ module _ (go_on : StreamsGoOn) (join : RecordsJoin) (fronts : FrontsHaveFronts) 
     plans = begun_by (batches_in (acts ++ commit_acts next));
     front = plans_front clients terms sessions s.state.facts (acts ++ commit_acts next) to settled path;
     safe = λ b begins safe.
-        acts_safe go_on join fronts clients b terms sessions s o o' acts next to settled is_first begins path
+        acts_safe stand fronts clients b terms sessions s o o' acts next to settled is_first begins path
         (hears_told clients terms sessions s o o' acts next to settled path few unused tells) unused did n fits opened safe;
   }
 
@@ -542,3 +556,68 @@ untold_safe clients sessions s o o' goes none = record {
   where
     never : TellsAll o' → ⊥
     never told' = let told = told_before o o' goes told' in let is : o.files ≡ Some told.two = told.files_are in cc
+
+-- ---- on links that were dialled
+
+files_known : (files : Option (Two File)) → (files ≡ None) ⊎ ((two : Two File) × (files ≡ Some two))
+files_known None = inl refl
+files_known (Some two) = inr (two, refl)
+
+sessions_long : (number : ℕ) (links : List Dialled) → length (sessions_from number links) ≡ length links
+sessions_long number [] = refl
+sessions_long number (d ∷ links) = ap suc (sessions_long (suc number) links)
+
+module _ (stand : MomentsStand) (fronts : FrontsHaveFronts) (clients : Meaning)
+    (limits : Limits) (links : List Dialled) (s s1 : StoreValue) (o o1 o2 : Outside)
+    (done : Unit {0}) (ready : IsReady clients s o.files) (unused : AreUnused o)
+    (run : DiskRun o o1) (settles : SettlesAnew clients s s1 o o1 (Ok done))
+    (few : length links ≤ o.links.dialled) (n : NodeValue) (made : n.store ≡ s1)
+    (goes : LetsNothingFall o1 o2) where
+  abbrev runs : List Session
+  runs = sessions_from s1.state.facts.begun links
+
+  -- the journal was settled before the sessions
+  began_safe : BeganSafe clients runs s1 o1 o2 → RunsSafe clients links s o o2
+  began_safe began =
+      let same = (settles_only clients s s1 o o1 (Ok done) settles).begun in
+      record {
+        store = began.store;
+        plans = began.plans;
+        front = subst (λ (k : ℕ). IsFront began.plans (sessions_from k links)) same began.front;
+        safe = λ b begins safe.
+            began.safe b (same ∙ begins)
+            (safe_settled clients b [] s s1 o o1 settles.more ready.still_open run settles.comes (λ told link. (unused link).nothing_sent told) safe);
+      }
+
+  room : length runs ≤ o1.links.dialled
+  room =
+      let long : length runs ≡ length links = sessions_long s1.state.facts.begun links in
+      let same : o1.links.dialled ≡ o.links.dialled = ap (λ (l : Links). l.dialled) run.same_links in
+      omega (arith, long, same, few)
+
+  by_files : ((two : Two File) → o1.files ≡ Some two → BeganSafe clients runs s1 o1 o2)
+      → RunsSafe clients links s o o2
+  by_files told = elim (files_known o1.files) [
+    | inl none ↦ began_safe (untold_safe clients runs s1 o1 o2 goes none)
+    | inr some ↦ began_safe (told some.0 some.1)
+  ]
+
+  pub over_safe : (links' : List Link) (s2 : StoreValue) (over : Bool)
+      → RunsSessions clients limits n.store.state.facts.begun (sessions_from n.store.state.facts.begun links) links' n.store s2 o1 o2 over
+      → RunsSafe clients links s o o2
+  over_safe links' s2 over went =
+      let ran : RunsSessions clients limits s1.state.facts.begun runs links' s1 s2 o1 o2 over =
+      subst (λ (t : StoreValue). RunsSessions clients limits t.state.facts.begun (sessions_from t.state.facts.begun links) links' t s2 o1 o2 over) made went in
+      by_files (λ two told.
+      went_safe stand fronts clients (terms_at limits s1.state.facts.begun) runs s1 o1 o2 settles.answer.0 settles.answer.1 refl
+      room (unused_disk o o1 run unused) _ s2 (ran.ends two told).went)
+
+  pub broken_safe : (s2 : StoreValue) (x : NodeFault)
+      → StopsRun clients limits n.store.state.facts.begun (sessions_from n.store.state.facts.begun links) n.store s2 o1 o2 x
+      → RunsSafe clients links s o o2
+  broken_safe s2 x stopped =
+      let ran : StopsRun clients limits s1.state.facts.begun runs s1 s2 o1 o2 x =
+      subst (λ (t : StoreValue). StopsRun clients limits t.state.facts.begun (sessions_from t.state.facts.begun links) t s2 o1 o2 x) made stopped in
+      by_files (λ two told.
+      stopped_safe stand fronts clients (terms_at limits s1.state.facts.begun) runs s1 o1 o2 settles.answer.0 settles.answer.1 refl
+      room (unused_disk o o1 run unused) x s2 (ran.stops two told))
