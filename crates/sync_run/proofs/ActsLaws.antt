@@ -103,7 +103,7 @@ module _ (clients : Meaning) (terms : Terms) where
   act_more p m q (Fail n bytes count) fs step rest =
       event_more p.at m.at q (Break n) fs step.1 rest
 
-  pub acts_tell : (p q : Owing Place) (acts : List Act) → Path (RunActs clients terms) p acts q
+  acts_tell : (p q : Owing Place) (acts : List Act) → Path (RunActs clients terms) p acts q
       → EventsAs clients terms p.at q.at (events_of acts)
   acts_tell p q [] path = record {
     events = [];
@@ -228,7 +228,7 @@ module _ (clients : Meaning) (terms : Terms) (sessions : List Session) (f : Fact
   none_plain = subst NonePlain ways.same (path_plans clients terms sessions f to.at (Pass ∷ ways.events) from_first).none_plain
 
   -- the sessions that began are the first of those given
-  pub plans_front : IsFront (begun_by (batches_in acts)) sessions
+  plans_front : IsFront (begun_by (batches_in acts)) sessions
   plans_front =
       begun_first sessions (batches_in acts) to.at.stage
       (subst (λ (bs : Journal). BegunFirst sessions bs to.at.stage) ways.same
@@ -249,7 +249,7 @@ module _ (stand : MomentsStand) (fronts : FrontsHaveFronts) (clients : Meaning)
       (subst (λ (k : ℕ). Path (ActStep (λ (p : Free). p.facts) k (FreeStep clients k)) (paid (first_free f)) acts (owing_free to)) is_first
       (run_acts_are_free clients terms (paid (before_sessions sessions f)) to acts path))
 
-  pub covers : (j : Journal) → Legal clients j → facts j ≡ f
+  covers : (j : Journal) → Legal clients j → facts j ≡ f
       → SuitsRun clients b.journal b.first plans heard j → (m : Moment)
       → (at : AtFront clients acts j (λ link. []) m)
       → Covers clients b plans heard (λ link. slice_index_or m.sent link []) (j ++ batches_in at.before)
@@ -398,7 +398,7 @@ module _ (stand : MomentsStand) (fronts : FrontsHaveFronts) (clients : Meaning)
     covers_end told' = covers_at (read_now told'.two o') (at_end told')
 
   -- a run that was safe before its sessions is safe with those that began
-  pub acts_safe : (n : StoreValue)
+  acts_safe : (n : StoreValue)
       → (n.closed ≡ false → (j : Journal) → FitsWith clients s o.files j → FitsWith clients n o'.files (j ++ batches_in acts))
       → s.closed ≡ false → Safe clients b [] s o → Safe clients b began n o'
   unfolding at_end
@@ -457,7 +457,7 @@ module _ (clients : Meaning) (terms : Terms) (sessions : List Session) (s : Stor
     (few : length sessions ≤ o.links.dialled) (unused : AreUnused o)
     (tells : TellsEvents (events_of acts) o o') where
   -- what is told to be heard on each link is what the place has
-  pub hears_told : TellsAll o → (link : ℕ) → heard_on o'.links link ≡ heard_at (forget to.at) link
+  hears_told : TellsAll o → (link : ℕ) → heard_on o'.links link ≡ heard_at (forget to.at) link
   hears_told told link =
       let way = acts_tell clients terms (paid (before_sessions sessions s.state.facts)) to (acts ++ commit_acts next) path in
       let h : List HeardOn = told.heard in
@@ -526,12 +526,12 @@ module _ (stand : MomentsStand) (fronts : FrontsHaveFronts) (clients : Meaning)
       (record { goes = stops.did.goes; sent = stops.did.sent; reads = stops.did.reads; moments = stops.did.moments })
       (λ still j fit. cc)
 
-  pub went_safe : (q : Place) (s' : StoreValue)
+  went_safe : (q : Place) (s' : StoreValue)
       → RunWent clients terms (before_sessions sessions s.state.facts) q s s' o o'
       → BeganSafe clients sessions s o o'
   went_safe q s' w = by_went (paid q) s' w
 
-  pub stopped_safe : (x : NodeFault) (s' : StoreValue)
+  stopped_safe : (x : NodeFault) (s' : StoreValue)
       → StopsFrom clients terms (before_sessions sessions s.state.facts) s s' o o' x
       → BeganSafe clients sessions s o o'
   stopped_safe node.Memory s' stops = by_went stops.1.to s' stops.1.went
@@ -540,7 +540,7 @@ module _ (stand : MomentsStand) (fronts : FrontsHaveFronts) (clients : Meaning)
   stopped_safe node.Closed s' stops = absurd stops
 
 -- where no files are told nothing is said
-pub untold_safe : (clients : Meaning) (sessions : List Session) (s : StoreValue) (o o' : Outside)
+untold_safe : (clients : Meaning) (sessions : List Session) (s : StoreValue) (o o' : Outside)
     → LetsNothingFall o o' → o.files ≡ None → BeganSafe clients sessions s o o'
 untold_safe clients sessions s o o' goes none = record {
   store = s;
