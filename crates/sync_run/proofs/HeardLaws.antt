@@ -1,5 +1,5 @@
 -- The bytes heard on each link at a place of a run are those of the answers that its events have; and so are those that are told.
-use Rattle.std.proofs.Common.{◌≡◌, ℕ, zero, suc, ◌+◌, ◌<◌, Bool, true, false, cond, nat_eq, eq-eqb, List, [], ◌∷◌, ◌++◌, length, length-append, append-nil, append_assoc, refl, sym, ◌∙◌, ap, subst, inl, inr, arith, Option, None, Some}
+use Rattle.std.proofs.Common.{◌≡◌, ℕ, zero, suc, ◌+◌, ◌⊎◌, ◌<◌, ◌≤◌, Bool, true, false, cond, nat_eq, eq-eqb, List, [], ◌∷◌, ◌++◌, length, length-append, append-nil, append_assoc, refl, sym, ◌∙◌, ap, subst, inl, inr, arith, Option, None, Some}
 use Rattle.std.specs.Option.{option_map}
 use Rattle.std.specs.Prelude.{slice_get, slice_index_or, slice_set}
 use Rattle.std.proofs.lemmas.Bool.{cases_eq, ne_eqb}
@@ -343,3 +343,48 @@ course_told clients terms sessions f events last old new course made hears i lin
     ∙ sym (ap (λ (l : List ℕ). l ++ bytes_of i events) (unheard_none new.links.dialled i))
     ∙ sym (events_tell events (unheard new.links.dialled) i few)
     ∙ ap (λ (o : Option (List HeardOn)). heard_bytes (answers_at o i)) (sym are)
+
+-- ---- at any place of a run
+
+-- at each stage no more links stand than there are sessions
+links_few : (sessions : List Session) (stage : Stage) (n : ℕ) → HasLinks sessions stage n → n ≤ length sessions
+links_few sessions (Settles left) n has = let none : n ≡ 0 = has.1 in omega (arith, none)
+links_few sessions (Attaches left) n has = omega (arith, has)
+links_few sessions (Greets s left) n has = omega (arith, has)
+links_few sessions Between n has = omega (arith, has)
+links_few sessions (Works k doing) n has = omega (arith, has)
+links_few sessions Ended n has = omega (arith, has)
+
+within_or_past : (i n : ℕ) → (i < n) ⊎ (n ≤ i)
+within_or_past i zero = inr (omega arith)
+within_or_past zero (suc n) = inl (omega arith)
+within_or_past (suc i) (suc n) = elim (within_or_past i n) [ inl less ↦ inl (omega (arith, less)) | inr more ↦ inr (omega (arith, more)) ]
+
+none_past : {A : Type 0} (xs : List A) (i : ℕ) (x : A) → length xs ≤ i → slice_index_or xs i x ≡ x
+none_past [] i x past = refl
+none_past (y ∷ xs) zero x past = absurd (omega (arith, past))
+none_past (y ∷ xs) (suc i) x past = none_past xs i x (omega (arith, past))
+
+no_link : (links : List Link) (i : ℕ) → length links ≤ i → heard_in (slice_get links i) ≡ []
+no_link [] i past = refl
+no_link (l ∷ links) zero past = absurd (omega (arith, past))
+no_link (l ∷ links) (suc i) past = no_link links i (omega (arith, past))
+
+length_after : (es : List Event) (h : List HeardOn) → length (heard_after es h) ≡ length h
+length_after [] h = refl
+length_after (e ∷ es) h = length_after es (heard_by e h) ∙ length_heard e h
+
+-- where nothing was heard before a run, what is told to be heard is what its place has
+pub path_told : (clients : Meaning) (terms : Terms) (sessions : List Session) (f : Facts) (es : List Event) (last : Place) (h : List HeardOn) → Path (RunStep clients terms) (first_place sessions f) es last
+    → length sessions ≤ length h → ((i : ℕ) → at_of h i ≡ []) → (i : ℕ) → at_of (heard_after es h) i ≡ heard_on last i
+path_told clients terms sessions f es last h path few silent i =
+    elim (within_or_past i (length h)) [
+      | inl within ↦
+          events_tell es h i within ∙ ap (λ (l : List ℕ). l ++ bytes_of i es) (silent i)
+          ∙ sym (path_adds clients terms es (first_place sessions f) last i path)
+      | inr past ↦
+          let count : length last.links ≤ length sessions =
+          links_few sessions last.stage (length last.links) (path_has clients terms sessions es (first_place sessions f) last path (refl, refl)) in
+          ap (λ (x : HeardOn). heard_bytes x.answers) (none_past (heard_after es h) i nothing_heard (omega (arith, past, length_after es h)))
+          ∙ sym (no_link last.links i (omega (arith, count, few, past)))
+    ]

@@ -9,6 +9,7 @@ mod SafeCalm
 mod SafeBegin
 mod SafeEnds
 mod SafeTurns
+mod ActsLaws
 mod SafeRunning
 mod SafeFull
 mod LeavingLaws

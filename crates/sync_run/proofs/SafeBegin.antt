@@ -57,7 +57,7 @@ of_run_heard first plans heard heard' same f (entry.Take s k ∷ rest) p =
 of_run_heard first plans heard heard' same f (entry.Out s now what ∷ rest) p = p
 of_run_heard first plans heard heard' same f _ p = absurd p
 
-all_suit_heard : (clients : Meaning) (first : ℕ) (plans : List Session) (heard heard' : ℕ → List ℕ) → ((link : ℕ) → heard' link ≡ heard link) → (f : Facts) (bs : Journal)
+pub all_suit_heard : (clients : Meaning) (first : ℕ) (plans : List Session) (heard heard' : ℕ → List ℕ) → ((link : ℕ) → heard' link ≡ heard link) → (f : Facts) (bs : Journal)
     → AllSuitSessions clients first plans heard f bs → AllSuitSessions clients first plans heard' f bs
 all_suit_heard clients first plans heard heard' same f [] suits = tt
 all_suit_heard clients first plans heard heard' same f (b ∷ bs) suits =
@@ -208,7 +208,7 @@ safe_new clients b s o later early fits silent =
 
 -- ---- settling
 
-all_suit_append : (clients : Meaning) (first : ℕ) (plans : List Session) (heard : ℕ → List ℕ) (f : Facts) (bs cs : Journal) → AllSuitSessions clients first plans heard f bs
+pub all_suit_append : (clients : Meaning) (first : ℕ) (plans : List Session) (heard : ℕ → List ℕ) (f : Facts) (bs cs : Journal) → AllSuitSessions clients first plans heard f bs
     → AllSuitSessions clients first plans heard (after_batches f bs) cs → AllSuitSessions clients first plans heard f (bs ++ cs)
 all_suit_append clients first plans heard f [] cs one two = two
 all_suit_append clients first plans heard f (b ∷ bs) cs one two = (one.0, all_suit_append clients first plans heard (after_all f b) bs cs one.1 two)

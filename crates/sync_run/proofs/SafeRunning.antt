@@ -44,7 +44,7 @@ use Rattle.sync_run.specs.Dialling.{AreDialled, DialsOnly, IsDialled, MakesLinks
 use Rattle.sync_run.specs.Headline.{AtRest, Headline, LeavesFilesAtRest, SentWhole}
 use Rattle.sync_run.specs.Parts.{sessions_from}
 use Rattle.sync_run.specs.Plans.{ArePlanned, IsPlanned}
-use Rattle.sync_run.specs.SafeRuns.{AllMayBegin, AreUnused, IsKnown, MayBeginOn, RunsSafe, SendsWhole, SessionsSafe, WordsSafe}
+use Rattle.sync_run.specs.SafeRuns.{AllMayBegin, AreUnused, IsKnown, MayBeginOn, RunsSafe, SendsWhole, WordsSafe}
 use Rattle.sync_run.proofs.SafeBegin.{image_read, joined_none, safe_calms, safe_settled, safe_stills, told_file, told_stills}
 use Rattle.sync_run.proofs.SafeEnds.{headline_safe, safe_loaded}
 
@@ -115,20 +115,6 @@ runs_settling clients links s s' o o' r ready unused run settles = record {
   front = record { rest = sessions_from s.state.facts.begun links; whole = refl };
   safe = λ b begins safe. safe_settled clients b [] s s' o o' settles.more ready.still_open run settles.comes (λ told link. (unused link).nothing_sent told) safe;
 }
-
--- settling, and then sessions on a node of the store
-pub runs_sessions : (clients : Meaning) (links : List Dialled) (s s1 : StoreValue) (n : NodeValue) (o o1 o2 : Outside) (r : Result (Unit {0}) Outcome) → IsReady clients s o.files → AreUnused o → DiskRun o o1
-    → SettlesAnew clients s s1 o o1 r → SessionsSafe clients links (new_node s1) n o1 o2 → RunsSafe clients links s o o2
-runs_sessions clients links s s1 n o o1 o2 r ready unused run settles sessions =
-    let same = (settles_only clients s s1 o o1 r settles).begun in
-    record {
-      store = n.store;
-      plans = sessions.plans;
-      front = subst (λ (k : ℕ). IsFront sessions.plans (sessions_from k links)) same sessions.front;
-      safe = λ b begins safe.
-          sessions.safe (joined_none clients s1 o1 (unused_disk o o1 run unused)) b (same ∙ begins)
-          (safe_settled clients b [] s s1 o o1 settles.more ready.still_open run settles.comes (λ told link. (unused link).nothing_sent told) safe);
-    }
 
 -- what a node of a store that is ready needs
 pub new_may : (clients : Meaning) (s : StoreValue) (o : Outside) → IsReady clients s o.files → MayRun clients (new_node s) o
@@ -266,11 +252,6 @@ rests_stays clients s files _ stays = rests_ready clients s files stays
 
 pub rests_fault : (files : Option (Two File)) (r : Result Closing Outcome) (e : Outcome) → r ≡ Err e → LeavesFilesAtRest files (Err e) → LeavesFilesAtRest files r
 rests_fault files r e is rests = subst (λ (x : Result Closing Outcome). LeavesFilesAtRest files x) (sym is) rests
-
-pub runs_node : (clients : Meaning) (links : List Dialled) (s s1 : StoreValue) (n0 n : NodeValue) (o o1 o2 : Outside) (r : Result (Unit {0}) Outcome) → IsReady clients s o.files → AreUnused o → DiskRun o o1
-    → SettlesAnew clients s s1 o o1 r → n0 ≡ new_node s1 → SessionsSafe clients links n0 n o1 o2 → RunsSafe clients links s o o2
-runs_node clients links s s1 n0 n o o1 o2 r ready unused run settles made sessions =
-    runs_sessions clients links s s1 n o o1 o2 r ready unused run settles (subst (λ (m : NodeValue). SessionsSafe clients links m n o1 o2) made sessions)
 
 pub node_may : (clients : Meaning) (s : StoreValue) (n : NodeValue) (o : Outside) → IsReady clients s o.files → n ≡ new_node s → MayRun clients n o
 node_may clients s n o ready made = subst (λ (m : NodeValue). MayRun clients m o) (sym made) (new_may clients s o ready)

@@ -51,16 +51,8 @@ pub record AttachesAll (clients : Meaning) (links : List Dialled) (n n' : NodeVa
   pub number : length n'.links ≡ length n.links + length links
   pub joined : Joined clients n.links n.store o → Joined clients n'.links n'.store o'
 
--- Sessions ran on links of a node that had none, whatever the answer. A run that was safe with no
--- session is safe with those of some first links.
-pub record SessionsSafe (clients : Meaning) (links : List Dialled) (n n' : NodeValue)
-    (o o' : Outside) : Type 0 where
-  pub plans : List Session
-  pub front : IsFront plans (sessions_from n.store.state.facts.begun links)
-  pub safe : Joined clients n.links n.store o → (b : Begin) → n.first ≡ b.first
-      → Safe clients b [] n.store o → Safe clients b plans n'.store o'
-
--- the same of a store that was given to a node
+-- Sessions ran on links over a store, whatever the answer. A run that was safe with no session is safe with those of some first
+-- links.
 pub record RunsSafe (clients : Meaning) (links : List Dialled) (s : StoreValue)
     (o o' : Outside) : Type 0 where
   pub store : StoreValue

@@ -23,17 +23,18 @@ ghost use Rattle.sync_run.specs.Headline.{Headline, LeavesFilesAtRest, AllSentWh
 ghost use Rattle.sync_run.specs.Leaving.{DoesNotBegin, LeavesLinks, MayNotBegin};
 ghost use Rattle.sync_run.specs.Parts.{FullRun, RunsOver, RunsSessions, StopsRun, sessions_from};
 ghost use Rattle.sync_run.specs.SafeRuns.{AllMayBegin, AreUnused, AttachesAll, IsKnown, RunsSafe};
-ghost use Rattle.sync_run.specs.SafeRuns.{SessionsSentWhenFull, SendsWhole, SessionsSafe};
+ghost use Rattle.sync_run.specs.SafeRuns.{SessionsSentWhenFull, SendsWhole};
 ghost use Rattle.sync_run.specs.SafeRuns.{WordsSafe};
 
 use crate::closing::close;
 use crate::dialling::{Dialled, dial_all, hang_up_all};
 use crate::sessions::{attach_all, make_turns};
 use outside::Host;
+use record_grammar::fronts_have_fronts;
 use std::alloc::Global;
 use std::hash::RandomState;
 use store_commands::{load_store, migrate_and_settle};
-use sync_course::laws::{all_is_sent, runs_end_quiet};
+use sync_course::laws::{all_is_sent, moments_stand, runs_end_quiet};
 use sync_node::{Node, NodeFault};
 use sync_rules::{Clients, MAX_SESSIONS, Refused};
 use sync_store::Store;
@@ -209,8 +210,11 @@ fn run_dialled<H: Host, C: Clients>(
         j → RunsOver (C.meaning clients.now) limits (sessions_from (facts j).begun links.now) j
         (H.tells host.old) (H.tells host.new) result }
 {
-    // The laws of what was sent, and of what stands at the end of a run that is over.
+    // The laws of what was sent, of what a crash leaves at each moment, and of what stands at the end
+    // of a run that is over.
     all_is_sent();
+    moments_stand();
+    fronts_have_fronts();
     runs_end_quiet();
     let mut store = store;
     migrate_and_settle(&mut store, host, clients)?;
@@ -246,8 +250,6 @@ fn run_node<H: Host, C: Clients>(
     ensures node { IsNode node.new }
     ensures joined { OnOk result (AttachesAll (C.meaning clients.now) links.now node.old node.new
         (H.tells host.old) (H.tells host.new)) }
-    ensures safe { SessionsSafe (C.meaning clients.now) links.now node.old node.new
-        (H.tells host.old) (H.tells host.new) }
     ensures stays { StaysReady (C.meaning clients.now) node.new (H.tells host.new) result }
     ensures run { LetsNothingFall (H.tells host.old) (H.tells host.new) }
     ensures cause { FailByCause node.old.links node.new.links (H.tells host.old)

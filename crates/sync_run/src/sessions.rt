@@ -6,9 +6,9 @@ ghost use Rattle.sync_rules.specs.Steps.{IsSettled};
 ghost use Rattle.sync_rules.specs.declared.limits.TheConstants.{MAX_SESSIONS};
 ghost use Rattle.sync_node.specs.Causes.{FailByCause};
 ghost use Rattle.sync_node.specs.Going.{LetsNothingFall};
-ghost use Rattle.sync_node.specs.Node.{AnswersAndCloses, IsNode, KeepsJoined, KeepsSafe, MayRun};
+ghost use Rattle.sync_node.specs.Node.{AnswersAndCloses, IsNode, KeepsJoined, MayRun};
 ghost use Rattle.sync_node.specs.Stays.{StaysReady};
-ghost use Rattle.sync_run.specs.SafeRuns.{AllMayBegin, AttachesAll, SessionsSafe};
+ghost use Rattle.sync_run.specs.SafeRuns.{AllMayBegin, AttachesAll};
 ghost use Rattle.sync_run.specs.Parts.{MakesTurns, SessionsStopped, TurnsStopped};
 ghost use Rattle.sync_run.specs.Parts.{FullSessions, FullTurns, SessionsBegin, sessions_from};
 
@@ -40,8 +40,6 @@ pub fn attach_all<H: Host, C: Clients>(
     ensures node { IsNode node.new }
     ensures joined { OnOk result (AttachesAll (C.meaning clients.now) links.now node.old node.new
         (H.tells host.old) (H.tells host.new)) }
-    ensures safe { SessionsSafe (C.meaning clients.now) links.now node.old node.new
-        (H.tells host.old) (H.tells host.new) }
     ensures stays { StaysReady (C.meaning clients.now) node.new (H.tells host.new) result }
     ensures run { LetsNothingFall (H.tells host.old) (H.tells host.new) }
     ensures cause { FailByCause node.old.links node.new.links (H.tells host.old)
@@ -83,8 +81,6 @@ pub fn make_turns<H: Host, C: Clients>(
     ensures node { IsNode node.new }
     ensures joined { OnOk result (KeepsJoined (C.meaning clients.now) node.old node.new
         (H.tells host.old) (H.tells host.new)) }
-    ensures safe { KeepsSafe (C.meaning clients.now) node.old node.new (H.tells host.old)
-        (H.tells host.new) }
     ensures stays { StaysReady (C.meaning clients.now) node.new (H.tells host.new) result }
     ensures run { LetsNothingFall (H.tells host.old) (H.tells host.new) }
     ensures cause { FailByCause node.old.links node.new.links (H.tells host.old)

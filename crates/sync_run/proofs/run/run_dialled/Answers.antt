@@ -4,9 +4,10 @@ use Rattle.sync_words.specs.declared.outcome.Outcome.TheVariants as outcome
 use Rattle.sync_run.specs.Parts.{RunsOver, sessions_from}
 use Rattle.sync_rules.specs.Facts.{facts}
 use Rattle.sync_run.proofs.CourseRun.{over_broken, over_closed, over_filled, over_settling, over_unclosed, over_unmade, passed}
+use Rattle.sync_run.proofs.ActsLaws.{broken_safe, over_safe}
 use Rattle.sync_run.proofs.SafeCalm.{err_is}
 use Rattle.sync_run.proofs.SafeBegin.{joined_none}
-use Rattle.sync_run.proofs.SafeRunning.{unused_disk, goes_settled, node_begins, node_begun, node_may, rests_at, rests_fault, rests_ready, rests_stays, runs_node, runs_settling}
+use Rattle.sync_run.proofs.SafeRunning.{unused_disk, goes_settled, node_begins, node_begun, node_may, rests_at, rests_fault, rests_ready, rests_stays, runs_settling}
 use Rattle.sync_run.proofs.CauseLaws.{ends_rose, goes_then}
 use Rattle.sync_run.proofs.SafeFull.{err_was, unrun_full}
 use Rattle.sync_run.proofs.SentActs.{run_sends_full, run_sends_whole}
@@ -44,7 +45,8 @@ run_node-requires-clause-each g c = node_begins _ _ _ _ _ _ _ c.args.links.now c
 
 pub returns-in_err-close-in-Ok-clause-safe : goal.returns-in_err-close-in-Ok-clause-safe
 returns-in_err-close-in-Ok-clause-safe g c =
-    runs_node _ c.args.links.now _ _ _ _ _ _ _ _ c.requires.ready c.requires.unused c.migrate_and_settle.ensures.run c.migrate_and_settle.ensures.settled c.in_ok-node.ensures c.run_node.ensures.safe
+    over_safe c.moments_stand.ensures c.fronts_have_fronts.ensures _ c.args.limits c.args.links.now _ _ _ _ _ c.in_ok-migrate_and_settle.field-0 c.requires.ready c.requires.unused c.migrate_and_settle.ensures.run
+    c.in_ok-migrate_and_settle.ensures.settled c.requires.dialled c.in_ok-node.node (ap (λ (n : NodeValue). n.store) c.in_ok-node.ensures) c.run_node.ensures.run _ _ c.in-Ok.over c.in-Ok.ensures.went
 
 pub returns-in_err-close-in-Ok-clause-rests : goal.returns-in_err-close-in-Ok-clause-rests
 returns-in_err-close-in-Ok-clause-rests g c = rests_at _ _ (rests_ready _ _ _ (c.run_node.ensures.may c.in-Ok.ensures.answer).ready)
@@ -54,7 +56,8 @@ returns-in_err-close-in-Ok-clause-run g c = goes_then _ _ _ (goes_settled _ _ _ 
 
 pub returns-in-Ok-clause-safe : goal.returns-in-Ok-clause-safe
 returns-in-Ok-clause-safe g c =
-    runs_node _ c.args.links.now _ _ _ _ _ _ _ _ c.requires.ready c.requires.unused c.migrate_and_settle.ensures.run c.migrate_and_settle.ensures.settled c.in_ok-node.ensures c.run_node.ensures.safe
+    over_safe c.moments_stand.ensures c.fronts_have_fronts.ensures _ c.args.limits c.args.links.now _ _ _ _ _ c.in_ok-migrate_and_settle.field-0 c.requires.ready c.requires.unused c.migrate_and_settle.ensures.run
+    c.in_ok-migrate_and_settle.ensures.settled c.requires.dialled c.in_ok-node.node (ap (λ (n : NodeValue). n.store) c.in_ok-node.ensures) c.run_node.ensures.run _ _ c.in-Ok.over c.in-Ok.ensures.went
 
 pub returns-in-Ok-clause-rests : goal.returns-in-Ok-clause-rests
 returns-in-Ok-clause-rests g c = rests_ready _ _ _ (c.run_node.ensures.may c.in-Ok.ensures.answer).ready
@@ -69,7 +72,8 @@ returns-in-Ok-clause-run g c = goes_then _ _ _ (goes_settled _ _ _ _ _ _ c.requi
 
 pub returns-in-Err-Memory-clause-safe : goal.returns-in-Err-Memory-clause-safe
 returns-in-Err-Memory-clause-safe g c =
-    runs_node _ c.args.links.now _ _ _ _ _ _ _ _ c.requires.ready c.requires.unused c.migrate_and_settle.ensures.run c.migrate_and_settle.ensures.settled c.in_ok-node.ensures c.run_node.ensures.safe
+    broken_safe c.moments_stand.ensures c.fronts_have_fronts.ensures _ c.args.limits c.args.links.now _ _ _ _ _ c.in_ok-migrate_and_settle.field-0 c.requires.ready c.requires.unused c.migrate_and_settle.ensures.run
+    c.in_ok-migrate_and_settle.ensures.settled c.requires.dialled c.in_ok-node.node (ap (λ (n : NodeValue). n.store) c.in_ok-node.ensures) c.run_node.ensures.run _ _ c.in-Err-Memory.ensures.stopped
 
 pub returns-in-Err-Memory-clause-rests : goal.returns-in-Err-Memory-clause-rests
 returns-in-Err-Memory-clause-rests g c = rests_ready _ _ _ (rw c.in-Err-Memory.field-0-is at c.in-Err-Memory.ensures.stays)
@@ -79,14 +83,16 @@ returns-in-Err-Memory-clause-run g c = goes_then _ _ _ (goes_settled _ _ _ _ _ _
 
 pub returns-in-Err-DiskFault-clause-safe : goal.returns-in-Err-DiskFault-clause-safe
 returns-in-Err-DiskFault-clause-safe g c =
-    runs_node _ c.args.links.now _ _ _ _ _ _ _ _ c.requires.ready c.requires.unused c.migrate_and_settle.ensures.run c.migrate_and_settle.ensures.settled c.in_ok-node.ensures c.run_node.ensures.safe
+    broken_safe c.moments_stand.ensures c.fronts_have_fronts.ensures _ c.args.limits c.args.links.now _ _ _ _ _ c.in_ok-migrate_and_settle.field-0 c.requires.ready c.requires.unused c.migrate_and_settle.ensures.run
+    c.in_ok-migrate_and_settle.ensures.settled c.requires.dialled c.in_ok-node.node (ap (λ (n : NodeValue). n.store) c.in_ok-node.ensures) c.run_node.ensures.run _ _ c.in-Err-DiskFault.ensures.stopped
 
 pub returns-in-Err-DiskFault-clause-run : goal.returns-in-Err-DiskFault-clause-run
 returns-in-Err-DiskFault-clause-run g c = goes_then _ _ _ (goes_settled _ _ _ _ _ _ c.requires.ready c.migrate_and_settle.ensures.run c.migrate_and_settle.ensures.settled) c.run_node.ensures.run
 
 pub returns-in-Err-Full-clause-safe : goal.returns-in-Err-Full-clause-safe
 returns-in-Err-Full-clause-safe g c =
-    runs_node _ c.args.links.now _ _ _ _ _ _ _ _ c.requires.ready c.requires.unused c.migrate_and_settle.ensures.run c.migrate_and_settle.ensures.settled c.in_ok-node.ensures c.run_node.ensures.safe
+    broken_safe c.moments_stand.ensures c.fronts_have_fronts.ensures _ c.args.limits c.args.links.now _ _ _ _ _ c.in_ok-migrate_and_settle.field-0 c.requires.ready c.requires.unused c.migrate_and_settle.ensures.run
+    c.in_ok-migrate_and_settle.ensures.settled c.requires.dialled c.in_ok-node.node (ap (λ (n : NodeValue). n.store) c.in_ok-node.ensures) c.run_node.ensures.run _ _ c.in-Err-Full.ensures.stopped
 
 pub returns-in-Err-Full-clause-rests : goal.returns-in-Err-Full-clause-rests
 returns-in-Err-Full-clause-rests g c = rests_ready _ _ _ (rw c.in-Err-Full.field-0-is at c.in-Err-Full.ensures.stays)

@@ -3,7 +3,7 @@ use Rattle.std.proofs.lemmas.Result.{IfOk-weaker}
 use Rattle.sync_run.specs.Parts.{sessions_from}
 use Rattle.sync_run.proofs.CauseLaws.{causes_then, goes_then}
 use Rattle.sync_run.proofs.CourseParts.{err_same, if_err_then, if_err_was, run_ends, run_full, run_stopped, run_unbegun, run_unfilled}
-use Rattle.sync_run.proofs.SafeTurns.{attached_then, on_ok_map, sessions_then}
+use Rattle.sync_run.proofs.SafeTurns.{attached_then, on_ok_map}
 use Rattle.sync_run.proofs.run.run_node.Goals as goal
 
 pub returns-in_err-attach_all-clause-stopped : goal.returns-in_err-attach_all-clause-stopped
@@ -32,9 +32,6 @@ returns-clause-stopped g c =
     (g.H.Disk.tells c.args.host.now) (g.H.Disk.tells c.attach_all.new.host) (g.H.Disk.tells c.make_turns.new.host) x
     (c.in_ok-attach_all.ensures.joined.same_first ∙ sym c.requires.first) refl c.in_ok-attach_all.ensures.went turns)
     c.make_turns.ensures.stopped
-
-pub returns-clause-safe : goal.returns-clause-safe
-returns-clause-safe g c = sessions_then _ _ _ _ _ _ _ _ c.in_ok-attach_all.ensures.joined c.in_ok-attach_all.ensures.safe c.make_turns.ensures.safe
 
 pub returns-in_err-attach_all-clause-full : goal.returns-in_err-attach_all-clause-full
 returns-in_err-attach_all-clause-full g c = λ is.

@@ -1,10 +1,10 @@
-use Rattle.std.proofs.Common.{ℕ, ◌+◌, List, drop, length, arith, refl, sym, ap, ◌∙◌}
+use Rattle.std.proofs.Common.{ℕ, ◌+◌, List, length, arith, refl, sym, ap, ◌∙◌}
 use Rattle.sync_rules.specs.Facts.{Facts}
 use Rattle.sync_node.specs.declared.link.Link.{Link}
 use Rattle.sync_run.specs.Parts.{sessions_from}
 use Rattle.sync_run.proofs.CauseLaws.{causes_then, goes_none, goes_then, no_causes}
 use Rattle.sync_run.proofs.CourseParts.{attached_all, attached_more, attaching_full, attaching_stopped, err_same, if_err_was, is_node_without, no_session_yet}
-use Rattle.sync_run.proofs.SafeTurns.{begun_all, begun_attached, begun_end, begun_left, begun_next, begun_none, begun_planned, item_may}
+use Rattle.sync_run.proofs.SafeTurns.{begun_attached, begun_next, begun_none, item_may}
 use Rattle.sync_run.proofs.sessions.attach_all.Goals as goal
 
 pub links-init : goal.links-init
@@ -21,7 +21,7 @@ links-init g c = record {
   count = refl;
   may = c.requires.may;
   settled = c.requires.settled;
-  begun = begun_none _ _ _ _ c.requires.none;
+  begun = begun_none _ _ _;
 }
 
 pub links-preserved : goal.links-preserved
@@ -42,10 +42,7 @@ links-preserved g c = record {
   count = ap (λ (k : ℕ). k + 1) c.links.invariant.count;
   may = c.in_ok-attach.ensures.may;
   settled = (c.in_ok-attach.ensures.may (c.in_ok-attach.ensures.answer c.links.invariant.still_open)).settled (omega (arith, c.in_ok-attach.ensures.joined.one_more));
-  begun =
-      begun_next _ c.args.links.now (drop (c.links.link-index + 1) c.args.links.now) c.link-item.result _ _ _ _ _ _
-      (begun_left _ c.args.links.now c.links.link-index c.link-item.result _ _ _ _ c.links-test.true c.link-item.is c.links.invariant.begun)
-      c.in_ok-attach.ensures.safe c.in_ok-attach.ensures.joined c.in_ok-attach.ensures.facts;
+  begun = begun_next _ c.link-item.result _ _ _ _ _ _ c.links.invariant.begun c.in_ok-attach.ensures.joined c.in_ok-attach.ensures.facts;
 }
 
 pub returns-in_err-attach-clause-stopped : goal.returns-in_err-attach-clause-stopped
@@ -91,21 +88,13 @@ attach-requires-clause-latency g c = (item_may _ c.args.links.now c.links.link-i
 pub attach-requires-clause-nonce : goal.attach-requires-clause-nonce
 attach-requires-clause-nonce g c = (item_may _ c.args.links.now c.links.link-index c.link-item.result c.requires.each c.links-test.true c.link-item.is).suited
 
-pub returns-in_err-attach-clause-safe : goal.returns-in_err-attach-clause-safe
-returns-in_err-attach-clause-safe g c =
-    begun_planned _ c.args.links.now (drop (c.links.link-index + 1) c.args.links.now) c.link-item.result _ _ _ _ _ _
-    (begun_left _ c.args.links.now c.links.link-index c.link-item.result _ _ _ _ c.links-test.true c.link-item.is c.links.invariant.begun) c.in_err-attach.ensures.safe
-
 pub returns-clause-may : goal.returns-clause-may
 returns-clause-may g c = c.links.invariant.may
 
 pub returns-clause-joined : goal.returns-clause-joined
 returns-clause-joined g c =
     begun_attached _ c.args.links.now _ _ _ _ c.requires.none (omega (arith, c.links.invariant.numbered, c.links.invariant.count, c.links-test.false, c.links.auto.link-index-end))
-    (begun_end _ c.args.links.now c.links.link-index _ _ _ _ c.links-test.false c.links.invariant.begun)
-
-pub returns-clause-safe : goal.returns-clause-safe
-returns-clause-safe g c = begun_all _ c.args.links.now _ _ _ _ (begun_end _ c.args.links.now c.links.link-index _ _ _ _ c.links-test.false c.links.invariant.begun)
+    c.links.invariant.begun
 
 pub returns-in_err-attach-clause-full : goal.returns-in_err-attach-clause-full
 returns-in_err-attach-clause-full g c = λ is.

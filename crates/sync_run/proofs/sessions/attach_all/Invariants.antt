@@ -23,5 +23,5 @@ invariant-links g l = record {
   count : l.number ≡ l.link-index;
   may : MayRun (g.C.Clients.meaning l.clients) l.node (g.H.Disk.tells l.host);
   settled : IsSettled (g.C.Clients.meaning l.clients) l.node.store.state.facts;
-  begun : BegunSoFar (g.C.Clients.meaning l.clients) l.links (drop l.link-index l.links) l.initial.node l.node (g.H.Disk.tells l.initial.host) (g.H.Disk.tells l.host);
+  begun : BegunSoFar (g.C.Clients.meaning l.clients) l.initial.node l.node (g.H.Disk.tells l.initial.host) (g.H.Disk.tells l.host);
 }

@@ -3,7 +3,7 @@ use Rattle.std.proofs.lemmas.Bool.{le-leb}
 use Rattle.sync_node.specs.Node.{asked_among}
 use Rattle.sync_run.proofs.CauseLaws.{causes_then, goes_none, goes_then, no_causes}
 use Rattle.sync_run.proofs.CourseParts.{err_same, CountsStill, few_behind, if_err_was, no_turn_yet, over_asked, still_behind, turn_full, turn_more, turns_end, turns_stopped}
-use Rattle.sync_run.proofs.SafeTurns.{kept_none, kept_then, safe_none, safe_then}
+use Rattle.sync_run.proofs.SafeTurns.{kept_none, kept_then}
 use Rattle.sync_run.proofs.sessions.make_turns.Goals as goal
 use Rattle.sync_run.proofs.sessions.make_turns.Goals.{in-Still, in-Moving}
 
@@ -21,7 +21,6 @@ turns-init g c = record {
   may = c.requires.may;
   node = c.requires.node;
   joined = kept_none _ _ _;
-  safe = safe_none _ _ _;
 }
 
 pub returns-in_err-turn-clause-stopped : goal.returns-in_err-turn-clause-stopped
@@ -64,7 +63,6 @@ turns-preserved g c =
       may = c.in_ok-turn.ensures.may;
       node = c.in_ok-turn.ensures.node;
       joined = kept_then _ _ _ _ _ _ _ c.turns.invariant.joined c.in_ok-turn.ensures.joined;
-      safe = safe_then _ _ _ _ _ _ _ c.turns.invariant.joined c.turns.invariant.safe c.in_ok-turn.ensures.safe;
     }
 
 pub returns-clause-went : goal.returns-clause-went
@@ -95,14 +93,8 @@ returns-clause-cause g c = c.turns.invariant.cause
 pub turn-requires : goal.turn-requires
 turn-requires g c = record { may = c.turns.invariant.may }
 
-pub returns-in_err-turn-clause-safe : goal.returns-in_err-turn-clause-safe
-returns-in_err-turn-clause-safe g c = safe_then _ _ _ _ _ _ _ c.turns.invariant.joined c.turns.invariant.safe c.in_err-turn.ensures.safe
-
 pub returns-then-is_over-clause-joined : goal.returns-then-is_over-clause-joined
 returns-then-is_over-clause-joined g c = kept_then _ _ _ _ _ _ _ c.turns.invariant.joined c.in_ok-turn.ensures.joined
-
-pub returns-then-is_over-clause-safe : goal.returns-then-is_over-clause-safe
-returns-then-is_over-clause-safe g c = safe_then _ _ _ _ _ _ _ c.turns.invariant.joined c.turns.invariant.safe c.in_ok-turn.ensures.safe
 
 pub returns-clause-may : goal.returns-clause-may
 returns-clause-may g c = c.turns.invariant.may
@@ -112,9 +104,6 @@ returns-clause-node g c = c.turns.invariant.node
 
 pub returns-clause-joined : goal.returns-clause-joined
 returns-clause-joined g c = c.turns.invariant.joined
-
-pub returns-clause-safe : goal.returns-clause-safe
-returns-clause-safe g c = c.turns.invariant.safe
 
 pub returns-in_err-turn-clause-full : goal.returns-in_err-turn-clause-full
 returns-in_err-turn-clause-full g c = λ is. record {

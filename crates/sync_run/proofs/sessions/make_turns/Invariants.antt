@@ -4,7 +4,7 @@ use Rattle.sync_course.specs.Turns.{over_by}
 use Rattle.sync_node.specs.Courses.{AllRead}
 use Rattle.sync_node.specs.Causes.{FailByCause}
 use Rattle.sync_node.specs.Going.{LetsNothingFall}
-use Rattle.sync_node.specs.Node.{IsNode, KeepsJoined, KeepsSafe, MayRun, asked_among}
+use Rattle.sync_node.specs.Node.{IsNode, KeepsJoined, MayRun, asked_among}
 use Rattle.sync_run.specs.Parts.{TurnsSoFar, before_turns}
 use Rattle.sync_run.proofs.sessions.make_turns.Given as goal
 
@@ -24,5 +24,4 @@ invariant-turns g l = record {
   may : MayRun (g.C.Clients.meaning l.clients) l.node (g.H.Disk.tells l.host);
   node : IsNode l.node;
   joined : KeepsJoined (g.C.Clients.meaning l.clients) l.initial.node l.node (g.H.Disk.tells l.initial.host) (g.H.Disk.tells l.host);
-  safe : KeepsSafe (g.C.Clients.meaning l.clients) l.initial.node l.node (g.H.Disk.tells l.initial.host) (g.H.Disk.tells l.host);
 }
