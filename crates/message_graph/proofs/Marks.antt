@@ -1,14 +1,11 @@
 -- The set of those nodes that have a step: what a change leaves, and its first one.
-use Rattle.std.proofs.Common.{◌≡◌, ℕ, zero, suc, ◌+◌, ◌-◌, ◌<◌, ◌≤◌, Bool, true, false, cond, List, [], ◌∷◌, ◌++◌, length, map, replicate, None, Some, refl, sym, ap, ◌∙◌, set, arith, length-append, append_assoc}
+use Rattle.std.proofs.Common.{◌≡◌, ℕ, zero, suc, ◌+◌, ◌-◌, ◌<◌, ◌≤◌, Bool, true, false, cond, List, [], ◌∷◌, ◌++◌, length, map, get_or, is_some, replicate, Option, None, Some, refl, sym, ap, ◌∙◌, set, arith, length-append, append_assoc}
 use Rattle.std.proofs.lemmas.List.{length-map, length-set, map-set, map-append, set-append_left, set-append_right, length-replicate, replicate-append-replicate}
+use Rattle.std.proofs.lemmas.Bool.{true≢false}
 use Rattle.std.specs.List.{position_from}
 use Rattle.due_tree.specs.Sets.{next_set}
 use Rattle.message_graph.specs.declared.states.Waiting.{Waiting}
-use Rattle.message_graph.specs.Waits.{has_step}
-
--- the set's places, for the nodes and the room behind them
-abbrev pub Marked : List Bool → List Waiting → Type 0
-Marked ready waits = ready ≡ map has_step waits ++ replicate (length ready - length waits) false
+use Rattle.message_graph.specs.Waits.{has_step, Marked, but_last}
 
 none_set : (places i : ℕ) → position_from (λ is_in. is_in) i (replicate places false) ≡ None
 none_set zero i = refl
@@ -62,3 +59,81 @@ marked-reserve ready waits more h =
     let same : n + more ≡ length (ready ++ replicate more false) - length waits = omega (arith, len) in
     ap (λ r. r ++ replicate more false) h ∙ append_assoc (map has_step waits) (replicate n false) (replicate more false)
     ∙ ap (λ xs. map has_step waits ++ xs) (replicate-append-replicate n more false ∙ ap (λ k. replicate k false) same)
+
+-- all but the last, once there is one more
+pub but_last-push : (waits : List Waiting) (wait : Waiting) → but_last (waits ++ wait ∷ []) ≡ waits
+but_last-push [] wait = refl
+but_last-push (first ∷ []) wait = refl
+but_last-push (first ∷ next ∷ rest) wait = ap (λ ws. first ∷ ws) (but_last-push (next ∷ rest) wait)
+
+pub length-but_last : (waits : List Waiting) → length (but_last waits) ≡ length waits - 1
+length-but_last [] = refl
+length-but_last (wait ∷ []) = refl
+length-but_last (wait ∷ next ∷ rest) = omega (arith, length-but_last (next ∷ rest))
+
+-- with the last they are all
+pub and_last : (waits : List Waiting) (last : ℕ) (d : Waiting) → length waits ≡ last + 1 → but_last waits ++ get_or waits last d ∷ [] ≡ waits
+and_last [] last d len = absurd (omega arith)
+and_last (first ∷ []) zero d len = refl
+and_last (first ∷ []) (suc last) d len = absurd (omega arith)
+and_last (first ∷ next ∷ rest) zero d len = absurd (omega arith)
+and_last (first ∷ next ∷ rest) (suc last) d len = ap (λ ws. first ∷ ws) (and_last (next ∷ rest) last d (omega arith))
+
+pub but_last-set_last : (waits : List Waiting) (number : ℕ) (wait : Waiting) → length waits ≤ number + 1 → but_last (set waits number wait) ≡ but_last waits
+but_last-set_last [] number wait h = refl
+but_last-set_last (first ∷ []) zero wait h = refl
+but_last-set_last (first ∷ []) (suc number) wait h = refl
+but_last-set_last (first ∷ next ∷ rest) zero wait h = absurd (omega arith)
+but_last-set_last (first ∷ next ∷ []) (suc zero) wait h = refl
+but_last-set_last (first ∷ next ∷ []) (suc (suc number)) wait h = refl
+but_last-set_last (first ∷ next ∷ more ∷ rest) (suc zero) wait h = absurd (omega arith)
+but_last-set_last (first ∷ next ∷ more ∷ rest) (suc (suc number)) wait h = ap (λ ws. first ∷ ws) (but_last-set_last (next ∷ more ∷ rest) (suc number) wait (omega arith))
+
+pub but_last-set : (waits : List Waiting) (number : ℕ) (wait : Waiting) → number + 1 < length waits → but_last (set waits number wait) ≡ set (but_last waits) number wait
+but_last-set [] number wait h = refl
+but_last-set (first ∷ []) number wait h = absurd (omega arith)
+but_last-set (first ∷ next ∷ rest) zero wait h = refl
+but_last-set (first ∷ next ∷ []) (suc number) wait h = absurd (omega arith)
+but_last-set (first ∷ next ∷ more ∷ rest) (suc zero) wait h = refl
+but_last-set (first ∷ next ∷ more ∷ rest) (suc (suc number)) wait h = ap (λ ws. first ∷ ws) (but_last-set (next ∷ more ∷ rest) (suc number) wait (omega arith))
+
+-- the first that has a step, or else the last
+abbrev or_last : Option ℕ → Option ℕ → Option ℕ
+or_last None later = later
+or_last (Some first) later = Some first
+
+position-push : (waits : List Waiting) (wait : Waiting) (i : ℕ) → position_from has_step i (waits ++ wait ∷ []) ≡ or_last (position_from has_step i waits) (cond (has_step wait) (Some (i + length waits)) None)
+position-push [] wait i = ap (λ k. cond (has_step wait) (Some k) None) (omega arith)
+position-push (first ∷ rest) wait i =
+    elim (has_step first) as (λ b. cond b (Some i) (position_from has_step (i + 1) (rest ++ wait ∷ [])) ≡ or_last (cond b (Some i) (position_from has_step (i + 1) rest)) (cond (has_step wait) (Some (i + suc (length rest))) None)) [
+      | true ↦ refl
+      | false ↦ position-push rest wait (i + 1) ∙ ap (λ k. or_last (position_from has_step (i + 1) rest) (cond (has_step wait) (Some k) None)) (omega arith)
+    ]
+
+-- with none before the last
+pub none_before : (waits : List Waiting) (last : ℕ) (d : Waiting) (o : Option ℕ) → o ≡ position_from has_step 0 (but_last waits) → is_some o ≡ false → length waits ≡ last + 1
+    → position_from has_step 0 waits ≡ cond (has_step (get_or waits last d)) (Some last) None
+none_before waits last d (Some first) e none len = absurd (true≢false none)
+none_before waits last d None e none len =
+    ap (position_from has_step 0) (sym (and_last waits last d len)) ∙ position-push (but_last waits) (get_or waits last d) 0
+    ∙ ap (λ o. or_last o (cond (has_step (get_or waits last d)) (Some (0 + length (but_last waits))) None)) (sym e)
+    ∙ ap (λ k. cond (has_step (get_or waits last d)) (Some k) None) (omega (arith, len, length-but_last waits))
+
+first_before : (waits : List Waiting) (i first : ℕ) → position_from has_step i (but_last waits) ≡ Some first → position_from has_step i waits ≡ Some first
+first_before [] i first h = h
+first_before (wait ∷ []) i first h = absurd (let e : None ≡ Some first = h in cc)
+first_before (wait ∷ next ∷ rest) i first h =
+    elim (has_step wait) as (λ b. cond b (Some i) (position_from has_step (i + 1) (but_last (next ∷ rest))) ≡ Some first → cond b (Some i) (position_from has_step (i + 1) (next ∷ rest)) ≡ Some first) [
+      | true ↦ λ here. here
+      | false ↦ first_before (next ∷ rest) (i + 1) first
+    ] h
+
+-- with one before the last
+pub some_before : (waits : List Waiting) (o : Option ℕ) → o ≡ position_from has_step 0 (but_last waits) → is_some o ≡ true → o ≡ position_from has_step 0 waits
+some_before waits None e some = absurd (true≢false (sym some))
+some_before waits (Some first) e some = sym (first_before waits 0 first (sym e))
+
+-- with none at all
+pub none_there : (waits : List Waiting) → (1 ≤ length waits → ⊥) → position_from has_step 0 waits ≡ None
+none_there [] short = refl
+none_there (wait ∷ waits) short = absurd (short (omega arith))

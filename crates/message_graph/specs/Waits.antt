@@ -1,5 +1,5 @@
 -- What each node waits for, as the code keeps it.
-use Rattle.std.specs.Prelude.{ℕ, zero, suc, ◌+◌, ◌-◌, ◌==◌, Bool, true, false, if◌then◌else◌, List, [], ◌∷◌, map, Option, None, Some, slice_index_or}
+use Rattle.std.specs.Prelude.{◌≡◌, ℕ, zero, suc, ◌+◌, ◌-◌, ◌==◌, Bool, true, false, if◌then◌else◌, List, [], ◌∷◌, ◌++◌, length, map, replicate, Option, None, Some, slice_index_or}
 use Rattle.message_graph.specs.declared.nodes.Node.{Node}
 use Rattle.message_graph.specs.declared.nodes.Unnamed.{Unnamed}
 use Rattle.message_graph.specs.declared.nodes.Judged.{Judged}
@@ -104,3 +104,13 @@ group_at nodes number = slice_index_or (map (λ node. node.group) nodes) number 
 -- the same of nodes without their names
 abbrev pub group_in : List Unnamed → ℕ → ℕ
 group_in rests number = slice_index_or (map (λ rest. rest.group) rests) number 0
+
+-- the places of a set that has just those of the nodes that have a step; there are more places than nodes
+abbrev pub Marked : List Bool → List Waiting → Type 0
+Marked places waits = places ≡ map has_step waits ++ replicate (length places - length waits) false
+
+-- all but the last
+abbrev pub but_last : List Waiting → List Waiting
+but_last [] = []
+but_last (wait ∷ []) = []
+but_last (wait ∷ next ∷ rest) = wait ∷ but_last (next ∷ rest)

@@ -3,6 +3,7 @@ ghost use Rattle.std.specs.Prelude.{◌≡◌, ◌+◌, ◌-◌, ◌<◌, ◌≤
 ghost use Rattle.std.specs.Prelude.{length, slice_set, slice_get};
 ghost use Rattle.std.specs.List.{position_from};
 ghost use Rattle.message_graph.specs.Waits.{has_step, told, missing_after, from_missing};
+ghost use Rattle.message_graph.specs.Waits.{Marked, but_last};
 
 use due_tree::Bits;
 use std::alloc::{AllocError, Global};
@@ -27,7 +28,9 @@ pub(crate) enum News {
     Delivered,
 }
 
-/// What the nodes wait for, by number.
+/// What the nodes wait for, by number, and the set of those that have a step. The last node is not
+/// in the set: where each node ends before the next one comes, as mostly in a load, the set stays
+/// empty.
 #[derive(Drop)]
 pub(crate) struct States {
     waits: Vec<Waiting>,
@@ -35,9 +38,8 @@ pub(crate) struct States {
 }
 
 impl Model for States {
-    ghost use Rattle.std.specs.Prelude.{◌≡◌, ◌-◌, ◌≤◌, ◌++◌, length, map, replicate, false};
-    ghost use Rattle.std.specs.Prelude.{vec_capacity};
-    ghost use Rattle.message_graph.specs.Waits.{NodeWaits, has_step};
+    ghost use Rattle.std.specs.Prelude.{◌-◌, ◌≤◌, length, vec_capacity};
+    ghost use Rattle.message_graph.specs.Waits.{NodeWaits, Marked, but_last};
 
     ghost Value = { NodeWaits };
 
@@ -46,8 +48,8 @@ impl Model for States {
       room = length s.ready - length s.waits.items;
     } };
 
-    ghost invariant = { λ s. (s.ready ≡ map has_step s.waits.items ++ replicate
-        (length s.ready - length s.waits.items) false) × (length s.ready ≤ vec_capacity s.waits) };
+    ghost invariant = { λ s. Marked s.ready (but_last s.waits.items)
+        × (length s.ready ≤ vec_capacity s.waits) };
 }
 
 /// Whether a node that waits for this has a step.
@@ -58,6 +60,17 @@ fn has_step(waiting: Waiting) -> bool
         Waiting::Unjudged | Waiting::Doomed => true,
         Waiting::Missing(count) => count == 0,
         Waiting::Ended => false,
+    }
+}
+
+/// Puts the last node into the set, where it has a step.
+fn mark_last(ready: &mut Bits, waits: &[Waiting])
+    requires { length waits.now ≤ length ready.old }
+    ensures marked { Marked ready.old (but_last waits.now) → Marked ready.new waits.now }
+    ensures len { length ready.new ≡ length ready.old }
+{
+    if let Some(last) = waits.len().checked_sub(1) {
+        ready.put(last, has_step(waits[last]));
     }
 }
 
@@ -115,9 +128,8 @@ impl States {
         ensures waits { self.new.waits ≡ self.old.waits ++ Waiting.Unjudged ∷ [] }
         ensures room { self.new.room + 1 ≡ self.old.room }
     {
-        let place = self.waits.len();
+        mark_last(&mut self.ready, &self.waits);
         self.waits.push(Waiting::Unjudged).unwrap();
-        self.ready.put(place, true);
     }
 
     /// What a node waits for.
@@ -134,13 +146,24 @@ impl States {
         ensures { self.new ≡ record self.old { waits = slice_set self.old.waits number waiting } }
     {
         self.waits[number] = waiting;
-        self.ready.put(number, has_step(waiting));
+        if self.waits.len() - number > 1 {
+            self.ready.put(number, has_step(waiting));
+        }
     }
 
     /// The first node that has a step.
     pub(crate) fn first(&self) -> Option<usize>
         ensures { result ≡ position_from has_step 0 self.now.waits }
     {
-        self.ready.next(0)
+        let before = self.ready.next(0);
+        if before.is_some() {
+            return before;
+        }
+        let last = self.waits.len().checked_sub(1)?;
+        if has_step(self.waits[last]) {
+            Some(last)
+        } else {
+            None
+        }
     }
 }

@@ -1,6 +1,5 @@
-use Rattle.std.proofs.Common.{◌≡◌, ◌<◌, List, ℕ, None, Some, length, sym, ap, ◌∙◌, arith}
+use Rattle.std.proofs.Common.{◌≡◌, None, Some, sym, ap, ◌∙◌, arith}
 use Rattle.std.specs.Option.{option_copied, option_map}
-use Rattle.message_graph.specs.declared.nodes.Node.{Node}
 use Rattle.message_graph.specs.Nodes.{number_of, with_name, with_names}
 use Rattle.message_graph.proofs.Named.{node_named-number, node_at, number_within}
 use Rattle.message_graph.proofs.Unnamed.{within_rests, named_rest}

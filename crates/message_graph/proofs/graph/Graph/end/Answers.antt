@@ -7,8 +7,8 @@ use Rattle.message_graph.specs.Nodes.{Shown, next, with_ending, with_names}
 use Rattle.message_graph.specs.Waits.{NodeWaits, told_times, wait_at, group_at, group_in}
 use Rattle.message_graph.specs.Links.{count_before, last_before}
 use Rattle.message_graph.specs.Whole.{ending_step, ending_news}
-use Rattle.message_graph.proofs.NodeLaws.{HasAnswer, next_end, there_within, length-change}
-use Rattle.message_graph.proofs.Unnamed.{within_rests, length-with_names, with_names-set, group-with_names}
+use Rattle.message_graph.proofs.NodeLaws.{next_end, there_within}
+use Rattle.message_graph.proofs.Unnamed.{within_rests, with_names-set, group-with_names}
 use Rattle.message_graph.proofs.Kept.{end_kept, waiters_inside, many_waits}
 use Rattle.message_graph.proofs.graph.Graph.end.Goals as goal
 

@@ -1,4 +1,4 @@
-use Rattle.std.proofs.Common.{◌≡◌, ◌<◌, Some, slice_get, length, sym, ap, ◌∙◌, subst, arith}
+use Rattle.std.proofs.Common.{◌<◌, Some, slice_get, length, sym, ap, ◌∙◌, subst, arith}
 use Rattle.std.specs.Option.{option_map}
 use Rattle.message_graph.specs.Nodes.{Shown, fate_of, with_names}
 use Rattle.message_graph.proofs.Unnamed.{fate_there, within_rests}

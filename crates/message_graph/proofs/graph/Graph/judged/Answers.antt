@@ -1,4 +1,4 @@
-use Rattle.std.proofs.Common.{◌≡◌, ◌<◌, Some, ℕ, List, length, set, sym, ap, ◌∙◌, refl, arith, rules}
+use Rattle.std.proofs.Common.{◌≡◌, ◌<◌, Some, length, set, sym, ap, ◌∙◌, refl, arith, rules}
 use Rattle.std.proofs.lemmas.List.{length-set}
 use Rattle.message_graph.specs.declared.nodes.Node.{Node}
 use Rattle.message_graph.specs.declared.nodes.Unnamed.{Unnamed}
@@ -6,7 +6,7 @@ use Rattle.message_graph.specs.declared.nodes.Step.TheVariants as step
 use Rattle.message_graph.specs.Nodes.{Shown, next, node_named, with_answer, with_names}
 use Rattle.message_graph.specs.Waits.{NodeWaits, waiting_open}
 use Rattle.message_graph.specs.Links.{Numbers}
-use Rattle.message_graph.proofs.NodeLaws.{next_judge, there_within, length-change}
+use Rattle.message_graph.proofs.NodeLaws.{next_judge, there_within}
 use Rattle.message_graph.proofs.Unnamed.{within_rests, rest_there, with_names-set}
 use Rattle.message_graph.proofs.Kept.{judged_kept, many_waits}
 use Rattle.message_graph.proofs.graph.Graph.judged.Goals as goal
