@@ -1,6 +1,7 @@
--- What `say` adds to a journal: a message of a `sharing` group that says that its author joins a group or leaves it, by the
--- facts of the journal as it was loaded.
-use Rattle.std.specs.Prelude.{Bool, false, cond, ◌&&◌, if◌then◌else◌, List, [], ◌∷◌, replicate, Option, Some, None}
+-- What `say` adds to a journal: a message of a `sharing` group that says that its author joins a
+-- group or leaves it, by the facts of the journal as it was loaded.
+use Rattle.std.specs.Prelude.{Bool, false, cond, ◌&&◌, if◌then◌else◌, List, [], ◌∷◌, replicate}
+use Rattle.std.specs.Prelude.{Option, Some, None}
 use Rattle.sync_ids.specs.Values.{MessageValue}
 use Rattle.sync_rules.specs.declared.states.Refused.{Refused}
 use Rattle.sync_rules.specs.declared.states.Refused.TheVariants as refused
@@ -37,7 +38,8 @@ abbrev pub last_own : Facts → Id → Id → List Id → Id
 last_own f group earlier [] = earlier
 last_own f group earlier (id ∷ ids) = last_own f group (own_or f group earlier id) ids
 
--- the delivered message of the group that was written here and delivered last; 32 zero bytes where there is none
+-- the delivered message of the group that was written here and delivered last; 32 zero bytes where
+-- there is none
 abbrev pub previous_own : Facts → Id → Id
 previous_own f group = last_own f group (replicate 32 0) f.delivered
 
