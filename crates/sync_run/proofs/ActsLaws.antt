@@ -61,8 +61,10 @@ use Rattle.sync_run.specs.Courses.{terms_at}
 use Rattle.sync_run.specs.Parts.{RunsSessions, StopsFrom, StopsRun, before_sessions, sessions_from}
 use Rattle.sync_run.specs.SafeRuns.{AreUnused, RunsSafe}
 use Rattle.sync_run.proofs.HeardLaws.{path_told}
-use Rattle.sync_run.proofs.SafeBegin.{all_suit_append, all_suit_heard, safe_settled}
-use Rattle.sync_run.proofs.SafeRunning.{settles_only, unused_disk}
+use Rattle.sync_run.proofs.SafeBegin.{all_suit_append, all_suit_heard, safe_settled, unused_disk}
+use Rattle.sync_run.proofs.SafeRunning.{settles_only}
+use Rattle.sync_run.proofs.SentActs.{run_free}
+use Rattle.sync_run.proofs.TellLaws.{told_back}
 
 -- the law of the moments in the middle of a node's acts
 abbrev pub MomentsStand : Type 0
@@ -263,14 +265,6 @@ module _ (stand : MomentsStand) (fronts : FrontsHaveFronts) (clients : Meaning)
   abbrev plans : List Session
   plans = begun_by (batches_in acts)
 
-  free_acts : (j : Journal) → facts j ≡ f → FreeActs clients j acts (owing_free to)
-  free_acts j are =
-      subst (λ (g : Facts). Path (ActStep (λ (p : Free). p.facts) g.begun
-      (FreeStep clients g.begun)) (paid (first_free g)) acts (owing_free to)) (sym are)
-      (subst (λ (k : ℕ). Path (ActStep (λ (p : Free). p.facts) k (FreeStep clients k)) (paid
-      (first_free f)) acts (owing_free to)) is_first
-      (run_acts_are_free clients terms (paid (before_sessions sessions f)) to acts path))
-
   covers : (j : Journal) → Legal clients j → facts j ≡ f
       → SuitsRun clients b.journal b.first plans heard j → (m : Moment)
       → (at : AtFront clients acts j (λ link. []) m)
@@ -278,7 +272,7 @@ module _ (stand : MomentsStand) (fronts : FrontsHaveFronts) (clients : Meaning)
       (j ++ batches_in at.before)
   covers j legal are run m at =
       let st : MomentStands clients j plans (heard_at (forget to.at)) m =
-      stand clients j acts (owing_free to) m legal (free_acts j are) at in
+      stand clients j acts (owing_free to) m legal (run_free clients terms sessions f is_first j are to acts path) at in
       let both : journal (j ++ st.more) ≡ journal (j ++ batches_in at.before) =
       sym st.stands_for ∙ at.stands_for in
       let whole : j ++ st.more ≡ j ++ batches_in at.before = cc in
@@ -332,26 +326,8 @@ pub record DidOnWay (clients : Meaning) (acts : List Act) (next : Journal) (s : 
       → ReadsAs clients o'.files (j ++ batches_in acts)
   pub moments : ComesAtFronts clients (acts ++ commit_acts next) s o o'
 
-some_of : {A : Type 0} (a b : Option A) (x : A) → is_some b ≡ is_some a → b ≡ Some x
-    → (y : A) × (a ≡ Some y)
-some_of None None x same told = cc
-some_of None (Some b) x same told = cc
-some_of (Some a) b x same told = (a, refl)
-
 told_before : (o o' : Outside) → LetsNothingFall o o' → TellsAll o' → TellsAll o
-told_before o o' goes told =
-    let files = some_of o.files o'.files told.two goes.same_files told.files_are in
-    let links = some_of o.links.told o'.links.told told.links goes.links.same_told told.links_are in
-    let heard =
-    some_of o.links.heard o'.links.heard told.heard goes.links.same_heard told.heard_are in
-    record {
-      two = files.0;
-      files_are = files.1;
-      links = links.0;
-      links_are = links.1;
-      heard = heard.0;
-      heard_are = heard.1;
-    }
+told_before o o' goes = told_back o o' goes.same_files goes.links
 
 module _ (stand : MomentsStand) (fronts : FrontsHaveFronts) (clients : Meaning)
     (b : Begin) (terms : Terms) (sessions : List Session) (s : StoreValue) (o o' : Outside)
@@ -369,7 +345,7 @@ module _ (stand : MomentsStand) (fronts : FrontsHaveFronts) (clients : Meaning)
   began = begun_by (batches_in (acts ++ commit_acts next))
 
   silent : TellsAll o → (link : ℕ) → heard_on o.links link ≡ []
-  silent told link = ap heard_bytes ((unused link).nothing_heard told)
+  silent told link = ap heard_bytes (unused.nothing_heard told link)
 
   none_sent : (told : TellsAll o) (j : Journal) (m : Moment)
       → AtFront clients all j (sent_on o.links) m
@@ -384,7 +360,7 @@ module _ (stand : MomentsStand) (fronts : FrontsHaveFronts) (clients : Meaning)
     has_sent = λ link.
         at.has_sent link
         ∙ ap (λ (l : List ℕ). l ++ (sends_on link at.before ++ at.part link))
-        ((unused link).nothing_sent told);
+        (unused.nothing_sent told link);
   }
 
   wide : TellsAll o → (m : Moment) → IsEarly b m ⊎ IsCovered clients b [] (heard_on o.links) m
@@ -449,7 +425,7 @@ module _ (stand : MomentsStand) (fronts : FrontsHaveFronts) (clients : Meaning)
           begun = λ link. record { rest = next_bytes link (commit_acts next); whole = refl };
           has_sent = λ link.
               did.sent told link
-              ∙ ap (λ (l : List ℕ). l ++ sends_on link acts) ((unused link).nothing_sent told)
+              ∙ ap (λ (l : List ℕ). l ++ sends_on link acts) (unused.nothing_sent told link)
               ∙ sym (append-nil (sends_on link acts));
         }
 
@@ -537,7 +513,7 @@ module _ (clients : Meaning) (terms : Terms) (sessions : List Session) (s : Stor
       ∙ path_told clients terms sessions s.state.facts (Pass ∷ way.events) to.at h
       (before_sessions sessions s.state.facts, (settled, refl), way.path) (omega (arith, few, long))
       (λ i. subst (λ (x : Option (List HeardOn)). heard_bytes (answers_at x i) ≡ []) told.heard_are
-      (ap heard_bytes ((unused i).nothing_heard told))) link
+      (ap heard_bytes (unused.nothing_heard told i))) link
 
 -- ---- safe by where a run led or stopped
 
@@ -674,7 +650,7 @@ module _ (stand : MomentsStand) (fronts : FrontsHaveFronts) (clients : Meaning)
         safe = λ b begins safe.
             began.safe b (same ∙ begins)
             (safe_settled clients b [] s s1 o o1 settles.more ready.still_open run settles.comes
-            (λ told link. (unused link).nothing_sent told) safe);
+            unused.nothing_sent safe);
       }
 
   room : length runs ≤ o1.links.dialled
@@ -692,26 +668,18 @@ module _ (stand : MomentsStand) (fronts : FrontsHaveFronts) (clients : Meaning)
   ]
 
   pub over_safe : (links' : List Link) (s2 : StoreValue) (over : Bool)
-      → RunsSessions clients limits n.store.state.facts.begun
-      (sessions_from n.store.state.facts.begun links) links' n.store s2 o1 o2 over
-      → RunsSafe clients links s o o2
+      → RunsSessions clients limits links links' n.store s2 o1 o2 over → RunsSafe clients links s o o2
   over_safe links' s2 over went =
-      let ran : RunsSessions clients limits s1.state.facts.begun runs links' s1 s2 o1 o2 over =
-      subst (λ (t : StoreValue). RunsSessions clients limits t.state.facts.begun (sessions_from
-      t.state.facts.begun links) links' t s2 o1 o2 over) made went in
+      let ran = subst (λ (t : StoreValue). RunsSessions clients limits links links' t s2 o1 o2 over) made went in
       by_files (λ two told.
       went_safe stand fronts clients (terms_at limits s1.state.facts.begun) runs s1 o1 o2
       settles.answer.0 settles.answer.1 refl
       room (unused_disk o o1 run unused) _ s2 (ran.ends two told).went)
 
   pub broken_safe : (s2 : StoreValue) (x : NodeFault)
-      → StopsRun clients limits n.store.state.facts.begun
-      (sessions_from n.store.state.facts.begun links) n.store s2 o1 o2 x
-      → RunsSafe clients links s o o2
+      → StopsRun clients limits links n.store s2 o1 o2 x → RunsSafe clients links s o o2
   broken_safe s2 x stopped =
-      let ran : StopsRun clients limits s1.state.facts.begun runs s1 s2 o1 o2 x =
-      subst (λ (t : StoreValue). StopsRun clients limits t.state.facts.begun (sessions_from
-      t.state.facts.begun links) t s2 o1 o2 x) made stopped in
+      let ran = subst (λ (t : StoreValue). StopsRun clients limits links t s2 o1 o2 x) made stopped in
       by_files (λ two told.
       stopped_safe stand fronts clients (terms_at limits s1.state.facts.begun) runs s1 o1 o2
       settles.answer.0 settles.answer.1 refl
