@@ -1,6 +1,6 @@
 -- Each batch of a node suits it, and what a crash leaves in the middle of its acts stands.
-use Rattle.std.proofs.Common.{◌≡◌, ◌⊎◌, ℕ, zero, suc, ◌+◌, Bool, true, false, cond, nat_eq, eq-eqb, eqb-true, List, [], ◌∷◌, ◌++◌, length, length-append, append-nil, append_assoc, refl, sym, ◌∙◌, ap, subst, inl, inr, arith, Option, None, Some}
-use Rattle.std.specs.Prelude.{slice_get, slice_index_or, slice_set}
+use Rattle.std.proofs.Common.{◌≡◌, ℕ, zero, suc, ◌+◌, Bool, true, false, cond, nat_eq, eq-eqb, eqb-true, List, [], ◌∷◌, ◌++◌, length, length-append, append-nil, append_assoc, refl, sym, ◌∙◌, ap, subst, inl, inr, arith, Option, Some}
+use Rattle.std.specs.Prelude.{slice_get, slice_set}
 use Rattle.std.proofs.lemmas.Bool.{cases_eq}
 use Rattle.outside.specs.Outside.{Moment}
 use Rattle.outside.specs.Runs as runs
@@ -13,15 +13,15 @@ use Rattle.sync_rules.specs.declared.entries.Session.{Session}
 use Rattle.sync_rules.specs.Clients.{Meaning}
 use Rattle.sync_rules.specs.Facts.{Facts, after_all, after_batches, facts}
 use Rattle.sync_rules.specs.Growth.{IsFront}
-use Rattle.sync_rules.specs.Legal.{Allowed, IsSettlingBatch, Legal}
+use Rattle.sync_rules.specs.Legal.{IsSettlingBatch, Legal}
 use Rattle.sync_rules.proofs.Continuing.{front_itself, front_then}
 use Rattle.sync_rules.proofs.StepLaws.{IsSettlingEntry, next_is_settling}
 use Rattle.sync_course.specs.Acts.{Act, AtFront, Does, Send, Fail, batches_in, events_of, next_bytes, sends_on}
 use Rattle.sync_course.specs.Events.{Event, Commit, Hear, Miss, Read, Break, Pass, batches_of}
-use Rattle.sync_course.specs.Free.{Begins, Free, FreeStep, Hold, HoldStep, Holds, IsPlain, LinkMoves, TakesUpOrCloses, Rests, first_free, holding, joined_by, spot_in}
-use Rattle.sync_course.specs.Links.{Link, link_of, without_redundant}
-use Rattle.sync_course.specs.LinkTurns.{Asks, Takes, Waits, Sends, Puts, Done, Doing, SendsNext, Spot, StepOf, TakesNext, next_take, out_batch}
-use Rattle.sync_course.specs.Owing.{ActStep, Owing, paid}
+use Rattle.sync_course.specs.Free.{Begins, Free, FreeStep, Hold, HoldStep, Holds, IsPlain, LinkMoves, TakesUpOrCloses, Rests, first_free, spot_in}
+use Rattle.sync_course.specs.Links.{Link}
+use Rattle.sync_course.specs.LinkTurns.{Asks, Takes, Waits, Sends, Puts, Done, Doing, SendsNext, Spot, StepOf, TakesNext}
+use Rattle.sync_course.specs.Owing.{Owing, paid}
 use Rattle.sync_course.specs.Paths.{Path}
 use Rattle.sync_course.specs.Pending.{pending}
 use Rattle.sync_course.specs.Story.{AllSuitNode, BeginsAsPlanned, FreeActs, MomentStands, SuitsNode, begun_by, heard_at}
@@ -30,7 +30,7 @@ use Rattle.sync_course.proofs.ActLaws.{batches_in-append}
 use Rattle.sync_course.proofs.FreeSound.{IsBegunAt, IsFreeSound, added, first_free_sound, free_moves, free_sound, from_cases, link_step_begun, moves_facts, pending_in}
 use Rattle.sync_course.proofs.LiftLaws.{get_other, get_set, get_within}
 use Rattle.sync_course.proofs.PathLaws.{path_parts}
-use Rattle.sync_course.proofs.RunLaws.{get_middle, settled_begun}
+use Rattle.sync_course.proofs.RunLaws.{get_middle}
 use Rattle.sync_course.proofs.SendLaws.{ActsOn, HasSent, acts_sent, events_path, front_after, front_before, front_of_none, output}
 use Rattle.sync_course.proofs.SuitLaws.{closed_heard, front_same, more_heard, step_heard, takes_suits}
 use Rattle.sync_course.proofs.ToldLaws.{batches_of-append}

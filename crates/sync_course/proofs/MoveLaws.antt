@@ -38,9 +38,6 @@ moves_then clients bs cs f g h first second = record {
 
 -- ---- a link
 
-same_facts : (p q r : Spot) → q ≡ r → r.facts ≡ p.facts → q.facts ≡ p.facts
-same_facts p q r is same = ap (λ (s : Spot). s.facts) is ∙ same
-
 heard_moves : (clients : Meaning) (reply : Reply) (p q : Spot) → q ≡ heard_spot reply p → Moves clients [] p.facts q.facts
 heard_moves clients (got bytes) p q is = moves_none clients p.facts q.facts (ap (λ (s : Spot). s.facts) is)
 heard_moves clients idle p q is = moves_none clients p.facts q.facts (ap (λ (s : Spot). s.facts) is)
