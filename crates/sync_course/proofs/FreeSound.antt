@@ -23,12 +23,13 @@ use Rattle.sync_course.specs.Links.{Link, closed_from, link_of, without_redundan
 use Rattle.sync_course.specs.LinkTurns.{Asks, Takes, Waits, Sends, Puts, Done, Doing, LinkStep, PassesItem, SendsNext, Spot, StepOf, TakesNext, heard_spot, next_take}
 use Rattle.sync_course.specs.Paths.{Path}
 use Rattle.sync_course.specs.Pending.{pending, pending_at}
-use Rattle.sync_course.specs.Turns.{Attaches, Between, Broken, Ended, Greets, Place, Settles, Stage, Terms, Works, first_place}
+use Rattle.sync_course.specs.Turns.{Attaches, Between, Broken, Ended, Greets, Place, RunStep, Settles, Stage, Terms, Works, first_place}
 use Rattle.sync_course.proofs.FreeLaws.{run_is_free}
 use Rattle.sync_course.specs.Suits.{IsCounted}
 use Rattle.sync_course.proofs.CountLaws.{counted_same, link_step_counted, link_step_leaves, settled_takes}
 use Rattle.sync_course.proofs.LiftLaws.{get_other, get_set, get_within}
-use Rattle.sync_course.proofs.MoveLaws.{Moves as MovesOn, link_step_moves, moves_none, moves_one}
+use Rattle.sync_course.proofs.MoveLaws.{Moves as MovesOn, link_step_moves, moves_none, moves_one, moves_then}
+use Rattle.sync_course.proofs.ToldLaws.{batches_of-append}
 use Rattle.sync_course.proofs.RunLaws.{IsOfJournal, cond_same, ended_counted, get_push_cases, journal_moves, new_counted, redundant_get, settled_begun, untaken}
 
 -- by an event: nothing happened, or nothing that is told of, or what is in hand made a step
@@ -82,6 +83,21 @@ module _ (clients : Meaning) (first : ℕ) where
       (λ same. moves_none clients p.facts q.facts (ap (λ (x : Free). x.facts) same))
       (λ m. moves_none clients p.facts q.facts (moves_facts p.hold p q m))
       (λ h. hold_moves p.hold e p q h)
+
+  -- the batches of a path may follow one behind the other
+  pub free_path_moves : (p q : Free) (es : List Event) → Path (FreeStep clients first) p es q
+      → MovesOn clients (batches_of es) p.facts q.facts
+  free_path_moves p q [] path = moves_none clients p.facts q.facts (ap (λ (x : Free). x.facts) path)
+  free_path_moves p q (e ∷ es) path =
+      subst (λ (bs : List (List Entry)). MovesOn clients bs p.facts q.facts)
+      (sym (batches_of-append (e ∷ []) es))
+      (moves_then clients (batches_of (e ∷ [])) (batches_of es) p.facts path.0.facts q.facts
+      (free_moves p path.0 e path.1) (free_path_moves path.0 q es path.2))
+
+pub run_moves : (clients : Meaning) (terms : Terms) (p q : Place) (es : List Event)
+    → Path (RunStep clients terms) p es q → MovesOn clients (batches_of es) p.facts q.facts
+run_moves clients terms p q es path =
+    free_path_moves clients terms.first (forget p) (forget q) es (run_is_free clients terms p q es path)
 
 -- ---- how many sessions began
 
