@@ -2,7 +2,7 @@
 -- run, and what went out on each link is a front of its session's output.
 use Rattle.std.proofs.Common.{◌≡◌, ◌⊎◌, ℕ, suc, ◌+◌, ◌≤◌, Bool, false, true, List, [], ◌∷◌, ◌++◌}
 use Rattle.std.proofs.Common.{append-nil, append_assoc, length, refl, sym, ◌∙◌, ap, subst, inl, inr}
-use Rattle.std.proofs.Common.{arith, None, Option, Some, is_some, slice_index_or, Ok}
+use Rattle.std.proofs.Common.{arith, None, Option, Some, slice_index_or, Ok}
 use Rattle.std.specs.Prelude.{slice_get}
 use Rattle.std.specs.Option.{option_map}
 use Rattle.outside.specs.Files.{Two, File, read_files}
@@ -30,15 +30,14 @@ use Rattle.sync_course.specs.Acts.{Act, AtFront, Does, Fail, Send, batches_in, c
 use Rattle.sync_course.specs.Acts.{event_of, events_of, next_bytes, sends_on}
 use Rattle.sync_course.specs.Events.{Break, Event, Pass, TellsEvents, batches_of, heard_after}
 use Rattle.sync_course.specs.Events.{heard_by}
-use Rattle.sync_course.specs.Free.{Free, FreeStep, first_free, forget, owing_free}
-use Rattle.sync_course.specs.Owing.{ActStep, Owing, paid}
+use Rattle.sync_course.specs.Free.{Free, forget, owing_free}
+use Rattle.sync_course.specs.Owing.{Owing, paid}
 use Rattle.sync_course.specs.Paths.{Path}
 use Rattle.sync_course.specs.Story.{AllSuitNode, FreeActs, IsOfCourse, MomentStands, begun_by}
 use Rattle.sync_course.specs.Story.{heard_at}
 use Rattle.sync_course.specs.Turns.{Attaches, Between, Ended, Greets, Place, RunStep, Settles}
 use Rattle.sync_course.specs.Turns.{Stage, Terms, Works, first_place}
 use Rattle.sync_course.proofs.ActLaws.{batches_in-append}
-use Rattle.sync_course.proofs.FreeLaws.{run_acts_are_free}
 use Rattle.sync_course.proofs.PathLaws.{path_then}
 use Rattle.sync_course.proofs.PlanLaws.{BegunFirst, NonePlain, path_plans}
 use Rattle.sync_course.proofs.RunLaws.{get_front}
@@ -46,7 +45,7 @@ use Rattle.sync_course.proofs.ToldLaws.{batches_of-append}
 use Rattle.sync_node.specs.declared.link.Link.{Link}
 use Rattle.sync_node.specs.Courses.{FitsWith, ReadsAs}
 use Rattle.sync_node.specs.Node.{NodeValue}
-use Rattle.sync_node.specs.Did.{ComesAtFronts, HasSentBy, SinceThen}
+use Rattle.sync_node.specs.Did.{ComesAtFronts, HasSentBy}
 use Rattle.sync_node.specs.Going.{LetsNothingFall}
 use Rattle.sync_node.specs.declared.fault.NodeFault.{NodeFault}
 use Rattle.sync_node.specs.declared.fault.NodeFault.TheVariants as node

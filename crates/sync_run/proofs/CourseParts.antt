@@ -1,5 +1,5 @@
 -- The sessions of a run that begin one after another, and its turns.
-use Rattle.std.proofs.Common.{◌≡◌, ◌⊎◌, ℕ, zero, suc, ◌+◌, ◌<◌, ◌≤◌, Bool, true, false, cond, ◌||◌, List, [], ◌∷◌, drop, get_or, length, refl, sym, ◌∙◌, ap, subst, inl, inr, arith, Option, None, Some, is_some, Result, Ok, Err}
+use Rattle.std.proofs.Common.{◌≡◌, ◌⊎◌, ℕ, zero, suc, ◌+◌, ◌<◌, ◌≤◌, Bool, true, false, cond, ◌||◌, List, [], ◌∷◌, drop, get_or, length, refl, sym, ◌∙◌, ap, subst, inl, inr, arith, Some, is_some, Result, Ok, Err}
 use Rattle.std.specs.Prelude.{nat_le, nat_lt, not, slice_get, IfErr, IsErrAnd}
 use Rattle.std.proofs.lemmas.Bool.{lt-leb, lt-ltb}
 use Rattle.std.proofs.lemmas.List.{drop_all}

@@ -1,4 +1,4 @@
-use Rattle.std.proofs.Common.{◌≡◌, ◌+◌, true, false, length, arith, refl, sym, ◌∙◌, inl, inr}
+use Rattle.std.proofs.Common.{◌+◌, true, false, arith, refl, sym, ◌∙◌, inl, inr}
 use Rattle.std.proofs.lemmas.Bool.{le-leb}
 use Rattle.sync_node.specs.Node.{asked_among}
 use Rattle.sync_run.proofs.CourseParts.{CountsStill, few_behind, if_err_was, no_turn_yet, over_asked, still_behind, turn_more, turns_end, turns_stopped}
