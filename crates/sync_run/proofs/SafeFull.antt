@@ -22,15 +22,12 @@ use Rattle.sync_run.specs.SafeRuns.{RestsAndSends, SessionsSentWhenFull}
 use Rattle.sync_run.proofs.TellLaws.{told_stills}
 use Rattle.sync_run.proofs.SafeRunning.{begun_of}
 
--- no other answer is Full
-pub no_other_full : {T : Type 0} (x : Outcome) → (x ≡ outcome.Full → ⊥) → Err {T = T} x ≡ Err outcome.Full → ⊥
-no_other_full x other is = other (let same : x ≡ outcome.Full = cc in same)
-
-pub no_end_full : {T : Type 0} {t : T} → Ok t ≡ Err outcome.Full → ⊥
-no_end_full is = cc
-
+-- no other fault is Full
 pub no_memory_full : {A : Type 0} → outcome.Memory ≡ outcome.Full → A
 no_memory_full is = absurd (let none : ⊥ = cc in none)
+
+pub no_fault_full : {A : Type 0} → outcome.DiskFault ≡ outcome.Full → A
+no_fault_full is = absurd (let none : ⊥ = cc in none)
 
 -- where the answer is an error that goes on by `?`
 pub sends_failed : (clients : Meaning) (first : ℕ) (o o' : Outside) (r : Result Closing Outcome)

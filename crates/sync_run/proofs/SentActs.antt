@@ -30,14 +30,14 @@ use Rattle.sync_course.specs.declared.ends.LinkEnd.TheVariants as link_end
 use Rattle.sync_course.proofs.FailLaws.{FailsJust, path_fails}
 use Rattle.sync_course.proofs.FreeLaws.{run_acts_are_free}
 use Rattle.sync_course.proofs.SendLaws.{events_path}
-use Rattle.sync_node.specs.declared.fault.Fault.TheVariants as fault
 use Rattle.sync_node.specs.declared.fault.NodeFault.TheVariants as node_fault
 use Rattle.sync_node.specs.declared.link.Link.{Link}
 use Rattle.sync_node.specs.Courses.{links_from, place_at}
 use Rattle.sync_node.specs.Did.{Did}
 use Rattle.sync_node.specs.Going.{LetsNothingFall}
 use Rattle.sync_node.specs.Node.{NodeValue}
-use Rattle.sync_node.specs.OnRuns.{RunActs, RunStopped, RunWent}
+use Rattle.sync_node.specs.OnRuns.{RunActs, RunWent}
+use Rattle.sync_node.specs.Went.{StopsFull}
 use Rattle.sync_node.specs.Output.{Journal, output, sent_on}
 use Rattle.sync_node.proofs.SentLaws.{from_at}
 use Rattle.sync_words.specs.declared.outcome.Outcome.{Outcome}
@@ -128,7 +128,7 @@ module _ (clients : Meaning) (s s' : StoreValue) (o o' : Outside) (unused : AreU
 module _ (clients : Meaning) (terms : Terms) (sessions : List Session) (s s' : StoreValue)
     (o o' : Outside) (is_first : terms.first ≡ s.state.facts.begun) (unused : AreUnused o)
     (goes : LetsNothingFall o o') where
-  before : TellsAll o' → TellsAll o
+  abbrev before : TellsAll o' → TellsAll o
   before = told_back o o' goes.same_files goes.links
 
   -- ---- a run that came to its end
@@ -163,7 +163,8 @@ module _ (clients : Meaning) (terms : Terms) (sessions : List Session) (s s' : S
   -- ---- a run that was broken off where a batch found no room
 
   module _ (law : FullSent) (links : List course_links.Link)
-      (stops : RunStopped clients terms (before_sessions sessions s.state.facts) links s s' o o' fault.Full)
+      (stops : StopsFull clients (RunActs clients terms) (λ (q : Owing Place). q.at.links ≡ links)
+      (paid (before_sessions sessions s.state.facts)) s s' o o')
     where
       -- on a link on which no call failed all output of its session was sent
       well_sent : (told : TellsAll o') (j : Journal) → FitsFiles clients s j (before told).two → (i : ℕ)

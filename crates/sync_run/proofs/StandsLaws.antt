@@ -46,7 +46,7 @@ keeps_then n0 n1 n2 o0 o1 o2 first second = record {
 pub rose_since : (a b c : ℕ) → a ≤ b → CountRose b c → CountRose a c
 rose_since a b c le rose = let more : one_more b ≤ c = rose in omega (arith, le, more)
 
-module _ {T U : Type 0} (clients : Meaning) (n' : NodeValue) (o o1 o' : Outside)
+module _ (T U : Type 0) (clients : Meaning) (n' : NodeValue) (o o1 o' : Outside)
     (later : o.disk_faults ≤ o1.disk_faults) where
   stops_by : (x : NodeFault) → AnswersAndCloses {T = T} (Err x) n'
       → StaysReady {T = T} clients n' o' (Err x)
@@ -110,7 +110,7 @@ pub stands_then : {T : Type 0} (clients : Meaning) (n' : NodeValue) (o o1 o' : O
 stands_then {T = T} clients n' o o1 o' later count count' same (Ok t) stands =
     record { answer = stands.answer; may = stands.may; stops = tt; number = stands.number ∙ same }
 stands_then {T = T} clients n' o o1 o' later count count' same (Err x) stands =
-    stands_on {T = T} {U = T} clients n' o o1 o' later count count' (Err x) x refl stands
+    stands_on T T clients n' o o1 o' later count count' (Err x) x refl stands
 
 -- ---- links
 

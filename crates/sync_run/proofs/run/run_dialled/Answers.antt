@@ -1,4 +1,4 @@
-use Rattle.std.proofs.Common.{ap, arith, inl, Err}
+use Rattle.std.proofs.Common.{ap, arith, inl, refl, Err}
 use Rattle.sync_node.specs.Node.{NodeValue}
 use Rattle.sync_words.specs.declared.outcome.Outcome.TheVariants as outcome
 use Rattle.sync_run.specs.Parts.{RunsOver, sessions_from}
@@ -8,7 +8,7 @@ use Rattle.sync_run.proofs.ActsLaws.{broken_safe, over_safe}
 use Rattle.sync_run.proofs.SafeBegin.{unused_disk}
 use Rattle.sync_run.proofs.SafeRunning.{goes_settled, node_begins, node_begun, node_may, rests_ready, rests_stays, runs_settling}
 use Rattle.sync_run.proofs.CauseLaws.{ends_rose, goes_then}
-use Rattle.sync_run.proofs.SafeFull.{no_end_full, no_memory_full, no_other_full, sends_failed, unrun_full}
+use Rattle.sync_run.proofs.SafeFull.{no_fault_full, no_memory_full, sends_failed, unrun_full}
 use Rattle.sync_run.proofs.SentActs.{run_sends_full, run_sends_whole}
 use Rattle.sync_run.proofs.StandsLaws.{rose_since}
 use Rattle.sync_run.proofs.run.run_dialled.Goals as goal
@@ -100,23 +100,20 @@ returns-in-Ok-clause-sends g c = record {
       (ap (λ (n : NodeValue). n.store) c.in_ok-node.ensures)
       c.in_ok-migrate_and_settle.ensures.ready c.run_node.ensures.keeps.goes
       c.all_is_sent.ensures.whole _ _ c.in-Ok.over _ c.in-Ok.ensures.went c.in_ok-close-in-Ok.ensures;
-  sent_full = λ is. absurd (no_end_full is);
+  sent_full = λ is. absurd (let none : ⊥ = cc in none);
 }
 
 pub returns-in-Err-Memory-clause-sends : goal.returns-in-Err-Memory-clause-sends
-returns-in-Err-Memory-clause-sends g c = record {
-  rests =
-      rests_ready _ _ _ (rw c.in-Err-Memory.field-0-is at c.in-Err-Memory.ensures.stands.stops);
-  sent = tt;
-  sent_full = λ is. absurd (no_other_full outcome.Memory (λ same. cc) is);
-}
+returns-in-Err-Memory-clause-sends g c =
+    sends_failed _ _ (g.H.Disk.tells c.args.host.now) (g.H.Disk.tells c.run_node.new.host)
+    (Err outcome.Memory) outcome.Memory refl
+    (rests_ready _ _ _ (rw c.in-Err-Memory.field-0-is at c.in-Err-Memory.ensures.stands.stops)) no_memory_full
 
 pub returns-in-Err-DiskFault-clause-sends : goal.returns-in-Err-DiskFault-clause-sends
-returns-in-Err-DiskFault-clause-sends g c = record {
-  rests = tt;
-  sent = tt;
-  sent_full = λ is. absurd (no_other_full outcome.DiskFault (λ same. cc) is);
-}
+returns-in-Err-DiskFault-clause-sends g c =
+    sends_failed _ _ (g.H.Disk.tells c.args.host.now) (g.H.Disk.tells c.run_node.new.host)
+    (Err outcome.DiskFault) outcome.DiskFault refl
+    tt no_fault_full
 
 pub returns-in-Err-Full-clause-sends : goal.returns-in-Err-Full-clause-sends
 returns-in-Err-Full-clause-sends g c = record {

@@ -1,4 +1,4 @@
-use Rattle.std.proofs.Common.{sym, ◌∙◌}
+use Rattle.std.proofs.Common.{sym, ◌∙◌, arith}
 use Rattle.std.proofs.lemmas.Result.{IfOk-weaker}
 use Rattle.sync_run.proofs.CourseParts.{if_err_then, if_err_was, run_ends, run_stopped, run_unbegun}
 use Rattle.sync_run.proofs.StandsLaws.{keeps_then, stands_on, stands_then}
@@ -6,8 +6,8 @@ use Rattle.sync_run.proofs.run.run_node.Goals as goal
 
 pub returns-in_err-attach_all-clause-stands : goal.returns-in_err-attach_all-clause-stands
 returns-in_err-attach_all-clause-stands g c =
-    stands_on _ c.attach_all.new.node (g.H.Disk.tells c.args.host.now)
-    (g.H.Disk.tells c.args.host.now) (g.H.Disk.tells c.attach_all.new.host) (search rules) _ _
+    stands_on _ _ _ c.attach_all.new.node (g.H.Disk.tells c.args.host.now)
+    (g.H.Disk.tells c.args.host.now) (g.H.Disk.tells c.attach_all.new.host) (omega arith) _ _
     c.from_residual.result c.in_err-attach_all.field-0.0 c.from_residual.ensures.1
     c.in_err-attach_all.ensures.stands
 

@@ -1,4 +1,4 @@
-use Rattle.std.proofs.Common.{◌≡◌, ℕ, ◌+◌, List, length, arith, refl, sym, ap, ◌∙◌}
+use Rattle.std.proofs.Common.{◌≡◌, ℕ, ◌+◌, false, List, length, arith, refl, sym, ap, ◌∙◌}
 use Rattle.sync_rules.specs.Facts.{Facts}
 use Rattle.sync_node.specs.declared.link.Link.{Link}
 use Rattle.sync_node.specs.Node.{IsNode, NodeValue}
@@ -60,7 +60,7 @@ pub returns-in_err-attach-clause-stands : goal.returns-in_err-attach-clause-stan
 returns-in_err-attach-clause-stands g c =
     let l = c.links.invariant in
     let e = c.in_err-attach.ensures in
-    stands_stopped _ c.attach.new.self (g.H.Disk.tells c.args.host.now) (g.H.Disk.tells c.links.host)
+    stands_stopped _ _ _ c.attach.new.self (g.H.Disk.tells c.args.host.now) (g.H.Disk.tells c.links.host)
     (g.H.Disk.tells c.attach.new.host) l.keeps.goes.later _ c.from_residual.result
     c.in_err-attach.field-0.0 c.from_residual.ensures.1 (e.answer l.still_open) e.may
     (e.stays l.still_open) e.fault

@@ -58,7 +58,7 @@ pub returns-in_err-turn-clause-stands : goal.returns-in_err-turn-clause-stands
 returns-in_err-turn-clause-stands g c =
     let l = c.turns.invariant in
     let e = c.in_err-turn.ensures in
-    stands_stopped _ c.turn.new.self (g.H.Disk.tells c.args.host.now) (g.H.Disk.tells c.turns.host)
+    stands_stopped _ _ _ c.turn.new.self (g.H.Disk.tells c.args.host.now) (g.H.Disk.tells c.turns.host)
     (g.H.Disk.tells c.turn.new.host) l.keeps.goes.later _ c.from_residual.result
     c.in_err-turn.field-0.0 c.from_residual.ensures.1 (e.answer l.still_open) e.may
     (e.stays l.still_open) e.fault
