@@ -26,9 +26,9 @@ use Rattle.sync_store.specs.Fitting.{FitsFiles}
 use Rattle.sync_store.specs.Ready.{IsReady}
 use Rattle.sync_store.specs.Store.{StoreValue}
 use Rattle.store_commands.specs.Commit.{SettlesAnew}
-use Rattle.sync_course.specs.Acts.{Act, AtFront, Does, Fail, Send, batches_in, commit_acts}
+use Rattle.sync_course.specs.Acts.{Act, AtFront, batches_in, commit_acts}
 use Rattle.sync_course.specs.Acts.{event_of, events_of, next_bytes, sends_on}
-use Rattle.sync_course.specs.Events.{Break, Event, Pass, TellsEvents, batches_of, heard_after}
+use Rattle.sync_course.specs.Events.{Pass, TellsEvents, heard_after}
 use Rattle.sync_course.specs.Events.{heard_by}
 use Rattle.sync_course.specs.Free.{Free, forget, owing_free}
 use Rattle.sync_course.specs.Owing.{Owing, paid}
@@ -41,7 +41,6 @@ use Rattle.sync_course.proofs.ActLaws.{batches_in-append}
 use Rattle.sync_course.proofs.PathLaws.{path_then}
 use Rattle.sync_course.proofs.PlanLaws.{BegunFirst, NonePlain, path_plans}
 use Rattle.sync_course.proofs.RunLaws.{get_front}
-use Rattle.sync_course.proofs.ToldLaws.{batches_of-append}
 use Rattle.sync_node.specs.declared.link.Link.{Link}
 use Rattle.sync_node.specs.Courses.{FitsWith, ReadsAs}
 use Rattle.sync_node.specs.Node.{NodeValue}
@@ -59,6 +58,7 @@ use Rattle.sync_run.specs.declared.run.Limits.{Limits}
 use Rattle.sync_run.specs.Courses.{terms_at}
 use Rattle.sync_run.specs.Parts.{RunsSessions, StopsFrom, StopsRun, before_sessions, sessions_from}
 use Rattle.sync_run.specs.SafeRuns.{AreUnused, RunsSafe}
+use Rattle.sync_node.proofs.EventLaws.{EventPath, as_events}
 use Rattle.sync_run.proofs.HeardLaws.{path_told}
 use Rattle.sync_run.proofs.SafeBegin.{all_suit_append, all_suit_heard, safe_settled, unused_disk}
 use Rattle.sync_run.proofs.SafeRunning.{settles_only}
@@ -72,57 +72,6 @@ MomentsStand =
     → Legal clients j
     → FreeActs clients j acts to → AtFront clients acts j (λ link. []) m
     → MomentStands clients j (begun_by (batches_in acts)) (heard_at to.at) m
-
--- ---- acts as events
-
--- a path of events with the batches of some others, and with what these tell of the links
-pub record EventsAs (clients : Meaning) (terms : Terms) (p q : Place) (fs : List Event) : Type
-    0 where
-  pub events : List Event
-  pub path : Path (RunStep clients terms) p events q
-  pub same : batches_of events ≡ batches_of fs
-  pub heard : (h : List HeardOn) → heard_after events h ≡ heard_after fs h
-
-module _ (clients : Meaning) (terms : Terms) where
-  event_more : (p m q : Place) (e : Event) (fs : List Event) → RunStep clients terms p e m
-      → EventsAs clients terms m q fs → EventsAs clients terms p q (e ∷ fs)
-  event_more p m q e fs step rest = record {
-    events = e ∷ rest.events;
-    path = (m, step, rest.path);
-    same =
-        batches_of-append (e ∷ []) rest.events
-        ∙ ap (λ (l : Journal). batches_of (e ∷ []) ++ l) rest.same
-        ∙ sym (batches_of-append (e ∷ []) fs);
-    heard = λ h. rest.heard (heard_by e h);
-  }
-
-  act_more : (p m : Owing Place) (q : Place) (a : Act) (fs : List Event)
-      → RunActs clients terms p a m → EventsAs clients terms m.at q fs
-      → EventsAs clients terms p.at q (events_of (a ∷ []) ++ fs)
-  act_more p m q (Does e) fs step rest = event_more p.at m.at q e fs step.1 rest
-  act_more p m q (Send n bytes) fs step rest = elim step [
-    | inl all ↦ event_more p.at m.at q Pass fs all.1 rest
-    | inr some ↦ record {
-      events = rest.events;
-      path =
-          subst (λ (x : Place). Path (RunStep clients terms) x rest.events q) some.stays rest.path;
-      same = rest.same;
-      heard = rest.heard;
-    }
-  ]
-  act_more p m q (Fail n bytes count) fs step rest =
-      event_more p.at m.at q (Break n) fs step.1 rest
-
-  acts_tell : (p q : Owing Place) (acts : List Act) → Path (RunActs clients terms) p acts q
-      → EventsAs clients terms p.at q.at (events_of acts)
-  acts_tell p q [] path = record {
-    events = [];
-    path = ap (λ (x : Owing Place). x.at) path;
-    same = refl;
-    heard = λ h. refl;
-  }
-  acts_tell p q (a ∷ acts) path =
-      act_more p path.0 q.at a (events_of acts) path.1 (acts_tell path.0 q acts path.2)
 
 -- ---- which batches
 
@@ -237,22 +186,25 @@ module _ (clients : Meaning) (terms : Terms) (sessions : List Session) (f : Fact
   abbrev before_at : Place
   before_at = before_sessions sessions f
 
-  ways : EventsAs clients terms before_at to.at (events_of acts)
-  ways = acts_tell clients terms (paid before_at) to acts path
+  -- the events of the acts, but for what is told of nothing
+  ways : EventPath (RunStep clients terms) before_at to.at (events_of acts)
+  ways =
+      as_events clients (λ (p : Place). p.facts) terms.first (RunStep clients terms) (paid before_at) to
+      acts path
 
   from_first : Path (RunStep clients terms) (first_place sessions f) (Pass ∷ ways.events) to.at
   from_first = (before_at, (settled, refl), ways.path)
 
   none_plain : NonePlain (batches_in acts)
   none_plain =
-      subst NonePlain ways.same (path_plans clients terms sessions f to.at (Pass ∷ ways.events)
+      subst NonePlain ways.thins.batches (path_plans clients terms sessions f to.at (Pass ∷ ways.events)
       from_first).none_plain
 
   -- the sessions that began are the first of those given
   plans_front : IsFront (begun_by (batches_in acts)) sessions
   plans_front =
       begun_first sessions (batches_in acts) to.at.stage
-      (subst (λ (bs : Journal). BegunFirst sessions bs to.at.stage) ways.same
+      (subst (λ (bs : Journal). BegunFirst sessions bs to.at.stage) ways.thins.batches
       (path_plans clients terms sessions f to.at (Pass ∷ ways.events) from_first).begun)
 
 module _ (stand : MomentsStand) (fronts : FrontsHaveFronts) (clients : Meaning)
@@ -499,11 +451,10 @@ module _ (clients : Meaning) (terms : Terms) (sessions : List Session) (s : Stor
   hears_told : TellsAll o → (link : ℕ) → heard_on o'.links link ≡ heard_at (forget to.at) link
   hears_told told link =
       let way =
-      acts_tell clients terms (paid (before_sessions sessions s.state.facts)) to
-      (acts ++ commit_acts next) path in
+      ways clients terms sessions s.state.facts (acts ++ commit_acts next) to settled path in
       let h : List HeardOn = told.heard in
       let behind : heard_after way.events h ≡ heard_after (events_of acts) h =
-      way.heard h ∙ no_hear acts next h in
+      sym (way.thins.heard h) ∙ no_hear acts next h in
       let are : o'.links.heard ≡ Some (heard_after (Pass ∷ way.events) h) =
       tells.heard ∙ ap (option_map (heard_after (events_of acts))) told.heard_are
       ∙ ap (λ (x : List HeardOn). Some x) (sym behind) in

@@ -17,7 +17,8 @@ ghost use Rattle.sync_run.specs.Causes.{FailsAlone, IsCaused, RunCaused};
 ghost use Rattle.sync_run.specs.Courses.{HaveSpecs, RunComes, TestsContacts, TestsWords};
 ghost use Rattle.sync_run.specs.Headline.{Headline};
 ghost use Rattle.sync_run.specs.Leaving.{LeavesLinks, LinksCameTo, MayHangUp};
-ghost use Rattle.sync_run.specs.NodeStands.{KeepsNode, StandsBy};
+ghost use Rattle.sync_node.specs.Calls.{CallGoes};
+ghost use Rattle.sync_run.specs.NodeStands.{StandsBy};
 ghost use Rattle.sync_run.specs.Parts.{RunsOver, RunsSessions, StopsRun, sessions_from};
 ghost use Rattle.sync_run.specs.Ran.{RanTold};
 ghost use Rattle.sync_run.specs.SafeRuns.{AllMayBegin, AreUnused, HasRoomFor, IsKnown, RunsSafe};
@@ -219,7 +220,7 @@ fn run_node<H: Host, C: Clients>(
     requires dialled { length links.now ≤ (H.tells host.old).links.dialled }
     ensures stands { StandsBy (C.meaning clients.now) (length links.now) node.new (H.tells host.old)
         (H.tells host.new) result }
-    ensures keeps { KeepsNode node.old node.new (H.tells host.old) (H.tells host.new) }
+    ensures keeps { CallGoes node.old node.new (H.tells host.old) (H.tells host.new) }
     ensures went { IfOk result (RunsSessions (C.meaning clients.now) limits links.now node.new.links
         node.old.store node.new.store (H.tells host.old) (H.tells host.new)) }
     ensures stopped { IfErr result (StopsRun (C.meaning clients.now) limits links.now node.old.store

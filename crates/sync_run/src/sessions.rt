@@ -4,7 +4,8 @@ ghost use Rattle.outside.specs.declared.limits.TheConstants.{LINKS};
 ghost use Rattle.sync_rules.specs.Steps.{IsSettled};
 ghost use Rattle.sync_rules.specs.declared.limits.TheConstants.{MAX_SESSIONS};
 ghost use Rattle.sync_node.specs.Node.{IsNode, MayRun};
-ghost use Rattle.sync_run.specs.NodeStands.{KeepsNode, StandsBy};
+ghost use Rattle.sync_node.specs.Calls.{CallGoes};
+ghost use Rattle.sync_run.specs.NodeStands.{StandsBy};
 ghost use Rattle.sync_run.specs.SafeRuns.{AllMayBegin};
 ghost use Rattle.sync_run.specs.Parts.{MakesTurns, SessionsBegin, SessionsStopped, TurnsStopped};
 
@@ -33,7 +34,7 @@ pub fn attach_all<H: Host, C: Clients>(
     requires dialled { length links.now ≤ (H.tells host.old).links.dialled }
     ensures stands { StandsBy (C.meaning clients.now) (length links.now) node.new (H.tells host.old)
         (H.tells host.new) result }
-    ensures keeps { KeepsNode node.old node.new (H.tells host.old) (H.tells host.new) }
+    ensures keeps { CallGoes node.old node.new (H.tells host.old) (H.tells host.new) }
     ensures went { OnOk result (SessionsBegin (C.meaning clients.now) links.now node.new.links
         node.old.store node.new.store (H.tells host.old) (H.tells host.new)) }
     ensures stopped { IfErr result (SessionsStopped (C.meaning clients.now) links.now node.old.store
@@ -59,7 +60,7 @@ pub fn make_turns<H: Host, C: Clients>(
     requires node { IsNode node.old }
     ensures stands { StandsBy (C.meaning clients.now) (length node.old.links) node.new
         (H.tells host.old) (H.tells host.new) result }
-    ensures keeps { KeepsNode node.old node.new (H.tells host.old) (H.tells host.new) }
+    ensures keeps { CallGoes node.old node.new (H.tells host.old) (H.tells host.new) }
     ensures went { IfOk result (MakesTurns (C.meaning clients.now) limits node.old.first
         node.old.links node.new.links node.old.store node.new.store (H.tells host.old)
         (H.tells host.new)) }

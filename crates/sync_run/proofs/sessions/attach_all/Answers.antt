@@ -3,7 +3,7 @@ use Rattle.sync_rules.specs.Facts.{Facts}
 use Rattle.sync_node.specs.declared.link.Link.{Link}
 use Rattle.sync_node.specs.Node.{IsNode, NodeValue}
 use Rattle.sync_run.proofs.CourseParts.{attached_all, attached_more, attaching_stopped, if_err_was, is_node_without, no_session_yet}
-use Rattle.sync_run.proofs.StandsLaws.{item_may, keeps_none, keeps_then, stands_stopped}
+use Rattle.sync_run.proofs.StandsLaws.{attach_stops, item_may, keeps_none, keeps_then, one_longer, stands_stopped}
 use Rattle.sync_run.proofs.sessions.attach_all.Goals as goal
 
 -- how many sessions began so far
@@ -31,29 +31,23 @@ pub links-preserved : goal.links-preserved
 links-preserved g c =
     let l = c.links.invariant in
     let e = c.in_ok-attach.ensures in
-    let more = e.joined.one_more in
+    let begins = e.went l.still_open in
+    let more = one_longer _ _ e.links.0 e.links.1 in
     record {
       went =
           attached_more _ c.args.links.now c.links.link-index c.link-item.result _ _ _ _ _
           (begun_at _ c.args.node.now c.links.number c.links.link-index l.keeps.node l.still_open
           l.keeps.same_first c.requires.first l.numbered l.count) c.links-test.true c.link-item.is
-          (omega (arith, l.numbered, l.count)) l.went _ _ _ (ap (λ (f : Facts). f.begun) e.facts)
-          e.run.same_files (e.went l.still_open);
+          (omega (arith, l.numbered, l.count)) l.went _ _ _ (ap (λ (f : Facts). f.begun) begins.facts)
+          e.goes.goes.same_files begins;
       keeps =
-          keeps_then c.args.node.now c.links.node c.attach.new.self _ _ _ l.keeps (record {
-            node = e.node;
-            goes = e.run;
-            same_first = e.first;
-            same_limit = e.limit;
-            same_format = e.format;
-            cause = e.cause;
-          });
-      still_open = e.answer l.still_open;
+          keeps_then c.args.node.now c.links.node c.attach.new.self _ _ _ l.keeps e.goes;
+      still_open = e.answers.opened l.still_open;
       numbered = omega (arith, more, l.numbered);
       count = ap (λ (k : ℕ). k + 1) l.count;
       may = e.may;
-      settled = (e.may (e.answer l.still_open)).settled (omega (arith, more));
-      same_contacts = ap (λ (f : Facts). f.contacts) e.facts ∙ l.same_contacts;
+      settled = (e.may (e.answers.opened l.still_open)).settled (omega (arith, more));
+      same_contacts = ap (λ (f : Facts). f.contacts) begins.facts ∙ l.same_contacts;
     }
 
 pub returns-in_err-attach-clause-stands : goal.returns-in_err-attach-clause-stands
@@ -62,20 +56,14 @@ returns-in_err-attach-clause-stands g c =
     let e = c.in_err-attach.ensures in
     stands_stopped _ _ _ c.attach.new.self (g.H.Disk.tells c.args.host.now) (g.H.Disk.tells c.links.host)
     (g.H.Disk.tells c.attach.new.host) l.keeps.goes.later _ c.from_residual.result
-    c.in_err-attach.field-0.0 c.from_residual.ensures.1 (e.answer l.still_open) e.may
-    (e.stays l.still_open) e.fault
+    c.in_err-attach.field-0.0 c.from_residual.ensures.1 (e.answers.opened l.still_open) e.may
+    (attach_stops _ _ _ c.links.node c.attach.new.self c.links.host c.attach.new.host _ _
+    c.in_err-attach.field-0.0 (e.stops l.still_open))
 
 pub returns-in_err-attach-clause-keeps : goal.returns-in_err-attach-clause-keeps
 returns-in_err-attach-clause-keeps g c =
     let e = c.in_err-attach.ensures in
-    keeps_then c.args.node.now c.links.node c.attach.new.self _ _ _ c.links.invariant.keeps (record {
-      node = e.node;
-      goes = e.run;
-      same_first = e.first;
-      same_limit = e.limit;
-      same_format = e.format;
-      cause = e.cause;
-    })
+    keeps_then c.args.node.now c.links.node c.attach.new.self _ _ _ c.links.invariant.keeps e.goes
 
 pub returns-in_err-attach-clause-stopped : goal.returns-in_err-attach-clause-stopped
 returns-in_err-attach-clause-stopped g c =

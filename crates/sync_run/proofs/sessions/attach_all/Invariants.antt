@@ -1,7 +1,7 @@
 use Rattle.std.proofs.Common.{◌≡◌, false, drop, length}
 use Rattle.sync_rules.specs.Steps.{IsSettled}
 use Rattle.sync_node.specs.Node.{MayRun}
-use Rattle.sync_run.specs.NodeStands.{KeepsNode}
+use Rattle.sync_node.specs.Calls.{CallGoes}
 use Rattle.sync_run.specs.Parts.{sessions_from}
 use Rattle.sync_run.proofs.CourseParts.{SessionsSoFar}
 use Rattle.sync_run.proofs.sessions.attach_all.Given as goal
@@ -12,7 +12,7 @@ invariant-links g l = record {
       (sessions_from l.initial.node.store.state.facts.begun l.links)
       (sessions_from l.node.store.state.facts.begun (drop l.link-index l.links)) l.node.links
       l.initial.node.store l.node.store (g.H.Disk.tells l.initial.host) (g.H.Disk.tells l.host);
-  keeps : KeepsNode l.initial.node l.node (g.H.Disk.tells l.initial.host) (g.H.Disk.tells l.host);
+  keeps : CallGoes l.initial.node l.node (g.H.Disk.tells l.initial.host) (g.H.Disk.tells l.host);
   still_open : l.node.closed ≡ false;
   numbered : l.number ≡ length l.node.links;
   count : l.number ≡ l.link-index;

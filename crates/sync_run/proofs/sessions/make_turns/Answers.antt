@@ -37,17 +37,10 @@ turns-preserved g c =
           c.is_over.ensures c.from.ensures c.asked.ensures)
           ∙ c.if-is_over.false;
       keeps =
-          keeps_then c.args.node.now c.turns.node c.turn.new.self _ _ _ l.keeps (record {
-            node = e.node;
-            goes = e.run;
-            same_first = e.kept.same_first;
-            same_limit = e.limit;
-            same_format = e.format;
-            cause = e.cause;
-          });
+          keeps_then c.args.node.now c.turns.node c.turn.new.self _ _ _ l.keeps e.goes;
       number =
           same_number c.turns.node.links c.turn.new.self.links e.kept.same_sessions ∙ l.number;
-      still_open = e.answer l.still_open;
+      still_open = e.answers.opened l.still_open;
       few_still =
           few_behind c.in_ok-turn.field-0 c.turns.still c.match-branch-2.still c.turns.counter branch
           l.few_still;
@@ -60,20 +53,13 @@ returns-in_err-turn-clause-stands g c =
     let e = c.in_err-turn.ensures in
     stands_stopped _ _ _ c.turn.new.self (g.H.Disk.tells c.args.host.now) (g.H.Disk.tells c.turns.host)
     (g.H.Disk.tells c.turn.new.host) l.keeps.goes.later _ c.from_residual.result
-    c.in_err-turn.field-0.0 c.from_residual.ensures.1 (e.answer l.still_open) e.may
-    (e.stays l.still_open) e.fault
+    c.in_err-turn.field-0.0 c.from_residual.ensures.1 (e.answers.opened l.still_open) e.may
+    (e.stops l.still_open)
 
 pub returns-in_err-turn-clause-keeps : goal.returns-in_err-turn-clause-keeps
 returns-in_err-turn-clause-keeps g c =
     let e = c.in_err-turn.ensures in
-    keeps_then c.args.node.now c.turns.node c.turn.new.self _ _ _ c.turns.invariant.keeps (record {
-      node = e.node;
-      goes = e.run;
-      same_first = e.kept.same_first;
-      same_limit = e.limit;
-      same_format = e.format;
-      cause = e.cause;
-    })
+    keeps_then c.args.node.now c.turns.node c.turn.new.self _ _ _ c.turns.invariant.keeps e.goes
 
 pub returns-in_err-turn-clause-stopped : goal.returns-in_err-turn-clause-stopped
 returns-in_err-turn-clause-stopped g c =
@@ -86,7 +72,7 @@ returns-in_err-turn-clause-stopped g c =
 
 pub returns-then-is_over-clause-stands : goal.returns-then-is_over-clause-stands
 returns-then-is_over-clause-stands g c = record {
-  answer = c.in_ok-turn.ensures.answer c.turns.invariant.still_open;
+  answer = c.in_ok-turn.ensures.answers.opened c.turns.invariant.still_open;
   may = c.in_ok-turn.ensures.may;
   stops = tt;
   number =
@@ -97,14 +83,7 @@ returns-then-is_over-clause-stands g c = record {
 pub returns-then-is_over-clause-keeps : goal.returns-then-is_over-clause-keeps
 returns-then-is_over-clause-keeps g c =
     let e = c.in_ok-turn.ensures in
-    keeps_then c.args.node.now c.turns.node c.turn.new.self _ _ _ c.turns.invariant.keeps (record {
-      node = e.node;
-      goes = e.run;
-      same_first = e.kept.same_first;
-      same_limit = e.limit;
-      same_format = e.format;
-      cause = e.cause;
-    })
+    keeps_then c.args.node.now c.turns.node c.turn.new.self _ _ _ c.turns.invariant.keeps e.goes
 
 pub returns-then-is_over-clause-went : goal.returns-then-is_over-clause-went
 returns-then-is_over-clause-went g c =
