@@ -85,6 +85,7 @@ pub record CommitsAndSettles (clients : Meaning) (batch : List Entry) (s s' : St
   pub more : Journal
   pub adds : AddsBatch clients s.state.facts batch more
   pub did : Did clients (commit_acts more) s s' o o'
+  pub facts : s'.state.facts ≡ after_batches s.state.facts more
   pub ready : IsReady clients s' o'.files
 
 -- it was, and nothing is left to be settled
