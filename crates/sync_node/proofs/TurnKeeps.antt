@@ -19,7 +19,7 @@ pub links_keep_none : {T : Type 0} (clients : Meaning) (links : List Link) (s : 
     (o : Outside) (x : T) → MayGoOn clients links s o
     → LinksKeep {T = T} clients links links s s o o (Ok x)
 links_keep_none clients links s o x may = record {
-  links = links_go_none links o;
+  go = links_go_none links o;
   same_sessions = refl;
   store = record {
     same_limit = refl;
@@ -33,7 +33,7 @@ pub links_keep_ok : {T U : Type 0} (clients : Meaning) (links links' : List Link
     → LinksKeep {T = T} clients links links' s s' o o' (Ok x)
     → LinksKeep {T = U} clients links links' s s' o o' (Ok y)
 links_keep_ok clients links links' s s' o o' x y keeps = record {
-  links = keeps.links;
+  go = keeps.go;
   same_sessions = keeps.same_sessions;
   store = record {
     same_limit = keeps.store.same_limit;
@@ -48,7 +48,7 @@ pub links_keep_next : {T U V : Type 0} (clients : Meaning) (place : ℕ) (links 
     → LinkKeeps {T = U} clients place l l' s1 s2 o1 o2 (Ok y) → HasGivenItems l'
     → LinksKeep {T = V} clients links (set links1 place l') s s2 o o2 (Ok z)
 links_keep_next clients place links links1 l l' s s1 s2 o o1 o2 x y z keeps here turned waits = record {
-  links = links_go_set place links links1 l l' o o1 o2 keeps.links here turned.link;
+  go = links_go_set place links links1 l l' o o1 o2 keeps.go here turned.link;
   same_sessions =
       sessions_set place links1 l l' here turned.link.same_session ∙ keeps.same_sessions;
   store = record {
@@ -72,7 +72,7 @@ pub links_keep_stop : {T U V : Type 0} (clients : Meaning) (place : ℕ) (links 
     → LinkKeeps {T = U} clients place l l' s1 s2 o1 o2 (Err e)
     → LinksKeep {T = V} clients links (set links1 place l') s s2 o o2 r
 links_keep_stop clients place links links1 l l' s s1 s2 o o1 o2 x r e is keeps here turned = record {
-  links = links_go_set place links links1 l l' o o1 o2 keeps.links here turned.link;
+  go = links_go_set place links links1 l l' o o1 o2 keeps.go here turned.link;
   same_sessions =
       sessions_set place links1 l l' here turned.link.same_session ∙ keeps.same_sessions;
   store = record {
@@ -80,7 +80,7 @@ links_keep_stop clients place links links1 l l' s s1 s2 o o1 o2 x r e is keeps h
     same_format = turned.store.same_format ∙ keeps.store.same_format;
     answered =
         answered_was (StayAttached clients links (set links1 place l') s s2 o2) clients s2 o o2 r e
-        is (stops_later clients s2 o o1 o2 e keeps.links.goes.later turned.store.answered);
+        is (stops_later clients s2 o o1 o2 e keeps.go.goes.later turned.store.answered);
   };
 }
 
@@ -90,7 +90,7 @@ pub links_keep_closed : {T U : Type 0} (clients : Meaning) (links mid links' : L
     → LinksKeep {T = T} clients links mid s s' o o' (Ok x) → ClosesSome mid links'
     → LinksKeep {T = U} clients links links' s s' o o' (Ok y)
 links_keep_closed clients links mid links' s s' o o' x y keeps closes = record {
-  links = links_go_closed links mid links' o o' keeps.links closes;
+  go = links_go_closed links mid links' o o' keeps.go closes;
   same_sessions = sessions_closed mid links' closes ∙ keeps.same_sessions;
   store = record {
     same_limit = keeps.store.same_limit;
@@ -108,7 +108,7 @@ pub links_keep_was : {T U : Type 0} (clients : Meaning) (links links' : List Lin
     → IsErrAnd r (λ f. f ≡ e) → LinksKeep {T = T} clients links links' s s' o o' (Err e)
     → LinksKeep {T = U} clients links links' s s' o o' r
 links_keep_was clients links links' s s' o o' r e is keeps = record {
-  links = keeps.links;
+  go = keeps.go;
   same_sessions = keeps.same_sessions;
   store = record {
     same_limit = keeps.store.same_limit;

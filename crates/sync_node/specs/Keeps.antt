@@ -55,6 +55,6 @@ pub record StayAttached (clients : Meaning) (links links' : List Link) (s s' : S
 -- of work on all links
 pub record LinksKeep {T : Type 0} (clients : Meaning) (links links' : List Link) (s s' : StoreValue)
     (o o' : Outside) (result : Result T Fault) : Type 0 where
-  pub links : LinksGo links links' o o'
+  pub go : LinksGo links links' o o'
   pub same_sessions : sessions_of links' ≡ sessions_of links
   pub store : StoreKeeps (StayAttached clients links links' s s' o') clients s s' o o' result

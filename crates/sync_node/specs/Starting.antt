@@ -36,7 +36,7 @@ pub record StartKeeps (s s' : StoreValue) (o o' : Outside) : Type 0 where
 
 pub record AttachKeeps {T : Type 0} (links links' : List Link) (s s' : StoreValue) (o o' : Outside)
     (result : Result T Fault) : Type 0 where
-  pub links : LinksGo links links' o o'
+  pub go : LinksGo links links' o o'
   pub same_limit : s'.limit ≡ s.limit
   pub same_format : s'.format ≡ s.format
   pub pushes : PushesOne result links links'

@@ -31,7 +31,7 @@ returns-clause-went g c = record {
 
 pub returns-clause-keeps : goal.returns-clause-keeps
 returns-clause-keeps g c = record {
-  links =
+  go =
       links_go_push c.args.number _ _ c.in_ok-link.link _ _ c.requires.last ((rw c.unwrap.ensures at c.push.ensures.items) ∙ ap (λ (ls : List Link). ls ++ c.in_ok-link.link ∷ []) c.reserve.ensures.items)
       c.start.ensures.keeps.goes c.in_ok-link.ensures.begun.cause;
   same_limit = c.start.ensures.keeps.same_limit;
@@ -41,7 +41,7 @@ returns-clause-keeps g c = record {
 
 pub returns-in_err-reader-clause-keeps : goal.returns-in_err-reader-clause-keeps
 returns-in_err-reader-clause-keeps g c = record {
-  links = links_go_none _ _;
+  go = links_go_none _ _;
   same_limit = refl;
   same_format = refl;
   pushes = pushes_none _ _ _ _ c.from_residual.ensures.1 refl;
@@ -49,7 +49,7 @@ returns-in_err-reader-clause-keeps g c = record {
 
 pub returns-in_err-reserve-clause-keeps : goal.returns-in_err-reserve-clause-keeps
 returns-in_err-reserve-clause-keeps g c = record {
-  links = links_go_same _ _ _ _ c.reserve.ensures.items (goes_none _);
+  go = links_go_same _ _ _ _ c.reserve.ensures.items (goes_none _);
   same_limit = refl;
   same_format = refl;
   pushes = pushes_none _ _ _ _ c.from_residual-in_err-reserve.ensures.1 c.reserve.ensures.items;
@@ -57,7 +57,7 @@ returns-in_err-reserve-clause-keeps g c = record {
 
 pub returns-in_err-link-clause-keeps : goal.returns-in_err-link-clause-keeps
 returns-in_err-link-clause-keeps g c = record {
-  links = links_go_same _ _ _ _ c.reserve.ensures.items c.start.ensures.keeps.goes;
+  go = links_go_same _ _ _ _ c.reserve.ensures.items c.start.ensures.keeps.goes;
   same_limit = c.start.ensures.keeps.same_limit;
   same_format = c.start.ensures.keeps.same_format;
   pushes = pushes_none _ _ _ _ c.from_residual-in_err-link.ensures.1 c.reserve.ensures.items;

@@ -63,12 +63,12 @@ returns-in-Failed-clause-went g c =
 pub returns-in_err-take_piece-in-Got-clause-keeps : goal.returns-in_err-take_piece-in-Got-clause-keeps
 returns-in_err-take_piece-in-Got-clause-keeps g c = 
     work_was _ _ _ _ _ _ _ _ _ c.in_err-take_piece-in-Got.field-0.0 c.from_residual.ensures.1
-    (work_then _ _ _ _ _ _ _ _ _ _ _ tt _ (work_link _ _ _ _ _ _ _ tt (link_kept _ _ _ _ _ (goes_heard _ _ _ _ _ c.recv.ensures.call c.recv.ensures.links) refl refl) c.recv.ensures.call.same_files c.requires.able.able) c.in_err-take_piece-in-Got.ensures.keeps)
+    (work_then _ _ _ _ _ _ _ _ _ _ _ _ _ (work_link _ _ _ _ _ _ _ true (link_kept _ _ _ _ _ (goes_heard _ _ _ _ _ c.recv.ensures.call c.recv.ensures.links) refl refl) c.recv.ensures.call.same_files c.requires.able.able) c.in_err-take_piece-in-Got.ensures.keeps)
 
 pub returns-in_ok-take_piece-in-Got-clause-keeps : goal.returns-in_ok-take_piece-in-Got-clause-keeps
 returns-in_ok-take_piece-in-Got-clause-keeps g c = 
     work_ok _ _ _ _ _ _ _ _ _ false
-    (work_then _ _ _ _ _ _ _ _ _ _ _ tt _ (work_link _ _ _ _ _ _ _ tt (link_kept _ _ _ _ _ (goes_heard _ _ _ _ _ c.recv.ensures.call c.recv.ensures.links) refl refl) c.recv.ensures.call.same_files c.requires.able.able) c.in_ok-take_piece-in-Got.ensures.keeps)
+    (work_then _ _ _ _ _ _ _ _ _ _ _ _ _ (work_link _ _ _ _ _ _ _ true (link_kept _ _ _ _ _ (goes_heard _ _ _ _ _ c.recv.ensures.call c.recv.ensures.links) refl refl) c.recv.ensures.call.same_files c.requires.able.able) c.in_ok-take_piece-in-Got.ensures.keeps)
 
 pub returns-in-Idle-clause-keeps : goal.returns-in-Idle-clause-keeps
 returns-in-Idle-clause-keeps g c = 

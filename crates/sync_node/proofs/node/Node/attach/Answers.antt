@@ -73,12 +73,12 @@ returns-in-Ok-clause-answers g c =
 
 pub returns-in-Ok-clause-may : goal.returns-in-Ok-clause-may
 returns-in-Ok-clause-may g c =
-    λ _. attached_may _ c.args.link (session_of c.sessions.result c.args.plan.now c.args.nonce) c.self.inside.links.items _ _ _ _ _ c.requires.dialled (omega (arith, c.requires.next, ap (λ (n : NodeValue). length n.links) c.self.view_is)) c.in-Ok.ensures.keeps.links.goes c.in-Ok.ensures.went
+    λ _. attached_may _ c.args.link (session_of c.sessions.result c.args.plan.now c.args.nonce) c.self.inside.links.items _ _ _ _ _ c.requires.dialled (omega (arith, c.requires.next, ap (λ (n : NodeValue). length n.links) c.self.view_is)) c.in-Ok.ensures.keeps.go.goes c.in-Ok.ensures.went
 
 pub returns-in-Ok-clause-goes : goal.returns-in-Ok-clause-goes
 returns-in-Ok-clause-goes g c =
     goes_call _ _ c.self.inside.first c.self.inside.links.items _ c.self.inside.closed _ _ _ _ c.self.view_is (invariant_of-self g c).1
-    c.in-Ok.ensures.keeps.links c.in-Ok.ensures.keeps.same_limit c.in-Ok.ensures.keeps.same_format
+    c.in-Ok.ensures.keeps.go c.in-Ok.ensures.keeps.same_limit c.in-Ok.ensures.keeps.same_format
 
 pub returns-in-Ok-clause-links : goal.returns-in-Ok-clause-links
 returns-in-Ok-clause-links g c = (
@@ -103,7 +103,7 @@ returns-in-Err-clause-may g c = λ opened. absurd (true≢false _ c.close.ensure
 pub returns-in-Err-clause-goes : goal.returns-in-Err-clause-goes
 returns-in-Err-clause-goes g c =
     goes_call _ _ c.self.inside.first c.self.inside.links.items _ c.self.inside.closed _ _ _ _ c.self.view_is (invariant_of-self-in-Err g c).1
-    c.in-Err.ensures.keeps.links c.in-Err.ensures.keeps.same_limit c.in-Err.ensures.keeps.same_format
+    c.in-Err.ensures.keeps.go c.in-Err.ensures.keeps.same_limit c.in-Err.ensures.keeps.same_format
 
 pub returns-in-Err-clause-links : goal.returns-in-Err-clause-links
 returns-in-Err-clause-links g c = c.in-Err.ensures.keeps.pushes ∙ ap (λ (n : NodeValue). n.links) c.self.view_is

@@ -162,7 +162,7 @@ returns-in-Ok-true-clause-goes g c =
     goes_call _ _ c.self.inside.first c.self.inside.links.items _ c.self.inside.closed _ _ _ _ c.self.view_is (invariant_of-self g c).1
     (links_go_as _ _ _ _ _ _ c.as_mut_slice.ensures.value (kept_same c.self.inside.links.len c.self.inside.links.items c.turn_all.new.links
     (omega (arith, c.as_mut_slice.ensures.len, ap (λ (ls : List Link). length ls) c.as_mut_slice.ensures.value))
-    (omega (arith, c.turn_all.auto.links, ap (λ (ls : List Link). length ls) c.as_mut_slice.ensures.value))) c.in-Ok-true.ensures.keeps.links) c.in-Ok-true.ensures.keeps.store.same_limit c.in-Ok-true.ensures.keeps.store.same_format
+    (omega (arith, c.turn_all.auto.links, ap (λ (ls : List Link). length ls) c.as_mut_slice.ensures.value))) c.in-Ok-true.ensures.keeps.go) c.in-Ok-true.ensures.keeps.store.same_limit c.in-Ok-true.ensures.keeps.store.same_format
 
 pub returns-in-Ok-true-clause-kept : goal.returns-in-Ok-true-clause-kept
 returns-in-Ok-true-clause-kept g c =
@@ -176,7 +176,7 @@ returns-in-Ok-false-clause-goes g c =
     goes_call _ _ c.self.inside.first c.self.inside.links.items _ c.self.inside.closed _ _ _ _ c.self.view_is (invariant_of-self-in-Ok-false g c).1
     (links_go_as _ _ _ _ _ _ c.as_mut_slice.ensures.value (kept_same c.self.inside.links.len c.self.inside.links.items c.turn_all.new.links
     (omega (arith, c.as_mut_slice.ensures.len, ap (λ (ls : List Link). length ls) c.as_mut_slice.ensures.value))
-    (omega (arith, c.turn_all.auto.links, ap (λ (ls : List Link). length ls) c.as_mut_slice.ensures.value))) c.in-Ok-false.ensures.keeps.links) c.in-Ok-false.ensures.keeps.store.same_limit c.in-Ok-false.ensures.keeps.store.same_format
+    (omega (arith, c.turn_all.auto.links, ap (λ (ls : List Link). length ls) c.as_mut_slice.ensures.value))) c.in-Ok-false.ensures.keeps.go) c.in-Ok-false.ensures.keeps.store.same_limit c.in-Ok-false.ensures.keeps.store.same_format
 
 pub returns-in-Ok-false-clause-kept : goal.returns-in-Ok-false-clause-kept
 returns-in-Ok-false-clause-kept g c =
@@ -190,7 +190,7 @@ returns-in-Err-clause-goes g c =
     goes_call _ _ c.self.inside.first c.self.inside.links.items _ c.self.inside.closed _ _ _ _ c.self.view_is (invariant_of-self-in-Err g c).1
     (links_go_as _ _ _ _ _ _ c.as_mut_slice.ensures.value (kept_same c.self.inside.links.len c.self.inside.links.items c.turn_all.new.links
     (omega (arith, c.as_mut_slice.ensures.len, ap (λ (ls : List Link). length ls) c.as_mut_slice.ensures.value))
-    (omega (arith, c.turn_all.auto.links, ap (λ (ls : List Link). length ls) c.as_mut_slice.ensures.value))) c.in-Err.ensures.keeps.links) c.in-Err.ensures.keeps.store.same_limit c.in-Err.ensures.keeps.store.same_format
+    (omega (arith, c.turn_all.auto.links, ap (λ (ls : List Link). length ls) c.as_mut_slice.ensures.value))) c.in-Err.ensures.keeps.go) c.in-Err.ensures.keeps.store.same_limit c.in-Err.ensures.keeps.store.same_format
 
 pub returns-in-Err-clause-kept : goal.returns-in-Err-clause-kept
 returns-in-Err-clause-kept g c =
