@@ -201,5 +201,6 @@ add_did clients batch s s' u o o' ready has ready' = record {
     ready = ready' has.answer.0;
   };
   some = has.answer.2;
+  same_links = has.runs.run.same_links;
   settled = has.answer.3;
 }

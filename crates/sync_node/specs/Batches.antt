@@ -88,11 +88,12 @@ pub record CommitsAndSettles (clients : Meaning) (batch : List Entry) (s s' : St
   pub facts : s'.state.facts ≡ after_batches s.state.facts more
   pub ready : IsReady clients s' o'.files
 
--- it was, and nothing is left to be settled
+-- it was, nothing is left to be settled, and no link was asked
 pub record Added (clients : Meaning) (batch : List Entry) (s s' : StoreValue)
     (o o' : Outside) : Type 0 where
   pub by : CommitsAndSettles clients batch s s' o o'
   pub some : by.more ≢ []
+  pub same_links : o'.links ≡ o.links
   pub settled : IsSettled clients s'.state.facts
 
 pub record AddingFull (clients : Meaning) (batch : List Entry) (s s' : StoreValue)
