@@ -54,11 +54,11 @@ pub returns-in_err-attach-clause-stands : goal.returns-in_err-attach-clause-stan
 returns-in_err-attach-clause-stands g c =
     let l = c.links.invariant in
     let e = c.in_err-attach.ensures in
-    stands_stopped _ _ _ c.attach.new.self (g.H.Disk.tells c.args.host.now) (g.H.Disk.tells c.links.host)
+    stands_stopped (Unit {0}) _ _ c.attach.new.self (g.H.Disk.tells c.args.host.now) (g.H.Disk.tells c.links.host)
     (g.H.Disk.tells c.attach.new.host) l.keeps.goes.later _ c.from_residual.result
     c.in_err-attach.field-0.0 c.from_residual.ensures.1 (e.answers.opened l.still_open) e.may
-    (attach_stops _ _ _ c.links.node c.attach.new.self c.links.host c.attach.new.host _ _
-    c.in_err-attach.field-0.0 (e.stops l.still_open))
+    (attach_stops (Unit {0}) _ _ c.links.node c.attach.new.self c.links.host c.attach.new.host
+    (g.H.Disk.tells c.links.host) (g.H.Disk.tells c.attach.new.host) c.in_err-attach.field-0.0 (e.stops l.still_open))
 
 pub returns-in_err-attach-clause-keeps : goal.returns-in_err-attach-clause-keeps
 returns-in_err-attach-clause-keeps g c =

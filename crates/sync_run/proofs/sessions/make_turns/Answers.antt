@@ -1,5 +1,6 @@
 use Rattle.std.proofs.Common.{◌+◌, true, false, arith, refl, sym, ◌∙◌, inl, inr}
 use Rattle.std.proofs.lemmas.Bool.{le-leb}
+use Rattle.sync_node.specs.declared.node.Turned.{Turned}
 use Rattle.sync_node.specs.Node.{asked_among}
 use Rattle.sync_run.proofs.CourseParts.{CountsStill, few_behind, if_err_was, no_turn_yet, over_asked, still_behind, turn_more, turns_end, turns_stopped}
 use Rattle.sync_run.proofs.StandsLaws.{keeps_none, keeps_then, same_number, stands_stopped}
@@ -51,7 +52,7 @@ pub returns-in_err-turn-clause-stands : goal.returns-in_err-turn-clause-stands
 returns-in_err-turn-clause-stands g c =
     let l = c.turns.invariant in
     let e = c.in_err-turn.ensures in
-    stands_stopped _ _ _ c.turn.new.self (g.H.Disk.tells c.args.host.now) (g.H.Disk.tells c.turns.host)
+    stands_stopped Turned _ _ c.turn.new.self (g.H.Disk.tells c.args.host.now) (g.H.Disk.tells c.turns.host)
     (g.H.Disk.tells c.turn.new.host) l.keeps.goes.later _ c.from_residual.result
     c.in_err-turn.field-0.0 c.from_residual.ensures.1 (e.answers.opened l.still_open) e.may
     (e.stops l.still_open)
