@@ -1,4 +1,3 @@
-pub mod Counted
 pub mod CallLaws
 pub mod EndLaws
 pub mod LiftLaws
@@ -12,6 +11,7 @@ pub mod FailLaws
 pub mod QuietLaws
 pub mod SendLaws
 pub mod FreeSuits
+pub mod HeardLaws
 pub mod PlanLaws
 pub mod SuitLaws
 pub mod ToldLaws

@@ -2,7 +2,7 @@
 -- run, and what went out on each link is a front of its session's output.
 use Rattle.std.proofs.Common.{◌≡◌, ◌⊎◌, ℕ, suc, ◌+◌, ◌≤◌, Bool, false, true, List, [], ◌∷◌, ◌++◌}
 use Rattle.std.proofs.Common.{append-nil, append_assoc, length, refl, sym, ◌∙◌, ap, subst, inl, inr}
-use Rattle.std.proofs.Common.{arith, None, Option, Some, is_some, slice_index_or, Ok}
+use Rattle.std.proofs.Common.{arith, None, Option, Some, slice_index_or, Ok}
 use Rattle.std.specs.Prelude.{slice_get}
 use Rattle.std.specs.Option.{option_map}
 use Rattle.outside.specs.Files.{Two, File, read_files}
@@ -26,27 +26,25 @@ use Rattle.sync_store.specs.Fitting.{FitsFiles}
 use Rattle.sync_store.specs.Ready.{IsReady}
 use Rattle.sync_store.specs.Store.{StoreValue}
 use Rattle.store_commands.specs.Commit.{SettlesAnew}
-use Rattle.sync_course.specs.Acts.{Act, AtFront, Does, Fail, Send, batches_in, commit_acts}
+use Rattle.sync_course.specs.Acts.{Act, AtFront, batches_in, commit_acts}
 use Rattle.sync_course.specs.Acts.{event_of, events_of, next_bytes, sends_on}
-use Rattle.sync_course.specs.Events.{Break, Event, Pass, TellsEvents, batches_of, heard_after}
+use Rattle.sync_course.specs.Events.{Pass, TellsEvents, heard_after}
 use Rattle.sync_course.specs.Events.{heard_by}
-use Rattle.sync_course.specs.Free.{Free, FreeStep, first_free, forget, owing_free}
-use Rattle.sync_course.specs.Owing.{ActStep, Owing, paid}
+use Rattle.sync_course.specs.Free.{Free, forget, owing_free}
+use Rattle.sync_course.specs.Owing.{Owing, paid}
 use Rattle.sync_course.specs.Paths.{Path}
 use Rattle.sync_course.specs.Story.{AllSuitNode, FreeActs, IsOfCourse, MomentStands, begun_by}
 use Rattle.sync_course.specs.Story.{heard_at}
 use Rattle.sync_course.specs.Turns.{Attaches, Between, Ended, Greets, Place, RunStep, Settles}
 use Rattle.sync_course.specs.Turns.{Stage, Terms, Works, first_place}
 use Rattle.sync_course.proofs.ActLaws.{batches_in-append}
-use Rattle.sync_course.proofs.FreeLaws.{run_acts_are_free}
 use Rattle.sync_course.proofs.PathLaws.{path_then}
 use Rattle.sync_course.proofs.PlanLaws.{BegunFirst, NonePlain, path_plans}
 use Rattle.sync_course.proofs.RunLaws.{get_front}
-use Rattle.sync_course.proofs.ToldLaws.{batches_of-append}
 use Rattle.sync_node.specs.declared.link.Link.{Link}
 use Rattle.sync_node.specs.Courses.{FitsWith, ReadsAs}
 use Rattle.sync_node.specs.Node.{NodeValue}
-use Rattle.sync_node.specs.Did.{ComesAtFronts, HasSentBy, SinceThen}
+use Rattle.sync_node.specs.Did.{ComesAtFronts, HasSentBy}
 use Rattle.sync_node.specs.Going.{LetsNothingFall}
 use Rattle.sync_node.specs.declared.fault.NodeFault.{NodeFault}
 use Rattle.sync_node.specs.declared.fault.NodeFault.TheVariants as node
@@ -60,9 +58,12 @@ use Rattle.sync_run.specs.declared.run.Limits.{Limits}
 use Rattle.sync_run.specs.Courses.{terms_at}
 use Rattle.sync_run.specs.Parts.{RunsSessions, StopsFrom, StopsRun, before_sessions, sessions_from}
 use Rattle.sync_run.specs.SafeRuns.{AreUnused, RunsSafe}
+use Rattle.sync_node.proofs.EventLaws.{EventPath, as_events}
 use Rattle.sync_run.proofs.HeardLaws.{path_told}
-use Rattle.sync_run.proofs.SafeBegin.{all_suit_append, all_suit_heard, safe_settled}
-use Rattle.sync_run.proofs.SafeRunning.{settles_only, unused_disk}
+use Rattle.sync_run.proofs.SafeBegin.{all_suit_append, all_suit_heard, safe_settled, unused_disk}
+use Rattle.sync_run.proofs.SafeRunning.{settles_only}
+use Rattle.sync_run.proofs.SentActs.{run_free}
+use Rattle.sync_run.proofs.TellLaws.{told_back}
 
 -- the law of the moments in the middle of a node's acts
 abbrev pub MomentsStand : Type 0
@@ -71,57 +72,6 @@ MomentsStand =
     → Legal clients j
     → FreeActs clients j acts to → AtFront clients acts j (λ link. []) m
     → MomentStands clients j (begun_by (batches_in acts)) (heard_at to.at) m
-
--- ---- acts as events
-
--- a path of events with the batches of some others, and with what these tell of the links
-pub record EventsAs (clients : Meaning) (terms : Terms) (p q : Place) (fs : List Event) : Type
-    0 where
-  pub events : List Event
-  pub path : Path (RunStep clients terms) p events q
-  pub same : batches_of events ≡ batches_of fs
-  pub heard : (h : List HeardOn) → heard_after events h ≡ heard_after fs h
-
-module _ (clients : Meaning) (terms : Terms) where
-  event_more : (p m q : Place) (e : Event) (fs : List Event) → RunStep clients terms p e m
-      → EventsAs clients terms m q fs → EventsAs clients terms p q (e ∷ fs)
-  event_more p m q e fs step rest = record {
-    events = e ∷ rest.events;
-    path = (m, step, rest.path);
-    same =
-        batches_of-append (e ∷ []) rest.events
-        ∙ ap (λ (l : Journal). batches_of (e ∷ []) ++ l) rest.same
-        ∙ sym (batches_of-append (e ∷ []) fs);
-    heard = λ h. rest.heard (heard_by e h);
-  }
-
-  act_more : (p m : Owing Place) (q : Place) (a : Act) (fs : List Event)
-      → RunActs clients terms p a m → EventsAs clients terms m.at q fs
-      → EventsAs clients terms p.at q (events_of (a ∷ []) ++ fs)
-  act_more p m q (Does e) fs step rest = event_more p.at m.at q e fs step.1 rest
-  act_more p m q (Send n bytes) fs step rest = elim step [
-    | inl all ↦ event_more p.at m.at q Pass fs all.1 rest
-    | inr some ↦ record {
-      events = rest.events;
-      path =
-          subst (λ (x : Place). Path (RunStep clients terms) x rest.events q) some.stays rest.path;
-      same = rest.same;
-      heard = rest.heard;
-    }
-  ]
-  act_more p m q (Fail n bytes count) fs step rest =
-      event_more p.at m.at q (Break n) fs step.1 rest
-
-  acts_tell : (p q : Owing Place) (acts : List Act) → Path (RunActs clients terms) p acts q
-      → EventsAs clients terms p.at q.at (events_of acts)
-  acts_tell p q [] path = record {
-    events = [];
-    path = ap (λ (x : Owing Place). x.at) path;
-    same = refl;
-    heard = λ h. refl;
-  }
-  acts_tell p q (a ∷ acts) path =
-      act_more p path.0 q.at a (events_of acts) path.1 (acts_tell path.0 q acts path.2)
 
 -- ---- which batches
 
@@ -236,22 +186,25 @@ module _ (clients : Meaning) (terms : Terms) (sessions : List Session) (f : Fact
   abbrev before_at : Place
   before_at = before_sessions sessions f
 
-  ways : EventsAs clients terms before_at to.at (events_of acts)
-  ways = acts_tell clients terms (paid before_at) to acts path
+  -- the events of the acts, but for what is told of nothing
+  ways : EventPath (RunStep clients terms) before_at to.at (events_of acts)
+  ways =
+      as_events clients (λ (p : Place). p.facts) terms.first (RunStep clients terms) (paid before_at) to
+      acts path
 
   from_first : Path (RunStep clients terms) (first_place sessions f) (Pass ∷ ways.events) to.at
   from_first = (before_at, (settled, refl), ways.path)
 
   none_plain : NonePlain (batches_in acts)
   none_plain =
-      subst NonePlain ways.same (path_plans clients terms sessions f to.at (Pass ∷ ways.events)
+      subst NonePlain ways.thins.batches (path_plans clients terms sessions f to.at (Pass ∷ ways.events)
       from_first).none_plain
 
   -- the sessions that began are the first of those given
   plans_front : IsFront (begun_by (batches_in acts)) sessions
   plans_front =
       begun_first sessions (batches_in acts) to.at.stage
-      (subst (λ (bs : Journal). BegunFirst sessions bs to.at.stage) ways.same
+      (subst (λ (bs : Journal). BegunFirst sessions bs to.at.stage) ways.thins.batches
       (path_plans clients terms sessions f to.at (Pass ∷ ways.events) from_first).begun)
 
 module _ (stand : MomentsStand) (fronts : FrontsHaveFronts) (clients : Meaning)
@@ -263,14 +216,6 @@ module _ (stand : MomentsStand) (fronts : FrontsHaveFronts) (clients : Meaning)
   abbrev plans : List Session
   plans = begun_by (batches_in acts)
 
-  free_acts : (j : Journal) → facts j ≡ f → FreeActs clients j acts (owing_free to)
-  free_acts j are =
-      subst (λ (g : Facts). Path (ActStep (λ (p : Free). p.facts) g.begun
-      (FreeStep clients g.begun)) (paid (first_free g)) acts (owing_free to)) (sym are)
-      (subst (λ (k : ℕ). Path (ActStep (λ (p : Free). p.facts) k (FreeStep clients k)) (paid
-      (first_free f)) acts (owing_free to)) is_first
-      (run_acts_are_free clients terms (paid (before_sessions sessions f)) to acts path))
-
   covers : (j : Journal) → Legal clients j → facts j ≡ f
       → SuitsRun clients b.journal b.first plans heard j → (m : Moment)
       → (at : AtFront clients acts j (λ link. []) m)
@@ -278,7 +223,7 @@ module _ (stand : MomentsStand) (fronts : FrontsHaveFronts) (clients : Meaning)
       (j ++ batches_in at.before)
   covers j legal are run m at =
       let st : MomentStands clients j plans (heard_at (forget to.at)) m =
-      stand clients j acts (owing_free to) m legal (free_acts j are) at in
+      stand clients j acts (owing_free to) m legal (run_free clients terms sessions f is_first j are to acts path) at in
       let both : journal (j ++ st.more) ≡ journal (j ++ batches_in at.before) =
       sym st.stands_for ∙ at.stands_for in
       let whole : j ++ st.more ≡ j ++ batches_in at.before = cc in
@@ -332,26 +277,8 @@ pub record DidOnWay (clients : Meaning) (acts : List Act) (next : Journal) (s : 
       → ReadsAs clients o'.files (j ++ batches_in acts)
   pub moments : ComesAtFronts clients (acts ++ commit_acts next) s o o'
 
-some_of : {A : Type 0} (a b : Option A) (x : A) → is_some b ≡ is_some a → b ≡ Some x
-    → (y : A) × (a ≡ Some y)
-some_of None None x same told = cc
-some_of None (Some b) x same told = cc
-some_of (Some a) b x same told = (a, refl)
-
 told_before : (o o' : Outside) → LetsNothingFall o o' → TellsAll o' → TellsAll o
-told_before o o' goes told =
-    let files = some_of o.files o'.files told.two goes.same_files told.files_are in
-    let links = some_of o.links.told o'.links.told told.links goes.links.same_told told.links_are in
-    let heard =
-    some_of o.links.heard o'.links.heard told.heard goes.links.same_heard told.heard_are in
-    record {
-      two = files.0;
-      files_are = files.1;
-      links = links.0;
-      links_are = links.1;
-      heard = heard.0;
-      heard_are = heard.1;
-    }
+told_before o o' goes = told_back o o' goes.same_files goes.links
 
 module _ (stand : MomentsStand) (fronts : FrontsHaveFronts) (clients : Meaning)
     (b : Begin) (terms : Terms) (sessions : List Session) (s : StoreValue) (o o' : Outside)
@@ -369,7 +296,7 @@ module _ (stand : MomentsStand) (fronts : FrontsHaveFronts) (clients : Meaning)
   began = begun_by (batches_in (acts ++ commit_acts next))
 
   silent : TellsAll o → (link : ℕ) → heard_on o.links link ≡ []
-  silent told link = ap heard_bytes ((unused link).nothing_heard told)
+  silent told link = ap heard_bytes (unused.nothing_heard told link)
 
   none_sent : (told : TellsAll o) (j : Journal) (m : Moment)
       → AtFront clients all j (sent_on o.links) m
@@ -384,7 +311,7 @@ module _ (stand : MomentsStand) (fronts : FrontsHaveFronts) (clients : Meaning)
     has_sent = λ link.
         at.has_sent link
         ∙ ap (λ (l : List ℕ). l ++ (sends_on link at.before ++ at.part link))
-        ((unused link).nothing_sent told);
+        (unused.nothing_sent told link);
   }
 
   wide : TellsAll o → (m : Moment) → IsEarly b m ⊎ IsCovered clients b [] (heard_on o.links) m
@@ -449,7 +376,7 @@ module _ (stand : MomentsStand) (fronts : FrontsHaveFronts) (clients : Meaning)
           begun = λ link. record { rest = next_bytes link (commit_acts next); whole = refl };
           has_sent = λ link.
               did.sent told link
-              ∙ ap (λ (l : List ℕ). l ++ sends_on link acts) ((unused link).nothing_sent told)
+              ∙ ap (λ (l : List ℕ). l ++ sends_on link acts) (unused.nothing_sent told link)
               ∙ sym (append-nil (sends_on link acts));
         }
 
@@ -524,11 +451,10 @@ module _ (clients : Meaning) (terms : Terms) (sessions : List Session) (s : Stor
   hears_told : TellsAll o → (link : ℕ) → heard_on o'.links link ≡ heard_at (forget to.at) link
   hears_told told link =
       let way =
-      acts_tell clients terms (paid (before_sessions sessions s.state.facts)) to
-      (acts ++ commit_acts next) path in
+      ways clients terms sessions s.state.facts (acts ++ commit_acts next) to settled path in
       let h : List HeardOn = told.heard in
       let behind : heard_after way.events h ≡ heard_after (events_of acts) h =
-      way.heard h ∙ no_hear acts next h in
+      sym (way.thins.heard h) ∙ no_hear acts next h in
       let are : o'.links.heard ≡ Some (heard_after (Pass ∷ way.events) h) =
       tells.heard ∙ ap (option_map (heard_after (events_of acts))) told.heard_are
       ∙ ap (λ (x : List HeardOn). Some x) (sym behind) in
@@ -537,7 +463,7 @@ module _ (clients : Meaning) (terms : Terms) (sessions : List Session) (s : Stor
       ∙ path_told clients terms sessions s.state.facts (Pass ∷ way.events) to.at h
       (before_sessions sessions s.state.facts, (settled, refl), way.path) (omega (arith, few, long))
       (λ i. subst (λ (x : Option (List HeardOn)). heard_bytes (answers_at x i) ≡ []) told.heard_are
-      (ap heard_bytes ((unused i).nothing_heard told))) link
+      (ap heard_bytes (unused.nothing_heard told i))) link
 
 -- ---- safe by where a run led or stopped
 
@@ -674,7 +600,7 @@ module _ (stand : MomentsStand) (fronts : FrontsHaveFronts) (clients : Meaning)
         safe = λ b begins safe.
             began.safe b (same ∙ begins)
             (safe_settled clients b [] s s1 o o1 settles.more ready.still_open run settles.comes
-            (λ told link. (unused link).nothing_sent told) safe);
+            unused.nothing_sent safe);
       }
 
   room : length runs ≤ o1.links.dialled
@@ -692,26 +618,18 @@ module _ (stand : MomentsStand) (fronts : FrontsHaveFronts) (clients : Meaning)
   ]
 
   pub over_safe : (links' : List Link) (s2 : StoreValue) (over : Bool)
-      → RunsSessions clients limits n.store.state.facts.begun
-      (sessions_from n.store.state.facts.begun links) links' n.store s2 o1 o2 over
-      → RunsSafe clients links s o o2
+      → RunsSessions clients limits links links' n.store s2 o1 o2 over → RunsSafe clients links s o o2
   over_safe links' s2 over went =
-      let ran : RunsSessions clients limits s1.state.facts.begun runs links' s1 s2 o1 o2 over =
-      subst (λ (t : StoreValue). RunsSessions clients limits t.state.facts.begun (sessions_from
-      t.state.facts.begun links) links' t s2 o1 o2 over) made went in
+      let ran = subst (λ (t : StoreValue). RunsSessions clients limits links links' t s2 o1 o2 over) made went in
       by_files (λ two told.
       went_safe stand fronts clients (terms_at limits s1.state.facts.begun) runs s1 o1 o2
       settles.answer.0 settles.answer.1 refl
       room (unused_disk o o1 run unused) _ s2 (ran.ends two told).went)
 
   pub broken_safe : (s2 : StoreValue) (x : NodeFault)
-      → StopsRun clients limits n.store.state.facts.begun
-      (sessions_from n.store.state.facts.begun links) n.store s2 o1 o2 x
-      → RunsSafe clients links s o o2
+      → StopsRun clients limits links n.store s2 o1 o2 x → RunsSafe clients links s o o2
   broken_safe s2 x stopped =
-      let ran : StopsRun clients limits s1.state.facts.begun runs s1 s2 o1 o2 x =
-      subst (λ (t : StoreValue). StopsRun clients limits t.state.facts.begun (sessions_from
-      t.state.facts.begun links) t s2 o1 o2 x) made stopped in
+      let ran = subst (λ (t : StoreValue). StopsRun clients limits links t s2 o1 o2 x) made stopped in
       by_files (λ two told.
       stopped_safe stand fronts clients (terms_at limits s1.state.facts.begun) runs s1 o1 o2
       settles.answer.0 settles.answer.1 refl

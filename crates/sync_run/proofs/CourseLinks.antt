@@ -1,5 +1,5 @@
 -- What the command comes to, by its load, its tests, and the run on its links.
-use Rattle.std.proofs.Common.{◌≡◌, ◌+◌, ◌<◌, ◌≤◌, Bool, true, false, List, [], ◌++◌, length, append-nil, le-ltb, lt-ltb, refl, sym, ◌∙◌, ap, subst, arith, inl, inr, Option, None, Some, Result, Ok, Err}
+use Rattle.std.proofs.Common.{◌≡◌, ◌+◌, ◌≤◌, Bool, true, false, List, [], ◌++◌, append-nil, refl, sym, ◌∙◌, ap, subst, arith, inl, inr, Option, None, Some, Result, Ok, Err}
 use Rattle.std.specs.Prelude.{IsErrAnd, if◌then◌else◌}
 use Rattle.std.specs.Option.{option_map}
 use Rattle.outside.specs.Disk.{RelatesTold}
@@ -11,7 +11,6 @@ use Rattle.outside.proofs.CallSteps.{becomes_told}
 use Rattle.outside.proofs.RunLaws.{grow_same}
 use Rattle.outside.specs.Runs.{TellsAll}
 use Rattle.frame_journal.specs.Gates.{ReadsSame}
-use Rattle.sync_rules.specs.declared.limits.TheConstants.{MAX_SESSIONS}
 use Rattle.sync_rules.specs.declared.states.Refused.{Refused}
 use Rattle.sync_rules.specs.declared.states.Refused.TheVariants as refused
 use Rattle.sync_rules.specs.Clients.{Meaning}
@@ -141,17 +140,6 @@ contacts_fail f words (Ok u) why is tests = absurd is
 contacts_fail f words (Err e) why is tests =
     ap (λ (b : Bool). if b then Some refused.UnknownContact else (if are_too_many f words then Some refused.TooManySessions else None)) tests.1
     ∙ ap (λ (w : Refused). Some w) (sym tests.0 ∙ sym is)
-
--- all are known, and there would be too many sessions, or not
-pub too_many_fail : (f : Facts) (words : List LinkWords) → is_unknown f words ≡ false → MAX_SESSIONS < f.begun + length words → run_test f words ≡ Some refused.TooManySessions
-too_many_fail f words known many =
-    ap (λ (b : Bool). if b then Some refused.UnknownContact else (if are_too_many f words then Some refused.TooManySessions else None)) known
-    ∙ ap (λ (b : Bool). if b then Some refused.TooManySessions else None) (lt-ltb MAX_SESSIONS (f.begun + length words) many)
-
-pub tests_hold : (f : Facts) (words : List LinkWords) → is_unknown f words ≡ false → f.begun + length words ≤ MAX_SESSIONS → run_test f words ≡ None
-tests_hold f words known few =
-    ap (λ (b : Bool). if b then Some refused.UnknownContact else (if are_too_many f words then Some refused.TooManySessions else None)) known
-    ∙ ap (λ (b : Bool). if b then Some refused.TooManySessions else None) (le-ltb MAX_SESSIONS (f.begun + length words) few)
 
 -- ---- by what the files stood for
 

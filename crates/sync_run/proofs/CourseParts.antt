@@ -1,8 +1,9 @@
 -- The sessions of a run that begin one after another, and its turns.
-use Rattle.std.proofs.Common.{◌≡◌, ◌⊎◌, ℕ, zero, suc, ◌+◌, ◌<◌, ◌≤◌, Bool, true, false, cond, ◌||◌, List, [], ◌∷◌, drop, get_or, length, refl, sym, ◌∙◌, ap, subst, inl, inr, arith, Option, None, Some, is_some, Result, Ok, Err}
-use Rattle.std.specs.Prelude.{nat_le, nat_lt, not, slice_get, IfErr, IsErrAnd, IsErrOf}
+use Rattle.std.proofs.Common.{◌≡◌, ◌⊎◌, ℕ, zero, suc, ◌+◌, ◌<◌, ◌≤◌, Bool, true, false, cond, ◌||◌, List, [], ◌∷◌, drop, get_or, length, refl, sym, ◌∙◌, ap, subst, inl, inr, arith, Some, is_some, Result, Ok, Err}
+use Rattle.std.specs.Prelude.{nat_le, nat_lt, not, slice_get, IfErr, IsErrAnd}
 use Rattle.std.proofs.lemmas.Bool.{lt-leb, lt-ltb}
 use Rattle.std.proofs.lemmas.List.{drop_all}
+use Rattle.outside.specs.Files.{Two, File}
 use Rattle.outside.specs.Outside.{Outside}
 use Rattle.sync_rules.specs.declared.entries.Session.{Session}
 use Rattle.sync_rules.specs.Clients.{Meaning}
@@ -13,36 +14,27 @@ use Rattle.sync_course.specs.Events.{Pass}
 use Rattle.sync_course.specs.LinkTurns.{Asks}
 use Rattle.sync_course.specs.Owing.{Owing, paid}
 use Rattle.sync_course.specs.Links as course_links
-use Rattle.sync_course.proofs.ToldLaws.{runs_then, told_pass}
+use Rattle.sync_course.proofs.ToldLaws.{told_pass}
 use Rattle.sync_course.specs.Turns.{Attaches, Between, Ended, Place, RunStep, Stage, Terms, Works, is_at_end, is_over, over_by, some_going}
 use Rattle.sync_node.specs.declared.link.Link.{Link}
 use Rattle.sync_course.specs.declared.ends.LinkEnd.{LinkEnd}
 use Rattle.sync_course.specs.declared.ends.LinkEnd.TheVariants as link_end
 use Rattle.sync_node.specs.declared.node.Turned.{Turned}
 use Rattle.sync_node.specs.declared.node.Turned.TheVariants as turned
-use Rattle.sync_node.specs.Courses.{AllRead, FitsWith, RunBreaks, is_still, links_from, place_at}
+use Rattle.sync_node.specs.Courses.{AllRead, RunBreaks, is_still, links_from, place_at}
 use Rattle.sync_node.specs.OnRuns.{BeginStopped, BeginWent, ByFault, RoundStopped, RoundWent, RunActs, RunStopped, RunWent}
 use Rattle.sync_node.specs.declared.fault.NodeFault.{NodeFault}
 use Rattle.sync_node.specs.declared.fault.NodeFault.TheVariants as node_fault
-use Rattle.sync_node.proofs.NodeRuns.{run_halts, run_went}
+use Rattle.sync_node.proofs.NodeRuns.{run_halts}
 use Rattle.sync_node.proofs.PrimLaws.{did_pass}
 use Rattle.sync_node.proofs.WentLaws.{stopped_then, went_none, went_one, went_then}
-use Rattle.sync_node.specs.Fulls.{AllSentOn, FullBeginning, FullTurn, RunFullSent}
-use Rattle.sync_node.specs.Joined.{Joined}
-use Rattle.sync_node.proofs.SentLaws.{joined_sent}
-use Rattle.sync_node.specs.Node.{AreAttached, IsNode, NodeValue, asked_among, is_going}
+use Rattle.sync_node.specs.Node.{IsNode, NodeValue, asked_among, is_going}
 use Rattle.sync_node.specs.Plans.{session_of}
 use Rattle.sync_run.specs.declared.dialling.Dialled.{Dialled}
 use Rattle.sync_run.specs.declared.run.Limits.{Limits}
 use Rattle.sync_run.specs.Courses.{terms_at}
-use Rattle.sync_run.specs.Parts.{EndsFrom, FullRun, FullSessions, FullTurns, MakesTurns, RunsSessions, SessionsBegin, SessionsSoFar, SessionsStopped, StopsFrom, StopsRun, TurnsSoFar, TurnsStopped, before_sessions, before_turns, sessions_from, silent}
-
--- a failure that goes on by `?` is the one that it was
-pub err_same : {T U E : Type 0} (r : Result T E) (x y : E) → IsErrAnd r (λ e. e ≡ x) → IsErrOf r y → IsErrOf {T = U} {E = E} (Err x) y
-err_same (Ok t) x y is same = absurd is
-err_same (Err e) x y is same =
-    let one : e ≡ y = cc in
-    ap (λ z. Err z) (sym is ∙ one)
+use Rattle.sync_run.specs.Parts.{EndsFrom, MakesTurns, RunsSessions, SessionsBegin, SessionsStopped, StopsFrom, StopsRun, TurnsStopped, before_links, before_sessions, before_turns, sessions_from, silent}
+use Rattle.sync_run.proofs.TellLaws.{told_too}
 
 -- what is said of the error of a call, of that which goes on by `?`
 pub if_err_was : {T E : Type 0} (r : Result T E) (x : E) (P : E → Type 0) → IsErrAnd r (λ y. y ≡ x) → P x → IfErr r P
@@ -92,12 +84,6 @@ stops_halted clients terms p s s' o o' x stops =
     by_fault_any (λ e. (links : List course_links.Link) × RunStopped clients terms p links s s' o o' e) (RunBreaks clients terms p s o o')
     (λ e stopped. (run_halts clients terms p stopped.0 s s' o o' e stopped.1).breaks) x stops
 
--- files that are told on one side of a call are told on the other
-pub told_too : {A : Type 0} (a b : Option A) (x : A) → is_some b ≡ is_some a → a ≡ Some x → (y : A) × (b ≡ Some y)
-told_too None b x same is = cc
-told_too (Some a) None x same is = cc
-told_too (Some a) (Some b) x same is = (b, refl)
-
 -- ---- the sessions begin
 
 -- a node without links
@@ -112,70 +98,24 @@ is_node_without n none number =
       };
     }
 
-pub no_session_yet : (clients : Meaning) (sessions : List Session) (links : List Link) (s : StoreValue) (o : Outside) → links ≡ []
-    → SessionsSoFar clients sessions sessions links s s o o
+-- of these sessions, those before the ones that are left began
+pub record SessionsSoFar (clients : Meaning) (sessions left : List Session) (links : List Link)
+    (s s' : StoreValue) (o o' : Outside) : Type 0 where
+  pub same_told : is_some o'.files ≡ is_some o.files
+  pub has_read : AllRead silent links
+  pub went : (two : Two File) → o.files ≡ Some two → (terms : Terms) → terms.first ≡ s.state.facts.begun
+      → RunWent clients terms (before_sessions sessions s.state.facts)
+      (place_at (Attaches left) links silent false 0 0 s'.state.facts) s s' o o'
+
+pub no_session_yet : (clients : Meaning) (sessions : List Session) (links : List Link)
+    (s : StoreValue) (o : Outside) → links ≡ [] → SessionsSoFar clients sessions sessions links s s o o
 no_session_yet clients sessions links s o none = record {
   same_told = refl;
   has_read = subst (AllRead silent) (sym none) (λ i l at. cc);
   went = λ two files terms same.
-      subst (λ (ls : List Link). RunWent clients terms (before_sessions sessions s.state.facts) (place_at (Attaches sessions) ls silent false 0 0 s.state.facts) s s o o)
-      (sym none)
+      subst (λ (ls : List Link). RunWent clients terms (before_sessions sessions s.state.facts)
+      (place_at (Attaches sessions) ls silent false 0 0 s.state.facts) s s o o) (sym none)
       (went_none clients (RunActs clients terms) (paid (before_sessions sessions s.state.facts)) s o);
-}
-
-module _ (clients : Meaning) (sessions left : List Session) (session : Session) (links : List Link) (s0 s : StoreValue) (o0 o : Outside)
-    (so : SessionsSoFar clients sessions (session ∷ left) links s0 s o0 o) where
-  pub session_more : (links' : List Link) (s' : StoreValue) (o' : Outside) → is_some o'.files ≡ is_some o.files
-      → session.number ≡ s0.state.facts.begun + length links → BeginWent clients session links links' s s' o o'
-      → SessionsSoFar clients sessions left links' s0 s' o0 o'
-  session_more links' s' o' told numbered begins = record {
-    same_told = told ∙ so.same_told;
-    has_read = begins.has_read silent refl so.has_read;
-    went = λ two files terms same.
-        let there = told_too o0.files o.files two so.same_told files in
-        went_then clients (RunActs clients terms) (paid (before_sessions sessions s0.state.facts))
-        (paid (place_at (Attaches (session ∷ left)) links silent false 0 0 s.state.facts)) (paid (place_at (Attaches left) links' silent false 0 0 s'.state.facts))
-        s0 s s' o0 o o' (so.went two files terms same)
-        (begins.went there.0 there.1 terms left silent false 0 0 refl (numbered ∙ ap (λ (n : ℕ). n + length links) (sym same)));
-  }
-
-  pub session_stopped : (links' : List Link) (s' : StoreValue) (o' : Outside) (x : NodeFault)
-      → ByFault (BeginStopped clients session links links' s s' o o') x → SessionsStopped clients sessions s0 s' o0 o' x
-  session_stopped links' s' o' x stopped = record {
-    stops = λ two files terms same.
-        let here : Place = place_at (Attaches (session ∷ left)) links silent false 0 0 s.state.facts in
-        stops_then clients terms (before_sessions sessions s0.state.facts) here s0 s s' o0 o o' x (so.went two files terms same)
-        (by_fault_map (BeginStopped clients session links links' s s' o o')
-        (λ e. (ls : List course_links.Link) × RunStopped clients terms here ls s s' o o' e)
-        (λ e begins. (links_from 0 links' silent, begins.stops terms left silent false 0 0)) x stopped);
-  }
-
--- a batch would have passed the limit, behind a run of calls
-pub full_then : (clients : Meaning) (terms : Terms) (p q : Place) (Given Given' : Type 0) (s0 s s' : StoreValue) (o0 o o' : Outside) → RunWent clients terms p q s0 s o0 o → (Given → Given')
-    → RunFullSent clients terms q Given' s s' o o' → RunFullSent clients terms p Given s0 s' o0 o'
-full_then clients terms p q Given Given' s0 s s' o0 o o' went leads second = record {
-  full = record {
-    to = second.full.to;
-    runs =
-        runs_then (RunStep clients terms) (FitsWith clients s0 o0.files) (FitsWith clients s o.files) (FitsWith clients s' o'.files) p q second.full.to o0 o o'
-        (run_went clients terms p q s0 s o0 o went) second.full.runs;
-    batch = second.full.batch;
-    next = second.full.next;
-    steps = second.full.steps;
-    over = second.full.over;
-  };
-  sent = λ given. second.sent (leads given);
-}
-
-pub sessions_all : (clients : Meaning) (sessions : List Session) (links : List Link) (s0 s : StoreValue) (o0 o : Outside)
-    → SessionsSoFar clients sessions [] links s0 s o0 o → SessionsBegin clients sessions links s0 s o0 o
-sessions_all clients sessions links s0 s o0 o so = record {
-  has_read = so.has_read;
-  went = λ two files terms same.
-      let place : Place = place_at (Attaches []) links silent false 0 0 s.state.facts in
-      let next : Place = before_turns links silent s.state.facts in
-      went_then clients (RunActs clients terms) (paid (before_sessions sessions s0.state.facts)) (paid place) (paid next) s0 s s o0 o o
-      (so.went two files terms same) (passes clients terms place next s o refl);
 }
 
 -- the sessions left, of which that of this link is the next
@@ -189,56 +129,83 @@ sessions_next first (suc i) (x ∷ links) d within is =
     subst (λ (k : ℕ). sessions_from k (drop i links) ≡ session_of k d.plan d.nonce ∷ sessions_from (suc k) (drop (suc i) links)) (sym same)
     (sessions_next (suc first) i links d less is)
 
-module _ (clients : Meaning) (sessions : List Session) (links : List Dialled) (first i : ℕ) (d : Dialled) (nodes : List Link) (s0 s : StoreValue) (o0 o : Outside)
-    (at : s.state.facts.begun ≡ first + i) (within : i < length links) (is : d ≡ get_or links i d) (named : first ≡ s0.state.facts.begun) (many : length nodes ≡ i)
-    (so : SessionsSoFar clients sessions (sessions_from s.state.facts.begun (drop i links)) nodes s0 s o0 o) where
-  so_next : SessionsSoFar clients sessions (session_of s.state.facts.begun d.plan d.nonce ∷ sessions_from (suc s.state.facts.begun) (drop (i + 1) links)) nodes s0 s o0 o
-  so_next =
-      let next : sessions_from s.state.facts.begun (drop i links) ≡ session_of s.state.facts.begun d.plan d.nonce ∷ sessions_from (suc s.state.facts.begun) (drop (i + 1) links) =
-      let one : suc i ≡ i + 1 = omega arith in
-      subst (λ (n : ℕ). sessions_from s.state.facts.begun (drop i links) ≡ session_of s.state.facts.begun d.plan d.nonce ∷ sessions_from (suc s.state.facts.begun) (drop n links)) one
-      (subst (λ (k : ℕ). sessions_from k (drop i links) ≡ session_of k d.plan d.nonce ∷ sessions_from (suc k) (drop (suc i) links)) (sym at)
-      (sessions_next first i links d within is)) in
-      subst (λ (left : List Session). SessionsSoFar clients sessions left nodes s0 s o0 o) next so
+-- the loop over the links, at the next one
+module _ (clients : Meaning) (links : List Dialled) (i : ℕ) (d : Dialled) (nodes : List Link)
+    (s0 s : StoreValue) (o0 o : Outside) (at : s.state.facts.begun ≡ s0.state.facts.begun + i)
+    (within : i < length links) (is : d ≡ get_or links i d) (many : length nodes ≡ i)
+    (so : SessionsSoFar clients (sessions_from s0.state.facts.begun links)
+    (sessions_from s.state.facts.begun (drop i links)) nodes s0 s o0 o) where
+  abbrev session : Session
+  session = session_of s.state.facts.begun d.plan d.nonce
 
-  pub attached_more : (nodes' : List Link) (s' : StoreValue) (o' : Outside) → s'.state.facts.begun ≡ s.state.facts.begun + 1 → is_some o'.files ≡ is_some o.files
-      → BeginWent clients (session_of s.state.facts.begun d.plan d.nonce) nodes nodes' s s' o o'
-      → SessionsSoFar clients sessions (sessions_from s'.state.facts.begun (drop (i + 1) links)) nodes' s0 s' o0 o'
+  abbrev left : List Session
+  left = sessions_from (suc s.state.facts.begun) (drop (i + 1) links)
+
+  so_next : SessionsSoFar clients (sessions_from s0.state.facts.begun links) (session ∷ left) nodes s0 s o0 o
+  so_next =
+      let one : suc i ≡ i + 1 = omega arith in
+      let next : sessions_from s.state.facts.begun (drop i links) ≡ session ∷ left =
+      subst (λ (n : ℕ). sessions_from s.state.facts.begun (drop i links)
+      ≡ session ∷ sessions_from (suc s.state.facts.begun) (drop n links)) one
+      (subst (λ (k : ℕ). sessions_from k (drop i links)
+      ≡ session_of k d.plan d.nonce ∷ sessions_from (suc k) (drop (suc i) links)) (sym at)
+      (sessions_next s0.state.facts.begun i links d within is)) in
+      subst (λ (more : List Session). SessionsSoFar clients (sessions_from s0.state.facts.begun links)
+      more nodes s0 s o0 o) next so
+
+  pub attached_more : (nodes' : List Link) (s' : StoreValue) (o' : Outside)
+      → s'.state.facts.begun ≡ s.state.facts.begun + 1 → is_some o'.files ≡ is_some o.files
+      → BeginWent clients session nodes nodes' s s' o o'
+      → SessionsSoFar clients (sessions_from s0.state.facts.begun links)
+      (sessions_from s'.state.facts.begun (drop (i + 1) links)) nodes' s0 s' o0 o'
   attached_more nodes' s' o' more told begins =
       let one : suc s.state.facts.begun ≡ s'.state.facts.begun = omega (arith, more) in
-      let numbered : s.state.facts.begun ≡ s0.state.facts.begun + length nodes = omega (arith, at, named, many) in
-      subst (λ (k : ℕ). SessionsSoFar clients sessions (sessions_from k (drop (i + 1) links)) nodes' s0 s' o0 o') one
-      (session_more clients sessions (sessions_from (suc s.state.facts.begun) (drop (i + 1) links)) (session_of s.state.facts.begun d.plan d.nonce) nodes s0 s o0 o so_next
-      nodes' s' o' told numbered begins)
-
-  pub attaching_full : (number : ℕ) (nodes0 : List Link) (s' : StoreValue) (o' : Outside) → number ≡ s0.state.facts.begun → AreAttached number nodes s.state.facts → nodes0 ≡ []
-      → (Joined clients nodes0 s0 o0 → Joined clients nodes s o) → FullBeginning clients (session_of s.state.facts.begun d.plan d.nonce) nodes s s' o o'
-      → FullSessions clients sessions s0 s' o0 o'
-  attaching_full number nodes0 s' o' named attached none joins full = record {
-    fills = λ two files terms same.
-        let left : List Session = sessions_from (suc s.state.facts.begun) (drop (i + 1) links) in
-        full_then clients terms (before_sessions sessions s0.state.facts)
-        (place_at (Attaches (session_of s.state.facts.begun d.plan d.nonce ∷ left)) nodes silent false 0 0 s.state.facts) (Joined clients [] s0 o0)
-        (AllSentOn clients terms.first (links_from 0 nodes silent) s o) s0 s s' o0 o o'
-        (so_next.went two files terms same)
-        (λ joined.
-        joined_sent clients terms.first nodes silent s o
-        (λ k l there. (attached.each k l there).numbered ∙ ap (λ (n : ℕ). n + k) (named ∙ sym same))
-        (joins (subst (λ (ls : List Link). Joined clients ls s0 o0) (sym none) joined)))
-        (full.fills terms left silent false 0 0);
-  }
+      let numbered : s.state.facts.begun ≡ s0.state.facts.begun + length nodes = omega (arith, at, many) in
+      subst (λ (k : ℕ). SessionsSoFar clients (sessions_from s0.state.facts.begun links)
+      (sessions_from k (drop (i + 1) links)) nodes' s0 s' o0 o') one
+      (record {
+        same_told = told ∙ so.same_told;
+        has_read = begins.has_read silent refl so.has_read;
+        went = λ two files terms same.
+            let there = told_too o0.files o.files two so.same_told files in
+            went_then clients (RunActs clients terms) (paid (before_links links s0.state.facts))
+            (paid (place_at (Attaches (session ∷ left)) nodes silent false 0 0 s.state.facts))
+            (paid (place_at (Attaches left) nodes' silent false 0 0 s'.state.facts)) s0 s s' o0 o o'
+            (so_next.went two files terms same)
+            (begins.went there.0 there.1 terms left silent false 0 0 refl
+            (numbered ∙ ap (λ (n : ℕ). n + length nodes) (sym same)));
+      })
 
   pub attaching_stopped : (nodes' : List Link) (s' : StoreValue) (o' : Outside) (x : NodeFault)
-      → ByFault (BeginStopped clients (session_of s.state.facts.begun d.plan d.nonce) nodes nodes' s s' o o') x
-      → SessionsStopped clients sessions s0 s' o0 o' x
-  attaching_stopped nodes' s' o' x stopped =
-      session_stopped clients sessions (sessions_from (suc s.state.facts.begun) (drop (i + 1) links)) (session_of s.state.facts.begun d.plan d.nonce) nodes s0 s o0 o so_next nodes' s' o' x stopped
+      → ByFault (BeginStopped clients session nodes nodes' s s' o o') x
+      → SessionsStopped clients links s0 s' o0 o' x
+  attaching_stopped nodes' s' o' x stopped = record {
+    stops = λ two files terms same.
+        let here : Place = place_at (Attaches (session ∷ left)) nodes silent false 0 0 s.state.facts in
+        stops_then clients terms (before_links links s0.state.facts) here s0 s s' o0 o o' x
+        (so_next.went two files terms same)
+        (by_fault_map (BeginStopped clients session nodes nodes' s s' o o')
+        (λ e. (ls : List course_links.Link) × RunStopped clients terms here ls s s' o o' e)
+        (λ e begins. (links_from 0 nodes' silent, begins.stops terms left silent false 0 0)) x stopped);
+  }
 
-pub attached_all : (clients : Meaning) (sessions : List Session) (links : List Dialled) (i : ℕ) (nodes : List Link) (s0 s : StoreValue) (o0 o : Outside) → length links ≤ i
-    → SessionsSoFar clients sessions (sessions_from s.state.facts.begun (drop i links)) nodes s0 s o0 o → SessionsBegin clients sessions nodes s0 s o0 o
-attached_all clients sessions links i nodes s0 s o0 o past so =
-    sessions_all clients sessions nodes s0 s o0 o
-    (subst (λ (ds : List Dialled). SessionsSoFar clients sessions (sessions_from s.state.facts.begun ds) nodes s0 s o0 o) (drop_all i links past) so)
+pub attached_all : (clients : Meaning) (links : List Dialled) (i : ℕ) (nodes : List Link)
+    (s0 s : StoreValue) (o0 o : Outside) → length links ≤ i
+    → SessionsSoFar clients (sessions_from s0.state.facts.begun links)
+    (sessions_from s.state.facts.begun (drop i links)) nodes s0 s o0 o
+    → SessionsBegin clients links nodes s0 s o0 o
+attached_all clients links i nodes s0 s o0 o past so =
+    let all = subst (λ (ds : List Dialled). SessionsSoFar clients (sessions_from s0.state.facts.begun links)
+    (sessions_from s.state.facts.begun ds) nodes s0 s o0 o) (drop_all i links past) so in
+    record {
+      has_read = all.has_read;
+      went = λ two files terms same.
+          let place : Place = place_at (Attaches []) nodes silent false 0 0 s.state.facts in
+          let next : Place = before_turns nodes silent s.state.facts in
+          went_then clients (RunActs clients terms) (paid (before_links links s0.state.facts)) (paid place)
+          (paid next) s0 s s o0 o o (all.went two files terms same)
+          (passes clients terms place next s o refl);
+    }
 
 -- ---- which links are asked
 
@@ -289,6 +256,15 @@ pub over_asked : (r : Bool) (q quiet still asked n : ℕ) → r ≡ over_by q st
 over_asked r q quiet still asked n is same_quiet same_asked =
     is ∙ ap (λ (k : ℕ). over_by k still (nat_lt 0 asked)) same_quiet ∙ ap (λ (k : ℕ). over_by quiet still (nat_lt 0 k)) same_asked
 
+-- so many turns were made, of which so many last ones were still
+pub record TurnsSoFar (clients : Meaning) (limits : Limits) (first : ℕ) (from : Place)
+    (links : List Link) (s s' : StoreValue) (o o' : Outside) (still made : ℕ) : Type 0 where
+  pub heard : ℕ → List ℕ
+  pub moved : Bool
+  pub has_read : AllRead heard links
+  pub went : RunWent clients (terms_at limits first) from
+      (place_at Between links heard moved still made s'.state.facts) s s' o o'
+
 pub no_turn_yet : (clients : Meaning) (limits : Limits) (first : ℕ) (links : List Link) (s : StoreValue) (o : Outside) (heard : ℕ → List ℕ) → AllRead heard links
     → TurnsSoFar clients limits first (before_turns links heard s.state.facts) links s s o o 0 0
 no_turn_yet clients limits first links s o heard read = record {
@@ -335,12 +311,6 @@ module _ (clients : Meaning) (limits : Limits) (first : ℕ) (from : Place) (lin
         let t = round.stops (terms_at limits first) so.heard so.moved still made (sym same) so.has_read not_at_end in
         (links_from 0 links' t.0, t.1)) x stopped)
 
-    pub turn_full : (at : ℕ) (Given : Type 0) (s' : StoreValue) (o' : Outside) → at ≡ first → (Given → Joined clients links s o) → FullTurn clients at links s s' o o'
-        → RunFullSent clients (terms_at limits first) from Given s0 s' o0 o'
-    turn_full at Given s' o' same joins full =
-        full_then clients (terms_at limits first) from place Given (Joined clients links s o) s0 s s' o0 o o' so.went joins
-        (full.fills (terms_at limits first) so.heard so.moved still made (sym same) so.has_read not_at_end)
-
   pub turns_end : (over : Bool) → over ≡ over_by limits.quiet still (nat_lt 0 (asked_among links)) → (over || nat_le limits.turns made) ≡ true
       → EndsFrom clients limits first from links s0 s o0 o over
   turns_end over is at_end = record {
@@ -370,49 +340,45 @@ turns_stopped clients limits first links0 links links' s0 s s' o0 o o' still mad
 
 -- ---- both
 
-pub run_ends : (clients : Meaning) (limits : Limits) (first at : ℕ) (sessions : List Session) (links links' : List Link) (s0 s s' : StoreValue) (o0 o o' : Outside) (over : Bool)
-    → at ≡ first → first ≡ s0.state.facts.begun → SessionsBegin clients sessions links s0 s o0 o → MakesTurns clients limits at links links' s s' o o' over
-    → RunsSessions clients limits first sessions links' s0 s' o0 o' over
-run_ends clients limits first at sessions links links' s0 s s' o0 o o' over same named begins turns = record {
-  ends = λ two files.
-      let end = (subst (λ (k : ℕ). MakesTurns clients limits k links links' s s' o o' over) same turns).ends silent begins.has_read in
-      record {
-        heard = end.heard;
-        moved = end.moved;
-        still = end.still;
-        made = end.made;
-        went =
-            went_then clients (RunActs clients (terms_at limits first)) (paid (before_sessions sessions s0.state.facts)) (paid (before_turns links silent s.state.facts))
-            (paid (place_at Ended links' end.heard end.moved end.still end.made s'.state.facts)) s0 s s' o0 o o'
-            (begins.went two files (terms_at limits first) named) end.went;
-        is_so = end.is_so;
-      };
-}
+module _ (clients : Meaning) (limits : Limits) (at : ℕ) (dialled : List Dialled) (links : List Link)
+    (s0 s s' : StoreValue) (o0 o o' : Outside) (same : at ≡ s0.state.facts.begun)
+    (begins : SessionsBegin clients dialled links s0 s o0 o) where
+  pub run_ends : (links' : List Link) (over : Bool)
+      → MakesTurns clients limits at links links' s s' o o' over
+      → RunsSessions clients limits dialled links' s0 s' o0 o' over
+  run_ends links' over turns = record {
+    ends = λ two files.
+        let first : ℕ = s0.state.facts.begun in
+        let end = (subst (λ (k : ℕ). MakesTurns clients limits k links links' s s' o o' over) same
+        turns).ends silent begins.has_read in
+        record {
+          heard = end.heard;
+          moved = end.moved;
+          still = end.still;
+          made = end.made;
+          went =
+              went_then clients (RunActs clients (terms_at limits first))
+              (paid (before_links dialled s0.state.facts)) (paid (before_turns links silent s.state.facts))
+              (paid (place_at Ended links' end.heard end.moved end.still end.made s'.state.facts)) s0 s s'
+              o0 o o' (begins.went two files (terms_at limits first) refl) end.went;
+          is_so = end.is_so;
+        };
+  }
 
-pub run_full : (clients : Meaning) (limits : Limits) (first at : ℕ) (sessions : List Session) (links : List Link) (s0 s s' : StoreValue) (o0 o o' : Outside) → at ≡ first → first ≡ s0.state.facts.begun
-    → (nodes0 : List Link) → nodes0 ≡ [] → (Joined clients nodes0 s0 o0 → Joined clients links s o)
-    → SessionsBegin clients sessions links s0 s o0 o → FullTurns clients limits at links s s' o o' → FullRun clients limits first sessions s0 s' o0 o'
-run_full clients limits first at sessions links s0 s s' o0 o o' same named nodes0 none joins begins turns = record {
-  fills = λ two files.
-      full_then clients (terms_at limits first) (before_sessions sessions s0.state.facts) (before_turns links silent s.state.facts) (Joined clients [] s0 o0) (Joined clients links s o) s0 s s' o0 o o'
-      (begins.went two files (terms_at limits first) named) (λ joined. joins (subst (λ (ls : List Link). Joined clients ls s0 o0) (sym none) joined))
-      ((subst (λ (k : ℕ). FullTurns clients limits k links s s' o o') same turns).fills silent begins.has_read);
-}
+  pub run_stopped : (x : NodeFault) → TurnsStopped clients limits at links s s' o o' x
+      → StopsRun clients limits dialled s0 s' o0 o' x
+  run_stopped x stopped = record {
+    stops = λ two files.
+        let terms : Terms = terms_at limits s0.state.facts.begun in
+        stops_then clients terms (before_links dialled s0.state.facts)
+        (before_turns links silent s.state.facts) s0 s s' o0 o o' x (begins.went two files terms refl)
+        ((subst (λ (k : ℕ). TurnsStopped clients limits k links s s' o o' x) same stopped).stops silent
+        begins.has_read);
+  }
 
-pub run_unfilled : (clients : Meaning) (limits : Limits) (first : ℕ) (sessions : List Session) (s0 s' : StoreValue) (o0 o' : Outside) → first ≡ s0.state.facts.begun
-    → FullSessions clients sessions s0 s' o0 o' → FullRun clients limits first sessions s0 s' o0 o'
-run_unfilled clients limits first sessions s0 s' o0 o' same full = record { fills = λ two files. full.fills two files (terms_at limits first) same }
-
-pub run_unbegun : (clients : Meaning) (limits : Limits) (first : ℕ) (sessions : List Session) (s0 s' : StoreValue) (o0 o' : Outside) (x : NodeFault) → first ≡ s0.state.facts.begun
-    → SessionsStopped clients sessions s0 s' o0 o' x → StopsRun clients limits first sessions s0 s' o0 o' x
-run_unbegun clients limits first sessions s0 s' o0 o' x named stopped = record { stops = λ two files. stopped.stops two files (terms_at limits first) named }
-
-pub run_stopped : (clients : Meaning) (limits : Limits) (first at : ℕ) (sessions : List Session) (links : List Link) (s0 s s' : StoreValue) (o0 o o' : Outside) (x : NodeFault)
-    → at ≡ first → first ≡ s0.state.facts.begun → SessionsBegin clients sessions links s0 s o0 o → TurnsStopped clients limits at links s s' o o' x
-    → StopsRun clients limits first sessions s0 s' o0 o' x
-run_stopped clients limits first at sessions links s0 s s' o0 o o' x same named begins stopped = record {
-  stops = λ two files.
-      stops_then clients (terms_at limits first) (before_sessions sessions s0.state.facts) (before_turns links silent s.state.facts) s0 s s' o0 o o' x
-      (begins.went two files (terms_at limits first) named)
-      ((subst (λ (k : ℕ). TurnsStopped clients limits k links s s' o o' x) same stopped).stops silent begins.has_read);
+pub run_unbegun : (clients : Meaning) (limits : Limits) (dialled : List Dialled) (s0 s' : StoreValue)
+    (o0 o' : Outside) (x : NodeFault) → SessionsStopped clients dialled s0 s' o0 o' x
+    → StopsRun clients limits dialled s0 s' o0 o' x
+run_unbegun clients limits dialled s0 s' o0 o' x stopped = record {
+  stops = λ two files. stopped.stops two files (terms_at limits s0.state.facts.begun) refl;
 }

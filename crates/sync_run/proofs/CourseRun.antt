@@ -1,5 +1,5 @@
 -- A run over a journal, from its first place on: settling, the sessions on the links that were dialled, and its end.
-use Rattle.std.proofs.Common.{◌≡◌, ℕ, ◌+◌, ◌<◌, Bool, true, false, List, [], ◌++◌, refl, sym, ◌∙◌, ap, subst, arith, inr, Some, Result, Ok, Err}
+use Rattle.std.proofs.Common.{◌≡◌, ℕ, ◌+◌, ◌<◌, Bool, true, false, List, ◌++◌, refl, sym, ◌∙◌, ap, subst, arith, inr, Some, Result, Ok, Err}
 use Rattle.std.specs.Prelude.{IsErrAnd}
 use Rattle.outside.specs.declared.limits.TheConstants.{MAX_JOURNAL}
 use Rattle.outside.specs.Files.{Two, File}
@@ -24,16 +24,17 @@ use Rattle.sync_store.specs.Store.{StoreValue, format_meant, written_in}
 use Rattle.sync_course.specs.Events.{Event, batches_of}
 use Rattle.sync_course.proofs.LiftLaws.{runs_settled_begun}
 use Rattle.sync_course.specs.Quiet.{EndsQuiet}
-use Rattle.sync_course.specs.Turns.{Attaches, Course, Ended, Place, Terms, first_place, is_over}
+use Rattle.sync_course.specs.Turns.{Attaches, Course, Ended, Place, RunStep, Terms, first_place, is_over}
 use Rattle.sync_node.specs.declared.link.Link.{Link}
 use Rattle.sync_node.proofs.CourseLaws.{fits_grown, reads_front}
 use Rattle.sync_node.specs.declared.fault.NodeFault.{NodeFault}
 use Rattle.sync_node.specs.Courses.{FitsWith, ReadsAs, RunBreaks, place_at}
 use Rattle.sync_node.proofs.NodeRuns.{run_went}
-use Rattle.sync_node.specs.Fulls.{RunFullSent}
-use Rattle.sync_node.specs.Joined.{Joined}
-use Rattle.sync_node.specs.Node.{NodeValue}
-use Rattle.sync_node.specs.Output.{Journal}
+use Rattle.sync_node.specs.declared.fault.NodeFault.TheVariants as node_fault
+use Rattle.sync_node.specs.Going.{LetsNothingFall}
+use Rattle.sync_node.specs.Output.{Journal, output, sent_on}
+use Rattle.sync_node.proofs.EventLaws.{runs_of}
+use Rattle.sync_course.specs.Owing.{paid}
 use Rattle.sync_course.specs.Closing.{Closing}
 use Rattle.sync_words.specs.declared.outcome.Outcome.{Outcome}
 use Rattle.sync_words.specs.declared.outcome.Outcome.TheVariants as outcome
@@ -41,11 +42,14 @@ use Rattle.store_commands.specs.Commit.{ComesAnew, MayMigrate, SettledAnew, Sett
 use Rattle.store_commands.proofs.Stood.{last_here, spent_here}
 use Rattle.sync_run.specs.declared.dialling.Dialled.{Dialled}
 use Rattle.sync_run.specs.declared.run.Limits.{Limits}
-use Rattle.sync_run.specs.Courses.{terms_of}
+use Rattle.sync_run.specs.Courses.{terms_at, terms_of}
 use Rattle.sync_run.specs.Closed.{closed_by}
-use Rattle.sync_run.specs.Parts.{EndsFrom, FullRun, RunBroken, RunEnded, RunFilled, RunSpent, RunsOver, RunsSessions, StopsFrom, StopsRun, before_sessions, sessions_from}
+use Rattle.sync_run.specs.Parts.{EndsFrom, RunBroken, RunEnded, RunFilled, RunSpent, RunsOver, RunsSessions, StopsFrom, StopsRun, before_sessions, sessions_from}
 use Rattle.sync_run.proofs.Coming.{Came, came_settling, came_then, front_settles}
-use Rattle.sync_run.proofs.CourseParts.{stops_halted, told_too}
+use Rattle.sync_run.specs.SafeRuns.{AreUnused}
+use Rattle.sync_run.proofs.CourseParts.{stops_halted}
+use Rattle.sync_run.proofs.SentActs.{FullSent, place_sends}
+use Rattle.sync_run.proofs.TellLaws.{told_back, told_too}
 use Rattle.sync_run.proofs.LineLaws.{links_close}
 
 -- the law of what stands at the end of a run that is over
@@ -107,31 +111,6 @@ module _ (clients : Meaning) (limits : Limits) (links : List Dialled) (j : Journ
       let both : Some fit.0 ≡ Some told.two = sym fit.1 ∙ told.files_are in
       let same : fit.0 ≡ told.two = cc in
       subst (λ (t : Two File). FitsFiles clients s k t) same fit.2
-
-  -- from a place the next batch would have passed the limit
-  filled_by : (Given : Type 0) (place : Place) (s1 s : StoreValue) (o1 o : Outside) → s.limit ≡ MAX_JOURNAL → written_in s ≡ kind.Short → Given → ComesTo place s1 o1
-      → RunFullSent clients terms place Given s1 s o1 o → RunFilled clients limits sessions j o0 o
-  filled_by Given place s1 s o1 o limit short given came filled =
-      let full = filled.full in
-      let whole : ComesTo full.to s o =
-      came_then clients terms (FitsWith clients s0 o0.files) (FitsWith clients s1 o1.files) (FitsWith clients s o.files) (first_place sessions (facts j)) place full.to o0 o1 o came full.runs in
-      let fit_now : FitsWith clients s o.files (j ++ batches_of whole.events) = whole.journal j fit in
-      record {
-        run = record {
-          events = whole.events;
-          last = full.to;
-          broken = record { numbered = refl; path = whole.path };
-          told = whole.told;
-          reads = fits_reads s o (j ++ batches_of whole.events) fit_now;
-        };
-        batch = full.batch;
-        next = full.next;
-        steps = full.steps;
-        over = sum_over s (j ++ batches_of whole.events) full.batch fit_now.2.end_is fit_now.2.facts_are short limit full.over;
-        sent = λ told i l there unfailed.
-            filled.sent given i l there unfailed told (j ++ batches_of whole.events)
-            (fits_told s o (j ++ batches_of whole.events) fit_now told);
-      }
 
   -- ---- whether a generation is left
 
@@ -204,62 +183,103 @@ module _ (clients : Meaning) (limits : Limits) (links : List Dialled) (j : Journ
       here : ComesTo (before_sessions sessions s1.state.facts) s1 o1
       here = comes_settled opened settled
 
-      pub run_stops : (t s : StoreValue) (o : Outside) (x : NodeFault) → t ≡ s1 → StopsRun clients limits t.state.facts.begun (sessions_from t.state.facts.begun links) t s o1 o x
-          → RunBroken clients limits sessions j o0 o
-      run_stops t s o x same stopped =
-          let here_too : StopsRun clients limits s1.state.facts.begun (sessions_from s1.state.facts.begun links) s1 s o1 o x =
-          subst (λ (y : StoreValue). StopsRun clients limits y.state.facts.begun (sessions_from y.state.facts.begun links) y s o1 o x) same stopped in
-          let from : Place = before_sessions sessions s1.state.facts in
-          let stops : StopsFrom clients terms from s1 s o1 o x =
-          (subst (λ (k : ℕ). StopsRun clients limits k (sessions_from k links) s1 s o1 o x) begun_same here_too).stops told.0 told.1 in
-          let breaks : RunBreaks clients terms from s1 o1 o = stops_halted clients terms from s1 s o1 o x stops in
-          broken_by breaks.to o
-          (came_then clients terms (FitsWith clients s0 o0.files) (FitsWith clients s1 o1.files) (ReadsAs clients o.files) (first_place sessions (facts j))
-          from breaks.to o0 o1 o here breaks.runs)
+      module _ (t s : StoreValue) (o : Outside) (same : t ≡ s1) where
+        abbrev from : Place
+        from = before_sessions sessions s1.state.facts
 
-      pub run_fills : (t s : StoreValue) (o : Outside) → t ≡ s1 → s.limit ≡ MAX_JOURNAL → written_in s ≡ kind.Short → Joined clients [] s1 o1
-          → FullRun clients limits t.state.facts.begun (sessions_from t.state.facts.begun links) t s o1 o → RunFilled clients limits sessions j o0 o
-      run_fills t s o same limit short joined full =
-          let here_too : FullRun clients limits s1.state.facts.begun (sessions_from s1.state.facts.begun links) s1 s o1 o =
-          subst (λ (x : StoreValue). FullRun clients limits x.state.facts.begun (sessions_from x.state.facts.begun links) x s o1 o) same full in
-          filled_by (Joined clients [] s1 o1) (before_sessions sessions s1.state.facts) s1 s o1 o limit short joined here
-          ((subst (λ (k : ℕ). FullRun clients limits k (sessions_from k links) s1 s o1 o) begun_same here_too).fills told.0 told.1)
+        -- the same first session, by the store
+        stops : (x : NodeFault) → StopsRun clients limits links t s o1 o x
+            → StopsFrom clients terms from s1 s o1 o x
+        stops x stopped =
+            let here_too = subst (λ (y : StoreValue). StopsRun clients limits links y s o1 o x) same stopped in
+            subst (λ (k : ℕ). StopsFrom clients (terms_at limits k)
+            (before_sessions (sessions_from k links) s1.state.facts) s1 s o1 o x) begun_same
+            (here_too.stops told.0 told.1)
 
-      module _ (t : StoreValue) (nodes : List Link) (s : StoreValue) (o : Outside) (over : Bool) (same : t ≡ s1)
-          (given : RunsSessions clients limits t.state.facts.begun (sessions_from t.state.facts.begun links) nodes t s o1 o over) where
-        runs : RunsSessions clients limits s1.state.facts.begun (sessions_from s1.state.facts.begun links) nodes s1 s o1 o over
-        runs = subst (λ (x : StoreValue). RunsSessions clients limits x.state.facts.begun (sessions_from x.state.facts.begun links) nodes x s o1 o over) same given
+        pub run_stops : (x : NodeFault) → StopsRun clients limits links t s o1 o x
+            → RunBroken clients limits sessions j o0 o
+        run_stops x stopped =
+            let breaks : RunBreaks clients terms from s1 o1 o =
+            stops_halted clients terms from s1 s o1 o x (stops x stopped) in
+            broken_by breaks.to o
+            (came_then clients terms (FitsWith clients s0 o0.files) (FitsWith clients s1 o1.files)
+            (ReadsAs clients o.files) (first_place sessions (facts j)) from breaks.to o0 o1 o here breaks.runs)
 
-        end : EndsFrom clients limits (facts j).begun (before_sessions sessions s1.state.facts) nodes s1 s o1 o over
-        end = (subst (λ (k : ℕ). RunsSessions clients limits k (sessions_from k links) nodes s1 s o1 o over) begun_same runs).ends told.0 told.1
-
-        abbrev last : Place
-        last = place_at Ended nodes end.heard end.moved end.still end.made s.state.facts
-
-        ended : ComesTo last s o
-        ended =
-            came_then clients terms (FitsWith clients s0 o0.files) (FitsWith clients s1 o1.files) (FitsWith clients s o.files) (first_place sessions (facts j))
-            (before_sessions sessions s1.state.facts) last o0 o1 o here
-            (run_went clients terms (before_sessions sessions s1.state.facts) last s1 s o1 o end.went)
-
-        -- but how its links ended was not written down
-        pub run_unclosed : RunBroken clients limits sessions j o0 o
-        run_unclosed = broken_at last s o ended
-
-        pub run_closed : RunsEndQuiet → (IsSpent s0 → ⊥) → (ends : Closing) → ends ≡ closed_by over nodes → RunEnded clients limits sessions j o0 o ends
-        run_closed law unspent ends are =
-            let course : Course clients terms sessions (facts j) ended.events last = record { numbered = refl; path = ended.path; at_end = refl } in
+        -- the next batch would have passed the limit
+        pub run_fills : FullSent → AreUnused o1 → LetsNothingFall o1 o → s.limit ≡ MAX_JOURNAL
+            → written_in s ≡ kind.Short → StopsRun clients limits links t s o1 o node_fault.Full
+            → RunFilled clients limits sessions j o0 o
+        run_fills law unused goes limit short stopped =
+            let stood = stops node_fault.Full stopped in
+            let full = stood.1 in
+            let to : Place = full.to.at in
+            let whole : ComesTo to s o =
+            came_then clients terms (FitsWith clients s0 o0.files) (FitsWith clients s1 o1.files)
+            (FitsWith clients s o.files) (first_place sessions (facts j)) from to o0 o1 o here
+            (runs_of clients (λ (x : Place). x.facts) terms.first (RunStep clients terms) (paid from) full.to
+            s1 s o1 o full.went) in
+            let before : Journal = j ++ batches_of here.events in
+            let now : Journal = j ++ batches_of whole.events in
+            let fits : FitsWith clients s o.files now = whole.journal j fit in
             record {
-              events = ended.events;
-              last = last;
-              course = course;
-              told = ended.told;
-              reads = fits_reads s o (j ++ batches_of ended.events) (ended.journal j fit);
-              closes =
-                  are ∙ links_close over limits.quiet Ended nodes end.heard end.moved end.still end.made s.state.facts end.is_so;
-              quiet = law clients terms sessions j ended.events last fit.2.legal course;
-              next = may_migrate unspent;
+              run = record {
+                events = whole.events;
+                last = to;
+                broken = record { numbered = refl; path = whole.path };
+                told = whole.told;
+                reads = fits_reads s o now fits;
+              };
+              batch = full.batch;
+              next = full.next.at;
+              steps = full.steps.1;
+              over = sum_over s now full.batch fits.2.end_is fits.2.facts_are short limit full.over;
+              sent = λ tells i l there unfailed.
+                  subst (λ (k : ℕ). sent_on o.links i ≡ output now (k + i)) begun_same
+                  (place_sends clients terms sessions s1 s o1 o (sym begun_same) unused goes law stood.0 full tells
+                  before (fits_told s1 o1 before (here.journal j fit) (told_back o1 o goes.same_files goes.links tells))
+                  i l there unfailed now (fits_told s o now fits tells).stands_for);
             }
+
+        module _ (nodes : List Link) (over : Bool)
+            (given : RunsSessions clients limits links nodes t s o1 o over) where
+          end : EndsFrom clients limits (facts j).begun from nodes s1 s o1 o over
+          end =
+              let runs = subst (λ (x : StoreValue). RunsSessions clients limits links nodes x s o1 o over) same given in
+              subst (λ (k : ℕ). EndsFrom clients limits k
+              (before_sessions (sessions_from k links) s1.state.facts) nodes s1 s o1 o over) begun_same
+              (runs.ends told.0 told.1)
+
+          abbrev last : Place
+          last = place_at Ended nodes end.heard end.moved end.still end.made s.state.facts
+
+          ended : ComesTo last s o
+          ended =
+              came_then clients terms (FitsWith clients s0 o0.files) (FitsWith clients s1 o1.files)
+              (FitsWith clients s o.files) (first_place sessions (facts j)) from last o0 o1 o here
+              (run_went clients terms from last s1 s o1 o end.went)
+
+          -- but how its links ended was not written down
+          pub run_unclosed : RunBroken clients limits sessions j o0 o
+          run_unclosed = broken_at last s o ended
+
+          pub run_closed : RunsEndQuiet → (IsSpent s0 → ⊥) → (ends : Closing) → ends ≡ closed_by over nodes
+              → RunEnded clients limits sessions j o0 o ends
+          run_closed law unspent ends are =
+              let course : Course clients terms sessions (facts j) ended.events last =
+              record { numbered = refl; path = ended.path; at_end = refl } in
+              record {
+                events = ended.events;
+                last = last;
+                course = course;
+                told = ended.told;
+                reads = fits_reads s o (j ++ batches_of ended.events) (ended.journal j fit);
+                closes =
+                    are
+                    ∙ links_close over limits.quiet Ended nodes end.heard end.moved end.still end.made s.state.facts
+                    end.is_so;
+                quiet = law clients terms sessions j ended.events last fit.2.legal course;
+                next = may_migrate unspent;
+              }
 
 -- ---- by the answers
 
@@ -292,28 +312,33 @@ module _ (clients : Meaning) (limits : Limits) (links : List Dialled) (s0 s1 : S
       broken_at clients limits links j s0 o0 fit (before_sessions (sessions_from (facts j).begun links) s1.state.facts) s1 o1
       (comes_settled clients limits links j s0 o0 fit s1 o1 settles.more run settles.comes settles.answer.0 settles.answer.1)
 
-  module _ (n : NodeValue) (is : n.store ≡ s1) where
-    pub over_broken : (s : StoreValue) (o : Outside) (x : NodeFault) → StopsRun clients limits n.store.state.facts.begun (sessions_from n.store.state.facts.begun links) n.store s o1 o x
+  module _ (t s : StoreValue) (o : Outside) (is : t ≡ s1) where
+    pub over_broken : (x : NodeFault) → StopsRun clients limits links t s o1 o x
         → RunBroken clients limits (sessions_from (facts j).begun links) j o0 o
-    over_broken s o x stopped =
-        run_stops clients limits links j s0 o0 fit s1 o1 settles.more run settles.comes settles.answer.0 settles.answer.1 n.store s o x is stopped
+    over_broken x stopped =
+        run_stops clients limits links j s0 o0 fit s1 o1 settles.more run settles.comes settles.answer.0
+        settles.answer.1 t s o is x stopped
 
-    pub over_filled : (s : StoreValue) (o : Outside) → s0.limit ≡ MAX_JOURNAL → s.limit ≡ n.store.limit → s.format ≡ n.store.format → Joined clients [] s1 o1
-        → FullRun clients limits n.store.state.facts.begun (sessions_from n.store.state.facts.begun links) n.store s o1 o
+    pub over_filled : FullSent → AreUnused o1 → LetsNothingFall o1 o → s0.limit ≡ MAX_JOURNAL
+        → s.limit ≡ t.limit → s.format ≡ t.format
+        → StopsRun clients limits links t s o1 o node_fault.Full
         → RunFilled clients limits (sessions_from (facts j).begun links) j o0 o
-    over_filled s o limited same format joined full =
-        run_fills clients limits links j s0 o0 fit s1 o1 settles.more run settles.comes settles.answer.0 settles.answer.1 n.store s o is
+    over_filled law unused goes limited same format stopped =
+        run_fills clients limits links j s0 o0 fit s1 o1 settles.more run settles.comes settles.answer.0
+        settles.answer.1 t s o is law unused goes
         (same ∙ ap (λ (x : StoreValue). x.limit) is ∙ settles.comes.limit ∙ limited)
-        (ap format_meant (format ∙ ap (λ (x : StoreValue). x.format) is) ∙ settles.answer.2) joined full
+        (ap format_meant (format ∙ ap (λ (x : StoreValue). x.format) is) ∙ settles.answer.2) stopped
 
-    module _ (nodes : List Link) (s : StoreValue) (o : Outside) (over : Bool)
-        (runs : RunsSessions clients limits n.store.state.facts.begun (sessions_from n.store.state.facts.begun links) nodes n.store s o1 o over) where
+    module _ (nodes : List Link) (over : Bool)
+        (runs : RunsSessions clients limits links nodes t s o1 o over) where
       -- want of memory for the lines
       pub over_unclosed : RunBroken clients limits (sessions_from (facts j).begun links) j o0 o
       over_unclosed =
-          run_unclosed clients limits links j s0 o0 fit s1 o1 settles.more run settles.comes settles.answer.0 settles.answer.1 n.store nodes s o over is runs
+          run_unclosed clients limits links j s0 o0 fit s1 o1 settles.more run settles.comes
+          settles.answer.0 settles.answer.1 t s o is nodes over runs
 
       pub over_closed : RunsEndQuiet → (ends : Closing) → ends ≡ closed_by over nodes
           → RunEnded clients limits (sessions_from (facts j).begun links) j o0 o ends
       over_closed law ends are =
-          run_closed clients limits links j s0 o0 fit s1 o1 settles.more run settles.comes settles.answer.0 settles.answer.1 n.store nodes s o over is runs law settles.answer.3 ends are
+          run_closed clients limits links j s0 o0 fit s1 o1 settles.more run settles.comes
+          settles.answer.0 settles.answer.1 t s o is nodes over runs law settles.answer.3 ends are

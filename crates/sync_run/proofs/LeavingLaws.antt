@@ -1,14 +1,15 @@
 -- What a run leaves on the links that ends before its first session, by the calls that it made.
 use Rattle.std.proofs.Common.{◌≡◌, ℕ, true, false, List, [], sym, ap, ◌∙◌, subst, refl, Option, None, Some, is_some, Result, Ok, Err}
+use Rattle.std.specs.Prelude.{IsErrAnd}
 use Rattle.outside.specs.declared.failed.Failed.{Failed}
 use Rattle.outside.specs.Disk.{RelatesTold}
-use Rattle.outside.specs.Files.{Two, File}
+use Rattle.outside.specs.Files.{Two, File, read_files}
 use Rattle.outside.specs.Links.{Links}
 use Rattle.outside.specs.Outside.{DiskRun, IsNow, MomentsAre, Outside}
 use Rattle.frame_journal.specs.Gates.{ReadsSame}
 use Rattle.sync_rules.specs.declared.states.Refused.{Refused}
 use Rattle.sync_rules.specs.Facts.{Facts, facts}
-use Rattle.entry_codec.specs.Standing.{Standing}
+use Rattle.entry_codec.specs.Standing.{Standing, stands}
 use Rattle.sync_store.specs.Store.{StoreValue}
 use Rattle.store_commands.specs.Load.{HasFacts}
 use Rattle.sync_words.specs.declared.link_words.LinkWords.{LinkWords}
@@ -18,7 +19,11 @@ use Rattle.sync_words.specs.declared.outcome.Outcome.TheVariants as outcome
 use Rattle.sync_run.specs.declared.dialling.Dialled.{Dialled}
 use Rattle.sync_run.specs.Causes.{FailsAlone, RunCaused}
 use Rattle.sync_run.specs.Dialling.{DialsAll, MakesLinks}
-use Rattle.sync_run.specs.Courses.{run_test}
+use Rattle.sync_run.specs.Courses.{RunComesTo, run_test}
+use Rattle.sync_run.specs.declared.run.Limits.{Limits}
+use Rattle.sync_run.specs.Headline.{LeavesFilesAtRest}
+use Rattle.sync_run.specs.Ran.{RanTold}
+use Rattle.sync_rules.specs.Clients.{Meaning}
 use Rattle.sync_run.specs.Leaving.{DoesNotBegin, LeavesLinks, MayNotBegin}
 use Rattle.sync_run.proofs.CourseLinks.{no_links_made}
 use Rattle.sync_run.proofs.SafeEnds.{reads_told}
@@ -75,6 +80,22 @@ pub unbegun_loaded : (two : Two File) (o o1 : Outside) → o.files ≡ Some two 
 unbegun_loaded two o o1 told run moments reads = record {
   same_links = run.same_links;
   rests = record { moments = moments; kept = λ two' told'. reads_told o.files o1.files two two' reads told told' };
+}
+
+-- a command that ended behind its load and before its links
+pub told_early : (clients : Meaning) (limits : Limits) (words : List LinkWords) (two : Two File)
+    (o o1 : Outside) → o.files ≡ Some two → DiskRun o o1 → MomentsAre o o1 (IsNow two o.links)
+    → RelatesTold ReadsSame o.files o1.files → (r : Result Closing Outcome) (x : Outcome)
+    → IsErrAnd r (λ y. y ≡ x) → (x ≡ outcome.Full → ⊥) → LeavesFilesAtRest o1.files (Err x)
+    → RunComesTo clients limits words (stands clients (read_files two)) o o1 r
+    → RanTold clients limits words two o o1 r
+told_early clients limits words two o o1 told run moments reads (Ok ends) x is other rests comes = absurd is
+told_early clients limits words two o o1 told run moments reads (Err y) x is other rests comes = record {
+  rests = subst (λ (z : Outcome). LeavesFilesAtRest o1.files (Err z)) (sym is) rests;
+  sent = tt;
+  sent_full = λ full. absurd (other (let same : x ≡ outcome.Full = cc in same));
+  comes = comes;
+  unbegun = λ none. unbegun_loaded two o o1 told run moments reads;
 }
 
 -- over a journal for which the tests hold some session may

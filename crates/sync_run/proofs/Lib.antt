@@ -8,7 +8,8 @@ mod CourseLinks
 mod SafeCalm
 mod SafeBegin
 mod SafeEnds
-mod SafeTurns
+mod StandsLaws
+mod TellLaws
 mod ActsLaws
 mod SafeRunning
 mod SafeFull

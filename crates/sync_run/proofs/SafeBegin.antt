@@ -7,8 +7,7 @@ use Rattle.outside.specs.Files.{Two, File, IsFileImage, IsImage, NothingPending,
 use Rattle.outside.specs.Links.{HeardOn, ToldLink, Links, sent_of}
 use Rattle.outside.specs.Outside.{DiskRun, Moment, Outside}
 use Rattle.outside.specs.Runs.{IsFront, TellsAll, answers_at, heard_bytes}
-use Rattle.outside.proofs.RunLaws.{told_before}
-use Rattle.outside.proofs.CallSteps.{told_back}
+use Rattle.outside.proofs.RunLaws.{grow_same, told_before}
 use Rattle.record_grammar.specs.Stream.{records}
 use Rattle.sync_rules.specs.declared.entries.Entry.{Entry}
 use Rattle.sync_rules.specs.declared.entries.Entry.TheVariants as entry
@@ -22,13 +21,13 @@ use Rattle.sync_store.specs.Store.{StoreValue}
 use Rattle.sync_store.specs.Fitting.{FitsFiles}
 use Rattle.sync_store.specs.Moments.{IsBetween, JournalMoment}
 use Rattle.store_commands.specs.Commit.{ComesAnew}
-use Rattle.sync_node.specs.Joined.{Joined}
 use Rattle.sync_node.specs.Output.{AreOutput, Journal, heard_on, output, sent_on}
 use Rattle.sync_node.specs.Safe.{Begin, IsCovered, IsEarly, Safe, read_now}
 use Rattle.sync_node.specs.Suits.{AllSuitSessions, IsOfRun, SuitsSessions, SuitsRun}
 use Rattle.sync_run.specs.Dialling.{DialsOnly, PassesTime}
 use Rattle.sync_run.specs.SafeRuns.{AreUnused}
 use Rattle.sync_run.proofs.SafeCalm.{calms_run}
+use Rattle.sync_run.proofs.TellLaws.{told_back, told_stills}
 
 -- ---- files in which nothing is pending
 
@@ -81,6 +80,9 @@ covered_heard clients b plans heard heard' same m kind = elim kind [
   })
 ]
 
+pub told_disk : (o o' : Outside) → DiskRun o o' → TellsAll o' → TellsAll o
+told_disk o o' run = told_back o o' run.same_told (grow_same o.links o'.links run.same_links)
+
 -- ---- calls that send nothing
 
 pub safe_calms : (clients : Meaning) (b : Begin) (plans : List Session) (s : StoreValue) (o o' : Outside) → s.closed ≡ false → DialsOnly o o' → Safe clients b plans s o → Safe clients b plans s o'
@@ -119,17 +121,6 @@ safe_calms clients b plans s o o' opened calms safe =
             has_sent = λ link. subst (λ (l : List ℕ). IsFront l (output now.whole (b.first + link))) (sym (calms.sent link)) (now.has_sent link);
           };
     }
-
--- where nothing but the time changed, over a closed store too
-abbrev pub told_stills : (o o' : Outside) → PassesTime o o' → TellsAll o' → TellsAll o
-told_stills o o' stills told' = record {
-  two = told'.two;
-  files_are = sym stills.same_files ∙ told'.files_are;
-  links = told'.links;
-  links_are = ap (λ (l : Links). l.told) (sym stills.same_links) ∙ told'.links_are;
-  heard = told'.heard;
-  heard_are = ap (λ (l : Links). l.heard) (sym stills.same_links) ∙ told'.heard_are;
-}
 
 pub safe_stills : (clients : Meaning) (b : Begin) (plans : List Session) (s : StoreValue) (o o' : Outside) → PassesTime o o' → Safe clients b plans s o → Safe clients b plans s o'
 safe_stills clients b plans s o o' stills safe =
@@ -177,18 +168,22 @@ nothing_sent o none link = ap (λ (s : List (List ℕ)). slice_index_or s link [
 pub nothing_answered : (o : Outside) → o.links.dialled ≡ 0 → (link : ℕ) → answers_at o.links.heard link ≡ []
 nothing_answered o none link = none_answered o.links.heard link (λ heard told. o.all_heard heard told ∙ none)
 
-pub unused_none : (o : Outside) → o.links.dialled ≡ 0 → AreUnused o
-unused_none o none link = record { nothing_sent = λ told. nothing_sent o none link; nothing_heard = λ told. nothing_answered o none link }
-
 pub unused_calms : (o o' : Outside) → DialsOnly o o' → o.links.dialled ≡ 0 → AreUnused o'
-unused_calms o o' calms none link = record {
-  nothing_sent = λ told. calms.sent link ∙ nothing_sent o none link;
-  nothing_heard = λ told. calms.answers link ∙ nothing_answered o none link;
+unused_calms o o' calms none = record {
+  nothing_sent = λ told link. calms.sent link ∙ nothing_sent o none link;
+  nothing_heard = λ told link. calms.answers link ∙ nothing_answered o none link;
 }
 
--- a node with no links is joined there
-pub joined_none : (clients : Meaning) (s : StoreValue) (o : Outside) → AreUnused o → Joined clients [] s o
-joined_none clients s o unused = record { each = λ link l there. cc; others = λ link past. unused link }
+-- calls on the disk alone leave links unused
+pub unused_disk : (o o' : Outside) → DiskRun o o' → AreUnused o → AreUnused o'
+unused_disk o o' run unused = record {
+  nothing_sent = λ told' link.
+      ap (λ (l : Links). sent_on l link) run.same_links
+      ∙ unused.nothing_sent (told_disk o o' run told') link;
+  nothing_heard = λ told' link.
+      ap (λ (l : Links). answers_at l.heard link) run.same_links
+      ∙ unused.nothing_heard (told_disk o o' run told') link;
+}
 
 -- ---- a store that was loaded
 
@@ -242,21 +237,11 @@ moment_settled clients b plans heard j f more sent m run are settling silent jm 
   };
 }
 
-pub told_file : (o o' : Outside) → DiskRun o o' → (two' : Two File) → o'.files ≡ Some two' → (two : Two File) × (o.files ≡ Some two)
-told_file o o' run two' told = told_back o o' two' run.same_told told
-
 -- before anything was sent, migrating and settling leave a run safe, whatever they answer
 pub safe_settled : (clients : Meaning) (b : Begin) (plans : List Session) (s s' : StoreValue) (o o' : Outside) (more : Journal) → s.closed ≡ false → DiskRun o o' → ComesAnew clients s s' o o' more
     → ((told : TellsAll o) (link : ℕ) → sent_on o.links link ≡ []) → Safe clients b plans s o → Safe clients b plans s' o'
 safe_settled clients b plans s s' o o' more opened run comes silent safe =
-    let back : TellsAll o' → TellsAll o = λ told'. record {
-      two = (told_file o o' run told'.two told'.files_are).0;
-      files_are = (told_file o o' run told'.two told'.files_are).1;
-      links = told'.links;
-      links_are = ap (λ (l : Links). l.told) (sym run.same_links) ∙ told'.links_are;
-      heard = told'.heard;
-      heard_are = ap (λ (l : Links). l.heard) (sym run.same_links) ∙ told'.heard_are;
-    } in
+    let back : TellsAll o' → TellsAll o = told_disk o o' run in
     let same = sym run.same_links in
     let covers : (told : TellsAll o) (m : Moment) → JournalMoment clients (IsBetween (safe.now opened told).whole more) (sent_of o.links.told) m → IsCovered clients b plans (heard_on o'.links) m =
     λ told m jm.

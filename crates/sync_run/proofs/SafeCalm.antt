@@ -22,18 +22,6 @@ use Rattle.sync_run.specs.Dialling.{AreDialled, DialsOnly, DialsAll, IsDialled, 
 
 -- ---- calls that send nothing
 
-pub calms_none : (o : Outside) → DialsOnly o o
-calms_none o = record {
-  same_files = refl;
-  same_faults = refl;
-  no_call = no_call_none o;
-  later = omega arith;
-  grows = grow_same o.links o.links refl;
-  sent = λ link. refl;
-  answers = λ link. refl;
-  moments = λ two told t m before w. inl w;
-}
-
 pub calms_then : (o0 o1 o2 : Outside) → DialsOnly o0 o1 → DialsOnly o1 o2 → DialsOnly o0 o2
 calms_then o0 o1 o2 first second = record {
   same_files = second.same_files ∙ first.same_files;
@@ -134,10 +122,6 @@ calms_run o o' calms = record {
 
 -- ---- links that are made
 
-nothing_more : {A : Type 0} (t : Option (List A)) → t ≡ option_map (λ (xs : List A). xs ++ []) t
-nothing_more None = refl
-nothing_more (Some xs) = ap Some (sym (append-nil xs))
-
 both_more : {A : Type 0} (t : Option (List A)) (xs ys zs : List A) → zs ≡ xs ++ ys
     → option_map (λ (l : List A). l ++ ys) (option_map (λ (l : List A). l ++ xs) t) ≡ option_map (λ (l : List A). l ++ zs) t
 both_more None xs ys zs is = refl
@@ -146,20 +130,6 @@ both_more (Some l) xs ys zs is = ap Some (append_assoc l xs ys ∙ ap (λ r. l +
 unheard_words : (ws vs : List LinkWords) → unheard (length (ws ++ vs)) ≡ unheard (length ws) ++ unheard (length vs)
 unheard_words [] vs = refl
 unheard_words (w ∷ ws) vs = ap (λ l. nothing_heard ∷ l) (unheard_words ws vs)
-
-pub makes_none : (old new : Links) → LinksGrow old new → new.dialled ≡ old.dialled → new.told ≡ old.told → new.heard ≡ old.heard → new.readings ≡ old.readings → MakesLinks [] old new
-makes_none old new grows dialled told heard readings = record {
-  grows = grows;
-  dialled = omega (arith, dialled);
-  told = told ∙ nothing_more old.told;
-  heard = heard ∙ nothing_more old.heard;
-  same_readings = readings;
-}
-
-pub makes_same : (old new : Links) → new ≡ old → MakesLinks [] old new
-makes_same old new same =
-    makes_none old new (grow_same old new same) (ap (λ (l : Links). l.dialled) same) (ap (λ (l : Links). l.told) same) (ap (λ (l : Links). l.heard) same)
-    (ap (λ (l : Links). l.readings) same)
 
 pub makes_then : (ws vs : List LinkWords) (a b c : Links) → MakesLinks ws a b → MakesLinks vs b c → MakesLinks (ws ++ vs) a c
 makes_then ws vs a b c first second = record {
@@ -180,10 +150,6 @@ makes_dialled w spec link old new is dials = record {
   heard = dials.made.3;
   same_readings = dials.same_readings;
 }
-
--- a call that failed made none
-pub makes_failed : (spec : List ℕ) (e : Failed) (old new : Links) → DialsLink spec (Err e) old new → MakesLinks [] old new
-makes_failed spec e old new dials = makes_none old new (grow_dial spec (Err e) old new dials) dials.made.0 dials.made.1 dials.made.2 dials.same_readings
 
 pub makes_asked : (ws : List LinkWords) (link : ℕ) (result : Result (List ℕ) Failed) (a b c : Links) → MakesLinks ws a b → AsksNonce link result b c → MakesLinks ws a c
 makes_asked ws link result a b c makes asks = record {
@@ -264,17 +230,6 @@ dial_stops words links i n w e o0 o1 o2 none long is there within are makes len 
         all = (few, rose);
       }
     ]
-
-pub dials_all : (words : List LinkWords) (links : List Dialled) (i : ℕ) (u : Unit {0}) (o0 o1 : Outside) → length links ≡ i → i ≡ length words → take i words ≡ words → AreDialled words links
-    → MakesLinks (take i words) o0.links o1.links → DialsAll words links (Ok u) o0 o1
-dials_all words links i u o0 o1 long end all are makes = record {
-  made = words;
-  front = record { rest = []; whole = sym (append-nil words) };
-  makes = subst (λ (l : List LinkWords). MakesLinks l o0.links o1.links) all makes;
-  dialled = are;
-  count = omega (arith, long, end);
-  all = (refl, long ∙ end);
-}
 
 -- the error that is handed on
 pub err_is : {T E : Type 0} (r : Result T E) (e : E) → IsErrAnd r (λ x. x ≡ e) → r ≡ Err e

@@ -1,5 +1,5 @@
 -- Sessions that were broken off where a batch found no room: what was sent.
-use Rattle.std.proofs.Common.{◌≡◌, ℕ, ◌+◌, ◌≤◌, [], sym, ap, ◌∙◌, subst, inl, inr, arith, Some, Result, Ok, Err}
+use Rattle.std.proofs.Common.{◌≡◌, ℕ, ◌+◌, ◌≤◌, sym, ap, ◌∙◌, subst, inl, inr, arith, Some, Result, Ok, Err}
 use Rattle.std.specs.Prelude.{IsErrAnd}
 use Rattle.outside.specs.Faults.{CountRose}
 use Rattle.outside.specs.Files.{Two, File, read_files}
@@ -17,22 +17,33 @@ use Rattle.sync_words.specs.declared.outcome.Outcome.{Outcome}
 use Rattle.sync_words.specs.declared.outcome.Outcome.TheVariants as outcome
 use Rattle.sync_run.specs.Causes.{FailsAlone}
 use Rattle.sync_run.specs.Dialling.{PassesTime}
-use Rattle.sync_run.specs.Headline.{AllSentWhenFull}
-use Rattle.sync_run.specs.SafeRuns.{SessionsSentWhenFull}
-use Rattle.sync_run.proofs.SafeBegin.{told_stills}
+use Rattle.sync_run.specs.Headline.{AllSentWhenFull, LeavesFilesAtRest}
+use Rattle.sync_run.specs.SafeRuns.{RestsAndSends, SessionsSentWhenFull}
+use Rattle.sync_run.proofs.TellLaws.{told_stills}
 use Rattle.sync_run.proofs.SafeRunning.{begun_of}
 
--- the error that was handed on
-pub err_was : {T E : Type 0} (r : Result T E) (x e : E) → IsErrAnd r (λ y. y ≡ x) → r ≡ Err e → x ≡ e
-err_was (Ok a) x e is now = absurd is
-err_was (Err y) x e is now = let same : y ≡ e = cc in sym is ∙ same
+-- no other fault is Full
+pub no_memory_full : {A : Type 0} → outcome.Memory ≡ outcome.Full → A
+no_memory_full is = absurd (let none : ⊥ = cc in none)
+
+pub no_fault_full : {A : Type 0} → outcome.DiskFault ≡ outcome.Full → A
+no_fault_full is = absurd (let none : ⊥ = cc in none)
+
+-- where the answer is an error that goes on by `?`
+pub sends_failed : (clients : Meaning) (first : ℕ) (o o' : Outside) (r : Result Closing Outcome)
+    (x : Outcome) → IsErrAnd r (λ y. y ≡ x) → LeavesFilesAtRest o'.files (Err x)
+    → (x ≡ outcome.Full → SessionsSentWhenFull clients first o o')
+    → RestsAndSends clients first o o' r
+sends_failed clients first o o' (Ok ends) x is rests full = absurd is
+sends_failed clients first o o' (Err y) x is rests full =
+    subst (λ (z : Outcome). RestsAndSends clients first o o' (Err z)) (sym is) (record {
+      rests = rests;
+      sent = tt;
+      sent_full = λ now. full (let same : x ≡ outcome.Full = cc in same);
+    })
 
 earlier : (a b c : ℕ) → a ≤ b → CountRose b c → CountRose a c
 earlier a b c le rose = omega (arith, le, rose)
-
--- ---- turns
-
--- ---- sessions of a node that had none
 
 -- ---- a run on links that were dialled
 

@@ -8,7 +8,7 @@ use Rattle.outside.specs.Disk.{RelatesTold}
 use Rattle.outside.specs.Files.{Two, File, read_files, settled}
 use Rattle.outside.specs.Links.{ToldLink, Links}
 use Rattle.outside.specs.Outside.{DiskRun, IsNow, MomentsAre, Outside}
-use Rattle.outside.specs.Runs.{IsFront, TellsAll, answers_at}
+use Rattle.outside.specs.Runs.{IsFront}
 use Rattle.outside.proofs.RunLaws.{grow_same}
 use Rattle.frame_journal.specs.Gates.{ReadsSame, SyncsBoth}
 use Rattle.sync_rules.specs.declared.entries.Mode.{Mode}
@@ -45,7 +45,8 @@ use Rattle.sync_run.specs.Headline.{AtRest, Headline, LeavesFilesAtRest, SentWho
 use Rattle.sync_run.specs.Parts.{sessions_from}
 use Rattle.sync_run.specs.Plans.{ArePlanned, IsPlanned}
 use Rattle.sync_run.specs.SafeRuns.{AllMayBegin, AreUnused, IsKnown, MayBeginOn, RunsSafe, SendsWhole, WordsSafe}
-use Rattle.sync_run.proofs.SafeBegin.{image_read, joined_none, safe_calms, safe_settled, safe_stills, told_file, told_stills}
+use Rattle.sync_run.proofs.SafeBegin.{image_read, safe_calms, safe_settled, safe_stills}
+use Rattle.sync_run.proofs.TellLaws.{told_stills}
 use Rattle.sync_run.proofs.SafeEnds.{headline_safe, safe_loaded}
 
 -- ---- files at rest
@@ -87,25 +88,6 @@ goes_settled clients s s' o o' r ready run settles = record {
   calls = run.calls;
 }
 
--- calls on the disk alone leave links unused
-told_disk : (o o' : Outside) → DiskRun o o' → TellsAll o' → TellsAll o
-told_disk o o' run told' =
-    let files = told_file o o' run told'.two told'.files_are in
-    record {
-      two = files.0;
-      files_are = files.1;
-      links = told'.links;
-      links_are = ap (λ (l : Links). l.told) (sym run.same_links) ∙ told'.links_are;
-      heard = told'.heard;
-      heard_are = ap (λ (l : Links). l.heard) (sym run.same_links) ∙ told'.heard_are;
-    }
-
-pub unused_disk : (o o' : Outside) → DiskRun o o' → AreUnused o → AreUnused o'
-unused_disk o o' run unused link = record {
-  nothing_sent = λ told'. ap (λ (l : Links). sent_on l link) run.same_links ∙ (unused link).nothing_sent (told_disk o o' run told');
-  nothing_heard = λ told'. ap (λ (l : Links). answers_at l.heard link) run.same_links ∙ (unused link).nothing_heard (told_disk o o' run told');
-}
-
 -- settling alone
 pub runs_settling : (clients : Meaning) (links : List Dialled) (s s' : StoreValue) (o o' : Outside) (r : Result (Unit {0}) Outcome) → IsReady clients s o.files → AreUnused o → DiskRun o o'
     → SettlesAnew clients s s' o o' r → RunsSafe clients links s o o'
@@ -113,7 +95,7 @@ runs_settling clients links s s' o o' r ready unused run settles = record {
   store = s';
   plans = [];
   front = record { rest = sessions_from s.state.facts.begun links; whole = refl };
-  safe = λ b begins safe. safe_settled clients b [] s s' o o' settles.more ready.still_open run settles.comes (λ told link. (unused link).nothing_sent told) safe;
+  safe = λ b begins safe. safe_settled clients b [] s s' o o' settles.more ready.still_open run settles.comes unused.nothing_sent safe;
 }
 
 -- what a node of a store that is ready needs
@@ -249,9 +231,6 @@ sent_stills clients first o o' ends stills sends told' whole stood i end there u
 pub rests_stays : (clients : Meaning) (s : StoreValue) (files : Option (Two File)) (e : Outcome) → commits.StoreStaysReady clients s files (Err e) → LeavesFilesAtRest files (Err e)
 rests_stays clients s files outcome.DiskFault stays = tt
 rests_stays clients s files _ stays = rests_ready clients s files stays
-
-pub rests_fault : (files : Option (Two File)) (r : Result Closing Outcome) (e : Outcome) → r ≡ Err e → LeavesFilesAtRest files (Err e) → LeavesFilesAtRest files r
-rests_fault files r e is rests = subst (λ (x : Result Closing Outcome). LeavesFilesAtRest files x) (sym is) rests
 
 pub node_may : (clients : Meaning) (s : StoreValue) (n : NodeValue) (o : Outside) → IsReady clients s o.files → n ≡ new_node s → MayRun clients n o
 node_may clients s n o ready made = subst (λ (m : NodeValue). MayRun clients m o) (sym made) (new_may clients s o ready)

@@ -1,5 +1,6 @@
 -- What a run leaves that ends before its first session.
-use Rattle.std.specs.Prelude.{◌≡◌, true, List, is_some, Result, Err}
+use Rattle.std.specs.Prelude.{◌≡◌, ◌≤◌, true, List, length, is_some, Result, Err}
+use Rattle.outside.specs.declared.limits.TheConstants.{LINKS}
 use Rattle.outside.specs.Files.{Two, File}
 use Rattle.outside.specs.Links.{Links}
 use Rattle.outside.specs.Outside.{Outside}
@@ -11,7 +12,9 @@ use Rattle.sync_words.specs.declared.link_words.LinkWords.{LinkWords}
 use Rattle.sync_course.specs.Closing.{Closing}
 use Rattle.sync_words.specs.declared.outcome.Outcome.{Outcome}
 use Rattle.sync_words.specs.declared.outcome.Outcome.TheVariants as outcome
-use Rattle.sync_run.specs.Courses.{run_test}
+use Rattle.sync_run.specs.declared.dialling.Dialled.{Dialled}
+use Rattle.sync_run.specs.Causes.{IsCaused}
+use Rattle.sync_run.specs.Courses.{HaveSpecs, run_test}
 use Rattle.sync_run.specs.Dialling.{MakesLinks}
 
 -- Links were made for the first of these words, in order; on none of them anything was sent or heard, and the clock was not read.
@@ -40,3 +43,17 @@ MayNotBegin words (journal begin) = is_some (run_test (facts begin) words) ≡ t
 pub record DoesNotBegin (two : Two File) (old new : Outside) : Type 0 where
   pub same_links : new.links ≡ old.links
   pub rests : LeavesFilesSo (FilesReadSame two) two old new
+
+-- ---- the links that were dialled
+
+-- links that were made may be hung up
+pub record MayHangUp (links : List Dialled) (o : Outside) : Type 0 where
+  pub few : length links ≤ LINKS
+  pub made : length links ≤ o.links.dialled
+
+-- what the links came to, whether files are told or not
+pub record LinksCameTo (words : List LinkWords) (old new : Outside)
+    (result : Result Closing Outcome) : Type 0 where
+  pub specs : HaveSpecs words new
+  pub caused : IsCaused words old new result
+  pub leaves : LeavesLinks words old new result

@@ -6,6 +6,7 @@ pub mod Causes
 pub mod Closed
 pub mod Parts
 pub mod SafeRuns
+pub mod NodeStands
 pub mod Ran
 pub mod Leaving
 pub mod Ends

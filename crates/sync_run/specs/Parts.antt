@@ -17,8 +17,6 @@ use Rattle.sync_node.specs.Courses.{AllRead, ReadsAs, place_at}
 use Rattle.sync_node.specs.OnRuns.{ByFault, RunStopped, RunWent}
 use Rattle.sync_node.specs.declared.fault.NodeFault.{NodeFault}
 use Rattle.sync_course.specs.Links as course_links
-use Rattle.sync_node.specs.Fulls.{RunFullSent}
-use Rattle.sync_node.specs.Joined.{Joined}
 use Rattle.sync_node.specs.Output.{Journal}
 use Rattle.sync_node.specs.Plans.{session_of}
 use Rattle.store_commands.specs.Commit.{HasLastGeneration, MayMigrate, needed_by}
@@ -37,89 +35,78 @@ sessions_from first (d ∷ links) = session_of first d.plan d.nonce ∷ sessions
 abbrev pub silent : ℕ → List ℕ
 silent link = []
 
--- before the first session, in a settled journal of these facts
+-- before the first of these sessions, in a settled journal of these facts
 abbrev pub before_sessions : List Session → Facts → Place
 before_sessions sessions f = place_at (Attaches sessions) [] silent false 0 0 f
+
+-- before the first session of links that were dialled
+abbrev pub before_links : List Dialled → Facts → Place
+before_links dialled f = before_sessions (sessions_from f.begun dialled) f
 
 -- before the first turn
 abbrev pub before_turns : List Link → (ℕ → List ℕ) → Facts → Place
 before_turns links heard f = place_at Between links heard false 0 0 f
 
+-- a run stopped at a place, whatever its links are there, by what the node answered
+abbrev pub StopsFrom : Meaning → Terms → Place → StoreValue → StoreValue → Outside → Outside → NodeFault
+    → Type 0
+StopsFrom clients terms p s s' o o' x =
+    ByFault (λ e. (links : List course_links.Link) × RunStopped clients terms p links s s' o o' e) x
+
 -- ---- the sessions begin
 
--- of these sessions, those before the ones that are left began
-pub record SessionsSoFar (clients : Meaning) (sessions left : List Session) (links : List Link) (s s' : StoreValue) (o o' : Outside) : Type 0 where
-  pub same_told : is_some o'.files ≡ is_some o.files
+-- where files are told, the sessions of these links began, and these are the node's links
+pub record SessionsBegin (clients : Meaning) (dialled : List Dialled) (links : List Link)
+    (s s' : StoreValue) (o o' : Outside) : Type 0 where
   pub has_read : AllRead silent links
   pub went : (two : Two File) → o.files ≡ Some two → (terms : Terms) → terms.first ≡ s.state.facts.begun
-      → RunWent clients terms (before_sessions sessions s.state.facts) (place_at (Attaches left) links silent false 0 0 s'.state.facts) s s' o o'
+      → RunWent clients terms (before_links dialled s.state.facts)
+      (before_turns links silent s'.state.facts) s s' o o'
 
--- where files are told, all these sessions began, and these are their links
-pub record SessionsBegin (clients : Meaning) (sessions : List Session) (links : List Link) (s s' : StoreValue) (o o' : Outside) : Type 0 where
-  pub has_read : AllRead silent links
-  pub went : (two : Two File) → o.files ≡ Some two → (terms : Terms) → terms.first ≡ s.state.facts.begun
-      → RunWent clients terms (before_sessions sessions s.state.facts) (before_turns links silent s'.state.facts) s s' o o'
-
--- a run stopped at a place, whatever its links are there, by what the node answered
-abbrev pub StopsFrom : Meaning → Terms → Place → StoreValue → StoreValue → Outside → Outside → NodeFault → Type 0
-StopsFrom clients terms p s s' o o' x = ByFault (λ e. (links : List course_links.Link) × RunStopped clients terms p links s s' o o' e) x
-
--- while its sessions began
-pub record SessionsStopped (clients : Meaning) (sessions : List Session) (s s' : StoreValue) (o o' : Outside) (x : NodeFault) : Type 0 where
+-- or it stopped while they began
+pub record SessionsStopped (clients : Meaning) (dialled : List Dialled) (s s' : StoreValue)
+    (o o' : Outside) (x : NodeFault) : Type 0 where
   pub stops : (two : Two File) → o.files ≡ Some two → (terms : Terms) → terms.first ≡ s.state.facts.begun
-      → StopsFrom clients terms (before_sessions sessions s.state.facts) s s' o o' x
-
--- the batch of the next of these sessions would have passed the limit
-pub record FullSessions (clients : Meaning) (sessions : List Session) (s s' : StoreValue) (o o' : Outside) : Type 0 where
-  pub fills : (two : Two File) → o.files ≡ Some two → (terms : Terms) → terms.first ≡ s.state.facts.begun
-      → RunFullSent clients terms (before_sessions sessions s.state.facts) (Joined clients [] s o) s s' o o'
+      → StopsFrom clients terms (before_links dialled s.state.facts) s s' o o' x
 
 -- ---- the turns are made
 
--- so many turns were made, of which so many last ones were still
-pub record TurnsSoFar (clients : Meaning) (limits : Limits) (first : ℕ) (from : Place) (links : List Link) (s s' : StoreValue) (o o' : Outside) (still made : ℕ) : Type 0 where
-  pub heard : ℕ → List ℕ
-  pub moved : Bool
-  pub has_read : AllRead heard links
-  pub went : RunWent clients (terms_at limits first) from (place_at Between links heard moved still made s'.state.facts) s s' o o'
-
 -- from a place a run came to its end with these links, over or not
-pub record EndsFrom (clients : Meaning) (limits : Limits) (first : ℕ) (from : Place) (links : List Link) (s s' : StoreValue) (o o' : Outside) (over : Bool) : Type 0 where
+pub record EndsFrom (clients : Meaning) (limits : Limits) (first : ℕ) (from : Place)
+    (links : List Link) (s s' : StoreValue) (o o' : Outside) (over : Bool) : Type 0 where
   pub heard : ℕ → List ℕ
   pub moved : Bool
   pub still : ℕ
   pub made : ℕ
-  pub went : RunWent clients (terms_at limits first) from (place_at Ended links heard moved still made s'.state.facts) s s' o o'
+  pub went : RunWent clients (terms_at limits first) from
+      (place_at Ended links heard moved still made s'.state.facts) s s' o o'
   pub is_so : over ≡ is_over limits.quiet (place_at Ended links heard moved still made s'.state.facts)
 
 -- the turns of a run were made, from before the first one on
-pub record MakesTurns (clients : Meaning) (limits : Limits) (first : ℕ) (links links' : List Link) (s s' : StoreValue) (o o' : Outside) (over : Bool) : Type 0 where
+pub record MakesTurns (clients : Meaning) (limits : Limits) (first : ℕ) (links links' : List Link)
+    (s s' : StoreValue) (o o' : Outside) (over : Bool) : Type 0 where
   pub ends : (heard : ℕ → List ℕ) → AllRead heard links
       → EndsFrom clients limits first (before_turns links heard s.state.facts) links' s s' o o' over
 
-pub record TurnsStopped (clients : Meaning) (limits : Limits) (first : ℕ) (links : List Link) (s s' : StoreValue) (o o' : Outside) (x : NodeFault) : Type 0 where
+pub record TurnsStopped (clients : Meaning) (limits : Limits) (first : ℕ) (links : List Link)
+    (s s' : StoreValue) (o o' : Outside) (x : NodeFault) : Type 0 where
   pub stops : (heard : ℕ → List ℕ) → AllRead heard links
       → StopsFrom clients (terms_at limits first) (before_turns links heard s.state.facts) s s' o o' x
 
--- a batch would have passed the limit
-pub record FullTurns (clients : Meaning) (limits : Limits) (first : ℕ) (links : List Link) (s s' : StoreValue) (o o' : Outside) : Type 0 where
-  pub fills : (heard : ℕ → List ℕ) → AllRead heard links
-      → RunFullSent clients (terms_at limits first) (before_turns links heard s.state.facts) (Joined clients links s o) s s' o o'
-
 -- ---- both
 
--- where files are told, these sessions began and the turns were made
-pub record RunsSessions (clients : Meaning) (limits : Limits) (first : ℕ) (sessions : List Session) (links : List Link) (s s' : StoreValue) (o o' : Outside) (over : Bool) : Type 0 where
+-- where files are told, the sessions of these links began and the turns were made
+pub record RunsSessions (clients : Meaning) (limits : Limits) (dialled : List Dialled)
+    (links : List Link) (s s' : StoreValue) (o o' : Outside) (over : Bool) : Type 0 where
   pub ends : (two : Two File) → o.files ≡ Some two
-      → EndsFrom clients limits first (before_sessions sessions s.state.facts) links s s' o o' over
+      → EndsFrom clients limits s.state.facts.begun (before_links dialled s.state.facts) links s s'
+      o o' over
 
-pub record StopsRun (clients : Meaning) (limits : Limits) (first : ℕ) (sessions : List Session) (s s' : StoreValue) (o o' : Outside) (x : NodeFault) : Type 0 where
+pub record StopsRun (clients : Meaning) (limits : Limits) (dialled : List Dialled)
+    (s s' : StoreValue) (o o' : Outside) (x : NodeFault) : Type 0 where
   pub stops : (two : Two File) → o.files ≡ Some two
-      → StopsFrom clients (terms_at limits first) (before_sessions sessions s.state.facts) s s' o o' x
-
-pub record FullRun (clients : Meaning) (limits : Limits) (first : ℕ) (sessions : List Session) (s s' : StoreValue) (o o' : Outside) : Type 0 where
-  pub fills : (two : Two File) → o.files ≡ Some two
-      → RunFullSent clients (terms_at limits first) (before_sessions sessions s.state.facts) (Joined clients [] s o) s s' o o'
+      → StopsFrom clients (terms_at limits s.state.facts.begun) (before_links dialled s.state.facts) s
+      s' o o' x
 
 -- ---- the run on links that were dialled
 

@@ -1,25 +1,27 @@
 -- Sessions that run over links that were dialled: what they need, and that a run is safe with them.
-use Rattle.std.specs.Prelude.{◌≡◌, ◌≢◌, ◌⊎◌, ℕ, ◌+◌, ◌<◌, ◌≤◌, true, List, [], length, Some, slice_get}
+use Rattle.std.specs.Prelude.{◌≡◌, ◌≢◌, ◌⊎◌, ℕ, ◌+◌, ◌<◌, ◌≤◌, true, List, [], length, Some, slice_get, Result, IfOk, IsErrOf}
 use Rattle.std.specs.List.{All}
 use Rattle.outside.specs.Faults.{CountRose}
 use Rattle.outside.specs.Files.{read_files}
 use Rattle.outside.specs.Outside.{Outside}
-use Rattle.outside.specs.Runs.{IsFront, TellsAll}
+use Rattle.outside.specs.Runs.{IsFront, TellsAll, answers_at}
 use Rattle.sync_rules.specs.declared.entries.Session.{Session}
 use Rattle.sync_rules.specs.Clients.{Meaning}
-use Rattle.sync_rules.specs.Facts.{facts}
+use Rattle.sync_rules.specs.Facts.{Facts, facts}
 use Rattle.sync_rules.specs.Legal.{suits_nonce}
+use Rattle.sync_rules.specs.declared.limits.TheConstants.{MAX_SESSIONS}
 use Rattle.entry_codec.specs.Standing.{journal, stands}
 use Rattle.sync_store.specs.Store.{StoreValue}
-use Rattle.sync_node.specs.Joined.{IsUnused, Joined}
-use Rattle.sync_node.specs.Node.{NodeValue}
 use Rattle.sync_node.specs.Output.{Journal, output, sent_on}
 use Rattle.sync_node.specs.Safe.{Begin, Safe}
+use Rattle.sync_words.specs.declared.outcome.Outcome.{Outcome}
+use Rattle.sync_words.specs.declared.outcome.Outcome.TheVariants as outcome
 use Rattle.sync_words.specs.declared.link_words.LinkWords.{LinkWords}
 use Rattle.sync_course.specs.declared.ends.LinkEnd.{LinkEnd}
 use Rattle.sync_course.specs.declared.ends.LinkEnd.TheVariants as end
 use Rattle.sync_course.specs.Closing.{Closing}
 use Rattle.sync_run.specs.declared.dialling.Dialled.{Dialled}
+use Rattle.sync_run.specs.Headline.{LeavesFilesAtRest}
 use Rattle.sync_run.specs.Parts.{sessions_from}
 use Rattle.sync_run.specs.Plans.{ArePlanned}
 
@@ -28,6 +30,11 @@ use Rattle.sync_run.specs.Plans.{ArePlanned}
 -- the contact of these words is known, where there are so many
 abbrev pub IsKnown : ℕ → LinkWords → Type 0
 IsKnown contacts words = words.contact < contacts
+
+-- all contacts of these words are known, and a session for each may begin
+pub record HasRoomFor (f : Facts) (words : List LinkWords) : Type 0 where
+  pub known : All (IsKnown f.contacts) words
+  pub few : f.begun + length words ≤ MAX_SESSIONS
 
 -- a session may begin on a link that was dialled, where so many contacts are known
 pub record MayBeginOn (contacts : ℕ) (d : Dialled) : Type 0 where
@@ -38,18 +45,12 @@ pub record MayBeginOn (contacts : ℕ) (d : Dialled) : Type 0 where
 abbrev pub AllMayBegin : ℕ → List Dialled → Type 0
 AllMayBegin contacts links = All (MayBeginOn contacts) links
 
--- nothing was sent or heard on any link
-abbrev pub AreUnused : Outside → Type 0
-AreUnused o = (link : ℕ) → IsUnused link o
+-- nothing was sent or heard on any link, where it is told
+pub record AreUnused (o : Outside) : Type 0 where
+  pub nothing_sent : TellsAll o → (link : ℕ) → sent_on o.links link ≡ []
+  pub nothing_heard : TellsAll o → (link : ℕ) → answers_at o.links.heard link ≡ []
 
 -- ---- what they do
-
--- sessions began on these links, behind those of a node
-pub record AttachesAll (clients : Meaning) (links : List Dialled) (n n' : NodeValue)
-    (o o' : Outside) : Type 0 where
-  pub same_first : n'.first ≡ n.first
-  pub number : length n'.links ≡ length n.links + length links
-  pub joined : Joined clients n.links n.store o → Joined clients n'.links n'.store o'
 
 -- Sessions ran on links over a store, whatever the answer. A run that was safe with no session is safe with those of some first
 -- links.
@@ -86,3 +87,11 @@ SessionsSentWhenFull clients first o o' =
     (told : TellsAll o') (whole : Journal) → stands clients (read_files told.two) ≡ journal whole
     → (i : ℕ) → first + i < (facts whole).begun
     → CountRose (o.links.faults i) (o'.links.faults i) ⊎ (sent_on o'.links i ≡ output whole (first + i))
+
+-- What a run leaves by its answer: nothing is pending in the files, and what was to be sent went
+-- out. The first session has this number.
+pub record RestsAndSends (clients : Meaning) (first : ℕ) (o o' : Outside)
+    (result : Result Closing Outcome) : Type 0 where
+  pub rests : LeavesFilesAtRest o'.files result
+  pub sent : IfOk result (SendsWhole clients first o')
+  pub sent_full : IsErrOf result outcome.Full → SessionsSentWhenFull clients first o o'

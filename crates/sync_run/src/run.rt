@@ -1,30 +1,28 @@
 // The command `sync`.
-ghost use Rattle.std.specs.Prelude.{◌≡◌, ◌+◌, ◌≤◌, [], false, length, vec_capacity, ◌<◌, IfOk, IsErrOf};
-ghost use Rattle.std.specs.Prelude.{IfErr, OnOk, Some};
-ghost use Rattle.outside.specs.Faults.{CountRose};
+ghost use Rattle.std.specs.Prelude.{◌≡◌, ◌+◌, ◌≤◌, [], false, length, vec_capacity, ◌<◌, IfErr, IfOk};
+ghost use Rattle.std.specs.Prelude.{OnOk, Some};
 ghost use Rattle.std.specs.List.{All};
-ghost use Rattle.outside.specs.Files.{Two, File, read_files};
-ghost use Rattle.entry_codec.specs.Standing.{stands};
+ghost use Rattle.outside.specs.Files.{Two, File};
 ghost use Rattle.sync_rules.specs.Facts.{facts};
 ghost use Rattle.sync_rules.specs.Steps.{IsSettled};
 ghost use Rattle.sync_rules.specs.declared.limits.TheConstants.{MAX_SESSIONS};
 ghost use Rattle.sync_store.specs.Ready.{IsReady};
-ghost use Rattle.sync_node.specs.Causes.{FailByCause};
 ghost use Rattle.sync_node.specs.Courses.{FitsWith};
 ghost use Rattle.sync_node.specs.Going.{LetsNothingFall};
-ghost use Rattle.sync_node.specs.Node.{AnswersAndCloses, IsNode, MayRun};
+ghost use Rattle.sync_node.specs.Node.{MayRun};
 ghost use Rattle.sync_node.specs.Output.{Journal};
-ghost use Rattle.sync_node.specs.Stays.{StaysReady};
 ghost use Rattle.outside.specs.declared.limits.TheConstants.{LINKS, MAX_JOURNAL};
 ghost use Rattle.sync_words.specs.Links.{AreLinks};
 ghost use Rattle.sync_run.specs.Causes.{FailsAlone, IsCaused, RunCaused};
-ghost use Rattle.sync_run.specs.Courses.{RunComesTo, HaveSpecs, RunComes, TestsContacts, TestsWords};
-ghost use Rattle.sync_run.specs.Headline.{Headline, LeavesFilesAtRest, AllSentWhenFull, SentWhole};
-ghost use Rattle.sync_run.specs.Leaving.{DoesNotBegin, LeavesLinks, MayNotBegin};
-ghost use Rattle.sync_run.specs.Parts.{FullRun, RunsOver, RunsSessions, StopsRun, sessions_from};
-ghost use Rattle.sync_run.specs.SafeRuns.{AllMayBegin, AreUnused, AttachesAll, IsKnown, RunsSafe};
-ghost use Rattle.sync_run.specs.SafeRuns.{SessionsSentWhenFull, SendsWhole};
-ghost use Rattle.sync_run.specs.SafeRuns.{WordsSafe};
+ghost use Rattle.sync_run.specs.Courses.{HaveSpecs, RunComes, TestsContacts, TestsWords};
+ghost use Rattle.sync_run.specs.Headline.{Headline};
+ghost use Rattle.sync_run.specs.Leaving.{LeavesLinks, LinksCameTo, MayHangUp};
+ghost use Rattle.sync_node.specs.Calls.{CallGoes};
+ghost use Rattle.sync_run.specs.NodeStands.{StandsBy};
+ghost use Rattle.sync_run.specs.Parts.{RunsOver, RunsSessions, StopsRun, sessions_from};
+ghost use Rattle.sync_run.specs.Ran.{RanTold};
+ghost use Rattle.sync_run.specs.SafeRuns.{AllMayBegin, AreUnused, HasRoomFor, IsKnown, RunsSafe};
+ghost use Rattle.sync_run.specs.SafeRuns.{RestsAndSends, WordsSafe};
 
 use crate::closing::close;
 use crate::dialling::{Dialled, dial_all, hang_up_all};
@@ -75,26 +73,12 @@ pub fn sync_links<H: Host, C: Clients>(
     requires unused { (H.tells host.old).links.dialled ≡ 0 }
     ensures headline { Headline (C.meaning clients.now) links.now (H.tells host.old)
         (H.tells host.new) }
-    ensures rests { (two : Two File) → (H.tells host.old).files ≡ Some two
-        → LeavesFilesAtRest (H.tells host.new).files result }
-    ensures sent { (two : Two File) → (H.tells host.old).files ≡ Some two
-        → IfOk result (SentWhole (C.meaning clients.now) two (H.tells host.new)) }
-    ensures sent_full { (two : Two File) → (H.tells host.old).files ≡ Some two
-        → IsErrOf result Outcome.Full → AllSentWhenFull (C.meaning clients.now) two (H.tells host.old)
-        (H.tells host.new) }
-    ensures comes { (two : Two File) → (H.tells host.old).files ≡ Some two
-        → RunComesTo (C.meaning clients.now) limits links.now
-        (stands (C.meaning clients.now) (read_files two)) (H.tells host.old) (H.tells host.new)
+    ensures told { (two : Two File) → (H.tells host.old).files ≡ Some two
+        → RanTold (C.meaning clients.now) limits links.now two (H.tells host.old) (H.tells host.new)
         result }
     ensures specs { HaveSpecs links.now (H.tells host.new) }
     ensures caused { IsCaused links.now (H.tells host.old) (H.tells host.new) result }
     ensures leaves { LeavesLinks links.now (H.tells host.old) (H.tells host.new) result }
-
-    // Whatever it answers: over files that stand for no journal, or for one for which a test of
-    // the words fails, nothing is done.
-    ensures unbegun { (two : Two File) → (H.tells host.old).files ≡ Some two
-        → MayNotBegin links.now (stands (C.meaning clients.now) (read_files two))
-        → DoesNotBegin two (H.tells host.old) (H.tells host.new) }
 {
     let store = load_store(alloc, hasher, host, clients)?;
     test_words(&store, links)?;
@@ -106,9 +90,7 @@ pub fn sync_links<H: Host, C: Clients>(
 
 // The first refusal: a contact that is not known, or more sessions than there may be.
 fn test_words(store: &Store, links: &[LinkWords]) -> Result<(), Refused>
-    ensures known { OnOk result (All (IsKnown store.now.state.facts.contacts) links.now) }
-    ensures sessions { OnOk result
-        (store.now.state.facts.begun + length links.now ≤ MAX_SESSIONS) }
+    ensures allowed { OnOk result (HasRoomFor store.now.state.facts links.now) }
     ensures tested { TestsWords store.now.state.facts links.now result }
 {
     test_contacts(store, links)?;
@@ -151,18 +133,12 @@ fn run_links<H: Host, C: Clients>(
     requires sessions { store.state.facts.begun + length words.now ≤ MAX_SESSIONS }
     requires empty { dialled.old.items ≡ [] }
     requires room { length words.now ≤ vec_capacity dialled.old }
-    ensures few { length dialled.new.items ≤ LINKS }
-    ensures made { length dialled.new.items ≤ (H.tells host.new).links.dialled }
+    ensures dialled { MayHangUp dialled.new.items (H.tells host.new) }
     ensures safe { WordsSafe (C.meaning clients.now) words.now store (H.tells host.old)
         (H.tells host.new) }
-    ensures rests { LeavesFilesAtRest (H.tells host.new).files result }
-    ensures sent { IfOk result (SendsWhole (C.meaning clients.now) store.state.facts.begun
-        (H.tells host.new)) }
-    ensures sent_full { IsErrOf result Outcome.Full → SessionsSentWhenFull (C.meaning clients.now)
-        store.state.facts.begun (H.tells host.old) (H.tells host.new) }
-    ensures specs { HaveSpecs words.now (H.tells host.new) }
-    ensures caused { IsCaused words.now (H.tells host.old) (H.tells host.new) result }
-    ensures leaves { LeavesLinks words.now (H.tells host.old) (H.tells host.new) result }
+    ensures sends { RestsAndSends (C.meaning clients.now) store.state.facts.begun (H.tells host.old)
+        (H.tells host.new) result }
+    ensures links { LinksCameTo words.now (H.tells host.old) (H.tells host.new) result }
     ensures comes { (j : Journal) → FitsWith (C.meaning clients.now) store (H.tells host.old).files
         j → RunComes (C.meaning clients.now) limits words.now j (H.tells host.old)
         (H.tells host.new) result }
@@ -199,11 +175,8 @@ fn run_dialled<H: Host, C: Clients>(
     requires unused { AreUnused (H.tells host.old) }
     ensures safe { RunsSafe (C.meaning clients.now) links.now store (H.tells host.old)
         (H.tells host.new) }
-    ensures rests { LeavesFilesAtRest (H.tells host.new).files result }
-    ensures sent { IfOk result (SendsWhole (C.meaning clients.now) store.state.facts.begun
-        (H.tells host.new)) }
-    ensures sent_full { IsErrOf result Outcome.Full → SessionsSentWhenFull (C.meaning clients.now)
-        store.state.facts.begun (H.tells host.old) (H.tells host.new) }
+    ensures sends { RestsAndSends (C.meaning clients.now) store.state.facts.begun (H.tells host.old)
+        (H.tells host.new) result }
     ensures run { LetsNothingFall (H.tells host.old) (H.tells host.new) }
     ensures caused { RunCaused (H.tells host.old) (H.tells host.new) result }
     ensures course { (j : Journal) → FitsWith (C.meaning clients.now) store (H.tells host.old).files
@@ -245,30 +218,12 @@ fn run_node<H: Host, C: Clients>(
     requires sessions { node.old.store.state.facts.begun + length links.now ≤ MAX_SESSIONS }
     requires few { length links.now ≤ LINKS }
     requires dialled { length links.now ≤ (H.tells host.old).links.dialled }
-    ensures answer { AnswersAndCloses result node.new }
-    ensures may { MayRun (C.meaning clients.now) node.new (H.tells host.new) }
-    ensures node { IsNode node.new }
-    ensures joined { OnOk result (AttachesAll (C.meaning clients.now) links.now node.old node.new
-        (H.tells host.old) (H.tells host.new)) }
-    ensures stays { StaysReady (C.meaning clients.now) node.new (H.tells host.new) result }
-    ensures run { LetsNothingFall (H.tells host.old) (H.tells host.new) }
-    ensures cause { FailByCause node.old.links node.new.links (H.tells host.old)
-        (H.tells host.new) }
-    ensures limit { node.new.store.limit ≡ node.old.store.limit }
-    ensures format { node.new.store.format ≡ node.old.store.format }
-    ensures full { IsErrOf result NodeFault.Full → FullRun (C.meaning clients.now) limits
-        node.old.store.state.facts.begun
-        (sessions_from node.old.store.state.facts.begun links.now) node.old.store
-        node.new.store (H.tells host.old) (H.tells host.new) }
-    ensures fault { IsErrOf result NodeFault.DiskFault → CountRose (H.tells host.old).disk_faults
-        (H.tells host.new).disk_faults }
-    ensures went { IfOk result (RunsSessions (C.meaning clients.now) limits
-        node.old.store.state.facts.begun
-        (sessions_from node.old.store.state.facts.begun links.now) node.new.links node.old.store
-        node.new.store (H.tells host.old) (H.tells host.new)) }
-    ensures stopped { IfErr result (StopsRun (C.meaning clients.now) limits
-        node.old.store.state.facts.begun
-        (sessions_from node.old.store.state.facts.begun links.now) node.old.store
+    ensures stands { StandsBy (C.meaning clients.now) (length links.now) node.new (H.tells host.old)
+        (H.tells host.new) result }
+    ensures keeps { CallGoes node.old node.new (H.tells host.old) (H.tells host.new) }
+    ensures went { IfOk result (RunsSessions (C.meaning clients.now) limits links.now node.new.links
+        node.old.store node.new.store (H.tells host.old) (H.tells host.new)) }
+    ensures stopped { IfErr result (StopsRun (C.meaning clients.now) limits links.now node.old.store
         node.new.store (H.tells host.old) (H.tells host.new)) }
 {
     attach_all(node, host, clients, links)?;

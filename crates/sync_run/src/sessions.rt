@@ -1,16 +1,13 @@
 // The sessions of a run: they begin, and the turns are made.
-ghost use Rattle.std.specs.Prelude.{◌≡◌, ◌+◌, ◌≤◌, [], false, length, IfErr, IfOk, IsErrOf, OnOk};
-ghost use Rattle.outside.specs.Faults.{CountRose};
+ghost use Rattle.std.specs.Prelude.{◌≡◌, ◌+◌, ◌≤◌, [], false, length, IfErr, IfOk, OnOk};
 ghost use Rattle.outside.specs.declared.limits.TheConstants.{LINKS};
 ghost use Rattle.sync_rules.specs.Steps.{IsSettled};
 ghost use Rattle.sync_rules.specs.declared.limits.TheConstants.{MAX_SESSIONS};
-ghost use Rattle.sync_node.specs.Causes.{FailByCause};
-ghost use Rattle.sync_node.specs.Going.{LetsNothingFall};
-ghost use Rattle.sync_node.specs.Node.{AnswersAndCloses, IsNode, KeepsJoined, MayRun};
-ghost use Rattle.sync_node.specs.Stays.{StaysReady};
-ghost use Rattle.sync_run.specs.SafeRuns.{AllMayBegin, AttachesAll};
-ghost use Rattle.sync_run.specs.Parts.{MakesTurns, SessionsStopped, TurnsStopped};
-ghost use Rattle.sync_run.specs.Parts.{FullSessions, FullTurns, SessionsBegin, sessions_from};
+ghost use Rattle.sync_node.specs.Node.{IsNode, MayRun};
+ghost use Rattle.sync_node.specs.Calls.{CallGoes};
+ghost use Rattle.sync_run.specs.NodeStands.{StandsBy};
+ghost use Rattle.sync_run.specs.SafeRuns.{AllMayBegin};
+ghost use Rattle.sync_run.specs.Parts.{MakesTurns, SessionsBegin, SessionsStopped, TurnsStopped};
 
 use crate::dialling::Dialled;
 use crate::run::Limits;
@@ -35,27 +32,12 @@ pub fn attach_all<H: Host, C: Clients>(
     requires sessions { node.old.store.state.facts.begun + length links.now ≤ MAX_SESSIONS }
     requires few { length links.now ≤ LINKS }
     requires dialled { length links.now ≤ (H.tells host.old).links.dialled }
-    ensures answer { AnswersAndCloses result node.new }
-    ensures may { MayRun (C.meaning clients.now) node.new (H.tells host.new) }
-    ensures node { IsNode node.new }
-    ensures joined { OnOk result (AttachesAll (C.meaning clients.now) links.now node.old node.new
-        (H.tells host.old) (H.tells host.new)) }
-    ensures stays { StaysReady (C.meaning clients.now) node.new (H.tells host.new) result }
-    ensures run { LetsNothingFall (H.tells host.old) (H.tells host.new) }
-    ensures cause { FailByCause node.old.links node.new.links (H.tells host.old)
-        (H.tells host.new) }
-    ensures limit { node.new.store.limit ≡ node.old.store.limit }
-    ensures format { node.new.store.format ≡ node.old.store.format }
-    ensures full { IsErrOf result NodeFault.Full → FullSessions (C.meaning clients.now)
-        (sessions_from node.old.store.state.facts.begun links.now) node.old.store node.new.store
-        (H.tells host.old) (H.tells host.new) }
-    ensures fault { IsErrOf result NodeFault.DiskFault → CountRose (H.tells host.old).disk_faults
-        (H.tells host.new).disk_faults }
-    ensures went { OnOk result (SessionsBegin (C.meaning clients.now)
-        (sessions_from node.old.store.state.facts.begun links.now) node.new.links node.old.store
-        node.new.store (H.tells host.old) (H.tells host.new)) }
-    ensures stopped { IfErr result (SessionsStopped (C.meaning clients.now)
-        (sessions_from node.old.store.state.facts.begun links.now) node.old.store
+    ensures stands { StandsBy (C.meaning clients.now) (length links.now) node.new (H.tells host.old)
+        (H.tells host.new) result }
+    ensures keeps { CallGoes node.old node.new (H.tells host.old) (H.tells host.new) }
+    ensures went { OnOk result (SessionsBegin (C.meaning clients.now) links.now node.new.links
+        node.old.store node.new.store (H.tells host.old) (H.tells host.new)) }
+    ensures stopped { IfErr result (SessionsStopped (C.meaning clients.now) links.now node.old.store
         node.new.store (H.tells host.old) (H.tells host.new)) }
 {
     let mut number = 0;
@@ -76,22 +58,9 @@ pub fn make_turns<H: Host, C: Clients>(
     requires still_open { node.old.closed ≡ false }
     requires may { MayRun (C.meaning clients.now) node.old (H.tells host.old) }
     requires node { IsNode node.old }
-    ensures answer { AnswersAndCloses result node.new }
-    ensures may { MayRun (C.meaning clients.now) node.new (H.tells host.new) }
-    ensures node { IsNode node.new }
-    ensures joined { OnOk result (KeepsJoined (C.meaning clients.now) node.old node.new
-        (H.tells host.old) (H.tells host.new)) }
-    ensures stays { StaysReady (C.meaning clients.now) node.new (H.tells host.new) result }
-    ensures run { LetsNothingFall (H.tells host.old) (H.tells host.new) }
-    ensures cause { FailByCause node.old.links node.new.links (H.tells host.old)
-        (H.tells host.new) }
-    ensures limit { node.new.store.limit ≡ node.old.store.limit }
-    ensures format { node.new.store.format ≡ node.old.store.format }
-    ensures full { IsErrOf result NodeFault.Full → FullTurns (C.meaning clients.now) limits
-        node.old.first node.old.links node.old.store node.new.store (H.tells host.old)
-        (H.tells host.new) }
-    ensures fault { IsErrOf result NodeFault.DiskFault → CountRose (H.tells host.old).disk_faults
-        (H.tells host.new).disk_faults }
+    ensures stands { StandsBy (C.meaning clients.now) (length node.old.links) node.new
+        (H.tells host.old) (H.tells host.new) result }
+    ensures keeps { CallGoes node.old node.new (H.tells host.old) (H.tells host.new) }
     ensures went { IfOk result (MakesTurns (C.meaning clients.now) limits node.old.first
         node.old.links node.new.links node.old.store node.new.store (H.tells host.old)
         (H.tells host.new)) }

@@ -31,69 +31,78 @@ run_dialled-requires-clause-dialled g c =
 pub run_dialled-requires-clause-unused : goal.run_dialled-requires-clause-unused
 run_dialled-requires-clause-unused g c = unused_calms _ _ c.dial_all.ensures.calms c.requires.unused
 
-pub returns-in-Ok-clause-few : goal.returns-in-Ok-clause-few
-returns-in-Ok-clause-few g c = omega (arith, c.in-Ok.ensures.dials.all.1, c.requires.links.few)
-
-pub returns-in-Ok-clause-made : goal.returns-in-Ok-clause-made
-returns-in-Ok-clause-made g c = made_long _ _ (g.H.Disk.tells c.args.host.now) (g.H.Disk.tells c.dial_all.new.host) (g.H.Disk.tells c.run_dialled.new.host) c.requires.unused c.in-Ok.ensures.dials.makes c.in-Ok.ensures.dials.count c.run_dialled.ensures.run.same_dialled
+pub returns-in-Ok-clause-dialled : goal.returns-in-Ok-clause-dialled
+returns-in-Ok-clause-dialled g c = record {
+  few =
+      omega (arith, c.in-Ok.ensures.dials.all.1, c.requires.links.few);
+  made =
+      made_long _ _ (g.H.Disk.tells c.args.host.now) (g.H.Disk.tells c.dial_all.new.host) (g.H.Disk.tells c.run_dialled.new.host) c.requires.unused c.in-Ok.ensures.dials.makes c.in-Ok.ensures.dials.count c.run_dialled.ensures.run.same_dialled;
+}
 
 pub returns-in-Ok-clause-safe : goal.returns-in-Ok-clause-safe
 returns-in-Ok-clause-safe g c =
     words_safe _ c.args.words.now _ _ _ _ _ c.requires.ready (subst (λ (l : List Dialled). AreDialled c.args.words.now l) (sym c.as_slice.ensures.value) c.in-Ok.ensures.dials.dialled) c.dial_all.ensures.calms
     c.run_dialled.ensures.safe
 
-pub returns-in-Ok-clause-specs : goal.returns-in-Ok-clause-specs
-returns-in-Ok-clause-specs g c =
-    specs_kept c.args.words.now (g.H.Disk.tells c.dial_all.new.host) (g.H.Disk.tells c.run_dialled.new.host) c.run_dialled.ensures.run.same_specs (specs_made c.args.words.now _ (g.H.Disk.tells c.args.host.now) (g.H.Disk.tells c.dial_all.new.host) c.requires.unused c.in-Ok.ensures.dials.front c.in-Ok.ensures.dials.makes)
+pub returns-in-Ok-clause-sends : goal.returns-in-Ok-clause-sends
+returns-in-Ok-clause-sends g c = record {
+  rests =
+      c.run_dialled.ensures.sends.rests;
+  sent =
+      c.run_dialled.ensures.sends.sent;
+  sent_full =
+      λ is.
+      full_before _ _ (g.H.Disk.tells c.args.host.now) (g.H.Disk.tells c.dial_all.new.host) (g.H.Disk.tells c.run_dialled.new.host) c.dial_all.ensures.calms.grows.faults (c.run_dialled.ensures.sends.sent_full is);
+}
 
-pub returns-in-Err-clause-few : goal.returns-in-Err-clause-few
-returns-in-Err-clause-few g c = omega (arith, c.in-Err.ensures.dials.all.0, c.requires.links.few)
-
-pub returns-in-Err-clause-made : goal.returns-in-Err-clause-made
-returns-in-Err-clause-made g c = made_long _ _ (g.H.Disk.tells c.args.host.now) (g.H.Disk.tells c.dial_all.new.host) (g.H.Disk.tells c.dial_all.new.host) c.requires.unused c.in-Err.ensures.dials.makes c.in-Err.ensures.dials.count refl
-
-pub returns-in-Err-clause-safe : goal.returns-in-Err-clause-safe
-returns-in-Err-clause-safe g c = words_unrun _ c.args.words.now _ _ _ c.requires.ready c.dial_all.ensures.calms
-
-pub returns-in-Err-clause-rests : goal.returns-in-Err-clause-rests
-returns-in-Err-clause-rests g c = rests_at _ _ (rests_ready _ _ _ (ready_calms _ _ _ _ c.requires.ready c.dial_all.ensures.calms))
-
-pub returns-in-Err-clause-sent : goal.returns-in-Err-clause-sent
-returns-in-Err-clause-sent g c = fails_unsent _ _ _ c.dial_failed.ensures
-
-pub returns-in-Err-clause-specs : goal.returns-in-Err-clause-specs
-returns-in-Err-clause-specs g c = specs_made c.args.words.now _ (g.H.Disk.tells c.args.host.now) (g.H.Disk.tells c.dial_all.new.host) c.requires.unused c.in-Err.ensures.dials.front c.in-Err.ensures.dials.makes
+pub returns-in-Ok-clause-links : goal.returns-in-Ok-clause-links
+returns-in-Ok-clause-links g c = record {
+  specs =
+      specs_kept c.args.words.now (g.H.Disk.tells c.dial_all.new.host) (g.H.Disk.tells c.run_dialled.new.host) c.run_dialled.ensures.run.same_specs (specs_made c.args.words.now _ (g.H.Disk.tells c.args.host.now) (g.H.Disk.tells c.dial_all.new.host) c.requires.unused c.in-Ok.ensures.dials.front c.in-Ok.ensures.dials.makes);
+  caused =
+      dialled_caused c.args.words.now (g.H.Disk.tells c.args.host.now) (g.H.Disk.tells c.dial_all.new.host) (g.H.Disk.tells c.run_dialled.new.host) c.run_dialled.result
+      c.dial_all.ensures.calms c.run_dialled.ensures.caused;
+  leaves =
+      dialled_leaves c.args.words.now (g.H.Disk.tells c.args.host.now) (g.H.Disk.tells c.dial_all.new.host) (g.H.Disk.tells c.run_dialled.new.host) c.run_dialled.result c.run_dialled.ensures.caused;
+}
 
 pub returns-in-Ok-clause-comes : goal.returns-in-Ok-clause-comes
 returns-in-Ok-clause-comes g c =
     dialled_comes _ c.args.limits c.args.words.now _ _ _ _ c.requires.unused c.dial_all.ensures.calms _ _ _ _ c.in-Ok.ensures.dials c.as_slice.ensures.value c.run_dialled.ensures.run
     c.run_dialled.ensures.course
 
-pub returns-in-Ok-clause-caused : goal.returns-in-Ok-clause-caused
-returns-in-Ok-clause-caused g c =
-    dialled_caused c.args.words.now (g.H.Disk.tells c.args.host.now) (g.H.Disk.tells c.dial_all.new.host) (g.H.Disk.tells c.run_dialled.new.host) c.run_dialled.result
-    c.dial_all.ensures.calms c.run_dialled.ensures.caused
+pub returns-in-Err-clause-dialled : goal.returns-in-Err-clause-dialled
+returns-in-Err-clause-dialled g c = record {
+  few =
+      omega (arith, c.in-Err.ensures.dials.all.0, c.requires.links.few);
+  made =
+      made_long _ _ (g.H.Disk.tells c.args.host.now) (g.H.Disk.tells c.dial_all.new.host) (g.H.Disk.tells c.dial_all.new.host) c.requires.unused c.in-Err.ensures.dials.makes c.in-Err.ensures.dials.count refl;
+}
+
+pub returns-in-Err-clause-safe : goal.returns-in-Err-clause-safe
+returns-in-Err-clause-safe g c = words_unrun _ c.args.words.now _ _ _ c.requires.ready c.dial_all.ensures.calms
+
+pub returns-in-Err-clause-sends : goal.returns-in-Err-clause-sends
+returns-in-Err-clause-sends g c = record {
+  rests =
+      rests_at _ _ (rests_ready _ _ _ (ready_calms _ _ _ _ c.requires.ready c.dial_all.ensures.calms));
+  sent =
+      fails_unsent _ _ _ c.dial_failed.ensures;
+  sent_full =
+      λ is. absurd (fails_unfull _ _ c.dial_failed.ensures is);
+}
+
+pub returns-in-Err-clause-links : goal.returns-in-Err-clause-links
+returns-in-Err-clause-links g c = record {
+  specs =
+      specs_made c.args.words.now _ (g.H.Disk.tells c.args.host.now) (g.H.Disk.tells c.dial_all.new.host) c.requires.unused c.in-Err.ensures.dials.front c.in-Err.ensures.dials.makes;
+  caused =
+      undialled_caused c.args.words.now _ (g.H.Disk.tells c.args.host.now) (g.H.Disk.tells c.dial_all.new.host) _ c.len.result _ c.in-Err.ensures.dials
+      (omega (arith, c.len.ensures, c.dial_all.new.to.ok.0)) c.dial_failed.ensures;
+  leaves =
+      undialled_leaves c.args.words.now _ (g.H.Disk.tells c.args.host.now) (g.H.Disk.tells c.dial_all.new.host) _ c.len.result _ c.in-Err.ensures.dials c.dial_failed.ensures;
+}
 
 pub returns-in-Err-clause-comes : goal.returns-in-Err-clause-comes
 returns-in-Err-clause-comes g c =
     undialled_comes _ c.args.limits c.args.words.now _ _ _ _ c.requires.unused c.dial_all.ensures.calms _ c.len.result _ c.in-Err.ensures.dials c.dial_failed.ensures
-
-pub returns-in-Err-clause-caused : goal.returns-in-Err-clause-caused
-returns-in-Err-clause-caused g c =
-    undialled_caused c.args.words.now _ (g.H.Disk.tells c.args.host.now) (g.H.Disk.tells c.dial_all.new.host) _ c.len.result _ c.in-Err.ensures.dials
-    (omega (arith, c.len.ensures, c.dial_all.new.to.ok.0)) c.dial_failed.ensures
-
-pub returns-in-Ok-clause-sent_full : goal.returns-in-Ok-clause-sent_full
-returns-in-Ok-clause-sent_full g c = λ is.
-    full_before _ _ (g.H.Disk.tells c.args.host.now) (g.H.Disk.tells c.dial_all.new.host) (g.H.Disk.tells c.run_dialled.new.host) c.dial_all.ensures.calms.grows.faults (c.run_dialled.ensures.sent_full is)
-
-pub returns-in-Err-clause-sent_full : goal.returns-in-Err-clause-sent_full
-returns-in-Err-clause-sent_full g c = λ is. absurd (fails_unfull _ _ c.dial_failed.ensures is)
-
-pub returns-in-Ok-clause-leaves : goal.returns-in-Ok-clause-leaves
-returns-in-Ok-clause-leaves g c =
-    dialled_leaves c.args.words.now (g.H.Disk.tells c.args.host.now) (g.H.Disk.tells c.dial_all.new.host) (g.H.Disk.tells c.run_dialled.new.host) c.run_dialled.result c.run_dialled.ensures.caused
-
-pub returns-in-Err-clause-leaves : goal.returns-in-Err-clause-leaves
-returns-in-Err-clause-leaves g c =
-    undialled_leaves c.args.words.now _ (g.H.Disk.tells c.args.host.now) (g.H.Disk.tells c.dial_all.new.host) _ c.len.result _ c.in-Err.ensures.dials c.dial_failed.ensures

@@ -2,47 +2,12 @@ use Rattle.std.proofs.Common.{ap, ◌∙◌}
 use Rattle.outside.specs.Links.{Links}
 use Rattle.sync_node.specs.Going.{specs_of}
 use Rattle.sync_run.proofs.CourseLinks.{links_caused, links_come, refused_caused, refused_comes, unheld_caused, unheld_comes, unloaded_caused, unloaded_comes}
-use Rattle.sync_run.proofs.LeavingLaws.{tested_begins, leaves_as, leaves_same, unbegun_loaded}
-use Rattle.sync_run.proofs.SafeCalm.{err_is}
+use Rattle.sync_words.specs.declared.outcome.Outcome.TheVariants as outcome
+use Rattle.sync_run.proofs.LeavingLaws.{tested_begins, leaves_as, leaves_same, told_early}
 use Rattle.sync_run.proofs.SafeEnds.{headline_none}
-use Rattle.sync_run.proofs.SafeRunning.{at_rest_stills, headline_run, load_rests, rests_at, rests_fault, rests_ready, sent_run, specs_disk, specs_kept}
-use Rattle.sync_run.proofs.SafeFull.{err_was, full_run, loaded_unfull}
+use Rattle.sync_run.proofs.SafeRunning.{at_rest_stills, headline_run, load_rests, rests_ready, sent_run, specs_disk, specs_kept}
+use Rattle.sync_run.proofs.SafeFull.{full_run, loaded_unfull}
 use Rattle.sync_run.proofs.run.sync_links.Goals as goal
-
-pub returns-in_err-store-clause-headline : goal.returns-in_err-store-clause-headline
-returns-in_err-store-clause-headline g c =
-    headline_none _ c.args.links.now (g.H.Disk.tells c.args.host.now) (g.H.Disk.tells c.load_store.new.disk) c.requires.unused c.load_store.ensures.run
-    (λ two told. (c.load_store.ensures.rests two told).moments) c.load_store.ensures.reads
-
-pub returns-in_err-store-clause-rests : goal.returns-in_err-store-clause-rests
-returns-in_err-store-clause-rests g c = λ two told.
-    let e = c.in_err-store.field-0.0 in
-    rests_fault _ _ e (err_is c.from_residual.result e c.from_residual.ensures.1) (load_rests (g.H.Disk.tells c.args.host.now).files _ e c.in_err-store.ensures.settled)
-
-pub returns-in_err-store-clause-specs : goal.returns-in_err-store-clause-specs
-returns-in_err-store-clause-specs g c = specs_disk c.args.links.now (g.H.Disk.tells c.args.host.now) (g.H.Disk.tells c.load_store.new.disk) c.requires.unused c.load_store.ensures.run
-
-pub returns-in_err-test_words-clause-headline : goal.returns-in_err-test_words-clause-headline
-returns-in_err-test_words-clause-headline g c =
-    headline_none _ c.args.links.now (g.H.Disk.tells c.args.host.now) (g.H.Disk.tells c.load_store.new.disk) c.requires.unused c.load_store.ensures.run
-    (λ two told. (c.load_store.ensures.rests two told).moments) c.load_store.ensures.reads
-
-pub returns-in_err-test_words-clause-rests : goal.returns-in_err-test_words-clause-rests
-returns-in_err-test_words-clause-rests g c = λ two told. rests_at _ _ (rests_ready _ _ _ c.in_ok-store.ensures.opened.ready)
-
-pub returns-in_err-test_words-clause-specs : goal.returns-in_err-test_words-clause-specs
-returns-in_err-test_words-clause-specs g c = specs_disk c.args.links.now (g.H.Disk.tells c.args.host.now) (g.H.Disk.tells c.load_store.new.disk) c.requires.unused c.load_store.ensures.run
-
-pub returns-in_err-dialled-clause-headline : goal.returns-in_err-dialled-clause-headline
-returns-in_err-dialled-clause-headline g c =
-    headline_none _ c.args.links.now (g.H.Disk.tells c.args.host.now) (g.H.Disk.tells c.load_store.new.disk) c.requires.unused c.load_store.ensures.run
-    (λ two told. (c.load_store.ensures.rests two told).moments) c.load_store.ensures.reads
-
-pub returns-in_err-dialled-clause-rests : goal.returns-in_err-dialled-clause-rests
-returns-in_err-dialled-clause-rests g c = λ two told. rests_at _ _ (rests_ready _ _ _ c.in_ok-store.ensures.opened.ready)
-
-pub returns-in_err-dialled-clause-specs : goal.returns-in_err-dialled-clause-specs
-returns-in_err-dialled-clause-specs g c = specs_disk c.args.links.now (g.H.Disk.tells c.args.host.now) (g.H.Disk.tells c.load_store.new.disk) c.requires.unused c.load_store.ensures.run
 
 pub run_links-ended-requires-clause-unused : goal.run_links-ended-requires-clause-unused
 run_links-ended-requires-clause-unused g c = ap (λ (l : Links). l.dialled) c.load_store.ensures.run.same_links ∙ c.requires.unused
@@ -50,103 +15,128 @@ run_links-ended-requires-clause-unused g c = ap (λ (l : Links). l.dialled) c.lo
 pub run_links-ended-requires-clause-ready : goal.run_links-ended-requires-clause-ready
 run_links-ended-requires-clause-ready g c = c.in_ok-store.ensures.opened.ready
 
-pub returns-clause-headline : goal.returns-clause-headline
-returns-clause-headline g c =
-    headline_run _ c.args.links.now _ (g.H.Disk.tells c.args.host.now) (g.H.Disk.tells c.load_store.new.disk) (g.H.Disk.tells c.run_links-ended.new.host) (g.H.Disk.tells c.hang_up_all.new.host) c.requires.unused
-    c.load_store.ensures.run (λ two told. (c.load_store.ensures.rests two told).moments) c.load_store.ensures.reads c.in_ok-store.ensures.loaded c.in_ok-store.ensures.opened.ready c.run_links-ended.ensures.safe
-    c.hang_up_all.ensures
+pub returns-in_err-store-clause-headline : goal.returns-in_err-store-clause-headline
+returns-in_err-store-clause-headline g c =
+    headline_none _ c.args.links.now (g.H.Disk.tells c.args.host.now) (g.H.Disk.tells c.load_store.new.disk) c.requires.unused c.load_store.ensures.run
+    (λ two told. (c.load_store.ensures.rests two told).moments) c.load_store.ensures.reads
 
-pub returns-clause-rests : goal.returns-clause-rests
-returns-clause-rests g c = λ two told. at_rest_stills (g.H.Disk.tells c.run_links-ended.new.host) (g.H.Disk.tells c.hang_up_all.new.host) _ c.hang_up_all.ensures c.run_links-ended.ensures.rests
+pub returns-in_err-store-clause-told : goal.returns-in_err-store-clause-told
+returns-in_err-store-clause-told g c = λ two told.
+    let e = c.in_err-store.field-0.0 in
+    told_early _ c.args.limits c.args.links.now two (g.H.Disk.tells c.args.host.now) (g.H.Disk.tells c.load_store.new.disk)
+    told c.load_store.ensures.run (c.load_store.ensures.rests two told).moments
+    c.load_store.ensures.reads c.from_residual.result e c.from_residual.ensures.1
+    (loaded_unfull (g.H.Disk.tells c.args.host.now) (g.H.Disk.tells c.load_store.new.disk) e
+    c.in_err-store.ensures.by) (load_rests _ _ e c.in_err-store.ensures.settled)
+    (unloaded_comes _ c.args.limits c.args.links.now two (g.H.Disk.tells c.args.host.now) (g.H.Disk.tells c.load_store.new.disk)
+    c.requires.unused told c.load_store.ensures.run.same_links
+    c.load_store.ensures.reads c.from_residual.result e c.from_residual.ensures.1
+    c.in_err-store.ensures.by (c.in_err-store.ensures.loaded two told))
 
-pub returns-clause-sent : goal.returns-clause-sent
-returns-clause-sent g c =
-    sent_run _ _ (g.H.Disk.tells c.args.host.now) (g.H.Disk.tells c.run_links-ended.new.host) (g.H.Disk.tells c.hang_up_all.new.host) _ c.in_ok-store.ensures.loaded c.hang_up_all.ensures c.run_links-ended.ensures.sent
-
-pub returns-clause-specs : goal.returns-clause-specs
-returns-clause-specs g c =
-    specs_kept c.args.links.now (g.H.Disk.tells c.run_links-ended.new.host) (g.H.Disk.tells c.hang_up_all.new.host) (ap (λ (l : Links). specs_of l.told) c.hang_up_all.ensures.same_links) c.run_links-ended.ensures.specs
-
-pub returns-in_err-store-clause-comes : goal.returns-in_err-store-clause-comes
-returns-in_err-store-clause-comes g c = λ two told.
-    unloaded_comes _ c.args.limits c.args.links.now two (g.H.Disk.tells c.args.host.now) (g.H.Disk.tells c.load_store.new.disk) c.requires.unused told c.load_store.ensures.run.same_links
-    c.load_store.ensures.reads c.from_residual.result c.in_err-store.field-0.0 c.from_residual.ensures.1 c.in_err-store.ensures.by (c.in_err-store.ensures.loaded two told)
+pub returns-in_err-store-clause-specs : goal.returns-in_err-store-clause-specs
+returns-in_err-store-clause-specs g c = specs_disk c.args.links.now (g.H.Disk.tells c.args.host.now) (g.H.Disk.tells c.load_store.new.disk) c.requires.unused c.load_store.ensures.run
 
 pub returns-in_err-store-clause-caused : goal.returns-in_err-store-clause-caused
 returns-in_err-store-clause-caused g c =
     unloaded_caused c.args.links.now (g.H.Disk.tells c.args.host.now) (g.H.Disk.tells c.load_store.new.disk) c.from_residual.result c.in_err-store.field-0.0 c.from_residual.ensures.1
     c.in_err-store.ensures.by
 
-pub returns-in_err-test_words-clause-comes : goal.returns-in_err-test_words-clause-comes
-returns-in_err-test_words-clause-comes g c = λ two told.
-    refused_comes _ c.args.limits c.args.links.now two (g.H.Disk.tells c.args.host.now) (g.H.Disk.tells c.load_store.new.disk) c.requires.unused told c.load_store.ensures.run.same_links
-    c.load_store.ensures.reads _ (c.in_ok-store.ensures.loaded two told) c.from_residual-in_err-test_words.result c.in_err-test_words.field-0.0
-    c.from_residual-in_err-test_words.ensures.1 c.in_err-test_words.ensures.tested
+pub returns-in_err-store-clause-leaves : goal.returns-in_err-store-clause-leaves
+returns-in_err-store-clause-leaves g c =
+    leaves_same c.args.links.now (g.H.Disk.tells c.args.host.now) (g.H.Disk.tells c.load_store.new.disk) c.from_residual.result c.load_store.ensures.run.same_links
+
+pub returns-in_err-test_words-clause-headline : goal.returns-in_err-test_words-clause-headline
+returns-in_err-test_words-clause-headline g c =
+    headline_none _ c.args.links.now (g.H.Disk.tells c.args.host.now) (g.H.Disk.tells c.load_store.new.disk) c.requires.unused c.load_store.ensures.run
+    (λ two told. (c.load_store.ensures.rests two told).moments) c.load_store.ensures.reads
+
+pub returns-in_err-test_words-clause-told : goal.returns-in_err-test_words-clause-told
+returns-in_err-test_words-clause-told g c = λ two told.
+    told_early _ c.args.limits c.args.links.now two (g.H.Disk.tells c.args.host.now) (g.H.Disk.tells c.load_store.new.disk)
+    told c.load_store.ensures.run (c.load_store.ensures.rests two told).moments
+    c.load_store.ensures.reads c.from_residual-in_err-test_words.result _
+    c.from_residual-in_err-test_words.ensures.1 (λ same. cc)
+    (rests_ready _ _ _ c.in_ok-store.ensures.opened.ready)
+    (refused_comes _ c.args.limits c.args.links.now two (g.H.Disk.tells c.args.host.now) (g.H.Disk.tells c.load_store.new.disk)
+    c.requires.unused told c.load_store.ensures.run.same_links
+    c.load_store.ensures.reads _ (c.in_ok-store.ensures.loaded two told)
+    c.from_residual-in_err-test_words.result c.in_err-test_words.field-0.0
+    c.from_residual-in_err-test_words.ensures.1 c.in_err-test_words.ensures.tested)
+
+pub returns-in_err-test_words-clause-specs : goal.returns-in_err-test_words-clause-specs
+returns-in_err-test_words-clause-specs g c = specs_disk c.args.links.now (g.H.Disk.tells c.args.host.now) (g.H.Disk.tells c.load_store.new.disk) c.requires.unused c.load_store.ensures.run
 
 pub returns-in_err-test_words-clause-caused : goal.returns-in_err-test_words-clause-caused
 returns-in_err-test_words-clause-caused g c =
     refused_caused c.in_ok-store.store.state.facts c.args.links.now (g.H.Disk.tells c.args.host.now) (g.H.Disk.tells c.load_store.new.disk) c.from_residual-in_err-test_words.result
     c.in_err-test_words.field-0.0 c.from_residual-in_err-test_words.ensures.1 c.in_err-test_words.ensures.tested
 
-pub returns-in_err-dialled-clause-comes : goal.returns-in_err-dialled-clause-comes
-returns-in_err-dialled-clause-comes g c = λ two told.
-    unheld_comes _ c.args.limits c.args.links.now two (g.H.Disk.tells c.args.host.now) (g.H.Disk.tells c.load_store.new.disk) c.requires.unused told c.load_store.ensures.run.same_links
-    c.load_store.ensures.reads c.from_residual-in_err-dialled.result c.from_residual-in_err-dialled.ensures.1
+pub returns-in_err-test_words-clause-leaves : goal.returns-in_err-test_words-clause-leaves
+returns-in_err-test_words-clause-leaves g c =
+    leaves_same c.args.links.now (g.H.Disk.tells c.args.host.now) (g.H.Disk.tells c.load_store.new.disk) c.from_residual-in_err-test_words.result c.load_store.ensures.run.same_links
+
+pub returns-in_err-dialled-clause-headline : goal.returns-in_err-dialled-clause-headline
+returns-in_err-dialled-clause-headline g c =
+    headline_none _ c.args.links.now (g.H.Disk.tells c.args.host.now) (g.H.Disk.tells c.load_store.new.disk) c.requires.unused c.load_store.ensures.run
+    (λ two told. (c.load_store.ensures.rests two told).moments) c.load_store.ensures.reads
+
+pub returns-in_err-dialled-clause-told : goal.returns-in_err-dialled-clause-told
+returns-in_err-dialled-clause-told g c = λ two told.
+    told_early _ c.args.limits c.args.links.now two (g.H.Disk.tells c.args.host.now) (g.H.Disk.tells c.load_store.new.disk)
+    told c.load_store.ensures.run (c.load_store.ensures.rests two told).moments
+    c.load_store.ensures.reads c.from_residual-in_err-dialled.result outcome.Memory
+    c.from_residual-in_err-dialled.ensures.1 (λ same. cc)
+    (rests_ready _ _ _ c.in_ok-store.ensures.opened.ready)
+    (unheld_comes _ c.args.limits c.args.links.now two (g.H.Disk.tells c.args.host.now) (g.H.Disk.tells c.load_store.new.disk)
+    c.requires.unused told c.load_store.ensures.run.same_links
+    c.load_store.ensures.reads c.from_residual-in_err-dialled.result
+    c.from_residual-in_err-dialled.ensures.1)
+
+pub returns-in_err-dialled-clause-specs : goal.returns-in_err-dialled-clause-specs
+returns-in_err-dialled-clause-specs g c = specs_disk c.args.links.now (g.H.Disk.tells c.args.host.now) (g.H.Disk.tells c.load_store.new.disk) c.requires.unused c.load_store.ensures.run
 
 pub returns-in_err-dialled-clause-caused : goal.returns-in_err-dialled-clause-caused
 returns-in_err-dialled-clause-caused g c =
     unheld_caused c.args.links.now (g.H.Disk.tells c.args.host.now) (g.H.Disk.tells c.load_store.new.disk) c.from_residual-in_err-dialled.result c.from_residual-in_err-dialled.ensures.1
 
-pub returns-clause-comes : goal.returns-clause-comes
-returns-clause-comes g c = λ two told.
-    links_come _ c.args.limits c.args.links.now two (g.H.Disk.tells c.args.host.now) (g.H.Disk.tells c.load_store.new.disk) c.requires.unused told c.load_store.ensures.run.same_links
-    c.load_store.ensures.reads _ (c.in_ok-store.ensures.loaded two told) (g.H.Disk.tells c.run_links-ended.new.host) (g.H.Disk.tells c.hang_up_all.new.host) c.in_ok-test_words.field-0
-    c.run_links-ended.result c.in_ok-store.ensures.opened.ready.fits c.in_ok-test_words.ensures.tested c.hang_up_all.ensures.same_links c.hang_up_all.ensures.same_files
-    c.run_links-ended.ensures.comes
-
-pub returns-clause-caused : goal.returns-clause-caused
-returns-clause-caused g c =
-    links_caused c.args.links.now (g.H.Disk.tells c.args.host.now) (g.H.Disk.tells c.load_store.new.disk) (g.H.Disk.tells c.run_links-ended.new.host) (g.H.Disk.tells c.hang_up_all.new.host)
-    c.load_store.ensures.run c.hang_up_all.ensures.same_links c.hang_up_all.ensures.same_faults c.run_links-ended.result c.run_links-ended.ensures.caused
-
-pub returns-in_err-store-clause-sent_full : goal.returns-in_err-store-clause-sent_full
-returns-in_err-store-clause-sent_full g c = λ two told is.
-    absurd (loaded_unfull (g.H.Disk.tells c.args.host.now) (g.H.Disk.tells c.load_store.new.disk) c.in_err-store.field-0.0 c.in_err-store.ensures.by (err_was _ c.in_err-store.field-0.0 _ c.from_residual.ensures.1 is))
-
-pub returns-clause-sent_full : goal.returns-clause-sent_full
-returns-clause-sent_full g c = λ two told is.
-    full_run _ _ (g.H.Disk.tells c.args.host.now) (g.H.Disk.tells c.load_store.new.disk) (g.H.Disk.tells c.run_links-ended.new.host) (g.H.Disk.tells c.hang_up_all.new.host) c.load_store.ensures.run c.hang_up_all.ensures
-    c.in_ok-store.ensures.loaded (c.run_links-ended.ensures.sent_full is) two told
-
-pub returns-in_err-store-clause-leaves : goal.returns-in_err-store-clause-leaves
-returns-in_err-store-clause-leaves g c =
-    leaves_same c.args.links.now (g.H.Disk.tells c.args.host.now) (g.H.Disk.tells c.load_store.new.disk) c.from_residual.result c.load_store.ensures.run.same_links
-
-pub returns-in_err-test_words-clause-leaves : goal.returns-in_err-test_words-clause-leaves
-returns-in_err-test_words-clause-leaves g c =
-    leaves_same c.args.links.now (g.H.Disk.tells c.args.host.now) (g.H.Disk.tells c.load_store.new.disk) c.from_residual-in_err-test_words.result c.load_store.ensures.run.same_links
-
 pub returns-in_err-dialled-clause-leaves : goal.returns-in_err-dialled-clause-leaves
 returns-in_err-dialled-clause-leaves g c =
     leaves_same c.args.links.now (g.H.Disk.tells c.args.host.now) (g.H.Disk.tells c.load_store.new.disk) c.from_residual-in_err-dialled.result c.load_store.ensures.run.same_links
 
+pub returns-clause-headline : goal.returns-clause-headline
+returns-clause-headline g c =
+    headline_run _ c.args.links.now _ (g.H.Disk.tells c.args.host.now) (g.H.Disk.tells c.load_store.new.disk) (g.H.Disk.tells c.run_links-ended.new.host) (g.H.Disk.tells c.hang_up_all.new.host) c.requires.unused
+    c.load_store.ensures.run (λ two told. (c.load_store.ensures.rests two told).moments) c.load_store.ensures.reads c.in_ok-store.ensures.loaded c.in_ok-store.ensures.opened.ready c.run_links-ended.ensures.safe
+    c.hang_up_all.ensures
+
+pub returns-clause-told : goal.returns-clause-told
+returns-clause-told g c = λ two told. record {
+  rests =
+      at_rest_stills (g.H.Disk.tells c.run_links-ended.new.host) (g.H.Disk.tells c.hang_up_all.new.host) _ c.hang_up_all.ensures c.run_links-ended.ensures.sends.rests;
+  sent =
+      sent_run _ _ (g.H.Disk.tells c.args.host.now) (g.H.Disk.tells c.run_links-ended.new.host) (g.H.Disk.tells c.hang_up_all.new.host) _ c.in_ok-store.ensures.loaded c.hang_up_all.ensures c.run_links-ended.ensures.sends.sent two told;
+  sent_full =
+      λ is. full_run _ _ (g.H.Disk.tells c.args.host.now) (g.H.Disk.tells c.load_store.new.disk) (g.H.Disk.tells c.run_links-ended.new.host) (g.H.Disk.tells c.hang_up_all.new.host) c.load_store.ensures.run c.hang_up_all.ensures
+      c.in_ok-store.ensures.loaded (c.run_links-ended.ensures.sends.sent_full is) two told;
+  comes =
+      links_come _ c.args.limits c.args.links.now two (g.H.Disk.tells c.args.host.now) (g.H.Disk.tells c.load_store.new.disk) c.requires.unused told c.load_store.ensures.run.same_links
+      c.load_store.ensures.reads _ (c.in_ok-store.ensures.loaded two told) (g.H.Disk.tells c.run_links-ended.new.host) (g.H.Disk.tells c.hang_up_all.new.host) c.in_ok-test_words.field-0
+      c.run_links-ended.result c.in_ok-store.ensures.opened.ready.fits c.in_ok-test_words.ensures.tested c.hang_up_all.ensures.same_links c.hang_up_all.ensures.same_files
+      c.run_links-ended.ensures.comes;
+  unbegun =
+      λ none. absurd (tested_begins c.args.links.now _ c.in_ok-store.store (c.in_ok-store.ensures.loaded two told) c.in_ok-test_words.ensures.tested none);
+}
+
+pub returns-clause-specs : goal.returns-clause-specs
+returns-clause-specs g c =
+    specs_kept c.args.links.now (g.H.Disk.tells c.run_links-ended.new.host) (g.H.Disk.tells c.hang_up_all.new.host) (ap (λ (l : Links). specs_of l.told) c.hang_up_all.ensures.same_links) c.run_links-ended.ensures.links.specs
+
+pub returns-clause-caused : goal.returns-clause-caused
+returns-clause-caused g c =
+    links_caused c.args.links.now (g.H.Disk.tells c.args.host.now) (g.H.Disk.tells c.load_store.new.disk) (g.H.Disk.tells c.run_links-ended.new.host) (g.H.Disk.tells c.hang_up_all.new.host)
+    c.load_store.ensures.run c.hang_up_all.ensures.same_links c.hang_up_all.ensures.same_faults c.run_links-ended.result c.run_links-ended.ensures.links.caused
+
 pub returns-clause-leaves : goal.returns-clause-leaves
 returns-clause-leaves g c =
     leaves_as c.args.links.now (g.H.Disk.tells c.args.host.now) (g.H.Disk.tells c.load_store.new.disk) (g.H.Disk.tells c.run_links-ended.new.host) (g.H.Disk.tells c.hang_up_all.new.host)
-    c.run_links-ended.result c.load_store.ensures.run.same_links c.hang_up_all.ensures.same_links c.run_links-ended.ensures.leaves
-
-pub returns-in_err-store-clause-unbegun : goal.returns-in_err-store-clause-unbegun
-returns-in_err-store-clause-unbegun g c = λ two told none.
-    unbegun_loaded two (g.H.Disk.tells c.args.host.now) (g.H.Disk.tells c.load_store.new.disk) told c.load_store.ensures.run (c.load_store.ensures.rests two told).moments c.load_store.ensures.reads
-
-pub returns-in_err-test_words-clause-unbegun : goal.returns-in_err-test_words-clause-unbegun
-returns-in_err-test_words-clause-unbegun g c = λ two told none.
-    unbegun_loaded two (g.H.Disk.tells c.args.host.now) (g.H.Disk.tells c.load_store.new.disk) told c.load_store.ensures.run (c.load_store.ensures.rests two told).moments c.load_store.ensures.reads
-
-pub returns-in_err-dialled-clause-unbegun : goal.returns-in_err-dialled-clause-unbegun
-returns-in_err-dialled-clause-unbegun g c = λ two told none.
-    unbegun_loaded two (g.H.Disk.tells c.args.host.now) (g.H.Disk.tells c.load_store.new.disk) told c.load_store.ensures.run (c.load_store.ensures.rests two told).moments c.load_store.ensures.reads
-
-pub returns-clause-unbegun : goal.returns-clause-unbegun
-returns-clause-unbegun g c = λ two told none.
-    absurd (tested_begins c.args.links.now _ c.in_ok-store.store (c.in_ok-store.ensures.loaded two told) c.in_ok-test_words.ensures.tested none)
+    c.run_links-ended.result c.load_store.ensures.run.same_links c.hang_up_all.ensures.same_links c.run_links-ended.ensures.links.leaves

@@ -13,14 +13,7 @@ returns-in-Ok-clause-comes g c =
     _ _ _ _ _ _ c.in-Sync.is
     (inl (
       has_run clients _ c.in-Sync.links c.as_slice.result.now _ _ (Ok c.in-Ok.ends) _
-          c.as_slice.ensures.links refl e.headline
-          (λ two files. record {
-            rests = e.rests two files;
-            sent = e.sent two files;
-            sent_full = e.sent_full two files;
-            comes = e.comes two files;
-            unbegun = e.unbegun two files;
-          }) e.specs e.caused e.leaves,
+          c.as_slice.ensures.links refl e.headline e.told e.specs e.caused e.leaves,
       (record { same = refl; same_faults = refl }, record { same = refl; same_faults = refl }),
     ))
 
@@ -32,13 +25,6 @@ returns-in-Sync-clause-comes g c =
     _ _ _ _ _ _ c.in-Sync.is
     (inl (
       has_run clients _ c.in-Sync.links c.as_slice.result.now _ _ (Err c.in-Err.came) _
-          c.as_slice.ensures.links refl e.headline
-          (λ two files. record {
-            rests = e.rests two files;
-            sent = e.sent two files;
-            sent_full = e.sent_full two files;
-            comes = e.comes two files;
-            unbegun = e.unbegun two files;
-          }) e.specs e.caused e.leaves,
+          c.as_slice.ensures.links refl e.headline e.told e.specs e.caused e.leaves,
       (record { same = refl; same_faults = refl }, record { same = refl; same_faults = refl }),
     ))

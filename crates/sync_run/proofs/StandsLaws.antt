@@ -1,0 +1,125 @@
+-- How a node stands behind parts of a run, one after the other.
+use Rattle.std.proofs.Common.{◌≡◌, ℕ, ◌+◌, ◌++◌, ◌∷◌, [], ◌≤◌, ◌<◌, List, length, sym, ◌∙◌, ap, subst, refl, arith, Result, Ok, Err, get_or}
+use Rattle.std.specs.Prelude.{IsErrAnd}
+use Rattle.std.proofs.lemmas.List.{length-append, length-map}
+use Rattle.outside.specs.Faults.{CountRose, one_more}
+use Rattle.outside.specs.Outside.{Outside}
+use Rattle.sync_rules.specs.Clients.{Meaning}
+use Rattle.sync_rules.specs.declared.entries.Session.{Session}
+use Rattle.sync_node.specs.Causes.{sessions_of}
+use Rattle.sync_node.specs.declared.fault.NodeFault.{NodeFault}
+use Rattle.sync_node.specs.declared.fault.NodeFault.TheVariants as fault
+use Rattle.sync_node.specs.declared.link.Link.{Link}
+use Rattle.sync_node.specs.Node.{AnswersAndCloses, IsNode, MayRun, NodeValue}
+use Rattle.sync_run.specs.declared.dialling.Dialled.{Dialled}
+use Rattle.sync_node.specs.Calls.{AttachStops, CallGoes, CallStops}
+use Rattle.sync_run.specs.NodeStands.{StandsBy}
+use Rattle.sync_run.specs.SafeRuns.{AllMayBegin, MayBeginOn}
+use Rattle.sync_run.proofs.CauseLaws.{causes_then, goes_none, goes_then, no_causes}
+
+-- ---- what is kept
+
+pub keeps_none : (n : NodeValue) (o : Outside) → IsNode n → CallGoes n n o o
+keeps_none n o node = record {
+  node = node;
+  goes = goes_none o;
+  same_first = refl;
+  same_limit = refl;
+  same_format = refl;
+  cause = no_causes n.links o;
+}
+
+pub keeps_then : (n0 n1 n2 : NodeValue) (o0 o1 o2 : Outside) → CallGoes n0 n1 o0 o1
+    → CallGoes n1 n2 o1 o2 → CallGoes n0 n2 o0 o2
+keeps_then n0 n1 n2 o0 o1 o2 first second = record {
+  node = second.node;
+  goes = goes_then o0 o1 o2 first.goes second.goes;
+  same_first = second.same_first ∙ first.same_first;
+  same_limit = second.same_limit ∙ first.same_limit;
+  same_format = second.same_format ∙ first.same_format;
+  cause =
+      causes_then n0.links n1.links n2.links o0 o1 o2 first.goes second.goes first.cause second.cause;
+}
+
+-- ---- where a call stopped
+
+pub rose_since : (a b c : ℕ) → a ≤ b → CountRose b c → CountRose a c
+rose_since a b c le rose = let more : one_more b ≤ c = rose in omega (arith, le, more)
+
+module _ (T U : Type 0) (clients : Meaning) (n' : NodeValue) (o o1 o' : Outside)
+    (later : o.disk_faults ≤ o1.disk_faults) where
+  stops_on : (x : NodeFault) → CallStops {T = T} clients n' o1 o' (Err x)
+      → CallStops {T = U} clients n' o o' (Err x)
+  stops_on fault.Memory stops = stops
+  stops_on fault.Full stops = stops
+  stops_on fault.DiskFault stops =
+      rose_since o.disk_faults o1.disk_faults o'.disk_faults later stops
+  stops_on fault.Closed stops = tt
+
+  closes_by : (x : NodeFault) → AnswersAndCloses {T = T} (Err x) n'
+      → AnswersAndCloses {T = U} (Err x) n'
+  closes_by fault.Memory answer = answer
+  closes_by fault.Full answer = answer
+  closes_by fault.DiskFault answer = answer
+  closes_by fault.Closed answer = answer
+
+  -- a call of a node stopped, and its fault goes on by `?`
+  pub stands_stopped : (count : ℕ) (r : Result U NodeFault) (x : NodeFault)
+      → IsErrAnd r (λ y. y ≡ x) → AnswersAndCloses {T = T} (Err x) n' → MayRun clients n' o'
+      → CallStops {T = T} clients n' o1 o' (Err x) → StandsBy clients count n' o o' r
+  stands_stopped count (Ok u) x is answer may stops = absurd is
+  stands_stopped count (Err y) x is answer may stops =
+      subst (λ (z : NodeFault). StandsBy {T = U} clients count n' o o' (Err z)) (sym is)
+      (record {
+        answer = closes_by x answer;
+        may = may;
+        stops = stops_on x stops;
+        number = tt;
+      })
+
+  -- the same of a part of a run
+  pub stands_on : (count count' : ℕ) (r : Result U NodeFault) (x : NodeFault)
+      → IsErrAnd r (λ y. y ≡ x) → StandsBy {T = T} clients count n' o1 o' (Err x)
+      → StandsBy clients count' n' o o' r
+  stands_on count count' (Ok u) x is stands = absurd is
+  stands_on count count' (Err y) x is stands =
+      stands_stopped count' (Err y) x is stands.answer stands.may stands.stops
+
+-- behind another part
+pub stands_then : {T : Type 0} (clients : Meaning) (n' : NodeValue) (o o1 o' : Outside)
+    → o.disk_faults ≤ o1.disk_faults → (count count' : ℕ) → count ≡ count' → (r : Result T NodeFault)
+    → StandsBy clients count n' o1 o' r → StandsBy clients count' n' o o' r
+stands_then {T = T} clients n' o o1 o' later count count' same (Ok t) stands =
+    record { answer = stands.answer; may = stands.may; stops = tt; number = stands.number ∙ same }
+stands_then {T = T} clients n' o o1 o' later count count' same (Err x) stands =
+    stands_on T T clients n' o o1 o' later count count' (Err x) x refl stands
+
+-- where a session could not begin
+pub attach_stops : (T H : Type 0) (clients : Meaning) (n n' : NodeValue) (host host' : H)
+    (o o' : Outside) (x : NodeFault) → AttachStops {T = T} clients n n' host host' o o' (Err x)
+    → CallStops {T = T} clients n' o o' (Err x)
+attach_stops T H clients n n' host host' o o' fault.Memory stops = stops.ready
+attach_stops T H clients n n' host host' o o' fault.Full stops = stops.ready
+attach_stops T H clients n n' host host' o o' fault.DiskFault stops = stops
+attach_stops T H clients n n' host host' o o' fault.Closed stops = tt
+
+-- ---- links
+
+pub one_longer : (links links' : List Link) (l : Link) → links' ≡ links ++ l ∷ []
+    → length links' ≡ length links + 1
+one_longer links links' l is = ap (λ (ls : List Link). length ls) is ∙ length-append links (l ∷ [])
+
+-- a turn leaves the sessions on the links
+pub same_number : (links links' : List Link) → sessions_of links' ≡ sessions_of links
+    → length links' ≡ length links
+same_number links links' same =
+    sym (long links') ∙ ap (λ (ss : List Session). length ss) same ∙ long links
+  where
+    long : (ls : List Link) → length (sessions_of ls) ≡ length ls
+    long ls = length-map ls (λ (l : Link). l.session)
+
+-- what the next session needs
+pub item_may : (contacts : ℕ) (links : List Dialled) (i : ℕ) (d : Dialled)
+    → AllMayBegin contacts links → i < length links → d ≡ get_or links i d → MayBeginOn contacts d
+item_may contacts links i d all within is =
+    subst (λ (x : Dialled). MayBeginOn contacts x) (sym is) (all i d within)
