@@ -135,4 +135,5 @@ returns-in-Err-clause-kept g c =
 
 pub returns-in-Err-clause-stops : goal.returns-in-Err-clause-stops
 returns-in-Err-clause-stops g c = λ opened.
-    stops_call Bool _ _ c.self.inside.first _ _ _ _ c.in-Err.fault _ c.close.ensures.fault c.in-Err.ensures.keeps.store.answered
+    stops_call Bool (g.C.Clients.meaning c.args.clients.now) c.receive_on.new.store c.self.inside.first _ _
+    (g.H.Disk.tells c.args.host.now) (g.H.Disk.tells c.receive_on.new.host) c.in-Err.fault _ c.close.ensures.fault c.in-Err.ensures.keeps.store.answered

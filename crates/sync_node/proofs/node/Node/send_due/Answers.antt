@@ -123,4 +123,5 @@ returns-in-Err-clause-kept g c =
 
 pub returns-in-Err-clause-stops : goal.returns-in-Err-clause-stops
 returns-in-Err-clause-stops g c = λ opened.
-    stops_call ℕ _ _ c.self.inside.first _ _ _ _ c.in-Err.fault _ c.close.ensures.fault c.in-Err.ensures.keeps.store.answered
+    stops_call ℕ (g.C.Clients.meaning c.args.clients.now) c.send_all.new.store c.self.inside.first _ _
+    (g.H.Disk.tells c.args.host.now) (g.H.Disk.tells c.send_all.new.host) c.in-Err.fault _ c.close.ensures.fault c.in-Err.ensures.keeps.store.answered

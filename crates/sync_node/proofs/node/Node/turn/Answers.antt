@@ -155,7 +155,8 @@ returns-in-Err-clause-stopped g c = λ opened.
 
 pub returns-in-Err-clause-stops : goal.returns-in-Err-clause-stops
 returns-in-Err-clause-stops g c = λ opened.
-    stops_call Turned _ _ c.self.inside.first _ _ _ _ c.in-Err.fault _ c.close.ensures.fault c.in-Err.ensures.keeps.store.answered
+    stops_call Turned (g.C.Clients.meaning c.args.clients.now) c.turn_all.new.store c.self.inside.first _ _
+    (g.H.Disk.tells c.args.host.now) (g.H.Disk.tells c.turn_all.new.host) c.in-Err.fault _ c.close.ensures.fault c.in-Err.ensures.keeps.store.answered
 
 pub returns-in-Ok-true-clause-goes : goal.returns-in-Ok-true-clause-goes
 returns-in-Ok-true-clause-goes g c =
