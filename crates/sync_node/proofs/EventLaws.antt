@@ -137,7 +137,7 @@ module _ {P : Type 0} (clients : Meaning) (facts_of : P → Facts) (first : ℕ)
   by_act p m q (Fail n bytes count) fs steps rest =
       one_more p.at m.at q (Break n) fs steps.1 rest
 
-  as_events : (p q : Owing P) (acts : List Act) → Path (ActStep facts_of first step) p acts q
+  pub as_events : (p q : Owing P) (acts : List Act) → Path (ActStep facts_of first step) p acts q
       → EventPath step p.at q.at (events_of acts)
   as_events p q [] path =
       record { events = []; path = ap (λ (x : Owing P). x.at) path; thins = thins_none }

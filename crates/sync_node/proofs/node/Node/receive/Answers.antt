@@ -1,4 +1,4 @@
-use Rattle.std.proofs.Common.{Bool, ◌<◌, List, ℕ, arith, refl, ap, sym, subst, ◌∙◌, length, Some}
+use Rattle.std.proofs.Common.{Bool, true, ◌<◌, List, ℕ, arith, refl, ap, sym, subst, ◌∙◌, length, Some}
 use Rattle.std.specs.List.{slice_get}
 use Rattle.std.proofs.lemmas.Option.{slice_get-get_or}
 use Rattle.sync_node.specs.Node.{IsNode, NodeValue}
@@ -135,5 +135,5 @@ returns-in-Err-clause-kept g c =
 
 pub returns-in-Err-clause-stops : goal.returns-in-Err-clause-stops
 returns-in-Err-clause-stops g c = λ opened.
-    stops_call Bool (g.C.Clients.meaning c.args.clients.now) c.receive_on.new.store c.self.inside.first _ _
+    stops_call Bool (g.C.Clients.meaning c.args.clients.now) c.receive_on.new.store c.self.inside.first c.self.inside.links.items true
     (g.H.Disk.tells c.args.host.now) (g.H.Disk.tells c.receive_on.new.host) c.in-Err.fault _ c.close.ensures.fault c.in-Err.ensures.keeps.store.answered

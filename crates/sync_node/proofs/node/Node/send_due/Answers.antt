@@ -1,4 +1,4 @@
-use Rattle.std.proofs.Common.{Bool, ◌<◌, List, ℕ, arith, refl, ap, sym, subst, ◌∙◌, length, Some}
+use Rattle.std.proofs.Common.{Bool, true, ◌<◌, List, ℕ, arith, refl, ap, sym, subst, ◌∙◌, length, Some}
 use Rattle.std.specs.List.{slice_get}
 use Rattle.std.proofs.lemmas.Option.{slice_get-get_or}
 use Rattle.sync_node.specs.Node.{IsNode, NodeValue}
@@ -123,5 +123,5 @@ returns-in-Err-clause-kept g c =
 
 pub returns-in-Err-clause-stops : goal.returns-in-Err-clause-stops
 returns-in-Err-clause-stops g c = λ opened.
-    stops_call ℕ (g.C.Clients.meaning c.args.clients.now) c.send_all.new.store c.self.inside.first _ _
+    stops_call ℕ (g.C.Clients.meaning c.args.clients.now) c.send_all.new.store c.self.inside.first c.self.inside.links.items true
     (g.H.Disk.tells c.args.host.now) (g.H.Disk.tells c.send_all.new.host) c.in-Err.fault _ c.close.ensures.fault c.in-Err.ensures.keeps.store.answered

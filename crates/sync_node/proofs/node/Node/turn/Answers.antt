@@ -1,4 +1,4 @@
-use Rattle.std.proofs.Common.{List, ℕ, arith, refl, ap, subst, ◌∙◌, length}
+use Rattle.std.proofs.Common.{true, List, ℕ, arith, refl, ap, subst, ◌∙◌, length}
 use Rattle.sync_node.specs.declared.link.Link.{Link}
 use Rattle.sync_node.specs.declared.node.Turned.{Turned}
 use Rattle.sync_node.specs.Node.{IsNode, NodeValue}
@@ -155,7 +155,7 @@ returns-in-Err-clause-stopped g c = λ opened.
 
 pub returns-in-Err-clause-stops : goal.returns-in-Err-clause-stops
 returns-in-Err-clause-stops g c = λ opened.
-    stops_call Turned (g.C.Clients.meaning c.args.clients.now) c.turn_all.new.store c.self.inside.first _ _
+    stops_call Turned (g.C.Clients.meaning c.args.clients.now) c.turn_all.new.store c.self.inside.first c.self.inside.links.items true
     (g.H.Disk.tells c.args.host.now) (g.H.Disk.tells c.turn_all.new.host) c.in-Err.fault _ c.close.ensures.fault c.in-Err.ensures.keeps.store.answered
 
 pub returns-in-Ok-true-clause-goes : goal.returns-in-Ok-true-clause-goes
