@@ -1,8 +1,8 @@
 -- Where a node and its host are joined and links are told, each link that is still asked has read
 -- all that was heard on it: the clauses on the course hold with the bytes that the host tells.
-use Rattle.std.proofs.Common.{◌≡◌, ℕ, List, [], ◌++◌, length, ap, le_refl, refl}
+use Rattle.std.proofs.Common.{ℕ, List, [], ◌++◌, refl}
 use Rattle.outside.specs.Outside.{Outside}
-use Rattle.outside.specs.Runs.{TellsAll, heard_bytes}
+use Rattle.outside.specs.Runs.{TellsAll}
 use Rattle.record_grammar.specs.Stream.{items}
 use Rattle.sync_rules.specs.Clients.{Meaning}
 use Rattle.sync_rules.specs.Facts.{Facts}
@@ -23,9 +23,3 @@ joined_read clients first links f s o attached joined told i l at going =
     let reading : IsReading (heard_on o.links i) [] l.reader (items l.reader.place (l.reader.bytes ++ [])) =
     record { given = has.has; reads = has.reads; to_come = refl } in
     (none_come (heard_on o.links i) [] l.reader (items l.reader.place (l.reader.bytes ++ [])) reading refl ((attached.each i l at).waits going)).1
-
--- nothing was heard on the link behind them
-pub joined_unheard : (clients : Meaning) (links : List Link) (s : StoreValue) (o : Outside)
-    → Joined clients links s o → TellsAll o → heard_on o.links (length links) ≡ []
-joined_unheard clients links s o joined told =
-    ap heard_bytes ((joined.others (length links) (le_refl (length links))).nothing_heard told)

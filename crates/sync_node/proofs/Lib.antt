@@ -22,7 +22,6 @@ mod CourseRuns
 mod CourseRedundant
 mod CourseCalls
 mod CourseJoined
-mod CourseNode
 mod CourseStart
 mod Undone
 pub mod Halts

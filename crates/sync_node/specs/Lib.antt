@@ -17,7 +17,6 @@ pub mod Node
 pub mod Keeps
 pub mod Calls
 pub mod Stays
-pub mod Stops
 pub mod Begun
 pub mod Plans
 pub mod Cited

@@ -1,4 +1,4 @@
-use Rattle.std.proofs.Common.{Bool, true, ◌<◌, List, ℕ, arith, refl, ap, sym, subst, ◌∙◌, length, Some}
+use Rattle.std.proofs.Common.{true, ◌<◌, ℕ, arith, refl, ap, sym, subst, ◌∙◌, length, Some}
 use Rattle.std.specs.List.{slice_get}
 use Rattle.std.proofs.lemmas.Option.{slice_get-get_or}
 use Rattle.sync_node.specs.Node.{IsNode, NodeValue}
