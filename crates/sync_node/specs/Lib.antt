@@ -5,7 +5,6 @@ pub mod Suits
 pub mod Safe
 pub mod Going
 pub mod Causes
-pub mod Joined
 pub mod Working
 pub mod Sending
 pub mod Hearing

@@ -18,8 +18,6 @@ use Rattle.record_stream.specs.Reading.{ReaderState}
 use Rattle.sync_course.specs.declared.ends.LinkEnd.{LinkEnd}
 use Rattle.sync_course.specs.declared.ends.LinkEnd.TheVariants as link_end
 use Rattle.sync_node.specs.Causes.{sessions_of}
-use Rattle.sync_node.specs.Going.{LetsNothingFall}
-use Rattle.sync_node.specs.Joined.{Joined}
 use Rattle.sync_node.specs.Working.{HasGivenItems}
 
 -- the store, the number of sessions when the node was made, the links that are attached, and
@@ -112,20 +110,6 @@ MayRun clients n o = n.closed ≡ false → MayGoOn clients n.links n.store o
 pub record KeepsSessions (n n' : NodeValue) : Type 0 where
   pub same_first : n'.first ≡ n.first
   pub same_sessions : sessions_of n'.links ≡ sessions_of n.links
-
--- Calls on the links of a node, which was not closed, leave them joined.
-pub record KeepsJoined (clients : Meaning) (n n' : NodeValue) (o o' : Outside) : Type 0 where
-  pub goes : LetsNothingFall o o'
-  pub same_first : n'.first ≡ n.first
-  pub same_number : length n'.links ≡ length n.links
-  pub joined : Joined clients n.links n.store o → Joined clients n'.links n'.store o'
-
--- a session was begun on the next link
-pub record AttachesLink (clients : Meaning) (n n' : NodeValue) (o o' : Outside) : Type 0 where
-  pub goes : LetsNothingFall o o'
-  pub same_first : n'.first ≡ n.first
-  pub one_more : length n'.links ≡ length n.links + 1
-  pub joined : Joined clients n.links n.store o → Joined clients n'.links n'.store o'
 
 -- what a call answers where an earlier call of the node failed: it does nothing
 pub record StaysClosed {T H : Type 0} (n n' : NodeValue) (host host' : H)

@@ -49,8 +49,7 @@ send_all-requires g c =
 pub invariant_of-self : goal.invariant_of-self
 invariant_of-self g c =
     let within : c.args.link < length c.self.inside.links.items = omega (arith, c.requires.attached, ap (λ (n : NodeValue). length n.links) c.self.view_is) in
-    let here = slice_get-get_or c.self.inside.links.items c.args.link c.index_mut.result.now within ∙ ap Some (sym c.index_mut.ensures.value) in
-    (
+    let here = slice_get-get_or c.self.inside.links.items c.args.link c.index_mut.result.now within ∙ ap Some (sym c.index_mut.ensures.value) in (
       c.self.invariant.0,
       is_node _ _ _ _ (omega (arith, c.self.invariant.1.few, length_set c.self.inside.links.items c.args.link c.send_all.new.link)) (all_attached _ c.self.inside.first c.args.link c.self.inside.links.items _ c.send_all.new.link _ _ _ _ _ (c.self.invariant.1.attached c.if-self.false) here c.in-Ok.ensures.keeps c.in-Ok.ensures.waits),
     )
