@@ -12,6 +12,7 @@ pub mod FailLaws
 pub mod QuietLaws
 pub mod SendLaws
 pub mod FreeSuits
+pub mod HeardLaws
 pub mod PlanLaws
 pub mod SuitLaws
 pub mod ToldLaws
