@@ -21,8 +21,6 @@ use Rattle.sync_course.proofs.ActLaws.{batches_in_commits}
 use Rattle.sync_node.specs.Adding.{AddsAtMost, AddsOne, AddsWithin}
 use Rattle.sync_node.specs.Batches.{AddStops, Added}
 use Rattle.sync_node.specs.OnRuns.{ByFault}
-use Rattle.sync_node.specs.declared.fault.Fault.{Fault}
-use Rattle.sync_node.specs.declared.fault.Fault.TheVariants as kind
 use Rattle.sync_node.specs.declared.fault.NodeFault.{NodeFault}
 use Rattle.sync_node.specs.declared.fault.NodeFault.TheVariants as node_fault
 use Rattle.sync_node.specs.declared.link.Link.{Link}
@@ -36,7 +34,6 @@ use Rattle.world_devices.specs.declared.stop.Ran.{Ran}
 use Rattle.world_devices.specs.declared.stop.Ran.TheVariants as ran
 use Rattle.world_devices.specs.declared.stop.StepFault.{StepFault}
 use Rattle.world_devices.proofs.HostLaws.{quiet_same, silent_linked, told_host}
-use Rattle.world_devices.proofs.RunLaws.{by_any}
 use Rattle.world_devices.proofs.RunningLaws.{LeadsAdding, journal_of, open_of}
 use Rattle.world_devices.proofs.StartLaws.{fits_hold}
 
@@ -128,35 +125,36 @@ at_most e batch n n' h h' links is leads run j holds =
 -- where it is full the journal would pass its limit
 pub adding_over : (batch : List Entry) (s s' : StoreValue) (o o' : Outside) (x : NodeFault) → x ≡ node_fault.Full → ByFault (AddStops bundle_meaning batch s s' o o') x → s.limit < needed s batch
 adding_over batch s s' o o' x is stopped =
-    let full : AddStops bundle_meaning batch s s' o o' kind.Full = subst (λ (y : NodeFault). ByFault (AddStops bundle_meaning batch s s' o o') y) is stopped in
+    let full = subst (λ (y : NodeFault). ByFault (AddStops bundle_meaning batch s s' o o') y) is stopped in
     full.before
 
 -- adding came so far as that
+as_many : (count k : ℕ) (o o' : Outside) → k ≡ count → MakesAtMost (4 * k) o o' → MakesAtMost (4 * count) o o'
+as_many count k o o' same calls = subst (λ (m : ℕ). MakesAtMost (4 * m) o o') same calls
+
+all_long : (more : List (List Entry)) → length (batches_in (commit_acts more)) ≡ length more
+all_long more = ap length (batches_in_commits more)
+
+parts_long : (front others more : List (List Entry)) → more ≡ front ++ others → length (others ++ batches_in (commit_acts front)) ≡ length more
+parts_long front others more parts =
+    let long : length more ≡ length front + length others = ap length parts ∙ length-append front others in
+    omega (arith, long, all_long front, length-append others (batches_in (commit_acts front)))
+
 pub adds_within : (batch : List Entry) (s s' : StoreValue) (o o' : Outside) (x : NodeFault) → ByFault (AddStops bundle_meaning batch s s' o o') x → AddsWithin bundle_meaning batch s o o'
-adds_within batch s s' o o' x stopped = by_any (AddStops bundle_meaning batch s s' o o') (AddsWithin bundle_meaning batch s o o') each x stopped
-  where
-    all : (more : List (List Entry)) → length (batches_in (commit_acts more)) ≡ length more
-    all more = ap length (batches_in_commits more)
-
-    as_many : (count k : ℕ) → k ≡ count → MakesAtMost (4 * k) o o' → MakesAtMost (4 * count) o o'
-    as_many count k same calls = subst (λ (m : ℕ). MakesAtMost (4 * m) o o') same calls
-
-    each : (e : Fault) → AddStops bundle_meaning batch s s' o o' e → AddsWithin bundle_meaning batch s o o'
-    each kind.Memory by = record { more = by.more; adds = by.adds; calls = as_many (length by.more) _ (all by.more) by.did.calls }
-    each kind.Full full = record { more = []; adds = tt; calls = full.idle.did.calls }
-    each kind.DiskFault by = record {
-      more = by.more;
-      adds = by.adds;
-      calls =
-          as_many (length by.more) _
-          (parts_long by.breaks.front by.breaks.others by.more by.breaks.parts (all by.breaks.front)) by.breaks.did.calls;
-    }
-      where
-        parts_long : (front others more : List (List Entry)) → more ≡ front ++ others → length (batches_in (commit_acts front)) ≡ length front
-            → length (others ++ batches_in (commit_acts front)) ≡ length more
-        parts_long front others more parts same =
-            let long : length more ≡ length front + length others = ap length parts ∙ length-append front others in
-            omega (arith, long, same, length-append others (batches_in (commit_acts front)))
+adds_within batch s s' o o' node_fault.Memory by = record {
+  more = by.more;
+  adds = by.adds;
+  calls = as_many (length by.more) (length (batches_in (commit_acts by.more))) o o' (all_long by.more) by.did.calls;
+}
+adds_within batch s s' o o' node_fault.Full full = record { more = []; adds = tt; calls = full.idle.did.calls }
+adds_within batch s s' o o' node_fault.DiskFault by = record {
+  more = by.more;
+  adds = by.adds;
+  calls =
+      as_many (length by.more) (length (by.breaks.others ++ batches_in (commit_acts by.breaks.front))) o o'
+      (parts_long by.breaks.front by.breaks.others by.more by.breaks.parts) by.breaks.did.calls;
+}
+adds_within batch s s' o o' node_fault.Closed none = absurd none
 
 -- of the node that a device has
 pub of_node : (P : NodeValue → Type 0) (n : NodeValue) (maybe : Option NodeValue) → maybe ≡ Some n → P n → OfNode P maybe

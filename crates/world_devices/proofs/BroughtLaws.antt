@@ -1,5 +1,5 @@
 -- What links bring stays, whatever of it is heard.
-use Rattle.std.proofs.Common.{◌≡◌, ◌⊎◌, ℕ, ◌<◌, Bool, cond, eq-eqb, List, [], ◌∷◌, ◌++◌, length, take, drop, refl, sym, ap, ◌∙◌, subst, inl, inr, arith, append-nil, append_assoc, Some, None, slice_index}
+use Rattle.std.proofs.Common.{◌≡◌, ◌⊎◌, ℕ, ◌<◌, Bool, cond, eq-eqb, List, [], ◌∷◌, ◌++◌, length, take, drop, refl, sym, ap, ◌∙◌, subst, inl, inr, arith, append_assoc, Some, None, slice_index}
 use Rattle.std.proofs.lemmas.Bool.{cases_eq, cases_lt, ne_eqb}
 use Rattle.std.proofs.lemmas.List.{take-append-drop}
 use Rattle.outside.specs.Links.{HeardOn, Planned, Reply, piece, pause, close, failure, got, idle, ended}
@@ -12,7 +12,7 @@ use Rattle.outside.specs.MemHost.{MemHostValue, plans_of}
 use Rattle.sync_course.specs.declared.TheConstants.{PIECE_LEN}
 use Rattle.sync_course.specs.Events.{Event, Commit, Hear, Miss, Read, Break, Pass, PlansAfter, ChangesThrough, TellsEvents, heard_after}
 use Rattle.world_devices.specs.Brought.{brought_on, planned_bytes}
-use Rattle.world_devices.proofs.HeardLaws.{at_of, bytes_by, bytes_of, events_tell, none_tell}
+use Rattle.sync_course.proofs.HeardLaws.{at_of, bytes_by, bytes_of, events_tell, none_tell}
 
 -- ---- one plan
 

@@ -60,10 +60,10 @@ use Rattle.world_devices.specs.Linking.{AddsLink, KeepsLinks, LinksStand, PlansM
 use Rattle.world_devices.specs.Cited.{DeviceLaws}
 use Rattle.world_devices.specs.Devices.{DeviceValue, IsReadyStore, IsRunning, MayAddEntry, links_made}
 use Rattle.world_devices.specs.Keeping.{Journal, KeepsOn, TellsSame}
-use Rattle.world_devices.specs.Running.{JournalWentOn, DeviceRuns, GoOnHearing, HoldsAfterCrash, IsStill, LeavesOn, MayLeave, ReadsAsJournal, is_session_of, records_for}
+use Rattle.world_devices.specs.Running.{DeviceRuns, GoOnHearing, HoldsAfterCrash, IsStill, LeavesOn, MayLeave, ReadsAsJournal, is_session_of, records_for}
 use Rattle.world_devices.specs.Running as running
 use Rattle.world_devices.proofs.BroughtLaws.{plans_bring, told_brings, told_heard}
-use Rattle.world_devices.proofs.HeardLaws.{bytes_by, bytes_of}
+use Rattle.sync_course.proofs.HeardLaws.{bytes_by, bytes_of as event_bytes}
 use Rattle.world_devices.proofs.HostLaws.{crash_images, files_anew, silent_linked, silent_on, told_host}
 use Rattle.world_devices.proofs.LeaveLaws.{comes_still, leave_held, leave_same, leave_settling, still_fits}
 use Rattle.world_devices.proofs.RunLaws.{CallDid, CallEnds, add_ends, add_stopped, all_sent_on, begin_ends, begin_stopped, call_keeps, call_takes, place_adds, turn_ends, turn_stopped}
@@ -133,7 +133,7 @@ may_take n h links run session link r on inside =
     ]
 
 -- committing brings nothing
-no_hear : (link : ℕ) (acts : List Act) (next : Journal) → bytes_of link (events_of (acts ++ commit_acts next)) ≡ bytes_of link (events_of acts)
+no_hear : (link : ℕ) (acts : List Act) (next : Journal) → event_bytes link (events_of (acts ++ commit_acts next)) ≡ event_bytes link (events_of acts)
 no_hear link [] [] = refl
 no_hear link [] (b ∷ next) = no_hear link [] next
 no_hear link (a ∷ acts) next = ap (λ (l : List ℕ). bytes_by link (event_of a) ++ l) (no_hear link acts next)
@@ -143,8 +143,8 @@ was_brought : FrontsHaveFronts → (n : NodeValue) (h h' : MemHostValue) (links 
     → In r (records (heard_at did.to.at link)) → In r (running.records_of (Some n) h session)
 was_brought fronts n h h' links run did session link r on inside =
     let rest : List ℕ = planned_bytes (plans_of h'.scripts link) in
-    let bytes : List ℕ = bytes_of link (events_of did.acts) in
-    let none : bytes_of link (events_of (did.acts ++ commit_acts did.next)) ≡ bytes = no_hear link did.acts did.next in
+    let bytes : List ℕ = event_bytes link (events_of did.acts) in
+    let none : event_bytes link (events_of (did.acts ++ commit_acts did.next)) ≡ bytes = no_hear link did.acts did.next in
     let has : heard_at did.to.at link ≡ heard_on (host_told h).links link ++ bytes =
     place_adds n (host_told h) (host_told h') (told_host h) (silent_past n h links run) (did.acts ++ commit_acts did.next) did.to link did.path
     ∙ ap (λ (l : List ℕ). heard_on (host_told h).links link ++ l) none in

@@ -1,5 +1,5 @@
 -- Where a batch has no room: each link that has not failed by then has sent all output of its session.
-use Rattle.std.proofs.Common.{◌≡◌, ◌⊎◌, ℕ, zero, suc, ◌+◌, Bool, true, false, List, [], ◌∷◌, ◌++◌, refl, sym, ap, ◌∙◌, subst, inl, inr, append_assoc, Some}
+use Rattle.std.proofs.Common.{◌≡◌, ℕ, zero, suc, ◌+◌, true, false, List, [], ◌∷◌, ◌++◌, refl, sym, ap, ◌∙◌, subst, inl, inr, append_assoc, Some}
 use Rattle.std.specs.Prelude.{slice_get}
 use Rattle.outside.specs.Files.{Two, File, read_files}
 use Rattle.outside.specs.Outside.{Outside}
@@ -20,10 +20,10 @@ use Rattle.sync_course.specs.Links as course_links
 use Rattle.sync_course.specs.Owing.{Owing, paid}
 use Rattle.sync_course.specs.Paths.{Path}
 use Rattle.sync_course.specs.Story.{AllIsSent, FreeActs, LinkFailed}
-use Rattle.sync_course.specs.Turns.{Attaches, Between, Place, RunStep, Terms, is_at_end}
+use Rattle.sync_course.specs.Turns.{Attaches, Between, Place, RunStep, Terms}
 use Rattle.sync_course.specs.declared.ends.LinkEnd.TheVariants as link_end
 use Rattle.sync_course.proofs.ActLaws.{batches_in-append, sends_on-append}
-use Rattle.sync_course.proofs.FailLaws.{FailsJust, HoldsOpen, free_fails}
+use Rattle.sync_course.proofs.FailLaws.{HoldsOpen, free_fails}
 use Rattle.sync_course.proofs.FreeLaws.{run_acts_are_free, step_is_free}
 use Rattle.sync_course.proofs.SendLaws.{events_path}
 use Rattle.sync_node.specs.Courses.{links_from, place_at}
@@ -32,15 +32,12 @@ use Rattle.sync_node.specs.Node.{NodeValue}
 use Rattle.sync_node.specs.OnRuns.{BeginStopped, ByFault, RoundStopped, RunActs}
 use Rattle.sync_node.specs.Output.{heard_on, output, sent_on}
 use Rattle.sync_node.specs.Went.{StopsFull}
-use Rattle.sync_node.specs.declared.fault.Fault.{Fault}
-use Rattle.sync_node.specs.declared.fault.Fault.TheVariants as fault
 use Rattle.sync_node.specs.declared.fault.NodeFault.{NodeFault}
 use Rattle.sync_node.specs.declared.fault.NodeFault.TheVariants as node_fault
 use Rattle.sync_node.specs.declared.link.Link.{Link}
 use Rattle.sync_node.proofs.EventLaws.{runs_of}
-use Rattle.sync_node.proofs.SentLaws.{from_at}
 use Rattle.world_devices.specs.Cited.{FullIsSent}
-use Rattle.world_devices.specs.Fulls.{AreAllSent, FullBeginning, FullSent, FullTurn}
+use Rattle.world_devices.specs.Fulls.{FullBeginning, FullSent, FullTurn}
 use Rattle.world_devices.specs.Keeping.{IsRunSoFar, Journal, node_place}
 use Rattle.world_devices.proofs.RunLaws.{NodeSteps, acts_fail, begin_from, free_path, node_failed, node_terms, one_of, turn_from, whole_path}
 
@@ -177,13 +174,10 @@ module _ (law : FullIsSent) (n : NodeValue) (links' : List Link) (s' : StoreValu
 
 -- ---- calls
 
-full_of : (P : Fault → Type 0) (x : NodeFault) → x ≡ node_fault.Full → ByFault P x → P fault.Full
-full_of P x is stopped = subst (λ (y : NodeFault). ByFault P y) is stopped
-
 pub full_turn : FullIsSent → (n n' : NodeValue) (o o' : Outside) → TellsAll o → IsRunSoFar n o → (x : NodeFault) → x ≡ node_fault.Full
     → ByFault (RoundStopped bundle_meaning n.first n.links n'.links n.store n'.store o o') x → FullTurn bundle_meaning n.first n.links n.store n'.store o o'
 full_turn law n n' o o' told run x is stopped =
-    let w = full_of (RoundStopped bundle_meaning n.first n.links n'.links n.store n'.store o o') x is stopped in
+    let w = subst (λ (y : NodeFault). ByFault (RoundStopped bundle_meaning n.first n.links n'.links n.store n'.store o o') y) is stopped in
     let own = w.stops (node_terms n) (heard_on o.links) false 0 0 refl run.has_read refl in
     record {
       fills = λ terms heard moved still made first read on.
@@ -194,7 +188,7 @@ full_turn law n n' o o' told run x is stopped =
 pub full_beginning : FullIsSent → (session : Session) (n n' : NodeValue) (o o' : Outside) → TellsAll o → IsRunSoFar n o → (x : NodeFault) → x ≡ node_fault.Full
     → ByFault (BeginStopped bundle_meaning session n.links n'.links n.store n'.store o o') x → FullBeginning bundle_meaning session n.first n.links n.store n'.store o o'
 full_beginning law session n n' o o' told run x is stopped =
-    let w = full_of (BeginStopped bundle_meaning session n.links n'.links n.store n'.store o o') x is stopped in
+    let w = subst (λ (y : NodeFault). ByFault (BeginStopped bundle_meaning session n.links n'.links n.store n'.store o o') y) is stopped in
     let own = w.stops (node_terms n) [] (heard_on o.links) false 0 0 in
     record {
       fills = λ terms left heard moved still made.

@@ -1,4 +1,3 @@
-pub mod HeardLaws
 pub mod BroughtLaws
 pub mod AllowedLaws
 pub mod PlainLaws

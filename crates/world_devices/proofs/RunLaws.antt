@@ -1,5 +1,5 @@
 -- What a node did since it began, as acts: what a call of it adds to them, and what each moment of the call leaves.
-use Rattle.std.proofs.Common.{◌≡◌, ◌⊎◌, ℕ, zero, suc, ◌+◌, ◌<◌, ◌≤◌, Bool, true, false, List, [], ◌∷◌, ◌++◌, length, refl, sym, ap, ◌∙◌, subst, inl, inr, arith, append-nil, append_assoc, Option, Some, slice_index_or}
+use Rattle.std.proofs.Common.{◌≡◌, ◌⊎◌, ℕ, zero, suc, ◌+◌, ◌<◌, ◌≤◌, Bool, true, false, List, [], ◌∷◌, ◌++◌, length, refl, sym, ap, ◌∙◌, subst, inl, inr, arith, append-nil, append_assoc, Option, Some}
 use Rattle.std.specs.Prelude.{slice_get}
 use Rattle.std.specs.Option.{option_map}
 use Rattle.std.proofs.lemmas.Bool.{cases_lt}
@@ -25,8 +25,8 @@ use Rattle.sync_rules.specs.Growth.{output_in}
 use Rattle.sync_store.specs.Fitting.{FitsFiles}
 use Rattle.sync_store.specs.Runs.{AddsBatch}
 use Rattle.sync_store.specs.Store.{StoreValue}
-use Rattle.sync_course.specs.Acts.{Act, AtFront, Does, batches_in, commit_acts, events_of, sends_on}
-use Rattle.sync_course.specs.Events.{Commit, TellsEvents, has_failure, heard_after}
+use Rattle.sync_course.specs.Acts.{Act, AtFront, batches_in, commit_acts, events_of, sends_on}
+use Rattle.sync_course.specs.Events.{TellsEvents, has_failure, heard_after}
 use Rattle.sync_course.specs.Free.{Free, FreeStep, Rests, first_free, forget, owing_free}
 use Rattle.sync_course.specs.Links as course_links
 use Rattle.sync_course.specs.Owing.{ActStep, Owing, paid}
@@ -49,8 +49,6 @@ use Rattle.sync_node.specs.Node.{NodeValue}
 use Rattle.sync_node.specs.OnRuns.{BeginStopped, BeginWent, ByFault, RoundStopped, RoundWent, RunActs, RunStopped}
 use Rattle.sync_node.specs.Output.{heard_on, output, sent_on}
 use Rattle.sync_node.specs.Went.{StopsBroken, Went}
-use Rattle.sync_node.specs.declared.fault.Fault.{Fault}
-use Rattle.sync_node.specs.declared.fault.Fault.TheVariants as fault
 use Rattle.sync_node.specs.declared.fault.NodeFault.{NodeFault}
 use Rattle.sync_node.specs.declared.fault.NodeFault.TheVariants as node_fault
 use Rattle.sync_node.specs.declared.link.Link.{Link}
@@ -58,7 +56,7 @@ use Rattle.sync_node.proofs.SentLaws.{from_at}
 use Rattle.world_devices.specs.Cited.{MomentsStand, WholeIsSent}
 use Rattle.world_devices.specs.Keeping.{AreLinksQuiet, IsRunSoFar, Journal, KeepsOn, TellsSame, node_place}
 use Rattle.world_devices.specs.Running.{MayLeave}
-use Rattle.world_devices.proofs.HeardLaws.{bytes_of, events_tell, free_path_adds}
+use Rattle.sync_course.proofs.HeardLaws.{bytes_of, events_tell, free_path_adds}
 use Rattle.world_devices.proofs.KeepLaws.{goes_on, keeps_by, went_fits}
 use Rattle.world_devices.proofs.LeaveLaws.{all_suit, leave_by, went, went_on}
 use Rattle.world_devices.proofs.PlainLaws.{node_plain, went_then}
@@ -408,16 +406,23 @@ module _ (n : NodeValue) (o o' : Outside) (p : Place) (is : forget p ≡ node_pl
     moments = stops.did.moments;
   }
 
-  stopped_did : (s' : StoreValue) (links : List course_links.Link) (e : Fault) → RunStopped bundle_meaning (node_terms n) p links n.store s' o o' e → CallDid n o o'
-  stopped_did s' links fault.Memory stops = went_did s' stops.to stops.went
-  stopped_did s' links fault.Full stops = went_did s' stops.to stops.went
-  stopped_did s' links fault.DiskFault stops = broken_did (λ (q : Owing Place). q.at.links ≡ links) s' stops
+  stopped_did : (s' : StoreValue) (x : NodeFault) → ByFault (λ e. (links : List course_links.Link) × RunStopped bundle_meaning (node_terms n) p links n.store s' o o' e) x → CallDid n o o'
+  stopped_did s' node_fault.Memory stops = went_did s' stops.1.to stops.1.went
+  stopped_did s' node_fault.Full stops = went_did s' stops.1.to stops.1.went
+  stopped_did s' node_fault.DiskFault stops = broken_did (λ (q : Owing Place). q.at.links ≡ stops.0) s' stops.1
+  stopped_did s' node_fault.Closed stops = absurd stops
 
 -- whatever the fault
-pub by_any : (P : Fault → Type 0) (R : Type 0) → ((e : Fault) → P e → R) → (x : NodeFault) → ByFault P x → R
-by_any P R each node_fault.Memory p = each fault.Memory p
-by_any P R each node_fault.DiskFault p = each fault.DiskFault p
-by_any P R each node_fault.Full p = each fault.Full p
+by_each : (P Q : _ → Type 0) → ((e : _) → P e → Q e) → (x : NodeFault) → ByFault P x → ByFault Q x
+by_each P Q each node_fault.Memory p = each _ p
+by_each P Q each node_fault.DiskFault p = each _ p
+by_each P Q each node_fault.Full p = each _ p
+by_each P Q each node_fault.Closed p = p
+
+pub by_any : (P : _ → Type 0) (R : Type 0) → ((e : _) → P e → R) → (x : NodeFault) → ByFault P x → R
+by_any P R each node_fault.Memory p = each _ p
+by_any P R each node_fault.DiskFault p = each _ p
+by_any P R each node_fault.Full p = each _ p
 by_any P R each node_fault.Closed p = absurd p
 
 module _ (n n' : NodeValue) (o o' : Outside) (told : TellsAll o) (silent : (link : ℕ) → length n.links ≤ link → heard_on o.links link ≡ [])
@@ -431,10 +436,12 @@ module _ (n n' : NodeValue) (o o' : Outside) (told : TellsAll o) (silent : (link
 
   pub turn_stopped : (x : NodeFault) → ByFault (RoundStopped bundle_meaning n.first n.links n'.links n.store n'.store o o') x → CallDid n o o'
   turn_stopped x stopped =
-      by_any (RoundStopped bundle_meaning n.first n.links n'.links n.store n'.store o o') (CallDid n o o')
+      stopped_did n o o' (turn_from n o) refl n'.store x
+      (by_each (RoundStopped bundle_meaning n.first n.links n'.links n.store n'.store o o')
+      (λ e. (links : List course_links.Link) × RunStopped bundle_meaning (node_terms n) (turn_from n o) links n.store n'.store o o' e)
       (λ e w.
       let t = w.stops (node_terms n) (heard_on o.links) false 0 0 refl run.has_read refl in
-      stopped_did n o o' (turn_from n o) refl n'.store (links_from 0 n'.links t.0) e t.1) x stopped
+      (links_from 0 n'.links t.0, t.1)) x stopped)
 
   -- a session that begins
   pub begin_ends : (session : Session) → session.number ≡ n.first + length n.links → length n'.links ≤ o.links.dialled
@@ -447,9 +454,10 @@ module _ (n n' : NodeValue) (o o' : Outside) (told : TellsAll o) (silent : (link
 
   pub begin_stopped : (session : Session) (x : NodeFault) → ByFault (BeginStopped bundle_meaning session n.links n'.links n.store n'.store o o') x → CallDid n o o'
   begin_stopped session x stopped =
-      by_any (BeginStopped bundle_meaning session n.links n'.links n.store n'.store o o') (CallDid n o o')
-      (λ e w. stopped_did n o o' (begin_from session n o) refl n'.store (links_from 0 n'.links (heard_on o.links)) e
-      (w.stops (node_terms n) [] (heard_on o.links) false 0 0)) x stopped
+      stopped_did n o o' (begin_from session n o) refl n'.store x
+      (by_each (BeginStopped bundle_meaning session n.links n'.links n.store n'.store o o')
+      (λ e. (links : List course_links.Link) × RunStopped bundle_meaning (node_terms n) (begin_from session n o) links n.store n'.store o o' e)
+      (λ e w. (links_from 0 n'.links (heard_on o.links), w.stops (node_terms n) [] (heard_on o.links) false 0 0)) x stopped)
 
 -- ---- batches that are added
 
@@ -504,10 +512,10 @@ module _ (n n' : NodeValue) (o o' : Outside) (batch : List Entry) (plain : IsPla
   settled_did : CommitsAndSettles bundle_meaning batch n.store n'.store o o' → CallDid n o o'
   settled_did by = did_to n n'.store o o' (commit_acts by.more) _ (so_added by.more by.adds) by.did
 
-  stops_did : (e : Fault) → AddStops bundle_meaning batch n.store n'.store o o' e → CallDid n o o'
-  stops_did fault.Memory by = settled_did by
-  stops_did fault.Full full = did_to n n'.store o o' [] (paid (node_place n o)) refl full.idle.did
-  stops_did fault.DiskFault by =
+  pub add_stopped : (x : NodeFault) → ByFault (AddStops bundle_meaning batch n.store n'.store o o') x → CallDid n o o'
+  add_stopped node_fault.Memory by = settled_did by
+  add_stopped node_fault.Full full = did_to n n'.store o o' [] (paid (node_place n o)) refl full.idle.did
+  add_stopped node_fault.DiskFault by =
       let parts : commit_acts by.more ≡ commit_acts by.breaks.front ++ commit_acts by.breaks.others =
       ap commit_acts by.breaks.parts ∙ commit_acts-append by.breaks.front by.breaks.others in
       record {
@@ -520,9 +528,7 @@ module _ (n n' : NodeValue) (o o' : Outside) (batch : List Entry) (plain : IsPla
         tells = by.breaks.did.tells;
         moments = by.breaks.did.moments;
       }
-
-  pub add_stopped : (x : NodeFault) → ByFault (AddStops bundle_meaning batch n.store n'.store o o') x → CallDid n o o'
-  add_stopped x stopped = by_any (AddStops bundle_meaning batch n.store n'.store o o') (CallDid n o o') stops_did x stopped
+  add_stopped node_fault.Closed none = absurd none
 
   pub add_ends : TellsAll o → ((link : ℕ) → length n.links ≤ link → heard_on o.links link ≡ []) → IsRunSoFar n o → length n.links ≤ o.links.dialled → n'.links ≡ n.links
       → Added bundle_meaning batch n.store n'.store o o' → CallEnds n n' o o'

@@ -37,7 +37,7 @@ use Rattle.world_devices.proofs.KeepLaws.{keeps_looks, keeps_same, keeps_settlin
 use Rattle.world_devices.proofs.RunLaws.{CallEnds, run_after, run_begun, run_on}
 use Rattle.world_devices.proofs.PlainLaws.{few_begun}
 use Rattle.world_laws.specs.Worlds.{HasNoBrief}
-use Rattle.world_devices.proofs.HostLaws.{brings_linked, brings_none, keeps_anew, keeps_crash, told_host}
+use Rattle.world_devices.proofs.HostLaws.{brings_none, keeps_anew, keeps_crash, told_host}
 use Rattle.world_devices.proofs.AllowedLaws.{contact_allowed, group_allowed, level_allowed, author_allowed}
 
 -- over the same files, with as many links at least, a node may go on

@@ -23,8 +23,7 @@ invariant_of-self-in-Ok c =
     let plain = plain_batch batch c.args.entry c.in_ok-batch.ensures (plain_of c.args.self.now.node n c.args.entry was c.requires) in
     let allowed = allowed_of c.args.self.now.node n c.args.entry batch was c.requires run.unclosed c.in_ok-batch.ensures in
     let ends = add_done n n' h h' links run batch plain allowed c.add.ensures.links c.in-Ok.ensures.went in
-    let did = ended_did n n' (host_told h) (host_told h') ends in
-    (
+    let did = ended_did n n' (host_told h) (host_told h') ends in (
       call_running n n' h h' links links ends c.add.ensures.first c.add.ensures.may (c.in-Ok.ensures.answer run.unclosed) c.add.ensures.node (call_brings n h h' links run did) (run.linked ∙ sym (ap length c.add.ensures.links)) (omega arith) run,
       call_keeps_on c.cite_laws.ensures n h h' links run did [] c.self.invariant.1,
       c.self.invariant.2,

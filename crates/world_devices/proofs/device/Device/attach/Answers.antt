@@ -1,8 +1,7 @@
-use Rattle.std.proofs.Common.{◌<◌, ◌+◌, [], ap, refl, sym, ◌∙◌, subst, arith, Some, None, Ok, Err}
+use Rattle.std.proofs.Common.{◌<◌, ◌+◌, [], ap, refl, sym, ◌∙◌, subst, arith, Some, None, Ok}
 use Rattle.outside.specs.HostTold.{host_told}
 use Rattle.outside.specs.declared.limits.TheConstants.{LINKS}
 use Rattle.sync_node.specs.Plans.{session_of}
-use Rattle.sync_node.specs.declared.fault.NodeFault.{NodeFault}
 use Rattle.sync_store.specs.Store.{IsStore, StoreValue}
 use Rattle.world_devices.specs.Devices.{DeviceValue}
 use Rattle.world_devices.proofs.CallLaws.{adds_link, adds_seen, begin_broke, begin_done, call_brings, call_keeps_on, call_leaves, of_node, one_longer, ready_still, ready_store, runs_by, runs_none}
@@ -24,8 +23,7 @@ invariant_of-self-in-Ok c =
     let run = running_of c.self.inside.node n h links c.in-Some-node.is c.self.invariant.0 in
     let session = session_of n.store.state.facts.begun c.args.plan.now c.args.nonce in
     let ends = begin_done n n' h h' links run session refl c.attach.ensures.node (c.in-Ok.ensures.went run.unclosed) in
-    let did = ended_did n n' (host_told h) (host_told h') ends in
-    (
+    let did = ended_did n n' (host_told h) (host_told h') ends in (
       call_running n n' h h' links (links + 1) ends c.attach.ensures.first c.attach.ensures.may (c.in-Ok.ensures.answer run.unclosed) c.attach.ensures.node (call_brings n h h' links run did) (omega (arith, run.linked, one_longer n.links n'.links c.in-Ok.ensures.links)) (omega arith) run,
       call_keeps_on c.cite_laws.ensures n h h' links run did [] c.self.invariant.1,
       omega (arith, c.if-self-ge-LINKS.false),

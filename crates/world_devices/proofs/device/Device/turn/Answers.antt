@@ -1,7 +1,6 @@
-use Rattle.std.proofs.Common.{[], ap, arith, refl, sym, ◌∙◌, Some, None, Ok, Err}
+use Rattle.std.proofs.Common.{[], ap, arith, refl, sym, ◌∙◌, Some, None, Ok}
 use Rattle.outside.specs.HostTold.{host_told}
 use Rattle.client_basic.specs.Bodies.{bundle_meaning}
-use Rattle.sync_node.specs.declared.fault.NodeFault.{NodeFault}
 use Rattle.sync_node.proofs.NodeRuns as runs
 use Rattle.world_devices.specs.Devices.{DeviceValue}
 use Rattle.world_devices.proofs.CallLaws.{call_brings, call_keeps_on, call_leaves, keeps_links, links_seen, of_node, ready_still, runs_by, runs_files, same_number, turn_broke, turn_done}
@@ -22,8 +21,7 @@ invariant_of-self-in-Ok c =
     let links = c.self.inside.links in
     let run = running_of c.self.inside.node n h links c.in-Some.is c.self.invariant.0 in
     let ends = turn_done n n' h h' links run _ c.turn.ensures.node (c.in-Ok.ensures.went run.unclosed) in
-    let did = ended_did n n' (host_told h) (host_told h') ends in
-    (
+    let did = ended_did n n' (host_told h) (host_told h') ends in (
       call_running n n' h h' links links ends c.in-Ok.ensures.kept.same_first c.turn.ensures.may (c.in-Ok.ensures.answer run.unclosed) c.turn.ensures.node (call_brings n h h' links run did) (run.linked ∙ sym (same_number n n' c.in-Ok.ensures.kept)) (omega arith) run,
       call_keeps_on c.cite_laws.ensures n h h' links run did [] c.self.invariant.1,
       c.self.invariant.2,
