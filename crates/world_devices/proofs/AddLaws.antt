@@ -1,9 +1,9 @@
 -- What an added entry leaves: it stands in the journal with settling behind it, or at most that does where the disk stopped.
-use Rattle.std.proofs.Common.{◌≡◌, ℕ, List, [], ◌∷◌, ◌++◌, refl, sym, ap, ◌∙◌, subst, Option, Some, Result, Ok, Err}
+use Rattle.std.proofs.Common.{◌≡◌, ◌≢◌, ℕ, ◌+◌, ◌*◌, ◌<◌, length, length-append, arith, List, [], ◌∷◌, ◌++◌, refl, sym, ap, ◌∙◌, subst, Option, Some, Result, Ok, Err}
 use Rattle.std.specs.Option.{option_map}
 use Rattle.outside.specs.Files.{Two, File, read_files}
 use Rattle.outside.specs.Links.{Links, sent_of}
-use Rattle.outside.specs.Outside.{Moment}
+use Rattle.outside.specs.Outside.{MakesAtMost, Moment, Outside}
 use Rattle.outside.specs.HostTold.{host_told}
 use Rattle.outside.specs.MemHost.{MemHostValue, upcoming_of}
 use Rattle.client_basic.specs.Bodies.{bundle_meaning}
@@ -12,8 +12,17 @@ use Rattle.sync_rules.specs.declared.entries.Entry.{Entry}
 use Rattle.sync_rules.specs.Facts.{Facts, after_all, facts}
 use Rattle.sync_rules.specs.Legal.{AllSettling}
 use Rattle.sync_rules.specs.Steps.{IsSettled}
+use Rattle.sync_store.specs.Commits.{needed}
+use Rattle.sync_store.specs.Ready.{IsReady}
+use Rattle.sync_store.specs.Runs.{AddsBatch}
 use Rattle.sync_store.specs.Store.{StoreValue}
-use Rattle.sync_node.specs.Adding.{AddsAtMost, AddsOne, AddsSettled, AddsWithin}
+use Rattle.sync_course.specs.Acts.{batches_in, commit_acts}
+use Rattle.sync_course.proofs.ActLaws.{batches_in_commits}
+use Rattle.sync_node.specs.Adding.{AddsAtMost, AddsOne, AddsWithin}
+use Rattle.sync_node.specs.Batches.{AddStops, Added}
+use Rattle.sync_node.specs.OnRuns.{ByFault}
+use Rattle.sync_node.specs.declared.fault.NodeFault.{NodeFault}
+use Rattle.sync_node.specs.declared.fault.NodeFault.TheVariants as node_fault
 use Rattle.sync_node.specs.declared.link.Link.{Link}
 use Rattle.sync_node.specs.Node.{NodeValue}
 use Rattle.world_devices.specs.Devices.{DeviceValue, HostGoesOn, IsAnew, IsRunning}
@@ -45,35 +54,52 @@ links_of node = option_map (λ (n : NodeValue). n.links) node
 abbrev told_links : MemHostValue → Links
 told_links h = (host_told h).links
 
-has_added : (e : Entry) (batch : List Entry) (s s' : StoreValue) (h h' : MemHostValue) (new : DeviceValue) → batch ≡ e ∷ [] → AddsSettled bundle_meaning batch s s' (host_told h) (host_told h') → new.host ≡ h'
+-- the batch stands, and what was to be settled behind it
+has_one : (batch : List Entry) (more : List (List Entry)) (f : Facts) → AddsBatch bundle_meaning f batch more → more ≢ [] → (rest : List (List Entry)) × (more ≡ batch ∷ rest) × AllSettling bundle_meaning (after_all f batch) rest
+has_one batch [] f adds some = absurd (some refl)
+has_one batch (b ∷ rest) f adds some = (rest, ap (λ (x : List Entry). x ∷ rest) adds.0, adds.1)
+
+has_added : (e : Entry) (batch : List Entry) (s s' : StoreValue) (h h' : MemHostValue) (new : DeviceValue) → batch ≡ e ∷ [] → IsReady bundle_meaning s (host_told h).files → Added bundle_meaning batch s s' (host_told h) (host_told h') → new.host ≡ h'
     → (j : Journal) → HoldsAfterCrash j h → HasEntryAdded e j new
-has_added e batch s s' h h' new is added at j holds =
-    let has = journal_of s' h' added.commits.ready in
-    let came = added.commits.goes_on (told_host h') has.whole has.fits in
-    let same : came.before ≡ j = same_held j came.before h came.told.two came.told.files_are holds came.fits.stands_for in
-    let f : s.state.facts ≡ facts j = sym came.fits.facts_are ∙ ap facts same in
+has_added e batch s s' h h' new is ready added at j holds =
+    let has = journal_of s h ready in
+    let same : has.whole ≡ j = same_held j has.whole h (told_host h).two (told_host h).files_are holds has.fits.stands_for in
+    let behind = added.by.did.fits has.whole ((told_host h).two, (told_host h).files_are, has.fits) in
+    let whole : List (List Entry) = has.whole ++ batches_in (commit_acts added.by.more) in
+    let now = journal_of s' h' added.by.ready in
+    let one = has_one batch added.by.more s.state.facts added.by.adds added.some in
+    let f : s.state.facts ≡ facts j = sym has.fits.facts_are ∙ ap facts same in
+    let stood : stands bundle_meaning (read_files (told_host h').two) ≡ journal whole =
+    (let both : Some behind.0 ≡ Some (told_host h').two = sym behind.1 ∙ (told_host h').files_are in
+    let two : behind.0 ≡ (told_host h').two = cc in
+    subst (λ (t : Two File). stands bundle_meaning (read_files t) ≡ journal whole) two behind.2.stands_for) in
+    let both : journal now.whole ≡ journal whole = sym now.fits.stands_for ∙ stood in
+    let are : now.whole ≡ whole = cc in
     record {
-      whole = has.whole;
-      adds = subst (λ (b : List Entry). AddsOne bundle_meaning j b has.whole) is (record {
-        more = added.more;
-        settling = subst (λ (g : Facts). AllSettling bundle_meaning (after_all g batch) added.more) f added.settling;
-        is = came.is ∙ ap (λ (k : Journal). k ++ (batch ∷ added.more)) same;
+      whole = now.whole;
+      adds = subst (λ (b : List Entry). AddsOne bundle_meaning j b now.whole) is (record {
+        more = one.0;
+        settling = subst (λ (g : Facts). AllSettling bundle_meaning (after_all g batch) one.0) f one.2;
+        is =
+            are ∙ ap (λ (bs : List (List Entry)). has.whole ++ bs) (batches_in_commits added.by.more ∙ one.1)
+            ∙ ap (λ (k : Journal). k ++ (batch ∷ one.0)) same;
       });
-      settled = subst (λ (g : Facts). IsSettled bundle_meaning g) (sym has.fits.facts_are) added.settled;
-      holds = subst (λ (x : MemHostValue). HoldsAfterCrash has.whole x) (sym at) (fits_hold s' has.whole h' has.fits);
+      settled = subst (λ (g : Facts). IsSettled bundle_meaning g) (sym now.fits.facts_are) added.settled;
+      holds = subst (λ (x : MemHostValue). HoldsAfterCrash now.whole x) (sym at) (fits_hold s' now.whole h' now.fits);
     }
 
-pub adds_done : (e : Entry) (batch : List Entry) (n n' : NodeValue) (h h' : MemHostValue) (d old new : DeviceValue) → d ≡ old → batch ≡ e ∷ [] → AddsSettled bundle_meaning batch n.store n'.store (host_told h) (host_told h')
+pub adds_done : (e : Entry) (batch : List Entry) (n n' : NodeValue) (h h' : MemHostValue) (links : ℕ) (d old new : DeviceValue) → d ≡ old → batch ≡ e ∷ [] → IsRunning n h links → Added bundle_meaning batch n.store n'.store (host_told h) (host_told h')
+    → (host_told h').links ≡ (host_told h).links
     → d.host ≡ h → new.host ≡ h' → d.node ≡ Some n → new.node ≡ Some n' → n'.links ≡ n.links → new.clock ≡ d.clock → new.stop ≡ d.stop
     → HostGoesOn d.host new.host → IsAhead new.stop new.host → KeepsOwn old new × ((j : Journal) → HoldsAfterCrash j old.host → HasEntryAdded e j new) × KeepsRest old new
-adds_done e batch n n' h h' d old new seen is added its its' was now links clock stop since ahead =
+adds_done e batch n n' h h' linked d old new seen is run added same its its' was now links clock stop since ahead =
     let P : DeviceValue → Type 0 = λ x. KeepsOwn x new × ((j : Journal) → HoldsAfterCrash j x.host → HasEntryAdded e j new) × KeepsRest x new in
     subst P seen (
       record { clock = clock; stop = stop; since = since; ahead = ahead },
-      λ j holds. has_added e batch n.store n'.store h h' new is added its' j (subst (λ (x : MemHostValue). HoldsAfterCrash j x) its holds),
+      λ j holds. has_added e batch n.store n'.store h h' new is (open_of n h linked run) added its' j (subst (λ (x : MemHostValue). HoldsAfterCrash j x) its holds),
       record {
         node = ap links_of now ∙ ap (λ (l : List Link). Some l) links ∙ sym (ap links_of was);
-        told = ap told_links its' ∙ added.commits.same_links ∙ sym (ap told_links its);
+        told = ap told_links its' ∙ same ∙ sym (ap told_links its);
       },
     )
 
@@ -95,6 +121,40 @@ at_most e batch n n' h h' links is leads run j holds =
             stands_for = since.stands_for;
           };
     }
+
+-- where it is full the journal would pass its limit
+pub adding_over : (batch : List Entry) (s s' : StoreValue) (o o' : Outside) (x : NodeFault) → x ≡ node_fault.Full → ByFault (AddStops bundle_meaning batch s s' o o') x → s.limit < needed s batch
+adding_over batch s s' o o' x is stopped =
+    let full = subst (λ (y : NodeFault). ByFault (AddStops bundle_meaning batch s s' o o') y) is stopped in
+    full.before
+
+-- adding came so far as that
+as_many : (count k : ℕ) (o o' : Outside) → k ≡ count → MakesAtMost (4 * k) o o' → MakesAtMost (4 * count) o o'
+as_many count k o o' same calls = subst (λ (m : ℕ). MakesAtMost (4 * m) o o') same calls
+
+all_long : (more : List (List Entry)) → length (batches_in (commit_acts more)) ≡ length more
+all_long more = ap length (batches_in_commits more)
+
+parts_long : (front others more : List (List Entry)) → more ≡ front ++ others → length (others ++ batches_in (commit_acts front)) ≡ length more
+parts_long front others more parts =
+    let long : length more ≡ length front + length others = ap length parts ∙ length-append front others in
+    omega (arith, long, all_long front, length-append others (batches_in (commit_acts front)))
+
+pub adds_within : (batch : List Entry) (s s' : StoreValue) (o o' : Outside) (x : NodeFault) → ByFault (AddStops bundle_meaning batch s s' o o') x → AddsWithin bundle_meaning batch s o o'
+adds_within batch s s' o o' node_fault.Memory by = record {
+  more = by.more;
+  adds = by.adds;
+  calls = as_many (length by.more) (length (batches_in (commit_acts by.more))) o o' (all_long by.more) by.did.calls;
+}
+adds_within batch s s' o o' node_fault.Full full = record { more = []; adds = tt; calls = full.idle.did.calls }
+adds_within batch s s' o o' node_fault.DiskFault by = record {
+  more = by.more;
+  adds = by.adds;
+  calls =
+      as_many (length by.more) (length (by.breaks.others ++ batches_in (commit_acts by.breaks.front))) o o'
+      (parts_long by.breaks.front by.breaks.others by.more by.breaks.parts) by.breaks.did.calls;
+}
+adds_within batch s s' o o' node_fault.Closed none = absurd none
 
 -- of the node that a device has
 pub of_node : (P : NodeValue → Type 0) (n : NodeValue) (maybe : Option NodeValue) → maybe ≡ Some n → P n → OfNode P maybe

@@ -1,7 +1,7 @@
 -- What a call of a device comes to: how its journal goes on, and what its links bring.
-use Rattle.std.proofs.Common.{◌≡◌, ◌⊎◌, ℕ, ◌+◌, ◌-◌, ◌<◌, Bool, true, false, cond, nat_eq, nat_le, nat_lt, List, [], ◌∷◌, ◌++◌, length, refl, sym, ap, ◌∙◌, subst, inl, inr, arith, append-nil, append_assoc, Option, Some, None, is_some, Result, Ok, Err, OnOk, OnErr}
+use Rattle.std.proofs.Common.{◌≡◌, ◌⊎◌, ℕ, ◌+◌, ◌-◌, ◌<◌, Bool, true, false, cond, nat_eq, nat_le, nat_lt, List, [], ◌∷◌, ◌++◌, length, length-append, suc, refl, sym, ap, ◌∙◌, subst, inl, inr, arith, append-nil, append_assoc, Option, Some, None, is_some, Result, Ok, Err, OnOk, OnErr}
 use Rattle.std.proofs.lemmas.Bool.{and_from, cases_lt, le-leb, lt-ltb}
-use Rattle.outside.specs.Files.{read_files}
+use Rattle.outside.specs.Files.{Two, File, read_files}
 use Rattle.outside.specs.Outside.{Outside}
 use Rattle.outside.specs.Runs.{answers_at, heard_bytes}
 use Rattle.outside.specs.HostTold.{host_told}
@@ -11,13 +11,12 @@ use Rattle.record_grammar.specs.Laws.{FrontsHaveFronts}
 use Rattle.record_grammar.specs.Stream.{items, parsed, records, records_of}
 use Rattle.sync_ids.specs.declared.records.Record.{Record}
 use Rattle.entry_codec.specs.Standing.{stands, journal}
-use Rattle.sync_course.specs.Events.{Event}
-use Rattle.sync_course.specs.Events as events
+use Rattle.sync_course.specs.Acts.{Act, batches_in, commit_acts, event_of, events_of}
+use Rattle.sync_course.specs.Story.{heard_at}
 use Rattle.sync_rules.specs.declared.entries.Session.{Session}
 use Rattle.sync_rules.specs.Lists.{In}
 use Rattle.sync_rules.proofs.Elements.{In-append_left}
 use Rattle.sync_rules.specs.Facts.{Facts, after_all, facts, session_at}
-use Rattle.sync_node.specs.Courses.{AllRead, BreaksBeginning, BreaksTurn, BeginsNextSession, MakesTurn}
 use Rattle.std.specs.Option.{option_map}
 use Rattle.std.proofs.lemmas.Bool.{eq-eqb}
 use Rattle.std.specs.List.{AllByRecursion}
@@ -31,7 +30,7 @@ use Rattle.entry_codec.specs.Spelling.{IsEntry}
 use Rattle.sync_course.specs.Links.{is_sent_to}
 use Rattle.sync_course.specs.declared.ends.LinkEnd.{LinkEnd}
 use Rattle.sync_course.specs.declared.ends.LinkEnd.TheVariants as link_end
-use Rattle.sync_rules.specs.Legal.{Legal}
+use Rattle.sync_rules.specs.Legal.{Allowed, Legal}
 use Rattle.sync_rules.specs.declared.entries.Entry.TheVariants as entry
 use Rattle.sync_rules.specs.Consistency.{IsConsistent}
 use Rattle.sync_rules.proofs.ConsistencyLaws.{legal_consistent}
@@ -45,7 +44,12 @@ use Rattle.sync_store.specs.Settling.{HasSettled}
 use Rattle.sync_store.specs.declared.fault.StoreFault.{StoreFault}
 use Rattle.sync_rules.specs.declared.entries.Entry.{Entry}
 use Rattle.sync_node.specs.Adding.{IsPlain}
-use Rattle.sync_node.specs.Node.{AttachesLink, KeepsSafe, NodeValue, PlansSafe}
+use Rattle.sync_node.specs.Batches.{AddStops, Added}
+use Rattle.sync_node.specs.Causes.{sessions_of}
+use Rattle.sync_node.specs.Node.{IsNode, KeepsSessions, NodeValue}
+use Rattle.sync_node.specs.OnRuns.{BeginStopped, BeginWent, ByFault, RoundStopped, RoundWent}
+use Rattle.sync_node.specs.declared.fault.NodeFault.{NodeFault}
+use Rattle.sync_node.specs.declared.link.Link.{Link}
 use Rattle.sync_node.specs.Output.{heard_on, output}
 use Rattle.outside.specs.MemDisk.{disk_files, files_of}
 use Rattle.outside.specs.MemHost.{CrashesHost, fresh_host}
@@ -55,14 +59,15 @@ use Rattle.world_devices.specs.Brought.{IsSilent, brought_on, bytes_of, planned_
 use Rattle.world_devices.specs.Linking.{AddsLink, KeepsLinks, LinksStand, PlansMore, first_of, number_of}
 use Rattle.world_devices.specs.Cited.{DeviceLaws}
 use Rattle.world_devices.specs.Devices.{DeviceValue, IsReadyStore, IsRunning, MayAddEntry, links_made}
-use Rattle.world_devices.specs.Keeping.{Journal, TellsSame}
-use Rattle.world_devices.specs.Running.{JournalWentOn, DeviceRuns, GoOnHearing, HoldsAfterCrash, IsStill, LeavesOn, MayLeave, ReadsAsJournal, is_session_of, records_for}
+use Rattle.world_devices.specs.Keeping.{Journal, KeepsOn, TellsSame}
+use Rattle.world_devices.specs.Running.{DeviceRuns, GoOnHearing, HoldsAfterCrash, IsStill, LeavesOn, MayLeave, ReadsAsJournal, is_session_of, records_for}
 use Rattle.world_devices.specs.Running as running
-use Rattle.world_devices.proofs.BroughtLaws.{told_brings, told_heard}
+use Rattle.world_devices.proofs.BroughtLaws.{plans_bring, told_brings, told_heard}
+use Rattle.sync_course.proofs.HeardLaws.{bytes_by, bytes_of as event_bytes}
 use Rattle.world_devices.proofs.HostLaws.{crash_images, files_anew, silent_linked, silent_on, told_host}
-use Rattle.world_devices.proofs.KeepLaws.{begin_now, safe_now}
-use Rattle.world_devices.proofs.LeaveLaws.{comes_still, leave_adding, leave_held, leave_safe, leave_same, leave_settling, still_fits}
-use Rattle.world_devices.proofs.RunningLaws.{BringsAll, LeadsAdding, journal_of, open_of}
+use Rattle.world_devices.proofs.LeaveLaws.{comes_still, leave_held, leave_same, leave_settling, still_fits}
+use Rattle.world_devices.proofs.RunLaws.{CallDid, CallEnds, add_ends, add_stopped, all_sent_on, begin_ends, begin_stopped, call_keeps, call_takes, place_adds, turn_ends, turn_stopped}
+use Rattle.world_devices.proofs.RunningLaws.{BringsAll, journal_of, open_of, silent_past}
 
 -- ---- calls that leave the files
 
@@ -98,34 +103,8 @@ known_link n h links link run =
     no_plan_bytes [] b none = none
     no_plan_bytes (x ∷ a) b none = cc
 
-brings_told : (es : List Event) (n : NodeValue) (h h' : MemHostValue) (links : ℕ) → IsRunning n h links → events.TellsEvents es (host_told h) (host_told h') → BringsAll h h'
-brings_told es n h h' links run told link = told_brings es h h' link told (known_link n h links link run)
-
-all_read : DeviceLaws → (n : NodeValue) (h : MemHostValue) (links : ℕ) → IsRunning n h links → AllRead (heard_on (host_told h).links) n.links
-all_read laws n h links run = laws.have_read bundle_meaning n h run.attached run.unclosed run.runs.joined (told_host h)
-
-pub brings_turned : DeviceLaws → (n n' : NodeValue) (h h' : MemHostValue) (links : ℕ) (quiet : Bool) → IsRunning n h links
-    → MakesTurn bundle_meaning n.first n.links n'.links n.store n'.store (host_told h) (host_told h') quiet → BringsAll h h'
-brings_turned laws n n' h h' links quiet run turn =
-    let made = turn.leads (record { first = n.first; turns = 1; quiet = 1 }) (heard_on (host_told h).links) false 0 0 refl (all_read laws n h links run) refl in
-    brings_told made.runs.events n h h' links run made.runs.told
-
-pub brings_broken : DeviceLaws → (n : NodeValue) (h h' : MemHostValue) (links : ℕ) → IsRunning n h links → BreaksTurn bundle_meaning n.first n.links n.store (host_told h) (host_told h') → BringsAll h h'
-brings_broken laws n h h' links run breaks =
-    let made = breaks.stops (record { first = n.first; turns = 1; quiet = 1 }) (heard_on (host_told h).links) false 0 0 refl (all_read laws n h links run) refl in
-    brings_told made.runs.events n h h' links run made.runs.told
-
-pub brings_begun : (session : Session) (n n' : NodeValue) (h h' : MemHostValue) (links : ℕ) → IsRunning n h links
-    → BeginsNextSession bundle_meaning session n.links n'.links n.store n'.store (host_told h) (host_told h') → BringsAll h h'
-brings_begun session n n' h h' links run begins =
-    let made = begins.runs (told_host h).two (told_host h).files_are (record { first = n.first; turns = 1; quiet = 1 }) [] (λ _. []) false 0 0 refl in
-    brings_told made.events n h h' links run made.told
-
-pub brings_unbegun : (session : Session) (n : NodeValue) (h h' : MemHostValue) (links : ℕ) → IsRunning n h links
-    → BreaksBeginning bundle_meaning session n.links n.store (host_told h) (host_told h') → BringsAll h h'
-brings_unbegun session n h h' links run breaks =
-    let made = breaks.stops (record { first = n.first; turns = 1; quiet = 1 }) [] (λ _. []) false 0 0 in
-    brings_told made.runs.events n h h' links run made.runs.told
+pub call_brings : (n : NodeValue) (h h' : MemHostValue) (links : ℕ) → IsRunning n h links → CallDid n (host_told h) (host_told h') → BringsAll h h'
+call_brings n h h' links run did link = told_brings (events_of did.acts) h h' link did.tells (known_link n h links link run)
 
 -- ---- what is taken
 
@@ -153,33 +132,77 @@ may_take n h links run session link r on inside =
           (subst (λ (b : List ℕ). In r (records b)) (run.unused link (omega (arith, past, run.linked))) inside))
     ]
 
--- what was heard is the front of what is brought
-was_brought : FrontsHaveFronts → (n : NodeValue) (h h' : MemHostValue) (links : ℕ) → IsRunning n h links → BringsAll h h' → (session link : ℕ) (r : Record) → session ≡ n.first + link
-    → In r (records (heard_on (host_told h').links link)) → In r (running.records_of (Some n) h session)
-was_brought fronts n h h' links run brings session link r on inside =
-    let more = fronts (heard_on (host_told h').links link) (planned_bytes (plans_of h'.scripts link)) in
-    let all : In r (records (brought_on h' link)) = subst (λ (rs : List Record). In r rs) (sym more.1) (In-append_left r (records (heard_on (host_told h').links link)) more.0 inside) in
-    may_take n h links run session link r on (subst (λ (b : List ℕ). In r (records b)) (brings link) all)
+-- committing brings nothing
+no_hear : (link : ℕ) (acts : List Act) (next : Journal) → event_bytes link (events_of (acts ++ commit_acts next)) ≡ event_bytes link (events_of acts)
+no_hear link [] [] = refl
+no_hear link [] (b ∷ next) = no_hear link [] next
+no_hear link (a ∷ acts) next = ap (λ (l : List ℕ). bytes_by link (event_of a) ++ l) (no_hear link acts next)
+
+-- what a place has heard is the front of what is brought
+was_brought : FrontsHaveFronts → (n : NodeValue) (h h' : MemHostValue) (links : ℕ) → IsRunning n h links → (did : CallDid n (host_told h) (host_told h')) → (session link : ℕ) (r : Record) → session ≡ n.first + link
+    → In r (records (heard_at did.to.at link)) → In r (running.records_of (Some n) h session)
+was_brought fronts n h h' links run did session link r on inside =
+    let rest : List ℕ = planned_bytes (plans_of h'.scripts link) in
+    let bytes : List ℕ = event_bytes link (events_of did.acts) in
+    let none : event_bytes link (events_of (did.acts ++ commit_acts did.next)) ≡ bytes = no_hear link did.acts did.next in
+    let has : heard_at did.to.at link ≡ heard_on (host_told h).links link ++ bytes =
+    place_adds n (host_told h) (host_told h') (told_host h) (silent_past n h links run) (did.acts ++ commit_acts did.next) did.to link did.path
+    ∙ ap (λ (l : List ℕ). heard_on (host_told h).links link ++ l) none in
+    let whole : heard_at did.to.at link ++ rest ≡ brought_on h link =
+    ap (λ (l : List ℕ). l ++ rest) has
+    ∙ append_assoc (heard_on (host_told h).links link) bytes rest
+    ∙ ap (λ (l : List ℕ). heard_on (host_told h).links link ++ l) (plans_bring (events_of did.acts) (plans_of h.scripts) (plans_of h'.scripts) link did.tells.planned) in
+    let more = fronts (heard_at did.to.at link) rest in
+    let all : In r (records (heard_at did.to.at link ++ rest)) = subst (λ (rs : List Record). In r rs) (sym more.1) (In-append_left r (records (heard_at did.to.at link)) more.0 inside) in
+    may_take n h links run session link r on (subst (λ (b : List ℕ). In r (records b)) whole all)
+
+-- ---- what calls of a node did
+
+sessions_long : (links : List Link) → length (sessions_of links) ≡ length links
+sessions_long [] = refl
+sessions_long (l ∷ links) = ap suc (sessions_long links)
+
+pub same_number : (n n' : NodeValue) → KeepsSessions n n' → length n'.links ≡ length n.links
+same_number n n' kept = sym (sessions_long n'.links) ∙ ap length kept.same_sessions ∙ sessions_long n.links
+
+pub one_longer : (links links' : List Link) → (link : Link) × (links' ≡ links ++ link ∷ []) → length links' ≡ length links + 1
+one_longer links links' pushed = ap length pushed.1 ∙ length-append links (pushed.0 ∷ [])
+
+module _ (n n' : NodeValue) (h h' : MemHostValue) (links : ℕ) (run : IsRunning n h links) where
+  pub turn_done : (quiet : Bool) → IsNode n' → RoundWent bundle_meaning n.first n.links n'.links n.store n'.store (host_told h) (host_told h') quiet → CallEnds n n' (host_told h) (host_told h')
+  turn_done quiet is_node w =
+      turn_ends n n' (host_told h) (host_told h') (told_host h) (silent_past n h links run) run.runs quiet (omega (arith, is_node.few, run.dialled)) w
+
+  pub turn_broke : (x : NodeFault) → ByFault (RoundStopped bundle_meaning n.first n.links n'.links n.store n'.store (host_told h) (host_told h')) x → CallDid n (host_told h) (host_told h')
+  turn_broke x stopped = turn_stopped n n' (host_told h) (host_told h') (told_host h) (silent_past n h links run) run.runs x stopped
+
+  pub begin_done : (session : Session) → session.number ≡ n.store.state.facts.begun → IsNode n' → BeginWent bundle_meaning session n.links n'.links n.store n'.store (host_told h) (host_told h')
+      → CallEnds n n' (host_told h) (host_told h')
+  begin_done session number is_node w =
+      begin_ends n n' (host_told h) (host_told h') (told_host h) (silent_past n h links run) run.runs session (number ∙ (run.attached.attached run.unclosed).begun)
+      (omega (arith, is_node.few, run.dialled)) w
+
+  pub begin_broke : (session : Session) (x : NodeFault) → ByFault (BeginStopped bundle_meaning session n.links n'.links n.store n'.store (host_told h) (host_told h')) x → CallDid n (host_told h) (host_told h')
+  begin_broke session x stopped = begin_stopped n n' (host_told h) (host_told h') (told_host h) (silent_past n h links run) run.runs session x stopped
+
+  pub add_done : (batch : List Entry) → IsPlain batch → Allowed bundle_meaning n.store.state.facts batch → n'.links ≡ n.links → Added bundle_meaning batch n.store n'.store (host_told h) (host_told h')
+      → CallEnds n n' (host_told h) (host_told h')
+  add_done batch plain allowed same added =
+      add_ends n n' (host_told h) (host_told h') batch plain allowed (told_host h) (silent_past n h links run) run.runs (omega (arith, run.attached.few, run.dialled)) same added
+
+  pub add_broke : (batch : List Entry) → IsPlain batch → Allowed bundle_meaning n.store.state.facts batch → (x : NodeFault)
+      → ByFault (AddStops bundle_meaning batch n.store n'.store (host_told h) (host_told h')) x → CallDid n (host_told h) (host_told h')
+  add_broke batch plain allowed x stopped = add_stopped n n' (host_told h) (host_told h') batch plain allowed x stopped
 
 -- ---- what calls may leave
 
-pub turn_leaves : DeviceLaws → (n n' : NodeValue) (h h' : MemHostValue) (links : ℕ) → KeepsSafe bundle_meaning n n' (host_told h) (host_told h') → BringsAll h h' → IsRunning n h links
-    → (j : Journal) → HoldsAfterCrash j h → MayLeave (running.records_of (Some n) h) j (host_told h')
-turn_leaves laws n n' h h' links keeps brings run j holds =
-    let has = journal_of n.store h (open_of n h links run) in
-    let heard : ℕ → List Record = running.records_of (Some n) h in
-    leave_safe heard j has.whole n.first run.runs.plans n.store n'.store (host_told h) (host_told h') (told_host h) (told_host h') has.fits (leave_held heard j h holds)
-    (keeps.safe run.runs.joined (begin_now n.first (host_told h) (told_host h).two has.whole) run.runs.plans refl (safe_now n (host_told h) (told_host h) has.whole has.fits run.runs))
-    (was_brought laws.fronts n h h' links run brings)
+pub call_keeps_on : DeviceLaws → (n : NodeValue) (h h' : MemHostValue) (links : ℕ) → IsRunning n h links → CallDid n (host_told h) (host_told h') → KeepsOn (host_told h) (host_told h')
+call_keeps_on laws n h h' links run did = call_keeps laws.moments n (host_told h) (host_told h') (told_host h) run.runs did
 
-pub attach_leaves : DeviceLaws → (session : Session) (n n' : NodeValue) (h h' : MemHostValue) (links : ℕ) → PlansSafe bundle_meaning session n n' (host_told h) (host_told h') → BringsAll h h' → IsRunning n h links
+pub call_leaves : DeviceLaws → (n : NodeValue) (h h' : MemHostValue) (links : ℕ) → IsRunning n h links → CallDid n (host_told h) (host_told h')
     → (j : Journal) → HoldsAfterCrash j h → MayLeave (running.records_of (Some n) h) j (host_told h')
-attach_leaves laws session n n' h h' links keeps brings run j holds =
-    let has = journal_of n.store h (open_of n h links run) in
-    let heard : ℕ → List Record = running.records_of (Some n) h in
-    leave_safe heard j has.whole n.first (run.runs.plans ++ session ∷ []) n.store n'.store (host_told h) (host_told h') (told_host h) (told_host h') has.fits (leave_held heard j h holds)
-    (keeps.safe run.runs.joined (begin_now n.first (host_told h) (told_host h).two has.whole) run.runs.plans refl run.runs.counted (safe_now n (host_told h) (told_host h) has.whole has.fits run.runs))
-    (was_brought laws.fronts n h h' links run brings)
+call_leaves laws n h h' links run did j holds =
+    call_takes laws.moments n (host_told h) (host_told h') (told_host h) run.runs did (running.records_of (Some n) h) j (was_brought laws.fronts n h h' links run did) (leave_held (running.records_of (Some n) h) j h holds)
 
 pub settle_leaves : (s s' : StoreValue) (result : Result (Unit {0}) StoreFault) (h h' : MemHostValue) → IsReady bundle_meaning s (host_told h).files
     → HasSettled bundle_meaning s s' result (host_told h) (host_told h') → LeavesOn (host_told h) (host_told h')
@@ -191,12 +214,6 @@ settle_leaves s s' result h h' ready settled =
 -- a disk that fits a store is still
 pub ready_still : (s : StoreValue) (h : MemHostValue) → IsReady bundle_meaning s (host_told h).files → IsStill h
 ready_still s h ready = let has = journal_of s h ready in still_fits s has.whole h (told_host h).two (told_host h).files_are has.fits
-
--- what an added entry may leave
-pub add_leaves : (batch : List Entry) (n n' : NodeValue) (h h' : MemHostValue) (links : ℕ) → IsPlain batch → LeadsAdding batch n n' h h' → IsRunning n h links → LeavesOn (host_told h) (host_told h')
-add_leaves batch n n' h h' links plain leads run =
-    let has = journal_of n.store h (open_of n h links run) in
-    leave_adding batch has.whole n.store n'.store (host_told h) (host_told h') (told_host h).two plain (told_host h).files_are has.fits (leads (told_host h).two (told_host h).files_are has.whole has.fits)
 
 -- of a device that is another one by name
 pub runs_by : DeviceLaws → (d old new : DeviceValue) → d ≡ old → ((j : Journal) → HoldsAfterCrash j d.host → MayLeave (records_for d) j (host_told new.host)) → (is_some new.node ≡ true → IsStill new.host) → DeviceRuns old new
@@ -253,6 +270,11 @@ of_node maybe n h o is leaves j holds = subst (λ (x : Option NodeValue). MayLea
 pub plain_of : (maybe : Option NodeValue) (n : NodeValue) (e : Entry) → maybe ≡ Some n → MayAddEntry maybe e → IsPlain (e ∷ [])
 plain_of maybe n e is may = (subst (λ (x : Option NodeValue). MayAddEntry x e) is may).plain
 
+-- it may follow the journal of a node that is open
+pub allowed_of : (maybe : Option NodeValue) (n : NodeValue) (e : Entry) (batch : List Entry) → maybe ≡ Some n → MayAddEntry maybe e → n.closed ≡ false → batch ≡ e ∷ [] → Allowed bundle_meaning n.store.state.facts batch
+allowed_of maybe n e batch is may unclosed single =
+    subst (λ (b : List Entry). Allowed bundle_meaning n.store.state.facts b) (sym single) ((subst (λ (x : Option NodeValue). MayAddEntry x e) is may).allowed unclosed)
+
 -- ---- a session that began
 
 session_new : (sessions : List Session) (s : Session) → session_at sessions s.number ≡ None → session_at (sessions ++ s ∷ []) s.number ≡ Some s
@@ -295,15 +317,15 @@ has_begun s s' h h' session ready ready' is numbered j holds =
 
 -- a link more
 pub adds_link : (plan : Plan) (nonce : Option (List ℕ)) (n n' : NodeValue) (h h' : MemHostValue) (links : ℕ) (old new : DeviceValue) → IsRunning n h links → IsReady bundle_meaning n'.store (host_told h').files
-    → AttachesLink bundle_meaning n n' (host_told h) (host_told h') → BringsAll h h'
+    → n'.first ≡ n.first → length n'.links ≡ length n.links + 1 → BringsAll h h'
     → n'.store.state.facts ≡ after_all n.store.state.facts (entry.Session (session_of n.store.state.facts.begun plan nonce) ∷ [])
     → old.node ≡ Some n → new.node ≡ Some n' → old.host ≡ h → new.host ≡ h' → old.links ≡ links → new.links ≡ links + 1 → AddsLink plan.contact n.store.state.facts.begun old new
-adds_link plan nonce n n' h h' links old new run ready attaches brings is was now its its' at at' =
+adds_link plan nonce n n' h h' links old new run ready same_first one_more brings is was now its its' at at' =
     let brought : BringsAll old.host new.host = subst (λ (x : MemHostValue). BringsAll x new.host) (sym its) (subst (λ (x : MemHostValue). BringsAll h x) (sym its') brings) in
     let begun : n.store.state.facts.begun ≡ n.first + old.links = omega (arith, (run.attached.attached run.unclosed).begun, run.linked, at) in
     record {
-      same_first = ap first_of now ∙ ap (λ (k : ℕ). Some k) attaches.same_first ∙ sym (ap first_of was);
-      number = ap number_of now ∙ ap (λ (k : ℕ). Some k) (omega (arith, attaches.one_more, run.linked, at));
+      same_first = ap first_of now ∙ ap (λ (k : ℕ). Some k) same_first ∙ sym (ap first_of was);
+      number = ap number_of now ∙ ap (λ (k : ℕ). Some k) (omega (arith, one_more, run.linked, at));
       one_more = omega (arith, at, at');
       numbered = ap (option_map (λ (m : NodeValue). m.first + old.links)) was ∙ ap (λ (k : ℕ). Some k) (sym begun);
       brings = brought;
@@ -358,12 +380,16 @@ brings_other h h' link answer is plans i other =
 not_failed : (stands : LinkEnd) → is_sent_to stands ≡ true → stands ≡ link_end.Failed → ⊥
 not_failed stands unclosed is = let no : is_sent_to link_end.Failed ≡ true = subst (λ (e : LinkEnd). is_sent_to e ≡ true) is unclosed in cc
 
-pub links_stand : (n : NodeValue) (d : DeviceValue) (j : Journal) → IsRunning n d.host d.links → HoldsAfterCrash j d.host → LinksStand n d j
-links_stand n d j run holds =
+pub links_stand : DeviceLaws → (n : NodeValue) (d : DeviceValue) (j : Journal) → IsRunning n d.host d.links → HoldsAfterCrash j d.host → LinksStand n d j
+links_stand laws n d j run holds =
     let ready = open_of n d.host d.links run in
     let has = journal_of n.store d.host ready in
     let same = holds_fits n.store j has.whole d.host holds has.fits in
     let f = holds_facts n.store j d.host ready holds in
+    let so_far : Journal = run.runs.begin ++ batches_in run.runs.acts in
+    let both : Some run.runs.fits.0 ≡ Some (told_host d.host).two = sym run.runs.fits.1 ∙ (told_host d.host).files_are in
+    let two : run.runs.fits.0 ≡ (told_host d.host).two = cc in
+    let is : so_far ≡ j = holds_fits n.store j so_far d.host holds (subst (λ (t : Two File). FitsFiles bundle_meaning n.store so_far t) two run.runs.fits.2) in
     record {
       facts_are = sym f;
       legal = subst (λ (k : Journal). Legal bundle_meaning k) same has.fits.legal;
@@ -375,9 +401,8 @@ links_stand n d j run holds =
           ap (λ (g : Facts). session_at g.sessions (n.first + link)) f
           ∙ subst (λ (k : ℕ). session_at n.store.state.facts.sessions k ≡ Some l.session) at.numbered at.known;
       sent = λ link l there unclosed.
-          let at = (run.attached.attached run.unclosed).each link l there in
-          (run.runs.joined.each link l there).sent (not_failed l.end unclosed) (told_host d.host) j (subst (λ (k : Journal). FitsFiles bundle_meaning n.store k (told_host d.host).two) same has.fits)
-          ∙ ap (output j) at.numbered;
+          all_sent_on laws.whole n (host_told d.host) run.runs link l there (not_failed l.end unclosed)
+          ∙ ap (λ (k : Journal). output k (n.first + link)) is;
       unused = run.unused;
     }
 

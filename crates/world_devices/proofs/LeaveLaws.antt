@@ -3,7 +3,6 @@ use Rattle.std.proofs.Common.{◌≡◌, ℕ, zero, suc, ◌+◌, ◌≤◌, tru
 use Rattle.outside.specs.Files.{Two, File, IsFileImage, IsImage, NothingPending, read_files}
 use Rattle.outside.specs.Links.{sent_of}
 use Rattle.outside.specs.Outside.{Outside, Moment}
-use Rattle.outside.specs.Runs.{TellsAll}
 use Rattle.outside.specs.HostTold.{host_told}
 use Rattle.outside.specs.MemHost.{MemHostValue}
 use Rattle.frame_journal.specs.Gates.{AnyImage}
@@ -23,17 +22,15 @@ use Rattle.sync_rules.proofs.StepLaws.{next_is_settling}
 use Rattle.sync_store.specs.Store.{StoreValue}
 use Rattle.sync_store.specs.Fitting.{FitsFiles}
 use Rattle.sync_store.specs.Moments.{IsBetween, LeadsTo}
-use Rattle.sync_node.specs.Adding.{AddsAtMost, IsPlain}
-use Rattle.sync_node.specs.Output.{heard_on}
-use Rattle.sync_node.specs.Safe.{Safe}
-use Rattle.sync_node.specs.Suits.{AllSuitSessions, IsOfRun, SuitsSessions}
+use Rattle.sync_course.specs.Free.{IsPlain}
+use Rattle.sync_course.specs.Story.{AllSuitNode, IsOfCourse, SuitsNode}
 use Rattle.world_laws.specs.Worlds.{AllHeard, HasNoBrief, IsHeard}
 use Rattle.world_laws.proofs.PlainLaws.{plain_append}
 use Rattle.world_devices.specs.Devices.{DeviceValue}
 use Rattle.world_devices.specs.Keeping.{Journal}
 use Rattle.world_devices.specs.Running.{JournalWentOn, GoOnHearing, HoldsAfterCrash, IsStill, LeavesOn, MayLeave}
-use Rattle.world_devices.proofs.KeepLaws.{begin_now, settled_only}
-use Rattle.world_devices.proofs.PlainLaws.{added_plain, some_settling_plain, suits_plain}
+use Rattle.world_devices.proofs.KeepLaws.{settled_only}
+use Rattle.world_devices.proofs.PlainLaws.{some_settling_plain}
 
 -- ---- what batches take
 
@@ -67,19 +64,20 @@ module _ (heard : ℕ → List Record) where
   plain_heard f (entry.Take s k ∷ rest) plain = absurd plain
   plain_heard f (_ ∷ rest) plain = tt
 
-  -- a run takes what was heard on its links
+  -- a node takes what was heard on its links
   module _ (first : ℕ) (plans : List Session) (bytes : ℕ → List ℕ)
       (takes : (s link : ℕ) (r : Record) → s ≡ first + link → In r (records (bytes link)) → In r (heard s)) where
-    of_run : (f : Facts) (b : List Entry) → IsOfRun first plans bytes f b → IsHeard heard f b
-    of_run f [] run = tt
-    of_run f (entry.Take s k ∷ rest) run = (run.read, takes s run.link run.read run.on (get_in (records (bytes run.link)) k run.read run.stands), run.so)
-    of_run f (_ ∷ rest) run = tt
+    of_course : (f : Facts) (b : List Entry) → IsOfCourse first plans bytes f b → IsHeard heard f b
+    of_course f [] is = tt
+    of_course f (entry.Take s k ∷ rest) is = (is.read, takes s is.link is.read is.on (get_in (records (bytes is.link)) k is.read is.stands), is.so)
+    of_course f (_ ∷ rest) is = tt
 
-    one_suits : (f : Facts) (b : List Entry) → SuitsSessions bundle_meaning first plans bytes f b → IsHeard heard f b
-    one_suits f b (inl settles) = one_settling f b settles
-    one_suits f b (inr run) = of_run f b run
+    one_suits : (f : Facts) (b : List Entry) → SuitsNode bundle_meaning first plans bytes f b → IsHeard heard f b
+    one_suits f b (inl plain) = plain_heard f b plain
+    one_suits f b (inr (inl settles)) = one_settling f b settles
+    one_suits f b (inr (inr is)) = of_course f b is
 
-    pub all_suit : (f : Facts) (bs : Journal) → AllSuitSessions bundle_meaning first plans bytes f bs → AllHeard heard f bs
+    pub all_suit : (f : Facts) (bs : Journal) → AllSuitNode bundle_meaning first plans bytes f bs → AllHeard heard f bs
     all_suit f [] suits = tt
     all_suit f (b ∷ bs) suits = (one_suits f b suits.0, all_suit (after_all f b) bs suits.1)
 
@@ -95,7 +93,7 @@ pub leave_same : (o o' : Outside) → o'.files ≡ o.files → LeavesOn o o'
 leave_same o o' same heard j k = record { each = λ two is left image. k.each two (sym same ∙ is) left image }
 
 -- by what moments since are
-leave_by : (heard : ℕ → List Record) (j : Journal) (o o' : Outside) → o.clock ≤ o'.clock → ((m : Moment) → o'.moments o.clock m → GoOnHearing heard j m.files) → MayLeave heard j o'
+pub leave_by : (heard : ℕ → List Record) (j : Journal) (o o' : Outside) → o.clock ≤ o'.clock → ((m : Moment) → o'.moments o.clock m → GoOnHearing heard j m.files) → MayLeave heard j o'
 leave_by heard j o o' later by = record {
   each = λ two is left image.
       let m : Moment = record { files = left; sent = sent_of o'.links.told } in
@@ -121,7 +119,7 @@ went heard j j0 o s two is k fits =
     record { more = reads.more; plain = reads.plain; all_heard = reads.all_heard; is = cc }
 
 -- behind it, batches that take what is heard
-went_on : (heard : ℕ → List Record) (j j0 more : Journal) (files : Two (List ℕ)) → Went heard j j0 → HasNoBrief more → AllHeard heard (facts j0) more
+pub went_on : (heard : ℕ → List Record) (j j0 more : Journal) (files : Two (List ℕ)) → Went heard j j0 → HasNoBrief more → AllHeard heard (facts j0) more
     → stands bundle_meaning files ≡ journal (j0 ++ more) → GoOnHearing heard j files
 went_on heard j j0 more files w plain all stood = record {
   more = w.more ++ more;
@@ -141,37 +139,6 @@ leave_settling more j0 s s' o o' two is fits settling leads heard j k =
     subst (λ (bs : Journal). AllSettling bundle_meaning (facts j0) bs) at.has.parts (subst (λ (f : Facts). AllSettling bundle_meaning f more) (sym fits.facts_are) settling) in
     went_on heard j j0 at.has.front m.files w (some_settling_plain (facts j0) at.has.front at.has.rest all)
     (some_settling heard (facts j0) at.has.front at.has.rest all) (at.stands_for ∙ ap journal at.has.is))
-
-added_at : (heard : ℕ → List Record) (j j0 whole : Journal) (batch : List Entry) (files : Two (List ℕ)) → IsPlain batch → Went heard j j0 → AddsAtMost bundle_meaning j0 batch whole
-    → stands bundle_meaning files ≡ journal whole → GoOnHearing heard j files
-added_at heard j j0 whole batch files plain w (inl same) stood = went_on heard j j0 [] files w refl tt (stood ∙ ap journal (same ∙ sym (append-nil j0)))
-added_at heard j j0 whole batch files plain w (inr adds) stood =
-    went_on heard j j0 (batch ∷ adds.more) files w (added_plain (facts j0) batch adds.more plain adds.settling)
-    (plain_heard heard (facts j0) batch plain, all_settling heard (after_all (facts j0) batch) adds.more adds.settling) (stood ∙ ap journal adds.is)
-
-pub leave_adding : (batch : List Entry) (j0 : Journal) (s s' : StoreValue) (o o' : Outside) (two : Two File) → IsPlain batch → o.files ≡ Some two → FitsFiles bundle_meaning s j0 two
-    → LeadsTo bundle_meaning (AddsAtMost bundle_meaning j0 batch) (AddsAtMost bundle_meaning j0 batch) s' o o' → LeavesOn o o'
-leave_adding batch j0 s s' o o' two plain is fits leads heard j k =
-    let w = went heard j j0 o s two is k fits in
-    leave_by heard j o o' leads.moments.later (λ m since.
-    let at = leads.moments.each m since in
-    added_at heard j j0 at.whole batch m.files plain w at.has at.stands_for)
-
--- a run that is safe, where what it hears is among what may be taken
-pub leave_safe : (heard : ℕ → List Record) (j j0 : Journal) (first : ℕ) (plans : List Session) (s s' : StoreValue) (o o' : Outside) (told : TellsAll o) → TellsAll o' → FitsFiles bundle_meaning s j0 told.two
-    → MayLeave heard j o → Safe bundle_meaning (begin_now first o told.two j0) plans s' o'
-    → ((session link : ℕ) (r : Record) → session ≡ first + link → In r (records (heard_on o'.links link)) → In r (heard session)) → MayLeave heard j o'
-leave_safe heard j j0 first plans s s' o o' told told' fits k safe takes =
-    let w = went heard j j0 o s told.two told.files_are k fits in
-    leave_by heard j o o' (safe.later told') (λ m since.
-    elim (safe.moments told' m since) [
-      | inl early ↦ k.each told.two told.files_are m.files early.image
-      | inr covered ↦
-          went_on heard j j0 covered.suits.more m.files w
-          (suits_plain first plans (heard_on o'.links) (facts j0) covered.suits.more covered.suits.suits)
-          (all_suit heard first plans (heard_on o'.links) takes (facts j0) covered.suits.more covered.suits.suits)
-          (covered.stands_for ∙ ap journal covered.suits.extends)
-    ])
 
 -- ---- what stands at the end of a call
 

@@ -4,7 +4,10 @@ pub mod PlainLaws
 pub mod KeepLaws
 pub mod LeaveLaws
 pub mod HostLaws
+pub mod RunLaws
 pub mod RunningLaws
+pub mod CourseLaws
+pub mod FullLaws
 pub mod CallLaws
 pub mod TurnLaws
 pub mod NewLaws

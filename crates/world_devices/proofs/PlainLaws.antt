@@ -1,5 +1,5 @@
 -- What a device adds to its journal begins no brief account, so that its sessions are few.
-use Rattle.std.proofs.Common.{◌≡◌, ℕ, ◌+◌, ◌<◌, ◌≤◌, true, ◌&&◌, List, [], ◌∷◌, ◌++◌, length, refl, sym, ap, ◌∙◌, subst, inl, inr, arith, append-nil, append_assoc}
+use Rattle.std.proofs.Common.{◌≡◌, ℕ, ◌+◌, ◌<◌, ◌≤◌, true, ◌&&◌, List, [], ◌∷◌, ◌++◌, length, refl, ap, ◌∙◌, subst, inl, inr, arith, append_assoc}
 use Rattle.client_basic.specs.Bodies.{bundle_meaning}
 use Rattle.entry_codec.specs.declared.naming.Format.{Format}
 use Rattle.entry_codec.specs.declared.naming.Format.TheVariants as kind
@@ -14,8 +14,8 @@ use Rattle.sync_rules.specs.Legal.{AllSettling, IsSettlingBatch, Legal}
 use Rattle.sync_rules.proofs.StepLaws.{next_is_settling}
 use Rattle.sync_store.specs.Moments.{IsBetween}
 use Rattle.sync_store.specs.Store.{IsStore, StoreValue, counts_to, written_in}
-use Rattle.sync_node.specs.Adding.{AddsAtMost, IsPlain}
-use Rattle.sync_node.specs.Suits.{AllSuitSessions, IsOfRun, SuitsSessions, SuitsRun}
+use Rattle.sync_course.specs.Free.{IsPlain}
+use Rattle.sync_course.specs.Story.{AllSuitNode, IsOfCourse, SuitsNode}
 use Rattle.world_laws.specs.Worlds.{HasNoBrief, begins_no_brief}
 use Rattle.world_laws.proofs.PlainLaws.{plain_append, plain_listed}
 use Rattle.world_devices.specs.Keeping.{Journal}
@@ -46,29 +46,23 @@ added_begins [] plain = refl
 added_begins (entry.Brief n ∷ rest) plain = absurd plain
 added_begins (_ ∷ rest) plain = refl
 
--- an entry that is added, and settling behind it
-pub added_plain : (f : Facts) (b : List Entry) (more : Journal) → IsPlain b → AllSettling bundle_meaning (after_all f b) more → HasNoBrief (b ∷ more)
-added_plain f b more plain settling =
-    let here = added_begins b plain in
-    let later = settling_plain (after_all f b) more settling in
-    (λ i. here i && later i)
-
 module _ (first : ℕ) (plans : List Session) (bytes : ℕ → List ℕ) where
-  run_begins : (f : Facts) (b : List Entry) → IsOfRun first plans bytes f b → begins_no_brief b ≡ true
-  run_begins f [] run = refl
-  run_begins f (entry.Brief n ∷ rest) run = absurd run
-  run_begins f (_ ∷ rest) run = refl
+  course_begins : (f : Facts) (b : List Entry) → IsOfCourse first plans bytes f b → begins_no_brief b ≡ true
+  course_begins f [] is = refl
+  course_begins f (entry.Brief n ∷ rest) is = absurd is
+  course_begins f (_ ∷ rest) is = refl
 
-  suits_begins : (f : Facts) (b : List Entry) → SuitsSessions bundle_meaning first plans bytes f b → begins_no_brief b ≡ true
-  suits_begins f b (inl settles) = settling_begins f b settles
-  suits_begins f b (inr run) = run_begins f b run
+  node_begins : (f : Facts) (b : List Entry) → SuitsNode bundle_meaning first plans bytes f b → begins_no_brief b ≡ true
+  node_begins f b (inl plain) = added_begins b plain
+  node_begins f b (inr (inl settles)) = settling_begins f b settles
+  node_begins f b (inr (inr is)) = course_begins f b is
 
-  -- what a run adds
-  pub suits_plain : (f : Facts) (bs : Journal) → AllSuitSessions bundle_meaning first plans bytes f bs → HasNoBrief bs
-  suits_plain f [] suits = refl
-  suits_plain f (b ∷ bs) suits =
-      let here = suits_begins f b suits.0 in
-      let later = suits_plain (after_all f b) bs suits.1 in
+  -- what a node adds
+  pub node_plain : (f : Facts) (bs : Journal) → AllSuitNode bundle_meaning first plans bytes f bs → HasNoBrief bs
+  node_plain f [] suits = refl
+  node_plain f (b ∷ bs) suits =
+      let here = node_begins f b suits.0 in
+      let later = node_plain (after_all f b) bs suits.1 in
       (λ i. here i && later i)
 
 -- ---- journals that go on
@@ -91,21 +85,6 @@ went_between j0 more whole settling at =
     let all : AllSettling bundle_meaning (facts j0) (at.front ++ at.rest) =
     subst (λ (bs : Journal). AllSettling bundle_meaning (facts j0) bs) at.parts settling in
     record { more = at.front; plain = some_settling_plain (facts j0) at.front at.rest all; is = at.is }
-
-pub went_adding : (j0 whole : Journal) (batch : List Entry) → IsPlain batch → AddsAtMost bundle_meaning j0 batch whole → WentOn j0 whole
-went_adding j0 whole batch plain (inl same) = record { more = []; plain = refl; is = same ∙ sym (append-nil j0) }
-went_adding j0 whole batch plain (inr adds) = record {
-  more = batch ∷ adds.more;
-  plain = added_plain (facts j0) batch adds.more plain adds.settling;
-  is = adds.is;
-}
-
-pub went_running : (j0 whole : Journal) (first : ℕ) (plans : List Session) (bytes : ℕ → List ℕ) → SuitsRun bundle_meaning j0 first plans bytes whole → WentOn j0 whole
-went_running j0 whole first plans bytes suits = record {
-  more = suits.more;
-  plain = suits_plain first plans bytes (facts j0) suits.more suits.suits;
-  is = suits.extends;
-}
 
 -- ---- few sessions
 

@@ -1,5 +1,5 @@
 -- What keeps a device running.
-use Rattle.std.proofs.Common.{◌≡◌, ℕ, ◌+◌, ◌<◌, ◌≤◌, false, List, [], ◌∷◌, refl, sym, ap, ◌∙◌, subst, arith, Option, Some, None, Result, Ok, Err, OnOk, OnErr}
+use Rattle.std.proofs.Common.{◌≡◌, ℕ, ◌+◌, ◌<◌, ◌≤◌, false, List, [], ◌∷◌, ◌++◌, length, refl, sym, ap, ◌∙◌, subst, arith, Option, Some, None, Result, Ok, Err, OnOk, OnErr}
 use Rattle.outside.specs.Files.{Two, File}
 use Rattle.outside.specs.Links.{ToldLink, HeardOn}
 use Rattle.outside.specs.Outside.{Outside}
@@ -23,21 +23,21 @@ use Rattle.sync_store.specs.Ready.{IsReady}
 use Rattle.sync_store.specs.Refusals.{contact_answer, group_answer, level_answer, post_answer}
 use Rattle.sync_node.specs.Adding.{IsPlain}
 use Rattle.world_devices.specs.Brought.{IsSilent, brought_on}
-use Rattle.sync_node.specs.Node.{AttachesLink, IsNode, KeepsJoined, KeepsSafe, NodeValue, MayRun, PlansSafe}
+use Rattle.sync_node.specs.Node.{IsNode, NodeValue, MayRun}
+use Rattle.sync_node.specs.Output.{heard_on}
 use Rattle.frame_journal.specs.Gates.{AnyImage}
-use Rattle.sync_rules.specs.declared.entries.Session.{Session}
 use Rattle.sync_store.specs.Fitting.{FitsFiles}
 use Rattle.sync_store.specs.Moments.{LeadsTo}
 use Rattle.sync_store.specs.Settling.{HasSettled}
 use Rattle.sync_store.specs.declared.fault.StoreFault.{StoreFault}
 use Rattle.sync_node.specs.Adding.{AddsAtMost}
-use Rattle.world_devices.specs.Cited.{SentGrows}
 use Rattle.world_devices.specs.Devices.{IsDevice, IsReadyStore, IsRunning, IsStarted, MayAddEntry, MayBeRunning, links_made}
 use Rattle.world_devices.specs.Keeping.{AreLinksQuiet, Journal, HoldsLaterJournal, KeepsOn, TellsSame}
-use Rattle.world_devices.proofs.KeepLaws.{keeps_adding, keeps_attaching, keeps_looks, keeps_same, keeps_settling, keeps_turning, run_added, run_attached, run_begun, run_on, run_turned, went_fits}
+use Rattle.world_devices.proofs.KeepLaws.{keeps_looks, keeps_same, keeps_settling, went_fits}
+use Rattle.world_devices.proofs.RunLaws.{CallEnds, run_after, run_begun, run_on}
 use Rattle.world_devices.proofs.PlainLaws.{few_begun}
 use Rattle.world_laws.specs.Worlds.{HasNoBrief}
-use Rattle.world_devices.proofs.HostLaws.{brings_linked, brings_none, keeps_anew, keeps_crash, told_host}
+use Rattle.world_devices.proofs.HostLaws.{brings_none, keeps_anew, keeps_crash, told_host}
 use Rattle.world_devices.proofs.AllowedLaws.{contact_allowed, group_allowed, level_allowed, author_allowed}
 
 -- over the same files, with as many links at least, a node may go on
@@ -120,71 +120,33 @@ begins_running n s h is started dialled quiet silent =
       unused = λ link _. brings_none h link silent quiet;
     })
 
--- a session began on one link more
-pub attached_running : (session : Session) (n n' : NodeValue) (h h' : MemHostValue) (links : ℕ) → n'.store.limit ≡ n.store.limit → MayRun bundle_meaning n' (host_told h') → n'.closed ≡ false
-    → AttachesLink bundle_meaning n n' (host_told h) (host_told h') → PlansSafe bundle_meaning session n n' (host_told h) (host_told h') → IsNode n' → BringsAll h h' → IsRunning n h links → IsRunning n' h' (links + 1)
-attached_running session n n' h h' links limit may unclosed attaches safe is_node brings running = record {
+-- nothing was heard on a link that a node has not had
+pub silent_past : (n : NodeValue) (h : MemHostValue) (links : ℕ) → IsRunning n h links → (link : ℕ) → length n.links ≤ link → heard_on (host_told h).links link ≡ []
+silent_past n h links run link past = none_first (heard_on (host_told h).links link) _ (run.unused link (omega (arith, past, run.linked)))
+  where
+    none_first : (a b : List ℕ) → a ++ b ≡ [] → a ≡ []
+    none_first [] b none = refl
+    none_first (x ∷ a) b none = cc
+
+-- a call ended
+pub call_running : (n n' : NodeValue) (h h' : MemHostValue) (links links' : ℕ) → CallEnds n n' (host_told h) (host_told h') → n'.first ≡ n.first → MayRun bundle_meaning n' (host_told h') → n'.closed ≡ false
+    → IsNode n' → BringsAll h h' → links' ≡ length n'.links → links ≤ links' → IsRunning n h links → IsRunning n' h' links'
+call_running n n' h h' links links' ends first may unclosed is_node brings linked more running = record {
   unclosed = unclosed;
-  runs = run_attached session n n' (host_told h) (host_told h') attaches safe running.runs;
+  runs = run_after n n' (host_told h) (host_told h') (told_host h) ends first running.runs;
   may = may;
-  limit = limit ∙ running.limit;
-  linked = omega (arith, running.linked, attaches.one_more);
-  dialled = omega (arith, running.dialled, attaches.goes.links.dialled);
+  limit = ends.did.limit ∙ running.limit;
+  linked = linked;
+  dialled = omega (arith, running.dialled, ends.did.goes.same_dialled);
   attached = is_node;
-  unused = λ link past. brings link ∙ running.unused link (omega (arith, past));
+  unused = λ link past. brings link ∙ running.unused link (omega (arith, past, more));
 }
-
-pub attach_keeps : (session : Session) (n n' : NodeValue) (h h' : MemHostValue) (links : ℕ) → PlansSafe bundle_meaning session n n' (host_told h) (host_told h') → IsRunning n h links
-    → KeepsOn (host_told h) (host_told h')
-attach_keeps session n n' h h' links safe running =
-    let has = journal_of n.store h (open_of n h links running) in
-    keeps_attaching session n n' (host_told h) (host_told h') (told_host h) (told_host h') has.whole has.fits running.runs safe
-
--- a turn was made
-pub turned_running : (n n' : NodeValue) (h h' : MemHostValue) (links : ℕ) → n'.store.limit ≡ n.store.limit → MayRun bundle_meaning n' (host_told h') → n'.closed ≡ false
-    → KeepsJoined bundle_meaning n n' (host_told h) (host_told h') → KeepsSafe bundle_meaning n n' (host_told h) (host_told h') → IsNode n' → BringsAll h h' → IsRunning n h links → IsRunning n' h' links
-turned_running n n' h h' links limit may unclosed joined safe is_node brings running = record {
-  unclosed = unclosed;
-  runs = run_turned n n' (host_told h) (host_told h') joined safe running.runs;
-  may = may;
-  limit = limit ∙ running.limit;
-  linked = running.linked ∙ sym joined.same_number;
-  dialled = omega (arith, running.dialled, joined.goes.links.dialled);
-  attached = is_node;
-  unused = λ link past. brings link ∙ running.unused link past;
-}
-
-pub turn_keeps : (n n' : NodeValue) (h h' : MemHostValue) (links : ℕ) → KeepsSafe bundle_meaning n n' (host_told h) (host_told h') → IsRunning n h links → KeepsOn (host_told h) (host_told h')
-turn_keeps n n' h h' links safe running =
-    let has = journal_of n.store h (open_of n h links running) in
-    keeps_turning n n' (host_told h) (host_told h') (told_host h) (told_host h') has.whole has.fits running.runs safe
 
 -- an entry was added
 abbrev pub LeadsAdding : List Entry → NodeValue → NodeValue → MemHostValue → MemHostValue → Type 0
 LeadsAdding batch n n' h h' =
     (two : Two File) → (host_told h).files ≡ Some two → (j : Journal) → FitsFiles bundle_meaning n.store j two
     → LeadsTo bundle_meaning (AddsAtMost bundle_meaning j batch) (AddsAtMost bundle_meaning j batch) n'.store (host_told h) (host_told h')
-
-pub added_running : SentGrows → (batch : List Entry) (n n' : NodeValue) (h h' : MemHostValue) (links : ℕ) → n'.store.limit ≡ n.store.limit → MayRun bundle_meaning n' (host_told h') → n'.closed ≡ false
-    → KeepsJoined bundle_meaning n n' (host_told h) (host_told h') → LeadsAdding batch n n' h h' → IsNode n' → (host_told h').links ≡ (host_told h).links → IsRunning n h links → IsRunning n' h' links
-added_running grows batch n n' h h' links limit may unclosed joined leads is_node same running =
-    let has = journal_of n.store h (open_of n h links running) in
-    record {
-      unclosed = unclosed;
-      runs = run_added grows batch n n' (host_told h) (host_told h') (told_host h) (told_host h') has.whole has.fits joined (leads (told_host h).two (told_host h).files_are has.whole has.fits)
-          (open_of n h links running).still_open (may unclosed).ready.still_open running.runs;
-      may = may;
-      limit = limit ∙ running.limit;
-      linked = running.linked ∙ sym joined.same_number;
-      dialled = omega (arith, running.dialled, joined.goes.links.dialled);
-      attached = is_node;
-      unused = λ link past. brings_linked h h' link same ∙ running.unused link past;
-    }
-
-pub add_keeps : (batch : List Entry) (n n' : NodeValue) (h h' : MemHostValue) (links : ℕ) → IsPlain batch → LeadsAdding batch n n' h h' → IsRunning n h links → KeepsOn (host_told h) (host_told h')
-add_keeps batch n n' h h' links plain leads running =
-    let has = journal_of n.store h (open_of n h links running) in
-    keeps_adding batch has.whole n.store n'.store (host_told h) (host_told h') (told_host h).two plain (told_host h).files_are has.fits (leads (told_host h).two (told_host h).files_are has.whole has.fits)
 
 -- ---- a store that is loaded and settled
 

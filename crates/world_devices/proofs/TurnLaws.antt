@@ -17,7 +17,6 @@ use Rattle.sync_rules.specs.declared.entries.Entry.TheVariants as entry
 use Rattle.sync_rules.specs.Facts.{after_all}
 use Rattle.sync_store.specs.Store.{StoreValue}
 use Rattle.sync_node.specs.Courses.{BeginsNextSession, BreaksBeginning, BreaksTurn, FitsWith, MakesTurn, ReadsAs, RunBreaks, RunRuns, is_still}
-use Rattle.sync_node.specs.Fulls.{FullBeginning, FullTurn}
 use Rattle.sync_node.specs.Node.{NodeValue}
 use Rattle.sync_node.specs.Plans.{session_of}
 use Rattle.sync_node.specs.declared.fault.NodeFault.{NodeFault}
@@ -27,6 +26,7 @@ use Rattle.sync_node.specs.declared.node.Plan.{Plan}
 use Rattle.sync_node.specs.declared.node.Turned.{Turned}
 use Rattle.sync_node.specs.declared.node.Turned.TheVariants as turned_kind
 use Rattle.world_devices.specs.Devices.{DeviceValue, HostGoesOn}
+use Rattle.world_devices.specs.Fulls.{FullBeginning, FullTurn}
 use Rattle.world_devices.specs.Doing.{DeviceBeginsSession, BreaksOff, ComesOf, FullAtBeginning, FullInTurn, HasAttached, HasBegunOnLink, HasTurned, IsAhead, IsNotFull, OfNodes, DeviceMakesTurn, next_session}
 use Rattle.world_devices.specs.Refusals.{IsNotRefused, RefusedBy, refuses_link}
 use Rattle.world_devices.specs.declared.stop.StepFault.{StepFault}
@@ -174,7 +174,7 @@ beginning_broken plan its_nonce n at old new was breaks since off clock = record
 
 failed_beginning : (plan : Plan) (its_nonce : Option (List ℕ)) (r : Result (Unit {0}) StepFault) (e : StepFault) (f : NodeFault) (n : NodeValue) (store : StoreValue) (at : MemHostValue) (old new : DeviceValue) → r ≡ Err e
     → IsNotRefused r → old.node ≡ Some n → (IsErrOf r fault.Full → (f ≡ node_fault.Full) × (new.host ≡ at))
-    → store.limit ≡ n.store.limit → (f ≡ node_fault.Full → FullBeginning bundle_meaning (session_of n.store.state.facts.begun plan its_nonce) n.links n.store store (host_told old.host) (host_told at))
+    → store.limit ≡ n.store.limit → (f ≡ node_fault.Full → FullBeginning bundle_meaning (session_of n.store.state.facts.begun plan its_nonce) n.first n.links n.store store (host_told old.host) (host_told at))
     → BreaksBeginning bundle_meaning (session_of n.store.state.facts.begun plan its_nonce) n.links n.store (host_told old.host) (host_told at) → ComesOf at new.host → HostGoesOn old.host at → DeviceBeginsSession plan its_nonce (Err e) old new
 failed_beginning plan its_nonce r fault.Refused f n store at old new is unrefused was full limit fills breaks left since = absurd (subst (λ (x : Result (Unit {0}) StepFault). IsNotRefused x) is unrefused)
 failed_beginning plan its_nonce r fault.Full f n store at old new is unrefused was full limit fills breaks left since =
@@ -182,7 +182,7 @@ failed_beginning plan its_nonce r fault.Full f n store at old new is unrefused w
     of_node (λ m. FullAtBeginning plan its_nonce old.host new.host m) n old.node was (record {
       store = store;
       limit = limit;
-      fills = subst (λ (h : MemHostValue). FullBeginning bundle_meaning (session_of n.store.state.facts.begun plan its_nonce) n.links n.store store (host_told old.host) (host_told h)) (sym at_full.1) (fills at_full.0);
+      fills = subst (λ (h : MemHostValue). FullBeginning bundle_meaning (session_of n.store.state.facts.begun plan its_nonce) n.first n.links n.store store (host_told old.host) (host_told h)) (sym at_full.1) (fills at_full.0);
     })
 failed_beginning plan its_nonce r fault.Memory f n store at old new is unrefused was full limit fills breaks left since =
     inl (inr (record {
@@ -200,7 +200,7 @@ starved_beginning plan its_nonce r fault.Memory session old new is unrefused unf
 
 pub beginning_failed : (plan : Plan) (its_nonce : Option (List ℕ)) (r : Result (Option ℕ) StepFault) (e : StepFault) (f : NodeFault) (n : NodeValue) (store : StoreValue) (at : MemHostValue) (old new : DeviceValue)
     → IsErrAnd r (λ x. x ≡ e) → IsNotRefused {A = Unit {0}} (Err e) → old.node ≡ Some n → (IsErrOf {T = Unit {0}} (Err e) fault.Full → (f ≡ node_fault.Full) × (new.host ≡ at))
-    → store.limit ≡ n.store.limit → (f ≡ node_fault.Full → FullBeginning bundle_meaning (session_of n.store.state.facts.begun plan its_nonce) n.links n.store store (host_told old.host) (host_told at))
+    → store.limit ≡ n.store.limit → (f ≡ node_fault.Full → FullBeginning bundle_meaning (session_of n.store.state.facts.begun plan its_nonce) n.first n.links n.store store (host_told old.host) (host_told at))
     → BreaksBeginning bundle_meaning (session_of n.store.state.facts.begun plan its_nonce) n.links n.store (host_told old.host) (host_told at) → ComesOf at new.host → HostGoesOn old.host at → DeviceBeginsSession plan its_nonce r old new
 beginning_failed plan its_nonce (Ok a) e f n store at old new is unrefused was full limit fills breaks left since = absurd is
 beginning_failed plan its_nonce (Err x) e f n store at old new is unrefused was full limit fills breaks left since =

@@ -16,7 +16,7 @@ use Rattle.sync_store.specs.Ready.{IsReady}
 use Rattle.sync_node.specs.Adding.{IsPlain}
 use Rattle.sync_node.specs.Node.{IsNode, NodeValue, node_code, MayRun}
 use Rattle.world_devices.specs.Brought.{IsSilent, brought_on}
-use Rattle.world_devices.specs.Keeping.{AreLinksQuiet, IsSafeRun, HoldsLaterJournal, KeepsOn}
+use Rattle.world_devices.specs.Keeping.{AreLinksQuiet, IsRunSoFar, HoldsLaterJournal, KeepsOn}
 use Rattle.world_devices.specs.declared.stop.Stop.{Stop}
 use Rattle.world_devices.specs.contracts.stop.Stop as stop
 
@@ -57,11 +57,11 @@ pub record IsStarted (s : StoreValue) (host : MemHostValue) : Type 0 where
   pub settled : IsSettled bundle_meaning s.state.facts
   pub limit : s.limit ≡ MAX_JOURNAL
 
--- the node may go on and its run is safe, its journal may have the greatest length, its links are those that the device has had, and its host has all links that it may get;
+-- the node may go on and its acts since it began lead to where it stands, its journal may have the greatest length, its links are those that the device has had, and its host has all links that it may get;
 -- of these, one that the device has not had brings nothing
 pub record IsRunning (n : NodeValue) (host : MemHostValue) (links : ℕ) : Type 0 where
   pub unclosed : n.closed ≡ false
-  pub runs : IsSafeRun n (host_told host)
+  pub runs : IsRunSoFar n (host_told host)
   pub may : MayRun bundle_meaning n (host_told host)
   pub limit : n.store.limit ≡ MAX_JOURNAL
   pub linked : links ≡ length n.links

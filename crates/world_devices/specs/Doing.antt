@@ -22,11 +22,11 @@ use Rattle.sync_store.specs.Store.{StoreValue}
 use Rattle.sync_store.specs.Commits.{needed}
 use Rattle.sync_node.specs.Adding.{AddsAtMost, AddsOne, AddsWithin, GoesOnSettling}
 use Rattle.sync_node.specs.Courses.{BeginsNextSession, BreaksBeginning, BreaksTurn, MakesTurn}
-use Rattle.sync_node.specs.Fulls.{FullBeginning, FullTurn}
 use Rattle.sync_node.specs.Node.{NodeValue}
 use Rattle.sync_node.specs.Plans.{session_of}
 use Rattle.sync_node.specs.declared.node.Plan.{Plan}
 use Rattle.world_devices.specs.Devices.{DeviceValue, HostGoesOn, IsAnew}
+use Rattle.world_devices.specs.Fulls.{FullBeginning, FullTurn}
 use Rattle.world_devices.specs.Keeping.{Journal}
 use Rattle.world_devices.specs.Linking.{IsUnlinked}
 use Rattle.world_devices.specs.Running.{HoldsAfterCrash}
@@ -204,7 +204,7 @@ pub record HasBegunOnLink (plan : Plan) (its_nonce : Option (List ℕ)) (session
 pub record FullAtBeginning (plan : Plan) (its_nonce : Option (List ℕ)) (h h' : MemHostValue) (n : NodeValue) : Type 0 where
   pub store : StoreValue
   pub limit : store.limit ≡ n.store.limit
-  pub fills : FullBeginning bundle_meaning (next_session plan its_nonce n) n.links n.store store (host_told h) (host_told h')
+  pub fills : FullBeginning bundle_meaning (next_session plan its_nonce n) n.first n.links n.store store (host_told h) (host_told h')
 
 -- it had come to some place of a course, by no more calls of the disk than the batches of its path take and those that were next
 abbrev pub BreaksAttaching : Plan → Option (List ℕ) → DeviceValue → MemHostValue → Type 0

@@ -1,17 +1,20 @@
 -- What a device keeps: whatever a crash leaves of its files stands for a journal that goes on from each earlier one.
-use Rattle.std.specs.Prelude.{◌≡◌, ℕ, List, [], ◌++◌, length, Some}
+use Rattle.std.specs.Prelude.{◌≡◌, ℕ, List, [], ◌++◌, Some}
 use Rattle.outside.specs.Files.{Two, File, IsImage}
 use Rattle.outside.specs.Outside.{Outside, Moment}
 use Rattle.outside.specs.Runs.{answers_at}
 use Rattle.client_basic.specs.Bodies.{bundle_meaning}
 use Rattle.entry_codec.specs.Standing.{stands, journal}
 use Rattle.sync_rules.specs.declared.entries.Entry.{Entry}
-use Rattle.sync_rules.specs.declared.entries.Session.{Session}
+use Rattle.sync_rules.specs.Facts.{facts}
 use Rattle.sync_rules.specs.Legal.{Legal}
-use Rattle.sync_node.specs.Joined.{Joined}
+use Rattle.sync_course.specs.Acts.{Act, batches_in, sends_on}
+use Rattle.sync_course.specs.Free.{Free, Rests}
+use Rattle.sync_course.specs.Owing.{paid}
+use Rattle.sync_course.specs.Story.{FreeActs}
+use Rattle.sync_node.specs.Courses.{AllRead, FitsWith, links_from}
 use Rattle.sync_node.specs.Node.{NodeValue}
-use Rattle.sync_node.specs.Output.{sent_on}
-use Rattle.sync_node.specs.Safe.{Begin, Safe}
+use Rattle.sync_node.specs.Output.{heard_on, sent_on}
 use Rattle.world_laws.specs.Worlds.{HasNoBrief}
 
 abbrev pub Journal : Type 0
@@ -46,14 +49,21 @@ pub record AreLinksQuiet (o : Outside) : Type 0 where
   pub sent : (link : ℕ) → sent_on o.links link ≡ []
   pub heard : (link : ℕ) → answers_at o.links.heard link ≡ []
 
--- the links of a node are joined with its sessions, and its run is safe since it began
-pub record IsSafeRun (n : NodeValue) (o : Outside) : Type 0 where
-  pub joined : Joined bundle_meaning n.links n.store o
-  pub begin : Begin
-  pub plans : List Session
-  pub same_first : n.first ≡ begin.first
-  pub counted : length plans ≡ length n.links
-  pub safe : Safe bundle_meaning begin plans n.store o
+-- the place at which a node stands between two calls, by what is told to be heard on its links
+abbrev pub node_place : NodeValue → Outside → Free
+node_place n o = record { hold = Rests; links = links_from 0 n.links (heard_on o.links); facts = n.store.state.facts }
+
+-- What a node did since it began over a legal journal: these acts, which lead to where it stands now. What went out on each link is
+-- what they sent, and the disk fits the store with that journal and their batches.
+pub record IsRunSoFar (n : NodeValue) (o : Outside) : Type 0 where
+  pub begin : Journal
+  pub legal : Legal bundle_meaning begin
+  pub first : (facts begin).begun ≡ n.first
+  pub acts : List Act
+  pub path : FreeActs bundle_meaning begin acts (paid (node_place n o))
+  pub has_read : AllRead (heard_on o.links) n.links
+  pub sent : (link : ℕ) → sent_on o.links link ≡ sends_on link acts
+  pub fits : FitsWith bundle_meaning n.store o.files (begin ++ batches_in acts)
 
 -- another outside tells the same of files, of what was sent and heard, and of moments
 pub record TellsSame (o o' : Outside) : Type 0 where

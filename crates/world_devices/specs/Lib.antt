@@ -5,4 +5,5 @@ pub mod Refusals
 pub mod Brought
 pub mod Running
 pub mod Linking
+pub mod Fulls
 pub mod Doing

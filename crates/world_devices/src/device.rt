@@ -143,7 +143,7 @@ impl Device {
     pub fn links_stand(&self)
         ensures { DeviceLinksStand self.now }
     {
-        let _links = self.links;
+        cite_laws();
     }
 
     // Its store where it runs; its journal is settled, as it is between any two calls.

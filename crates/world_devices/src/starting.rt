@@ -20,9 +20,8 @@ use outside::{Host, LINKS, MAX_JOURNAL, MemDisk, MemHost};
 use record_grammar::fronts_have_fronts;
 use std::alloc::{AllocError, Global};
 use std::hash::RandomState;
-use sync_node::laws::joined_links_have_read;
+use sync_course::laws::{all_is_sent, moments_stand};
 use sync_rules::growth::settling_leaves;
-use sync_rules::laws::sent_grows;
 use sync_store::{LoadFault, Store, StoreFault};
 
 /// Why no node was started.
@@ -132,9 +131,9 @@ fn settle(store: Store, host: &mut MemHost) -> Result<Store, StartFault>
 pub(crate) fn cite_laws()
     ensures { DeviceLaws }
 {
-    sent_grows();
     standing_is_legal();
     fronts_have_fronts();
-    joined_links_have_read::<MemHost>();
     settling_leaves();
+    moments_stand();
+    all_is_sent();
 }

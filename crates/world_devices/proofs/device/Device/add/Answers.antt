@@ -1,24 +1,174 @@
-use Rattle.std.proofs.Common.{Err, [], ap, refl, sym, ◌∙◌}
-use Rattle.sync_node.specs.declared.fault.NodeFault.{NodeFault}
+use Rattle.std.proofs.Common.{Err, [], ap, arith, length, refl, sym, ◌∙◌}
 use Rattle.outside.specs.HostTold.{host_told}
+use Rattle.sync_node.specs.declared.fault.NodeFault.{NodeFault}
 use Rattle.world_devices.specs.Devices.{DeviceValue}
-use Rattle.world_devices.proofs.AddLaws.{adds_crashed, adds_done}
-use Rattle.world_devices.proofs.CallLaws.{add_leaves, keeps_links, links_seen, plain_batch, plain_of, ready_still, runs_by, runs_files, runs_none}
+use Rattle.world_devices.proofs.AddLaws.{adding_over, adds_crashed, adds_done, adds_within}
+use Rattle.world_devices.proofs.CallLaws.{add_broke, add_done, allowed_of, call_brings, call_keeps_on, call_leaves, keeps_links, links_seen, of_node, plain_batch, plain_of, ready_still, runs_by, runs_files, runs_none}
 use Rattle.world_devices.proofs.GivingUpLaws.{adding_failed, adding_starved}
 use Rattle.world_devices.proofs.HostLaws.{brings_linked}
-use Rattle.world_devices.proofs.LeaveLaws.{leave_held}
-use Rattle.world_devices.proofs.RunningLaws.{add_keeps, added_running, keeps_seen, running_of}
+use Rattle.world_devices.proofs.RunLaws.{ended_did}
+use Rattle.world_devices.proofs.RunningLaws.{call_running, keeps_seen, running_of}
 use Rattle.world_devices.proofs.device.Device.add.Goals as goal
 
 pub invariant_of-self-in-Ok : goal.invariant_of-self-in-Ok
-invariant_of-self-in-Ok c = (
-  added_running c.cite_laws.ensures.grows c.in_ok-batch.batch c.in-Some.node c.add.new.self c.self.inside.host c.add.new.host c.self.inside.links c.add.ensures.limit c.add.ensures.may (c.in-Ok.ensures.answer (running_of c.self.inside.node c.in-Some.node c.self.inside.host c.self.inside.links c.in-Some.is c.self.invariant.0).unclosed) c.in-Ok.ensures.joined (c.add.ensures.leads (running_of c.self.inside.node c.in-Some.node c.self.inside.host c.self.inside.links c.in-Some.is c.self.invariant.0).unclosed) c.add.ensures.node c.in-Ok.ensures.added.commits.same_links (running_of c.self.inside.node c.in-Some.node c.self.inside.host c.self.inside.links c.in-Some.is c.self.invariant.0),
-  add_keeps c.in_ok-batch.batch c.in-Some.node c.add.new.self c.self.inside.host c.add.new.host c.self.inside.links (plain_batch c.in_ok-batch.batch c.args.entry c.in_ok-batch.ensures (plain_of c.args.self.now.node c.in-Some.node c.args.entry (sym (ap (λ (d : DeviceValue). d.node) c.self.view_is) ∙ c.in-Some.is) c.requires)) (c.add.ensures.leads (running_of c.self.inside.node c.in-Some.node c.self.inside.host c.self.inside.links c.in-Some.is c.self.invariant.0).unclosed) (running_of c.self.inside.node c.in-Some.node c.self.inside.host c.self.inside.links c.in-Some.is c.self.invariant.0) [] c.self.invariant.1,
-  c.self.invariant.2,
-)
+invariant_of-self-in-Ok c =
+    let n = c.in-Some.node in
+    let n' = c.add.new.self in
+    let h = c.self.inside.host in
+    let h' = c.add.new.host in
+    let links = c.self.inside.links in
+    let run = running_of c.self.inside.node n h links c.in-Some.is c.self.invariant.0 in
+    let was = sym (ap (λ (d : DeviceValue). d.node) c.self.view_is) ∙ c.in-Some.is in
+    let batch = c.in_ok-batch.batch in
+    let plain = plain_batch batch c.args.entry c.in_ok-batch.ensures (plain_of c.args.self.now.node n c.args.entry was c.requires) in
+    let allowed = allowed_of c.args.self.now.node n c.args.entry batch was c.requires run.unclosed c.in_ok-batch.ensures in
+    let ends = add_done n n' h h' links run batch plain allowed c.add.ensures.links c.in-Ok.ensures.went in
+    let did = ended_did n n' (host_told h) (host_told h') ends in (
+      call_running n n' h h' links links ends c.add.ensures.first c.add.ensures.may (c.in-Ok.ensures.answer run.unclosed) c.add.ensures.node (call_brings n h h' links run did) (run.linked ∙ sym (ap length c.add.ensures.links)) (omega arith) run,
+      call_keeps_on c.cite_laws.ensures n h h' links run did [] c.self.invariant.1,
+      c.self.invariant.2,
+    )
 
 pub invariant_of-self-in-Err : goal.invariant_of-self-in-Err
-invariant_of-self-in-Err c = (tt, add_keeps c.in_ok-batch.batch c.in-Some.node c.add.new.self c.self.inside.host c.add.new.host c.self.inside.links (plain_batch c.in_ok-batch.batch c.args.entry c.in_ok-batch.ensures (plain_of c.args.self.now.node c.in-Some.node c.args.entry (sym (ap (λ (d : DeviceValue). d.node) c.self.view_is) ∙ c.in-Some.is) c.requires)) (c.add.ensures.leads (running_of c.self.inside.node c.in-Some.node c.self.inside.host c.self.inside.links c.in-Some.is c.self.invariant.0).unclosed) (running_of c.self.inside.node c.in-Some.node c.self.inside.host c.self.inside.links c.in-Some.is c.self.invariant.0) [] c.self.invariant.1, c.self.invariant.2)
+invariant_of-self-in-Err c =
+    let n = c.in-Some.node in
+    let n' = c.add.new.self in
+    let h = c.self.inside.host in
+    let h' = c.add.new.host in
+    let links = c.self.inside.links in
+    let run = running_of c.self.inside.node n h links c.in-Some.is c.self.invariant.0 in
+    let was = sym (ap (λ (d : DeviceValue). d.node) c.self.view_is) ∙ c.in-Some.is in
+    let batch = c.in_ok-batch.batch in
+    let plain = plain_batch batch c.args.entry c.in_ok-batch.ensures (plain_of c.args.self.now.node n c.args.entry was c.requires) in
+    let allowed = allowed_of c.args.self.now.node n c.args.entry batch was c.requires run.unclosed c.in_ok-batch.ensures in
+    let did = add_broke n n' h h' links run batch plain allowed _ (c.in-Err.ensures.stopped run.unclosed) in
+    (tt, call_keeps_on c.cite_laws.ensures n h h' links run did [] c.self.invariant.1, c.self.invariant.2)
+
+pub returns-in_err-test_done-in-Ok-clause-keeps : goal.returns-in_err-test_done-in-Ok-clause-keeps
+returns-in_err-test_done-in-Ok-clause-keeps c =
+    let n = c.in-Some.node in
+    let n' = c.add.new.self in
+    let h = c.self.inside.host in
+    let h' = c.add.new.host in
+    let links = c.self.inside.links in
+    let run = running_of c.self.inside.node n h links c.in-Some.is c.self.invariant.0 in
+    let was = sym (ap (λ (d : DeviceValue). d.node) c.self.view_is) ∙ c.in-Some.is in
+    let batch = c.in_ok-batch.batch in
+    let plain = plain_batch batch c.args.entry c.in_ok-batch.ensures (plain_of c.args.self.now.node n c.args.entry was c.requires) in
+    let allowed = allowed_of c.args.self.now.node n c.args.entry batch was c.requires run.unclosed c.in_ok-batch.ensures in
+    let ends = add_done n n' h h' links run batch plain allowed c.add.ensures.links c.in-Ok.ensures.went in
+    let did = ended_did n n' (host_told h) (host_told h') ends in
+    keeps_seen h c.args.self.now.host (host_told h') (ap (λ (d : DeviceValue). d.host) c.self.view_is) (call_keeps_on c.cite_laws.ensures n h h' links run did)
+
+pub returns-in_err-test_done-in-Ok-clause-runs : goal.returns-in_err-test_done-in-Ok-clause-runs
+returns-in_err-test_done-in-Ok-clause-runs c =
+    let n = c.in-Some.node in
+    let n' = c.add.new.self in
+    let h = c.self.inside.host in
+    let h' = c.add.new.host in
+    let links = c.self.inside.links in
+    let run = running_of c.self.inside.node n h links c.in-Some.is c.self.invariant.0 in
+    let was = sym (ap (λ (d : DeviceValue). d.node) c.self.view_is) ∙ c.in-Some.is in
+    let batch = c.in_ok-batch.batch in
+    let plain = plain_batch batch c.args.entry c.in_ok-batch.ensures (plain_of c.args.self.now.node n c.args.entry was c.requires) in
+    let allowed = allowed_of c.args.self.now.node n c.args.entry batch was c.requires run.unclosed c.in_ok-batch.ensures in
+    let ends = add_done n n' h h' links run batch plain allowed c.add.ensures.links c.in-Ok.ensures.went in
+    let did = ended_did n n' (host_told h) (host_told h') ends in
+    runs_by c.cite_laws.ensures _ c.args.self.now _ c.self.view_is (λ j holds. of_node c.self.inside.node n h (host_told h') c.in-Some.is (call_leaves c.cite_laws.ensures n h h' links run did) j holds)
+    (λ _. ready_still n'.store h' (c.add.ensures.may (c.in-Ok.ensures.answer run.unclosed)).ready)
+
+pub returns-in_ok-test_done-in-Ok-clause-keeps : goal.returns-in_ok-test_done-in-Ok-clause-keeps
+returns-in_ok-test_done-in-Ok-clause-keeps c =
+    let n = c.in-Some.node in
+    let n' = c.add.new.self in
+    let h = c.self.inside.host in
+    let h' = c.add.new.host in
+    let links = c.self.inside.links in
+    let run = running_of c.self.inside.node n h links c.in-Some.is c.self.invariant.0 in
+    let was = sym (ap (λ (d : DeviceValue). d.node) c.self.view_is) ∙ c.in-Some.is in
+    let batch = c.in_ok-batch.batch in
+    let plain = plain_batch batch c.args.entry c.in_ok-batch.ensures (plain_of c.args.self.now.node n c.args.entry was c.requires) in
+    let allowed = allowed_of c.args.self.now.node n c.args.entry batch was c.requires run.unclosed c.in_ok-batch.ensures in
+    let ends = add_done n n' h h' links run batch plain allowed c.add.ensures.links c.in-Ok.ensures.went in
+    let did = ended_did n n' (host_told h) (host_told h') ends in
+    keeps_seen h c.args.self.now.host (host_told h') (ap (λ (d : DeviceValue). d.host) c.self.view_is) (call_keeps_on c.cite_laws.ensures n h h' links run did)
+
+pub returns-in_ok-test_done-in-Ok-clause-runs : goal.returns-in_ok-test_done-in-Ok-clause-runs
+returns-in_ok-test_done-in-Ok-clause-runs c =
+    let n = c.in-Some.node in
+    let n' = c.add.new.self in
+    let h = c.self.inside.host in
+    let h' = c.add.new.host in
+    let links = c.self.inside.links in
+    let run = running_of c.self.inside.node n h links c.in-Some.is c.self.invariant.0 in
+    let was = sym (ap (λ (d : DeviceValue). d.node) c.self.view_is) ∙ c.in-Some.is in
+    let batch = c.in_ok-batch.batch in
+    let plain = plain_batch batch c.args.entry c.in_ok-batch.ensures (plain_of c.args.self.now.node n c.args.entry was c.requires) in
+    let allowed = allowed_of c.args.self.now.node n c.args.entry batch was c.requires run.unclosed c.in_ok-batch.ensures in
+    let ends = add_done n n' h h' links run batch plain allowed c.add.ensures.links c.in-Ok.ensures.went in
+    let did = ended_did n n' (host_told h) (host_told h') ends in
+    runs_by c.cite_laws.ensures _ c.args.self.now _ c.self.view_is (λ j holds. of_node c.self.inside.node n h (host_told h') c.in-Some.is (call_leaves c.cite_laws.ensures n h h' links run did) j holds)
+    (λ _. ready_still n'.store h' (c.add.ensures.may (c.in-Ok.ensures.answer run.unclosed)).ready)
+
+pub returns-in_err-fail-in-Err-clause-keeps : goal.returns-in_err-fail-in-Err-clause-keeps
+returns-in_err-fail-in-Err-clause-keeps c =
+    let n = c.in-Some.node in
+    let n' = c.add.new.self in
+    let h = c.self.inside.host in
+    let h' = c.add.new.host in
+    let links = c.self.inside.links in
+    let run = running_of c.self.inside.node n h links c.in-Some.is c.self.invariant.0 in
+    let was = sym (ap (λ (d : DeviceValue). d.node) c.self.view_is) ∙ c.in-Some.is in
+    let batch = c.in_ok-batch.batch in
+    let plain = plain_batch batch c.args.entry c.in_ok-batch.ensures (plain_of c.args.self.now.node n c.args.entry was c.requires) in
+    let allowed = allowed_of c.args.self.now.node n c.args.entry batch was c.requires run.unclosed c.in_ok-batch.ensures in
+    let did = add_broke n n' h h' links run batch plain allowed _ (c.in-Err.ensures.stopped run.unclosed) in
+    keeps_seen h c.args.self.now.host (host_told c.fail.new.self.host) (ap (λ (d : DeviceValue). d.host) c.self.view_is) (λ j k. c.fail.ensures.keeps j (call_keeps_on c.cite_laws.ensures n h h' links run did j k))
+
+pub returns-in_err-fail-in-Err-clause-runs : goal.returns-in_err-fail-in-Err-clause-runs
+returns-in_err-fail-in-Err-clause-runs c =
+    let n = c.in-Some.node in
+    let n' = c.add.new.self in
+    let h = c.self.inside.host in
+    let h' = c.add.new.host in
+    let links = c.self.inside.links in
+    let run = running_of c.self.inside.node n h links c.in-Some.is c.self.invariant.0 in
+    let was = sym (ap (λ (d : DeviceValue). d.node) c.self.view_is) ∙ c.in-Some.is in
+    let batch = c.in_ok-batch.batch in
+    let plain = plain_batch batch c.args.entry c.in_ok-batch.ensures (plain_of c.args.self.now.node n c.args.entry was c.requires) in
+    let allowed = allowed_of c.args.self.now.node n c.args.entry batch was c.requires run.unclosed c.in_ok-batch.ensures in
+    let did = add_broke n n' h h' links run batch plain allowed _ (c.in-Err.ensures.stopped run.unclosed) in
+    runs_by c.cite_laws.ensures _ c.args.self.now _ c.self.view_is (λ j holds. c.fail.ensures.leaves _ j (of_node c.self.inside.node n h (host_told h') c.in-Some.is (call_leaves c.cite_laws.ensures n h h' links run did) j holds)) c.fail.ensures.still
+
+pub returns-in_ok-fail-in-Err-clause-keeps : goal.returns-in_ok-fail-in-Err-clause-keeps
+returns-in_ok-fail-in-Err-clause-keeps c =
+    let n = c.in-Some.node in
+    let n' = c.add.new.self in
+    let h = c.self.inside.host in
+    let h' = c.add.new.host in
+    let links = c.self.inside.links in
+    let run = running_of c.self.inside.node n h links c.in-Some.is c.self.invariant.0 in
+    let was = sym (ap (λ (d : DeviceValue). d.node) c.self.view_is) ∙ c.in-Some.is in
+    let batch = c.in_ok-batch.batch in
+    let plain = plain_batch batch c.args.entry c.in_ok-batch.ensures (plain_of c.args.self.now.node n c.args.entry was c.requires) in
+    let allowed = allowed_of c.args.self.now.node n c.args.entry batch was c.requires run.unclosed c.in_ok-batch.ensures in
+    let did = add_broke n n' h h' links run batch plain allowed _ (c.in-Err.ensures.stopped run.unclosed) in
+    keeps_seen h c.args.self.now.host (host_told c.fail.new.self.host) (ap (λ (d : DeviceValue). d.host) c.self.view_is) (λ j k. c.fail.ensures.keeps j (call_keeps_on c.cite_laws.ensures n h h' links run did j k))
+
+pub returns-in_ok-fail-in-Err-clause-runs : goal.returns-in_ok-fail-in-Err-clause-runs
+returns-in_ok-fail-in-Err-clause-runs c =
+    let n = c.in-Some.node in
+    let n' = c.add.new.self in
+    let h = c.self.inside.host in
+    let h' = c.add.new.host in
+    let links = c.self.inside.links in
+    let run = running_of c.self.inside.node n h links c.in-Some.is c.self.invariant.0 in
+    let was = sym (ap (λ (d : DeviceValue). d.node) c.self.view_is) ∙ c.in-Some.is in
+    let batch = c.in_ok-batch.batch in
+    let plain = plain_batch batch c.args.entry c.in_ok-batch.ensures (plain_of c.args.self.now.node n c.args.entry was c.requires) in
+    let allowed = allowed_of c.args.self.now.node n c.args.entry batch was c.requires run.unclosed c.in_ok-batch.ensures in
+    let did = add_broke n n' h h' links run batch plain allowed _ (c.in-Err.ensures.stopped run.unclosed) in
+    runs_by c.cite_laws.ensures _ c.args.self.now _ c.self.view_is (λ j holds. c.fail.ensures.leaves _ j (of_node c.self.inside.node n h (host_told h') c.in-Some.is (call_leaves c.cite_laws.ensures n h h' links run did) j holds)) c.fail.ensures.still
 
 pub returns-in_err-batch-clause-runs : goal.returns-in_err-batch-clause-runs
 returns-in_err-batch-clause-runs c = runs_none c.args.self.now
@@ -28,50 +178,49 @@ returns-in_default-clause-runs c = runs_files c.args.self.now _ (ap (λ (d : Dev
 
 pub returns-in_ok-test_done-in-Ok-clause-links : goal.returns-in_ok-test_done-in-Ok-clause-links
 returns-in_ok-test_done-in-Ok-clause-links c =
+    let n = c.in-Some.node in
+    let n' = c.add.new.self in
+    let h = c.self.inside.host in
+    let h' = c.add.new.host in
+    let links = c.self.inside.links in
+    let run = running_of c.self.inside.node n h links c.in-Some.is c.self.invariant.0 in
     links_seen _ c.args.self.now _ c.self.view_is
-    (keeps_links c.in-Some.node c.add.new.self _ _ c.in-Some.is refl c.in-Ok.ensures.joined.same_first c.in-Ok.ensures.joined.same_number refl (λ link. brings_linked c.self.inside.host c.add.new.host link c.in-Ok.ensures.added.commits.same_links))
-
-pub returns-in_err-test_done-in-Ok-clause-keeps : goal.returns-in_err-test_done-in-Ok-clause-keeps
-returns-in_err-test_done-in-Ok-clause-keeps c = keeps_seen c.self.inside.host c.args.self.now.host (host_told c.add.new.host) (ap (λ (d : DeviceValue). d.host) c.self.view_is) (add_keeps c.in_ok-batch.batch c.in-Some.node c.add.new.self c.self.inside.host c.add.new.host c.self.inside.links (plain_batch c.in_ok-batch.batch c.args.entry c.in_ok-batch.ensures (plain_of c.args.self.now.node c.in-Some.node c.args.entry (sym (ap (λ (d : DeviceValue). d.node) c.self.view_is) ∙ c.in-Some.is) c.requires)) (c.add.ensures.leads (running_of c.self.inside.node c.in-Some.node c.self.inside.host c.self.inside.links c.in-Some.is c.self.invariant.0).unclosed) (running_of c.self.inside.node c.in-Some.node c.self.inside.host c.self.inside.links c.in-Some.is c.self.invariant.0))
-
-pub returns-in_err-test_done-in-Ok-clause-runs : goal.returns-in_err-test_done-in-Ok-clause-runs
-returns-in_err-test_done-in-Ok-clause-runs c =
-    runs_by c.cite_laws.ensures _ c.args.self.now _ c.self.view_is (λ j holds. add_leaves c.in_ok-batch.batch c.in-Some.node c.add.new.self c.self.inside.host c.add.new.host c.self.inside.links (plain_batch c.in_ok-batch.batch c.args.entry c.in_ok-batch.ensures (plain_of c.args.self.now.node c.in-Some.node c.args.entry (sym (ap (λ (d : DeviceValue). d.node) c.self.view_is) ∙ c.in-Some.is) c.requires)) (c.add.ensures.leads (running_of c.self.inside.node c.in-Some.node c.self.inside.host c.self.inside.links c.in-Some.is c.self.invariant.0).unclosed) (running_of c.self.inside.node c.in-Some.node c.self.inside.host c.self.inside.links c.in-Some.is c.self.invariant.0) _ j (leave_held _ j c.self.inside.host holds)) (λ _. ready_still c.add.new.self.store c.add.new.host (c.add.ensures.may (c.in-Ok.ensures.answer (running_of c.self.inside.node c.in-Some.node c.self.inside.host c.self.inside.links c.in-Some.is c.self.invariant.0).unclosed)).ready)
-
-pub returns-in_err-fail-in-Err-clause-keeps : goal.returns-in_err-fail-in-Err-clause-keeps
-returns-in_err-fail-in-Err-clause-keeps c = keeps_seen c.self.inside.host c.args.self.now.host (host_told c.fail.new.self.host) (ap (λ (d : DeviceValue). d.host) c.self.view_is) (λ j k. c.fail.ensures.keeps j (add_keeps c.in_ok-batch.batch c.in-Some.node c.add.new.self c.self.inside.host c.add.new.host c.self.inside.links (plain_batch c.in_ok-batch.batch c.args.entry c.in_ok-batch.ensures (plain_of c.args.self.now.node c.in-Some.node c.args.entry (sym (ap (λ (d : DeviceValue). d.node) c.self.view_is) ∙ c.in-Some.is) c.requires)) (c.add.ensures.leads (running_of c.self.inside.node c.in-Some.node c.self.inside.host c.self.inside.links c.in-Some.is c.self.invariant.0).unclosed) (running_of c.self.inside.node c.in-Some.node c.self.inside.host c.self.inside.links c.in-Some.is c.self.invariant.0) j k))
-
-pub returns-in_err-fail-in-Err-clause-runs : goal.returns-in_err-fail-in-Err-clause-runs
-returns-in_err-fail-in-Err-clause-runs c =
-    runs_by c.cite_laws.ensures _ c.args.self.now _ c.self.view_is (λ j holds. c.fail.ensures.leaves _ j (add_leaves c.in_ok-batch.batch c.in-Some.node c.add.new.self c.self.inside.host c.add.new.host c.self.inside.links (plain_batch c.in_ok-batch.batch c.args.entry c.in_ok-batch.ensures (plain_of c.args.self.now.node c.in-Some.node c.args.entry (sym (ap (λ (d : DeviceValue). d.node) c.self.view_is) ∙ c.in-Some.is) c.requires)) (c.add.ensures.leads (running_of c.self.inside.node c.in-Some.node c.self.inside.host c.self.inside.links c.in-Some.is c.self.invariant.0).unclosed) (running_of c.self.inside.node c.in-Some.node c.self.inside.host c.self.inside.links c.in-Some.is c.self.invariant.0) _ j (leave_held _ j c.self.inside.host holds))) c.fail.ensures.still
-
-pub returns-in_ok-test_done-in-Ok-clause-keeps : goal.returns-in_ok-test_done-in-Ok-clause-keeps
-returns-in_ok-test_done-in-Ok-clause-keeps c = keeps_seen c.self.inside.host c.args.self.now.host (host_told c.add.new.host) (ap (λ (d : DeviceValue). d.host) c.self.view_is) (add_keeps c.in_ok-batch.batch c.in-Some.node c.add.new.self c.self.inside.host c.add.new.host c.self.inside.links (plain_batch c.in_ok-batch.batch c.args.entry c.in_ok-batch.ensures (plain_of c.args.self.now.node c.in-Some.node c.args.entry (sym (ap (λ (d : DeviceValue). d.node) c.self.view_is) ∙ c.in-Some.is) c.requires)) (c.add.ensures.leads (running_of c.self.inside.node c.in-Some.node c.self.inside.host c.self.inside.links c.in-Some.is c.self.invariant.0).unclosed) (running_of c.self.inside.node c.in-Some.node c.self.inside.host c.self.inside.links c.in-Some.is c.self.invariant.0))
-
-pub returns-in_ok-test_done-in-Ok-clause-runs : goal.returns-in_ok-test_done-in-Ok-clause-runs
-returns-in_ok-test_done-in-Ok-clause-runs c =
-    runs_by c.cite_laws.ensures _ c.args.self.now _ c.self.view_is (λ j holds. add_leaves c.in_ok-batch.batch c.in-Some.node c.add.new.self c.self.inside.host c.add.new.host c.self.inside.links (plain_batch c.in_ok-batch.batch c.args.entry c.in_ok-batch.ensures (plain_of c.args.self.now.node c.in-Some.node c.args.entry (sym (ap (λ (d : DeviceValue). d.node) c.self.view_is) ∙ c.in-Some.is) c.requires)) (c.add.ensures.leads (running_of c.self.inside.node c.in-Some.node c.self.inside.host c.self.inside.links c.in-Some.is c.self.invariant.0).unclosed) (running_of c.self.inside.node c.in-Some.node c.self.inside.host c.self.inside.links c.in-Some.is c.self.invariant.0) _ j (leave_held _ j c.self.inside.host holds)) (λ _. ready_still c.add.new.self.store c.add.new.host (c.add.ensures.may (c.in-Ok.ensures.answer (running_of c.self.inside.node c.in-Some.node c.self.inside.host c.self.inside.links c.in-Some.is c.self.invariant.0).unclosed)).ready)
-
-pub returns-in_ok-fail-in-Err-clause-keeps : goal.returns-in_ok-fail-in-Err-clause-keeps
-returns-in_ok-fail-in-Err-clause-keeps c = keeps_seen c.self.inside.host c.args.self.now.host (host_told c.fail.new.self.host) (ap (λ (d : DeviceValue). d.host) c.self.view_is) (λ j k. c.fail.ensures.keeps j (add_keeps c.in_ok-batch.batch c.in-Some.node c.add.new.self c.self.inside.host c.add.new.host c.self.inside.links (plain_batch c.in_ok-batch.batch c.args.entry c.in_ok-batch.ensures (plain_of c.args.self.now.node c.in-Some.node c.args.entry (sym (ap (λ (d : DeviceValue). d.node) c.self.view_is) ∙ c.in-Some.is) c.requires)) (c.add.ensures.leads (running_of c.self.inside.node c.in-Some.node c.self.inside.host c.self.inside.links c.in-Some.is c.self.invariant.0).unclosed) (running_of c.self.inside.node c.in-Some.node c.self.inside.host c.self.inside.links c.in-Some.is c.self.invariant.0) j k))
-
-pub returns-in_ok-fail-in-Err-clause-runs : goal.returns-in_ok-fail-in-Err-clause-runs
-returns-in_ok-fail-in-Err-clause-runs c =
-    runs_by c.cite_laws.ensures _ c.args.self.now _ c.self.view_is (λ j holds. c.fail.ensures.leaves _ j (add_leaves c.in_ok-batch.batch c.in-Some.node c.add.new.self c.self.inside.host c.add.new.host c.self.inside.links (plain_batch c.in_ok-batch.batch c.args.entry c.in_ok-batch.ensures (plain_of c.args.self.now.node c.in-Some.node c.args.entry (sym (ap (λ (d : DeviceValue). d.node) c.self.view_is) ∙ c.in-Some.is) c.requires)) (c.add.ensures.leads (running_of c.self.inside.node c.in-Some.node c.self.inside.host c.self.inside.links c.in-Some.is c.self.invariant.0).unclosed) (running_of c.self.inside.node c.in-Some.node c.self.inside.host c.self.inside.links c.in-Some.is c.self.invariant.0) _ j (leave_held _ j c.self.inside.host holds))) c.fail.ensures.still
+    (keeps_links n n' _ _ c.in-Some.is refl c.add.ensures.first (ap length c.add.ensures.links) refl (λ link. brings_linked h h' link c.in-Ok.ensures.added.commits.same_links))
 
 pub returns-in_ok-test_done-in-Ok-clause-adds : goal.returns-in_ok-test_done-in-Ok-clause-adds
 returns-in_ok-test_done-in-Ok-clause-adds c =
-    adds_done c.args.entry c.in_ok-batch.batch c.in-Some.node c.add.new.self c.self.inside.host c.add.new.host _ c.args.self.now _ c.self.view_is c.in_ok-batch.ensures c.in-Ok.ensures.added refl refl c.in-Some.is refl c.add.ensures.links refl refl c.add.ensures.run.calls c.in_ok-test_done-in-Ok.ensures.ahead
+    let n = c.in-Some.node in
+    let n' = c.add.new.self in
+    let h = c.self.inside.host in
+    let h' = c.add.new.host in
+    let links = c.self.inside.links in
+    let run = running_of c.self.inside.node n h links c.in-Some.is c.self.invariant.0 in
+    adds_done c.args.entry c.in_ok-batch.batch n n' h h' links _ c.args.self.now _ c.self.view_is c.in_ok-batch.ensures run c.in-Ok.ensures.went
+    c.in-Ok.ensures.added.commits.same_links refl refl c.in-Some.is refl c.add.ensures.links refl refl c.add.ensures.run.calls c.in_ok-test_done-in-Ok.ensures.ahead
 
 pub returns-in_ok-fail-in-Err-clause-adds : goal.returns-in_ok-fail-in-Err-clause-adds
 returns-in_ok-fail-in-Err-clause-adds c =
-    adds_crashed c.args.entry c.in_ok-batch.batch c.in-Some.node c.add.new.self c.self.inside.host c.add.new.host c.self.inside.links _ c.args.self.now c.fail.new.self c.self.view_is c.in_ok-batch.ensures (c.add.ensures.leads (running_of c.self.inside.node c.in-Some.node c.self.inside.host c.self.inside.links c.in-Some.is c.self.invariant.0).unclosed) (running_of c.self.inside.node c.in-Some.node c.self.inside.host c.self.inside.links c.in-Some.is c.self.invariant.0) refl c.add.ensures.run.calls c.in_ok-fail-in-Err.ensures.to c.fail.ensures.clock c.in-Some.is (c.add.ensures.within (running_of c.self.inside.node c.in-Some.node c.self.inside.host c.self.inside.links c.in-Some.is c.self.invariant.0).unclosed)
+    let n = c.in-Some.node in
+    let n' = c.add.new.self in
+    let h = c.self.inside.host in
+    let h' = c.add.new.host in
+    let links = c.self.inside.links in
+    let run = running_of c.self.inside.node n h links c.in-Some.is c.self.invariant.0 in
+    adds_crashed c.args.entry c.in_ok-batch.batch n n' h h' links _ c.args.self.now c.fail.new.self c.self.view_is c.in_ok-batch.ensures (c.add.ensures.leads run.unclosed) run refl c.add.ensures.run.calls
+    c.in_ok-fail-in-Err.ensures.to c.fail.ensures.clock c.in-Some.is
+    (adds_within c.in_ok-batch.batch n.store n'.store (host_told h) (host_told h') c.in-Err.fault (c.in-Err.ensures.stopped run.unclosed))
 
 pub returns-in_err-fail-in-Err-clause-adds : goal.returns-in_err-fail-in-Err-clause-adds
 returns-in_err-fail-in-Err-clause-adds c =
-    let run = (running_of c.self.inside.node c.in-Some.node c.self.inside.host c.self.inside.links c.in-Some.is c.self.invariant.0) in
-    adding_failed c.args.entry c.in_ok-batch.batch _ c.in_err-fail-in-Err.field-0.0 c.in-Err.fault c.in-Some.node c.add.new.self c.self.inside.host c.add.new.host c.self.inside.links _ c.args.self.now c.fail.new.self c.self.view_is
-    c.from_residual-in_err-fail-in-Err.ensures.1 c.in_err-fail-in-Err.ensures.unrefused c.in_err-fail-in-Err.ensures.full (λ is. c.in-Err.ensures.full (ap (λ (x : NodeFault). Err x) is))
+    let n = c.in-Some.node in
+    let n' = c.add.new.self in
+    let h = c.self.inside.host in
+    let h' = c.add.new.host in
+    let links = c.self.inside.links in
+    let run = running_of c.self.inside.node n h links c.in-Some.is c.self.invariant.0 in
+    adding_failed c.args.entry c.in_ok-batch.batch _ c.in_err-fail-in-Err.field-0.0 c.in-Err.fault n n' h h' links _ c.args.self.now c.fail.new.self c.self.view_is
+    c.from_residual-in_err-fail-in-Err.ensures.1 c.in_err-fail-in-Err.ensures.unrefused c.in_err-fail-in-Err.ensures.full
+    (λ is. adding_over c.in_ok-batch.batch n.store n'.store (host_told h) (host_told h') c.in-Err.fault is (c.in-Err.ensures.stopped run.unclosed))
     (λ is. (c.in-Err.ensures.undone (ap (λ (x : NodeFault). Err x) is)).same_host)
     c.in_ok-batch.ensures c.in-Some.is refl (c.add.ensures.leads run.unclosed) run c.fail.ensures.left c.add.ensures.run.calls
 

@@ -9,4 +9,4 @@ use Rattle.world_devices.proofs.device.Device.links_stand.Goals as goal
 pub returns : goal.returns
 returns c =
     subst (λ (d : DeviceValue). DeviceLinksStand d) c.self.view_is
-    (record { holds = λ n is. held_of n _ (running_of c.self.inside.node n c.self.inside.host c.self.inside.links is c.self.invariant.0); each = λ n is j holds. links_stand n _ j (running_of c.self.inside.node n c.self.inside.host c.self.inside.links is c.self.invariant.0) holds })
+    (record { holds = λ n is. held_of n _ (running_of c.self.inside.node n c.self.inside.host c.self.inside.links is c.self.invariant.0); each = λ n is j holds. links_stand c.cite_laws.ensures n _ j (running_of c.self.inside.node n c.self.inside.host c.self.inside.links is c.self.invariant.0) holds })

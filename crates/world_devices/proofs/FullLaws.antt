@@ -1,0 +1,197 @@
+-- Where a batch has no room: each link that has not failed by then has sent all output of its session.
+use Rattle.std.proofs.Common.{◌≡◌, ℕ, zero, suc, ◌+◌, true, false, List, [], ◌∷◌, ◌++◌, refl, sym, ap, ◌∙◌, subst, inl, inr, append_assoc, Some}
+use Rattle.std.specs.Prelude.{slice_get}
+use Rattle.outside.specs.Files.{Two, File, read_files}
+use Rattle.outside.specs.Outside.{Outside}
+use Rattle.outside.specs.Runs.{TellsAll}
+use Rattle.client_basic.specs.Bodies.{bundle_meaning}
+use Rattle.record_grammar.specs.Spelling.{spelled}
+use Rattle.entry_codec.specs.Standing.{stands, journal}
+use Rattle.sync_rules.specs.declared.entries.Entry.{Entry}
+use Rattle.sync_rules.specs.declared.entries.Session.{Session}
+use Rattle.sync_rules.specs.Facts.{facts}
+use Rattle.sync_rules.specs.Output.{sent}
+use Rattle.sync_store.specs.Fitting.{FitsFiles}
+use Rattle.sync_store.specs.Store.{StoreValue}
+use Rattle.sync_course.specs.Acts.{Act, Does, batches_in, events_of, sends_on}
+use Rattle.sync_course.specs.Events.{Commit, Event, has_failure}
+use Rattle.sync_course.specs.Free.{Free, FreeStep, forget, owing_free}
+use Rattle.sync_course.specs.Links as course_links
+use Rattle.sync_course.specs.Owing.{Owing, paid}
+use Rattle.sync_course.specs.Paths.{Path}
+use Rattle.sync_course.specs.Story.{AllIsSent, FreeActs, LinkFailed}
+use Rattle.sync_course.specs.Turns.{Attaches, Between, Place, RunStep, Terms}
+use Rattle.sync_course.specs.declared.ends.LinkEnd.TheVariants as link_end
+use Rattle.sync_course.proofs.ActLaws.{batches_in-append, sends_on-append}
+use Rattle.sync_course.proofs.FailLaws.{HoldsOpen, free_fails}
+use Rattle.sync_course.proofs.FreeLaws.{run_acts_are_free, step_is_free}
+use Rattle.sync_course.proofs.SendLaws.{events_path}
+use Rattle.sync_node.specs.Courses.{links_from, place_at}
+use Rattle.sync_node.specs.Fulls.{RunFull}
+use Rattle.sync_node.specs.Node.{NodeValue}
+use Rattle.sync_node.specs.OnRuns.{BeginStopped, ByFault, RoundStopped, RunActs}
+use Rattle.sync_node.specs.Output.{heard_on, output, sent_on}
+use Rattle.sync_node.specs.Went.{StopsFull}
+use Rattle.sync_node.specs.declared.fault.NodeFault.{NodeFault}
+use Rattle.sync_node.specs.declared.fault.NodeFault.TheVariants as node_fault
+use Rattle.sync_node.specs.declared.link.Link.{Link}
+use Rattle.sync_node.proofs.EventLaws.{runs_of}
+use Rattle.world_devices.specs.Cited.{FullIsSent}
+use Rattle.world_devices.specs.Fulls.{FullBeginning, FullSent, FullTurn}
+use Rattle.world_devices.specs.Keeping.{IsRunSoFar, Journal, node_place}
+use Rattle.world_devices.proofs.RunLaws.{NodeSteps, acts_fail, begin_from, free_path, node_failed, node_terms, one_of, turn_from, whole_path}
+
+-- ---- a place at which a batch has no room
+
+abbrev StopsAt : Terms → Place → List course_links.Link → StoreValue → StoreValue → Outside → Outside → Type 0
+StopsAt terms p links s s' o o' = StopsFull bundle_meaning (RunActs bundle_meaning terms) (λ (q : Owing Place). q.at.links ≡ links) (paid p) s s' o o'
+
+full_there : (terms : Terms) (p : Place) (links : List course_links.Link) (s s' : StoreValue) (o o' : Outside) → StopsAt terms p links s s' o o' → RunFull bundle_meaning terms p s s' o o'
+full_there terms p links s s' o o' stops = record {
+  to = stops.to.at;
+  runs = runs_of bundle_meaning (λ (x : Place). x.facts) terms.first (RunStep bundle_meaning terms) (paid p) stops.to s s' o o' stops.went;
+  batch = stops.batch;
+  next = stops.next.at;
+  steps = stops.steps.1;
+  over = stops.over;
+}
+
+-- the link in hand is open all along a path
+stays_open : (first : ℕ) (p q : Free) (es : List Event) → Path (FreeStep bundle_meaning first) p es q → HoldsOpen p.hold p.links → HoldsOpen q.hold q.links
+stays_open first p q [] path opens = subst (λ (x : Free). HoldsOpen x.hold x.links) (sym path) opens
+stays_open first p q (e ∷ es) path opens = stays_open first path.0 q es path.2 (free_fails bundle_meaning first p path.0 e path.1 opens).opens
+
+-- a batch fails no link
+module _ (terms : Terms) (p q : Place) (batch : List Entry) (step : RunStep bundle_meaning terms p (Commit batch) q) (opens : HoldsOpen (forget p).hold (forget p).links) where
+  failed_on : (i : ℕ) → LinkFailed p.links i → LinkFailed q.links i
+  failed_on i failed = (free_fails bundle_meaning terms.first (forget p) (forget q) (Commit batch) (step_is_free bundle_meaning terms p q (Commit batch) step) opens).by.stays i failed
+
+  failed_before : (i : ℕ) → LinkFailed q.links i → LinkFailed p.links i
+  failed_before i failed =
+      elim ((free_fails bundle_meaning terms.first (forget p) (forget q) (Commit batch) (step_is_free bundle_meaning terms p q (Commit batch) step) opens).by.cause i failed) [
+        | inl was ↦ was
+        | inr is ↦ cc
+      ]
+
+-- the links of a node that failed are those that stand Failed there
+module _ (terms : Terms) (p : Place) (links : List Link) (heard : ℕ → List ℕ) (s s' : StoreValue) (o o' : Outside) (stops : StopsAt terms p (links_from 0 links heard) s s' o o')
+    (opens : HoldsOpen (forget p).hold (forget p).links) where
+  opens_there : HoldsOpen (forget stops.to.at).hold (forget stops.to.at).links
+  opens_there =
+      stays_open terms.first (forget p) (forget stops.to.at) (events_of stops.went.acts)
+      (events_path bundle_meaning terms.first (paid (forget p)) (owing_free stops.to) stops.went.acts (run_acts_are_free bundle_meaning terms (paid p) stops.to stops.went.acts stops.went.path))
+      opens
+
+  fails_then : (i : ℕ) → LinkFailed stops.to.at.links i → LinkFailed (links_from 0 links heard) i
+  fails_then i failed =
+      elim stops.stands [
+        | inl same ↦ subst (λ (ls : List course_links.Link). LinkFailed ls i) same failed
+        | inr soon ↦
+            subst (λ (ls : List course_links.Link). LinkFailed ls i) soon.has
+            (failed_on terms stops.to.at soon.next.at soon.batch soon.steps.1 opens_there i failed)
+      ]
+
+  failed_there : (i : ℕ) → LinkFailed (links_from 0 links heard) i → LinkFailed stops.to.at.links i
+  failed_there i failed =
+      elim stops.stands [
+        | inl same ↦ subst (λ (ls : List course_links.Link). LinkFailed ls i) (sym same) failed
+        | inr soon ↦
+            failed_before terms stops.to.at soon.next.at soon.batch soon.steps.1 opens_there i
+            (subst (λ (ls : List course_links.Link). LinkFailed ls i) (sym soon.has) failed)
+      ]
+
+failed_from : (k i : ℕ) (links : List Link) (heard : ℕ → List ℕ) (l : Link) → slice_get links i ≡ Some l → l.end ≡ link_end.Failed → LinkFailed (links_from k links heard) i
+failed_from k i [] heard l at failed = cc
+failed_from k zero (x ∷ links) heard l at failed =
+    let same : x ≡ l = cc in
+    record { link = record { contact = x.session.contact; nonce = x.nonce; heard = heard k; stands = x.end }; there = refl; failed = ap (λ (y : Link). y.end) same ∙ failed }
+failed_from k (suc i) (x ∷ links) heard l at failed =
+    let rest = failed_from (suc k) i links heard l at failed in
+    record { link = rest.link; there = rest.there; failed = rest.failed }
+
+-- ---- what was sent by then
+
+module _ (law : FullIsSent) (n : NodeValue) (links' : List Link) (s' : StoreValue) (o o' : Outside) (told : TellsAll o) (run : IsRunSoFar n o)
+    (p : Place) (is : forget p ≡ node_place n o) (opens : HoldsOpen (forget p).hold (forget p).links) (heard : ℕ → List ℕ)
+    (stops : StopsAt (node_terms n) p (links_from 0 links' heard) n.store s' o o') where
+  abbrev all_acts : List Act
+  all_acts = run.acts ++ stops.went.acts
+
+  free_acts : FreeActs bundle_meaning run.begin all_acts (owing_free stops.to)
+  free_acts = whole_path n o run stops.went.acts (owing_free stops.to) (free_path n o o' p is stops.to stops.went.acts stops.went.path)
+
+  all_sent : AllIsSent run.begin all_acts
+  all_sent =
+      let one = run_acts_are_free bundle_meaning (node_terms n) stops.to stops.next (Does (Commit stops.batch) ∷ []) (stops.next, stops.steps, refl) in
+      law bundle_meaning run.begin all_acts (owing_free stops.to) one.0 (Commit stops.batch) run.legal free_acts
+      (subst (λ (k : ℕ). NodeSteps k (owing_free stops.to) (Does (Commit stops.batch)) one.0) (sym run.first) one.1)
+
+  -- a link on which a call failed is one of the node that failed
+  has_failed : (i : ℕ) → has_failure i (events_of all_acts) ≡ true → (l : Link) × (slice_get links' i ≡ Some l) × (l.end ≡ link_end.Failed)
+  has_failed i failed =
+      node_failed links' heard i
+      (fails_then (node_terms n) p links' heard n.store s' o o' stops opens i ((acts_fail n o run stops.went.acts (owing_free stops.to) free_acts).stays i failed))
+
+  link_sent : (i : ℕ) → has_failure i (events_of all_acts) ≡ false → (told' : TellsAll o') (whole : Journal) → FitsFiles bundle_meaning s' whole told'.two
+      → sent_on o'.links i ≡ output whole (n.first + i)
+  unfolding output
+  link_sent i well told' whole fits =
+      let so_far : Journal = run.begin ++ batches_in run.acts in
+      let behind = stops.went.did.fits so_far run.fits in
+      let two : behind.0 ≡ told'.two = (let both : Some behind.0 ≡ Some told'.two = sym behind.1 ∙ told'.files_are in cc) in
+      let reads : stands bundle_meaning (read_files told'.two) ≡ journal (so_far ++ batches_in stops.went.acts) =
+      subst (λ (t : Two File). stands bundle_meaning (read_files t) ≡ journal (so_far ++ batches_in stops.went.acts)) two behind.2.stands_for in
+      let both : journal (so_far ++ batches_in stops.went.acts) ≡ journal whole = sym reads ∙ fits.stands_for in
+      let same : so_far ++ batches_in stops.went.acts ≡ whole = cc in
+      let all : run.begin ++ batches_in all_acts ≡ whole =
+      ap (λ (l : Journal). run.begin ++ l) (batches_in-append run.acts stops.went.acts)
+      ∙ sym (append_assoc run.begin (batches_in run.acts) (batches_in stops.went.acts)) ∙ same in
+      stops.went.did.sent told i
+      ∙ ap (λ (l : List ℕ). l ++ sends_on i stops.went.acts) (run.sent i)
+      ∙ sym (sends_on-append i run.acts stops.went.acts)
+      ∙ all_sent i well
+      ∙ ap (λ (j : Journal). spelled (sent j ((facts run.begin).begun + i))) all
+      ∙ ap (λ (k : ℕ). spelled (sent whole (k + i))) run.first
+
+  -- on whatever course: the links that have not failed have sent the whole
+  pub full_sent : (terms : Terms) (p1 : Place) (heard1 : ℕ → List ℕ) → HoldsOpen (forget p1).hold (forget p1).links → StopsAt terms p1 (links_from 0 links' heard1) n.store s' o o'
+      → FullSent bundle_meaning terms p1 n.first n.store s' o o'
+  unfolding full_there
+  full_sent terms p1 heard1 opens1 stops1 = record {
+    full = full_there terms p1 (links_from 0 links' heard1) n.store s' o o' stops1;
+    sent = λ i x there unfailed.
+        elim (one_of (has_failure i (events_of all_acts))) [
+          | inl failed ↦
+              let at = has_failed i failed in
+              let so : LinkFailed stops1.to.at.links i =
+              failed_there terms p1 links' heard1 n.store s' o o' stops1 opens1 i (failed_from 0 i links' heard1 at.0 at.1 at.2) in
+              let both : Some so.link ≡ Some x = sym so.there ∙ there in
+              let same : so.link ≡ x = cc in
+              absurd (unfailed (sym (ap (λ (l : course_links.Link). l.stands) same) ∙ so.failed))
+          | inr well ↦ link_sent i well
+        ];
+  }
+
+-- ---- calls
+
+pub full_turn : FullIsSent → (n n' : NodeValue) (o o' : Outside) → TellsAll o → IsRunSoFar n o → (x : NodeFault) → x ≡ node_fault.Full
+    → ByFault (RoundStopped bundle_meaning n.first n.links n'.links n.store n'.store o o') x → FullTurn bundle_meaning n.first n.links n.store n'.store o o'
+full_turn law n n' o o' told run x is stopped =
+    let w = subst (λ (y : NodeFault). ByFault (RoundStopped bundle_meaning n.first n.links n'.links n.store n'.store o o') y) is stopped in
+    let own = w.stops (node_terms n) (heard_on o.links) false 0 0 refl run.has_read refl in
+    record {
+      fills = λ terms heard moved still made first read on.
+          let t = w.stops terms heard moved still made first read on in
+          full_sent law n n'.links n'.store o o' told run (turn_from n o) refl tt own.0 own.1 terms (place_at Between n.links heard moved still made n.store.state.facts) t.0 tt t.1;
+    }
+
+pub full_beginning : FullIsSent → (session : Session) (n n' : NodeValue) (o o' : Outside) → TellsAll o → IsRunSoFar n o → (x : NodeFault) → x ≡ node_fault.Full
+    → ByFault (BeginStopped bundle_meaning session n.links n'.links n.store n'.store o o') x → FullBeginning bundle_meaning session n.first n.links n.store n'.store o o'
+full_beginning law session n n' o o' told run x is stopped =
+    let w = subst (λ (y : NodeFault). ByFault (BeginStopped bundle_meaning session n.links n'.links n.store n'.store o o') y) is stopped in
+    let own = w.stops (node_terms n) [] (heard_on o.links) false 0 0 in
+    record {
+      fills = λ terms left heard moved still made.
+          full_sent law n n'.links n'.store o o' told run (begin_from session n o) refl tt (heard_on o.links) own terms
+          (place_at (Attaches (session ∷ left)) n.links heard moved still made n.store.state.facts) heard tt (w.stops terms left heard moved still made);
+    }
