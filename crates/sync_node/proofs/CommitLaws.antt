@@ -18,10 +18,6 @@ use Rattle.sync_node.specs.Safe.{Begin, Safe}
 use Rattle.sync_node.proofs.SafeLaws.{safe_store}
 use Rattle.sync_node.proofs.SuitLaws.{Grows, settling_suits}
 
--- ---- the journal that files stand for is one
-
--- ---- one batch
-
 -- ---- settling
 
 settling_grown : (clients : Meaning) (first : ℕ) (plans : List Session) (heard : ℕ → List ℕ)

@@ -1,6 +1,6 @@
 -- Laws for callers: what the calls of a store come to, for a course: which batches stand behind a
 -- call, whatever it answers.
-use Rattle.std.proofs.Common.{◌≡◌, ℕ, false, List, [], ◌∷◌, ◌++◌, append-nil, refl, sym, ◌∙◌, ap, subst, inl, inr, Option, Some, None, is_some, Result}
+use Rattle.std.proofs.Common.{◌≡◌, false, List, [], ◌∷◌, ◌++◌, append-nil, refl, sym, ◌∙◌, ap, subst, inl, inr, Option, Some, None, is_some, Result}
 use Rattle.outside.specs.Files.{Two, File, read_files}
 use Rattle.outside.specs.Links.{sent_of}
 use Rattle.outside.specs.Outside.{LinkCall, MakesAtMost, Outside, Moment}
@@ -122,9 +122,3 @@ settle_reads clients s s' result o o' has fits told =
 pub quiet_most : (during : Moment → Type 0) (o o' : Outside) → LinkCall during o o'
     → MakesAtMost 0 o o'
 quiet_most during o o' call = most_link 0 during o o o' (most_none 0 o) call
-
--- an object that is as it was made no call of its disk
-pub unasked_most : {H : Type 0} (tells : H → Outside) (n : ℕ) (host host' : H) → host' ≡ host
-    → MakesAtMost n (tells host) (tells host')
-unasked_most tells n host host' same =
-    subst (λ x. MakesAtMost n (tells host) (tells x)) (sym same) (most_none n (tells host))

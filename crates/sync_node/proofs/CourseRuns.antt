@@ -133,5 +133,3 @@ module _ (clients : Meaning) (first n : ℕ) (links : List Link) (l : Link) (s :
           facts = f;
         })
         (set_at 0 n links heard l' bytes ∙ ap (λ (j : ℕ). links_from 0 (slice_set links n l') (heard_with j bytes heard)) plain)
-
--- ---- one link more

@@ -17,8 +17,6 @@ use Rattle.sync_course.specs.declared.ends.LinkEnd.{LinkEnd}
 use Rattle.sync_node.specs.Courses.{attaching_at, link_at, links_from}
 use Rattle.sync_node.proofs.StartLaws.{none_below, session_batch}
 
--- ---- a greeting
-
 -- ---- the session that was committed
 
 session_last : (ss : List Session) (x : Session) → session_at ss x.number ≡ None

@@ -1,16 +1,12 @@
 -- A record that is taken, the next item, and a piece, as a course has them; and a batch that would
 -- pass the limit.
-use Rattle.std.proofs.Common.{◌≡◌, ℕ, Bool, true, false, cond, List, [], ◌∷◌, refl, sym, ◌∙◌, ap, subst, arith, Option, Some, None, Err}
-use Rattle.outside.specs.Files.{Two, File}
-use Rattle.outside.specs.Outside.{DiskRun, MakesAtMost, Outside}
+use Rattle.std.proofs.Common.{◌≡◌, ◌<◌, ℕ, Bool, true, false, cond, List, [], ◌∷◌, refl, sym, ◌∙◌, ap, subst, arith, Option, Some, None, Err}
 use Rattle.sync_rules.specs.declared.entries.Entry.{Entry}
-use Rattle.sync_rules.specs.Clients.{Meaning}
 use Rattle.entry_codec.specs.Payloads.{payload_len}
 use Rattle.entry_codec.specs.Standing.{room_of}
 use Rattle.sync_store.specs.Store.{StoreValue, format_meant, written_in}
-use Rattle.sync_store.specs.Fitting.{FitsFiles}
-use Rattle.sync_store.specs.Moments as store_moments
 use Rattle.sync_store.specs.Commits as store_commits
+use Rattle.sync_store.specs.Commits.{needed}
 use Rattle.sync_store.specs.declared.fault.StoreFault.TheVariants as store_fault
 use Rattle.record_grammar.specs.declared.stream.Item.{Item}
 use Rattle.sync_ids.specs.declared.records.Record.{Record}
@@ -30,39 +26,24 @@ use Rattle.sync_node.specs.declared.link.Link.{Link}
 use Rattle.sync_course.specs.declared.ends.LinkEnd.{LinkEnd}
 use Rattle.sync_course.specs.declared.ends.LinkEnd.TheVariants as link_end
 use Rattle.sync_node.specs.Hearing.{ClosesBy, LearnsNonce, nonce_with}
-use Rattle.sync_node.specs.Fulls.{PassesLimit}
 use Rattle.sync_node.specs.Courses.{IsTaking, link_at}
-use Rattle.sync_node.proofs.CourseLaws.{told_as}
 
 -- ---- the limit
 
--- a commit that answered Full did nothing
-pub over_limit : (clients : Meaning) (s s' : StoreValue) (batch : List Entry) (o o' : Outside)
-    → DiskRun o o' → MakesAtMost 0 o o'
-    → store_commits.AnswersCommit s s' batch (Err store_fault.Full)
-    → ((two : Two File) → o.files ≡ Some two → (j : List (List Entry)) → FitsFiles clients s j two → store_moments.RunsCommit clients batch (Err store_fault.Full) s' o o' j)
-    → PassesLimit clients batch s s' o o'
-over_limit clients s s' batch o o' run made answer adds =
+-- a commit that answered Full left the store as it was, which has no room for the batch still
+pub over_limit : (s s' : StoreValue) (batch : List Entry)
+    → store_commits.AnswersCommit s s' batch (Err store_fault.Full) → s'.limit < needed s' batch
+over_limit s s' batch answer =
     let stays = answer.2 in
-    record {
-      same_links = run.same_links;
-      fits = λ j fit.
-          let two' = told_as o.files o'.files fit.0 run.same_told fit.1 in
-          let end = (adds fit.0 fit.1 j fit.2).ends (stays.closed ∙ answer.0) two'.0 two'.1 in
-          (two'.0, two'.1, subst (λ (whole : List (List Entry)). FitsFiles clients s' whole two'.0) end.1 end.2);
-      before = answer.1;
-      over =
-          omega (
-            arith,
-            answer.1,
-            stays.limit,
-            stays.end,
-            ap (λ n. payload_len (format_meant n) batch) stays.format,
-            ap (λ n. room_of (format_meant n) (after_all s'.state.facts batch)) stays.format,
-            ap (λ (f : Facts). room_of (written_in s) (after_all f batch)) stays.facts,
-          );
-      calls = made;
-    }
+    omega (
+      arith,
+      answer.1,
+      stays.limit,
+      stays.end,
+      ap (λ n. payload_len (format_meant n) batch) stays.format,
+      ap (λ n. room_of (format_meant n) (after_all s'.state.facts batch)) stays.format,
+      ap (λ (f : Facts). room_of (written_in s) (after_all f batch)) stays.facts,
+    )
 
 -- ---- the next item
 
