@@ -1,8 +1,8 @@
 -- What a run does to a store and its disk, as a course: where the disk fits the store with a
 -- journal, and what the files stand for where a call was broken off.
-use Rattle.std.specs.Prelude.{◌≡◌, ◌⊎◌, ℕ, suc, ◌+◌, ◌*◌, Bool, true, false, cond, not, ◌&&◌, nat_eq, nat_lt, slice_get, List, [], ◌∷◌, ◌++◌, length, Option, Some}
+use Rattle.std.specs.Prelude.{◌≡◌, ◌⊎◌, ℕ, suc, ◌+◌, Bool, true, false, cond, not, ◌&&◌, nat_eq, nat_lt, slice_get, List, [], ◌∷◌, ◌++◌, length, Option, Some}
 use Rattle.outside.specs.Files.{Two, File, read_files}
-use Rattle.outside.specs.Outside.{Outside, MakesAtMost}
+use Rattle.outside.specs.Outside.{Outside}
 use Rattle.sync_rules.specs.declared.entries.Entry.{Entry}
 use Rattle.sync_rules.specs.declared.entries.Session.{Session}
 use Rattle.sync_rules.specs.Clients.{Meaning}
@@ -21,7 +21,7 @@ use Rattle.sync_course.specs.declared.ends.LinkEnd.TheVariants as link_end
 use Rattle.sync_node.specs.declared.node.Turned.{Turned}
 use Rattle.sync_node.specs.declared.node.Turned.TheVariants as turned
 use Rattle.sync_course.specs.LinkTurns.{Asks, Doing, Done, Sends, Spot, Waits}
-use Rattle.sync_course.specs.Events.{Break, Commit, Event, Pass, TellsEvents}
+use Rattle.sync_course.specs.Events.{Commit, Event}
 use Rattle.sync_course.specs.Paths.{BreaksPath, CountsBatches, RunsPath}
 use Rattle.sync_course.specs.Turns.{Attaches, Between, Place, RunStep, Stage, Terms, Works, is_at_end}
 
@@ -83,21 +83,6 @@ pub record ReadsFront (clients : Meaning) (may : List (List Entry)) (s : StoreVa
       → ReadsAs clients o'.files (j ++ front)
 
 -- ---- what the calls of a store come to
-
--- these batches were committed, by at most four calls of the disk each
-pub record CommitsWithinCalls (clients : Meaning) (more : List (List Entry)) (s s' : StoreValue)
-    (o o' : Outside) : Type 0 where
-  pub same_links : o'.links ≡ o.links
-  pub grows : (j : List (List Entry)) → FitsWith clients s o.files j
-      → FitsWith clients s' o'.files (j ++ more)
-  pub calls : MakesAtMost (4 * length more) o o'
-
--- they were to be committed, and some of them were, from the first on
-pub record AddsSome (clients : Meaning) (may : List (List Entry)) (s : StoreValue)
-    (o o' : Outside) : Type 0 where
-  pub same_links : o'.links ≡ o.links
-  pub stood : ReadsFront clients may s o o'
-  pub calls : MakesAtMost (4 * length may) o o'
 
 -- ---- a record that is taken
 
@@ -259,13 +244,6 @@ pub record HaltsSending (clients : Meaning) (first n now : ℕ) (links links' : 
 
 -- ---- a session that begins on the next link
 
--- All sends of a greeting are one event: they went out, or one failed, and the link is closed. The
--- disk is not asked.
-abbrev pub GreetsAsCourse : ℕ → Link → Link → Outside → Outside → Type 0
-GreetsAsCourse n l l' o o' =
-    MakesAtMost 0 o o'
-    × (((l' ≡ l) × TellsEvents (Pass ∷ []) o o') ⊎ ((l' ≡ record l { end = link_end.Failed }) × TellsEvents (Break n ∷ []) o o'))
-
 -- a place of a run that is to begin these sessions
 abbrev pub attaching_at : List Session → List course_links.Link → Bool → ℕ → ℕ → Facts → Place
 attaching_at left links moved still made f = record {
@@ -276,23 +254,6 @@ attaching_at left links moved still made f = record {
   made = made;
   facts = f;
 }
-
--- Where files are told, a session began on the link of this number, behind the others, and greeted
--- there. Nothing was heard on it.
-pub record StartsAsCourse (clients : Meaning) (n : ℕ) (session : Session) (l : Link)
-    (s s' : StoreValue) (o o' : Outside) : Type 0 where
-  pub has_read : IsLinkRead [] l
-  pub runs : (two : Two File) → o.files ≡ Some two → (terms : Terms) (left : List Session)
-      (links : List course_links.Link) (moved : Bool) (still made : ℕ) → length links ≡ n
-      → RunRuns clients terms (attaching_at (session ∷ left) links moved still made s.state.facts)
-      (attaching_at left (links ++ link_at l [] ∷ []) moved still made s'.state.facts) s s' o o'
-
--- that link stands behind the others
-pub record StartsBehind (clients : Meaning) (n : ℕ) (session : Session) (links links' : List Link)
-    (s s' : StoreValue) (o o' : Outside) : Type 0 where
-  pub link : Link
-  pub starts : StartsAsCourse clients n session link s s' o o'
-  pub pushed : links' ≡ links ++ link ∷ []
 
 -- where files are told, the next session began on the link behind those of a node, on which nothing
 -- was heard

@@ -1,4 +1,4 @@
-use Rattle.std.proofs.Common.{Err, ap, ◌∙◌}
+use Rattle.std.proofs.Common.{Err, ap}
 use Rattle.sync_store.specs.declared.fault.StoreFault.TheVariants as store_fault
 use Rattle.sync_node.proofs.BatchLaws.{commit_breaks, commit_did, commit_full, commit_idle}
 use Rattle.sync_node.proofs.CourseLaws.{unasked_most}
