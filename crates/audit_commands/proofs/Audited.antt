@@ -21,7 +21,8 @@ use Rattle.audit_commands.specs.Texts.{legal_text}
 
 -- a step of files that are told
 told_step : (step : Two File → Two File → Type 0) (old new : Option (Two File))
-    (two two' : Two File) → RelatesTold step old new → old ≡ Some two → new ≡ Some two' → step two two'
+    (two two' : Two File) → RelatesTold step old new → old ≡ Some two → new ≡ Some two'
+    → step two two'
 told_step step old new two two' becomes told told' =
     let at = becomes_told step old new two told becomes in
     let same : at.0 ≡ two' = let it = sym at.1 ∙ told' in cc in

@@ -48,7 +48,8 @@ LeavesSynced old new (Err _) = RelatesTold SyncsBoth old new
 abbrev pub PrintsBy : (old new : Outside) (out out' : Stream) → Outcome → Type 0
 PrintsBy old new out out' outcome.Done = Unit {0}
 PrintsBy old new out out' outcome.WriteFault = CountRose out.faults out'.faults
-PrintsBy old new out out' outcome.DiskFault = CountRose old.disk_faults new.disk_faults × IsIdle out out'
+PrintsBy old new out out' outcome.DiskFault =
+    CountRose old.disk_faults new.disk_faults × IsIdle out out'
 PrintsBy old new out out' outcome.NoStore = IsIdle out out'
 PrintsBy old new out out' (outcome.Damaged place) = IsIdle out out'
 PrintsBy old new out out' outcome.Memory = IsIdle out out'

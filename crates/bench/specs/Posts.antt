@@ -1,4 +1,5 @@
--- Messages that were written here, all in one group that is Shared with contact 0, and of which no contact has heard yet.
+-- Messages that were written here, all in one group that is Shared with contact 0, and of which no
+-- contact has heard yet.
 use Rattle.std.specs.Prelude.{List, [], ◌∷◌, map}
 use Rattle.std.specs.FinMap as fin_map
 use Rattle.sync_rules.specs.declared.entries.Level.TheVariants as level
@@ -7,7 +8,11 @@ use Rattle.sync_rules.specs.Facts.{Facts, Held, Id, Known, nothing}
 use Rattle.sync_rules.specs.Views.{Seen}
 
 abbrev pub held_of : Id → Id → Held
-held_of group id = record { id = id; message = record { group = group; timestamp = 0; body = [] }; origin = origin.Author }
+held_of group id = record {
+  id = id;
+  message = record { group = group; timestamp = 0; body = [] };
+  origin = origin.Author;
+}
 
 abbrev pub known_of : Id → Known
 known_of group = record { def = record { name = []; major = 0; descriptor = [] }; id = group }

@@ -6,7 +6,8 @@ use Rattle.sync_rules.specs.declared.entries.Entry.TheVariants as entry
 use Rattle.sync_rules.specs.Clients.{Meaning}
 use Rattle.sync_rules.specs.Facts.{Facts, Held, after, after_all, entries_of}
 use Rattle.brief_account.specs.Account.{account, brief_of, settling_of, told_of, with_groups}
-use Rattle.brief_account.specs.Brief.{each_alone, filled, head_entries, is_kept, never_alone, peer_entries}
+use Rattle.brief_account.specs.Brief.{each_alone, filled, head_entries, is_kept, never_alone}
+use Rattle.brief_account.specs.Brief.{peer_entries}
 use Rattle.brief_account.proofs.Filled.{entries-append, filled_entries}
 use Rattle.entry_codec.specs.declared.naming.Format.TheVariants as kind
 use Rattle.entry_codec.specs.Payloads.{journal_end, spellings}
@@ -17,7 +18,8 @@ use Rattle.journal_compaction.proofs.Spelled.{end_written}
 use Rattle.journal_compaction.proofs.Weighing.{frames-append, one_frame}
 
 -- each entry has some bytes
-spelled_many : (names : List (List ℕ)) (es : List Entry) → length es ≤ length (spellings kind.Short names es)
+spelled_many : (names : List (List ℕ)) (es : List Entry) → length es ≤ length
+    (spellings kind.Short names es)
 spelled_many names [] = omega arith
 spelled_many names (e ∷ es) =
     omega (
@@ -28,7 +30,8 @@ spelled_many names (e ∷ es) =
       spelled_many names es,
     )
 
-written_many : (names : List (List ℕ)) (bs : List (List Entry)) → length (entries_of bs) ≤ frames_len (written names bs)
+written_many : (names : List (List ℕ)) (bs : List (List Entry))
+    → length (entries_of bs) ≤ frames_len (written names bs)
 written_many names [] = omega arith
 written_many names (b ∷ bs) =
     let p = spellings kind.Short names b in
@@ -42,7 +45,8 @@ written_many names (b ∷ bs) =
     )
 
 -- each message is kept
-account_many : (clients : Meaning) (g : Facts) (hs : List Held) → length hs ≤ length (account clients g hs)
+account_many : (clients : Meaning) (g : Facts) (hs : List Held) → length hs ≤ length
+    (account clients g hs)
 account_many clients g [] = omega arith
 account_many clients g (h ∷ hs) =
     let kept = after g (entry.Kept h.origin h.message) in
@@ -54,12 +58,14 @@ account_many clients g (h ∷ hs) =
           (after_all kept steps) hs,
     )
 
-pub held_within : (clients : Meaning) (f : Facts) → length f.held ≤ journal_end kind.Short (brief_of clients f)
+pub held_within : (clients : Meaning) (f : Facts) → length f.held ≤ journal_end kind.Short
+    (brief_of clients f)
 held_within clients f =
     let a = each_alone (head_entries f) in
     let b = filled MAX_STEPS is_kept [] (told_of clients f) in
     let c = filled MAX_ROWS never_alone [] (peer_entries f f.contacts) in
-    let told : entries_of b ≡ told_of clients f = filled_entries MAX_STEPS is_kept [] (told_of clients f) in
+    let told : entries_of b ≡ told_of clients f =
+    filled_entries MAX_STEPS is_kept [] (told_of clients f) in
     omega (
       arith,
       end_written [] (brief_of clients f),

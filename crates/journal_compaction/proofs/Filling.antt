@@ -1,6 +1,8 @@
 -- The payloads that items fill are those of the batches that their entries fill.
-use Rattle.std.proofs.Common.{◌≡◌, ℕ, zero, suc, ◌+◌, ◌-◌, ◌≤◌, Bool, true, false, cond, List, [], ◌∷◌, ◌++◌, length}
-use Rattle.std.proofs.Common.{map, length-append, refl, sym, ◌∙◌, ap, subst, arith, append-nil, lt-ltb, le-ltb}
+use Rattle.std.proofs.Common.{◌≡◌, ℕ, zero, suc, ◌+◌, ◌-◌, ◌≤◌, Bool, true, false, cond, List, []}
+use Rattle.std.proofs.Common.{◌∷◌, ◌++◌, length}
+use Rattle.std.proofs.Common.{map, length-append, refl, sym, ◌∙◌, ap, subst, arith, append-nil}
+use Rattle.std.proofs.Common.{lt-ltb, le-ltb}
 use Rattle.std.proofs.Common.{ltb-true}
 use Rattle.std.specs.Prelude.{not, ◌&&◌, nat_lt}
 use Rattle.std.specs.List.{AllByRecursion}
@@ -61,9 +63,11 @@ none_joins false = refl
 
 test_same : (n left most : ℕ) → n + left ≡ most → nat_lt 0 left ≡ nat_lt n most
 test_same n zero most is = le-ltb 0 0 (omega arith) ∙ sym (le-ltb n most (omega (arith, is)))
-test_same n (suc left) most is = lt-ltb 0 (suc left) (omega arith) ∙ sym (lt-ltb n most (omega (arith, is)))
+test_same n (suc left) most is =
+    lt-ltb 0 (suc left) (omega arith) ∙ sym (lt-ltb n most (omega (arith, is)))
 
-one_less : (left n m most : ℕ) → nat_lt 0 left ≡ true → m ≡ n + 1 → n + left ≡ most → m + (left - 1) ≡ most
+one_less : (left n m most : ℕ) → nat_lt 0 left ≡ true → m ≡ n + 1 → n + left ≡ most
+    → m + (left - 1) ≡ most
 one_less left n m most more is sum = omega (arith, ltb-true 0 left more, is, sum)
 
 module _ (f : Facts) where
@@ -76,7 +80,8 @@ module _ (f : Facts) where
   one_spelled : (i : Item) → spelled (entry_of f i ∷ []) ≡ bytes_of f i
   one_spelled i = append-nil (bytes_of f i)
 
-  more_spelled : (front : List Entry) (i : Item) → spelled (front ++ entry_of f i ∷ []) ≡ spelled front ++ bytes_of f i
+  more_spelled : (front : List Entry) (i : Item)
+      → spelled (front ++ entry_of f i ∷ []) ≡ spelled front ++ bytes_of f i
   more_spelled front i =
       flat_map-append (spelling_in kind.Short (names_of f)) front (entry_of f i ∷ [])
       ∙ ap (λ (t : List ℕ). spelled front ++ t) (one_spelled i)
@@ -84,9 +89,14 @@ module _ (f : Facts) where
   spelled_some : (front : List Entry) → 1 ≤ length front → 1 ≤ length (spelled front)
   spelled_some [] some = absurd (omega (arith, some))
   spelled_some (e ∷ es) some =
-      omega (arith, some_spelled (names_of f) e, length-append (spelling_in kind.Short (names_of f) e) (spelled es))
+      omega (
+        arith,
+        some_spelled (names_of f) e,
+        length-append (spelling_in kind.Short (names_of f) e) (spelled es),
+      )
 
-  closed_written : (front : List Entry) → closed_page (spelled front) ≡ written (names_of f) (closed front)
+  closed_written : (front : List Entry) → closed_page (spelled front) ≡ written (names_of f)
+      (closed front)
   closed_written [] = refl
   closed_written (e ∷ es) = closed_some (spelled (e ∷ es)) (spelled_some (e ∷ es) (omega arith))
 
@@ -95,12 +105,13 @@ module _ (f : Facts) where
     abbrev pub begun_at : Item → List Item → List (List ℕ)
     begun_at i items = pages f most (left_behind most i) (bytes_of f i) items
 
-    -- what is written of an item and those behind it, where a test says whether it stands alone and one whether it
-    -- joins
+    -- what is written of an item and those behind it, where a test says whether it stands alone and
+    -- one whether it joins
     abbrev stepped : List ℕ → (left : ℕ) → Item → List Item → Bool → Bool → List (List ℕ)
     stepped page left i items alone joins =
         cond joins [] (closed_page page)
-        ++ pages f most (cond joins (left - 1) (cond alone 0 (most - 1))) (cond joins page [] ++ bytes_of f i) items
+        ++ pages f most (cond joins (left - 1) (cond alone 0 (most - 1)))
+        (cond joins page [] ++ bytes_of f i) items
 
     -- a payload that takes no more is closed, and the next item begins another
     pub next_begins : (page : List ℕ) (i : Item) (items : List Item)
@@ -109,19 +120,23 @@ module _ (f : Facts) where
 
     -- ---- items that each stand alone
 
-    pub alone_written : (page : List ℕ) (items : List Item) → AllByRecursion (λ i. is_alone i ≡ true) items
-        → pages f most 0 page items ≡ closed_page page ++ written (names_of f) (each_alone (map (entry_of f) items))
+    pub alone_written : (page : List ℕ) (items : List Item) → AllByRecursion
+        (λ i. is_alone i ≡ true) items
+        → pages f most 0 page items
+        ≡ closed_page page ++ written (names_of f) (each_alone (map (entry_of f) items))
     alone_written page [] all = sym (append-nil (closed_page page))
     alone_written page (i ∷ items) all =
         let here : begun_at i items ≡ pages f most 0 (bytes_of f i) items =
         ap (λ b. pages f most (cond b 0 (most - 1)) (bytes_of f i) items) all.0 in
         let rest = alone_written (bytes_of f i) items all.1 in
         let one : closed_page (bytes_of f i) ≡ spelled (entry_of f i ∷ []) ∷ [] =
-        closed_some (bytes_of f i) (bytes_some i) ∙ ap (λ (p : List ℕ). p ∷ []) (sym (one_spelled i)) in
+        closed_some (bytes_of f i) (bytes_some i)
+        ∙ ap (λ (p : List ℕ). p ∷ []) (sym (one_spelled i)) in
         next_begins page i items
         ∙ ap (λ (ps : List (List ℕ)). closed_page page ++ ps)
         (here ∙ (rest
-        ∙ ap (λ (ps : List (List ℕ)). ps ++ written (names_of f) (each_alone (map (entry_of f) items))) one))
+        ∙ ap (λ (ps : List (List ℕ)).
+        ps ++ written (names_of f) (each_alone (map (entry_of f) items))) one))
 
     -- ---- items of which some stand alone
 
@@ -132,7 +147,8 @@ module _ (f : Facts) where
       abbrev filling : List Entry → List Item → List (List ℕ)
       filling front items = written (names_of f) (filled most alone front (map (entry_of f) items))
 
-      -- the payloads are those of the batches: at the beginning, behind an item that stands alone, and within a batch
+      -- the payloads are those of the batches: at the beginning, behind an item that stands alone,
+      -- and within a batch
       record Cuts (items : List Item) : Type 0 where
         fresh : pages f most 0 [] items ≡ filling [] items
         behind : (i : Item) → pages f most 0 (bytes_of f i) items ≡ bytes_of f i ∷ filling [] items
@@ -147,7 +163,8 @@ module _ (f : Facts) where
       }
 
       -- the batch that an item's entry begins
-      begun_filling : (i : Item) (items : List Item) → Cuts items → alone (entry_of f i) ≡ is_alone i
+      begun_filling : (i : Item) (items : List Item) → Cuts items
+          → alone (entry_of f i) ≡ is_alone i
           → begun_at i items ≡ filling [] (i ∷ items)
       begun_filling i items rest same =
           let e = entry_of f i in
@@ -165,12 +182,14 @@ module _ (f : Facts) where
                 ap (λ (p : List ℕ). pages f most (most - 1) p items) (sym (one_spelled i))
                 ∙ rest.within (most - 1) (e ∷ []) (omega arith) (omega (arith, some))
           ] in
-          let there : At (is_alone i) (nat_lt 0 most) = subst (λ t. At (is_alone i) t) (sym open_one) by_kind in
+          let there : At (is_alone i) (nat_lt 0 most) =
+          subst (λ t. At (is_alone i) t) (sym open_one) by_kind in
           subst
           (λ b. begun_at i items
           ≡ written (names_of f)
           (cond b ((e ∷ []) ∷ filled most alone [] es)
-          (cond (nat_lt 0 most) (filled most alone (e ∷ []) es) ([] ∷ filled most alone (e ∷ []) es))))
+          (cond (nat_lt 0 most) (filled most alone (e ∷ []) es)
+          ([] ∷ filled most alone (e ∷ []) es))))
           (sym same) there
 
       -- an item within a batch
@@ -186,14 +205,16 @@ module _ (f : Facts) where
           λ b j t. stepped page left i items b j
           ≡ written (names_of f)
           (cond b (closed front ++ (e ∷ []) ∷ filled most alone [] es)
-          (cond t (filled most alone (front ++ e ∷ []) es) (front ∷ filled most alone (e ∷ []) es))) in
+          (cond t (filled most alone (front ++ e ∷ []) es)
+          (front ∷ filled most alone (e ∷ []) es))) in
           -- it joins, or begins another batch
           let plain : At false (nat_lt 0 left) (nat_lt 0 left) =
           elim (nat_lt 0 left) as (λ j. nat_lt 0 left ≡ j → At false j j) [
             | true ↦ λ more.
                 ap (λ (p : List ℕ). pages f most (left - 1) p items) (sym (more_spelled front i))
                 ∙ rest.within (left - 1) (front ++ e ∷ []) (omega (arith, length_push front e))
-                (one_less left (length front) (length (front ++ e ∷ [])) most more (length_push front e) is)
+                (one_less left (length front) (length (front ++ e ∷ [])) most more
+                (length_push front e) is)
             | false ↦ λ full.
                 ap (λ (ps : List (List ℕ)). ps ++ pages f most (most - 1) (bytes_of f i) items)
                 (closed_some page (spelled_some front some_front))
@@ -205,9 +226,11 @@ module _ (f : Facts) where
           subst (λ t. At false (nat_lt 0 left) t) (test_same (length front) left most is) plain in
           let single : At true false (nat_lt (length front) most) =
           (λ n. closed_written front n ++ rest.behind i n)
-          ∙ ap (λ (p : List ℕ). written (names_of f) (closed front) ++ p ∷ filling [] items) (sym (one_spelled i))
+          ∙ ap (λ (p : List ℕ). written (names_of f) (closed front) ++ p ∷ filling [] items)
+          (sym (one_spelled i))
           ∙ sym (written-append (names_of f) (closed front) ((e ∷ []) ∷ filled most alone [] es)) in
-          let by_kind : At (is_alone i) (not (is_alone i) && nat_lt 0 left) (nat_lt (length front) most) =
+          let by_kind : At (is_alone i) (not (is_alone i) && nat_lt 0 left)
+          (nat_lt (length front) most) =
           elim (is_alone i) as (λ b. At b (not b && nat_lt 0 left) (nat_lt (length front) most)) [
             | true ↦ single
             | false ↦ both
@@ -229,11 +252,14 @@ module _ (f : Facts) where
             fresh = next_begins [] i items ∙ begun;
             behind = λ k.
                 next_begins (bytes_of f k) i items
-                ∙ ap (λ (ps : List (List ℕ)). ps ++ begun_at i items) (closed_some (bytes_of f k) (bytes_some k))
+                ∙ ap (λ (ps : List (List ℕ)). ps ++ begun_at i items)
+                (closed_some (bytes_of f k) (bytes_some k))
                 ∙ ap (λ (ps : List (List ℕ)). bytes_of f k ∷ ps) begun;
-            within = λ left front some_front is. more_filling i items rest suits.0 left front some_front is;
+            within = λ left front some_front is.
+                more_filling i items rest suits.0 left front some_front is;
           }
 
       pub filled_written : (items : List Item) → Suits items
-          → pages f most 0 [] items ≡ written (names_of f) (filled most alone [] (map (entry_of f) items))
+          → pages f most 0 [] items
+          ≡ written (names_of f) (filled most alone [] (map (entry_of f) items))
       filled_written items suits = (cuts items suits).fresh

@@ -1,5 +1,6 @@
 -- The files stand for the journal, as long as the other file has no open header.
-use Rattle.std.proofs.Common.{◌≡◌, ℕ, ◌-◌, ◌<◌, true, false, List, Some, Result, Err, inl, inr, refl, sym, ap, subst}
+use Rattle.std.proofs.Common.{◌≡◌, ℕ, ◌-◌, ◌<◌, true, false, List, Some, Result, Err, inl, inr}
+use Rattle.std.proofs.Common.{refl, sym, ap, subst}
 use Rattle.std.proofs.Common.{◌∙◌, arith}
 use Rattle.outside.specs.Disk.{RelatesTold}
 use Rattle.outside.specs.Files.{Two, File, IsFileImage, NothingPending, file_of, read_files}
@@ -7,7 +8,8 @@ use Rattle.outside.specs.Frames.{HasFrames, format_in, generation_in, is_open, j
 use Rattle.outside.specs.Links.{sent_of}
 use Rattle.outside.specs.Outside.{DiskRun, Moment, MomentsAre, Outside}
 use Rattle.outside.specs.Steps.{FileMoment, PassedMoments, other_of}
-use Rattle.outside.proofs.CallSteps.{becomes_then, becomes_told, moments_map, moments_none, moments_then, now_images}
+use Rattle.outside.proofs.CallSteps.{becomes_then, becomes_told, moments_map, moments_none}
+use Rattle.outside.proofs.CallSteps.{moments_then, now_images}
 use Rattle.frame_journal.specs.Create.{BeforeOrShut, PreparesJournal}
 use Rattle.frame_journal.specs.Journal.{JournalValue}
 use Rattle.sync_rules.specs.declared.entries.Entry.{Entry}
@@ -21,32 +23,38 @@ use Rattle.journal_migration.specs.Migrating.{HoldsSecond}
 use Rattle.journal_migration.specs.Starting.{EndsOrStays}
 use Rattle.journal_migration.specs.declared.fault.MigrationFault.{MigrationFault}
 use Rattle.journal_migration.specs.declared.fault.MigrationFault.TheVariants as migration
-use Rattle.journal_migration.proofs.Sides.{image_only, one_open, own_file, read_file, settled_first, settled_one}
+use Rattle.journal_migration.proofs.Sides.{image_only, one_open, own_file, read_file, settled_first}
+use Rattle.journal_migration.proofs.Sides.{settled_one}
 use Rattle.journal_migration.proofs.Sides.{settled_second, stands_own, two_same}
 use Rattle.journal_migration.proofs.Shut.{own_still, pending_still}
 use Rattle.journal_compaction.specs.declared.fault.CompactionFault.{CompactionFault}
 use Rattle.journal_compaction.specs.declared.fault.CompactionFault.TheVariants as fault
-use Rattle.journal_compaction.specs.Compacting.{CompactsJournal, FilesHoldCompacted, StandsForEither}
+use Rattle.journal_compaction.specs.Compacting.{CompactsJournal, FilesHoldCompacted}
+use Rattle.journal_compaction.specs.Compacting.{StandsForEither}
 use Rattle.journal_compaction.specs.Faults.{fault_of}
 use Rattle.journal_compaction.specs.Writing.{IsFileIdle, LeavesIdle, StaysIdle, StaysShut}
 use Rattle.journal_compaction.proofs.Working.{passed_before}
 
 -- a moment whose files stand for the journal
-record StandsStill (clients : Meaning) (j : List (List Entry)) (sent : List (List ℕ)) (m : Moment) : Type 0 where
+record StandsStill (clients : Meaning) (j : List (List Entry)) (sent : List (List ℕ))
+    (m : Moment) : Type 0 where
   stands_for : stands clients m.files ≡ journal j
   nothing_sent : m.sent ≡ sent
 
-module _ (clients : Meaning) (m : JournalValue) (j : List (List Entry)) (two : Two File) (few : m.file < 2)
+module _ (clients : Meaning) (m : JournalValue) (j : List (List Entry)) (two : Two File)
+    (few : m.file < 2)
     (holds : HoldsSecond clients m j two) where
   abbrev own : ℕ
   own = m.file
 
   -- files of which the journal's is as it was, and the other has no open header
-  pub shut_stands : (x : Two (List ℕ)) → file_of x own ≡ (file_of two own).now → is_open (file_of x (1 - own)) ≡ false
+  pub shut_stands : (x : Two (List ℕ)) → file_of x own ≡ (file_of two own).now
+      → is_open (file_of x (1 - own)) ≡ false
       → (journal_file x ≡ Some own) × (stands clients x ≡ journal j)
   shut_stands x this other =
       let same : file_of x own ≡ file_of (read_files two) own = this ∙ sym (read_file two own) in
-      let open_own : is_open (file_of x own) ≡ true = ap is_open same ∙ found_open (read_files two) own holds.found in
+      let open_own : is_open (file_of x own) ≡ true = ap is_open same
+      ∙ found_open (read_files two) own holds.found in
       let found = one_open x own few open_own other in
       (found, stands_own clients x (read_files two) own found holds.found same ∙ holds.stands_for)
 
@@ -54,30 +62,36 @@ module _ (clients : Meaning) (m : JournalValue) (j : List (List Entry)) (two : T
   same_stands : (x : Two (List ℕ)) → file_of x own ≡ (file_of two own).now
       → file_of x (1 - own) ≡ (file_of two (1 - own)).now → stands clients x ≡ journal j
   same_stands x this other =
-      ap (stands clients) (two_same x (read_files two) own few (this ∙ sym (read_file two own)) (other
+      ap (stands clients) (two_same x (read_files two) own few (this ∙ sym (read_file two own))
+      (other
       ∙ sym (read_file two (1 - own)))) ∙ holds.stands_for
 
   pending : NothingPending two own
   pending = settled_one two own few holds.first_settled holds.second_settled
 
   -- the file of the journal is as it was
-  pub own_kept : (Q : List ℕ → Type 0) (sent : List (List ℕ)) (x : Moment) → FileMoment Q two sent (1 - own) x
+  pub own_kept : (Q : List ℕ → Type 0) (sent : List (List ℕ)) (x : Moment) → FileMoment Q two sent
+      (1 - own) x
       → file_of x.files own ≡ (file_of two own).now
   own_kept Q sent x moment =
       image_only two own (file_of x.files own) pending
       (subst (λ (f : File). IsFileImage f (file_of x.files own)) (sym (own_file two own few))
-      (subst (λ (c : List ℕ). IsFileImage (other_of two (1 - own)) c) (sym (own_file x.files own few)) moment.other))
+      (subst (λ (c : List ℕ). IsFileImage (other_of two (1 - own)) c)
+      (sym (own_file x.files own few)) moment.other))
 
   -- ---- moments
 
   still_either : (o o' : Outside) → MomentsAre o o' (StandsStill clients j (sent_of o.links.told))
       → MomentsAre o o' (StandsForEither clients j (sent_of o.links.told))
   still_either o o' moments =
-      moments_map o o' (StandsStill clients j (sent_of o.links.told)) (StandsForEither clients j (sent_of o.links.told))
-      (λ x still. record { stands_for = inl still.stands_for; nothing_sent = still.nothing_sent }) moments
+      moments_map o o' (StandsStill clients j (sent_of o.links.told))
+      (StandsForEither clients j (sent_of o.links.told))
+      (λ x still. record { stands_for = inl still.stands_for; nothing_sent = still.nothing_sent })
+      moments
 
   -- no call was made
-  pub unmade : (o : Outside) → o.files ≡ Some two → MomentsAre o o (StandsForEither clients j (sent_of o.links.told))
+  pub unmade : (o : Outside) → o.files ≡ Some two → MomentsAre o o
+      (StandsForEither clients j (sent_of o.links.told))
   unmade o told =
       still_either o o
       (moments_none o (StandsStill clients j (sent_of o.links.told))
@@ -90,7 +104,8 @@ module _ (clients : Meaning) (m : JournalValue) (j : List (List Entry)) (two : T
       record { stands_for = ap (stands clients) all ∙ holds.stands_for; nothing_sent = at.sent }))
 
   -- until the other file's gate is opened
-  pub stays_either : (o o' : Outside) → PassedMoments two o o' (1 - own) (BeforeOrShut (file_of two (1 - own)).now)
+  pub stays_either : (o o' : Outside) → PassedMoments two o o' (1 - own)
+      (BeforeOrShut (file_of two (1 - own)).now)
       → MomentsAre o o' (StandsForEither clients j (sent_of o.links.told))
   stays_either o o' passed =
       let Q : List ℕ → Type 0 = BeforeOrShut (file_of two (1 - own)).now in
@@ -110,13 +125,15 @@ module _ (clients : Meaning) (m : JournalValue) (j : List (List Entry)) (two : T
 
   -- ---- the journal is held on
 
-  pub holds_on : (two' : Two File) → other_of two' (1 - own) ≡ other_of two (1 - own) → IsFileIdle (1 - own) two'
+  pub holds_on : (two' : Two File) → other_of two' (1 - own) ≡ other_of two (1 - own) → IsFileIdle
+      (1 - own) two'
       → HoldsSecond clients m j two'
   holds_on two' other idle =
       let this = own_still two two' own few other in
       let now : (file_of two' own).now ≡ (file_of two own).now = ap (λ (f : File). f.now) this in
       let still = pending_still two two' own this pending in
-      let both = shut_stands (read_files two') (read_file two' own ∙ now) (ap is_open (read_file two' (1 - own))
+      let both = shut_stands (read_files two') (read_file two' own
+      ∙ now) (ap is_open (read_file two' (1 - own))
       ∙ idle.shut) in
       record {
         first_settled = settled_first two' own few still idle.settled;
@@ -136,33 +153,49 @@ module _ (clients : Meaning) (m : JournalValue) (j : List (List Entry)) (two : T
 
 -- ---- answers
 
-module _ (clients : Meaning) (m : JournalValue) (j : List (List Entry)) (two : Two File) (few : m.file < 2)
+module _ (clients : Meaning) (m : JournalValue) (j : List (List Entry)) (two : Two File)
+    (few : m.file < 2)
     (holds : HoldsSecond clients m j two) where
   -- the files that are told in the end are those at first
-  one_told : (o : Outside) (two' : Two File) → o.files ≡ Some two → o.files ≡ Some two' → HoldsSecond clients m j two'
+  one_told : (o : Outside) (two' : Two File) → o.files ≡ Some two → o.files ≡ Some two'
+      → HoldsSecond clients m j two'
   one_told o two' told told' =
       let both : Some two ≡ Some two' = sym told ∙ told' in
       let one : two ≡ two' = cc in
       subst (HoldsSecond clients m j) one holds
 
   -- no call on the disk was made
-  pub memory_unmade : (o : Outside) (result : Result JournalValue CompactionFault) → o.files ≡ Some two
+  pub memory_unmade : (o : Outside) (result : Result JournalValue CompactionFault)
+      → o.files ≡ Some two
       → result ≡ Err fault.Memory → CompactsJournal clients m j o o result
   memory_unmade o result told is =
-      subst (λ (r : Result JournalValue CompactionFault). CompactsJournal clients m j o o r) (sym is)
-      (record { moments = unmade clients m j two few holds o told; ends = λ two' told'. one_told o two' told told' })
+      subst (λ (r : Result JournalValue CompactionFault). CompactsJournal clients m j o o r)
+      (sym is)
+      (record {
+        moments = unmade clients m j two few holds o told;
+        ends = λ two' told'. one_told o two' told told';
+      })
 
-  pub full_unmade : (o : Outside) → o.files ≡ Some two → CompactsJournal clients m j o o (Err fault.Full)
+  pub full_unmade : (o : Outside) → o.files ≡ Some two → CompactsJournal clients m j o o
+      (Err fault.Full)
   full_unmade o told =
-      record { moments = unmade clients m j two few holds o told; ends = λ two' told'. one_told o two' told told' }
+      record {
+        moments = unmade clients m j two few holds o told;
+        ends = λ two' told'. one_told o two' told told';
+      }
 
   -- a call on the disk failed before the gate was opened
-  pub begun_failed : (o o' : Outside) (result : Result JournalValue CompactionFault) → o.files ≡ Some two
+  pub begun_failed : (o o' : Outside) (result : Result JournalValue CompactionFault)
+      → o.files ≡ Some two
       → EndsOrStays (1 - m.file) o o' → result ≡ Err fault.DiskFault
       → CompactsJournal clients m j o o' result
   begun_failed o o' result told stays is =
-      subst (λ (r : Result JournalValue CompactionFault). CompactsJournal clients m j o o' r) (sym is)
-      (record { moments = stays_either clients m j two few holds o o' (stays two told); ends = λ two' told'. tt })
+      subst (λ (r : Result JournalValue CompactionFault). CompactsJournal clients m j o o' r)
+      (sym is)
+      (record {
+        moments = stays_either clients m j two few holds o o' (stays two told);
+        ends = λ two' told'. tt;
+      })
 
 -- ---- the other file is begun and written
 
@@ -173,24 +206,32 @@ pub stays_then : (file generation : ℕ) (o0 o1 o2 : Outside) → EndsOrStays fi
 stays_then file generation o0 o1 o2 first run becomes second two told =
     let Q : List ℕ → Type 0 = BeforeOrShut (file_of two file).now in
     let mid = becomes_told (PreparesJournal file 2 generation) o0.files o1.files two told becomes in
-    let shut = passed_before (λ left. is_open left ≡ false) two mid.0 file o0 o1 o2 mid.2.other run.same_links
+    let shut = passed_before (λ left. is_open left ≡ false) two mid.0 file o0 o1 o2 mid.2.other
+    run.same_links
     (second mid.0 mid.1) in
     moments_then o0 o1 o2 (FileMoment Q two (sent_of o0.links.told) file) (first two told)
     (moments_map o1 o2 (FileMoment (λ left. is_open left ≡ false) two (sent_of o0.links.told) file)
     (FileMoment Q two (sent_of o0.links.told) file)
-    (λ x moment. record { this = inr moment.this; other = moment.other; nothing_sent = moment.nothing_sent }) shut)
+    (λ x moment. record {
+      this = inr moment.this;
+      other = moment.other;
+      nothing_sent = moment.nothing_sent;
+    }) shut)
 
 -- no memory was found while it was written, or a call on the disk failed
-module _ (clients : Meaning) (m : JournalValue) (j : List (List Entry)) (two : Two File) (few : m.file < 2)
+module _ (clients : Meaning) (m : JournalValue) (j : List (List Entry)) (two : Two File)
+    (few : m.file < 2)
     (holds : HoldsSecond clients m j two) where
   written_so : (file generation : ℕ) (o0 o1 o2 : Outside) (e : MigrationFault) → file ≡ 1 - m.file
       → o0.files ≡ Some two → RelatesTold (PreparesJournal file 2 generation) o0.files o1.files
-      → LeavesIdle {A = Unit {0}} file o1.files o2.files (Err e) → (two' : Two File) → o2.files ≡ Some two'
+      → LeavesIdle {A = Unit {0}} file o1.files o2.files (Err e) → (two' : Two File)
+      → o2.files ≡ Some two'
       → FilesHoldCompacted clients m j (Err (fault_of e)) two'
   written_so file generation o0 o1 o2 migration.DiskFault is told becomes idle two' told' = tt
   written_so file generation o0 o1 o2 migration.Memory is told becomes idle two' told' =
       let all : RelatesTold (StaysIdle file) o0.files o2.files =
-      becomes_then (PreparesJournal file 2 generation) (StaysIdle file) (StaysIdle file) o0.files o1.files o2.files
+      becomes_then (PreparesJournal file 2 generation) (StaysIdle file) (StaysIdle file) o0.files
+      o1.files o2.files
       (λ a b c x y. record { other = y.other ∙ x.other; idle = y.idle }) becomes idle in
       let new = becomes_told (StaysIdle file) o0.files o2.files two told all in
       let both : Some new.0 ≡ Some two' = sym new.1 ∙ told' in
@@ -202,14 +243,17 @@ module _ (clients : Meaning) (m : JournalValue) (j : List (List Entry)) (two : T
 
   pub written_failed : (file generation : ℕ) (o0 o1 o2 : Outside) (e : MigrationFault)
       (result : Result JournalValue CompactionFault) → file ≡ 1 - m.file → o0.files ≡ Some two
-      → EndsOrStays file o0 o1 → DiskRun o0 o1 → RelatesTold (PreparesJournal file 2 generation) o0.files o1.files
+      → EndsOrStays file o0 o1 → DiskRun o0 o1
+      → RelatesTold (PreparesJournal file 2 generation) o0.files o1.files
       → StaysShut file o1 o2
       → LeavesIdle {A = Unit {0}} file o1.files o2.files (Err e) → result ≡ Err (fault_of e)
       → CompactsJournal clients m j o0 o2 result
   written_failed file generation o0 o1 o2 e result is told begun run becomes shut idle answer =
       let stays : EndsOrStays (1 - m.file) o0 o2 =
-      subst (λ (k : ℕ). EndsOrStays k o0 o2) is (stays_then file generation o0 o1 o2 begun run becomes shut) in
-      subst (λ (r : Result JournalValue CompactionFault). CompactsJournal clients m j o0 o2 r) (sym answer)
+      subst (λ (k : ℕ). EndsOrStays k o0 o2) is
+      (stays_then file generation o0 o1 o2 begun run becomes shut) in
+      subst (λ (r : Result JournalValue CompactionFault). CompactsJournal clients m j o0 o2 r)
+      (sym answer)
       (record {
         moments = stays_either clients m j two few holds o0 o2 (stays two told);
         ends = λ two' told'. written_so file generation o0 o1 o2 e is told becomes idle two' told';

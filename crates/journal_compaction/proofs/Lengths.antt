@@ -1,5 +1,6 @@
 -- How long the spellings are that a brief account has.
-use Rattle.std.proofs.Common.{◌≡◌, ℕ, ◌-◌, ◌≤◌, Bool, true, false, cond, List, [], ◌∷◌, ◌++◌, length, length-append}
+use Rattle.std.proofs.Common.{◌≡◌, ℕ, ◌-◌, ◌≤◌, Bool, true, false, cond, List, [], ◌∷◌, ◌++◌}
+use Rattle.std.proofs.Common.{length, length-append}
 use Rattle.std.proofs.Common.{refl, arith, Option, Some, None}
 use Rattle.std.specs.Prelude.{not, ◌&&◌, nat_lt, slice_get}
 use Rattle.std.specs.Int.{w32, w64, to_be_bytes}
@@ -14,12 +15,14 @@ use Rattle.sync_rules.specs.declared.states.Origin.TheVariants as origin
 use Rattle.sync_rules.specs.Facts.{Facts, Held, Id, Known, level_at, row_at, wanted_from}
 use Rattle.entry_codec.specs.declared.naming.Format.TheVariants as kind
 use Rattle.entry_codec.specs.Naming.{held_bytes}
-use Rattle.entry_codec.specs.Spelling.{IsDef, IsEntry, IsId, counted, flags_byte, level_byte, message_bytes}
+use Rattle.entry_codec.specs.Spelling.{IsDef, IsEntry, IsId, counted, flags_byte, level_byte}
+use Rattle.entry_codec.specs.Spelling.{message_bytes}
 use Rattle.entry_codec.specs.Spelling.{origin_bytes, spelling_in}
 use Rattle.retry_table.specs.Table.{tried_of}
 use Rattle.journal_compaction.specs.declared.items.Item.{Item}
 use Rattle.journal_compaction.specs.declared.items.Item.TheVariants as item
-use Rattle.journal_compaction.specs.Items.{bytes_of, entry_of, group_entry, id_at, is_alone, kept_entry, level_entry}
+use Rattle.journal_compaction.specs.Items.{bytes_of, entry_of, group_entry, id_at, is_alone}
+use Rattle.journal_compaction.specs.Items.{kept_entry, level_entry}
 use Rattle.journal_compaction.specs.Items.{want_entry}
 use Rattle.journal_compaction.specs.Paging.{left_after, page_for}
 use Rattle.journal_compaction.specs.Writing.{HasSpace}
@@ -59,7 +62,8 @@ module _ (names : List (List ℕ)) where
         length-append m.group (to_be_bytes w64 m.timestamp ++ counted m.body),
       )
 
-  step_short : (id : Id) → Short (entry.Judged id) 34 × Short (entry.Deliver id) 34 × Short (entry.Invalid id) 34
+  step_short : (id : Id) → Short (entry.Judged id) 34 × Short (entry.Deliver id) 34 × Short
+      (entry.Invalid id) 34
   unfolding spelling_in
   step_short id = (omega arith, omega arith, omega arith)
 
@@ -88,7 +92,8 @@ module _ (names : List (List ℕ)) where
   group_item None is = omega (arith, brief_short 0)
   group_item (Some g) is = omega (arith, group_short g.def is)
 
-  level_item : (f : Facts) (c : ℕ) (o : Option Known) → IsEntry (level_entry f c o) → Short (level_entry f c o) 32813
+  level_item : (f : Facts) (c : ℕ) (o : Option Known) → IsEntry (level_entry f c o)
+      → Short (level_entry f c o) 32813
   level_item f c None is = omega (arith, brief_short 0)
   level_item f c (Some g) is = omega (arith, level_short c g.id (level_at f.levels c g.id) is.1)
 
@@ -112,9 +117,11 @@ long_item f (item.Deliver n) is = omega (arith, (step_short (names_of f) (id_at 
 long_item f (item.Invalid n) is = omega (arith, (step_short (names_of f) (id_at f n)).2)
 long_item f (item.Row c n) is =
     omega (arith, tried_short (names_of f) (tried_of c (id_at f n) (row_at f.rows c (id_at f n))))
-long_item f (item.Want c n) is = omega (arith, want_item (names_of f) c (slice_get (wanted_from f.wanted c) n) is)
+long_item f (item.Want c n) is =
+    omega (arith, want_item (names_of f) c (slice_get (wanted_from f.wanted c) n) is)
 
-pub short_item : (f : Facts) (i : Item) → is_alone i ≡ false → IsEntry (entry_of f i) → length (bytes_of f i) ≤ 34
+pub short_item : (f : Facts) (i : Item) → is_alone i ≡ false → IsEntry (entry_of f i)
+    → length (bytes_of f i) ≤ 34
 short_item f item.Brief joined is = cc
 short_item f (item.Contact c) joined is = cc
 short_item f (item.Group n) joined is = cc
@@ -123,17 +130,22 @@ short_item f (item.Kept n) joined is = cc
 short_item f (item.Judged n) joined is = (step_short (names_of f) (id_at f n)).0
 short_item f (item.Deliver n) joined is = (step_short (names_of f) (id_at f n)).1
 short_item f (item.Invalid n) joined is = (step_short (names_of f) (id_at f n)).2
-short_item f (item.Row c n) joined is = tried_short (names_of f) (tried_of c (id_at f n) (row_at f.rows c (id_at f n)))
-short_item f (item.Want c n) joined is = want_item (names_of f) c (slice_get (wanted_from f.wanted c) n) is
+short_item f (item.Row c n) joined is =
+    tried_short (names_of f) (tried_of c (id_at f n) (row_at f.rows c (id_at f n)))
+short_item f (item.Want c n) joined is =
+    want_item (names_of f) c (slice_get (wanted_from f.wanted c) n) is
 
 -- ---- the space of a payload
 
-space_joined : (left : ℕ) (page bytes : List ℕ) → nat_lt 0 left ≡ true → HasSpace left page → length bytes ≤ 34
+space_joined : (left : ℕ) (page bytes : List ℕ) → nat_lt 0 left ≡ true → HasSpace left page
+    → length bytes ≤ 34
     → HasSpace (left - 1) (page ++ bytes)
-space_joined left page bytes more space few = omega (arith, ltb-true 0 left more, space, few, length-append page bytes)
+space_joined left page bytes more space few =
+    omega (arith, ltb-true 0 left more, space, few, length-append page bytes)
 
 -- there is space behind an item
-pub space_after : (f : Facts) (most left : ℕ) (page : List ℕ) (i : Item) → 1 ≤ most → most ≤ 1000 → HasSpace left page
+pub space_after : (f : Facts) (most left : ℕ) (page : List ℕ) (i : Item) → 1 ≤ most → most ≤ 1000
+    → HasSpace left page
     → IsEntry (entry_of f i)
     → HasSpace (left_after most left i) (page_for left page i ++ bytes_of f i)
 space_after f most left page i some few space is =

@@ -23,17 +23,21 @@ module _ (clients : Meaning) (f : Facts) (p : Plan) (limit len : ℕ) (few : lim
   within_limit within = omega (arith, within, few, is, plan_weighs clients f p plan)
 
   -- there is room for all frames behind the beginning
-  pub frames_fit : (end : ℕ) → end ≡ 15 → len ≤ limit → end + frames_len (plan_pages f p) ≤ MAX_JOURNAL
-  frames_fit end begun within = omega (arith, begun, within_limit within, few, plan_end clients f p plan)
+  pub frames_fit : (end : ℕ) → end ≡ 15 → len ≤ limit → end + frames_len
+      (plan_pages f p) ≤ MAX_JOURNAL
+  frames_fit end begun within =
+      omega (arith, begun, within_limit within, few, plan_end clients f p plan)
 
 -- a fault while it was written
-weighs_fault : (clients : Meaning) (f : Facts) (limit : ℕ) (e : MigrationFault) → compacted_len clients f ≤ limit
+weighs_fault : (clients : Meaning) (f : Facts) (limit : ℕ) (e : MigrationFault)
+    → compacted_len clients f ≤ limit
     → WeighsAccount clients f limit (Err (fault_of e))
 weighs_fault clients f limit migration.Memory within = tt
 weighs_fault clients f limit migration.DiskFault within = within
 
 pub fault_weighs : (clients : Meaning) (f : Facts) (limit : ℕ) (e : MigrationFault)
-    (result : Result JournalValue CompactionFault) → compacted_len clients f ≤ limit → result ≡ Err (fault_of e)
+    (result : Result JournalValue CompactionFault) → compacted_len clients f ≤ limit
+    → result ≡ Err (fault_of e)
     → WeighsAccount clients f limit result
 fault_weighs clients f limit e result within is =
     subst (λ (r : Result JournalValue CompactionFault). WeighsAccount clients f limit r) (sym is)

@@ -1,5 +1,6 @@
 -- What items name is held, and what they say may be written.
-use Rattle.std.proofs.Common.{◌≡◌, ℕ, ◌<◌, ◌≤◌, Bool, true, false, List, [], ◌∷◌, length, take, refl, sym, ap, subst}
+use Rattle.std.proofs.Common.{◌≡◌, ℕ, ◌<◌, ◌≤◌, Bool, true, false, List, [], ◌∷◌, length, take}
+use Rattle.std.proofs.Common.{refl, sym, ap, subst}
 use Rattle.std.proofs.Common.{arith, zero, suc, nat_eq, ne_eqb}
 use Rattle.std.specs.Prelude.{not, ◌&&◌, ◌||◌, slice_get}
 use Rattle.std.proofs.lemmas.List.{take_all}
@@ -12,15 +13,18 @@ use Rattle.entry_codec.specs.Spelling.{EntryNames, IsStated}
 use Rattle.retry_table.specs.Table.{tried_of}
 use Rattle.journal_compaction.specs.declared.items.Item.{Item}
 use Rattle.journal_compaction.specs.declared.items.Item.TheVariants as item
-use Rattle.journal_compaction.specs.Items.{IsItem, entry_of, group_entry, id_of, kept_entry, level_entry, want_entry}
+use Rattle.journal_compaction.specs.Items.{IsItem, entry_of, group_entry, id_of, kept_entry}
+use Rattle.journal_compaction.specs.Items.{level_entry, want_entry}
 use Rattle.journal_compaction.proofs.Sections.{there}
 
-among : (hs : List Held) (n : ℕ) → n < length hs → is_among (ids_of_held hs) (id_of (slice_get hs n)) ≡ true
+among : (hs : List Held) (n : ℕ) → n < length hs → is_among (ids_of_held hs)
+    (id_of (slice_get hs n)) ≡ true
 among [] n few = absurd (omega (arith, few))
 among (h ∷ hs) zero few = ap (λ b. b || is_among (ids_of_held hs) h.id) (same_id_itself h.id)
 among (h ∷ hs) (suc n) few =
     let rest = among hs n (omega (arith, few)) in
-    elim (same_id h.id (id_of (slice_get hs n))) as (λ b. (b || is_among (ids_of_held hs) (id_of (slice_get hs n)))
+    elim (same_id h.id (id_of (slice_get hs n))) as (λ b.
+    (b || is_among (ids_of_held hs) (id_of (slice_get hs n)))
     ≡ true) [
       | true ↦ refl
       | false ↦ rest
@@ -37,7 +41,8 @@ module _ (f : Facts) where
       subst (λ o. EntryNames Named (group_entry o)) (sym g.1) tt
   item_named (item.Level c n) is = let g = there f.groups n is in
       subst (λ o. EntryNames Named (level_entry f c o)) (sym g.1) tt
-  item_named (item.Kept n) is = let h = there f.held n is in subst (λ o. EntryNames Named (kept_entry o)) (sym h.1) tt
+  item_named (item.Kept n) is =
+      let h = there f.held n is in subst (λ o. EntryNames Named (kept_entry o)) (sym h.1) tt
   item_named (item.Judged n) is = among f.held n is
   item_named (item.Deliver n) is = among f.held n is
   item_named (item.Invalid n) is = among f.held n is
@@ -63,9 +68,11 @@ some_kept false true asked tries expiry wait some = refl
 some_kept false false true tries expiry wait some = refl
 some_kept false false false zero expiry wait some = let none : expiry ≡ 0 = wait refl in
     absurd (let clash : nat_eq expiry 0 ≡ true = ap (λ n. nat_eq n 0) none in cc)
-some_kept false false false (suc tries) expiry wait some = ne_eqb (suc tries) 0 (λ e. omega (arith, e))
+some_kept false false false (suc tries) expiry wait some =
+    ne_eqb (suc tries) 0 (λ e. omega (arith, e))
 
-pub row_stated : (contact : ℕ) (id : Id) (r : Row) → r.tries ≤ 64 → (r.tries ≡ 0 → r.expiry ≡ 0) → is_no_row r ≡ false
+pub row_stated : (contact : ℕ) (id : Id) (r : Row) → r.tries ≤ 64 → (r.tries ≡ 0 → r.expiry ≡ 0)
+    → is_no_row r ≡ false
     → IsStated (tried_of contact id r)
 row_stated contact id r few wait some = record {
   few_tries = few;

@@ -1,5 +1,6 @@
 -- Items written one behind the other.
-use Rattle.std.proofs.Common.{◌≡◌, ℕ, ◌+◌, ◌≤◌, List, [], ◌∷◌, ◌++◌, take, Option, sym, ap, subst, ◌∙◌, arith}
+use Rattle.std.proofs.Common.{◌≡◌, ℕ, ◌+◌, ◌≤◌, List, [], ◌∷◌, ◌++◌, take, Option, sym, ap, subst}
+use Rattle.std.proofs.Common.{◌∙◌, arith}
 use Rattle.std.proofs.Common.{append_assoc}
 use Rattle.std.specs.List.{AllByRecursion}
 use Rattle.outside.specs.declared.limits.TheConstants.{MAX_JOURNAL}
@@ -9,7 +10,8 @@ use Rattle.sync_rules.specs.Facts.{Facts}
 use Rattle.entry_codec.proofs.Growing.{all_push}
 use Rattle.journal_compaction.specs.declared.items.Item.{Item}
 use Rattle.journal_compaction.specs.Items.{bytes_of}
-use Rattle.journal_compaction.specs.Paging.{closed_page, frames_len, left_after, page_for, pages, written_for}
+use Rattle.journal_compaction.specs.Paging.{closed_page, frames_len, left_after, page_for, pages}
+use Rattle.journal_compaction.specs.Paging.{written_for}
 use Rattle.journal_compaction.specs.Writing.{WritesPayloads, Written}
 use Rattle.journal_compaction.proofs.Weighing.{frames-append}
 use Rattle.journal_compaction.proofs.Working.{adding_none, adding_then}
@@ -22,29 +24,34 @@ written_none f most items page n o empty = record {
   adding = adding_none n o;
 }
 
-module _ (f : Facts) (most : ℕ) (items rest : List Item) (i : Item) (left : ℕ) (page : List ℕ) (n0 n1 : JournalValue)
+module _ (f : Facts) (most : ℕ) (items rest : List Item) (i : Item) (left : ℕ) (page : List ℕ)
+    (n0 n1 : JournalValue)
     (o0 o1 : Option (Two File))
     (so_far : Written f most items (i ∷ rest) left page n0 n1 o0 o1) where
   -- an item more
   pub written_more : (left' : ℕ) (page' : List ℕ) (n2 : JournalValue) (o2 : Option (Two File))
       → left' ≡ left_after most left i → page' ≡ page_for left page i ++ bytes_of f i
-      → WritesPayloads n1 n2 (written_for left page i) o1 o2 → Written f most items rest left' page' n0 n2 o0 o2
+      → WritesPayloads n1 n2 (written_for left page i) o1 o2
+      → Written f most items rest left' page' n0 n2 o0 o2
   written_more left' page' n2 o2 same alike adding =
-      let next = pages f most (left_after most left i) (page_for left page i ++ bytes_of f i) rest in
+      let next = pages f most (left_after most left i) (page_for left page i ++ bytes_of f i)
+      rest in
       let here : pages f most left' page' rest ≡ next = λ k. pages f most (same k) (alike k) rest in
       record {
         added = so_far.added ++ written_for left page i;
         goes_on =
             ap (λ (ps : List (List ℕ)). (so_far.added ++ written_for left page i) ++ ps) here
             ∙ append_assoc so_far.added (written_for left page i) next ∙ so_far.goes_on;
-        adding = adding_then n0 n1 n2 so_far.added (written_for left page i) o0 o1 o2 so_far.adding adding;
+        adding = adding_then n0 n1 n2 so_far.added (written_for left page i) o0 o1 o2 so_far.adding
+            adding;
       }
 
   -- there is room for what is written before it
   pub more_room : n0.end + frames_len (pages f most 0 [] items) ≤ MAX_JOURNAL
       → n1.end + frames_len (written_for left page i) ≤ MAX_JOURNAL
   more_room room =
-      let next = pages f most (left_after most left i) (page_for left page i ++ bytes_of f i) rest in
+      let next = pages f most (left_after most left i) (page_for left page i ++ bytes_of f i)
+      rest in
       omega (
         arith,
         room,
@@ -55,11 +62,13 @@ module _ (f : Facts) (most : ℕ) (items rest : List Item) (i : Item) (left : �
       )
 
 -- no item is left
-module _ (f : Facts) (most : ℕ) (items rest : List Item) (left : ℕ) (page : List ℕ) (n0 n1 : JournalValue)
+module _ (f : Facts) (most : ℕ) (items rest : List Item) (left : ℕ) (page : List ℕ)
+    (n0 n1 : JournalValue)
     (o0 o1 : Option (Two File)) (none : rest ≡ [])
     (so_far : Written f most items rest left page n0 n1 o0 o1) where
   last : so_far.added ++ closed_page page ≡ pages f most 0 [] items
-  last = sym (ap (λ (l : List Item). so_far.added ++ pages f most left page l) none) ∙ so_far.goes_on
+  last =
+      sym (ap (λ (l : List Item). so_far.added ++ pages f most left page l) none) ∙ so_far.goes_on
 
   pub last_room : n0.end + frames_len (pages f most 0 [] items) ≤ MAX_JOURNAL
       → n1.end + frames_len (closed_page page) ≤ MAX_JOURNAL
@@ -73,13 +82,16 @@ module _ (f : Facts) (most : ℕ) (items rest : List Item) (left : ℕ) (page : 
             (closed_page page),
       )
 
-  pub written_all : (n2 : JournalValue) (o2 : Option (Two File)) → WritesPayloads n1 n2 (closed_page page) o1 o2
+  pub written_all : (n2 : JournalValue) (o2 : Option (Two File)) → WritesPayloads n1 n2
+      (closed_page page) o1 o2
       → WritesPayloads n0 n2 (pages f most 0 [] items) o0 o2
   written_all n2 o2 adding =
       subst (λ (ps : List (List ℕ)). WritesPayloads n0 n2 ps o0 o2) last
       (adding_then n0 n1 n2 so_far.added (closed_page page) o0 o1 o2 so_far.adding adding)
 
 -- what holds of the items so far holds of one more
-pub all_more : {A : Type 0} (P : A → Type 0) (xs : List A) (i : ℕ) (x : A) → take (i + 1) xs ≡ take i xs ++ x ∷ []
+pub all_more : {A : Type 0} (P : A → Type 0) (xs : List A) (i : ℕ) (x : A)
+    → take (i + 1) xs ≡ take i xs ++ x ∷ []
     → AllByRecursion P (take i xs) → P x → AllByRecursion P (take (i + 1) xs)
-all_more P xs i x is all here = subst (AllByRecursion P) (sym is) (all_push P (take i xs) x all here)
+all_more P xs i x is all here =
+    subst (AllByRecursion P) (sym is) (all_push P (take i xs) x all here)

@@ -1,5 +1,6 @@
 -- What is written of a plan is the brief account.
-use Rattle.std.proofs.Common.{◌≡◌, ℕ, zero, suc, ◌+◌, ◌<◌, Bool, true, false, cond, List, [], ◌∷◌, ◌++◌, length, map}
+use Rattle.std.proofs.Common.{◌≡◌, ℕ, zero, suc, ◌+◌, ◌<◌, Bool, true, false, cond, List, [], ◌∷◌}
+use Rattle.std.proofs.Common.{◌++◌, length, map}
 use Rattle.std.proofs.Common.{refl, sym, ◌∙◌, ap, subst, arith, append_assoc, Some}
 use Rattle.std.specs.Prelude.{nat_lt, slice_get}
 use Rattle.std.specs.List.{AllByRecursion}
@@ -9,7 +10,8 @@ use Rattle.sync_rules.specs.declared.entries.Entry.{Entry}
 use Rattle.sync_rules.specs.Clients.{Meaning}
 use Rattle.sync_rules.specs.Facts.{Facts}
 use Rattle.brief_account.specs.Account.{brief_of, told_of}
-use Rattle.brief_account.specs.Brief.{closed, each_alone, filled, head_entries, is_kept, never_alone, peer_entries}
+use Rattle.brief_account.specs.Brief.{closed, each_alone, filled, head_entries, is_kept}
+use Rattle.brief_account.specs.Brief.{never_alone, peer_entries}
 use Rattle.entry_codec.specs.declared.naming.Format.TheVariants as kind
 use Rattle.entry_codec.specs.Payloads.{journal_end, names_of}
 use Rattle.entry_codec.specs.Spelling.{IsEntry}
@@ -20,8 +22,10 @@ use Rattle.journal_compaction.specs.declared.items.Item.TheVariants as item
 use Rattle.journal_compaction.specs.declared.plan.Plan.{Plan}
 use Rattle.journal_compaction.specs.Items.{IsItem, entry_of, is_alone, is_peer, is_told, kept_entry}
 use Rattle.journal_compaction.specs.Paging.{frames_len, pages}
-use Rattle.journal_compaction.specs.Planning.{AreItemsKnown, AreWritten, IsPlan, plan_len, plan_pages}
-use Rattle.journal_compaction.proofs.Filling.{alone_written, filled_written, written, written-append}
+use Rattle.journal_compaction.specs.Planning.{AreItemsKnown, AreWritten, IsPlan, plan_len}
+use Rattle.journal_compaction.specs.Planning.{plan_pages}
+use Rattle.journal_compaction.proofs.Filling.{alone_written, filled_written, written}
+use Rattle.journal_compaction.proofs.Filling.{written-append}
 use Rattle.journal_compaction.proofs.Spelled.{end_written}
 use Rattle.journal_compaction.proofs.Weighing.{all_len, frames-append}
 
@@ -32,8 +36,10 @@ there [] n few = absurd (omega (arith, few))
 there (x ∷ xs) zero few = (x, refl)
 there (x ∷ xs) (suc n) few = there xs n (omega (arith, few))
 
-told_alone : (f : Facts) (i : Item) → IsItem f i → is_told i ≡ true → is_kept (entry_of f i) ≡ is_alone i
-told_alone f (item.Kept n) is told = let h = there f.held n is in ap (λ o. is_kept (kept_entry o)) h.1
+told_alone : (f : Facts) (i : Item) → IsItem f i → is_told i ≡ true
+    → is_kept (entry_of f i) ≡ is_alone i
+told_alone f (item.Kept n) is told =
+    let h = there f.held n is in ap (λ o. is_kept (kept_entry o)) h.1
 told_alone f (item.Judged n) is told = refl
 told_alone f (item.Deliver n) is told = refl
 told_alone f (item.Invalid n) is told = refl
@@ -73,7 +79,8 @@ module _ (clients : Meaning) (f : Facts) (p : Plan) (plan : IsPlan clients f p) 
   names : List (List ℕ)
   names = names_of f
 
-  head_written : pages f MAX_STEPS 0 [] p.head.items ≡ written (names_of f) (each_alone (head_entries f))
+  head_written : pages f MAX_STEPS 0 [] p.head.items ≡ written (names_of f)
+      (each_alone (head_entries f))
   head_written =
       alone_written f MAX_STEPS [] p.head.items plan.head.kinds
       ∙ ap (λ (es : List Entry). written (names_of f) (each_alone es)) plan.head.means
@@ -83,13 +90,16 @@ module _ (clients : Meaning) (f : Facts) (p : Plan) (plan : IsPlan clients f p) 
   told_written =
       filled_written f MAX_STEPS is_kept (omega arith) p.told.items
       (told_suit f p.told.items plan.told.there plan.told.kinds)
-      ∙ ap (λ (es : List Entry). written (names_of f) (filled MAX_STEPS is_kept [] es)) plan.told.means
+      ∙ ap (λ (es : List Entry). written (names_of f) (filled MAX_STEPS is_kept [] es))
+      plan.told.means
 
   peers_written : pages f MAX_ROWS 0 [] p.peers.items
       ≡ written (names_of f) (filled MAX_ROWS never_alone [] (peer_entries f f.contacts))
   peers_written =
-      filled_written f MAX_ROWS never_alone (omega arith) p.peers.items (peers_suit f p.peers.items plan.peers.kinds)
-      ∙ ap (λ (es : List Entry). written (names_of f) (filled MAX_ROWS never_alone [] es)) plan.peers.means
+      filled_written f MAX_ROWS never_alone (omega arith) p.peers.items
+      (peers_suit f p.peers.items plan.peers.kinds)
+      ∙ ap (λ (es : List Entry). written (names_of f) (filled MAX_ROWS never_alone [] es))
+      plan.peers.means
 
   pub plan_written : plan_pages f p ≡ written (names_of f) (brief_of clients f)
   plan_written =
@@ -106,7 +116,8 @@ module _ (clients : Meaning) (f : Facts) (p : Plan) (plan : IsPlan clients f p) 
   pub plan_end : journal_end kind.Short (brief_of clients f) ≡ 15 + frames_len (plan_pages f p)
   plan_end = end_written (names_of f) (brief_of clients f) ∙ ap end_of (sym plan_written)
 
-  pub plan_weighs : plan_len f p ≡ journal_end kind.Short (brief_of clients f) + room_of kind.Short f
+  pub plan_weighs : plan_len f p ≡ journal_end kind.Short
+      (brief_of clients f) + room_of kind.Short f
   plan_weighs =
       let head = pages f MAX_STEPS 0 [] p.head.items in
       let told = pages f MAX_STEPS 0 [] p.told.items in
@@ -155,12 +166,16 @@ module _ (P : Entry → Type 0) where
       elim (alone e) as (λ b. Batches (cond b (closed front ++ (e ∷ []) ∷ filled most alone [] es)
       (cond (nat_lt (length front) most) (filled most alone (front ++ e ∷ []) es)
       (front ∷ filled most alone (e ∷ []) es)))) [
-        | true ↦ all-append (closed front) ((e ∷ []) ∷ filled most alone [] es) (all_closed front first)
+        | true ↦ all-append (closed front) ((e ∷ []) ∷ filled most alone [] es)
+            (all_closed front first)
             (single, all_filled most alone [] es tt all.1)
         | false ↦
             elim (nat_lt (length front) most) as
-            (λ b. Batches (cond b (filled most alone (front ++ e ∷ []) es) (front ∷ filled most alone (e ∷ []) es))) [
-              | true ↦ all_filled most alone (front ++ e ∷ []) es (all_push P front e first all.0) all.1
+            (λ b.
+            Batches (cond b (filled most alone (front ++ e ∷ []) es)
+            (front ∷ filled most alone (e ∷ []) es))) [
+              | true ↦ all_filled most alone (front ++ e ∷ []) es (all_push P front e first all.0)
+                  all.1
               | false ↦ (first, all_filled most alone (e ∷ []) es single all.1)
             ]
       ]
@@ -170,13 +185,15 @@ pub brief_within : (clients : Meaning) (f : Facts) (p : Plan) → IsPlan clients
 brief_within clients f p plan within =
     let of : (items : List Item) (es : List Entry) → map (entry_of f) items ≡ es
     → AllByRecursion (λ i. IsEntry (entry_of f i)) items → AllByRecursion IsEntry es =
-    λ items es is all. subst (λ (l : List Entry). AllByRecursion IsEntry l) is (all_map IsEntry f items all) in
+    λ items es is all. subst (λ (l : List Entry). AllByRecursion IsEntry l) is
+    (all_map IsEntry f items all) in
     let a = each_alone (head_entries f) in
     let b = filled MAX_STEPS is_kept [] (told_of clients f) in
     let c = filled MAX_ROWS never_alone [] (peer_entries f f.contacts) in
     all-append IsEntry (a ++ b) c
     (all-append IsEntry a b
-    (all_alone IsEntry (head_entries f) (of p.head.items (head_entries f) plan.head.means within.head))
+    (all_alone IsEntry (head_entries f)
+    (of p.head.items (head_entries f) plan.head.means within.head))
     (all_filled IsEntry MAX_STEPS is_kept [] (told_of clients f) tt
     (of p.told.items (told_of clients f) plan.told.means within.told)))
     (all_filled IsEntry MAX_ROWS never_alone [] (peer_entries f f.contacts) tt

@@ -1,4 +1,5 @@
--- A journal of format 2 of which the brief account is written into the other file, and then made the journal.
+-- A journal of format 2 of which the brief account is written into the other file, and then made
+-- the journal.
 use Rattle.std.specs.Prelude.{◌≡◌, ◌⊎◌, ℕ, ◌+◌, ◌<◌, ◌≤◌, List, Result, Ok, Err, Some}
 use Rattle.outside.specs.Files.{Two, File}
 use Rattle.outside.specs.Links.{sent_of}
@@ -16,22 +17,24 @@ use Rattle.journal_migration.specs.Migrating.{HoldsSecond, other_number}
 use Rattle.journal_compaction.specs.declared.fault.CompactionFault.{CompactionFault}
 use Rattle.journal_compaction.specs.declared.fault.CompactionFault.TheVariants as fault
 
--- where the brief account of a journal with these facts ends, and the room behind it for the steps that are left
+-- where the brief account of a journal with these facts ends, and the room behind it for the steps
+-- that are left
 abbrev pub compacted_len : Meaning → Facts → ℕ
 compacted_len clients f = journal_end kind.Short (brief_of clients f) + room_of kind.Short f
 
--- the journal that a brief account of these facts makes of another: in the other file, in format 2, with the next
--- generation
+-- the journal that a brief account of these facts makes of another: in the other file, in format 2,
+-- with the next generation
 pub record IsCompacted (clients : Meaning) (f : Facts) (m n : JournalValue) : Type 0 where
   pub file_is : n.file ≡ other_number m.file
   pub format_is : n.format ≡ 2
   pub generation_is : n.generation ≡ m.generation + 1
   pub end_is : n.end ≡ journal_end kind.Short (brief_of clients f)
 
--- Full comes exactly where the brief account and its room pass the limit. Nothing is said of want of memory, which
--- may come
+-- Full comes exactly where the brief account and its room pass the limit. Nothing is said of want
+-- of memory, which may come
 -- before the account is known.
-abbrev pub WeighsAccount : Meaning → Facts → (limit : ℕ) → Result JournalValue CompactionFault → Type 0
+abbrev pub WeighsAccount : Meaning → Facts → (limit : ℕ) → Result JournalValue CompactionFault
+    → Type 0
 WeighsAccount clients f limit (Ok n) = compacted_len clients f ≤ limit
 WeighsAccount clients f limit (Err fault.Full) = limit < compacted_len clients f
 WeighsAccount clients f limit (Err fault.Memory) = Unit {0}
@@ -40,20 +43,23 @@ WeighsAccount clients f limit (Err fault.DiskFault) = compacted_len clients f �
 -- a moment whose files stand for the journal or for its brief account, nothing more being sent
 pub record StandsForEither (clients : Meaning) (j : List (List Entry)) (sent : List (List ℕ))
     (m : Moment) : Type 0 where
-  pub stands_for : (stands clients m.files ≡ journal j) ⊎ (stands clients m.files ≡ journal (brief j))
+  pub stands_for : (stands clients m.files ≡ journal j)
+      ⊎ (stands clients m.files ≡ journal (brief j))
   pub nothing_sent : m.sent ≡ sent
 
 -- what the files hold at the end, by the answer
-abbrev pub FilesHoldCompacted : Meaning → JournalValue → List (List Entry) → Result JournalValue CompactionFault → Two File
+abbrev pub FilesHoldCompacted : Meaning → JournalValue → List (List Entry)
+    → Result JournalValue CompactionFault → Two File
     → Type 0
 FilesHoldCompacted clients m j (Ok n) two = HoldsSecond clients n (brief j) two
 FilesHoldCompacted clients m j (Err fault.Full) two = HoldsSecond clients m j two
 FilesHoldCompacted clients m j (Err fault.Memory) two = HoldsSecond clients m j two
 FilesHoldCompacted clients m j (Err fault.DiskFault) two = Unit {0}
 
--- at each moment the files stand for the journal or for its brief account, and at the end they hold what the answer
--- says
-pub record CompactsJournal (clients : Meaning) (m : JournalValue) (j : List (List Entry)) (old new : Outside)
+-- at each moment the files stand for the journal or for its brief account, and at the end they hold
+-- what the answer says
+pub record CompactsJournal (clients : Meaning) (m : JournalValue) (j : List (List Entry))
+    (old new : Outside)
     (result : Result JournalValue CompactionFault) : Type 0 where
   pub moments : MomentsAre old new (StandsForEither clients j (sent_of old.links.told))
   pub ends : (two : Two File) → new.files ≡ Some two → FilesHoldCompacted clients m j result two

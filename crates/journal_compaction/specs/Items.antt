@@ -1,10 +1,13 @@
--- What is told in a brief account, item by item: each stands for an entry, and names by numbers what the state has.
-use Rattle.std.specs.Prelude.{◌≡◌, ℕ, ◌<◌, Bool, true, false, not, List, [], length, ◌++◌, map, Option, Some, None}
+-- What is told in a brief account, item by item: each stands for an entry, and names by numbers
+-- what the state has.
+use Rattle.std.specs.Prelude.{◌≡◌, ℕ, ◌<◌, Bool, true, false, not, List, [], length, ◌++◌, map}
+use Rattle.std.specs.Prelude.{Option, Some, None}
 use Rattle.std.specs.Prelude.{slice_get}
 use Rattle.std.specs.List.{AllByRecursion}
 use Rattle.sync_rules.specs.declared.entries.Entry.{Entry}
 use Rattle.sync_rules.specs.declared.entries.Entry.TheVariants as entry
-use Rattle.sync_rules.specs.Facts.{Facts, Held, Id, Known, is_invisible, is_no_row, level_at, row_at, wanted_from}
+use Rattle.sync_rules.specs.Facts.{Facts, Held, Id, Known, is_invisible, is_no_row, level_at}
+use Rattle.sync_rules.specs.Facts.{row_at, wanted_from}
 use Rattle.entry_codec.specs.declared.naming.Format.TheVariants as kind
 use Rattle.entry_codec.specs.Payloads.{names_of}
 use Rattle.entry_codec.specs.Spelling.{spelling_in}
@@ -116,19 +119,22 @@ item_told (told.Invalid n) = item.Invalid n
 -- ---- lists of items
 
 -- these items stand for these entries, and are of this kind
-pub record AreItems (f : Facts) (of : Item → Bool) (items : List Item) (entries : List Entry) : Type 0 where
+pub record AreItems (f : Facts) (of : Item → Bool) (items : List Item)
+    (entries : List Entry) : Type 0 where
   pub means : map (entry_of f) items ≡ entries
   pub there : AllByRecursion (IsItem f) items
   pub kinds : AllByRecursion (λ i. of i ≡ true) items
 
 -- items that stand for these entries, and are of this kind, come behind others
-pub record AddsItems (f : Facts) (of : Item → Bool) (old new : List Item) (entries : List Entry) : Type 0 where
+pub record AddsItems (f : Facts) (of : Item → Bool) (old new : List Item)
+    (entries : List Entry) : Type 0 where
   pub more : List Item
   pub is : new ≡ old ++ more
   pub are : AreItems f of more entries
 
 -- ---- spellings
 
--- what an item's entry is written as, where the messages that are held are named by their numbers among all of them
+-- what an item's entry is written as, where the messages that are held are named by their numbers
+-- among all of them
 abbrev pub bytes_of : Facts → Item → List ℕ
 bytes_of f i = spelling_in kind.Short (names_of f) (entry_of f i)

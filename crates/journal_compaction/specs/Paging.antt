@@ -1,5 +1,6 @@
 -- How items are cut into payloads, and how long these are.
-use Rattle.std.specs.Prelude.{ℕ, ◌+◌, ◌-◌, Bool, cond, not, ◌&&◌, nat_lt, List, [], ◌∷◌, ◌++◌, length}
+use Rattle.std.specs.Prelude.{ℕ, ◌+◌, ◌-◌, Bool, cond, not, ◌&&◌, nat_lt, List, [], ◌∷◌, ◌++◌}
+use Rattle.std.specs.Prelude.{length}
 use Rattle.std.specs.List.{flat_map}
 use Rattle.sync_rules.specs.Facts.{Facts}
 use Rattle.outside.specs.Frames.{frame_of}
@@ -23,7 +24,8 @@ abbrev pub closed_page : List ℕ → List (List ℕ)
 closed_page [] = []
 closed_page (x ∷ page) = (x ∷ page) ∷ []
 
--- what is written before an item's entry is put into a payload: the one that was being filled, unless it is put there
+-- what is written before an item's entry is put into a payload: the one that was being filled,
+-- unless it is put there
 abbrev pub written_for : (left : ℕ) → List ℕ → Item → List (List ℕ)
 written_for left page i = cond (joins left i) [] (closed_page page)
 
@@ -31,13 +33,14 @@ written_for left page i = cond (joins left i) [] (closed_page page)
 abbrev pub page_for : (left : ℕ) → List ℕ → Item → List ℕ
 page_for left page i = cond (joins left i) page []
 
--- The payloads of items, where one with these bytes is being filled and takes so many more: an item that is to stand
--- alone
+-- The payloads of items, where one with these bytes is being filled and takes so many more: an item
+-- that is to stand alone
 -- is a payload of its own, the others fill payloads of so many.
 abbrev pub pages : Facts → (most left : ℕ) → List ℕ → List Item → List (List ℕ)
 pages f most left page [] = closed_page page
 pages f most left page (i ∷ items) =
-    written_for left page i ++ pages f most (left_after most left i) (page_for left page i ++ bytes_of f i) items
+    written_for left page i
+    ++ pages f most (left_after most left i) (page_for left page i ++ bytes_of f i) items
 
 -- the length of frames with these payloads
 abbrev pub frames_len : List (List ℕ) → ℕ
@@ -50,4 +53,5 @@ added_len f left i = cond (joins left i) 0 5 + length (bytes_of f i)
 -- the length of the frames that items fill, without writing them
 abbrev pub items_len : Facts → (most left : ℕ) → List Item → ℕ
 items_len f most left [] = 0
-items_len f most left (i ∷ items) = added_len f left i + items_len f most (left_after most left i) items
+items_len f most left (i ∷ items) =
+    added_len f left i + items_len f most (left_after most left i) items

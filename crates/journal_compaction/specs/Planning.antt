@@ -34,11 +34,13 @@ pub record AreWritten (f : Facts) (p : Plan) : Type 0 where
 -- the payloads of a plan
 abbrev pub plan_pages : Facts → Plan → List (List ℕ)
 plan_pages f p =
-    pages f MAX_STEPS 0 [] p.head.items ++ (pages f MAX_STEPS 0 [] p.told.items ++ pages f MAX_ROWS 0 [] p.peers.items)
+    pages f MAX_STEPS 0 [] p.head.items
+    ++ (pages f MAX_STEPS 0 [] p.told.items ++ pages f MAX_ROWS 0 [] p.peers.items)
 
 -- where a journal with a plan's payloads ends, and the room behind it for the steps that are left
 abbrev pub plan_len : Facts → Plan → ℕ
 plan_len f p =
-    15 + items_len f MAX_STEPS 0 p.head.items + items_len f MAX_STEPS 0 p.told.items + items_len f MAX_ROWS 0
+    15 + items_len f MAX_STEPS 0 p.head.items + items_len f MAX_STEPS 0 p.told.items
+    + items_len f MAX_ROWS 0
     p.peers.items
     + room_of kind.Short f

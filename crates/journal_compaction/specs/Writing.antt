@@ -1,5 +1,6 @@
 -- A writer of frames into a prepared file.
-use Rattle.std.specs.Prelude.{◌≡◌, ℕ, ◌+◌, ◌≤◌, ◌*◌, false, List, [], ◌++◌, length, Option, Some, Result, Ok, Err}
+use Rattle.std.specs.Prelude.{◌≡◌, ℕ, ◌+◌, ◌≤◌, ◌*◌, false, List, [], ◌++◌, length, Option, Some}
+use Rattle.std.specs.Prelude.{Result, Ok, Err}
 use Rattle.outside.specs.declared.limits.TheConstants.{MAX_FRAME}
 use Rattle.outside.specs.Disk.{RelatesTold}
 use Rattle.outside.specs.Files.{Two, File, NothingPending, file_of}
@@ -20,9 +21,11 @@ pub record IsWriterShut (n : JournalValue) (two : Two File) : Type 0 where
   pub shut : IsShut (file_of two n.file).now n.end
 
 -- frames with these payloads come behind those that the file has; the other file is as before
-pub record AppendsPayloads (file end : ℕ) (added : List (List ℕ)) (old new : Two File) : Type 0 where
+pub record AppendsPayloads (file end : ℕ) (added : List (List ℕ))
+    (old new : Two File) : Type 0 where
   pub other : other_of new file ≡ other_of old file
-  pub frames : (header : List ℕ) (payloads : List (List ℕ)) → HasFrames (file_of old file).now header payloads
+  pub frames : (header : List ℕ) (payloads : List (List ℕ))
+      → HasFrames (file_of old file).now header payloads
       → end ≡ end_of payloads → HasFrames (file_of new file).now header (payloads ++ added)
 
 -- a writer moved on by frames with these payloads
@@ -33,7 +36,8 @@ pub record MovesWriterOn (n n' : JournalValue) (added : List (List ℕ)) : Type 
   pub end_is : n'.end ≡ n.end + frames_len added
 
 -- frames with these payloads were written
-pub record WritesPayloads (n n' : JournalValue) (added : List (List ℕ)) (old new : Option (Two File)) : Type 0 where
+pub record WritesPayloads (n n' : JournalValue) (added : List (List ℕ))
+    (old new : Option (Two File)) : Type 0 where
   pub grows : MovesWriterOn n n' added
   pub adds : RelatesTold (AppendsPayloads n.file n.end added) old new
 
@@ -53,21 +57,25 @@ pub record StaysIdle (file : ℕ) (old new : Two File) : Type 0 where
   pub idle : IsFileIdle file new
 
 -- that is so where no memory was found
-abbrev pub LeavesIdle : {A : Type 0} → (file : ℕ) → (old new : Option (Two File)) → Result A MigrationFault → Type 0
+abbrev pub LeavesIdle : {A : Type 0} → (file : ℕ) → (old new : Option (Two File))
+    → Result A MigrationFault → Type 0
 LeavesIdle file old new (Ok a) = Unit {0}
 LeavesIdle file old new (Err fault.Memory) = RelatesTold (StaysIdle file) old new
 LeavesIdle file old new (Err fault.DiskFault) = Unit {0}
 
 -- ---- the payload that is being filled
 
--- a payload that takes so many more entries that are not to stand alone, each of 34 bytes at most, fits a frame
+-- a payload that takes so many more entries that are not to stand alone, each of 34 bytes at most,
+-- fits a frame
 abbrev pub HasSpace : (left : ℕ) → List ℕ → Type 0
 HasSpace left page = length page + 34 * left ≤ MAX_FRAME
 
 -- ---- all items of a list
 
--- of these items all but the rest are written, or are in the payload that is being filled and takes so many more
-pub record Written (f : Facts) (most : ℕ) (items rest : List Item) (left : ℕ) (page : List ℕ) (n n' : JournalValue)
+-- of these items all but the rest are written, or are in the payload that is being filled and takes
+-- so many more
+pub record Written (f : Facts) (most : ℕ) (items rest : List Item) (left : ℕ) (page : List ℕ)
+    (n n' : JournalValue)
     (old new : Option (Two File)) : Type 0 where
   pub added : List (List ℕ)
   pub goes_on : added ++ pages f most left page rest ≡ pages f most 0 [] items

@@ -22,16 +22,24 @@ use Rattle.journal_migration.proofs.Keeping.{begun_still, keeps_looks, keeps_the
 use Rattle.journal_migration.proofs.Shut.{begun_frames, own_still}
 use Rattle.journal_migration.proofs.Sides.{holds_on, read_file}
 
-pub copies_begun : (clients : Meaning) (f : Facts) (generation : ℕ) (j : List (List Entry)) (file : ℕ) (r n : JournalValue) (two two' : Two File) → file < 2 → HoldsFirst clients file generation j two
-    → facts j ≡ f → r.file ≡ file → r.end ≡ 15 → n ≡ fresh (1 - file) 2 (generation + 1) → PreparesJournal (1 - file) 2 (generation + 1) two two' → CopiesBatches clients f generation j r n 0 two'
+pub copies_begun : (clients : Meaning) (f : Facts) (generation : ℕ) (j : List (List Entry))
+    (file : ℕ) (r n : JournalValue) (two two' : Two File) → file < 2
+    → HoldsFirst clients file generation j two
+    → facts j ≡ f → r.file ≡ file → r.end ≡ 15 → n ≡ fresh (1 - file) 2 (generation + 1)
+    → PreparesJournal (1 - file) 2 (generation + 1) two two'
+    → CopiesBatches clients f generation j r n 0 two'
 copies_begun clients f generation j file r n two two' few holds same reader begun writer prepares =
     let header = prepares.gate ∷ marked (generation + 1) in
     let frames : HasFrames (file_of two' (1 - file)).now header [] =
-    subst (λ (b : List ℕ). HasFrames b header []) (sym (ap (λ (f : File). f.now) prepares.bytes)) (begun_frames prepares.gate (generation + 1)) in
-    let shut = shut_header (file_of two' (1 - file)).now prepares.gate (marked (generation + 1)) [] frames prepares.closed in
-    let now = holds_on clients file generation j two two' few holds (own_still two two' file few prepares.other) prepares.at_rest.settled shut in
+    subst (λ (b : List ℕ). HasFrames b header []) (sym (ap (λ (f : File). f.now) prepares.bytes))
+    (begun_frames prepares.gate (generation + 1)) in
+    let shut = shut_header (file_of two' (1 - file)).now prepares.gate (marked (generation + 1)) []
+    frames prepares.closed in
+    let now = holds_on clients file generation j two two' few holds
+    (own_still two two' file few prepares.other) prepares.at_rest.settled shut in
     let front : Front clients (read_files two') file kind.Whole [] 15 =
-    front_start clients (read_files two') file kind.Whole now.found (ap format_of (ap format_in (read_file two' file) ∙ now.format_is)) in
+    front_start clients (read_files two') file kind.Whole now.found
+    (ap format_of (ap format_in (read_file two' file) ∙ now.format_is)) in
     let At : ℕ → ℕ → Type 0 = λ t e. Front clients (read_files two') t kind.Whole [] e in
     record {
       holds = subst (λ (t : ℕ). HoldsFirst clients t generation j two') (sym reader) now;
@@ -42,29 +50,43 @@ copies_begun clients f generation j file r n two two' few holds same reader begu
       goes_on = refl;
       gate = prepares.gate;
       closed = prepares.closed;
-      frames = subst (λ (v : JournalValue). HasFrames (file_of two' v.file).now header []) (sym writer) frames;
+      frames = subst (λ (v : JournalValue). HasFrames (file_of two' v.file).now header [])
+          (sym writer) frames;
       end_is = ap (λ (v : JournalValue). v.end) writer;
       counted = refl;
     }
 
-module _ (clients : Meaning) (f : Facts) (generation : ℕ) (j : List (List Entry)) (file : ℕ) (r n : JournalValue) (o0 o1 o2 : Outside) (two : Two File) (told : o0.files ≡ Some two) (few : file < 2)
-    (holds : HoldsFirst clients file generation j two) (looks : OnlyReads o0 o1) (stays : EndsOrStays (1 - file) o1 o2) where
+module _ (clients : Meaning) (f : Facts) (generation : ℕ) (j : List (List Entry)) (file : ℕ)
+    (r n : JournalValue) (o0 o1 o2 : Outside) (two : Two File) (told : o0.files ≡ Some two)
+    (few : file < 2)
+    (holds : HoldsFirst clients file generation j two) (looks : OnlyReads o0 o1)
+    (stays : EndsOrStays (1 - file) o1 o2) where
   there : o1.files ≡ Some two
   there = looks.same_files ∙ told
 
   -- at each moment until the other file is prepared the files stand for the journal
-  pub begun_so : (P : Two File → Type 0) → ((t : Two File) → o2.files ≡ Some t → P t) → KeepsJournal clients j P o0 o2
+  pub begun_so : (P : Two File → Type 0) → ((t : Two File) → o2.files ≡ Some t → P t)
+      → KeepsJournal clients j P o0 o2
   begun_so P ends =
-      keeps_then clients j (λ t. t ≡ two) P o0 o1 o2 two told looks.run (keeps_looks clients j file generation o0 o1 two few holds told looks)
-      (λ mid at same. record { moments = begun_still clients j file generation two o1 o2 few holds (stays two there); ends = ends })
+      keeps_then clients j (λ t. t ≡ two) P o0 o1 o2 two told looks.run
+      (keeps_looks clients j file generation o0 o1 two few holds told looks)
+      (λ mid at same. record {
+        moments = begun_still clients j file generation two o1 o2 few holds (stays two there);
+        ends = ends;
+      })
 
   -- and then all is ready for the first frame
-  pub begun_copies : facts j ≡ f → r.file ≡ file → r.end ≡ 15 → n ≡ fresh (1 - file) 2 (generation + 1) → RelatesTold (PreparesJournal (1 - file) 2 (generation + 1)) o1.files o2.files
+  pub begun_copies : facts j ≡ f → r.file ≡ file → r.end ≡ 15 → n ≡ fresh (1 - file) 2
+      (generation + 1) → RelatesTold (PreparesJournal (1 - file) 2 (generation + 1)) o1.files
+      o2.files
       → KeepsJournal clients j (CopiesBatches clients f generation j r n 0) o0 o2
   begun_copies same reader begun writer becomes =
       begun_so (CopiesBatches clients f generation j r n 0)
       (λ t end.
-      let new = becomes_told (PreparesJournal (1 - file) 2 (generation + 1)) o1.files o2.files two there becomes in
+      let new = becomes_told (PreparesJournal (1 - file) 2 (generation + 1)) o1.files o2.files two
+      there becomes in
       let both : Some new.0 ≡ Some t = sym new.1 ∙ end in
       let one : new.0 ≡ t = cc in
-      subst (CopiesBatches clients f generation j r n 0) one (copies_begun clients f generation j file r n two new.0 few holds same reader begun writer new.2))
+      subst (CopiesBatches clients f generation j r n 0) one
+      (copies_begun clients f generation j file r n two new.0 few holds same reader begun writer
+      new.2))

@@ -15,44 +15,64 @@ pub own_none : (file : ℕ) (o : Option (Two File)) → RelatesTold (KeepsFile f
 own_none file o = becomes_none (KeepsFile file) o (λ t. refl)
 
 -- calls that only read
-pub own_looks : (file : ℕ) (o o' : Outside) → OnlyReads o o' → RelatesTold (KeepsFile file) o.files o'.files
-own_looks file o o' looks = subst (RelatesTold (KeepsFile file) o.files) (sym looks.same_files) (own_none file o.files)
+pub own_looks : (file : ℕ) (o o' : Outside) → OnlyReads o o' → RelatesTold
+    (KeepsFile file) o.files o'.files
+own_looks file o o' looks =
+    subst (RelatesTold (KeepsFile file) o.files) (sym looks.same_files) (own_none file o.files)
 
-pub own_then : (file : ℕ) (o0 o1 o2 : Option (Two File)) → RelatesTold (KeepsFile file) o0 o1 → RelatesTold (KeepsFile file) o1 o2 → RelatesTold (KeepsFile file) o0 o2
-own_then file o0 o1 o2 first second = becomes_then (KeepsFile file) (KeepsFile file) (KeepsFile file) o0 o1 o2 (λ a b c x y. y ∙ x) first second
+pub own_then : (file : ℕ) (o0 o1 o2 : Option (Two File)) → RelatesTold (KeepsFile file) o0 o1
+    → RelatesTold (KeepsFile file) o1 o2 → RelatesTold (KeepsFile file) o0 o2
+own_then file o0 o1 o2 first second =
+    becomes_then (KeepsFile file) (KeepsFile file) (KeepsFile file) o0 o1 o2 (λ a b c x y. y
+    ∙ x) first second
 
 -- a step that leaves all but the other file
-pub own_step : (step : Two File → Two File → Type 0) (file other : ℕ) (o o' : Option (Two File)) → file < 2 → other ≡ 1 - file → ((a b : Two File) → step a b → other_of b other ≡ other_of a other)
+pub own_step : (step : Two File → Two File → Type 0) (file other : ℕ) (o o' : Option (Two File))
+    → file < 2 → other ≡ 1 - file
+    → ((a b : Two File) → step a b → other_of b other ≡ other_of a other)
     → RelatesTold step o o' → RelatesTold (KeepsFile file) o o'
 own_step step file other o o' few is leaves becomes =
     becomes_map step (KeepsFile file) o o'
     (λ a b x.
-    let same : other_of b (1 - file) ≡ other_of a (1 - file) = subst (λ (k : ℕ). other_of b k ≡ other_of a k) is (leaves a b x) in
+    let same : other_of b (1 - file) ≡ other_of a (1 - file) =
+    subst (λ (k : ℕ). other_of b k ≡ other_of a k) is (leaves a b x) in
     own_file b file few ∙ same ∙ sym (own_file a file few)) becomes
 
 -- a fault behind calls that left the file
-pub own_fault : {A : Type 0} (file : ℕ) (o o' : Option (Two File)) (e : MigrationFault) (result : Result A MigrationFault) → result ≡ Err e → RelatesTold (KeepsFile file) o o' → ReadsOnly file o o' result
-own_fault {A = A} file o o' e result is becomes = subst (λ (x : Result A MigrationFault). ReadsOnly file o o' x) (sym is) (own_so e)
+pub own_fault : {A : Type 0} (file : ℕ) (o o' : Option (Two File)) (e : MigrationFault)
+    (result : Result A MigrationFault) → result ≡ Err e → RelatesTold (KeepsFile file) o o'
+    → ReadsOnly file o o' result
+own_fault {A = A} file o o' e result is becomes =
+    subst (λ (x : Result A MigrationFault). ReadsOnly file o o' x) (sym is) (own_so e)
   where
     own_so : (e : MigrationFault) → ReadsOnly {A = A} file o o' (Err e)
     own_so fault.Memory = becomes
     own_so fault.DiskFault = tt
 
 -- a fault of a later step
-pub own_later : (A : Type 0) {B : Type 0} (file : ℕ) (o0 o1 o2 : Option (Two File)) (e : MigrationFault) (result : Result B MigrationFault) → result ≡ Err e → RelatesTold (KeepsFile file) o0 o1
+pub own_later : (A : Type 0) {B : Type 0} (file : ℕ) (o0 o1 o2 : Option (Two File))
+    (e : MigrationFault) (result : Result B MigrationFault) → result ≡ Err e
+    → RelatesTold (KeepsFile file) o0 o1
     → ReadsOnly {A = A} file o1 o2 (Err e) → ReadsOnly file o0 o2 result
-own_later A {B = B} file o0 o1 o2 e result is first later = subst (λ (x : Result B MigrationFault). ReadsOnly file o0 o2 x) (sym is) (later_so e later)
+own_later A {B = B} file o0 o1 o2 e result is first later =
+    subst (λ (x : Result B MigrationFault). ReadsOnly file o0 o2 x) (sym is) (later_so e later)
   where
-    later_so : (e : MigrationFault) → ReadsOnly {A = A} file o1 o2 (Err e) → ReadsOnly {A = B} file o0 o2 (Err e)
+    later_so : (e : MigrationFault) → ReadsOnly {A = A} file o1 o2 (Err e)
+        → ReadsOnly {A = B} file o0 o2 (Err e)
     later_so fault.Memory becomes = own_then file o0 o1 o2 first becomes
     later_so fault.DiskFault becomes = tt
 
 -- a call on the disk failed
-pub own_cut : {A : Type 0} (file : ℕ) (o o' : Option (Two File)) (result : Result A MigrationFault) → result ≡ Err fault.DiskFault → ReadsOnly file o o' result
-own_cut {A = A} file o o' result is = subst (λ (x : Result A MigrationFault). ReadsOnly file o o' x) (sym is) tt
+pub own_cut : {A : Type 0} (file : ℕ) (o o' : Option (Two File)) (result : Result A MigrationFault)
+    → result ≡ Err fault.DiskFault → ReadsOnly file o o' result
+own_cut {A = A} file o o' result is =
+    subst (λ (x : Result A MigrationFault). ReadsOnly file o o' x) (sym is) tt
 
 -- the other file was prepared
-pub own_begun : (file generation : ℕ) (o0 o1 o2 : Outside) → file < 2 → OnlyReads o0 o1 → RelatesTold (PreparesJournal (1 - file) 2 generation) o1.files o2.files → RelatesTold (KeepsFile file) o0.files o2.files
+pub own_begun : (file generation : ℕ) (o0 o1 o2 : Outside) → file < 2 → OnlyReads o0 o1
+    → RelatesTold (PreparesJournal (1 - file) 2 generation) o1.files o2.files
+    → RelatesTold (KeepsFile file) o0.files o2.files
 own_begun file generation o0 o1 o2 few looks becomes =
     own_then file o0.files o1.files o2.files (own_looks file o0 o1 looks)
-    (own_step (PreparesJournal (1 - file) 2 generation) file (1 - file) o1.files o2.files few refl (λ a b x. x.other) becomes)
+    (own_step (PreparesJournal (1 - file) 2 generation) file (1 - file) o1.files o2.files few refl
+    (λ a b x. x.other) becomes)

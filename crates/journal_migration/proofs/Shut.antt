@@ -1,5 +1,6 @@
 -- A writer's file: all of an open header but the gate, which is closed, and some frames.
-use Rattle.std.proofs.Common.{◌≡◌, ℕ, ◌+◌, ◌-◌, ◌<◌, ◌≤◌, List, [], ◌∷◌, ◌++◌, length, Bool, Some, Ok, true, refl, sym, ap, subst, ◌∙◌, arith}
+use Rattle.std.proofs.Common.{◌≡◌, ℕ, ◌+◌, ◌-◌, ◌<◌, ◌≤◌, List, [], ◌∷◌, ◌++◌, length, Bool, Some}
+use Rattle.std.proofs.Common.{Ok, true, refl, sym, ap, subst, ◌∙◌, arith}
 use Rattle.std.specs.Option.{ForSome}
 use Rattle.outside.specs.declared.limits.TheConstants.{MAX_FRAME}
 use Rattle.outside.specs.Disk.{RelatesTold}
@@ -19,21 +20,34 @@ use Rattle.entry_codec.specs.Payloads.{spellings}
 use Rattle.journal_migration.specs.Copying.{IsPair, IsRespelled, IsShut, AreBothShut, marked}
 use Rattle.journal_migration.specs.Starting.{IsSettledBoth}
 use Rattle.journal_migration.proofs.Copied.{framed_so}
-use Rattle.journal_migration.proofs.Sides.{own_file, read_file, settled_first, settled_one, settled_second}
+use Rattle.journal_migration.proofs.Sides.{own_file, read_file, settled_first, settled_one}
+use Rattle.journal_migration.proofs.Sides.{settled_second}
 
 -- a prepared file has the header of a journal of format 2
-pub begun_frames : (gate generation : ℕ) → HasFrames (gate ∷ behind_gate 2 generation) (gate ∷ marked generation) []
-begun_frames gate generation = record { gate = 0; rest = []; whole = refl; closed = λ is. cc; long = refl; payloads_fit = λ k d below. absurd (omega (arith, below)) }
+pub begun_frames : (gate generation : ℕ) → HasFrames (gate ∷ behind_gate 2 generation)
+    (gate ∷ marked generation) []
+begun_frames gate generation =
+    record {
+      gate = 0;
+      rest = [];
+      whole = refl;
+      closed = λ is. cc;
+      long = refl;
+      payloads_fit = λ k d below. absurd (omega (arith, below));
+    }
 
 -- the reader's file is as it was
-pub own_still : (two two' : Two File) (own : ℕ) → own < 2 → other_of two' (1 - own) ≡ other_of two (1 - own) → file_of two' own ≡ file_of two own
+pub own_still : (two two' : Two File) (own : ℕ) → own < 2 → other_of two' (1 - own) ≡ other_of two
+    (1 - own) → file_of two' own ≡ file_of two own
 own_still two two' own few other = own_file two' own few ∙ other ∙ sym (own_file two own few)
 
-pub pending_still : (two two' : Two File) (own : ℕ) → file_of two' own ≡ file_of two own → NothingPending two own → NothingPending two' own
+pub pending_still : (two two' : Two File) (own : ℕ) → file_of two' own ≡ file_of two own
+    → NothingPending two own → NothingPending two' own
 pending_still two two' own same before = same ∙ before ∙ ap (λ (f : File). settled f.now) (sym same)
 
 -- what may be published
-pub prepared_so : (r n : JournalValue) (two : Two File) → AreBothShut r n two → IsPrepared two n.file
+pub prepared_so : (r n : JournalValue) (two : Two File) → AreBothShut r n two
+    → IsPrepared two n.file
 prepared_so r n two works = record {
   settled = works.at_rest.settled;
   gate = works.shut.gate;
@@ -45,19 +59,28 @@ prepared_so r n two works = record {
 }
 
 -- a frame more
-pub works_on : (r r' n n' : JournalValue) (framed : List ℕ) (two two' : Two File) → IsPair r n → AreBothShut r n two → IsFramed framed → AppendsFrame n.file n.end framed two two'
-    → r'.file ≡ r.file → r'.len ≡ r.len → n'.file ≡ n.file → n'.end ≡ n.end + length framed → AreBothShut r' n' two'
+pub works_on : (r r' n n' : JournalValue) (framed : List ℕ) (two two' : Two File) → IsPair r n
+    → AreBothShut r n two → IsFramed framed → AppendsFrame n.file n.end framed two two'
+    → r'.file ≡ r.file → r'.len ≡ r.len → n'.file ≡ n.file → n'.end ≡ n.end + length framed
+    → AreBothShut r' n' two'
 works_on r r' n n' framed two two' pair works is appends reader len writer end =
-    let other : other_of two' (1 - r.file) ≡ other_of two (1 - r.file) = subst (λ (t : ℕ). other_of two' t ≡ other_of two t) pair.writes appends.other in
+    let other : other_of two' (1 - r.file) ≡ other_of two (1 - r.file) =
+    subst (λ (t : ℕ). other_of two' t ≡ other_of two t) pair.writes appends.other in
     let same = own_still two two' r.file pair.reads other in
-    let own = pending_still two two' r.file same (settled_one two r.file pair.reads works.first_settled works.second_settled) in
-    let there : NothingPending two' (1 - r.file) = subst (NothingPending two') pair.writes appends.at_rest.settled in
+    let own =
+    pending_still two two' r.file same
+    (settled_one two r.file pair.reads works.first_settled works.second_settled) in
+    let there : NothingPending two' (1 - r.file) =
+    subst (NothingPending two') pair.writes appends.at_rest.settled in
     let Rests : ℕ → ℕ → Type 0 = λ t e. IsAtRest two' t e in
     record {
       first_settled = settled_first two' r.file pair.reads own there;
       second_settled = settled_second two' r.file pair.reads own there;
-      long = ap (λ (t : ℕ). length (file_of two' t).now) reader ∙ ap (λ (f : File). length f.now) same ∙ works.long ∙ sym len;
-      at_rest = subst (λ (t : ℕ). Rests t n'.end) (sym writer) (subst (Rests n.file) (sym end) appends.at_rest);
+      long = ap (λ (t : ℕ). length (file_of two' t).now) reader
+          ∙ ap (λ (f : File). length f.now) same ∙ works.long ∙ sym len;
+      at_rest =
+          subst (λ (t : ℕ). Rests t n'.end) (sym writer)
+          (subst (Rests n.file) (sym end) appends.at_rest);
       shut = record {
         gate = works.shut.gate;
         behind = works.shut.behind;
@@ -65,61 +88,96 @@ works_on r r' n n' framed two two' pair works is appends reader len writer end =
         closed = works.shut.closed;
         header = works.shut.header;
         frames =
-            subst (λ (t : ℕ). HasFrames (file_of two' t).now (works.shut.gate ∷ works.shut.behind) (works.shut.payloads ++ payload_of framed ∷ [])) (sym writer)
-            (appends.frames (works.shut.gate ∷ works.shut.behind) works.shut.payloads works.shut.frames works.shut.end_is);
+            subst (λ (t : ℕ). HasFrames (file_of two' t).now (works.shut.gate ∷ works.shut.behind)
+            (works.shut.payloads ++ payload_of framed ∷ [])) (sym writer)
+            (appends.frames (works.shut.gate ∷ works.shut.behind) works.shut.payloads
+            works.shut.frames works.shut.end_is);
         end_is = end ∙ end_more works.shut.payloads n.end framed is works.shut.end_is;
       };
     }
 
 -- the reader begun in the one file, the writer in the other
-pub works_begun : (file generation : ℕ) (r n : JournalValue) (two two' : Two File) → file < 2 → r.file ≡ file → length (file_of two file).now ≡ r.len → n ≡ fresh (1 - file) 2 generation
+pub works_begun : (file generation : ℕ) (r n : JournalValue) (two two' : Two File) → file < 2
+    → r.file ≡ file → length (file_of two file).now ≡ r.len → n ≡ fresh (1 - file) 2 generation
     → IsSettledBoth two → PreparesJournal (1 - file) 2 generation two two' → AreBothShut r n two'
 works_begun file generation r n two two' few reader len writer settled prepares =
     let same = own_still two two' file few prepares.other in
-    let own = pending_still two two' file same (settled_one two file few settled.first settled.second) in
+    let own =
+    pending_still two two' file same (settled_one two file few settled.first settled.second) in
     let there = prepares.at_rest.settled in
     let frames : HasFrames (file_of two' (1 - file)).now (prepares.gate ∷ marked generation) [] =
-    subst (λ (b : List ℕ). HasFrames b (prepares.gate ∷ marked generation) []) (sym (ap (λ (f : File). f.now) prepares.bytes)) (begun_frames prepares.gate generation) in
+    subst (λ (b : List ℕ). HasFrames b (prepares.gate ∷ marked generation) [])
+    (sym (ap (λ (f : File). f.now) prepares.bytes)) (begun_frames prepares.gate generation) in
     record {
       first_settled = settled_first two' file few own there;
       second_settled = settled_second two' file few own there;
-      long = ap (λ (t : ℕ). length (file_of two' t).now) reader ∙ ap (λ (f : File). length f.now) same ∙ len;
-      at_rest = subst (λ (v : JournalValue). IsAtRest two' v.file v.end) (sym writer) prepares.at_rest;
+      long = ap (λ (t : ℕ). length (file_of two' t).now) reader
+          ∙ ap (λ (f : File). length f.now) same ∙ len;
+      at_rest =
+          subst (λ (v : JournalValue). IsAtRest two' v.file v.end) (sym writer) prepares.at_rest;
       shut =
           subst (λ (v : JournalValue). IsShut (file_of two' v.file).now v.end) (sym writer)
-          (record { gate = prepares.gate; behind = marked generation; payloads = []; closed = prepares.closed; header = refl; frames = frames; end_is = refl });
+          (record {
+            gate = prepares.gate;
+            behind = marked generation;
+            payloads = [];
+            closed = prepares.closed;
+            header = refl;
+            frames = frames;
+            end_is = refl;
+          });
     }
 
 -- the frame is the first that was read
-pub works_appended : (r r' n n' : JournalValue) (names : List (List ℕ)) (to framed : List ℕ) (brought : ℕ) (o o1 o2 : Outside) → IsPair r n → ForSome o.files (AreBothShut r n) → OnlyReads o o1 → DiskRun o1 o2
-    → RelatesTold (AppendsFrame n.file n.end framed) o1.files o2.files → ((two : Two File) → o.files ≡ Some two → NextFrame (file_of two r.file).now r r' to) → r'.end ≤ r.end + 5 + MAX_FRAME
-    → IsRespelled names to framed brought → n'.file ≡ n.file → n'.end ≡ n.end + length framed → ForSome o2.files (AreBothShut r' n')
-works_appended r r' n n' names to framed brought o o1 o2 pair works looks run becomes next size respelled writer end x told =
+pub works_appended : (r r' n n' : JournalValue) (names : List (List ℕ)) (to framed : List ℕ)
+    (brought : ℕ) (o o1 o2 : Outside) → IsPair r n → ForSome o.files (AreBothShut r n)
+    → OnlyReads o o1 → DiskRun o1 o2
+    → RelatesTold (AppendsFrame n.file n.end framed) o1.files o2.files
+    → ((two : Two File) → o.files ≡ Some two → NextFrame (file_of two r.file).now r r' to)
+    → r'.end ≤ r.end + 5 + MAX_FRAME
+    → IsRespelled names to framed brought → n'.file ≡ n.file → n'.end ≡ n.end + length framed
+    → ForSome o2.files (AreBothShut r' n')
+works_appended r r' n n' names to framed brought o o1 o2 pair works looks run becomes next size
+    respelled writer end x told =
     let mid = told_back o1 o2 x run.same_told told in
     let before : o.files ≡ Some mid.0 = sym looks.same_files ∙ mid.1 in
-    let new = becomes_told (AppendsFrame n.file n.end framed) o1.files o2.files mid.0 mid.1 becomes in
+    let new = becomes_told (AppendsFrame n.file n.end framed) o1.files o2.files mid.0 mid.1
+    becomes in
     let both : Some new.0 ≡ Some x = sym new.1 ∙ told in
     let one : new.0 ≡ x = cc in
     let moved = (next mid.0 before).moved in
     let far : r'.end ≡ r.end + 5 + length to = ap (λ (v : JournalValue). v.end) moved in
-    let is = framed_so (spellings kind.Short names respelled.batch) framed respelled.framed_is (respelled.some, omega (arith, respelled.no_longer, size, far)) in
+    let is = framed_so (spellings kind.Short names respelled.batch) framed respelled.framed_is
+    (respelled.some, omega (arith, respelled.no_longer, size, far)) in
     subst (AreBothShut r' n') one
-    (works_on r r' n n' framed mid.0 new.0 pair (works mid.0 before) is new.2 (ap (λ (v : JournalValue). v.file) moved) (ap (λ (v : JournalValue). v.len) moved) writer end)
+    (works_on r r' n n' framed mid.0 new.0 pair (works mid.0 before) is new.2
+    (ap (λ (v : JournalValue). v.file) moved) (ap (λ (v : JournalValue). v.len) moved) writer
+    end)
 
 -- how far the reader came
-pub moves_true : (r r' : JournalValue) (more : Bool) → more ≡ true → MovesReader r r' (Ok more) → r'.end ≤ r.end + 5 + MAX_FRAME
-moves_true r r' more is moves = let P : Bool → Type 0 = λ b. MovesReader r r' (Ok b) in let all : P true = subst P is moves in all.4
+pub moves_true : (r r' : JournalValue) (more : Bool) → more ≡ true → MovesReader r r' (Ok more)
+    → r'.end ≤ r.end + 5 + MAX_FRAME
+moves_true r r' more is moves = let P : Bool → Type 0 =
+    λ b. MovesReader r r' (Ok b) in let all : P true = subst P is moves in all.4
 
 -- a reader that starts and a writer in a prepared file
-pub works_ready : (file generation : ℕ) (r n : JournalValue) (o0 o1 o2 : Outside) → file < 2 → ForSome o0.files IsSettledBoth → OnlyReads o0 o1 → DiskRun o1 o2
-    → ForSome o0.files (λ two. StartsJournal (read_files two) (Ok r)) → RelatesTold (PreparesJournal (1 - file) 2 generation) o1.files o2.files → r.file ≡ file → n ≡ fresh (1 - file) 2 generation
+pub works_ready : (file generation : ℕ) (r n : JournalValue) (o0 o1 o2 : Outside) → file < 2
+    → ForSome o0.files IsSettledBoth → OnlyReads o0 o1 → DiskRun o1 o2
+    → ForSome o0.files (λ two. StartsJournal (read_files two) (Ok r))
+    → RelatesTold (PreparesJournal (1 - file) 2 generation) o1.files o2.files → r.file ≡ file
+    → n ≡ fresh (1 - file) 2 generation
     → ForSome o2.files (AreBothShut r n)
 works_ready file generation r n o0 o1 o2 few settled looks run starts becomes reader writer x told =
     let mid = told_back o1 o2 x run.same_told told in
     let before : o0.files ≡ Some mid.0 = sym looks.same_files ∙ mid.1 in
-    let new = becomes_told (PreparesJournal (1 - file) 2 generation) o1.files o2.files mid.0 mid.1 becomes in
+    let new = becomes_told (PreparesJournal (1 - file) 2 generation) o1.files o2.files mid.0 mid.1
+    becomes in
     let both : Some new.0 ≡ Some x = sym new.1 ∙ told in
     let one : new.0 ≡ x = cc in
     let len : length (file_of mid.0 file).now ≡ r.len =
-    ap (λ (t : ℕ). length (file_of mid.0 t).now) (sym reader) ∙ ap length (sym (read_file mid.0 r.file)) ∙ sym (ap (λ (v : JournalValue). v.len) (starts mid.0 before).2) in
-    subst (AreBothShut r n) one (works_begun file generation r n mid.0 new.0 few reader len writer (settled mid.0 before) new.2)
+    ap (λ (t : ℕ). length (file_of mid.0 t).now) (sym reader)
+    ∙ ap length (sym (read_file mid.0 r.file))
+    ∙ sym (ap (λ (v : JournalValue). v.len) (starts mid.0 before).2) in
+    subst (AreBothShut r n) one
+    (works_begun file generation r n mid.0 new.0 few reader len writer (settled mid.0 before)
+    new.2)

@@ -1,5 +1,6 @@
 -- How far a journal is copied: a reader in the one file, and a writer in the other.
-use Rattle.std.specs.Prelude.{◌≡◌, ◌≢◌, ℕ, ◌+◌, ◌-◌, ◌^◌, ◌<◌, ◌≤◌, min, List, [], ◌∷◌, ◌++◌, length, true, Option, None, Some, Result, Ok, Err}
+use Rattle.std.specs.Prelude.{◌≡◌, ◌≢◌, ℕ, ◌+◌, ◌-◌, ◌^◌, ◌<◌, ◌≤◌, min, List, [], ◌∷◌, ◌++◌}
+use Rattle.std.specs.Prelude.{length, true, Option, None, Some, Result, Ok, Err}
 use Rattle.std.specs.Int.{w64, to_be_bytes}
 use Rattle.std.specs.List.{AllByRecursion}
 use Rattle.outside.specs.declared.limits.TheConstants.{MAX_JOURNAL}
@@ -37,8 +38,8 @@ brought_by (e ∷ es) = one_brought e + brought_by es
 abbrev pub counted_to : ℕ → ℕ
 counted_to n = min n (2 ^ 32 - 1)
 
--- What a payload of format 1 is in format 2, where these messages are held before it: its batch is within its limits, these bytes
--- frame it, and it brings so many messages.
+-- What a payload of format 1 is in format 2, where these messages are held before it: its batch is
+-- within its limits, these bytes frame it, and it brings so many messages.
 pub record IsRespelled (names : List (List ℕ)) (to framed : List ℕ) (brought : ℕ) : Type 0 where
   pub batch : List Entry
   pub read : batch_in kind.Whole names to ≡ Some batch
@@ -82,7 +83,8 @@ pub record IsShut (bytes : List ℕ) (end : ℕ) : Type 0 where
   pub frames : HasFrames bytes (gate ∷ behind) payloads
   pub end_is : end ≡ end_of payloads
 
--- nothing is pending in either file, the reader knows the length of its own, and the writer's is shut at its end
+-- nothing is pending in either file, the reader knows the length of its own, and the writer's is
+-- shut at its end
 pub record AreBothShut (r n : JournalValue) (two : Two File) : Type 0 where
   pub first_settled : NothingPending two 0
   pub second_settled : NothingPending two 1
@@ -94,10 +96,12 @@ pub record AreBothShut (r n : JournalValue) (two : Two File) : Type 0 where
 abbrev pub marked : ℕ → List ℕ
 marked generation = 66 ∷ 83 ∷ 80 ∷ 74 ∷ 2 ∷ to_be_bytes w64 generation
 
--- The files hold a journal of format 1 in the reader's file, and these facts are the journal's. The reader has come to the gate
--- behind some batches of it, a front; they stand in the writer's file in format 2, behind a closed gate and what else a header
--- has. So many messages are held behind them.
-pub record CopiesBatches (clients : Meaning) (f : Facts) (generation : ℕ) (j : List (List Entry)) (r n : JournalValue) (count : ℕ) (two : Two File) : Type 0 where
+-- The files hold a journal of format 1 in the reader's file, and these facts are the journal's. The
+-- reader has come to the gate behind some batches of it, a front; they stand in the writer's file
+-- in format 2, behind a closed gate and what else a header has. So many messages are held behind
+-- them.
+pub record CopiesBatches (clients : Meaning) (f : Facts) (generation : ℕ) (j : List (List Entry))
+    (r n : JournalValue) (count : ℕ) (two : Two File) : Type 0 where
   pub holds : HoldsFirst clients r.file generation j two
   pub facts_are : facts j ≡ f
   pub done : List (List Entry)
@@ -106,7 +110,8 @@ pub record CopiesBatches (clients : Meaning) (f : Facts) (generation : ℕ) (j :
   pub goes_on : j ≡ done ++ left
   pub gate : ℕ
   pub closed : gate ≢ 1
-  pub frames : HasFrames (file_of two n.file).now (gate ∷ marked (generation + 1)) (payloads kind.Short nothing done)
+  pub frames : HasFrames (file_of two n.file).now (gate ∷ marked (generation + 1))
+      (payloads kind.Short nothing done)
   pub end_is : n.end ≡ journal_end kind.Short done
   pub counted : count ≡ length (facts done).held
 
@@ -116,30 +121,42 @@ IsAtLastGate r two = frame_at (file_of (read_files two) r.file) (r.end - 1) ≡ 
 
 -- ---- a frame copied
 
-abbrev pub CopiesSo : Meaning → Facts → (generation : ℕ) → List (List Entry) → (file : ℕ) → (r n : JournalValue) → (count : ℕ) → Result (Option ℕ) MigrationFault → Two File → Type 0
-CopiesSo clients f generation j file r n count (Ok (Some brought)) two = CopiesBatches clients f generation j r n (counted_to (count + brought)) two
-CopiesSo clients f generation j file r n count (Ok None) two = CopiesBatches clients f generation j r n count two × IsAtLastGate r two
-CopiesSo clients f generation j file r n count (Err fault.Memory) two = HoldsFirst clients file generation j two
+abbrev pub CopiesSo : Meaning → Facts → (generation : ℕ) → List (List Entry) → (file : ℕ)
+    → (r n : JournalValue) → (count : ℕ) → Result (Option ℕ) MigrationFault → Two File → Type 0
+CopiesSo clients f generation j file r n count (Ok (Some brought)) two =
+    CopiesBatches clients f generation j r n (counted_to (count + brought)) two
+CopiesSo clients f generation j file r n count (Ok None) two =
+    CopiesBatches clients f generation j r n count two × IsAtLastGate r two
+CopiesSo clients f generation j file r n count (Err fault.Memory) two =
+    HoldsFirst clients file generation j two
 CopiesSo clients f generation j file r n count (Err fault.DiskFault) two = Unit {0}
 
--- at each moment the files stand for the journal, and at the end a frame more is copied, or there is none
-abbrev pub CopiesNext : Meaning → Facts → (generation : ℕ) → List (List Entry) → (file : ℕ) → (r n : JournalValue) → (count : ℕ) → (old new : Outside) → Result (Option ℕ) MigrationFault
+-- at each moment the files stand for the journal, and at the end a frame more is copied, or there
+-- is none
+abbrev pub CopiesNext : Meaning → Facts → (generation : ℕ) → List (List Entry) → (file : ℕ)
+    → (r n : JournalValue) → (count : ℕ) → (old new : Outside) → Result (Option ℕ) MigrationFault
     → Type 0
-CopiesNext clients f generation j file r n count old new result = KeepsJournal clients j (CopiesSo clients f generation j file r n count result) old new
+CopiesNext clients f generation j file r n count old new result =
+    KeepsJournal clients j (CopiesSo clients f generation j file r n count result) old new
 
 -- ---- all frames
 
 -- a whole journal is copied
-pub record CopiesWhole (clients : Meaning) (generation : ℕ) (j : List (List Entry)) (r n : JournalValue) (two : Two File) : Type 0 where
+pub record CopiesWhole (clients : Meaning) (generation : ℕ) (j : List (List Entry))
+    (r n : JournalValue) (two : Two File) : Type 0 where
   pub f : Facts
   pub count : ℕ
   pub copies : CopiesBatches clients f generation j r n count two
   pub at_end : IsAtLastGate r two
 
-abbrev pub CopiesAllSo : Meaning → (generation : ℕ) → List (List Entry) → (file : ℕ) → (r n : JournalValue) → Result (Unit {0}) MigrationFault → Two File → Type 0
+abbrev pub CopiesAllSo : Meaning → (generation : ℕ) → List (List Entry) → (file : ℕ)
+    → (r n : JournalValue) → Result (Unit {0}) MigrationFault → Two File → Type 0
 CopiesAllSo clients generation j file r n (Ok u) two = CopiesWhole clients generation j r n two
-CopiesAllSo clients generation j file r n (Err fault.Memory) two = HoldsFirst clients file generation j two
+CopiesAllSo clients generation j file r n (Err fault.Memory) two =
+    HoldsFirst clients file generation j two
 CopiesAllSo clients generation j file r n (Err fault.DiskFault) two = Unit {0}
 
-abbrev pub CopiesAll : Meaning → (generation : ℕ) → List (List Entry) → (file : ℕ) → (r n : JournalValue) → (old new : Outside) → Result (Unit {0}) MigrationFault → Type 0
-CopiesAll clients generation j file r n old new result = KeepsJournal clients j (CopiesAllSo clients generation j file r n result) old new
+abbrev pub CopiesAll : Meaning → (generation : ℕ) → List (List Entry) → (file : ℕ)
+    → (r n : JournalValue) → (old new : Outside) → Result (Unit {0}) MigrationFault → Type 0
+CopiesAll clients generation j file r n old new result =
+    KeepsJournal clients j (CopiesAllSo clients generation j file r n result) old new

@@ -1,4 +1,5 @@
--- A journal of format 1 that is written anew into the other file, in format 2, and then made the journal.
+-- A journal of format 1 that is written anew into the other file, in format 2, and then made the
+-- journal.
 use Rattle.std.specs.Prelude.{◌≡◌, ℕ, ◌+◌, ◌-◌, ◌≤◌, List, Option, Some, Result, Ok, Err}
 use Rattle.std.specs.List.{AllByRecursion}
 use Rattle.outside.specs.declared.limits.TheConstants.{MAX_JOURNAL}
@@ -23,8 +24,10 @@ use Rattle.journal_migration.specs.declared.fault.MigrationFault.TheVariants as 
 abbrev pub other_number : ℕ → ℕ
 other_number file = 1 - file
 
--- The files stand for a journal, which is in this file, in format 1 and with this generation. Nothing is pending in either.
-pub record HoldsFirst (clients : Meaning) (file generation : ℕ) (j : List (List Entry)) (two : Two File) : Type 0 where
+-- The files stand for a journal, which is in this file, in format 1 and with this generation.
+-- Nothing is pending in either.
+pub record HoldsFirst (clients : Meaning) (file generation : ℕ) (j : List (List Entry))
+    (two : Two File) : Type 0 where
   pub first_settled : NothingPending two 0
   pub second_settled : NothingPending two 1
   pub found : journal_file (read_files two) ≡ Some file
@@ -32,9 +35,11 @@ pub record HoldsFirst (clients : Meaning) (file generation : ℕ) (j : List (Lis
   pub generation_is : generation_in (file_of two file).now ≡ generation
   pub stands_for : stands clients (read_files two) ≡ journal j
 
--- The files stand for a journal, which is in the file of this one, in format 2: its frames are the journal's batches up to the
--- closed gate before the end, and there is room for what settling may add. Nothing is pending in either file.
-pub record HoldsSecond (clients : Meaning) (n : JournalValue) (j : List (List Entry)) (two : Two File) : Type 0 where
+-- The files stand for a journal, which is in the file of this one, in format 2: its frames are the
+-- journal's batches up to the closed gate before the end, and there is room for what settling may
+-- add. Nothing is pending in either file.
+pub record HoldsSecond (clients : Meaning) (n : JournalValue) (j : List (List Entry))
+    (two : Two File) : Type 0 where
   pub first_settled : NothingPending two 0
   pub second_settled : NothingPending two 1
   pub found : journal_file (read_files two) ≡ Some n.file
@@ -49,31 +54,39 @@ pub record HoldsSecond (clients : Meaning) (n : JournalValue) (j : List (List En
   pub stands_for : stands clients (read_files two) ≡ journal j
 
 -- a moment whose files stand for the journal, nothing more being sent
-pub record StandsStill (clients : Meaning) (j : List (List Entry)) (sent : List (List ℕ)) (m : Moment) : Type 0 where
+pub record StandsStill (clients : Meaning) (j : List (List Entry)) (sent : List (List ℕ))
+    (m : Moment) : Type 0 where
   pub stands_for : stands clients m.files ≡ journal j
   pub nothing_sent : m.sent ≡ sent
 
 -- at each moment the files stand for the journal, and at the end they are so
-pub record KeepsJournal (clients : Meaning) (j : List (List Entry)) (P : Two File → Type 0) (old new : Outside) : Type 0 where
+pub record KeepsJournal (clients : Meaning) (j : List (List Entry)) (P : Two File → Type 0)
+    (old new : Outside) : Type 0 where
   pub moments : MomentsAre old new (StandsStill clients j (sent_of old.links.told))
   pub ends : (two : Two File) → new.files ≡ Some two → P two
 
 -- what the files hold at the end, by the answer
-abbrev pub FilesHoldMigrated : Meaning → (file generation : ℕ) → List (List Entry) → Result JournalValue MigrationFault → Two File → Type 0
+abbrev pub FilesHoldMigrated : Meaning → (file generation : ℕ) → List (List Entry)
+    → Result JournalValue MigrationFault → Two File → Type 0
 FilesHoldMigrated clients file generation j (Ok n) two = HoldsSecond clients n j two
-FilesHoldMigrated clients file generation j (Err fault.Memory) two = HoldsFirst clients file generation j two
+FilesHoldMigrated clients file generation j (Err fault.Memory) two =
+    HoldsFirst clients file generation j two
 FilesHoldMigrated clients file generation j (Err fault.DiskFault) two = Unit {0}
 
--- at each moment the files stand for the journal, and at the end they hold it in the format that the answer says
-abbrev pub MigratesJournal : Meaning → (file generation : ℕ) → List (List Entry) → (old new : Outside) → Result JournalValue MigrationFault → Type 0
-MigratesJournal clients file generation j old new result = KeepsJournal clients j (FilesHoldMigrated clients file generation j result) old new
+-- at each moment the files stand for the journal, and at the end they hold it in the format that
+-- the answer says
+abbrev pub MigratesJournal : Meaning → (file generation : ℕ) → List (List Entry)
+    → (old new : Outside) → Result JournalValue MigrationFault → Type 0
+MigratesJournal clients file generation j old new result =
+    KeepsJournal clients j (FilesHoldMigrated clients file generation j result) old new
 
 -- this file is as before
 abbrev pub KeepsFile : (file : ℕ) → Two File → Two File → Type 0
 KeepsFile file old new = file_of new file ≡ file_of old file
 
 -- This file is only read. Where a call on the disk failed this is not said.
-abbrev pub ReadsOnly : {A : Type 0} → (file : ℕ) → (old new : Option (Two File)) → Result A MigrationFault → Type 0
+abbrev pub ReadsOnly : {A : Type 0} → (file : ℕ) → (old new : Option (Two File))
+    → Result A MigrationFault → Type 0
 ReadsOnly file old new (Ok a) = RelatesTold (KeepsFile file) old new
 ReadsOnly file old new (Err fault.Memory) = RelatesTold (KeepsFile file) old new
 ReadsOnly file old new (Err fault.DiskFault) = Unit {0}

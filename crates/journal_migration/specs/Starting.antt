@@ -12,4 +12,6 @@ pub record IsSettledBoth (two : Two File) : Type 0 where
 
 -- at each moment the file is as it was, or has no open header
 abbrev pub EndsOrStays : (file : ℕ) → Outside → Outside → Type 0
-EndsOrStays file old new = (two : Two File) → old.files ≡ Some two → PassedMoments two old new file (BeforeOrShut (file_of two file).now)
+EndsOrStays file old new =
+    (two : Two File) → old.files ≡ Some two
+    → PassedMoments two old new file (BeforeOrShut (file_of two file).now)

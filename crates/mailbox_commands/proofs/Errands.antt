@@ -1,5 +1,6 @@
 -- An errand, from the loaded store to the text, and from the files.
-use Rattle.std.proofs.Common.{◌≡◌, ◌⊎◌, ℕ, ◌+◌, ◌<◌, ◌≤◌, true, false, List, ◌++◌, refl, sym, ap, ◌∙◌}
+use Rattle.std.proofs.Common.{◌≡◌, ◌⊎◌, ℕ, ◌+◌, ◌<◌, ◌≤◌, true, false, List, ◌++◌, refl, sym, ap}
+use Rattle.std.proofs.Common.{◌∙◌}
 use Rattle.std.proofs.Common.{subst, inl, inr, arith, Some, None, Result, Ok, Err}
 use Rattle.std.specs.Prelude.{IsErrAnd}
 use Rattle.outside.specs.declared.limits.TheConstants.{MAX_JOURNAL}
@@ -30,34 +31,41 @@ use Rattle.sync_words.specs.declared.outcome.Outcome.{Outcome}
 use Rattle.sync_words.specs.declared.outcome.Outcome.TheVariants as outcome
 use Rattle.sync_words.specs.Outcomes.{came_to}
 use Rattle.mailbox_core.specs.Rooms.{AreRoomy}
-use Rattle.store_commands.specs.Commit.{ComesAnew, ExtendsBy, HasLastGeneration, SettledAnew, SettlesAnew, WasSpent, needed_by}
+use Rattle.store_commands.specs.Commit.{ComesAnew, ExtendsBy, HasLastGeneration, SettledAnew}
+use Rattle.store_commands.specs.Commit.{SettlesAnew, WasSpent, needed_by}
 use Rattle.store_commands.specs.Load.{MayExtend}
 use Rattle.store_commands.specs.Show.{FilesReadSame, LeavesFilesSo}
 use Rattle.store_commands.proofs.Stood.{fits_format, last_here, spent_here}
-use Rattle.mailbox_commands.specs.Errands.{Errand, ErrandOn, IsErrandCutShort, IsRun, MayBeginWith, mailbox_test}
-use Rattle.mailbox_commands.specs.Running.{DoesErrand, DoesSo, ErrandBy, ErrandEnds, ErrandTold, FilesRun, MayRunErrand, PrintsOut, RunsErrand, is_whole}
+use Rattle.mailbox_commands.specs.Errands.{Errand, ErrandOn, IsErrandCutShort, IsRun, MayBeginWith}
+use Rattle.mailbox_commands.specs.Errands.{mailbox_test}
+use Rattle.mailbox_commands.specs.Running.{DoesErrand, DoesSo, ErrandBy, ErrandEnds, ErrandTold}
+use Rattle.mailbox_commands.specs.Running.{FilesRun, MayRunErrand, PrintsOut, RunsErrand, is_whole}
 
 -- ---- causes
 
 rose_before : (a b c : ℕ) → a ≤ b → CountRose b c → CountRose a c
 rose_before a b c later rose = omega arith
 
-failed_by : (comes : Outcome) (o o2 : Outside) (out out' : Stream) (came : Outcome) → IsIdle out out' → ExtendsBy o o2 (Err came)
+failed_by : (comes : Outcome) (o o2 : Outside) (out out' : Stream) (came : Outcome)
+    → IsIdle out out' → ExtendsBy o o2 (Err came)
     → ErrandBy comes o o2 out out' came
 failed_by comes o o2 out out' outcome.Full idle by = idle
 failed_by comes o o2 out out' outcome.DiskFault idle by = (by, idle)
 failed_by comes o o2 out out' outcome.Memory idle by = idle
 failed_by comes o o2 out out' _ idle by = absurd by
 
-failed_not_whole : (o o2 : Outside) (came : Outcome) → ExtendsBy o o2 (Err came) → is_whole came ≡ false
+failed_not_whole : (o o2 : Outside) (came : Outcome) → ExtendsBy o o2 (Err came)
+    → is_whole came ≡ false
 failed_not_whole o o2 outcome.Full by = refl
 failed_not_whole o o2 outcome.DiskFault by = refl
 failed_not_whole o o2 outcome.Memory by = refl
 failed_not_whole o o2 _ by = absurd by
 
-caused_later : (o o1 o2 : Outside) (came : Outcome) → o.disk_faults ≤ o1.disk_faults → ExtendsBy o1 o2 (Err came)
+caused_later : (o o1 o2 : Outside) (came : Outcome) → o.disk_faults ≤ o1.disk_faults
+    → ExtendsBy o1 o2 (Err came)
     → ExtendsBy o o2 (Err came)
-caused_later o o1 o2 outcome.DiskFault later by = rose_before o.disk_faults o1.disk_faults o2.disk_faults later by
+caused_later o o1 o2 outcome.DiskFault later by =
+    rose_before o.disk_faults o1.disk_faults o2.disk_faults later by
 caused_later o o1 o2 outcome.Full later by = tt
 caused_later o o1 o2 outcome.Memory later by = tt
 caused_later o o1 o2 _ later by = absurd by
@@ -74,20 +82,23 @@ printed_by comes text o o2 out out' _ p = absurd p
 
 -- ---- settling
 
-settles_from : (clients : Meaning) (s : StoreValue) (two : Two File) (j more : List (List Entry)) → FitsFiles clients s j two
+settles_from : (clients : Meaning) (s : StoreValue) (two : Two File) (j more : List (List Entry))
+    → FitsFiles clients s j two
     → AllSettling clients s.state.facts more → AllSettling clients (facts j) more
 settles_from clients s two j more fits settling =
     subst (λ (g : Facts). AllSettling clients g more) (sym fits.facts_are) settling
 
 -- files that are told of one outside read alike
-one_told : (o o1 : Outside) (two two1 : Two File) → o1 ≡ o → o.files ≡ Some two → o1.files ≡ Some two1
+one_told : (o o1 : Outside) (two two1 : Two File) → o1 ≡ o → o.files ≡ Some two
+    → o1.files ≡ Some two1
     → read_files two1 ≡ read_files two
 one_told o o1 two two1 same files files1 =
     let both : Some two1 ≡ Some two = sym files1 ∙ ap (λ (x : Outside). x.files) same ∙ files in
     let one : two1 ≡ two = cc in
     ap read_files one
 
-unsettled_ends : (clients : Meaning) (errand : Errand) (j : List (List Entry)) (s s1 : StoreValue) (out out' : Stream)
+unsettled_ends : (clients : Meaning) (errand : Errand) (j : List (List Entry)) (s s1 : StoreValue)
+    (out out' : Stream)
     (came : Outcome) (two two1 : Two File) → FitsFiles clients s j two
     → (came ≡ outcome.Full → read_files two1 ≡ read_files two) → SettledAnew clients s s1 (Err came)
     → ErrandEnds clients errand j two two1 out out' came
@@ -98,8 +109,10 @@ unsettled_ends clients errand j s s1 out out' outcome.DiskFault two two1 fits st
 unsettled_ends clients errand j s s1 out out' _ two two1 fits still answer = absurd answer
 
 -- migrating or settling that failed
-pub errand_unsettled : (clients : Meaning) (errand : Errand) (s s1 : StoreValue) (o o1 : Outside) (out out' : Stream)
-    (came : Outcome) → IsIdle out out' → DiskRun o o1 → ExtendsBy o o1 (Err came) → (came ≡ outcome.Full → o1 ≡ o)
+pub errand_unsettled : (clients : Meaning) (errand : Errand) (s s1 : StoreValue) (o o1 : Outside)
+    (out out' : Stream)
+    (came : Outcome) → IsIdle out out' → DiskRun o o1 → ExtendsBy o o1 (Err came)
+    → (came ≡ outcome.Full → o1 ≡ o)
     → SettlesAnew clients s s1 o o1 (Err came) → RunsErrand clients errand s o o1 out out' came
 errand_unsettled clients errand s s1 o o1 out out' came idle run by still settled = record {
   run = run;
@@ -126,18 +139,25 @@ errand_unsettled clients errand s s1 o o1 out out' came idle run by still settle
 
 -- the sum of a store in format 2 is that of a journal that ends where it does and has its facts
 weighed : (s : StoreValue) (j : List (List Entry)) (batch : List Entry) → written_in s ≡ kind.Short
-    → s.end ≡ journal_end (written_in s) j → facts j ≡ s.state.facts → needed s batch ≡ needed_by j batch
+    → s.end ≡ journal_end (written_in s) j → facts j ≡ s.state.facts
+    → needed s batch ≡ needed_by j batch
 weighed s j batch short ends same =
-    (λ i. ends i + 5 + payload_len (written_in s) batch + room_of (written_in s) (after_all (sym same i) batch))
-    ∙ ap (λ (f : Format). journal_end f j + 5 + payload_len f batch + room_of f (after_all (facts j) batch)) short
+    (λ i. ends i + 5 + payload_len (written_in s) batch
+    + room_of (written_in s) (after_all (sym same i) batch))
+    ∙ ap (λ (f : Format). journal_end f j + 5 + payload_len f batch
+    + room_of f (after_all (facts j) batch)) short
 
-module _ (clients : Meaning) (errand : Errand) (s s1 s2 : StoreValue) (o o1 o2 : Outside) (u : Unit {0})
-    (r : Result (Unit {0}) Outcome) (run : DiskRun o o1) (settled : SettlesAnew clients s s1 o o1 (Ok u))
-    (does : DoesErrand clients errand s1 s2 o1 o2 r) (limited : s.limit ≡ MAX_JOURNAL) (two : Two File)
+module _ (clients : Meaning) (errand : Errand) (s s1 s2 : StoreValue) (o o1 o2 : Outside)
+    (u : Unit {0})
+    (r : Result (Unit {0}) Outcome) (run : DiskRun o o1)
+    (settled : SettlesAnew clients s s1 o o1 (Ok u))
+    (does : DoesErrand clients errand s1 s2 o1 o2 r) (limited : s.limit ≡ MAX_JOURNAL)
+    (two : Two File)
     (files : o.files ≡ Some two) (j : List (List Entry)) (fits : FitsFiles clients s j two) where
   -- the facts of the settled journal
   begun : s1.state.facts ≡ after_batches (facts j) settled.more
-  begun = settled.comes.facts ∙ ap (λ (g : Facts). after_batches g settled.more) (sym fits.facts_are)
+  begun =
+      settled.comes.facts ∙ ap (λ (g : Facts). after_batches g settled.more) (sym fits.facts_are)
 
   is_settled : IsSettled clients (after_batches (facts j) settled.more)
   is_settled = subst (IsSettled clients) begun settled.answer.1
@@ -146,10 +166,13 @@ module _ (clients : Meaning) (errand : Errand) (s s1 s2 : StoreValue) (o o1 o2 :
   settles = settles_from clients s two j settled.more fits settled.comes.settling
 
   both : LeadsBy clients s s2 o o2 (settled.more ++ does.more)
-  both = leads_both clients s s1 s2 o o1 o2 settled.more does.more settled.answer.0 run settled.comes.leads
+  both =
+      leads_both clients s s1 s2 o o1 o2 settled.more does.more settled.answer.0 run
+      settled.comes.leads
       does.comes.runs.leads
 
-  errand_moments : MomentsAre o o2 (JournalMoment clients (ErrandOn clients errand j) (sent_of o.links.told))
+  errand_moments : MomentsAre o o2
+      (JournalMoment clients (ErrandOn clients errand j) (sent_of o.links.told))
   errand_moments = moments_map o o2 _ _ (λ m w. record {
     whole = w.whole;
     has = record {
@@ -169,7 +192,8 @@ module _ (clients : Meaning) (errand : Errand) (s s1 s2 : StoreValue) (o o1 o2 :
   }) (both two files j fits).moments
 
   -- the journal that the disk fits once it is settled
-  settled_fits : (two1 : Two File) → o1.files ≡ Some two1 → FitsFiles clients s1 (j ++ settled.more) two1
+  settled_fits : (two1 : Two File) → o1.files ≡ Some two1 → FitsFiles clients s1
+      (j ++ settled.more) two1
   settled_fits two1 files1 =
       let at = (settled.comes.leads two files j fits).ends settled.answer.0 two1 files1 in
       subst (λ (w : List (List Entry)). FitsFiles clients s1 w two1) at.1 at.2
@@ -194,10 +218,13 @@ module _ (clients : Meaning) (errand : Errand) (s s1 s2 : StoreValue) (o o1 o2 :
       (subst (λ (f : Format). AreRoomy f s1.limit (j ++ settled.more) does.more) settled.answer.2
       (does.comes.roomy told1.0 told1.1 (j ++ settled.more) fits1))
 
-  errand_run : s2.closed ≡ false → IsSettled clients s2.state.facts → errand.whole s1.state.facts does.more
+  errand_run : s2.closed ≡ false → IsSettled clients s2.state.facts
+      → errand.whole s1.state.facts does.more
       → (text : List ℕ)
-      → ((two1 : Two File) (j1 : List (List Entry)) → FitsFiles clients s1 j1 two1 → text ≡ errand.text j1 does.more)
-      → (P : List ℕ → Type 0) → P text → (two2 : Two File) → o2.files ≡ Some two2 → IsRun clients errand j two2 P
+      → ((two1 : Two File) (j1 : List (List Entry)) → FitsFiles clients s1 j1 two1
+      → text ≡ errand.text j1 does.more)
+      → (P : List ℕ → Type 0) → P text → (two2 : Two File) → o2.files ≡ Some two2
+      → IsRun clients errand j two2 P
   errand_run still still_settled whole text is P printed two2 files2 =
       let fits2 = last_fits still two2 files2 in
       let told1 = told_on o o1 two run.same_told files in
@@ -208,7 +235,8 @@ module _ (clients : Meaning) (errand : Errand) (s s1 s2 : StoreValue) (o o1 o2 :
         settled = is_settled;
         whole = subst (λ (f : Facts). errand.whole f does.more) begun whole;
         ends_settled = subst (IsSettled clients) (sym fits2.facts_are) still_settled;
-        short = fits_format clients s2 (j ++ (settled.more ++ does.more)) two2 kind.Short fits2 last_short;
+        short = fits_format clients s2 (j ++ (settled.more ++ does.more)) two2 kind.Short fits2
+            last_short;
         roomy = roomy;
         stands_for = fits2.stands_for;
         first_settled = fits2.first_settled;
@@ -218,7 +246,8 @@ module _ (clients : Meaning) (errand : Errand) (s s1 s2 : StoreValue) (o o1 o2 :
 
   -- there was no room for the next batch
   errand_cut : s2.closed ≡ false → (next : List Entry) → errand.next s1.state.facts does.more next
-      → s2.limit < needed s2 next → (two2 : Two File) → o2.files ≡ Some two2 → IsErrandCutShort clients errand j two2
+      → s2.limit < needed s2 next → (two2 : Two File) → o2.files ≡ Some two2
+      → IsErrandCutShort clients errand j two2
   errand_cut still next follows over two2 files2 =
       let fits2 = last_fits still two2 files2 in
       let limit : s2.limit ≡ MAX_JOURNAL = does.comes.runs.limit ∙ settled.comes.limit ∙ limited in
@@ -231,27 +260,36 @@ module _ (clients : Meaning) (errand : Errand) (s s1 s2 : StoreValue) (o o1 o2 :
         settles = settles;
         settled = is_settled;
         follows = subst (λ (f : Facts). errand.next f does.more next) begun follows;
-        short = fits_format clients s2 (j ++ (settled.more ++ does.more)) two2 kind.Short fits2 last_short;
+        short = fits_format clients s2 (j ++ (settled.more ++ does.more)) two2 kind.Short fits2
+            last_short;
         stands_for = fits2.stands_for;
         over = omega (arith, sum, limit, over);
       }
 
 -- ---- an errand that failed
 
-cut_ends : (clients : Meaning) (errand : Errand) (s s1 s2 : StoreValue) (o o1 o2 : Outside) (out out' : Stream)
+cut_ends : (clients : Meaning) (errand : Errand) (s s1 s2 : StoreValue) (o o1 o2 : Outside)
+    (out out' : Stream)
     (u : Unit {0}) (came : Outcome) → DiskRun o o1 → SettlesAnew clients s s1 o o1 (Ok u)
     → DoesErrand clients errand s1 s2 o1 o2 (Err came) → s.limit ≡ MAX_JOURNAL → (two : Two File)
-    → o.files ≡ Some two → (j : List (List Entry)) → FitsFiles clients s j two → (two2 : Two File) → o2.files ≡ Some two2
+    → o.files ≡ Some two → (j : List (List Entry)) → FitsFiles clients s j two → (two2 : Two File)
+    → o2.files ≡ Some two2
     → ErrandEnds clients errand j two two2 out out' came
-cut_ends clients errand s s1 s2 o o1 o2 out out' u outcome.Full run settled does limited two files j fits two2 files2 =
-    inl (errand_cut clients errand s s1 s2 o o1 o2 u (Err outcome.Full) run settled does limited two files j fits
+cut_ends clients errand s s1 s2 o o1 o2 out out' u outcome.Full run settled does limited two files j
+    fits two2 files2 =
+    inl (errand_cut clients errand s s1 s2 o o1 o2 u (Err outcome.Full) run settled does limited two
+    files j fits
     does.answer.0 does.answer.1.next does.answer.1.follows does.answer.1.over two2 files2)
-cut_ends clients errand s s1 s2 o o1 o2 out out' u outcome.Memory run settled does limited two files j fits two2 files2 = tt
-cut_ends clients errand s s1 s2 o o1 o2 out out' u outcome.DiskFault run settled does limited two files j fits two2 files2 = tt
-cut_ends clients errand s s1 s2 o o1 o2 out out' u _ run settled does limited two files j fits two2 files2 =
+cut_ends clients errand s s1 s2 o o1 o2 out out' u outcome.Memory run settled does limited two files
+    j fits two2 files2 = tt
+cut_ends clients errand s s1 s2 o o1 o2 out out' u outcome.DiskFault run settled does limited two
+    files j fits two2 files2 = tt
+cut_ends clients errand s s1 s2 o o1 o2 out out' u _ run settled does limited two files j fits two2
+    files2 =
     absurd does.answer
 
-pub errand_stopped : (clients : Meaning) (errand : Errand) (s s1 s2 : StoreValue) (o o1 o2 : Outside) (out out' : Stream)
+pub errand_stopped : (clients : Meaning) (errand : Errand) (s s1 s2 : StoreValue)
+    (o o1 o2 : Outside) (out out' : Stream)
     (u : Unit {0}) (came : Outcome) → IsIdle out out' → s.limit ≡ MAX_JOURNAL → DiskRun o o1
     → SettlesAnew clients s s1 o o1 (Ok u) → DoesErrand clients errand s1 s2 o1 o2 (Err came)
     → RunsErrand clients errand s o o2 out out' came
@@ -261,49 +299,62 @@ errand_stopped clients errand s s1 s2 o o1 o2 out out' u came idle limited run s
       run = run_then o o1 o2 run does.comes.runs.run;
       by = failed_by errand.comes o o2 out out' came idle whole;
       told = λ two files j fits. record {
-        moments = errand_moments clients errand s s1 s2 o o1 o2 u (Err came) run settled does limited two files j fits;
+        moments = errand_moments clients errand s s1 s2 o o1 o2 u (Err came) run settled does
+            limited two files j fits;
         ends = λ two2 files2.
-            cut_ends clients errand s s1 s2 o o1 o2 out out' u came run settled does limited two files j fits two2 files2;
+            cut_ends clients errand s s1 s2 o o1 o2 out out' u came run settled does limited two
+            files j fits two2 files2;
         spent = λ last. failed_not_whole o o2 came whole;
       };
     }
 
 -- ---- an errand and its text
 
-printed_ends : (clients : Meaning) (errand : Errand) (j : List (List Entry)) (out out' : Stream) (comes : Outcome)
+printed_ends : (clients : Meaning) (errand : Errand) (j : List (List Entry)) (out out' : Stream)
+    (comes : Outcome)
     (text : List ℕ) (came : Outcome) (two two2 : Two File)
-    → ((P : List ℕ → Type 0) → P text → IsRun clients errand j two2 P) → PrintsOut comes text out out' came
+    → ((P : List ℕ → Type 0) → P text → IsRun clients errand j two2 P)
+    → PrintsOut comes text out out' came
     → ErrandEnds clients errand j two two2 out out' came
 printed_ends clients errand j out out' comes text outcome.Done two two2 ran p = ran _ p.1
 printed_ends clients errand j out out' comes text (outcome.Inside place) two two2 ran p = ran _ p.1
 printed_ends clients errand j out out' comes text (outcome.Bad place why) two two2 ran p = ran _ p.1
-printed_ends clients errand j out out' comes text (outcome.NoVersion place) two two2 ran p = ran _ p.1
+printed_ends clients errand j out out' comes text (outcome.NoVersion place) two two2 ran p =
+    ran _ p.1
 printed_ends clients errand j out out' comes text outcome.WriteFault two two2 ran p = ran _ p.1
 printed_ends clients errand j out out' comes text outcome.Memory two two2 ran p = tt
 printed_ends clients errand j out out' comes text _ two two2 ran p = absurd p
 
-pub errand_printed : (clients : Meaning) (errand : Errand) (s s1 s2 : StoreValue) (o o1 o2 : Outside) (out out' : Stream)
+pub errand_printed : (clients : Meaning) (errand : Errand) (s s1 s2 : StoreValue)
+    (o o1 o2 : Outside) (out out' : Stream)
     (u v : Unit {0}) (text : List ℕ) (came : Outcome) → s.limit ≡ MAX_JOURNAL → DiskRun o o1
     → SettlesAnew clients s s1 o o1 (Ok u) → (does : DoesErrand clients errand s1 s2 o1 o2 (Ok v))
-    → ((two1 : Two File) (j1 : List (List Entry)) → FitsFiles clients s1 j1 two1 → text ≡ errand.text j1 does.more)
+    → ((two1 : Two File) (j1 : List (List Entry)) → FitsFiles clients s1 j1 two1
+    → text ≡ errand.text j1 does.more)
     → PrintsOut errand.comes text out out' came → RunsErrand clients errand s o o2 out out' came
-errand_printed clients errand s s1 s2 o o1 o2 out out' u v text came limited run settled does is printed = record {
-  run = run_then o o1 o2 run does.comes.runs.run;
-  by = printed_by errand.comes text o o2 out out' came printed;
-  told = λ two files j fits. record {
-    moments = errand_moments clients errand s s1 s2 o o1 o2 u (Ok v) run settled does limited two files j fits;
-    ends = λ two2 files2.
-        printed_ends clients errand j out out' errand.comes text came two two2
-        (λ P p.
-        errand_run clients errand s s1 s2 o o1 o2 u (Ok v) run settled does limited two files j fits does.answer.0
-        does.answer.1 does.answer.2 text is P p two2 files2) printed;
-    spent = λ last. absurd (settled.answer.3 (spent_here clients s j two fits last));
-  };
-}
+errand_printed clients errand s s1 s2 o o1 o2 out out' u v text came limited run settled does is
+    printed = record {
+      run = run_then o o1 o2 run does.comes.runs.run;
+      by = printed_by errand.comes text o o2 out out' came printed;
+      told = λ two files j fits. record {
+        moments =
+            errand_moments clients errand s s1 s2 o o1 o2 u (Ok v) run settled does limited two
+            files j fits;
+        ends = λ two2 files2.
+            printed_ends clients errand j out out' errand.comes text came two two2
+            (λ P p.
+            errand_run clients errand s s1 s2 o o1 o2 u (Ok v) run settled does limited two files j
+            fits
+            does.answer.0
+            does.answer.1 does.answer.2 text is P p two2 files2) printed;
+        spent = λ last. absurd (settled.answer.3 (spent_here clients s j two fits last));
+      };
+    }
 
 -- ---- from the files
 
--- a run from files that read as before, of which each moment is as a crash might have left them, with nothing sent
+-- a run from files that read as before, of which each moment is as a crash might have left them,
+-- with nothing sent
 pub record LeavesAsIs (two : Two File) (o o1 : Outside) : Type 0 where
   pub now : Two File
   pub files : o1.files ≡ Some now
@@ -312,7 +363,8 @@ pub record LeavesAsIs (two : Two File) (o o1 : Outside) : Type 0 where
   pub sent : sent_of o1.links.told ≡ sent_of o.links.told
   pub later : o.disk_faults ≤ o1.disk_faults
 
-pub loaded_as_is : (two : Two File) (o o1 : Outside) → DiskRun o o1 → o.files ≡ Some two → LeavesFilesSo (FilesReadSame two) two o o1
+pub loaded_as_is : (two : Two File) (o o1 : Outside) → DiskRun o o1 → o.files ≡ Some two
+    → LeavesFilesSo (FilesReadSame two) two o o1
     → LeavesAsIs two o o1
 loaded_as_is two o o1 run files rests =
     let told1 = told_on o o1 two run.same_told files in
@@ -326,7 +378,8 @@ loaded_as_is two o o1 run files rests =
     }
 
 -- the clock is read
-pub read_as_is : (now : ℕ) (two : Two File) (o o1 o2 : Outside) → LeavesAsIs two o o1 → QuietCall o1 o2
+pub read_as_is : (now : ℕ) (two : Two File) (o o1 o2 : Outside) → LeavesAsIs two o o1
+    → QuietCall o1 o2
     → ReadsClock now o1.links o2.links → LeavesAsIs two o o2
 read_as_is now two o o1 o2 as_is call reads =
     let files2 : o2.files ≡ Some as_is.now = call.same_files ∙ as_is.files in
@@ -337,14 +390,16 @@ read_as_is now two o o1 o2 as_is call reads =
       reads = as_is.reads;
       moments = moments_during o o1 o2 _ _ as_is.moments call.time (λ m w.
           let at = o2.now_is as_is.now m files2 w in
-          let before : IsNow as_is.now o1.links m = record { image = at.image; sent = at.sent ∙ told } in
+          let before : IsNow as_is.now o1.links m =
+          record { image = at.image; sent = at.sent ∙ told } in
           as_is.moments.each m
           (o1.since o.clock m as_is.moments.later (o1.is_now as_is.now m as_is.files before)));
       sent = told ∙ as_is.sent;
       later = omega (arith, as_is.later, call.same_faults);
     }
 
-by_later : (comes : Outcome) (o o1 o2 : Outside) (out out' : Stream) (came : Outcome) → o.disk_faults ≤ o1.disk_faults
+by_later : (comes : Outcome) (o o1 o2 : Outside) (out out' : Stream) (came : Outcome)
+    → o.disk_faults ≤ o1.disk_faults
     → ErrandBy comes o1 o2 out out' came → ErrandBy comes o o2 out out' came
 by_later comes o o1 o2 out out' outcome.DiskFault later by =
     (rose_before o.disk_faults o1.disk_faults o2.disk_faults later by.0, by.1)
@@ -357,8 +412,10 @@ by_later comes o o1 o2 out out' outcome.Full later by = by
 by_later comes o o1 o2 out out' outcome.Memory later by = by
 by_later comes o o1 o2 out out' _ later by = absurd by
 
-ends_first : (clients : Meaning) (errand : Errand) (j : List (List Entry)) (two two1 two2 : Two File) (out out' : Stream)
-    (came : Outcome) → read_files two1 ≡ read_files two → ErrandEnds clients errand j two1 two2 out out' came
+ends_first : (clients : Meaning) (errand : Errand) (j : List (List Entry))
+    (two two1 two2 : Two File) (out out' : Stream)
+    (came : Outcome) → read_files two1 ≡ read_files two
+    → ErrandEnds clients errand j two1 two2 out out' came
     → ErrandEnds clients errand j two two2 out out' came
 ends_first clients errand j two two1 two2 out out' outcome.Done same ends = ends
 ends_first clients errand j two two1 two2 out out' (outcome.Inside place) same ends = ends
@@ -371,7 +428,8 @@ ends_first clients errand j two two1 two2 out out' outcome.Full same (inr spent)
 ends_first clients errand j two two1 two2 out out' _ same ends = tt
 
 -- a store was loaded over which the tests hold, perhaps the clock was read, and the errand was run
-pub errand_loaded : (clients : Meaning) (contact : ℕ) (errand : Errand) (o o1 o2 : Outside) (out out' : Stream)
+pub errand_loaded : (clients : Meaning) (contact : ℕ) (errand : Errand) (o o1 o2 : Outside)
+    (out out' : Stream)
     (s : StoreValue) (came : Outcome) → o.disk_faults ≤ o1.disk_faults
     → ((two : Two File) → o.files ≡ Some two → LeavesAsIs two o o1) → MayExtend clients s o1.files
     → mailbox_test s.state.facts contact ≡ None → RunsErrand clients errand s o1 o2 out out' came
@@ -393,14 +451,16 @@ errand_loaded clients contact errand o o1 o2 out out' s came later as_is ready t
               stood = stood;
               tested = test;
               leads =
-                  subst (λ (sent : List (List ℕ)). JournalMoment clients (ErrandOn clients errand fit.0) sent m)
+                  subst (λ (sent : List (List ℕ)).
+                  JournalMoment clients (ErrandOn clients errand fit.0) sent m)
                   first.sent w;
             })) went.moments);
         ends = λ two2 files2. record {
           before = fit.0;
           stood = stood;
           tested = test;
-          leads = ends_first clients errand fit.0 two first.now two2 out out' came first.reads (went.ends two2 files2);
+          leads = ends_first clients errand fit.0 two first.now two2 out out' came first.reads
+              (went.ends two2 files2);
         };
         spent = λ last. went.spent (subst HasLastGeneration (sym first.reads) last);
       };
@@ -408,13 +468,16 @@ errand_loaded clients contact errand o o1 o2 out out' s came later as_is ready t
 
 -- ---- an error that goes on by `?`
 
-passed : (P : Outcome → Type 0) (r : Result (Unit {0}) Outcome) (x : Outcome) → IsErrAnd r (λ e. e ≡ x) → P x
+passed : (P : Outcome → Type 0) (r : Result (Unit {0}) Outcome) (x : Outcome) → IsErrAnd r
+    (λ e. e ≡ x) → P x
     → P (came_to r)
 passed P (Ok u) x is h = absurd is
 passed P (Err e) x is h = subst P (sym is) h
 
-pub errand_on : (r : Result (Unit {0}) Outcome) (x : Outcome) → IsErrAnd r (λ e. e ≡ x) → (clients : Meaning)
-    (errand : Errand) (s : StoreValue) (o o' : Outside) (out out' : Stream) → RunsErrand clients errand s o o' out out' x
+pub errand_on : (r : Result (Unit {0}) Outcome) (x : Outcome) → IsErrAnd r (λ e. e ≡ x)
+    → (clients : Meaning)
+    (errand : Errand) (s : StoreValue) (o o' : Outside) (out out' : Stream)
+    → RunsErrand clients errand s o o' out out' x
     → RunsErrand clients errand s o o' out out' (came_to r)
 errand_on r x is clients errand s o o' out out' =
     passed (λ (came : Outcome). RunsErrand clients errand s o o' out out' came) r x is
@@ -422,11 +485,14 @@ errand_on r x is clients errand s o o' out out' =
 -- ---- the tests
 
 -- what the tests say of a session stays so while a journal is settled
-pub still_begins : (clients : Meaning) (contact : ℕ) (s s1 : StoreValue) (o o1 : Outside) (more : List (List Entry))
-    → MayBeginWith s.state.facts contact → ComesAnew clients s s1 o o1 more → MayBeginWith s1.state.facts contact
+pub still_begins : (clients : Meaning) (contact : ℕ) (s s1 : StoreValue) (o o1 : Outside)
+    (more : List (List Entry))
+    → MayBeginWith s.state.facts contact → ComesAnew clients s s1 o o1 more
+    → MayBeginWith s1.state.facts contact
 still_begins clients contact s s1 o o1 more may comes =
     let stay = all_settling_only clients s.state.facts more comes.settling in
     let same : s1.state.facts.contacts ≡ s.state.facts.contacts =
     ap (λ (f : Facts). f.contacts) comes.facts ∙ stay.contacts in
-    let begun : s1.state.facts.begun ≡ s.state.facts.begun = ap (λ (f : Facts). f.begun) comes.facts ∙ stay.begun in
+    let begun : s1.state.facts.begun ≡ s.state.facts.begun = ap (λ (f : Facts). f.begun) comes.facts
+    ∙ stay.begun in
     record { known = omega (arith, may.known, same); few = omega (arith, may.few, begun) }

@@ -1,5 +1,7 @@
 -- A file that is written, as an errand; and a run of the command that writes it.
-use Rattle.std.proofs.Common.{◌≡◌, ◌⊎◌, ℕ, ◌+◌, ◌<◌, ◌≤◌, false, arith, is_some, List, [], ◌∷◌, ◌++◌, refl, sym, ap, ◌∙◌, subst, inl, inr, Result, Ok, Err, None, Some}
+use Rattle.std.proofs.Common.{◌≡◌, ◌⊎◌, ℕ, ◌+◌, ◌<◌, ◌≤◌, false, arith, is_some, List, [], ◌∷◌}
+use Rattle.std.proofs.Common.{◌++◌, refl, sym, ap, ◌∙◌, subst, inl, inr, Result, Ok, Err, None}
+use Rattle.std.proofs.Common.{Some}
 use Rattle.std.specs.Prelude.{IsErrAnd, Option}
 use Rattle.outside.specs.declared.limits.TheConstants.{MAX_JOURNAL}
 use Rattle.outside.specs.Faults.{CountRose}
@@ -23,7 +25,8 @@ use Rattle.sync_store.specs.Store.{StoreValue}
 use Rattle.sync_store.specs.declared.fault.StoreFault.{StoreFault}
 use Rattle.sync_store.specs.declared.fault.StoreFault.TheVariants as fault
 use Rattle.mailbox_core.specs.Laws.{OutputsAreSent}
-use Rattle.mailbox_core.specs.Sending.{HasWrittenBox, SendsAll, SendsUntilFull, WritesSome, WritesUntilFull, batch_session, out_batch}
+use Rattle.mailbox_core.specs.Sending.{HasWrittenBox, SendsAll, SendsUntilFull, WritesSome}
+use Rattle.mailbox_core.specs.Sending.{WritesUntilFull, batch_session, out_batch}
 use Rattle.mailbox_core.specs.Taking.{BeginsThen, first_batch}
 use Rattle.sync_words.specs.declared.outcome.Outcome.{Outcome}
 use Rattle.sync_words.specs.declared.outcome.Outcome.TheVariants as outcome
@@ -34,7 +37,8 @@ use Rattle.store_commands.specs.Show.{PrintsText, LeavesFilesSo}
 use Rattle.mailbox_commands.specs.declared.sending.Sending.{Sending}
 use Rattle.mailbox_commands.specs.Errands.{mailbox_test}
 use Rattle.mailbox_commands.specs.Running.{DoesErrand, LacksRoom, RunsErrand, StopsEarly}
-use Rattle.mailbox_commands.specs.Sending.{HasSentMail, SendsMail, SendsNextBatch, TellsSent, WritesAll, WritesWhole, out_errand}
+use Rattle.mailbox_commands.specs.Sending.{HasSentMail, SendsMail, SendsNextBatch, TellsSent}
+use Rattle.mailbox_commands.specs.Sending.{WritesAll, WritesWhole, out_errand}
 use Rattle.mailbox_commands.proofs.Errands.{errand_loaded, errand_printed, loaded_as_is, read_as_is}
 use Rattle.mailbox_commands.proofs.Taken.{prints_plain}
 
@@ -43,7 +47,8 @@ Batches = List (List Entry)
 
 -- ---- the errand
 
-module _ (clients : Meaning) (asked : Sending) (now : ℕ) (s s' : StoreValue) (to to' : List ℕ) (o o' : Outside) where
+module _ (clients : Meaning) (asked : Sending) (now : ℕ) (s s' : StoreValue) (to to' : List ℕ)
+    (o o' : Outside) where
   abbrev Sent : Result (Unit {0}) Outcome → Type 0
   Sent r = TellsSent clients asked now s s' o o' to to' r
 
@@ -51,7 +56,8 @@ module _ (clients : Meaning) (asked : Sending) (now : ℕ) (s s' : StoreValue) (
   Wrote r = HasWrittenBox clients asked.contact asked.latency now asked.count s s' to to' r o o'
 
   whole_of : (made : ℕ) (more : Batches) (last : Facts) → last ≡ after_batches s.state.facts more
-      → BeginsThen s.state.facts (batch_session s.state.facts.begun asked.contact asked.latency) more
+      → BeginsThen s.state.facts (batch_session s.state.facts.begun asked.contact asked.latency)
+      more
       (λ g rest. SendsAll clients g last s.state.facts.begun now asked.count made rest)
       → WritesWhole clients asked now s.state.facts more
   whole_of made more last same begins = record {
@@ -63,22 +69,27 @@ module _ (clients : Meaning) (asked : Sending) (now : ℕ) (s s' : StoreValue) (
           subst
           (λ (later : Facts).
           SendsAll clients
-          (after s.state.facts (entry.Session (batch_session s.state.facts.begun asked.contact asked.latency))) later
+          (after s.state.facts
+          (entry.Session (batch_session s.state.facts.begun asked.contact asked.latency))) later
           s.state.facts.begun now asked.count made begins.rest)
           same begins.later;
     };
   }
 
   some_of : (made : ℕ) (more : Batches) (last : Facts)
-      → BeginsThen s.state.facts (batch_session s.state.facts.begun asked.contact asked.latency) more
+      → BeginsThen s.state.facts (batch_session s.state.facts.begun asked.contact asked.latency)
+      more
       (λ g rest. SendsAll clients g last s.state.facts.begun now asked.count made rest)
       → WritesSome clients asked.contact asked.latency now asked.count s.state.facts more
-  some_of made more last begins = inr (record { rest = begins.rest; is = begins.is; later = begins.later.sends })
+  some_of made more last begins =
+      inr (record { rest = begins.rest; is = begins.is; later = begins.later.sends })
 
-  full_some : (more : Batches) → WritesUntilFull clients asked.contact asked.latency now asked.count s.state.facts s' more
+  full_some : (more : Batches)
+      → WritesUntilFull clients asked.contact asked.latency now asked.count s.state.facts s' more
       → WritesSome clients asked.contact asked.latency now asked.count s.state.facts more
   full_some more (inl none) = inl none.0
-  full_some more (inr begins) = inr (record { rest = begins.rest; is = begins.is; later = begins.later.sends })
+  full_some more (inr begins) =
+      inr (record { rest = begins.rest; is = begins.is; later = begins.later.sends })
 
   full_lacks : (more : Batches) → s'.state.facts ≡ after_batches s.state.facts more
       → WritesUntilFull clients asked.contact asked.latency now asked.count s.state.facts s' more
@@ -100,7 +111,8 @@ module _ (clients : Meaning) (asked : Sending) (now : ℕ) (s s' : StoreValue) (
             what = begins.later.next;
             due =
                 subst
-                (λ (last : Facts). IsDue clients last (session_at last.sessions s.state.facts.begun) now begins.later.next)
+                (λ (last : Facts). IsDue clients last (session_at last.sessions s.state.facts.begun)
+                now begins.later.next)
                 same begins.later.due;
             is = refl;
           };
@@ -142,38 +154,50 @@ module _ (clients : Meaning) (asked : Sending) (now : ℕ) (s s' : StoreValue) (
     bytes = tt;
   }
 
-  pub sent_disk : Wrote (Err fault.DiskFault) → CountRose o.disk_faults o'.disk_faults → Sent (Err outcome.DiskFault)
+  pub sent_disk : Wrote (Err fault.DiskFault) → CountRose o.disk_faults o'.disk_faults
+      → Sent (Err outcome.DiskFault)
   sent_disk has rose = record {
-    does = record { more = has.more; comes = has.comes; some = has.answer.1; answer = tt; by = rose };
+    does =
+        record { more = has.more; comes = has.comes; some = has.answer.1; answer = tt; by = rose };
     bytes = tt;
   }
 
 -- ---- the whole run behind the loaded store
 
 -- the bytes are those of all that the session sends
-text_is : OutputsAreSent → (clients : Meaning) (asked : Sending) (now : ℕ) (s1 s2 : StoreValue) (o1 o2 : Outside)
-    (to to' given : List ℕ) (v : Unit {0}) → (tells : TellsSent clients asked now s1 s2 o1 o2 to to' (Ok v)) → to ≡ []
+text_is : OutputsAreSent → (clients : Meaning) (asked : Sending) (now : ℕ) (s1 s2 : StoreValue)
+    (o1 o2 : Outside)
+    (to to' given : List ℕ) (v : Unit {0})
+    → (tells : TellsSent clients asked now s1 s2 o1 o2 to to' (Ok v)) → to ≡ []
     → given ≡ to' → (two1 : Two File) (j1 : Batches) → FitsFiles clients s1 j1 two1
     → given ≡ spelled (sent (j1 ++ tells.does.more) (facts j1).begun)
 text_is law clients asked now s1 s2 o1 o2 to to' given v tells empty same two1 j1 fits =
     let more : Batches = tells.does.more in
     let goes : GoesOn clients (facts j1) tells.does.more =
-    subst (λ (f : Facts). GoesOn clients f tells.does.more) (sym fits.facts_are) tells.does.comes.runs.goes_on in
-    let all : sent (j1 ++ tells.does.more) (facts j1).begun ≡ output_of (facts j1) (facts j1).begun tells.does.more =
+    subst (λ (f : Facts). GoesOn clients f tells.does.more) (sym fits.facts_are)
+    tells.does.comes.runs.goes_on in
+    let all : sent (j1 ++ tells.does.more) (facts j1).begun
+    ≡ output_of (facts j1) (facts j1).begun tells.does.more =
     law clients j1 tells.does.more fits.legal goes in
     same
     ∙ tells.bytes
-    ∙ ap (λ (z : List ℕ). z ++ spelled (output_of s1.state.facts s1.state.facts.begun tells.does.more)) empty
+    ∙ ap (λ (z : List ℕ).
+    z ++ spelled (output_of s1.state.facts s1.state.facts.begun tells.does.more)) empty
     ∙ ap (λ (f : Facts). spelled (output_of f f.begun tells.does.more)) (sym fits.facts_are)
     ∙ ap spelled (sym all)
 
-pub sent_printed : OutputsAreSent → (clients : Meaning) (asked : Sending) (now : ℕ) (s s1 s2 : StoreValue)
-    (o o1 o2 : Outside) (out out' : Stream) (u v : Unit {0}) (to to' given : List ℕ) (came : Outcome)
+pub sent_printed : OutputsAreSent → (clients : Meaning) (asked : Sending) (now : ℕ)
+    (s s1 s2 : StoreValue)
+    (o o1 o2 : Outside) (out out' : Stream) (u v : Unit {0}) (to to' given : List ℕ)
+    (came : Outcome)
     → s.limit ≡ MAX_JOURNAL → DiskRun o o1 → SettlesAnew clients s s1 o o1 (Ok u)
     → TellsSent clients asked now s1 s2 o1 o2 to to' (Ok v) → to ≡ [] → given ≡ to'
-    → PrintsText given out out' came → RunsErrand clients (out_errand clients asked now) s o o2 out out' came
-sent_printed law clients asked now s s1 s2 o o1 o2 out out' u v to to' given came limited run settled tells empty same printed =
-    errand_printed clients (out_errand clients asked now) s s1 s2 o o1 o2 out out' u v given came limited run settled
+    → PrintsText given out out' came
+    → RunsErrand clients (out_errand clients asked now) s o o2 out out' came
+sent_printed law clients asked now s s1 s2 o o1 o2 out out' u v to to' given came limited run
+    settled tells empty same printed =
+    errand_printed clients (out_errand clients asked now) s s1 s2 o o1 o2 out out' u v given came
+    limited run settled
     tells.does (text_is law clients asked now s1 s2 o1 o2 to to' given v tells empty same)
     (prints_plain given given out out' came refl printed)
 
@@ -199,15 +223,19 @@ module _ (clients : Meaning) (asked : Sending) (old new : Outside) (out out' : S
   mailed_late outcome.Memory sends = inr sends
   mailed_late _ sends = sends
 
-  pub mailed_on : (r : Result (Unit {0}) Outcome) (x : Outcome) → IsErrAnd r (λ e. e ≡ x) → Mailed x → Mailed (came_to r)
+  pub mailed_on : (r : Result (Unit {0}) Outcome) (x : Outcome) → IsErrAnd r (λ e. e ≡ x) → Mailed x
+      → Mailed (came_to r)
   mailed_on (Ok u) x is mailed = absurd is
   mailed_on (Err e) x is mailed = subst Mailed (sym is) mailed
 
 -- from the files, where the clock was read
-pub mailed_read : (clients : Meaning) (asked : Sending) (now : ℕ) (o o1 oc o2 : Outside) (out out' : Stream)
+pub mailed_read : (clients : Meaning) (asked : Sending) (now : ℕ) (o o1 oc o2 : Outside)
+    (out out' : Stream)
     (s : StoreValue) (came : Outcome) → DiskRun o o1
-    → ((two : Two File) → o.files ≡ Some two → LeavesFilesSo (LoadKeeps (Ok s) two) two o o1) → MayExtend clients s oc.files
-    → mailbox_test s.state.facts asked.contact ≡ None → QuietCall o1 oc → ReadsClock now o1.links oc.links
+    → ((two : Two File) → o.files ≡ Some two → LeavesFilesSo (LoadKeeps (Ok s) two) two o o1)
+    → MayExtend clients s oc.files
+    → mailbox_test s.state.facts asked.contact ≡ None → QuietCall o1 oc
+    → ReadsClock now o1.links oc.links
     → RunsErrand clients (out_errand clients asked now) s oc o2 out out' came
     → HasSentMail clients asked o o2 out out' came
 mailed_read clients asked now o o1 oc o2 out out' s came run rests opened tested call clock ran =
@@ -223,13 +251,16 @@ mailed_read clients asked now o o1 oc o2 out out' s came run rests opened tested
         calls = calls_then o oc o2 (calls_link _ o o1 oc run.calls call) ran.run.calls;
       };
       did =
-          errand_loaded clients asked.contact (out_errand clients asked now) o oc o2 out out' s came later
-          (λ two files. read_as_is now two o o1 oc (loaded_as_is two o o1 run files (rests two files)) call clock)
+          errand_loaded clients asked.contact (out_errand clients asked now) o oc o2 out out' s came
+          later
+          (λ two files. read_as_is now two o o1 oc
+          (loaded_as_is two o o1 run files (rests two files)) call clock)
           opened tested ran;
     })
 
 -- a call that is not of the disk leaves a store as ready as it was
-pub ready_still : (clients : Meaning) (s : StoreValue) (o o' : Outside) → QuietCall o o' → MayExtend clients s o.files
+pub ready_still : (clients : Meaning) (s : StoreValue) (o o' : Outside) → QuietCall o o'
+    → MayExtend clients s o.files
     → MayExtend clients s o'.files
 ready_still clients s o o' call ready =
     subst (λ (files : Option (Two File)). MayExtend clients s files) (sym call.same_files) ready

@@ -1,5 +1,6 @@
 -- A file that is read, as an errand; and a run of the command that reads it.
-use Rattle.std.proofs.Common.{◌≡◌, ◌⊎◌, ℕ, ◌+◌, ◌<◌, false, List, [], ◌∷◌, ◌++◌, length, refl, sym, ap, ◌∙◌, subst, inl, inr, append_assoc, Result, Ok, Err, None, Some}
+use Rattle.std.proofs.Common.{◌≡◌, ◌⊎◌, ℕ, ◌+◌, ◌<◌, false, List, [], ◌∷◌, ◌++◌, length, refl, sym}
+use Rattle.std.proofs.Common.{ap, ◌∙◌, subst, inl, inr, append_assoc, Result, Ok, Err, None, Some}
 use Rattle.std.specs.Prelude.{IsErrAnd}
 use Rattle.std.specs.Global.{Vec}
 use Rattle.std.specs.Io.KnownBytes.{Appends}
@@ -30,7 +31,8 @@ use Rattle.mailbox_core.specs.declared.ends.BoxEnding.TheVariants as box
 use Rattle.mailbox_core.specs.Files.{box_records}
 use Rattle.mailbox_core.specs.Laws.{ReadsAreBoxes}
 use Rattle.mailbox_core.specs.Reading.{HasReadBox, ReadsSome, ReadsTo, ReadsUntilFull}
-use Rattle.mailbox_core.specs.Taking.{AllTaken, NoRoomFor, SomeTaken, TakesTo, first_batch, next_take}
+use Rattle.mailbox_core.specs.Taking.{AllTaken, NoRoomFor, SomeTaken, TakesTo, first_batch}
+use Rattle.mailbox_core.specs.Taking.{next_take}
 use Rattle.sync_words.specs.declared.outcome.Outcome.{Outcome}
 use Rattle.sync_words.specs.declared.outcome.Outcome.TheVariants as outcome
 use Rattle.sync_words.specs.Outcomes.{came_to}
@@ -39,8 +41,10 @@ use Rattle.store_commands.specs.Load.{LoadKeeps, LoadedBy, MayExtend}
 use Rattle.store_commands.specs.Show.{PrintsText, LeavesFilesSo}
 use Rattle.mailbox_commands.specs.Errands.{mailbox_test}
 use Rattle.mailbox_commands.specs.Laws.{MailIsBoxed}
-use Rattle.mailbox_commands.specs.Running.{DoesErrand, FailsToPrint, LacksRoom, PrintsOut, RunsErrand, StopsEarly}
-use Rattle.mailbox_commands.specs.Taking.{HasTakenMail, IsInput, IsMail, IsNextTake, ReadsNextBatch, TakesMail, TellsEnd, in_errand, outcome_at, taken_text}
+use Rattle.mailbox_commands.specs.Running.{DoesErrand, FailsToPrint, LacksRoom, PrintsOut}
+use Rattle.mailbox_commands.specs.Running.{RunsErrand, StopsEarly}
+use Rattle.mailbox_commands.specs.Taking.{HasTakenMail, IsInput, IsMail, IsNextTake, ReadsNextBatch}
+use Rattle.mailbox_commands.specs.Taking.{TakesMail, TellsEnd, in_errand, outcome_at, taken_text}
 use Rattle.mailbox_commands.proofs.Errands.{errand_loaded, errand_printed, loaded_as_is}
 
 abbrev Batches : Type 0
@@ -49,9 +53,11 @@ Batches = List (List Entry)
 -- ---- places on the way
 
 module _ (clients : Meaning) (session : ℕ) (P Q : Facts → ℕ → List Record → Batches → Type 0)
-    (leads : (f : Facts) (k : ℕ) (rs : List Record) (more : Batches) → P f k rs more → Q f k rs more) where
+    (leads : (f : Facts) (k : ℕ) (rs : List Record) (more : Batches) → P f k rs more
+    → Q f k rs more) where
   -- up to a place that has more
-  pub takes_map : (f : Facts) (k : ℕ) (rs : List Record) (more : Batches) → TakesTo clients session P f k rs more
+  pub takes_map : (f : Facts) (k : ℕ) (rs : List Record) (more : Batches)
+      → TakesTo clients session P f k rs more
       → TakesTo clients session Q f k rs more
   takes_map f k [] more at = leads f k [] more at
   takes_map f k (r ∷ rs) more (inl at) = inl (leads f k (r ∷ rs) more at)
@@ -64,25 +70,30 @@ module _ (clients : Meaning) (session : ℕ) (P Q : Facts → ℕ → List Recor
     later = takes_map (after_batches f takes.first) (k + 1) rs takes.rest takes.later;
   })
 
-pub all_are_some : (clients : Meaning) (session : ℕ) (f : Facts) (k : ℕ) (rs : List Record) (more : Batches)
+pub all_are_some : (clients : Meaning) (session : ℕ) (f : Facts) (k : ℕ) (rs : List Record)
+    (more : Batches)
     → AllTaken f k rs more → SomeTaken clients session f k rs more
 all_are_some clients session f k [] more at = at.1
 all_are_some clients session f k (r ∷ rs) more at = inl at.1
 
-pub none_is_some : (clients : Meaning) (session : ℕ) (s : StoreValue) (f : Facts) (k : ℕ) (rs : List Record)
+pub none_is_some : (clients : Meaning) (session : ℕ) (s : StoreValue) (f : Facts) (k : ℕ)
+    (rs : List Record)
     (more : Batches) → NoRoomFor session s f k rs more → SomeTaken clients session f k rs more
 none_is_some clients session s f k [] more at = absurd at
 none_is_some clients session s f k (r ∷ rs) more at = inl at.0
 
 -- the batch for which there was no room
-record Lacked (clients : Meaning) (session : ℕ) (s : StoreValue) (f : Facts) (k : ℕ) (rs : List Record) (more : Batches)
+record Lacked (clients : Meaning) (session : ℕ) (s : StoreValue) (f : Facts) (k : ℕ)
+    (rs : List Record) (more : Batches)
     : Type 0 where
   next : List Entry
   at : TakesTo clients session (IsNextTake s.state.facts session next) f k rs more
   over : s.limit < needed s next
 
-lacked : (clients : Meaning) (session : ℕ) (s : StoreValue) (f : Facts) (k : ℕ) (rs : List Record) (more : Batches)
-    → TakesTo clients session (NoRoomFor session s) f k rs more → Lacked clients session s f k rs more
+lacked : (clients : Meaning) (session : ℕ) (s : StoreValue) (f : Facts) (k : ℕ) (rs : List Record)
+    (more : Batches)
+    → TakesTo clients session (NoRoomFor session s) f k rs more
+    → Lacked clients session s f k rs more
 lacked clients session s f k [] more at = absurd at
 lacked clients session s f k (r ∷ rs) more (inl at) = record {
   next = next_take s.state.facts session k r;
@@ -90,7 +101,8 @@ lacked clients session s f k (r ∷ rs) more (inl at) = record {
   over = at.1;
 }
 lacked clients session s f k (r ∷ rs) more (inr takes) =
-    let later = lacked clients session s (after_batches f takes.first) (k + 1) rs takes.rest takes.later in
+    let later = lacked clients session s (after_batches f takes.first) (k + 1) rs takes.rest
+    takes.later in
     record {
       next = later.next;
       at = inr (record {
@@ -111,21 +123,26 @@ module _ (clients : Meaning) (contact : ℕ) (f : Facts) (rs : List Record) (mor
   whole_is_some reads = inr (record {
     rest = reads.rest;
     is = reads.is;
-    later = takes_map clients f.begun AllTaken (SomeTaken clients f.begun) (all_are_some clients f.begun) _ _ rs reads.rest
+    later = takes_map clients f.begun AllTaken (SomeTaken clients f.begun)
+        (all_are_some clients f.begun) _ _ rs reads.rest
         reads.later;
   })
 
-  full_is_some : (s : StoreValue) → ReadsUntilFull clients contact f s rs more → ReadsSome clients contact f rs more
+  full_is_some : (s : StoreValue) → ReadsUntilFull clients contact f s rs more
+      → ReadsSome clients contact f rs more
   full_is_some s (inl none) = inl none.0
   full_is_some s (inr reads) = inr (record {
     rest = reads.rest;
     is = reads.is;
-    later = takes_map clients f.begun (NoRoomFor f.begun s) (SomeTaken clients f.begun) (none_is_some clients f.begun s) _ _
+    later = takes_map clients f.begun (NoRoomFor f.begun s) (SomeTaken clients f.begun)
+        (none_is_some clients f.begun s) _ _
         rs reads.rest reads.later;
   })
 
-  lacks : (bytes : List ℕ) (s : StoreValue) → s.state.facts ≡ after_batches f more → rs ≡ box_records bytes
-      → ReadsUntilFull clients contact f s rs more → LacksRoom (in_errand clients contact bytes) f s more
+  lacks : (bytes : List ℕ) (s : StoreValue) → s.state.facts ≡ after_batches f more
+      → rs ≡ box_records bytes
+      → ReadsUntilFull clients contact f s rs more
+      → LacksRoom (in_errand clients contact bytes) f s more
   lacks bytes s same are (inl none) = record {
     next = first_batch (box_session f.begun contact);
     follows = inl (none.0, refl);
@@ -136,20 +153,23 @@ module _ (clients : Meaning) (contact : ℕ) (f : Facts) (rs : List Record) (mor
       record {
         next = at.next;
         follows =
-            subst (λ (xs : List Record). ReadsNextBatch clients contact xs f more at.next) are (inr (record {
+            subst (λ (xs : List Record). ReadsNextBatch clients contact xs f more at.next) are
+            (inr (record {
               rest = reads.rest;
               is = reads.is;
               later =
                   subst
                   (λ (last : Facts).
                   TakesTo clients f.begun (IsNextTake last f.begun at.next)
-                  (after f (entry.Session (box_session f.begun contact))) (takes_of f.takes f.begun) rs reads.rest)
+                  (after f (entry.Session (box_session f.begun contact))) (takes_of f.takes f.begun)
+                  rs reads.rest)
                   same at.at;
             }));
         over = at.over;
       }
 
-module _ (clients : Meaning) (contact : ℕ) (bytes : List ℕ) (s s' : StoreValue) (o o' : Outside) where
+module _ (clients : Meaning) (contact : ℕ) (bytes : List ℕ) (s s' : StoreValue)
+    (o o' : Outside) where
   abbrev Does : Result (Unit {0}) Outcome → Type 0
   Does r = DoesErrand clients (in_errand clients contact bytes) s s' o o' r
 
@@ -162,47 +182,67 @@ module _ (clients : Meaning) (contact : ℕ) (bytes : List ℕ) (s s' : StoreVal
     by = tt;
   }
 
-  pub does_full : HasReadBox clients contact bytes s s' (Err fault.Full) o o' → Does (Err outcome.Full)
+  pub does_full : HasReadBox clients contact bytes s s' (Err fault.Full) o o'
+      → Does (Err outcome.Full)
   does_full has = record {
     more = has.more;
     comes = has.comes;
     some = full_is_some clients contact s.state.facts (box_records bytes) has.more s' has.answer.2;
     answer = (
       has.answer.0,
-      lacks clients contact s.state.facts (box_records bytes) has.more bytes s' (has.comes.runs.facts has.answer.0) refl
+      lacks clients contact s.state.facts (box_records bytes) has.more bytes s'
+          (has.comes.runs.facts has.answer.0) refl
           has.answer.2,
     );
     by = tt;
   }
 
-  pub does_memory : HasReadBox clients contact bytes s s' (Err fault.Memory) o o' → Does (Err outcome.Memory)
-  does_memory has = record { more = has.more; comes = has.comes; some = has.answer.1; answer = tt; by = tt }
+  pub does_memory : HasReadBox clients contact bytes s s' (Err fault.Memory) o o'
+      → Does (Err outcome.Memory)
+  does_memory has =
+      record { more = has.more; comes = has.comes; some = has.answer.1; answer = tt; by = tt }
 
-  pub does_disk : HasReadBox clients contact bytes s s' (Err fault.DiskFault) o o' → CountRose o.disk_faults o'.disk_faults
+  pub does_disk : HasReadBox clients contact bytes s s' (Err fault.DiskFault) o o'
+      → CountRose o.disk_faults o'.disk_faults
       → Does (Err outcome.DiskFault)
-  does_disk has rose = record { more = has.more; comes = has.comes; some = has.answer.1; answer = tt; by = rose }
+  does_disk has rose =
+      record { more = has.more; comes = has.comes; some = has.answer.1; answer = tt; by = rose }
 
 -- ---- the text
 
 -- what comes of an ending once the text is written
-prints_at : (e : BoxEnding) (text : List ℕ) (out out' : Stream) (came : Outcome) → came ≡ outcome_at e
+prints_at : (e : BoxEnding) (text : List ℕ) (out out' : Stream) (came : Outcome)
+    → came ≡ outcome_at e
     → Appends out.bytes out'.bytes text → PrintsOut (outcome_at e) text out out' came
 prints_at box.Clean text out out' came is written =
     subst (λ (x : Outcome). PrintsOut outcome.Done text out out' x) (sym is) (refl, written)
 prints_at (box.Inside place) text out out' came is written =
-    subst (λ (x : Outcome). PrintsOut (outcome.Inside place) text out out' x) (sym is) (refl, written)
+    subst (λ (x : Outcome). PrintsOut (outcome.Inside place) text out out' x) (sym is) (
+      refl,
+      written,
+    )
 prints_at (box.Bad place why) text out out' came is written =
-    subst (λ (x : Outcome). PrintsOut (outcome.Bad place why) text out out' x) (sym is) (refl, written)
+    subst (λ (x : Outcome). PrintsOut (outcome.Bad place why) text out out' x) (sym is) (
+      refl,
+      written,
+    )
 prints_at (box.NoVersion place) text out out' came is written =
-    subst (λ (x : Outcome). PrintsOut (outcome.NoVersion place) text out out' x) (sym is) (refl, written)
+    subst (λ (x : Outcome). PrintsOut (outcome.NoVersion place) text out out' x) (sym is) (
+      refl,
+      written,
+    )
 
-pub prints_end : (e : BoxEnding) (text given : List ℕ) (out out' : Stream) (came : Outcome) → came ≡ outcome_at e
-    → given ≡ text → Appends out.bytes out'.bytes given → PrintsOut (outcome_at e) text out out' came
+pub prints_end : (e : BoxEnding) (text given : List ℕ) (out out' : Stream) (came : Outcome)
+    → came ≡ outcome_at e
+    → given ≡ text → Appends out.bytes out'.bytes given
+    → PrintsOut (outcome_at e) text out out' came
 prints_end e text given out out' came is same written =
-    prints_at e text out out' came is (subst (λ (t : List ℕ). Appends out.bytes out'.bytes t) same written)
+    prints_at e text out out' came is
+    (subst (λ (t : List ℕ). Appends out.bytes out'.bytes t) same written)
 
 -- what is printed by bytes alone, where that failed
-prints_short : (comes : Outcome) (text : List ℕ) (out out' : Stream) (came : Outcome) → PrintsText text out out' came
+prints_short : (comes : Outcome) (text : List ℕ) (out out' : Stream) (came : Outcome)
+    → PrintsText text out out' came
     → (came ≡ outcome.Done → comes ≡ outcome.Done) → PrintsOut comes text out out' came
 prints_short comes text out out' outcome.Done printed is = (is refl, printed)
 prints_short comes text out out' outcome.WriteFault printed is = printed
@@ -212,31 +252,37 @@ prints_short comes text out out' _ printed is = absurd printed
 pub prints_plain : (text given : List ℕ) (out out' : Stream) (came : Outcome) → given ≡ text
     → PrintsText given out out' came → PrintsOut outcome.Done text out out' came
 prints_plain text given out out' came same printed =
-    prints_short outcome.Done text out out' came (subst (λ (t : List ℕ). PrintsText t out out' came) same printed)
+    prints_short outcome.Done text out out' came
+    (subst (λ (t : List ℕ). PrintsText t out out' came) same printed)
     (λ is. refl)
 
 -- the bytes failed to go out
-fails_short : (comes : Outcome) (text : List ℕ) (out out' : Stream) (came : Outcome) → FailsToPrint text out out' came
+fails_short : (comes : Outcome) (text : List ℕ) (out out' : Stream) (came : Outcome)
+    → FailsToPrint text out out' came
     → PrintsOut comes text out out' came
 fails_short comes text out out' outcome.WriteFault printed = printed
 fails_short comes text out out' outcome.Memory printed = printed
 fails_short comes text out out' _ printed = absurd printed
 
-pub prints_failed : (r : Result (Unit {0}) Outcome) (x : Outcome) → IsErrAnd r (λ e. e ≡ x) → (comes : Outcome)
+pub prints_failed : (r : Result (Unit {0}) Outcome) (x : Outcome) → IsErrAnd r (λ e. e ≡ x)
+    → (comes : Outcome)
     (text given : List ℕ) (out out' : Stream) → given ≡ text → FailsToPrint given out out' x
     → PrintsOut comes text out out' (came_to r)
 prints_failed (Ok u) x is comes text given out out' same printed = absurd is
 prints_failed (Err e) x is comes text given out out' same printed =
     subst (λ (y : Outcome). PrintsOut comes text out out' y) (sym is)
-    (fails_short comes text out out' x (subst (λ (t : List ℕ). FailsToPrint t out out' x) same printed))
+    (fails_short comes text out out' x
+    (subst (λ (t : List ℕ). FailsToPrint t out out' x) same printed))
 
 -- ---- the command
 
-module _ (clients : Meaning) (contact : ℕ) (old new : Outside) (input input' out out' : Stream) where
+module _ (clients : Meaning) (contact : ℕ) (old new : Outside)
+    (input input' out out' : Stream) where
   abbrev Taken : Outcome → Type 0
   Taken came = HasTakenMail clients contact old new input input' out out' came
 
-  pub taken_none : (came : Outcome) → LoadedBy old new (Err came) → StopsEarly clients contact old new out out' came
+  pub taken_none : (came : Outcome) → LoadedBy old new (Err came)
+      → StopsEarly clients contact old new out out' came
       → IsIdle input input' → Taken came
   taken_none outcome.NoStore by early idle = (early, idle)
   taken_none (outcome.Damaged place) by early idle = (early, idle)
@@ -253,7 +299,8 @@ module _ (clients : Meaning) (contact : ℕ) (old new : Outside) (input input' o
   taken_unread outcome.Memory reads fault much memory = inl memory
   taken_unread _ reads fault much memory = absurd reads
 
-  pub taken_late : (came : Outcome) → TakesMail clients contact old new input input' out out' came → Taken came
+  pub taken_late : (came : Outcome) → TakesMail clients contact old new input input' out out' came
+      → Taken came
   taken_late outcome.NoStore takes = absurd takes.did.by
   taken_late (outcome.Damaged place) takes = absurd takes.did.by
   taken_late (outcome.Refused why) takes = absurd takes.did.by
@@ -263,7 +310,8 @@ module _ (clients : Meaning) (contact : ℕ) (old new : Outside) (input input' o
   taken_late outcome.Memory takes = inr takes
   taken_late _ takes = takes
 
-  pub taken_on : (r : Result (Unit {0}) Outcome) (x : Outcome) → IsErrAnd r (λ e. e ≡ x) → Taken x → Taken (came_to r)
+  pub taken_on : (r : Result (Unit {0}) Outcome) (x : Outcome) → IsErrAnd r (λ e. e ≡ x) → Taken x
+      → Taken (came_to r)
   taken_on (Ok u) x is taken = absurd is
   taken_on (Err e) x is taken = subst Taken (sym is) taken
 
@@ -272,49 +320,63 @@ module _ (clients : Meaning) (contact : ℕ) (old new : Outside) (input input' o
 pub boxed : ReadsAreBoxes → MailIsBoxed
 boxed law clients contact bytes j first rest legal settles settled whole =
     let at : facts (j ++ first) ≡ after_batches (facts j) first = facts-append j first in
-    let legal1 = legal-append clients j first legal (settling_goes_on clients (facts j) first settles) in
+    let legal1 =
+    legal-append clients j first legal (settling_goes_on clients (facts j) first settles) in
     let read = law clients contact (j ++ first) rest (box_records bytes) legal1
     (subst (IsSettled clients) (sym at) settled)
-    (subst (λ (f : Facts). ReadsTo clients contact AllTaken f (box_records bytes) rest) (sym at) whole) in
+    (subst (λ (f : Facts). ReadsTo clients contact AllTaken f (box_records bytes) rest) (sym at)
+    whole) in
     record {
       before = read.before;
       settles =
-          settles_then clients j (j ++ first) read.before (record { more = first; extends = refl; settling = settles })
+          settles_then clients j (j ++ first) read.before
+          (record { more = first; extends = refl; settling = settles })
           read.settles;
       settled = read.settled;
       hears =
           subst
           (λ (new : Batches).
-          HearsAll clients (facts read.before).begun 0 (with_box contact read.before) (box_records bytes) new)
+          HearsAll clients (facts read.before).begun 0 (with_box contact read.before)
+          (box_records bytes) new)
           (append_assoc j first rest) read.hears;
     }
 
 -- ---- the whole run behind the loaded store
 
-pub taken_printed : (clients : Meaning) (contact : ℕ) (bytes : List ℕ) (s s1 s2 : StoreValue) (o o1 o2 : Outside)
-    (out out' : Stream) (u v : Unit {0}) (end : BoxEnd) (came : Outcome) → s.limit ≡ MAX_JOURNAL → DiskRun o o1
-    → SettlesAnew clients s s1 o o1 (Ok u) → DoesErrand clients (in_errand clients contact bytes) s1 s2 o1 o2 (Ok v)
+pub taken_printed : (clients : Meaning) (contact : ℕ) (bytes : List ℕ) (s s1 s2 : StoreValue)
+    (o o1 o2 : Outside)
+    (out out' : Stream) (u v : Unit {0}) (end : BoxEnd) (came : Outcome) → s.limit ≡ MAX_JOURNAL
+    → DiskRun o o1
+    → SettlesAnew clients s s1 o o1 (Ok u)
+    → DoesErrand clients (in_errand clients contact bytes) s1 s2 o1 o2 (Ok v)
     → TellsEnd bytes end → PrintsOut (outcome_at end.ending) (taken_text end.taken) out out' came
     → RunsErrand clients (in_errand clients contact bytes) s o o2 out out' came
-taken_printed clients contact bytes s s1 s2 o o1 o2 out out' u v end came limited run settled does tells printed =
+taken_printed clients contact bytes s s1 s2 o o1 o2 out out' u v end came limited run settled does
+    tells printed =
     errand_printed clients (in_errand clients contact bytes) s s1 s2 o o1 o2 out out' u v
     (taken_text (length (box_records bytes))) came limited run settled does (λ two1 j1 fits. refl)
-    (subst (λ (e : BoxEnding). PrintsOut (outcome_at e) (taken_text (length (box_records bytes))) out out' came) tells.1
-    (subst (λ (n : ℕ). PrintsOut (outcome_at end.ending) (taken_text n) out out' came) tells.0 printed))
+    (subst (λ (e : BoxEnding).
+    PrintsOut (outcome_at e) (taken_text (length (box_records bytes))) out out' came) tells.1
+    (subst (λ (n : ℕ). PrintsOut (outcome_at end.ending) (taken_text n) out out' came) tells.0
+    printed))
 
 -- from the files, where the input was read
-pub taken_read : (clients : Meaning) (contact : ℕ) (o o1 o2 : Outside) (input input' out out' : Stream) (s : StoreValue)
+pub taken_read : (clients : Meaning) (contact : ℕ) (o o1 o2 : Outside)
+    (input input' out out' : Stream) (s : StoreValue)
     (items bytes : List ℕ) (came : Outcome) → DiskRun o o1
-    → ((two : Two File) → o.files ≡ Some two → LeavesFilesSo (LoadKeeps (Ok s) two) two o o1) → MayExtend clients s o1.files
+    → ((two : Two File) → o.files ≡ Some two → LeavesFilesSo (LoadKeeps (Ok s) two) two o o1)
+    → MayExtend clients s o1.files
     → mailbox_test s.state.facts contact ≡ None → IsMail input input' items → bytes ≡ items
     → RunsErrand clients (in_errand clients contact bytes) s o1 o2 out out' came
     → HasTakenMail clients contact o o2 input input' out out' came
-taken_read clients contact o o1 o2 input input' out out' s items bytes came run rests opened tested mail is ran =
+taken_read clients contact o o1 o2 input input' out out' s items bytes came run rests opened tested
+    mail is ran =
     taken_late clients contact o o2 input input' out out' came (record {
       bytes = bytes;
       reads = subst (IsMail input input') (sym is) mail;
       run = run_then o o1 o2 run ran.run;
       did =
-          errand_loaded clients contact (in_errand clients contact bytes) o o1 o2 out out' s came run.later
+          errand_loaded clients contact (in_errand clients contact bytes) o o1 o2 out out' s came
+          run.later
           (λ two files. loaded_as_is two o o1 run files (rests two files)) opened tested ran;
     })

@@ -1,5 +1,7 @@
--- What a command of mailbox files does behind a journal that was settled, in general: the session of a file and the batches on it.
-use Rattle.std.specs.Prelude.{◌≡◌, ◌⊎◌, ℕ, ◌<◌, ◌≤◌, if◌then◌else◌, nat_lt, List, ◌++◌, Option, Some, None}
+-- What a command of mailbox files does behind a journal that was settled, in general: the session
+-- of a file and the batches on it.
+use Rattle.std.specs.Prelude.{◌≡◌, ◌⊎◌, ℕ, ◌<◌, ◌≤◌, if◌then◌else◌, nat_lt, List, ◌++◌, Option}
+use Rattle.std.specs.Prelude.{Some, None}
 use Rattle.outside.specs.declared.limits.TheConstants.{MAX_JOURNAL}
 use Rattle.outside.specs.Files.{Two, File, read_files, NothingPending}
 use Rattle.sync_rules.specs.declared.entries.Entry.{Entry}
@@ -33,9 +35,9 @@ pub record MayBeginWith (f : Facts) (contact : ℕ) : Type 0 where
 
 -- ---- an errand
 
--- What is done behind a settled journal of given facts, as tests of the batches behind it: some of it; all of it; and which
--- batch comes next behind some of it. What all of it comes to, and what is then printed, by the settled journal and the
--- batches.
+-- What is done behind a settled journal of given facts, as tests of the batches behind it: some of
+-- it; all of it; and which batch comes next behind some of it. What all of it comes to, and what is
+-- then printed, by the settled journal and the batches.
 pub record Errand : Type 1 where
   pub some : Facts → List (List Entry) → Type 0
   pub whole : Facts → List (List Entry) → Type 0
@@ -46,7 +48,8 @@ pub record Errand : Type 1 where
 -- ---- journals
 
 -- behind a journal of these facts: all of its settling, and batches that are some of the errand
-pub record SettlesThen (clients : Meaning) (errand : Errand) (f : Facts) (more : List (List Entry)) : Type 0 where
+pub record SettlesThen (clients : Meaning) (errand : Errand) (f : Facts)
+    (more : List (List Entry)) : Type 0 where
   pub first : List (List Entry)
   pub rest : List (List Entry)
   pub settles : AllSettling clients f first
@@ -55,14 +58,17 @@ pub record SettlesThen (clients : Meaning) (errand : Errand) (f : Facts) (more :
   pub some : errand.some (after_batches f first) rest
 
 -- the journal with a front of settling, or of all of its settling and some of the errand
-pub record ErrandOn (clients : Meaning) (errand : Errand) (j whole : List (List Entry)) : Type 0 where
+pub record ErrandOn (clients : Meaning) (errand : Errand)
+    (j whole : List (List Entry)) : Type 0 where
   pub more : List (List Entry)
   pub adds : AllSettling clients (facts j) more ⊎ SettlesThen clients errand (facts j) more
   pub between : IsBetween j more whole
 
--- The files stand, in format 2, for the journal, all of its settling, and the whole errand, each batch of which found its room,
--- and are settled; nothing is pending in them, so that each crash leaves this.
-pub record IsRun (clients : Meaning) (errand : Errand) (j : List (List Entry)) (two : Two File) (P : List ℕ → Type 0)
+-- The files stand, in format 2, for the journal, all of its settling, and the whole errand, each
+-- batch of which found its room, and are settled; nothing is pending in them, so that each crash
+-- leaves this.
+pub record IsRun (clients : Meaning) (errand : Errand) (j : List (List Entry)) (two : Two File)
+    (P : List ℕ → Type 0)
     : Type 0 where
   pub first : List (List Entry)
   pub rest : List (List Entry)
@@ -77,9 +83,10 @@ pub record IsRun (clients : Meaning) (errand : Errand) (j : List (List Entry)) (
   pub second_settled : NothingPending two 1
   pub printed : P (errand.text (j ++ first) rest)
 
--- The files stand, in format 2, for the journal, all of its settling, and some of the errand, and there is no room for the batch
--- that comes next.
-pub record IsErrandCutShort (clients : Meaning) (errand : Errand) (j : List (List Entry)) (two : Two File) : Type 0 where
+-- The files stand, in format 2, for the journal, all of its settling, and some of the errand, and
+-- there is no room for the batch that comes next.
+pub record IsErrandCutShort (clients : Meaning) (errand : Errand) (j : List (List Entry))
+    (two : Two File) : Type 0 where
   pub first : List (List Entry)
   pub rest : List (List Entry)
   pub next : List Entry
@@ -90,9 +97,11 @@ pub record IsErrandCutShort (clients : Meaning) (errand : Errand) (j : List (Lis
   pub stands_for : stands clients (read_files two) ≡ journal (j ++ (first ++ rest))
   pub over : MAX_JOURNAL < needed_by (j ++ (first ++ rest)) next
 
--- behind a journal, however it is settled and however much of the errand is done, there is room for the batch that comes next
+-- behind a journal, however it is settled and however much of the errand is done, there is room for
+-- the batch that comes next
 abbrev pub HasErrandRoom : Meaning → Errand → List (List Entry) → Type 0
 HasErrandRoom clients errand j =
     (first rest : List (List Entry)) (next : List Entry) → AllSettling clients (facts j) first
-    → IsSettled clients (after_batches (facts j) first) → errand.next (after_batches (facts j) first) rest next
+    → IsSettled clients (after_batches (facts j) first)
+    → errand.next (after_batches (facts j) first) rest next
     → needed_by (j ++ (first ++ rest)) next ≤ MAX_JOURNAL

@@ -10,11 +10,12 @@ use Rattle.mailbox_core.specs.Files.{box_records}
 use Rattle.mailbox_commands.specs.Errands.{Errand}
 use Rattle.mailbox_commands.specs.Taking.{in_errand}
 
--- A legal journal, with all of its settling and then the whole errand of a file that is read (`IsRun` says that a run left it so):
--- into it that file was read as the law of sets has it.
+-- A legal journal, with all of its settling and then the whole errand of a file that is read
+-- (`IsRun` says that a run left it so): into it that file was read as the law of sets has it.
 abbrev pub MailIsBoxed : Type 0
 MailIsBoxed =
-    (clients : Meaning) (contact : ℕ) (bytes : List ℕ) (j first rest : List (List Entry)) → Legal clients j
+    (clients : Meaning) (contact : ℕ) (bytes : List ℕ) (j first rest : List (List Entry))
+    → Legal clients j
     → AllSettling clients (facts j) first → IsSettled clients (after_batches (facts j) first)
     → Errand.whole (in_errand clients contact bytes) (after_batches (facts j) first) rest
     → ReadsBox clients contact j (box_records bytes) (j ++ (first ++ rest))

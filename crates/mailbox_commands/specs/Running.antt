@@ -1,5 +1,6 @@
 -- What the running of an errand comes to: from a loaded store, and from the files.
-use Rattle.std.specs.Prelude.{◌≡◌, ◌⊎◌, ℕ, ◌<◌, Bool, true, false, List, Option, Some, None, Result, Ok, Err}
+use Rattle.std.specs.Prelude.{◌≡◌, ◌⊎◌, ℕ, ◌<◌, Bool, true, false, List, Option, Some, None, Result}
+use Rattle.std.specs.Prelude.{Ok, Err}
 use Rattle.std.specs.Io.KnownBytes.{Appends}
 use Rattle.outside.specs.Faults.{CountRose}
 use Rattle.outside.specs.Files.{Two, File, read_files}
@@ -26,7 +27,8 @@ use Rattle.mailbox_commands.specs.Errands.{Errand, ErrandOn, IsErrandCutShort, I
 -- ---- an errand on a settled store
 
 -- for the batch that comes next there was no room in this store
-pub record LacksRoom (errand : Errand) (f : Facts) (s : StoreValue) (more : List (List Entry)) : Type 0 where
+pub record LacksRoom (errand : Errand) (f : Facts) (s : StoreValue)
+    (more : List (List Entry)) : Type 0 where
   pub next : List Entry
   pub follows : errand.next f more next
   pub over : s.limit < needed s next
@@ -37,8 +39,10 @@ ended_as (Ok v) = Ok tt
 ended_as (Err came) = Err came
 
 -- by the answer
-abbrev pub DoesSo : Meaning → Errand → Facts → StoreValue → List (List Entry) → Result (Unit {0}) Outcome → Type 0
-DoesSo clients errand f s more (Ok _) = (s.closed ≡ false) × IsSettled clients s.state.facts × errand.whole f more
+abbrev pub DoesSo : Meaning → Errand → Facts → StoreValue → List (List Entry)
+    → Result (Unit {0}) Outcome → Type 0
+DoesSo clients errand f s more (Ok _) =
+    (s.closed ≡ false) × IsSettled clients s.state.facts × errand.whole f more
 DoesSo clients errand f s more (Err outcome.Full) = (s.closed ≡ false) × LacksRoom errand f s more
 DoesSo clients errand f s more (Err outcome.Memory) = Unit {0}
 DoesSo clients errand f s more (Err outcome.DiskFault) = Unit {0}
@@ -57,17 +61,23 @@ pub record DoesErrand (clients : Meaning) (errand : Errand) (s s' : StoreValue) 
 
 -- a text is printed, and then it comes to this outcome; memory may be wanting for it
 abbrev pub PrintsOut : Outcome → List ℕ → (out out' : Stream) → Outcome → Type 0
-PrintsOut comes text out out' outcome.Done = (comes ≡ outcome.Done) × Appends out.bytes out'.bytes text
-PrintsOut comes text out out' (outcome.Inside place) = (comes ≡ outcome.Inside place) × Appends out.bytes out'.bytes text
-PrintsOut comes text out out' (outcome.Bad place why) = (comes ≡ outcome.Bad place why) × Appends out.bytes out'.bytes text
-PrintsOut comes text out out' (outcome.NoVersion place) = (comes ≡ outcome.NoVersion place) × Appends out.bytes out'.bytes text
-PrintsOut comes text out out' outcome.WriteFault = CountRose out.faults out'.faults × GetsFront out out' text
+PrintsOut comes text out out' outcome.Done =
+    (comes ≡ outcome.Done) × Appends out.bytes out'.bytes text
+PrintsOut comes text out out' (outcome.Inside place) =
+    (comes ≡ outcome.Inside place) × Appends out.bytes out'.bytes text
+PrintsOut comes text out out' (outcome.Bad place why) =
+    (comes ≡ outcome.Bad place why) × Appends out.bytes out'.bytes text
+PrintsOut comes text out out' (outcome.NoVersion place) =
+    (comes ≡ outcome.NoVersion place) × Appends out.bytes out'.bytes text
+PrintsOut comes text out out' outcome.WriteFault =
+    CountRose out.faults out'.faults × GetsFront out out' text
 PrintsOut comes text out out' outcome.Memory = IsIdle out out'
 PrintsOut comes text out out' _ = ⊥
 
 -- a text did not go out, or a front of it
 abbrev pub FailsToPrint : List ℕ → (out out' : Stream) → Outcome → Type 0
-FailsToPrint text out out' outcome.WriteFault = CountRose out.faults out'.faults × GetsFront out out' text
+FailsToPrint text out out' outcome.WriteFault =
+    CountRose out.faults out'.faults × GetsFront out out' text
 FailsToPrint text out out' outcome.Memory = IsIdle out out'
 FailsToPrint text out out' _ = ⊥
 
@@ -85,7 +95,8 @@ ErrandBy comes old new out out' (outcome.Inside place) = comes ≡ outcome.Insid
 ErrandBy comes old new out out' (outcome.Bad place why) = comes ≡ outcome.Bad place why
 ErrandBy comes old new out out' (outcome.NoVersion place) = comes ≡ outcome.NoVersion place
 ErrandBy comes old new out out' outcome.WriteFault = CountRose out.faults out'.faults
-ErrandBy comes old new out out' outcome.DiskFault = CountRose old.disk_faults new.disk_faults × IsIdle out out'
+ErrandBy comes old new out out' outcome.DiskFault =
+    CountRose old.disk_faults new.disk_faults × IsIdle out out'
 ErrandBy comes old new out out' outcome.Full = IsIdle out out'
 ErrandBy comes old new out out' outcome.Memory = IsIdle out out'
 ErrandBy comes old new out out' _ = ⊥
@@ -102,29 +113,41 @@ is_whole _ = false
 -- ---- from a loaded store
 
 -- by the outcome
-abbrev pub ErrandEnds : Meaning → Errand → List (List Entry) → Two File → Two File → (out out' : Stream) → Outcome → Type 0
-ErrandEnds clients errand j two two' out out' outcome.Done = IsRun clients errand j two' (Appends out.bytes out'.bytes)
-ErrandEnds clients errand j two two' out out' (outcome.Inside place) = IsRun clients errand j two' (Appends out.bytes out'.bytes)
-ErrandEnds clients errand j two two' out out' (outcome.Bad place why) = IsRun clients errand j two' (Appends out.bytes out'.bytes)
-ErrandEnds clients errand j two two' out out' (outcome.NoVersion place) = IsRun clients errand j two' (Appends out.bytes out'.bytes)
-ErrandEnds clients errand j two two' out out' outcome.WriteFault = IsRun clients errand j two' (GetsFront out out')
-ErrandEnds clients errand j two two' out out' outcome.Full = IsErrandCutShort clients errand j two' ⊎ WasSpent two two'
+abbrev pub ErrandEnds : Meaning → Errand → List (List Entry) → Two File → Two File
+    → (out out' : Stream) → Outcome → Type 0
+ErrandEnds clients errand j two two' out out' outcome.Done =
+    IsRun clients errand j two' (Appends out.bytes out'.bytes)
+ErrandEnds clients errand j two two' out out' (outcome.Inside place) =
+    IsRun clients errand j two' (Appends out.bytes out'.bytes)
+ErrandEnds clients errand j two two' out out' (outcome.Bad place why) =
+    IsRun clients errand j two' (Appends out.bytes out'.bytes)
+ErrandEnds clients errand j two two' out out' (outcome.NoVersion place) =
+    IsRun clients errand j two' (Appends out.bytes out'.bytes)
+ErrandEnds clients errand j two two' out out' outcome.WriteFault =
+    IsRun clients errand j two' (GetsFront out out')
+ErrandEnds clients errand j two two' out out' outcome.Full =
+    IsErrandCutShort clients errand j two' ⊎ WasSpent two two'
 ErrandEnds clients errand j two two' out out' _ = Unit {0}
 
--- Each moment stands for the journal with settling and some of the errand, and in the end the files are so, which were `two`
--- before. Where they had no generation left the errand is not done.
-pub record ErrandTold (clients : Meaning) (errand : Errand) (j : List (List Entry)) (two : Two File) (old new : Outside)
+-- Each moment stands for the journal with settling and some of the errand, and in the end the files
+-- are so, which were `two` before. Where they had no generation left the errand is not done.
+pub record ErrandTold (clients : Meaning) (errand : Errand) (j : List (List Entry)) (two : Two File)
+    (old new : Outside)
     (out out' : Stream) (came : Outcome) : Type 0 where
-  pub moments : MomentsAre old new (JournalMoment clients (ErrandOn clients errand j) (sent_of old.links.told))
-  pub ends : (two' : Two File) → new.files ≡ Some two' → ErrandEnds clients errand j two two' out out' came
+  pub moments : MomentsAre old new
+      (JournalMoment clients (ErrandOn clients errand j) (sent_of old.links.told))
+  pub ends : (two' : Two File) → new.files ≡ Some two'
+      → ErrandEnds clients errand j two two' out out' came
   pub spent : HasLastGeneration (read_files two) → is_whole came ≡ false
 
 -- a store was migrated and settled, and the errand was run
-pub record RunsErrand (clients : Meaning) (errand : Errand) (s : StoreValue) (old new : Outside) (out out' : Stream)
+pub record RunsErrand (clients : Meaning) (errand : Errand) (s : StoreValue) (old new : Outside)
+    (out out' : Stream)
     (came : Outcome) : Type 0 where
   pub run : DiskRun old new
   pub by : ErrandBy errand.comes old new out out' came
-  pub told : (two : Two File) → old.files ≡ Some two → (j : List (List Entry)) → FitsFiles clients s j two
+  pub told : (two : Two File) → old.files ≡ Some two → (j : List (List Entry))
+      → FitsFiles clients s j two
       → ErrandTold clients errand j two old new out out' came
 
 -- ---- from the files that were told
@@ -136,28 +159,33 @@ pub record IsTested (contact : ℕ) (standing : Standing) (answer : Option Refus
   pub tested : mailbox_test (facts before) contact ≡ answer
 
 -- they hold over it, and it has this
-pub record MayRunErrand (contact : ℕ) (standing : Standing) (P : List (List Entry) → Type 0) : Type 0 where
+pub record MayRunErrand (contact : ℕ) (standing : Standing)
+    (P : List (List Entry) → Type 0) : Type 0 where
   pub before : List (List Entry)
   pub stood : standing ≡ journal before
   pub tested : mailbox_test (facts before) contact ≡ None
   pub leads : P before
 
 -- each moment is as a crash might have left the files before, or has batches of the errand
-pub record FilesTold (clients : Meaning) (contact : ℕ) (errand : Errand) (two : Two File) (old new : Outside)
+pub record FilesTold (clients : Meaning) (contact : ℕ) (errand : Errand) (two : Two File)
+    (old new : Outside)
     (out out' : Stream) (came : Outcome) : Type 0 where
   pub moments : MomentsAre old new
       (λ m. IsNow two old.links m
       ⊎ MayRunErrand contact (stands clients (read_files two))
       (λ j. JournalMoment clients (ErrandOn clients errand j) (sent_of old.links.told) m))
   pub ends : (two' : Two File) → new.files ≡ Some two'
-      → MayRunErrand contact (stands clients (read_files two)) (λ j. ErrandEnds clients errand j two two' out out' came)
+      → MayRunErrand contact (stands clients (read_files two)) (λ j.
+      ErrandEnds clients errand j two two' out out' came)
   pub spent : HasLastGeneration (read_files two) → is_whole came ≡ false
 
 -- a store was loaded over which the tests hold, and the errand was run
-pub record FilesRun (clients : Meaning) (contact : ℕ) (errand : Errand) (old new : Outside) (out out' : Stream)
+pub record FilesRun (clients : Meaning) (contact : ℕ) (errand : Errand) (old new : Outside)
+    (out out' : Stream)
     (came : Outcome) : Type 0 where
   pub by : ErrandBy errand.comes old new out out' came
-  pub told : (two : Two File) → old.files ≡ Some two → FilesTold clients contact errand two old new out out' came
+  pub told : (two : Two File) → old.files ≡ Some two
+      → FilesTold clients contact errand two old new out out' came
 
 -- ---- a command that ended before its errand
 
@@ -182,13 +210,16 @@ ErrandStopsWhere standing contact outcome.TooMuch = IsTested contact standing No
 ErrandStopsWhere standing contact _ = Unit {0}
 
 -- what is so where the files are told: nothing was taken or sent
-pub record ErrandStopsTold (clients : Meaning) (contact : ℕ) (two : Two File) (old new : Outside) (came : Outcome) : Type 0 where
+pub record ErrandStopsTold (clients : Meaning) (contact : ℕ) (two : Two File) (old new : Outside)
+    (came : Outcome) : Type 0 where
   pub rests : LeavesFilesSo (KeepsFiles came two) two old new
   pub ends : ErrandStopsWhere (stands clients (read_files two)) contact came
 
 -- nothing was taken or sent, and nothing printed
-pub record StopsEarly (clients : Meaning) (contact : ℕ) (old new : Outside) (out out' : Stream) (came : Outcome) : Type 0 where
+pub record StopsEarly (clients : Meaning) (contact : ℕ) (old new : Outside) (out out' : Stream)
+    (came : Outcome) : Type 0 where
   pub run : DiskRun old new
   pub by : ErrandStopsBy old new came
   pub quiet : IsIdle out out'
-  pub told : (two : Two File) → old.files ≡ Some two → ErrandStopsTold clients contact two old new came
+  pub told : (two : Two File) → old.files ≡ Some two
+      → ErrandStopsTold clients contact two old new came

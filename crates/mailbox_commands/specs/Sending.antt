@@ -1,5 +1,7 @@
--- What `mailbox out` does: it commits what is due to a contact, and writes the bytes of all that the session sends.
-use Rattle.std.specs.Prelude.{◌≡◌, ◌⊎◌, ℕ, ◌<◌, ◌≤◌, List, [], ◌∷◌, ◌++◌, length, is_some, Result, Ok, Err}
+-- What `mailbox out` does: it commits what is due to a contact, and writes the bytes of all that
+-- the session sends.
+use Rattle.std.specs.Prelude.{◌≡◌, ◌⊎◌, ℕ, ◌<◌, ◌≤◌, List, [], ◌∷◌, ◌++◌, length, is_some, Result}
+use Rattle.std.specs.Prelude.{Ok, Err}
 use Rattle.outside.specs.Calls.{CallsGoOn}
 use Rattle.outside.specs.Disk.{RelatesTold}
 use Rattle.outside.specs.Host.{ReadsClock}
@@ -25,12 +27,15 @@ use Rattle.mailbox_commands.specs.Running.{DoesErrand, FilesRun, StopsEarly}
 -- ---- the errand
 
 -- so many outputs were made as were asked for, or nothing is due by these later facts
-pub record WritesAll (clients : Meaning) (f later : Facts) (session now most : ℕ) (more : List (List Entry)) : Type 0 where
+pub record WritesAll (clients : Meaning) (f later : Facts) (session now most : ℕ)
+    (more : List (List Entry)) : Type 0 where
   pub made : ℕ
   pub sends : SendsAll clients f later session now most made more
 
--- this batch is that of the output which is due next, by the later facts, and fewer were made than were asked for
-pub record SendsNextBatch (clients : Meaning) (f later : Facts) (session now most : ℕ) (more : List (List Entry))
+-- this batch is that of the output which is due next, by the later facts, and fewer were made than
+-- were asked for
+pub record SendsNextBatch (clients : Meaning) (f later : Facts) (session now most : ℕ)
+    (more : List (List Entry))
     (next : List Entry) : Type 0 where
   pub sends : SendsSome clients f session now most more
   pub fewer : length sends.outs < most
@@ -51,8 +56,8 @@ WritesNext clients asked now f more next =
     ⊎ BeginsThen f (batch_session f.begun asked.contact asked.latency) more
     (λ g rest. SendsNextBatch clients g (after_batches f more) f.begun now asked.count rest next)
 
--- What is due at a time is committed on a session of its own, up to the number that is asked for. The text is the bytes of all
--- that the session sends.
+-- What is due at a time is committed on a session of its own, up to the number that is asked for.
+-- The text is the bytes of all that the session sends.
 abbrev pub out_errand : Meaning → Sending → ℕ → Errand
 out_errand clients asked now = record {
   some = λ f more. WritesSome clients asked.contact asked.latency now asked.count f more;
@@ -63,19 +68,22 @@ out_errand clients asked now = record {
 }
 
 -- where all was committed, its bytes were added
-abbrev pub AddsBytes : Facts → List (List Entry) → (to to' : List ℕ) → Result (Unit {0}) Outcome → Type 0
+abbrev pub AddsBytes : Facts → List (List Entry) → (to to' : List ℕ) → Result (Unit {0}) Outcome
+    → Type 0
 AddsBytes f more to to' (Ok _) = to' ≡ to ++ spelled (output_of f f.begun more)
 AddsBytes f more to to' (Err _) = Unit {0}
 
 -- what is due was committed to a settled store, as far as the answer says
-pub record TellsSent (clients : Meaning) (asked : Sending) (now : ℕ) (s s' : StoreValue) (o o' : Outside) (to to' : List ℕ)
+pub record TellsSent (clients : Meaning) (asked : Sending) (now : ℕ) (s s' : StoreValue)
+    (o o' : Outside) (to to' : List ℕ)
     (result : Result (Unit {0}) Outcome) : Type 0 where
   pub does : DoesErrand clients (out_errand clients asked now) s s' o o' result
   pub bytes : AddsBytes s.state.facts does.more to to' result
 
 -- ---- the command
 
--- the clock was read once, at this time; files that were told still are, and no count of failed calls fell
+-- the clock was read once, at this time; files that were told still are, and no count of failed
+-- calls fell
 pub record ReadsOnce (now : ℕ) (old new : Outside) : Type 0 where
   pub clock : ReadsClock now old.links new.links
   pub same_told : is_some new.files ≡ is_some old.files
@@ -83,15 +91,19 @@ pub record ReadsOnce (now : ℕ) (old new : Outside) : Type 0 where
   pub calls : RelatesTold CallsGoOn old.calls new.calls
 
 -- the clock was read, and what is due then was committed and written as far as the outcome says
-pub record SendsMail (clients : Meaning) (asked : Sending) (old new : Outside) (out out' : Stream) (came : Outcome)
+pub record SendsMail (clients : Meaning) (asked : Sending) (old new : Outside) (out out' : Stream)
+    (came : Outcome)
     : Type 0 where
   pub now : ℕ
   pub reads : ReadsOnce now old new
   pub did : FilesRun clients asked.contact (out_errand clients asked now) old new out out' came
 
--- A file is written; or the command stopped before, and nothing was. The clock is read once the tests hold.
-abbrev pub HasSentMail : Meaning → Sending → (old new : Outside) → (out out' : Stream) → Outcome → Type 0
-HasSentMail clients asked old new out out' outcome.NoStore = StopsEarly clients asked.contact old new out out' outcome.NoStore
+-- A file is written; or the command stopped before, and nothing was. The clock is read once the
+-- tests hold.
+abbrev pub HasSentMail : Meaning → Sending → (old new : Outside) → (out out' : Stream) → Outcome
+    → Type 0
+HasSentMail clients asked old new out out' outcome.NoStore =
+    StopsEarly clients asked.contact old new out out' outcome.NoStore
 HasSentMail clients asked old new out out' (outcome.Damaged place) =
     StopsEarly clients asked.contact old new out out' (outcome.Damaged place)
 HasSentMail clients asked old new out out' (outcome.Refused why) =

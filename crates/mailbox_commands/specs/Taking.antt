@@ -1,5 +1,6 @@
 -- What `mailbox in` does: it takes the records of its input, and prints how many.
-use Rattle.std.specs.Prelude.{◌≡◌, ◌⊎◌, ℕ, ◌+◌, ◌≤◌, List, [], ◌∷◌, ◌++◌, codes, length, Result, Ok, Err}
+use Rattle.std.specs.Prelude.{◌≡◌, ◌⊎◌, ℕ, ◌+◌, ◌≤◌, List, [], ◌∷◌, ◌++◌, codes, length, Result, Ok}
+use Rattle.std.specs.Prelude.{Err}
 use Rattle.std.specs.Fmt.{decimal}
 use Rattle.std.specs.Global.{Vec}
 use Rattle.std.specs.Io.KnownBytes.{Consumes, IsAtEnd}
@@ -37,12 +38,15 @@ abbrev pub taken_text : ℕ → List ℕ
 taken_text n = codes "taken " ++ (decimal n ++ 10 ∷ [])
 
 -- nothing more is done, and this batch is the next record's, by the facts of the journal then
-abbrev pub IsNextTake : Facts → ℕ → List Entry → Facts → ℕ → List Record → List (List Entry) → Type 0
+abbrev pub IsNextTake : Facts → ℕ → List Entry → Facts → ℕ → List Record → List (List Entry)
+    → Type 0
 IsNextTake last session next f k [] more = ⊥
 IsNextTake last session next f k (r ∷ rs) more = (more ≡ []) × (next ≡ next_take last session k r)
 
--- the next batch of the reading of records: that with which the session begins, or the next record's
-abbrev pub ReadsNextBatch : Meaning → ℕ → List Record → Facts → List (List Entry) → List Entry → Type 0
+-- the next batch of the reading of records: that with which the session begins, or the next
+-- record's
+abbrev pub ReadsNextBatch : Meaning → ℕ → List Record → Facts → List (List Entry) → List Entry
+    → Type 0
 ReadsNextBatch clients contact records f more next =
     ((more ≡ []) × (next ≡ first_batch (box_session f.begun contact)))
     ⊎ ReadsTo clients contact (IsNextTake (after_batches f more) f.begun next) f records more
@@ -86,15 +90,18 @@ IsInput input input' (Err came) = ⊥
 -- ---- the command
 
 -- the input was read whole, and its records were taken as far as the outcome says
-pub record TakesMail (clients : Meaning) (contact : ℕ) (old new : Outside) (input input' out out' : Stream) (came : Outcome)
+pub record TakesMail (clients : Meaning) (contact : ℕ) (old new : Outside)
+    (input input' out out' : Stream) (came : Outcome)
     : Type 0 where
   pub bytes : List ℕ
   pub reads : IsMail input input' bytes
   pub run : DiskRun old new
   pub did : FilesRun clients contact (in_errand clients contact bytes) old new out out' came
 
--- The records of a file are taken; or the command stopped before, and nothing was. The input is read once the tests hold.
-abbrev pub HasTakenMail : Meaning → ℕ → (old new : Outside) → (input input' out out' : Stream) → Outcome → Type 0
+-- The records of a file are taken; or the command stopped before, and nothing was. The input is
+-- read once the tests hold.
+abbrev pub HasTakenMail : Meaning → ℕ → (old new : Outside) → (input input' out out' : Stream)
+    → Outcome → Type 0
 HasTakenMail clients contact old new input input' out out' outcome.NoStore =
     StopsEarly clients contact old new out out' outcome.NoStore × IsIdle input input'
 HasTakenMail clients contact old new input input' out out' (outcome.Damaged place) =
@@ -102,7 +109,8 @@ HasTakenMail clients contact old new input input' out out' (outcome.Damaged plac
 HasTakenMail clients contact old new input input' out out' (outcome.Refused why) =
     StopsEarly clients contact old new out out' (outcome.Refused why) × IsIdle input input'
 HasTakenMail clients contact old new input input' out out' outcome.ReadFault =
-    StopsEarly clients contact old new out out' outcome.ReadFault × CountRose input.faults input'.faults
+    StopsEarly clients contact old new out out' outcome.ReadFault
+    × CountRose input.faults input'.faults
 HasTakenMail clients contact old new input input' out out' outcome.TooMuch =
     StopsEarly clients contact old new out out' outcome.TooMuch × IsTooMuch input input'
 HasTakenMail clients contact old new input input' out out' outcome.DiskFault =
@@ -111,4 +119,5 @@ HasTakenMail clients contact old new input input' out out' outcome.DiskFault =
 HasTakenMail clients contact old new input input' out out' outcome.Memory =
     StopsEarly clients contact old new out out' outcome.Memory
     ⊎ TakesMail clients contact old new input input' out out' outcome.Memory
-HasTakenMail clients contact old new input input' out out' came = TakesMail clients contact old new input input' out out' came
+HasTakenMail clients contact old new input input' out out' came =
+    TakesMail clients contact old new input input' out out' came

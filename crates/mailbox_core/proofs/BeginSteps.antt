@@ -1,5 +1,7 @@
 -- A session that begins, and a file that is read on it.
-use Rattle.std.proofs.Common.{◌≡◌, ℕ, ◌<◌, ◌≤◌, true, false, cond, List, [], ◌∷◌, ◌++◌, length, refl, sym, ◌∙◌, ap, subst, inl, inr, arith, Some, None, is_some, nat_eq, eq-eqb, eqb-true, Result, Ok, Err}
+use Rattle.std.proofs.Common.{◌≡◌, ℕ, ◌<◌, ◌≤◌, true, false, cond, List, [], ◌∷◌, ◌++◌, length}
+use Rattle.std.proofs.Common.{refl, sym, ◌∙◌, ap, subst, inl, inr, arith, Some, None, is_some}
+use Rattle.std.proofs.Common.{nat_eq, eq-eqb, eqb-true, Result, Ok, Err}
 use Rattle.outside.specs.Outside.{Outside}
 use Rattle.record_stream.specs.Reading.{fresh}
 use Rattle.sync_ids.specs.declared.records.Record.{Record}
@@ -22,7 +24,8 @@ use Rattle.mailbox_core.specs.declared.ends.BoxEnd.{BoxEnd}
 use Rattle.mailbox_core.specs.Files.{box_ending, box_records}
 use Rattle.mailbox_core.specs.Reading.{HasReadBox, ReadsSo, ReadsTo}
 use Rattle.mailbox_core.specs.Sending.{batch_session}
-use Rattle.mailbox_core.specs.Steps.{BeginsSo, HasBegunSession, HasCommitted, HasReadRest, IsOpenFor, RecordsLeft, RestSo, left_of, next_on}
+use Rattle.mailbox_core.specs.Steps.{BeginsSo, HasBegunSession, HasCommitted, HasReadRest}
+use Rattle.mailbox_core.specs.Steps.{IsOpenFor, RecordsLeft, RestSo, left_of, next_on}
 use Rattle.mailbox_core.specs.Taking.{AllTaken, NoRoomFor, SomeTaken, TakesTo, first_batch}
 use Rattle.mailbox_core.proofs.Committed.{needed_stays}
 use Rattle.mailbox_core.proofs.Lefts.{left_first}
@@ -34,30 +37,42 @@ Batches = List (List Entry)
 
 -- ---- a session begins
 
-pub begin_allowed : (clients : Meaning) (f : Facts) (contact latency : ℕ) → IsSettled clients f → contact < f.contacts
+pub begin_allowed : (clients : Meaning) (f : Facts) (contact latency : ℕ) → IsSettled clients f
+    → contact < f.contacts
     → f.begun < MAX_SESSIONS → 1 ≤ latency
     → Allowed clients f (first_batch (batch_session f.begun contact latency))
 begin_allowed clients f contact latency settled known few some = (
   refl,
   settled,
-  record { numbered = refl; few = few; known_contact = known; some_latency = some; suited_nonce = refl },
+  record {
+    numbered = refl;
+    few = few;
+    known_contact = known;
+    some_latency = some;
+    suited_nonce = refl;
+  },
 )
 
 -- a session that is found in a longer list
-found_pushed : (ss : List Session) (x : Session) (n : ℕ) → x.number ≡ n → is_some (session_at (ss ++ x ∷ []) n) ≡ true
+found_pushed : (ss : List Session) (x : Session) (n : ℕ) → x.number ≡ n
+    → is_some (session_at (ss ++ x ∷ []) n) ≡ true
 found_pushed [] x n is = ap (λ b. is_some (cond b (Some x) None)) (eq-eqb x.number n is)
 found_pushed (s ∷ ss) x n is =
-    elim (nat_eq s.number n) as (λ b. is_some (cond b (Some s) (session_at (ss ++ x ∷ []) n)) ≡ true) [
+    elim (nat_eq s.number n) as (λ b. is_some (cond b (Some s) (session_at (ss ++ x ∷ []) n))
+    ≡ true) [
       | true ↦ refl
       | false ↦ found_pushed ss x n is
     ]
 
 -- a number under which a session is found is its own
-pub numbered_so : (ss : List Session) (n : ℕ) (x : Session) → session_at ss n ≡ Some x → x.number ≡ n
+pub numbered_so : (ss : List Session) (n : ℕ) (x : Session) → session_at ss n ≡ Some x
+    → x.number ≡ n
 numbered_so [] n x e = cc
 numbered_so (s ∷ ss) n x e =
-    elim (nat_eq s.number n) as (λ b. nat_eq s.number n ≡ b → cond b (Some s) (session_at ss n) ≡ Some x → x.number ≡ n) [
-      | true ↦ λ is e. let same : s ≡ x = cc in ap (λ (y : Session). y.number) (sym same) ∙ eqb-true s.number n is
+    elim (nat_eq s.number n) as (λ b. nat_eq s.number n ≡ b
+    → cond b (Some s) (session_at ss n) ≡ Some x → x.number ≡ n) [
+      | true ↦ λ is e. let same : s ≡ x =
+          cc in ap (λ (y : Session). y.number) (sym same) ∙ eqb-true s.number n is
       | false ↦ λ is e. numbered_so ss n x e
     ] refl e
 
@@ -74,37 +89,47 @@ module _ (clients : Meaning) (contact latency : ℕ) (s s' : StoreValue) (o o' :
       (session_at s'.state.facts.sessions s.state.facts.begun) ≡ true
   begun_found u has =
       ap (λ (f : Facts). is_some (session_at f.sessions s.state.facts.begun)) (begun_facts u has)
-      ∙ found_pushed s.state.facts.sessions (batch_session s.state.facts.begun contact latency) s.state.facts.begun refl
+      ∙ found_pushed s.state.facts.sessions (batch_session s.state.facts.begun contact latency)
+      s.state.facts.begun refl
 
   pub has_begun : (u : Unit {0}) (session : Session) → HasCommitted clients s s' its (Ok u) o o'
-      → session_at s'.state.facts.sessions s.state.facts.begun ≡ Some session → HasBegunSession clients contact latency s s'
+      → session_at s'.state.facts.sessions s.state.facts.begun ≡ Some session
+      → HasBegunSession clients contact latency s s'
       (Ok session) o o'
   has_begun u session has found = record {
     more = its ∷ [];
     comes = has.comes;
-    answer = (has.answer.2.closed, refl, numbered_so s'.state.facts.sessions s.state.facts.begun session found);
+    answer = (
+      has.answer.2.closed,
+      refl,
+      numbered_so s'.state.facts.sessions s.state.facts.begun session found,
+    );
   }
 
-  pub begun_able : (u : Unit {0}) (session : Session) → IsSettled clients s.state.facts → HasCommitted clients s s' its
+  pub begun_able : (u : Unit {0}) (session : Session) → IsSettled clients s.state.facts
+      → HasCommitted clients s s' its
       (Ok u) o o'
       → session_at s'.state.facts.sessions s.state.facts.begun ≡ Some session →
       (s'.closed ≡ false → IsReady clients s' o'.files) → IsStore s'
       → IsOpenFor clients session s' o'
   begun_able u session settled has found ready store =
       let number : session.number
-      ≡ s.state.facts.begun = numbered_so s'.state.facts.sessions s.state.facts.begun session found in
+      ≡ s.state.facts.begun =
+      numbered_so s'.state.facts.sessions s.state.facts.begun session found in
       record {
         ready = ready has.answer.2.closed;
         is_store = store;
         settled =
-            subst (IsSettled clients) (sym (begun_facts u has)) (settled_stays clients s.state.facts its refl settled);
+            subst (IsSettled clients) (sym (begun_facts u has))
+            (settled_stays clients s.state.facts its refl settled);
         found = ap (session_at s'.state.facts.sessions) number ∙ found;
       }
 
   pub not_begun : (e : StoreFault) → s.closed ≡ false → HasCommitted clients s s' its (Err e) o o'
       → HasBegunSession clients contact latency s s' (Err e) o o'
   not_begun fault.Closed opened has =
-      let closed : s.closed ≡ true = has.answer.0 in absurd (let e : true ≡ false = sym closed ∙ opened in cc)
+      let closed : s.closed ≡ true = has.answer.0 in
+      absurd (let e : true ≡ false = sym closed ∙ opened in cc)
   not_begun fault.Full opened has =
       let sum : needed s' its ≡ needed s its = needed_stays s s' its has.answer.2 in
       let limit : s'.limit ≡ s.limit = has.answer.2.limit in
@@ -127,7 +152,8 @@ of_its_batch clients s s' batch first result o o' is has =
     subst (λ (b : List Entry). HasCommitted clients s s' b result o o') is has
 
 -- no memory was found for it
-pub begun_starved : ImagesStand → (clients : Meaning) (contact latency : ℕ) (s : StoreValue) (o : Outside) → IsStore s
+pub begun_starved : ImagesStand → (clients : Meaning) (contact latency : ℕ) (s : StoreValue)
+    (o : Outside) → IsStore s
     → s.closed ≡ false
     → HasBegunSession clients contact latency s s (Err fault.Memory) o o
 begun_starved images clients contact latency s o store opened = record {
@@ -140,7 +166,8 @@ begun_starved images clients contact latency s o store opened = record {
 
 module _ (clients : Meaning) (contact : ℕ) (bytes : List ℕ) (s : StoreValue) (o : Outside) where
   -- no memory was found for it
-  pub box_starved : ImagesStand → IsStore s → s.closed ≡ false → HasReadBox clients contact bytes s s (Err fault.Memory)
+  pub box_starved : ImagesStand → IsStore s → s.closed ≡ false
+      → HasReadBox clients contact bytes s s (Err fault.Memory)
       o o
   box_starved images store opened = record {
     more = [];
@@ -148,12 +175,15 @@ module _ (clients : Meaning) (contact : ℕ) (bytes : List ℕ) (s : StoreValue)
     answer = (opened, inl refl);
   }
 
-  not_begun_so : (s' : StoreValue) (more : Batches) (e : StoreFault) → IsSettled clients s.state.facts →
+  not_begun_so : (s' : StoreValue) (more : Batches) (e : StoreFault)
+      → IsSettled clients s.state.facts →
       (s'.closed ≡ false → s'.state.facts ≡ after_batches s.state.facts more)
-      → BeginsSo contact 1 s.state.facts s' more (Err e) → ReadsSo clients contact bytes s.state.facts s' more (Err e)
+      → BeginsSo contact 1 s.state.facts s' more (Err e)
+      → ReadsSo clients contact bytes s.state.facts s' more (Err e)
   not_begun_so s' more fault.Closed settled facts so = so
   not_begun_so s' more fault.Full settled facts so =
-      let same : s'.state.facts ≡ s.state.facts = facts so.0 ∙ ap (after_batches s.state.facts) so.1 in
+      let same : s'.state.facts ≡ s.state.facts =
+      facts so.0 ∙ ap (after_batches s.state.facts) so.1 in
       (so.0, subst (IsSettled clients) (sym same) settled, inl (so.1, so.2))
   not_begun_so s' more fault.Memory settled facts so = (so.0, inl so.1)
   not_begun_so s' more fault.DiskFault settled facts so = (
@@ -168,7 +198,8 @@ module _ (clients : Meaning) (contact : ℕ) (bytes : List ℕ) (s : StoreValue)
     }),
   )
 
-  pub box_not_begun : (s' : StoreValue) (e : StoreFault) (o' : Outside) → IsSettled clients s.state.facts
+  pub box_not_begun : (s' : StoreValue) (e : StoreFault) (o' : Outside)
+      → IsSettled clients s.state.facts
       → HasBegunSession clients contact 1 s s' (Err e) o o'
       → HasReadBox clients contact bytes s s' (Err e) o o'
   box_not_begun s' e o' settled has = record {
@@ -179,23 +210,32 @@ module _ (clients : Meaning) (contact : ℕ) (bytes : List ℕ) (s : StoreValue)
 
   module _ (s1 s2 : StoreValue) (session : Session) (o1 o2 : Outside)
       (begun : HasBegunSession clients contact 1 s s1 (Ok session) o o1) where
-    facts_there : s1.state.facts ≡ after s.state.facts (entry.Session (batch_session s.state.facts.begun contact 1))
-    facts_there = begun.comes.runs.facts begun.answer.0 ∙ ap (after_batches s.state.facts) begun.answer.1
+    facts_there : s1.state.facts ≡ after s.state.facts
+        (entry.Session (batch_session s.state.facts.begun contact 1))
+    facts_there =
+        begun.comes.runs.facts begun.answer.0 ∙ ap (after_batches s.state.facts) begun.answer.1
 
     -- what is taken from there on is taken behind the session
-    behind : (P : Facts → ℕ → List Record → Batches → Type 0) (left : RecordsLeft) (rest : Batches) → left.records
+    behind : (P : Facts → ℕ → List Record → Batches → Type 0) (left : RecordsLeft) (rest : Batches)
+        → left.records
         ≡ box_records bytes
-        → TakesTo clients session.number P s1.state.facts (next_on s1 session.number) left.records rest
+        → TakesTo clients session.number P s1.state.facts (next_on s1 session.number) left.records
+        rest
         → ReadsTo clients contact P s.state.facts (box_records bytes) (begun.more ++ rest)
     behind P left rest same t =
         let number : session.number ≡ s.state.facts.begun = begun.answer.2 in
-        let by_number : TakesTo clients s.state.facts.begun P s1.state.facts (next_on s1 s.state.facts.begun)
+        let by_number : TakesTo clients s.state.facts.begun P s1.state.facts
+        (next_on s1 s.state.facts.begun)
         left.records rest =
-        subst (λ (n : ℕ). TakesTo clients n P s1.state.facts (next_on s1 n) left.records rest) number t in
-        let begins : Facts = after s.state.facts (entry.Session (batch_session s.state.facts.begun contact 1)) in
-        let by_facts : TakesTo clients s.state.facts.begun P begins (takes_of s.state.facts.takes s.state.facts.begun)
+        subst (λ (n : ℕ). TakesTo clients n P s1.state.facts (next_on s1 n) left.records rest)
+        number t in
+        let begins : Facts =
+        after s.state.facts (entry.Session (batch_session s.state.facts.begun contact 1)) in
+        let by_facts : TakesTo clients s.state.facts.begun P begins
+        (takes_of s.state.facts.takes s.state.facts.begun)
         left.records rest =
-        subst (λ (f : Facts). TakesTo clients s.state.facts.begun P f (takes_of f.takes s.state.facts.begun)
+        subst (λ (f : Facts).
+        TakesTo clients s.state.facts.begun P f (takes_of f.takes s.state.facts.begun)
         left.records rest) facts_there by_number in
         record {
           rest = rest;
@@ -210,23 +250,29 @@ module _ (clients : Meaning) (contact : ℕ) (bytes : List ℕ) (s : StoreValue)
 
     abbrev From : (Facts → ℕ → List Record → Batches → Type 0) → Batches → Type 0
     From P more =
-        TakesTo clients session.number P s1.state.facts (next_on s1 session.number) (left_of fresh bytes).records more
+        TakesTo clients session.number P s1.state.facts (next_on s1 session.number)
+        (left_of fresh bytes).records more
 
     some_behind : (more : Batches) → From (SomeTaken clients session.number) more
-        → ReadsTo clients contact (SomeTaken clients s.state.facts.begun) s.state.facts (box_records bytes)
+        → ReadsTo clients contact (SomeTaken clients s.state.facts.begun) s.state.facts
+        (box_records bytes)
         (begun.more ++ more)
     some_behind more t =
-        behind (SomeTaken clients s.state.facts.begun) (left_of fresh bytes) more (ap (λ (l : RecordsLeft). l.records) whole)
+        behind (SomeTaken clients s.state.facts.begun) (left_of fresh bytes) more
+        (ap (λ (l : RecordsLeft). l.records) whole)
         (subst (λ (n : ℕ). From (SomeTaken clients n) more) begun.answer.2 t)
 
     full_behind : (more : Batches) → From (NoRoomFor session.number s2) more
-        → ReadsTo clients contact (NoRoomFor s.state.facts.begun s2) s.state.facts (box_records bytes)
+        → ReadsTo clients contact (NoRoomFor s.state.facts.begun s2) s.state.facts
+        (box_records bytes)
         (begun.more ++ more)
     full_behind more t =
-        behind (NoRoomFor s.state.facts.begun s2) (left_of fresh bytes) more (ap (λ (l : RecordsLeft). l.records) whole)
+        behind (NoRoomFor s.state.facts.begun s2) (left_of fresh bytes) more
+        (ap (λ (l : RecordsLeft). l.records) whole)
         (subst (λ (n : ℕ). From (NoRoomFor n s2) more) begun.answer.2 t)
 
-    reads_so : (more : Batches) (result : Result BoxEnd StoreFault) → RestSo clients session.number s1 s2
+    reads_so : (more : Batches) (result : Result BoxEnd StoreFault)
+        → RestSo clients session.number s1 s2
         (left_of fresh bytes) more result
         → ReadsSo clients contact bytes s.state.facts s2 (begun.more ++ more) result
     reads_so more (Ok end) so = (
@@ -241,17 +287,21 @@ module _ (clients : Meaning) (contact : ℕ) (bytes : List ℕ) (s : StoreValue)
     reads_so more (Err fault.Memory) so = (so.0, inr (some_behind more so.1))
     reads_so more (Err fault.DiskFault) so = (so.0, inr (some_behind more so.1))
 
-    pub box_read : (result : Result BoxEnd StoreFault) → HasReadRest clients session.number s1 s2 (left_of fresh bytes)
+    pub box_read : (result : Result BoxEnd StoreFault) → HasReadRest clients session.number s1 s2
+        (left_of fresh bytes)
         result o1 o2
         → HasReadBox clients contact bytes s s2 result o o2
     box_read result has = record {
       more = begun.more ++ has.more;
-      comes = comes_then clients s s1 s2 o o1 o2 begun.more has.more begun.answer.0 begun.comes has.comes;
+      comes = comes_then clients s s1 s2 o o1 o2 begun.more has.more begun.answer.0 begun.comes
+          has.comes;
       answer = reads_so has.more result has.answer;
     }
 
-    pub box_read_at : (left : RecordsLeft) (result : Result BoxEnd StoreFault) → left ≡ left_of fresh bytes
+    pub box_read_at : (left : RecordsLeft) (result : Result BoxEnd StoreFault)
+        → left ≡ left_of fresh bytes
         → HasReadRest clients session.number s1 s2 left result o1 o2
         → HasReadBox clients contact bytes s s2 result o o2
     box_read_at left result is has =
-        box_read result (subst (λ (l : RecordsLeft). HasReadRest clients session.number s1 s2 l result o1 o2) is has)
+        box_read result (subst (λ (l : RecordsLeft).
+        HasReadRest clients session.number s1 s2 l result o1 o2) is has)

@@ -1,5 +1,7 @@
 -- What reading and writing come to over journals.
-use Rattle.std.proofs.Common.{◌≡◌, ℕ, ◌+◌, ◌<◌, true, false, cond, List, [], ◌∷◌, ◌++◌, refl, sym, ◌∙◌, ap, subst, inl, inr, arith, append_assoc, append-nil, Some, None, nat_eq, eqb-true}
+use Rattle.std.proofs.Common.{◌≡◌, ℕ, ◌+◌, ◌<◌, true, false, cond, List, [], ◌∷◌, ◌++◌, refl, sym}
+use Rattle.std.proofs.Common.{◌∙◌, ap, subst, inl, inr, arith, append_assoc, append-nil, Some, None}
+use Rattle.std.proofs.Common.{nat_eq, eqb-true}
 use Rattle.std.specs.List.{AllByRecursion}
 use Rattle.sync_ids.specs.declared.records.Record.{Record}
 use Rattle.sync_rules.specs.declared.entries.Entry.{Entry}
@@ -24,30 +26,39 @@ Batches = List (List Entry)
 
 -- ---- no session has the next number
 
-none_above : (n : ℕ) (ss : List Session) → AllByRecursion (λ (s : Session). s.number < n) ss → session_at ss n ≡ None
+none_above : (n : ℕ) (ss : List Session) → AllByRecursion (λ (s : Session). s.number < n) ss
+    → session_at ss n ≡ None
 none_above n [] below = refl
 none_above n (s ∷ ss) below =
-    elim (nat_eq s.number n) as (λ b. nat_eq s.number n ≡ b → cond b (Some s) (session_at ss n) ≡ None) [
-      | true ↦ λ e. let same : s.number ≡ n = eqb-true s.number n e in let less : s.number < n = below.0 in absurd
+    elim (nat_eq s.number n) as (λ b. nat_eq s.number n ≡ b
+    → cond b (Some s) (session_at ss n) ≡ None) [
+      | true ↦ λ e. let same : s.number ≡ n =
+          eqb-true s.number n e in let less : s.number < n = below.0 in absurd
           (omega (arith, same, less))
       | false ↦ λ e. none_above n ss below.1
     ] refl
 
-next_free : (clients : Meaning) (j : Batches) → Legal clients j → session_at (facts j).sessions (facts j).begun ≡ None
-next_free clients j legal = none_above (facts j).begun (facts j).sessions (legal_sessions clients j legal).below
+next_free : (clients : Meaning) (j : Batches) → Legal clients j → session_at (facts j).sessions
+    (facts j).begun ≡ None
+next_free clients j legal =
+    none_above (facts j).begun (facts j).sessions (legal_sessions clients j legal).below
 
 -- ---- a file that is read
 
-record_heard : (clients : Meaning) (session k : ℕ) (j : Batches) (r : Record) (more : Batches) → TakesRecord clients
+record_heard : (clients : Meaning) (session k : ℕ) (j : Batches) (r : Record) (more : Batches)
+    → TakesRecord clients
     (facts j) session k r more
-    → IsSettled clients (after_batches (facts j) more) → HearsRecord clients j session k r (j ++ more)
+    → IsSettled clients (after_batches (facts j) more)
+    → HearsRecord clients j session k r (j ++ more)
 record_heard clients session k j r more takes settled =
     let its : List Entry = next_take (facts j) session k r in
     record {
       settles = record {
         more = takes.settling;
-        extends = ap (λ (bs : Batches). j ++ bs) takes.is ∙ sym (append_assoc j (its ∷ []) takes.settling);
-        settling = subst (λ (f : Facts). AllSettling clients f takes.settling) (sym (facts-push j its)) takes.settles;
+        extends = ap (λ (bs : Batches). j ++ bs) takes.is
+            ∙ sym (append_assoc j (its ∷ []) takes.settling);
+        settling = subst (λ (f : Facts). AllSettling clients f takes.settling)
+            (sym (facts-push j its)) takes.settles;
       };
       settled = subst (IsSettled clients) (sym (facts-append j more)) settled;
     }
@@ -59,9 +70,11 @@ hears_all clients session k j [] more at = ap (λ (bs : Batches). j ++ bs) at.1 
 hears_all clients session k j (r ∷ rs) more (inl at) = let none : r ∷ rs ≡ [] = at.0 in cc
 hears_all clients session k j (r ∷ rs) more (inr then) =
     let later : TakesTo clients session AllTaken (facts (j ++ then.first)) (k + 1) rs then.rest =
-    subst (λ (f : Facts). TakesTo clients session AllTaken f (k + 1) rs then.rest) (sym (facts-append j then.first))
+    subst (λ (f : Facts). TakesTo clients session AllTaken f (k + 1) rs then.rest)
+    (sym (facts-append j then.first))
     then.later in
-    let whole : (j ++ then.first) ++ then.rest ≡ j ++ more = append_assoc j then.first then.rest ∙ ap
+    let whole : (j ++ then.first) ++ then.rest ≡ j ++ more = append_assoc j then.first then.rest
+    ∙ ap
     (λ (bs : Batches). j ++ bs) (sym then.is) in (
       j ++ then.first,
       record_heard clients session k j r then.first then.takes then.settled,
@@ -73,15 +86,19 @@ pub reads_are_boxes : ReadsAreBoxes
 reads_are_boxes clients contact j more records legal settled reads =
     let n : ℕ = (facts j).begun in
     let start : List Entry = entry.Session (box_session n contact) ∷ [] in
-    let none : takes_of (facts j).takes n ≡ 0 = (legal_sessions clients j legal).untaken n (next_free clients j legal)
+    let none : takes_of (facts j).takes n ≡ 0 =
+    (legal_sessions clients j legal).untaken n (next_free clients j legal)
     in
-    let there : after (facts j) (entry.Session (box_session n contact)) ≡ facts (with_box contact j) = sym
+    let there : after (facts j) (entry.Session (box_session n contact))
+    ≡ facts (with_box contact j) = sym
     (facts-push j start) in
     let taken : TakesTo clients n AllTaken (facts (with_box contact j)) 0 records reads.rest =
     subst (λ (f : Facts). TakesTo clients n AllTaken f 0 records reads.rest) there
-    (subst (λ (k : ℕ). TakesTo clients n AllTaken (after (facts j) (entry.Session (box_session n contact)))
+    (subst (λ (k : ℕ). TakesTo clients n AllTaken
+    (after (facts j) (entry.Session (box_session n contact)))
     k records reads.rest) none reads.later) in
-    let whole : with_box contact j ++ reads.rest ≡ j ++ more = append_assoc j (start ∷ []) reads.rest ∙ ap
+    let whole : with_box contact j ++ reads.rest ≡ j ++ more =
+    append_assoc j (start ∷ []) reads.rest ∙ ap
     (λ (bs : Batches). j ++ bs) (sym reads.is) in
     record {
       before = j;

@@ -1,5 +1,6 @@
 -- The items of a file that are read, one after the other.
-use Rattle.std.proofs.Common.{◌≡◌, ℕ, ◌+◌, ◌-◌, ◌≤◌, true, false, cond, List, [], ◌∷◌, ◌++◌, length, refl, sym, ◌∙◌, ap, subst, inl, arith, Some, None, Ok, Err}
+use Rattle.std.proofs.Common.{◌≡◌, ℕ, ◌+◌, ◌-◌, ◌≤◌, true, false, cond, List, [], ◌∷◌, ◌++◌, length}
+use Rattle.std.proofs.Common.{refl, sym, ◌∙◌, ap, subst, inl, arith, Some, None, Ok, Err}
 use Rattle.outside.specs.Outside.{Outside}
 use Rattle.sync_ids.specs.declared.records.Record.{Record}
 use Rattle.sync_rules.specs.declared.entries.Entry.{Entry}
@@ -15,7 +16,8 @@ use Rattle.mailbox_core.specs.declared.ends.BoxEnding.{BoxEnding}
 use Rattle.mailbox_core.specs.declared.ends.BoxEnding.TheVariants as box
 use Rattle.mailbox_core.specs.Files.{is_foreign}
 use Rattle.mailbox_core.specs.Rooms.{StoreComesTo}
-use Rattle.mailbox_core.specs.Steps.{HasReadItem, HasReadRest, HasTakenRecord, IsAt, IsOpenFor, RecordsLeft, StopsSo, TakesSo, next_on}
+use Rattle.mailbox_core.specs.Steps.{HasReadItem, HasReadRest, HasTakenRecord, IsAt, IsOpenFor}
+use Rattle.mailbox_core.specs.Steps.{RecordsLeft, StopsSo, TakesSo, next_on}
 use Rattle.mailbox_core.specs.Taking.{AllTaken, NoRoomFor, SomeTaken, TakesTo}
 use Rattle.mailbox_core.proofs.Lefts.{BehindOne}
 use Rattle.mailbox_core.proofs.Rooms.{comes_none, comes_then}
@@ -26,16 +28,23 @@ Batches = List (List Entry)
 
 -- ---- one item
 
-module _ (clients : Meaning) (session : ℕ) (s s' : StoreValue) (left left' : RecordsLeft) (o o' : Outside) where
+module _ (clients : Meaning) (session : ℕ) (s s' : StoreValue) (left left' : RecordsLeft)
+    (o o' : Outside) where
   -- a record that does not end the reading was taken
-  pub read_one : (place : ℕ) (r : Record) (u : Unit {0}) → BehindOne place r left left' → is_foreign r ≡ false
-      → HasTakenRecord clients session r s s' (Ok u) o o' → HasReadItem clients session s s' left left' (Ok None) o o'
+  pub read_one : (place : ℕ) (r : Record) (u : Unit {0}) → BehindOne place r left left'
+      → is_foreign r ≡ false
+      → HasTakenRecord clients session r s s' (Ok u) o o'
+      → HasReadItem clients session s s' left left' (Ok None) o o'
   read_one place r u behind own has =
-      let records : left.records ≡ r ∷ left'.records = behind.records ∙ ap (λ b. r ∷ cond b [] left'.records) own in
-      let facts : s'.state.facts ≡ after_batches s.state.facts has.more = has.comes.runs.facts has.answer.0 in
-      let here : TakesTo clients session (IsAt s'.state.facts (next_on s' session) left'.records) s'.state.facts
+      let records : left.records ≡ r ∷ left'.records = behind.records
+      ∙ ap (λ b. r ∷ cond b [] left'.records) own in
+      let facts : s'.state.facts ≡ after_batches s.state.facts has.more =
+      has.comes.runs.facts has.answer.0 in
+      let here : TakesTo clients session (IsAt s'.state.facts (next_on s' session) left'.records)
+      s'.state.facts
       (next_on s session + 1) left'.records [] =
-      subst (λ (n : ℕ). TakesTo clients session (IsAt s'.state.facts (next_on s' session) left'.records)
+      subst (λ (n : ℕ).
+      TakesTo clients session (IsAt s'.state.facts (next_on s' session) left'.records)
       s'.state.facts n left'.records []) has.answer.3
       (at_here clients session s'.state.facts (next_on s' session) left'.records) in
       record {
@@ -43,7 +52,8 @@ module _ (clients : Meaning) (session : ℕ) (s s' : StoreValue) (left left' : R
         comes = has.comes;
         answer = (
           has.answer.0,
-          subst (λ (rs : List Record). TakesTo clients session (IsAt s'.state.facts (next_on s' session) left'.records)
+          subst (λ (rs : List Record).
+              TakesTo clients session (IsAt s'.state.facts (next_on s' session) left'.records)
               s.state.facts (next_on s session) rs has.more)
               (sym records)
               (one_then clients session (IsAt s'.state.facts (next_on s' session) left'.records)
@@ -54,12 +64,16 @@ module _ (clients : Meaning) (session : ℕ) (s s' : StoreValue) (left left' : R
       }
 
   -- one that ends it was taken
-  pub read_last : (place : ℕ) (r : Record) (u : Unit {0}) → BehindOne place r left left' → is_foreign r ≡ true
-      → HasTakenRecord clients session r s s' (Ok u) o o' → HasReadItem clients session s s' left left'
+  pub read_last : (place : ℕ) (r : Record) (u : Unit {0}) → BehindOne place r left left'
+      → is_foreign r ≡ true
+      → HasTakenRecord clients session r s s' (Ok u) o o'
+      → HasReadItem clients session s s' left left'
       (Ok (Some (box.NoVersion place))) o o'
   read_last place r u behind foreign has =
-      let records : left.records ≡ r ∷ [] = behind.records ∙ ap (λ b. r ∷ cond b [] left'.records) foreign in
-      let facts : s'.state.facts ≡ after_batches s.state.facts has.more = has.comes.runs.facts has.answer.0 in
+      let records : left.records ≡ r ∷ [] = behind.records
+      ∙ ap (λ b. r ∷ cond b [] left'.records) foreign in
+      let facts : s'.state.facts ≡ after_batches s.state.facts has.more =
+      has.comes.runs.facts has.answer.0 in
       let count : next_on s' session ≡ next_on s session + 1 = has.answer.3 in
       let many : length left.records ≡ 1 = ap length records in
       record {
@@ -67,7 +81,8 @@ module _ (clients : Meaning) (session : ℕ) (s s' : StoreValue) (left left' : R
         comes = has.comes;
         answer = (
           has.answer.0,
-          subst (λ (rs : List Record). TakesTo clients session AllTaken s.state.facts (next_on s session) rs has.more)
+          subst (λ (rs : List Record).
+              TakesTo clients session AllTaken s.state.facts (next_on s session) rs has.more)
               (sym records)
               (one_then clients session AllTaken s.state.facts s'.state.facts (next_on s session)
               r [] has.more has.answer.2 facts has.answer.1 (refl, refl)),
@@ -84,14 +99,16 @@ module _ (clients : Meaning) (session : ℕ) (s s' : StoreValue) (left left' : R
     more = has.more;
     comes = has.comes;
     answer =
-        subst (λ (rs : List Record). StopsSo clients session s s' rs has.more e) (sym behind.records)
+        subst (λ (rs : List Record). StopsSo clients session s s' rs has.more e)
+        (sym behind.records)
         (stops e has.answer);
   }
     where
       rest : List Record
       rest = cond (is_foreign r) [] left'.records
 
-      stops : (x : StoreFault) → TakesSo clients session r s s' has.more (Err x) → StopsSo clients session s s'
+      stops : (x : StoreFault) → TakesSo clients session r s s' has.more (Err x)
+          → StopsSo clients session s s'
           (r ∷ rest) has.more x
       stops fault.Closed so = so
       stops fault.Full so = (so.0, so.1, inl (so.2, so.3))
@@ -100,7 +117,8 @@ module _ (clients : Meaning) (session : ℕ) (s s' : StoreValue) (left left' : R
 
 -- ---- items that take nothing
 
-module _ (images : ImagesStand) (clients : Meaning) (session : Session) (s : StoreValue) (left left' : RecordsLeft)
+module _ (images : ImagesStand) (clients : Meaning) (session : Session) (s : StoreValue)
+    (left left' : RecordsLeft)
     (o : Outside)
     (able : IsOpenFor clients session s o) where
   -- a skipped one
@@ -110,9 +128,11 @@ module _ (images : ImagesStand) (clients : Meaning) (session : Session) (s : Sto
     comes = comes_none images clients s o able.is_store;
     answer = (
       able.ready.still_open,
-      subst (λ (l : RecordsLeft). TakesTo clients session.number (IsAt s.state.facts (next_on s session.number) l.records)
+      subst (λ (l : RecordsLeft).
+          TakesTo clients session.number (IsAt s.state.facts (next_on s session.number) l.records)
           s.state.facts (next_on s session.number) left.records [])
-          same (at_here clients session.number s.state.facts (next_on s session.number) left.records),
+          same (at_here clients session.number s.state.facts (next_on s session.number)
+          left.records),
       ap (λ (l : RecordsLeft). l.ending) same,
     );
   }
@@ -127,7 +147,8 @@ module _ (images : ImagesStand) (clients : Meaning) (session : Session) (s : Sto
         comes = comes_none images clients s o able.is_store;
         answer = (
           able.ready.still_open,
-          subst (λ (rs : List Record). TakesTo clients session.number AllTaken s.state.facts (next_on s session.number)
+          subst (λ (rs : List Record).
+              TakesTo clients session.number AllTaken s.state.facts (next_on s session.number)
               rs [])
               (sym (ap (λ (l : RecordsLeft). l.records) none)) (refl, refl),
           omega (arith, many),
@@ -140,23 +161,28 @@ module _ (images : ImagesStand) (clients : Meaning) (session : Session) (s : Sto
   read_starved = record {
     more = [];
     comes = comes_none images clients s o able.is_store;
-    answer =
-        (able.ready.still_open, none_some clients session.number s.state.facts (next_on s session.number) left.records);
+    answer = (
+      able.ready.still_open,
+      none_some clients session.number s.state.facts (next_on s session.number) left.records,
+    );
   }
 
 -- ---- one item after the other
 
 -- some items were read, and the reading goes on
-pub record Underway (clients : Meaning) (session : ℕ) (s s' : StoreValue) (left left' : RecordsLeft) (o o' : Outside)
+pub record Underway (clients : Meaning) (session : ℕ) (s s' : StoreValue) (left left' : RecordsLeft)
+    (o o' : Outside)
     : Type 0 where
   pub more : Batches
   pub comes : StoreComesTo clients s s' o o' more
   pub still_open : s'.closed ≡ false
-  pub came : TakesTo clients session (IsAt s'.state.facts (next_on s' session) left'.records) s.state.facts
+  pub came : TakesTo clients session
+      (IsAt s'.state.facts (next_on s' session) left'.records) s.state.facts
       (next_on s session) left.records more
   pub same_ending : left.ending ≡ left'.ending
 
-pub way_begins : ImagesStand → (clients : Meaning) (session : Session) (s : StoreValue) (left : RecordsLeft) (o : Outside)
+pub way_begins : ImagesStand → (clients : Meaning) (session : Session) (s : StoreValue)
+    (left : RecordsLeft) (o : Outside)
     → IsOpenFor clients session s o
     → Underway clients session.number s s left left o o
 way_begins images clients session s left o able = record {
@@ -167,13 +193,17 @@ way_begins images clients session s left o able = record {
   same_ending = refl;
 }
 
-module _ (clients : Meaning) (session : ℕ) (s0 s s' : StoreValue) (left0 left left' : RecordsLeft) (o0 o o' : Outside)
+module _ (clients : Meaning) (session : ℕ) (s0 s s' : StoreValue) (left0 left left' : RecordsLeft)
+    (o0 o o' : Outside)
     (way : Underway clients session s0 s left0 left o0 o) where
-  onward : (P : Facts → ℕ → List Record → Batches → Type 0) (more : Batches) → TakesTo clients session P s.state.facts
+  onward : (P : Facts → ℕ → List Record → Batches → Type 0) (more : Batches)
+      → TakesTo clients session P s.state.facts
       (next_on s session) left.records more
-      → TakesTo clients session P s0.state.facts (next_on s0 session) left0.records (way.more ++ more)
+      → TakesTo clients session P s0.state.facts (next_on s0 session) left0.records
+      (way.more ++ more)
   onward P more t =
-      then_on clients session P s0.state.facts s.state.facts (next_on s0 session) (next_on s session)
+      then_on clients session P s0.state.facts s.state.facts (next_on s0 session)
+      (next_on s session)
       left0.records left.records way.more more way.came t
 
   pub way_goes_on : HasReadItem clients session s s' left left' (Ok None) o o'
@@ -191,13 +221,15 @@ module _ (clients : Meaning) (session : ℕ) (s0 s s' : StoreValue) (left0 left 
       → taken ≡ next_on s' session - next_on s0 session
       → HasReadRest clients session s0 s' left0 (Ok (record { taken = taken; ending = e })) o0 o'
   way_ends e has settled taken is =
-      let here : next_on s session + length left.records ≡ next_on s0 session + length left0.records =
+      let here : next_on s session + length left.records
+      ≡ next_on s0 session + length left0.records =
       counted clients session s0.state.facts s.state.facts (next_on s0 session) (next_on s session)
       left0.records left.records way.more way.came in
       let last : next_on s' session ≡ next_on s session + length left.records = has.answer.2 in
       record {
         more = way.more ++ has.more;
-        comes = comes_then clients s0 s s' o0 o o' way.more has.more way.still_open way.comes has.comes;
+        comes =
+            comes_then clients s0 s s' o0 o o' way.more has.more way.still_open way.comes has.comes;
         answer = (
           has.answer.0,
           settled,
@@ -207,16 +239,19 @@ module _ (clients : Meaning) (session : ℕ) (s0 s s' : StoreValue) (left0 left 
         );
       }
 
-  pub way_within : (e : BoxEnding) → HasReadItem clients session s s' left left' (Ok (Some e)) o o' → next_on s0 session
+  pub way_within : (e : BoxEnding) → HasReadItem clients session s s' left left' (Ok (Some e)) o o'
+      → next_on s0 session
       ≤ next_on s' session
   way_within e has =
-      let here : next_on s session + length left.records ≡ next_on s0 session + length left0.records =
+      let here : next_on s session + length left.records
+      ≡ next_on s0 session + length left0.records =
       counted clients session s0.state.facts s.state.facts (next_on s0 session) (next_on s session)
       left0.records left.records way.more way.came in
       let last : next_on s' session ≡ next_on s session + length left.records = has.answer.2 in
       omega (arith, here, last)
 
-  way_stops_so : (e : StoreFault) (more : Batches) → StopsSo clients session s s' left.records more e
+  way_stops_so : (e : StoreFault) (more : Batches)
+      → StopsSo clients session s s' left.records more e
       → StopsSo clients session s0 s' left0.records (way.more ++ more) e
   way_stops_so fault.Closed more so = so
   way_stops_so fault.Full more so = (so.0, so.1, onward (NoRoomFor session s') more so.2)

@@ -1,5 +1,7 @@
 -- Outputs that are committed one after the other, and a file that is made of them.
-use Rattle.std.proofs.Common.{◌≡◌, ℕ, ◌+◌, ◌<◌, ◌≤◌, true, false, cond, List, [], ◌∷◌, ◌++◌, length, refl, sym, ◌∙◌, ap, subst, inl, inr, arith, append_assoc, append-nil, length-append, Option, Some, None, nat_eq, eq-eqb, Ok, Err}
+use Rattle.std.proofs.Common.{◌≡◌, ℕ, ◌+◌, ◌<◌, ◌≤◌, true, false, cond, List, [], ◌∷◌, ◌++◌, length}
+use Rattle.std.proofs.Common.{refl, sym, ◌∙◌, ap, subst, inl, inr, arith, append_assoc, append-nil}
+use Rattle.std.proofs.Common.{length-append, Option, Some, None, nat_eq, eq-eqb, Ok, Err}
 use Rattle.std.proofs.lemmas.Grind.{flat_map-append}
 use Rattle.outside.specs.Outside.{Outside}
 use Rattle.record_grammar.specs.Spelling.{spelled, spelling}
@@ -24,8 +26,11 @@ use Rattle.sync_store.specs.Fitting.{ImagesStand}
 use Rattle.sync_store.specs.Ready.{IsReady}
 use Rattle.sync_store.specs.Store.{IsStore, StoreValue}
 use Rattle.mailbox_core.specs.Rooms.{StoreComesTo}
-use Rattle.mailbox_core.specs.Sending.{AreDue, HasWrittenBox, IsSessionQuiet, SendsAll, SendsSome, SendsUntilFull, WritesSo, WritesSome, batch_session, out_batch, out_batches}
-use Rattle.mailbox_core.specs.Steps.{BeginsSo, HasBegunSession, HasCommitted, HasPut, HasPutAll, IsOpenFor, PutsAllSo, CommitsDue, PutsSo}
+use Rattle.mailbox_core.specs.Sending.{AreDue, HasWrittenBox, IsSessionQuiet, SendsAll, SendsSome}
+use Rattle.mailbox_core.specs.Sending.{SendsUntilFull, WritesSo, WritesSome, batch_session}
+use Rattle.mailbox_core.specs.Sending.{out_batch, out_batches}
+use Rattle.mailbox_core.specs.Steps.{BeginsSo, HasBegunSession, HasCommitted, HasPut, HasPutAll}
+use Rattle.mailbox_core.specs.Steps.{IsOpenFor, PutsAllSo, CommitsDue, PutsSo}
 use Rattle.mailbox_core.specs.Taking.{BeginsThen, first_batch}
 use Rattle.mailbox_core.proofs.Committed.{needed_stays}
 use Rattle.mailbox_core.proofs.Rooms.{comes_none, comes_then}
@@ -41,9 +46,11 @@ pub due_is : (clients : Meaning) (f : Facts) (o : Option Session) (now : ℕ) (w
 due_is clients f None now what e = cc
 due_is clients f (Some s) now what e = sym e
 
-pub quiet_is : (clients : Meaning) (f : Facts) (session : Session) (now : ℕ) → session_at f.sessions session.number
+pub quiet_is : (clients : Meaning) (f : Facts) (session : Session) (now : ℕ)
+    → session_at f.sessions session.number
     ≡ Some session
-    → None ≡ due_of clients f (session_at f.sessions session.number) now → IsSessionQuiet clients f session.number now
+    → None ≡ due_of clients f (session_at f.sessions session.number) now
+    → IsSessionQuiet clients f session.number now
 quiet_is clients f session now found none = record {
   begun = session;
   found = found;
@@ -71,12 +78,14 @@ output-append : (f : Facts) (session : ℕ) (xs ys : Batches) → output_of f se
     ≡ output_of f session xs ++ output_of (after_batches f xs) session ys
 output-append f session [] ys = refl
 output-append f session (x ∷ xs) ys =
-    ap (λ (rs : List Record). output_in f session x ++ rs) (output-append (after_all f x) session xs ys)
+    ap (λ (rs : List Record). output_in f session x ++ rs)
+    (output-append (after_all f x) session xs ys)
     ∙ sym (append_assoc (output_in f session x) (output_of (after_all f x) session xs)
     (output_of (after_batches (after_all f x) xs) session ys))
 
 -- the record of one output
-out_adds : (f : Facts) (session now : ℕ) (what : Out) → output_of f session (out_batch session now what ∷ [])
+out_adds : (f : Facts) (session now : ℕ) (what : Out) → output_of f session
+    (out_batch session now what ∷ [])
     ≡ records_of f.held what
 out_adds f session now what =
     append-nil (output_in f session (out_batch session now what))
@@ -85,8 +94,10 @@ out_adds f session now what =
 
 -- ---- one output
 
-module _ (clients : Meaning) (session now : ℕ) (s s' : StoreValue) (to to' : List ℕ) (o o' : Outside) where
-  pub put_made : (u : Unit {0}) (what : Out) → IsDue clients s.state.facts (session_at s.state.facts.sessions session)
+module _ (clients : Meaning) (session now : ℕ) (s s' : StoreValue) (to to' : List ℕ)
+    (o o' : Outside) where
+  pub put_made : (u : Unit {0}) (what : Out) → IsDue clients s.state.facts
+      (session_at s.state.facts.sessions session)
       now what
       → to' ≡ to ++ spelled (records_of s.state.facts.held what) → HasCommitted clients s s'
       (out_batch session now what) (Ok u) o o'
@@ -97,16 +108,20 @@ module _ (clients : Meaning) (session now : ℕ) (s s' : StoreValue) (to to' : L
     answer = (
       has.answer.2.closed,
       record { what = what; due = due; is = refl },
-      bytes ∙ ap (λ (rs : List Record). to ++ spelled rs) (sym (out_adds s.state.facts session now what)),
+      bytes ∙ ap (λ (rs : List Record). to ++ spelled rs)
+          (sym (out_adds s.state.facts session now what)),
     );
   }
 
-  pub put_failed : (e : StoreFault) (what : Out) → s.closed ≡ false → IsSettled clients s.state.facts
+  pub put_failed : (e : StoreFault) (what : Out) → s.closed ≡ false
+      → IsSettled clients s.state.facts
       → IsDue clients s.state.facts (session_at s.state.facts.sessions session) now what
-      → HasCommitted clients s s' (out_batch session now what) (Err e) o o' → HasPut clients session now s s' to to'
+      → HasCommitted clients s s' (out_batch session now what) (Err e) o o'
+      → HasPut clients session now s s' to to'
       (Err e) o o'
   put_failed fault.Closed what opened settled due has =
-      let closed : s.closed ≡ true = has.answer.0 in absurd (let e : true ≡ false = sym closed ∙ opened in cc)
+      let closed : s.closed ≡ true = has.answer.0 in
+      absurd (let e : true ≡ false = sym closed ∙ opened in cc)
   put_failed fault.Full what opened settled due has =
       let its : List Entry = out_batch session now what in
       let sum : needed s' its ≡ needed s its = needed_stays s s' its has.answer.2 in
@@ -122,7 +137,8 @@ module _ (clients : Meaning) (session now : ℕ) (s s' : StoreValue) (to to' : L
           record {
             next = what;
             due =
-                subst (λ (f : Facts). IsDue clients f (session_at f.sessions session) now what) (sym has.answer.2.facts)
+                subst (λ (f : Facts). IsDue clients f (session_at f.sessions session) now what)
+                (sym has.answer.2.facts)
                 due;
             over = omega (arith, sum, limit, over);
           },
@@ -136,20 +152,28 @@ module _ (clients : Meaning) (session now : ℕ) (s s' : StoreValue) (to to' : L
     answer = (has.answer.2.closed, record { what = what; due = due; is = refl });
   }
 
-module _ (images : ImagesStand) (clients : Meaning) (session : Session) (now : ℕ) (s : StoreValue) (o : Outside)
+module _ (images : ImagesStand) (clients : Meaning) (session : Session) (now : ℕ) (s : StoreValue)
+    (o : Outside)
     (able : IsOpenFor clients session s o) where
   -- nothing is due
-  pub put_none : (to : List ℕ) → None ≡ due_of clients s.state.facts (session_at s.state.facts.sessions session.number)
+  pub put_none : (to : List ℕ) → None ≡ due_of clients s.state.facts
+      (session_at s.state.facts.sessions session.number)
       now
       → HasPut clients session.number now s s to to (Ok false) o o
   put_none to none = record {
     more = [];
     comes = comes_none images clients s o able.is_store;
-    answer = (able.ready.still_open, quiet_is clients s.state.facts session now able.found none, refl, refl);
+    answer = (
+      able.ready.still_open,
+      quiet_is clients s.state.facts session now able.found none,
+      refl,
+      refl,
+    );
   }
 
   -- no memory was found
-  pub put_starved : (to to' : List ℕ) → HasPut clients session.number now s s to to' (Err fault.Memory) o o
+  pub put_starved : (to to' : List ℕ) → HasPut clients session.number now s s to to'
+      (Err fault.Memory) o o
   put_starved to to' = record {
     more = [];
     comes = comes_none images clients s o able.is_store;
@@ -157,7 +181,8 @@ module _ (images : ImagesStand) (clients : Meaning) (session : Session) (now : �
   }
 
 -- the session goes on behind an output
-pub able_put : (clients : Meaning) (session : Session) (now : ℕ) (s s' : StoreValue) (o o' : Outside) (what : Out)
+pub able_put : (clients : Meaning) (session : Session) (now : ℕ) (s s' : StoreValue)
+    (o o' : Outside) (what : Out)
     (u : Unit {0}) → IsOpenFor clients session s o
     → HasCommitted clients s s' (out_batch session.number now what) (Ok u) o o' →
     (s'.closed ≡ false → IsReady clients s' o'.files) → IsStore s'
@@ -171,7 +196,8 @@ able_put clients session now s s' o o' what u able has ready store =
 -- ---- one output after the other
 
 -- so many outputs were made, and more may follow
-pub record Underway (clients : Meaning) (session now : ℕ) (s s' : StoreValue) (to to' : List ℕ) (made : ℕ)
+pub record Underway (clients : Meaning) (session now : ℕ) (s s' : StoreValue) (to to' : List ℕ)
+    (made : ℕ)
     (o o' : Outside) : Type 0 where
   pub outs : List Out
   pub comes : StoreComesTo clients s s' o o' (out_batches session now outs)
@@ -180,7 +206,8 @@ pub record Underway (clients : Meaning) (session now : ℕ) (s s' : StoreValue) 
   pub counted : made ≡ length outs
   pub bytes : to' ≡ to ++ spelled (output_of s.state.facts session (out_batches session now outs))
 
-pub way_begins : ImagesStand → (clients : Meaning) (session : Session) (now : ℕ) (s : StoreValue) (to : List ℕ)
+pub way_begins : ImagesStand → (clients : Meaning) (session : Session) (now : ℕ) (s : StoreValue)
+    (to : List ℕ)
     (o : Outside) → IsOpenFor clients session s o
     → Underway clients session.number now s s to to 0 o o
 way_begins images clients session now s to o able = record {
@@ -192,13 +219,15 @@ way_begins images clients session now s to o able = record {
   bytes = sym (append-nil to);
 }
 
-module _ (clients : Meaning) (session now : ℕ) (s0 s s' : StoreValue) (to0 to to' : List ℕ) (made : ℕ)
+module _ (clients : Meaning) (session now : ℕ) (s0 s s' : StoreValue) (to0 to to' : List ℕ)
+    (made : ℕ)
     (o0 o o' : Outside)
     (way : Underway clients session now s0 s to0 to made o0 o) where
   there : s.state.facts ≡ after_batches s0.state.facts (out_batches session now way.outs)
   there = way.comes.runs.facts way.still_open
 
-  due_more : (what : Out) → IsDue clients s.state.facts (session_at s.state.facts.sessions session) now what
+  due_more : (what : Out) → IsDue clients s.state.facts
+      (session_at s.state.facts.sessions session) now what
       → AreDue clients s0.state.facts session now (way.outs ++ what ∷ [])
   due_more what due =
       due_push clients s0.state.facts session now way.outs what way.due
@@ -206,18 +235,21 @@ module _ (clients : Meaning) (session now : ℕ) (s0 s s' : StoreValue) (to0 to 
 
   made_more : (what : Out) → made + 1 ≡ length (way.outs ++ what ∷ [])
   made_more what =
-      let all : length (way.outs ++ what ∷ []) ≡ length way.outs + length (what ∷ []) = length-append way.outs
+      let all : length (way.outs ++ what ∷ []) ≡ length way.outs + length (what ∷ []) =
+      length-append way.outs
       (what ∷ []) in
       let so : made ≡ length way.outs = way.counted in
       omega (arith, all, so)
 
-  pub way_goes_on : HasPut clients session now s s' to to' (Ok true) o o' → Underway clients session now s0 s' to0 to'
+  pub way_goes_on : HasPut clients session now s s' to to' (Ok true) o o'
+      → Underway clients session now s0 s' to0 to'
       (made + 1) o0 o'
   way_goes_on has =
       let puts : CommitsDue clients s.state.facts session now has.more = has.answer.1 in
       let before : Batches = out_batches session now way.outs in
       let all : before ++ has.more ≡ out_batches session now (way.outs ++ puts.what ∷ []) =
-      ap (λ (bs : Batches). before ++ bs) puts.is ∙ sym (batches-append session now way.outs (puts.what ∷ [])) in
+      ap (λ (bs : Batches). before ++ bs) puts.is
+      ∙ sym (batches-append session now way.outs (puts.what ∷ [])) in
       record {
         outs = way.outs ++ puts.what ∷ [];
         comes = subst (λ (bs : Batches). StoreComesTo clients s0 s' o0 o' bs) all
@@ -227,15 +259,18 @@ module _ (clients : Meaning) (session now : ℕ) (s0 s s' : StoreValue) (to0 to 
         counted = made_more puts.what;
         bytes =
             has.answer.2
-            ∙ (ap (λ (bs : List ℕ). bs ++ spelled (output_of s.state.facts session has.more)) way.bytes
+            ∙ (ap (λ (bs : List ℕ). bs ++ spelled (output_of s.state.facts session has.more))
+            way.bytes
             ∙ (append_assoc to0 (spelled (output_of s0.state.facts session before))
             (spelled (output_of s.state.facts session has.more))
             ∙ ap (λ (bs : List ℕ). to0 ++ bs)
             (sym (flat_map-append spelling (output_of s0.state.facts session before)
             (output_of s.state.facts session has.more))
             ∙ ap spelled
-            (ap (λ (f : Facts). output_of s0.state.facts session before ++ output_of f session has.more) there
-            ∙ (sym (output-append s0.state.facts session before has.more) ∙ ap (output_of s0.state.facts session)
+            (ap (λ (f : Facts). output_of s0.state.facts session before
+            ++ output_of f session has.more) there
+            ∙ (sym (output-append s0.state.facts session before has.more)
+            ∙ ap (output_of s0.state.facts session)
             all)))));
       }
 
@@ -263,9 +298,11 @@ module _ (clients : Meaning) (session now : ℕ) (s0 s s' : StoreValue) (to0 to 
     );
   }
 
-  no_more : (more : Batches) → more ≡ [] → out_batches session now way.outs ++ more ≡ out_batches session now way.outs
+  no_more : (more : Batches) → more ≡ []
+      → out_batches session now way.outs ++ more ≡ out_batches session now way.outs
   no_more more none =
-      ap (λ (bs : Batches). out_batches session now way.outs ++ bs) none ∙ append-nil (out_batches session now way.outs)
+      ap (λ (bs : Batches). out_batches session now way.outs ++ bs) none
+      ∙ append-nil (out_batches session now way.outs)
 
   -- nothing is due any more
   pub way_ends : (most : ℕ) → made ≤ most → HasPut clients session now s s' to to' (Ok false) o o'
@@ -274,7 +311,8 @@ module _ (clients : Meaning) (session now : ℕ) (s0 s s' : StoreValue) (to0 to 
   unfolding sends
   way_ends most few has settled = record {
     more = out_batches session now way.outs;
-    comes = subst (λ (bs : Batches). StoreComesTo clients s0 s' o0 o' bs) (no_more has.more has.answer.2)
+    comes = subst (λ (bs : Batches). StoreComesTo clients s0 s' o0 o' bs)
+        (no_more has.more has.answer.2)
         (comes_then clients s0 s s' o0 o o' (out_batches session now way.outs)
         has.more way.still_open way.comes has.comes);
     answer = (
@@ -285,7 +323,8 @@ module _ (clients : Meaning) (session now : ℕ) (s0 s s' : StoreValue) (to0 to 
     );
   }
 
-  sends_more : (most : ℕ) (more : Batches) → made < most → CommitsDue clients s.state.facts session now more
+  sends_more : (most : ℕ) (more : Batches) → made < most
+      → CommitsDue clients s.state.facts session now more
       → SendsSome clients s0.state.facts session now most (out_batches session now way.outs ++ more)
   sends_more most more few puts = record {
     outs = way.outs ++ puts.what ∷ [];
@@ -293,10 +332,12 @@ module _ (clients : Meaning) (session now : ℕ) (s0 s s' : StoreValue) (to0 to 
         ap (λ (bs : Batches). out_batches session now way.outs ++ bs) puts.is ∙ sym
         (batches-append session now way.outs (puts.what ∷ []));
     due = due_more puts.what puts.due;
-    few = let so : made + 1 ≡ length (way.outs ++ puts.what ∷ []) = made_more puts.what in omega (arith, so, few);
+    few = let so : made + 1 ≡ length (way.outs ++ puts.what ∷ []) =
+        made_more puts.what in omega (arith, so, few);
   }
 
-  sends_none : (most : ℕ) (more : Batches) → made < most → more ≡ [] → SendsSome clients s0.state.facts session now most
+  sends_none : (most : ℕ) (more : Batches) → made < most → more ≡ []
+      → SendsSome clients s0.state.facts session now most
       (out_batches session now way.outs ++ more)
   sends_none most more few none = record {
     outs = way.outs;
@@ -305,9 +346,11 @@ module _ (clients : Meaning) (session now : ℕ) (s0 s s' : StoreValue) (to0 to 
     few = let so : made ≡ length way.outs = way.counted in omega (arith, so, few);
   }
 
-  stops_so : (most : ℕ) (e : StoreFault) (more : Batches) → made < most → PutsSo clients session now s s' more to to'
+  stops_so : (most : ℕ) (e : StoreFault) (more : Batches) → made < most
+      → PutsSo clients session now s s' more to to'
       (Err e)
-      → PutsAllSo clients session now most s0 s' (out_batches session now way.outs ++ more) to0 to' (Err e)
+      → PutsAllSo clients session now most s0 s' (out_batches session now way.outs ++ more) to0 to'
+      (Err e)
   unfolding sends_none
   stops_so most fault.Closed more few so = so
   stops_so most fault.Full more few so = (
@@ -324,7 +367,8 @@ module _ (clients : Meaning) (session now : ℕ) (s0 s s' : StoreValue) (to0 to 
   stops_so most fault.Memory more few so = (so.0, sends_none most more few so.1)
   stops_so most fault.DiskFault more few so = (so.0, sends_more most more few so.1)
 
-  pub way_stops : (most : ℕ) (e : StoreFault) → made < most → HasPut clients session now s s' to to' (Err e) o o'
+  pub way_stops : (most : ℕ) (e : StoreFault) → made < most → HasPut clients session now s s' to to'
+      (Err e) o o'
       → HasPutAll clients session now most s0 s' to0 to' (Err e) o0 o'
   way_stops most e few has = record {
     more = out_batches session now way.outs ++ has.more;
@@ -336,7 +380,8 @@ module _ (clients : Meaning) (session now : ℕ) (s0 s s' : StoreValue) (to0 to 
 
 -- ---- a file
 
-module _ (clients : Meaning) (contact latency now count : ℕ) (s : StoreValue) (o : Outside) (to : List ℕ) where
+module _ (clients : Meaning) (contact latency now count : ℕ) (s : StoreValue) (o : Outside)
+    (to : List ℕ) where
   abbrev its : Session
   its = batch_session s.state.facts.begun contact latency
 
@@ -355,19 +400,22 @@ module _ (clients : Meaning) (contact latency now count : ℕ) (s : StoreValue) 
   nothing_sent : SendsSome clients begins s.state.facts.begun now count []
   nothing_sent = record { outs = []; is = refl; due = tt; few = omega arith }
 
-  not_begun_so : (s' : StoreValue) (more : Batches) (e : StoreFault) → IsSettled clients s.state.facts →
+  not_begun_so : (s' : StoreValue) (more : Batches) (e : StoreFault)
+      → IsSettled clients s.state.facts →
       (s'.closed ≡ false → s'.state.facts ≡ after_batches s.state.facts more)
       → BeginsSo contact latency s.state.facts s' more (Err e)
       → WritesSo clients contact latency now count s.state.facts s' more to to (Err e)
   not_begun_so s' more fault.Closed settled facts so = so
   not_begun_so s' more fault.Full settled facts so =
-      let same : s'.state.facts ≡ s.state.facts = facts so.0 ∙ ap (after_batches s.state.facts) so.1 in
+      let same : s'.state.facts ≡ s.state.facts =
+      facts so.0 ∙ ap (after_batches s.state.facts) so.1 in
       (so.0, subst (IsSettled clients) (sym same) settled, inl (so.1, so.2), refl)
   not_begun_so s' more fault.Memory settled facts so = (so.0, inl so.1, refl)
   not_begun_so s' more fault.DiskFault settled facts so =
       (so.0, inr (record { rest = []; is = so.1; later = nothing_sent }), refl)
 
-  pub box_not_begun : (s' : StoreValue) (e : StoreFault) (o' : Outside) → IsSettled clients s.state.facts
+  pub box_not_begun : (s' : StoreValue) (e : StoreFault) (o' : Outside)
+      → IsSettled clients s.state.facts
       → HasBegunSession clients contact latency s s' (Err e) o o'
       → HasWrittenBox clients contact latency now count s s' to to (Err e) o o'
   box_not_begun s' e o' settled has = record {
@@ -379,11 +427,14 @@ module _ (clients : Meaning) (contact latency now count : ℕ) (s : StoreValue) 
   module _ (s1 s2 : StoreValue) (session : Session) (o1 o2 : Outside) (first bytes : List ℕ)
       (begun : HasBegunSession clients contact latency s s1 (Ok session) o o1) where
     facts_there : s1.state.facts ≡ begins
-    facts_there = begun.comes.runs.facts begun.answer.0 ∙ ap (after_batches s.state.facts) begun.answer.1
+    facts_there =
+        begun.comes.runs.facts begun.answer.0 ∙ ap (after_batches s.state.facts) begun.answer.1
 
     -- what is sent from there on is sent behind the session
-    behind : (Q : Facts → ℕ → Batches → Type 0) (rest : Batches) → Q s1.state.facts session.number rest
-        → BeginsThen s.state.facts its (begun.more ++ rest) (λ g later. Q g s.state.facts.begun later)
+    behind : (Q : Facts → ℕ → Batches → Type 0) (rest : Batches)
+        → Q s1.state.facts session.number rest
+        → BeginsThen s.state.facts its (begun.more ++ rest) (λ g later.
+        Q g s.state.facts.begun later)
     behind Q rest q = record {
       rest = rest;
       is = ap (λ (bs : Batches). bs ++ rest) begun.answer.1;
@@ -396,28 +447,39 @@ module _ (clients : Meaning) (contact latency now count : ℕ) (s : StoreValue) 
         → WritesSome clients contact latency now count s.state.facts (begun.more ++ rest)
     some_behind rest q = inr (behind (λ f n later. SendsSome clients f n now count later) rest q)
 
-    pub box_stopped : (e : StoreFault) → HasPutAll clients session.number now count s1 s2 first bytes (Err e) o1 o2
+    pub box_stopped : (e : StoreFault)
+        → HasPutAll clients session.number now count s1 s2 first bytes (Err e) o1 o2
         → HasWrittenBox clients contact latency now count s s2 to to (Err e) o o2
     box_stopped e has = record {
       more = begun.more ++ has.more;
-      comes = comes_then clients s s1 s2 o o1 o2 begun.more has.more begun.answer.0 begun.comes has.comes;
+      comes = comes_then clients s s1 s2 o o1 o2 begun.more has.more begun.answer.0 begun.comes
+          has.comes;
       answer = so e has.answer;
     }
       where
-        so : (x : StoreFault) → PutsAllSo clients session.number now count s1 s2 has.more first bytes (Err x)
-            → WritesSo clients contact latency now count s.state.facts s2 (begun.more ++ has.more) to to (Err x)
+        so : (x : StoreFault)
+            → PutsAllSo clients session.number now count s1 s2 has.more first bytes (Err x)
+            → WritesSo clients contact latency now count s.state.facts s2 (begun.more ++ has.more)
+            to to (Err x)
         so fault.Closed a = a
-        so fault.Full a =
-            (a.0, a.1, inr (behind (λ f n later. SendsUntilFull clients f s2 n now count later) has.more a.2), refl)
+        so fault.Full a = (
+          a.0,
+          a.1,
+          inr (behind (λ f n later. SendsUntilFull clients f s2 n now count later) has.more
+              a.2),
+          refl,
+        )
         so fault.Memory a = (a.0, some_behind has.more a.1, refl)
         so fault.DiskFault a = (a.0, some_behind has.more a.1, refl)
 
     -- no memory was found to append the bytes
-    pub box_unwritten : (made : ℕ) → HasPutAll clients session.number now count s1 s2 first bytes (Ok made) o1 o2
+    pub box_unwritten : (made : ℕ) → HasPutAll clients session.number now count s1 s2 first bytes
+        (Ok made) o1 o2
         → HasWrittenBox clients contact latency now count s s2 to to (Err fault.Memory) o o2
     box_unwritten made has = record {
       more = begun.more ++ has.more;
-      comes = comes_then clients s s1 s2 o o1 o2 begun.more has.more begun.answer.0 begun.comes has.comes;
+      comes = comes_then clients s s1 s2 o o1 o2 begun.more has.more begun.answer.0 begun.comes
+          has.comes;
       answer = (has.answer.0, some_behind has.more has.answer.2.sends, refl);
     }
 
@@ -431,7 +493,8 @@ module _ (clients : Meaning) (contact latency now count : ℕ) (s : StoreValue) 
         let rest : output_of s1.state.facts session.number more ≡ later =
         (λ i. output_of (facts_there i) (begun.answer.2 i) more) in
         let beginning : output_in s.state.facts n (first_batch its) ≡ first_records its =
-        append-nil (cond (nat_eq n n) (first_records its) []) ∙ ap (λ b. cond b (first_records its) [])
+        append-nil (cond (nat_eq n n) (first_records its) [])
+        ∙ ap (λ b. cond b (first_records its) [])
         (eq-eqb n n refl) in
         let whole : output_of s.state.facts n (begun.more ++ more) ≡ first_records its ++ later =
         ap (λ (bs : Batches). output_of s.state.facts n (bs ++ more)) begun.answer.1 ∙ ap
@@ -439,15 +502,18 @@ module _ (clients : Meaning) (contact latency now count : ℕ) (s : StoreValue) 
         (λ i. versions i ++ spelled (rest i)) ∙ ap spelled (sym whole)
 
     pub box_written : (made : ℕ) (to' : List ℕ) → first ≡ spelling (record_kind.Versions (0 ∷ []))
-        → HasPutAll clients session.number now count s1 s2 first bytes (Ok made) o1 o2 → to' ≡ to ++ bytes
+        → HasPutAll clients session.number now count s1 s2 first bytes (Ok made) o1 o2
+        → to' ≡ to ++ bytes
         → HasWrittenBox clients contact latency now count s s2 to to' (Ok made) o o2
     box_written made to' versions has appended = record {
       more = begun.more ++ has.more;
-      comes = comes_then clients s s1 s2 o o1 o2 begun.more has.more begun.answer.0 begun.comes has.comes;
+      comes = comes_then clients s s1 s2 o o1 o2 begun.more has.more begun.answer.0 begun.comes
+          has.comes;
       answer = (
         has.answer.0,
         has.answer.1,
-        behind (λ f n later. SendsAll clients f s2.state.facts n now count made later) has.more has.answer.2,
+        behind (λ f n later. SendsAll clients f s2.state.facts n now count made later) has.more
+            has.answer.2,
         appended ∙ ap (λ (bs : List ℕ). to ++ bs) (has.answer.3 ∙ all_sent has.more versions),
       );
     }

@@ -1,5 +1,7 @@
 -- Records that are taken one after the other, put together.
-use Rattle.std.proofs.Common.{◌≡◌, ◌≢◌, ◌⊎◌, ℕ, ◌+◌, true, false, cond, List, [], ◌∷◌, ◌++◌, length, refl, sym, ◌∙◌, ap, subst, inl, inr, arith, append_assoc, append-nil, Some, is_some, Result, Ok, Err, eq-eqb}
+use Rattle.std.proofs.Common.{◌≡◌, ◌≢◌, ◌⊎◌, ℕ, ◌+◌, true, false, cond, List, [], ◌∷◌, ◌++◌, length}
+use Rattle.std.proofs.Common.{refl, sym, ◌∙◌, ap, subst, inl, inr, arith, append_assoc, append-nil}
+use Rattle.std.proofs.Common.{Some, is_some, Result, Ok, Err, eq-eqb}
 use Rattle.std.specs.Prelude.{OnOk}
 use Rattle.outside.specs.Outside.{Outside}
 use Rattle.sync_ids.specs.Records.{IsRecord}
@@ -10,7 +12,8 @@ use Rattle.sync_rules.specs.declared.entries.Entry.TheVariants as entry
 use Rattle.sync_rules.specs.declared.entries.Session.{Session}
 use Rattle.sync_rules.specs.Allows.{is_account_kind, is_settling_kind}
 use Rattle.sync_rules.specs.Clients.{Meaning}
-use Rattle.sync_rules.specs.Facts.{Facts, after_all, after_batches, contact_in, session_at, takes_of}
+use Rattle.sync_rules.specs.Facts.{Facts, after_all, after_batches, contact_in, session_at}
+use Rattle.sync_rules.specs.Facts.{takes_of}
 use Rattle.sync_rules.specs.Legal.{Allowed, AllSettling}
 use Rattle.sync_rules.specs.Sessions.{taken, taken_from}
 use Rattle.sync_rules.specs.Steps.{IsSettled}
@@ -32,20 +35,29 @@ use Rattle.mailbox_core.proofs.Rooms.{comes_none}
 -- ---- the batch of a record
 
 -- by the session that is found under its number it is that of the definition
-pub next_is : (f : Facts) (session : Session) (k : ℕ) (r : Record) → session_at f.sessions session.number ≡ Some session
+pub next_is : (f : Facts) (session : Session) (k : ℕ) (r : Record)
+    → session_at f.sessions session.number ≡ Some session
     → take_of f session k r ≡ next_take f session.number k r
 next_is f session k r found =
-    ap (λ c. entry.Take session.number k ∷ taken_from f session.number c r) (sym (ap contact_in found))
+    ap (λ c. entry.Take session.number k ∷ taken_from f session.number c r)
+    (sym (ap contact_in found))
 
 pub take_allowed : (clients : Meaning) (f : Facts) (session k : ℕ) (r : Record) (batch : List Entry)
     → IsSettled clients f
-    → is_some (session_at f.sessions session) ≡ true → IsRecord r → k ≡ takes_of f.takes session → batch
+    → is_some (session_at f.sessions session) ≡ true → IsRecord r → k ≡ takes_of f.takes session
+    → batch
     ≡ next_take f session k r
     → Allowed clients f batch
 take_allowed clients f session k r batch settled known within numbered is =
     subst (λ (b : List Entry). Allowed clients f b) (sym is) (
       settled,
-      record { known_session = known; numbered = numbered; read = r; within = within; taken_so = refl },
+      record {
+        known_session = known;
+        numbered = numbered;
+        read = r;
+        within = within;
+        taken_so = refl;
+      },
     )
 
 pub take_kind : (f : Facts) (session : Session) (k : ℕ) (r : Record) (batch : List Entry) → batch
@@ -59,7 +71,8 @@ pub take_plain : (f : Facts) (session : Session) (k : ℕ) (r : Record) (batch :
 take_plain f session k r batch is = ap is_account_kind is
 
 -- a record more was taken on the session
-count_more : (clients : Meaning) (f : Facts) (session k : ℕ) (r : Record) (more : List (List Entry)) → Allowed clients f
+count_more : (clients : Meaning) (f : Facts) (session k : ℕ) (r : Record) (more : List (List Entry))
+    → Allowed clients f
     (next_take f session k r)
     → TakesRecord clients f session k r more → takes_of (after_batches f more).takes session
     ≡ takes_of f.takes session + 1
@@ -68,7 +81,8 @@ count_more clients f session k r more allowed takes =
     ap (λ (bs : List (List Entry)). takes_of (after_batches f bs).takes session) takes.is
     ∙ (ap (λ t. takes_of t session) (all_settling_only clients g takes.settling takes.settles).takes
     ∙ ((takes_one clients f session k (taken f session r) allowed).takes session
-    ∙ ap (λ b. cond b (takes_of f.takes session + 1) (takes_of f.takes session)) (eq-eqb session session refl)))
+    ∙ ap (λ b. cond b (takes_of f.takes session + 1) (takes_of f.takes session))
+    (eq-eqb session session refl)))
 
 -- ---- one record
 
@@ -84,19 +98,23 @@ module _ (clients : Meaning) (session k : ℕ) (r : Record) (s s' : StoreValue) 
   abbrev Record_taken : List (List Entry) → Type 0
   Record_taken more = TakesRecord clients s.state.facts session (next_on s session) r more
 
-  added : (b : List Entry) (rest : List (List Entry)) → AddsBatch clients s.state.facts batch (b ∷ rest) → Record_taken
+  added : (b : List Entry) (rest : List (List Entry)) → AddsBatch clients s.state.facts batch
+      (b ∷ rest) → Record_taken
       (b ∷ rest)
   added b rest adds = record {
     settling = rest;
     is = ap (λ (x : List Entry). x ∷ rest) (adds.0 ∙ is_its);
-    settles = subst (λ (x : List Entry). AllSettling clients (after_all s.state.facts x) rest) is_its adds.1;
+    settles = subst (λ (x : List Entry). AllSettling clients (after_all s.state.facts x) rest)
+        is_its adds.1;
   }
 
-  some_added : (more : List (List Entry)) → AddsBatch clients s.state.facts batch more → (more ≡ []) ⊎ Record_taken more
+  some_added : (more : List (List Entry)) → AddsBatch clients s.state.facts batch more
+      → (more ≡ []) ⊎ Record_taken more
   some_added [] adds = inl refl
   some_added (b ∷ rest) adds = inr (added b rest adds)
 
-  all_added : (more : List (List Entry)) → AddsBatch clients s.state.facts batch more → more ≢ [] → Record_taken more
+  all_added : (more : List (List Entry)) → AddsBatch clients s.state.facts batch more → more ≢ []
+      → Record_taken more
   all_added [] adds some = absurd (some refl)
   all_added (b ∷ rest) adds some = added b rest adds
 
@@ -108,12 +126,14 @@ module _ (clients : Meaning) (session k : ℕ) (r : Record) (s s' : StoreValue) 
       → ExtendsSo clients s s' batch more result → TakesSo clients session r s s' more result
   taken_so allowed opened settled more (Ok u) facts adds so =
       let one : Record_taken more = all_added more adds so.2 in
-      let may : Allowed clients s.state.facts its = subst (λ (b : List Entry). Allowed clients s.state.facts b)
+      let may : Allowed clients s.state.facts its =
+      subst (λ (b : List Entry). Allowed clients s.state.facts b)
       is_its allowed in (
         so.0,
         so.3,
         one,
-        ap (λ (f : Facts). takes_of f.takes session) (facts so.0) ∙ count_more clients s.state.facts session
+        ap (λ (f : Facts). takes_of f.takes session) (facts so.0)
+            ∙ count_more clients s.state.facts session
             (next_on s session) r more may one,
       )
   taken_so allowed opened settled more (Err fault.Closed) facts adds so = absurd so
@@ -121,27 +141,33 @@ module _ (clients : Meaning) (session k : ℕ) (r : Record) (s s' : StoreValue) 
       let stays : KeepsStore s s' = so.2 in
       let same : its ≡ next_take s'.state.facts session (next_on s session) r =
       ap (λ (f : Facts). next_take f session (next_on s session) r) (sym stays.facts) in
-      let sum : needed s' (next_take s'.state.facts session (next_on s session) r) ≡ needed s batch =
+      let sum : needed s' (next_take s'.state.facts session (next_on s session) r)
+      ≡ needed s batch =
       ap (needed s') (sym same ∙ sym is_its) ∙ needed_stays s s' batch stays in (
         stays.closed ∙ opened,
         subst (IsSettled clients) (sym stays.facts) settled,
         so.1,
         omega (arith, sum, stays.limit, so.0),
       )
-  taken_so allowed opened settled more (Err fault.Memory) facts adds so = (so.0, some_added more adds)
-  taken_so allowed opened settled more (Err fault.DiskFault) facts adds so = (so.0, some_added more adds)
+  taken_so allowed opened settled more (Err fault.Memory) facts adds so =
+      (so.0, some_added more adds)
+  taken_so allowed opened settled more (Err fault.DiskFault) facts adds so =
+      (so.0, some_added more adds)
 
 -- the batch of a record may follow
-pub take_may : (clients : Meaning) (session : Session) (k : ℕ) (r : Record) (s : StoreValue) (o : Outside)
+pub take_may : (clients : Meaning) (session : Session) (k : ℕ) (r : Record) (s : StoreValue)
+    (o : Outside)
     (batch : List Entry) → IsOpenFor clients session s o
     → IsRecord r → k ≡ next_on s session.number → batch ≡ take_of s.state.facts session k r
     → Allowed clients s.state.facts batch
 take_may clients session k r s o batch able within numbered is =
-    take_allowed clients s.state.facts session.number k r batch able.settled (ap is_some able.found) within numbered
+    take_allowed clients s.state.facts session.number k r batch able.settled (ap is_some able.found)
+    within numbered
     (is ∙ next_is s.state.facts session k r able.found)
 
 -- no memory was found for it
-pub taken_starved : ImagesStand → (clients : Meaning) (session : Session) (r : Record) (s : StoreValue) (o : Outside)
+pub taken_starved : ImagesStand → (clients : Meaning) (session : Session) (r : Record)
+    (s : StoreValue) (o : Outside)
     → IsOpenFor clients session s o
     → HasTakenRecord clients session.number r s s (Err fault.Memory) o o
 taken_starved images clients session r s o able = record {
@@ -151,9 +177,11 @@ taken_starved images clients session r s o able = record {
 }
 
 -- a record was taken by a batch that was committed with its settling
-pub has_taken : (clients : Meaning) (session : Session) (k : ℕ) (r : Record) (s s' : StoreValue) (batch : List Entry)
+pub has_taken : (clients : Meaning) (session : Session) (k : ℕ) (r : Record) (s s' : StoreValue)
+    (batch : List Entry)
     (o o' : Outside)
-    (result : Result (Unit {0}) StoreFault) → IsOpenFor clients session s o → k ≡ next_on s session.number → batch
+    (result : Result (Unit {0}) StoreFault) → IsOpenFor clients session s o
+    → k ≡ next_on s session.number → batch
     ≡ take_of s.state.facts session k r
     → Allowed clients s.state.facts batch → HasExtended clients s s' batch result o o'
     → HasTakenRecord clients session.number r s s' result o o'
@@ -161,53 +189,63 @@ has_taken clients session k r s s' batch o o' result able numbered is allowed ha
   more = has.more;
   comes = comes_extended clients s s' batch result o o' has;
   answer =
-      taken_so clients session.number k r s s' batch numbered (is ∙ next_is s.state.facts session k r able.found)
+      taken_so clients session.number k r s s' batch numbered (is
+      ∙ next_is s.state.facts session k r able.found)
       allowed
       able.ready.still_open able.settled has.more result has.runs.facts has.adds has.answer;
 }
 
 -- the session goes on behind batches
-pub found_later : (f g : Facts) (more : List (List Entry)) (session : Session) → g ≡ after_batches f more
+pub found_later : (f g : Facts) (more : List (List Entry)) (session : Session)
+    → g ≡ after_batches f more
     → session_at f.sessions session.number ≡ Some session
     → session_at g.sessions session.number ≡ Some session
 found_later f g more session is found =
     subst (λ (h : Facts). session_at h.sessions session.number ≡ Some session) (sym is)
     ((continues_batches f more).same_session session.number session found)
 
-pub still_able : (clients : Meaning) (session : Session) (s s' : StoreValue) (o o' : Outside) (more : List (List Entry))
+pub still_able : (clients : Meaning) (session : Session) (s s' : StoreValue) (o o' : Outside)
+    (more : List (List Entry))
     → IsOpenFor clients session s o
-    → StoreComesTo clients s s' o o' more → s'.closed ≡ false → (s'.closed ≡ false → IsReady clients s' o'.files)
+    → StoreComesTo clients s s' o o' more → s'.closed ≡ false
+    → (s'.closed ≡ false → IsReady clients s' o'.files)
     → IsStore s' → IsSettled clients s'.state.facts
     → IsOpenFor clients session s' o'
 still_able clients session s s' o o' more able comes opened ready store settled = record {
   ready = ready opened;
   is_store = store;
   settled = settled;
-  found = found_later s.state.facts s'.state.facts more session (comes.runs.facts opened) able.found;
+  found =
+      found_later s.state.facts s'.state.facts more session (comes.runs.facts opened) able.found;
 }
 
-pub able_taken : (clients : Meaning) (session : Session) (r : Record) (s s' : StoreValue) (o o' : Outside)
+pub able_taken : (clients : Meaning) (session : Session) (r : Record) (s s' : StoreValue)
+    (o o' : Outside)
     (result : Result (Unit {0}) StoreFault)
     → IsOpenFor clients session s o → HasTakenRecord clients session.number r s s' result o o' →
     (s'.closed ≡ false → IsReady clients s' o'.files) → IsStore s'
     → OnOk result (IsOpenFor clients session s' o')
 able_taken clients session r s s' o o' (Ok u) able has ready store =
-    still_able clients session s s' o o' has.more able has.comes has.answer.0 ready store has.answer.1
+    still_able clients session s s' o o' has.more able has.comes has.answer.0 ready store
+    has.answer.1
 able_taken clients session r s s' o o' (Err e) able has ready store = tt
 
 -- ---- many records
 
 module _ (clients : Meaning) (session : ℕ) where
   -- nothing is done
-  pub none_some : (f : Facts) (k : ℕ) (rs : List Record) → TakesTo clients session (SomeTaken clients session) f k rs []
+  pub none_some : (f : Facts) (k : ℕ) (rs : List Record) → TakesTo clients session
+      (SomeTaken clients session) f k rs []
   none_some f k [] = refl
   none_some f k (r ∷ rs) = inl (inl refl)
 
-  pub at_here : (f : Facts) (k : ℕ) (rs : List Record) → TakesTo clients session (IsAt f k rs) f k rs []
+  pub at_here : (f : Facts) (k : ℕ) (rs : List Record) → TakesTo clients session
+      (IsAt f k rs) f k rs []
   at_here f k [] = (refl, refl, refl, refl)
   at_here f k (r ∷ rs) = inl (refl, refl, refl, refl)
 
-  pub one_then : (P : Facts → ℕ → List Record → List (List Entry) → Type 0) (f g : Facts) (k : ℕ) (r : Record)
+  pub one_then : (P : Facts → ℕ → List Record → List (List Entry) → Type 0) (f g : Facts) (k : ℕ)
+      (r : Record)
       (rs : List Record) (more : List (List Entry))
       → TakesRecord clients f session k r more → g ≡ after_batches f more → IsSettled clients g
       → TakesTo clients session P g (k + 1) rs []
@@ -221,20 +259,26 @@ module _ (clients : Meaning) (session : ℕ) where
     later = subst (λ (h : Facts). TakesTo clients session P h (k + 1) rs []) is later;
   })
 
-  moved : (P : Facts → ℕ → List Record → List (List Entry) → Type 0) (f g : Facts) (k l : ℕ) (rs qs : List Record)
+  moved : (P : Facts → ℕ → List Record → List (List Entry) → Type 0) (f g : Facts) (k l : ℕ)
+      (rs qs : List Record)
       (xs ys : List (List Entry))
-      → IsAt g l qs f k rs xs → TakesTo clients session P g l qs ys → TakesTo clients session P f k rs (xs ++ ys)
+      → IsAt g l qs f k rs xs → TakesTo clients session P g l qs ys
+      → TakesTo clients session P f k rs (xs ++ ys)
   moved P f g k l rs qs xs ys at t =
-      let by_facts : TakesTo clients session P f l qs ys = subst (λ (h : Facts). TakesTo clients session P h l qs ys)
+      let by_facts : TakesTo clients session P f l qs ys =
+      subst (λ (h : Facts). TakesTo clients session P h l qs ys)
       (sym at.0) t in
-      let by_number : TakesTo clients session P f k qs ys = subst (λ (n : ℕ). TakesTo clients session P f n qs ys)
+      let by_number : TakesTo clients session P f k qs ys =
+      subst (λ (n : ℕ). TakesTo clients session P f n qs ys)
       (sym at.1) by_facts in
       let by_records : TakesTo clients session P f k rs ys = subst
       (λ (zs : List Record). TakesTo clients session P f k zs ys) (sym at.2) by_number in
-      subst (λ (zs : List (List Entry)). TakesTo clients session P f k rs (zs ++ ys)) (sym at.3) by_records
+      subst (λ (zs : List (List Entry)). TakesTo clients session P f k rs (zs ++ ys)) (sym at.3)
+      by_records
 
   -- what is taken from a place on is taken behind what led there
-  pub then_on : (P : Facts → ℕ → List Record → List (List Entry) → Type 0) (f g : Facts) (k l : ℕ) (rs qs : List Record)
+  pub then_on : (P : Facts → ℕ → List Record → List (List Entry) → Type 0) (f g : Facts) (k l : ℕ)
+      (rs qs : List Record)
       (xs ys : List (List Entry))
       → TakesTo clients session (IsAt g l qs) f k rs xs → TakesTo clients session P g l qs ys
       → TakesTo clients session P f k rs (xs ++ ys)
@@ -250,10 +294,12 @@ module _ (clients : Meaning) (session : ℕ) where
   })
 
   -- as many records were taken as the number went on
-  pub counted : (f g : Facts) (k l : ℕ) (rs qs : List Record) (more : List (List Entry)) → TakesTo clients session
+  pub counted : (f g : Facts) (k l : ℕ) (rs qs : List Record) (more : List (List Entry))
+      → TakesTo clients session
       (IsAt g l qs) f k rs more
       → l + length qs ≡ k + length rs
-  counted f g k l [] qs more at = let n : k ≡ l = at.1 in let m : 0 ≡ length qs = ap length at.2 in omega (arith, n, m)
+  counted f g k l [] qs more at =
+      let n : k ≡ l = at.1 in let m : 0 ≡ length qs = ap length at.2 in omega (arith, n, m)
   counted f g k l (r ∷ rs) qs more (inl at) =
       let n : k ≡ l = at.1 in
       let m : length (r ∷ rs) ≡ length qs = ap length at.2 in

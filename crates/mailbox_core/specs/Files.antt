@@ -20,7 +20,8 @@ abbrev pub is_foreign : Record → Bool
 is_foreign (record_kind.Versions versions) = cond (has_zero versions) false true
 is_foreign _ = false
 
--- the records of items, up to and with the first that ends the reading; skipped ones are passed over
+-- the records of items, up to and with the first that ends the reading; skipped ones are passed
+-- over
 abbrev pub records_to_take : List Item → List Record
 records_to_take [] = []
 records_to_take (item.One place r ∷ its) = r ∷ cond (is_foreign r) [] (records_to_take its)
@@ -35,7 +36,8 @@ ends_as (ending_kind.Bad place why) = box.Bad place why
 -- how the reading of items ends, behind which the stream ends so
 abbrev pub ending_behind : List Item → Ending → BoxEnding
 ending_behind [] e = ends_as e
-ending_behind (item.One place r ∷ its) e = cond (is_foreign r) (box.NoVersion place) (ending_behind its e)
+ending_behind (item.One place r ∷ its) e =
+    cond (is_foreign r) (box.NoVersion place) (ending_behind its e)
 ending_behind (item.Skipped place type_byte len ∷ its) e = ending_behind its e
 
 -- the records of a file that are taken, and how its reading ends

@@ -14,11 +14,15 @@ use Rattle.mailbox_core.specs.Taking.{AllTaken}
 
 -- a file that is read into a legal and settled journal is read as the law of sets has it
 abbrev pub ReadsAreBoxes : Type 0
-ReadsAreBoxes = (clients : Meaning) (contact : ℕ) (j more : List (List Entry)) (records : List Record) → Legal clients j
+ReadsAreBoxes =
+    (clients : Meaning) (contact : ℕ) (j more : List (List Entry)) (records : List Record)
+    → Legal clients j
     → IsSettled clients (facts j) → ReadsTo clients contact AllTaken (facts j) records more
     → ReadsBox clients contact j records (j ++ more)
 
 -- what batches add to the output of a session that begins with them is all that it sends
 abbrev pub OutputsAreSent : Type 0
-OutputsAreSent = (clients : Meaning) (j more : List (List Entry)) → Legal clients j → GoesOn clients (facts j) more
+OutputsAreSent =
+    (clients : Meaning) (j more : List (List Entry)) → Legal clients j
+    → GoesOn clients (facts j) more
     → sent (j ++ more) (facts j).begun ≡ output_of (facts j) (facts j).begun more

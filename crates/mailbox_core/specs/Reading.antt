@@ -14,38 +14,46 @@ use Rattle.mailbox_laws.specs.Boxes.{box_session}
 use Rattle.mailbox_core.specs.declared.ends.BoxEnd.{BoxEnd}
 use Rattle.mailbox_core.specs.Files.{box_ending, box_records}
 use Rattle.mailbox_core.specs.Rooms.{StoreComesTo}
-use Rattle.mailbox_core.specs.Taking.{AllTaken, BeginsThen, NoRoomFor, SomeTaken, TakesTo, first_batch}
+use Rattle.mailbox_core.specs.Taking.{AllTaken, BeginsThen, NoRoomFor, SomeTaken, TakesTo}
+use Rattle.mailbox_core.specs.Taking.{first_batch}
 
--- Behind a journal of these facts the session of a file begins, and its records are taken up to a place that has P. A
--- session that
+-- Behind a journal of these facts the session of a file begins, and its records are taken up to a
+-- place that has P. A session that
 -- has not begun has taken nothing, in every legal journal.
-abbrev pub ReadsTo : Meaning → ℕ → (Facts → ℕ → List Record → List (List Entry) → Type 0) → Facts → List Record
+abbrev pub ReadsTo : Meaning → ℕ → (Facts → ℕ → List Record → List (List Entry) → Type 0) → Facts
+    → List Record
     → List (List Entry) → Type 0
 ReadsTo clients contact P f records more =
     BeginsThen f (box_session f.begun contact) more
     (λ g rest. TakesTo clients f.begun P g (takes_of f.takes f.begun) records rest)
 
--- nothing is done, or the session begins and some records are taken, the last of them with some of its settling
+-- nothing is done, or the session begins and some records are taken, the last of them with some of
+-- its settling
 abbrev pub ReadsSome : Meaning → ℕ → Facts → List Record → List (List Entry) → Type 0
 ReadsSome clients contact f records more =
     (more ≡ []) ⊎ ReadsTo clients contact (SomeTaken clients f.begun) f records more
 
--- there is no room for the session, or it begins, and there is none for some record behind those that are taken
-abbrev pub ReadsUntilFull : Meaning → ℕ → Facts → StoreValue → List Record → List (List Entry) → Type 0
+-- there is no room for the session, or it begins, and there is none for some record behind those
+-- that are taken
+abbrev pub ReadsUntilFull : Meaning → ℕ → Facts → StoreValue → List Record → List (List Entry)
+    → Type 0
 ReadsUntilFull clients contact f s records more =
     ((more ≡ []) × (s.limit < needed s (first_batch (box_session f.begun contact))))
     ⊎ ReadsTo clients contact (NoRoomFor f.begun s) f records more
 
--- By the answer: the batches behind a journal of facts `f`, and the store then. It is not closed but after DiskFault;
--- then the
+-- By the answer: the batches behind a journal of facts `f`, and the store then. It is not closed
+-- but after DiskFault; then the
 -- last batch may stand in the files or not.
-abbrev pub ReadsSo : Meaning → ℕ → List ℕ → Facts → StoreValue → List (List Entry) → Result BoxEnd StoreFault → Type 0
+abbrev pub ReadsSo : Meaning → ℕ → List ℕ → Facts → StoreValue → List (List Entry)
+    → Result BoxEnd StoreFault → Type 0
 ReadsSo clients contact bytes f s more (Ok end) =
-    (s.closed ≡ false) × IsSettled clients s.state.facts × ReadsTo clients contact AllTaken f (box_records bytes) more
+    (s.closed ≡ false) × IsSettled clients s.state.facts
+    × ReadsTo clients contact AllTaken f (box_records bytes) more
     × (end.taken ≡ length (box_records bytes)) × (end.ending ≡ box_ending bytes)
 ReadsSo clients contact bytes f s more (Err fault.Closed) = ⊥
 ReadsSo clients contact bytes f s more (Err fault.Full) =
-    (s.closed ≡ false) × IsSettled clients s.state.facts × ReadsUntilFull clients contact f s (box_records bytes) more
+    (s.closed ≡ false) × IsSettled clients s.state.facts
+    × ReadsUntilFull clients contact f s (box_records bytes) more
 ReadsSo clients contact bytes f s more (Err fault.Memory) =
     (s.closed ≡ false) × ReadsSome clients contact f (box_records bytes) more
 ReadsSo clients contact bytes f s more (Err fault.DiskFault) =

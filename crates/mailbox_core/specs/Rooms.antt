@@ -13,23 +13,26 @@ use Rattle.sync_store.specs.Fitting.{FitsFiles}
 use Rattle.sync_store.specs.Runs.{RunsBy}
 use Rattle.sync_store.specs.Store.{StoreValue, written_in}
 
--- The length that a journal needs in a format with a batch, as a commit counts it: the batch's frame is added, and room
--- is
+-- The length that a journal needs in a format with a batch, as a commit counts it: the batch's
+-- frame is added, and room is
 -- counted for all that settling may then add.
 abbrev pub needed_in : Format → List (List Entry) → List Entry → ℕ
 needed_in format j batch =
     journal_end format j + 5 + payload_len format batch + room_of format (after_all (facts j) batch)
 
--- each of these batches but those of settling found its room within a limit; settling has its room from the commits
--- before it
+-- each of these batches but those of settling found its room within a limit; settling has its room
+-- from the commits before it
 abbrev pub AreRoomy : Format → ℕ → List (List Entry) → List (List Entry) → Type 0
 AreRoomy format limit j [] = Unit {0}
 AreRoomy format limit j (b ∷ bs) =
-    (is_settling_kind b ≡ false → needed_in format j b ≤ limit) × AreRoomy format limit (j ++ b ∷ []) bs
+    (is_settling_kind b ≡ false → needed_in format j b ≤ limit)
+    × AreRoomy format limit (j ++ b ∷ []) bs
 
--- A store came by these batches to this one, as `RunsBy` has it, and whatever journal the disk fitted, each found its
--- room.
-pub record StoreComesTo (clients : Meaning) (s s' : StoreValue) (o o' : Outside) (more : List (List Entry)) : Type 0 where
+-- A store came by these batches to this one, as `RunsBy` has it, and whatever journal the disk
+-- fitted, each found its room.
+pub record StoreComesTo (clients : Meaning) (s s' : StoreValue) (o o' : Outside)
+    (more : List (List Entry)) : Type 0 where
   pub runs : RunsBy clients s s' o o' more
-  pub roomy : (two : Two File) → o.files ≡ Some two → (j : List (List Entry)) → FitsFiles clients s j two
+  pub roomy : (two : Two File) → o.files ≡ Some two → (j : List (List Entry))
+      → FitsFiles clients s j two
       → AreRoomy (written_in s) s.limit j more

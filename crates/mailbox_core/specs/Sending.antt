@@ -1,5 +1,6 @@
 -- Outputs that are committed one after the other, and what the writing of a file answers.
-use Rattle.std.specs.Prelude.{◌≡◌, ◌⊎◌, ℕ, ◌<◌, ◌≤◌, true, false, List, [], ◌∷◌, ◌++◌, length, Some, None, Result, Ok, Err}
+use Rattle.std.specs.Prelude.{◌≡◌, ◌⊎◌, ℕ, ◌<◌, ◌≤◌, true, false, List, [], ◌∷◌, ◌++◌, length, Some}
+use Rattle.std.specs.Prelude.{None, Result, Ok, Err}
 use Rattle.outside.specs.Outside.{Outside}
 use Rattle.record_grammar.specs.Spelling.{spelled}
 use Rattle.sync_rules.specs.declared.entries.Entry.{Entry}
@@ -23,7 +24,13 @@ use Rattle.mailbox_core.specs.Taking.{BeginsThen, first_batch}
 -- the session of this number on which a file is written: in batch mode, of this latency
 abbrev pub batch_session : ℕ → ℕ → ℕ → Session
 batch_session number contact latency =
-    record { number = number; contact = contact; mode = mode_kind.Batch; latency = latency; nonce = None }
+    record {
+      number = number;
+      contact = contact;
+      mode = mode_kind.Batch;
+      latency = latency;
+      nonce = None;
+    }
 
 -- ---- outputs
 
@@ -39,7 +46,8 @@ out_batches session now (what ∷ outs) = out_batch session now what ∷ out_bat
 abbrev pub AreDue : Meaning → Facts → ℕ → ℕ → List Out → Type 0
 AreDue clients f session now [] = Unit {0}
 AreDue clients f session now (what ∷ outs) =
-    IsDue clients f (session_at f.sessions session) now what × AreDue clients (after f (entry.Out session now what))
+    IsDue clients f (session_at f.sessions session) now what
+    × AreDue clients (after f (entry.Out session now what))
     session now outs
 
 -- nothing is due on a session, which there is
@@ -49,14 +57,16 @@ pub record IsSessionQuiet (clients : Meaning) (f : Facts) (session now : ℕ) : 
   pub nothing : due clients f begun now ≡ None
 
 -- these batches are outputs that are due at this time, at most so many
-pub record SendsSome (clients : Meaning) (f : Facts) (session now most : ℕ) (more : List (List Entry)) : Type 0 where
+pub record SendsSome (clients : Meaning) (f : Facts) (session now most : ℕ)
+    (more : List (List Entry)) : Type 0 where
   pub outs : List Out
   pub is : more ≡ out_batches session now outs
   pub due : AreDue clients f session now outs
   pub few : length outs ≤ most
 
 -- so many of them were made as was asked for, or nothing is due by the facts behind them
-pub record SendsAll (clients : Meaning) (f later : Facts) (session now most made : ℕ) (more : List (List Entry))
+pub record SendsAll (clients : Meaning) (f later : Facts) (session now most made : ℕ)
+    (more : List (List Entry))
     : Type 0 where
   pub sends : SendsSome clients f session now most more
   pub counted : made ≡ length sends.outs
@@ -79,19 +89,22 @@ WritesSome clients contact latency now count f more =
     (more ≡ []) ⊎ BeginsThen f (batch_session f.begun contact latency) more
     (λ g rest. SendsSome clients g f.begun now count rest)
 
--- there is no room for the session, or it begins, and there is none for the output behind those that were made
-abbrev pub WritesUntilFull : Meaning → ℕ → ℕ → ℕ → ℕ → Facts → StoreValue → List (List Entry) → Type 0
+-- there is no room for the session, or it begins, and there is none for the output behind those
+-- that were made
+abbrev pub WritesUntilFull : Meaning → ℕ → ℕ → ℕ → ℕ → Facts → StoreValue → List (List Entry)
+    → Type 0
 WritesUntilFull clients contact latency now count f s more =
     ((more ≡ []) × (s.limit < needed s (first_batch (batch_session f.begun contact latency))))
     ⊎ BeginsThen f (batch_session f.begun contact latency) more
     (λ g rest. SendsUntilFull clients g s f.begun now count rest)
 
--- By the answer: the batches behind a journal of facts `f`, the store then, and the bytes. After a fault these are as
--- before; else
--- all that the session sends is appended. The store is not closed but after DiskFault; then the last batch may stand in
--- the files
+-- By the answer: the batches behind a journal of facts `f`, the store then, and the bytes. After a
+-- fault these are as before; else
+-- all that the session sends is appended. The store is not closed but after DiskFault; then the
+-- last batch may stand in the files
 -- or not.
-abbrev pub WritesSo : Meaning → ℕ → ℕ → ℕ → ℕ → Facts → StoreValue → List (List Entry) → List ℕ → List ℕ
+abbrev pub WritesSo : Meaning → ℕ → ℕ → ℕ → ℕ → Facts → StoreValue → List (List Entry) → List ℕ
+    → List ℕ
     → Result ℕ StoreFault → Type 0
 WritesSo clients contact latency now count f s more to to' (Ok made) =
     (s.closed ≡ false) × IsSettled clients s.state.facts
@@ -100,7 +113,8 @@ WritesSo clients contact latency now count f s more to to' (Ok made) =
     × (to' ≡ to ++ spelled (output_of f f.begun more))
 WritesSo clients contact latency now count f s more to to' (Err fault.Closed) = ⊥
 WritesSo clients contact latency now count f s more to to' (Err fault.Full) =
-    (s.closed ≡ false) × IsSettled clients s.state.facts × WritesUntilFull clients contact latency now count f s more ×
+    (s.closed ≡ false) × IsSettled clients s.state.facts
+    × WritesUntilFull clients contact latency now count f s more ×
     (to' ≡ to)
 WritesSo clients contact latency now count f s more to to' (Err fault.Memory) =
     (s.closed ≡ false) × WritesSome clients contact latency now count f more × (to' ≡ to)
@@ -108,7 +122,8 @@ WritesSo clients contact latency now count f s more to to' (Err fault.DiskFault)
     (s.closed ≡ true) × WritesSome clients contact latency now count f more × (to' ≡ to)
 
 -- a file was written from a store that is not closed
-pub record HasWrittenBox (clients : Meaning) (contact latency now count : ℕ) (s s' : StoreValue) (to to' : List ℕ)
+pub record HasWrittenBox (clients : Meaning) (contact latency now count : ℕ) (s s' : StoreValue)
+    (to to' : List ℕ)
     (result : Result ℕ StoreFault) (o o' : Outside) : Type 0 where
   pub more : List (List Entry)
   pub comes : StoreComesTo clients s s' o o' more

@@ -1,6 +1,7 @@
--- What the steps of reading and of writing a file do; they are put together into what `Reading` and `Sending` say of
--- the whole.
-use Rattle.std.specs.Prelude.{◌≡◌, ◌⊎◌, ℕ, ◌+◌, ◌<◌, true, false, Bool, List, [], ◌∷◌, ◌++◌, length, Option, Some, None, Result, Ok, Err}
+-- What the steps of reading and of writing a file do; they are put together into what `Reading` and
+-- `Sending` say of the whole.
+use Rattle.std.specs.Prelude.{◌≡◌, ◌⊎◌, ℕ, ◌+◌, ◌<◌, true, false, Bool, List, [], ◌∷◌, ◌++◌, length}
+use Rattle.std.specs.Prelude.{Option, Some, None, Result, Ok, Err}
 use Rattle.outside.specs.Outside.{Outside}
 use Rattle.record_grammar.specs.Spelling.{spelled}
 use Rattle.record_grammar.specs.Stream.{ending, items}
@@ -24,11 +25,14 @@ use Rattle.mailbox_core.specs.declared.ends.BoxEnd.{BoxEnd}
 use Rattle.mailbox_core.specs.declared.ends.BoxEnding.{BoxEnding}
 use Rattle.mailbox_core.specs.Files.{ending_behind, records_to_take}
 use Rattle.mailbox_core.specs.Rooms.{StoreComesTo}
-use Rattle.mailbox_core.specs.Sending.{IsSessionQuiet, SendsAll, SendsSome, SendsUntilFull, batch_session, out_batch}
-use Rattle.mailbox_core.specs.Taking.{AllTaken, NoRoomFor, SomeTaken, TakesRecord, TakesTo, first_batch, next_take}
+use Rattle.mailbox_core.specs.Sending.{IsSessionQuiet, SendsAll, SendsSome, SendsUntilFull}
+use Rattle.mailbox_core.specs.Sending.{batch_session, out_batch}
+use Rattle.mailbox_core.specs.Taking.{AllTaken, NoRoomFor, SomeTaken, TakesRecord, TakesTo}
+use Rattle.mailbox_core.specs.Taking.{first_batch, next_take}
 
 -- a settled store that is ready and has this session
-pub record IsOpenFor (clients : Meaning) (session : Session) (s : StoreValue) (o : Outside) : Type 0 where
+pub record IsOpenFor (clients : Meaning) (session : Session) (s : StoreValue)
+    (o : Outside) : Type 0 where
   pub ready : IsReady clients s o.files
   pub is_store : IsStore s
   pub settled : IsSettled clients s.state.facts
@@ -45,18 +49,22 @@ pub record HasCommitted (clients : Meaning) (s s' : StoreValue) (batch : List En
 
 -- ---- a session begins
 
-abbrev pub BeginsSo : ℕ → ℕ → Facts → StoreValue → List (List Entry) → Result Session StoreFault → Type 0
+abbrev pub BeginsSo : ℕ → ℕ → Facts → StoreValue → List (List Entry) → Result Session StoreFault
+    → Type 0
 BeginsSo contact latency f s more (Ok session) =
-    (s.closed ≡ false) × (more ≡ first_batch (batch_session f.begun contact latency) ∷ []) × (session.number ≡ f.begun)
+    (s.closed ≡ false) × (more ≡ first_batch (batch_session f.begun contact latency) ∷ [])
+    × (session.number ≡ f.begun)
 BeginsSo contact latency f s more (Err fault.Closed) = ⊥
 BeginsSo contact latency f s more (Err fault.Full) =
-    (s.closed ≡ false) × (more ≡ []) × (s.limit < needed s (first_batch (batch_session f.begun contact latency)))
+    (s.closed ≡ false) × (more ≡ [])
+    × (s.limit < needed s (first_batch (batch_session f.begun contact latency)))
 BeginsSo contact latency f s more (Err fault.Memory) = (s.closed ≡ false) × (more ≡ [])
 BeginsSo contact latency f s more (Err fault.DiskFault) =
     (s.closed ≡ true) × (more ≡ first_batch (batch_session f.begun contact latency) ∷ [])
 
 -- a session was begun, as far as the answer says
-pub record HasBegunSession (clients : Meaning) (contact latency : ℕ) (s s' : StoreValue) (result : Result Session StoreFault)
+pub record HasBegunSession (clients : Meaning) (contact latency : ℕ) (s s' : StoreValue)
+    (result : Result Session StoreFault)
     (o o' : Outside) : Type 0 where
   pub more : List (List Entry)
   pub comes : StoreComesTo clients s s' o o' more
@@ -68,7 +76,8 @@ pub record HasBegunSession (clients : Meaning) (contact latency : ℕ) (s s' : S
 abbrev pub next_on : StoreValue → ℕ → ℕ
 next_on s session = takes_of s.state.facts.takes session
 
-abbrev pub TakesSo : Meaning → ℕ → Record → StoreValue → StoreValue → List (List Entry) → Result (Unit {0}) StoreFault
+abbrev pub TakesSo : Meaning → ℕ → Record → StoreValue → StoreValue → List (List Entry)
+    → Result (Unit {0}) StoreFault
     → Type 0
 TakesSo clients session r s s' more (Ok _) =
     (s'.closed ≡ false) × IsSettled clients s'.state.facts
@@ -79,9 +88,11 @@ TakesSo clients session r s s' more (Err fault.Full) =
     (s'.closed ≡ false) × IsSettled clients s'.state.facts × (more ≡ [])
     × (s'.limit < needed s' (next_take s'.state.facts session (next_on s session) r))
 TakesSo clients session r s s' more (Err fault.Memory) =
-    (s'.closed ≡ false) × ((more ≡ []) ⊎ TakesRecord clients s.state.facts session (next_on s session) r more)
+    (s'.closed ≡ false) × ((more ≡ [])
+    ⊎ TakesRecord clients s.state.facts session (next_on s session) r more)
 TakesSo clients session r s s' more (Err fault.DiskFault) =
-    (s'.closed ≡ true) × ((more ≡ []) ⊎ TakesRecord clients s.state.facts session (next_on s session) r more)
+    (s'.closed ≡ true) × ((more ≡ [])
+    ⊎ TakesRecord clients s.state.facts session (next_on s session) r more)
 
 -- a record was taken on a session, and the journal settled behind it, as far as the answer says
 pub record HasTakenRecord (clients : Meaning) (session : ℕ) (r : Record) (s s' : StoreValue)
@@ -102,47 +113,57 @@ pub record RecordsLeft : Type 0 where
 abbrev pub left_of : ReaderState → List ℕ → RecordsLeft
 left_of r piece = record {
   records = records_to_take (items r.place (r.bytes ++ (piece ++ [])));
-  ending = ending_behind (items r.place (r.bytes ++ (piece ++ []))) (ending r.place (r.bytes ++ (piece ++ [])));
+  ending =
+      ending_behind (items r.place (r.bytes ++ (piece ++ [])))
+      (ending r.place (r.bytes ++ (piece ++ [])));
 }
 
 -- by the fault that ended the taking of records
-abbrev pub StopsSo : Meaning → ℕ → StoreValue → StoreValue → List Record → List (List Entry) → StoreFault → Type 0
+abbrev pub StopsSo : Meaning → ℕ → StoreValue → StoreValue → List Record → List (List Entry)
+    → StoreFault → Type 0
 StopsSo clients session s s' rs more fault.Closed = ⊥
 StopsSo clients session s s' rs more fault.Full =
     (s'.closed ≡ false) × IsSettled clients s'.state.facts
     × TakesTo clients session (NoRoomFor session s') s.state.facts (next_on s session) rs more
 StopsSo clients session s s' rs more fault.Memory =
-    (s'.closed ≡ false) × TakesTo clients session (SomeTaken clients session) s.state.facts (next_on s session) rs more
+    (s'.closed ≡ false) × TakesTo clients session (SomeTaken clients session) s.state.facts
+    (next_on s session) rs more
 StopsSo clients session s s' rs more fault.DiskFault =
-    (s'.closed ≡ true) × TakesTo clients session (SomeTaken clients session) s.state.facts (next_on s session) rs more
+    (s'.closed ≡ true) × TakesTo clients session (SomeTaken clients session) s.state.facts
+    (next_on s session) rs more
 
 -- the place with these facts, this number of the next record and these records left
 abbrev pub IsAt : Facts → ℕ → List Record → Facts → ℕ → List Record → List (List Entry) → Type 0
 IsAt g l qs f k rs more = (f ≡ g) × (k ≡ l) × (rs ≡ qs) × (more ≡ [])
 
--- Where there is no answer yet, an item was read, and taken where it is a record; else how the reading ends, with all
--- records taken.
-abbrev pub NextSo : Meaning → ℕ → StoreValue → StoreValue → RecordsLeft → RecordsLeft → List (List Entry) → Result (Option BoxEnding)
+-- Where there is no answer yet, an item was read, and taken where it is a record; else how the
+-- reading ends, with all records taken.
+abbrev pub NextSo : Meaning → ℕ → StoreValue → StoreValue → RecordsLeft → RecordsLeft
+    → List (List Entry) → Result (Option BoxEnding)
     StoreFault → Type 0
 NextSo clients session s s' left left' more (Ok None) =
     (s'.closed ≡ false)
-    × TakesTo clients session (IsAt s'.state.facts (next_on s' session) left'.records) s.state.facts (next_on s session)
+    × TakesTo clients session (IsAt s'.state.facts (next_on s' session) left'.records) s.state.facts
+    (next_on s session)
     left.records more
     × (left.ending ≡ left'.ending)
 NextSo clients session s s' left left' more (Ok (Some e)) =
     (s'.closed ≡ false)
     × TakesTo clients session AllTaken s.state.facts (next_on s session) left.records more
     × (next_on s' session ≡ next_on s session + length left.records) × (e ≡ left.ending)
-NextSo clients session s s' left left' more (Err e) = StopsSo clients session s s' left.records more e
+NextSo clients session s s' left left' more (Err e) =
+    StopsSo clients session s s' left.records more e
 
 -- the next item of a file was read
-pub record HasReadItem (clients : Meaning) (session : ℕ) (s s' : StoreValue) (left left' : RecordsLeft)
+pub record HasReadItem (clients : Meaning) (session : ℕ) (s s' : StoreValue)
+    (left left' : RecordsLeft)
     (result : Result (Option BoxEnding) StoreFault) (o o' : Outside) : Type 0 where
   pub more : List (List Entry)
   pub comes : StoreComesTo clients s s' o o' more
   pub answer : NextSo clients session s s' left left' more result
 
-abbrev pub RestSo : Meaning → ℕ → StoreValue → StoreValue → RecordsLeft → List (List Entry) → Result BoxEnd StoreFault → Type 0
+abbrev pub RestSo : Meaning → ℕ → StoreValue → StoreValue → RecordsLeft → List (List Entry)
+    → Result BoxEnd StoreFault → Type 0
 RestSo clients session s s' left more (Ok end) =
     (s'.closed ≡ false) × IsSettled clients s'.state.facts
     × TakesTo clients session AllTaken s.state.facts (next_on s session) left.records more
@@ -160,7 +181,8 @@ pub record HasReadRest (clients : Meaning) (session : ℕ) (s s' : StoreValue) (
 -- ---- one output
 
 -- this output is due, and is committed
-pub record CommitsDue (clients : Meaning) (f : Facts) (session now : ℕ) (more : List (List Entry)) : Type 0 where
+pub record CommitsDue (clients : Meaning) (f : Facts) (session now : ℕ)
+    (more : List (List Entry)) : Type 0 where
   pub what : Out
   pub due : IsDue clients f (session_at f.sessions session) now what
   pub is : more ≡ out_batch session now what ∷ []
@@ -177,10 +199,12 @@ PutsSo clients session now s s' more to to' (Ok true) =
     (s'.closed ≡ false) × CommitsDue clients s.state.facts session now more ×
     (to' ≡ to ++ spelled (output_of s.state.facts session more))
 PutsSo clients session now s s' more to to' (Ok false) =
-    (s'.closed ≡ false) × IsSessionQuiet clients s'.state.facts session now × (more ≡ []) × (to' ≡ to)
+    (s'.closed ≡ false) × IsSessionQuiet clients s'.state.facts session now × (more ≡ [])
+    × (to' ≡ to)
 PutsSo clients session now s s' more to to' (Err fault.Closed) = ⊥
 PutsSo clients session now s s' more to to' (Err fault.Full) =
-    (s'.closed ≡ false) × IsSettled clients s'.state.facts × (more ≡ []) × LacksRoomForOut clients session now s'
+    (s'.closed ≡ false) × IsSettled clients s'.state.facts × (more ≡ [])
+    × LacksRoomForOut clients session now s'
 PutsSo clients session now s s' more to to' (Err fault.Memory) = (s'.closed ≡ false) × (more ≡ [])
 PutsSo clients session now s s' more to to' (Err fault.DiskFault) =
     (s'.closed ≡ true) × CommitsDue clients s.state.facts session now more
@@ -193,7 +217,8 @@ pub record HasPut (clients : Meaning) (session now : ℕ) (s s' : StoreValue) (t
   pub comes : StoreComesTo clients s s' o o' more
   pub answer : PutsSo clients session now s s' more to to' result
 
-abbrev pub PutsAllSo : Meaning → ℕ → ℕ → ℕ → StoreValue → StoreValue → List (List Entry) → List ℕ → List ℕ
+abbrev pub PutsAllSo : Meaning → ℕ → ℕ → ℕ → StoreValue → StoreValue → List (List Entry) → List ℕ
+    → List ℕ
     → Result ℕ StoreFault → Type 0
 PutsAllSo clients session now most s s' more to to' (Ok made) =
     (s'.closed ≡ false) × IsSettled clients s'.state.facts
@@ -209,7 +234,8 @@ PutsAllSo clients session now most s s' more to to' (Err fault.DiskFault) =
     (s'.closed ≡ true) × SendsSome clients s.state.facts session now most more
 
 -- all that is due was committed, at most so many outputs, as far as the answer says
-pub record HasPutAll (clients : Meaning) (session now most : ℕ) (s s' : StoreValue) (to to' : List ℕ)
+pub record HasPutAll (clients : Meaning) (session now most : ℕ) (s s' : StoreValue)
+    (to to' : List ℕ)
     (result : Result ℕ StoreFault)
     (o o' : Outside) : Type 0 where
   pub more : List (List Entry)

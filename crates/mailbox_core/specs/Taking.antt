@@ -1,4 +1,5 @@
--- Records that are taken one after the other: the batches that they make, by the facts of the journal alone.
+-- Records that are taken one after the other: the batches that they make, by the facts of the
+-- journal alone.
 use Rattle.std.specs.Prelude.{◌≡◌, ◌⊎◌, ℕ, ◌+◌, ◌<◌, List, [], ◌∷◌, ◌++◌}
 use Rattle.sync_ids.specs.declared.records.Record.{Record}
 use Rattle.sync_rules.specs.declared.entries.Entry.{Entry}
@@ -19,7 +20,8 @@ abbrev pub first_batch : Session → List Entry
 first_batch s = entry.Session s ∷ []
 
 -- the session begins, and the batches behind it have this, behind a journal of those facts
-pub record BeginsThen (f : Facts) (s : Session) (more : List (List Entry)) (Later : Facts → List (List Entry) → Type 0)
+pub record BeginsThen (f : Facts) (s : Session) (more : List (List Entry))
+    (Later : Facts → List (List Entry) → Type 0)
     : Type 0 where
   pub rest : List (List Entry)
   pub is : more ≡ first_batch s ∷ rest
@@ -32,14 +34,16 @@ abbrev pub next_take : Facts → ℕ → ℕ → Record → List Entry
 next_take f session k r = entry.Take session k ∷ taken f session r
 
 -- the record is taken, and settling follows
-pub record TakesRecord (clients : Meaning) (f : Facts) (session k : ℕ) (r : Record) (more : List (List Entry))
+pub record TakesRecord (clients : Meaning) (f : Facts) (session k : ℕ) (r : Record)
+    (more : List (List Entry))
     : Type 0 where
   pub settling : List (List Entry)
   pub is : more ≡ next_take f session k r ∷ settling
   pub settles : AllSettling clients (after_all f (next_take f session k r)) settling
 
 -- the record is taken, the journal is settled, and the batches behind that have this
-pub record TakesThen (clients : Meaning) (f : Facts) (session k : ℕ) (r : Record) (more : List (List Entry))
+pub record TakesThen (clients : Meaning) (f : Facts) (session k : ℕ) (r : Record)
+    (more : List (List Entry))
     (Later : Facts → List (List Entry) → Type 0) : Type 0 where
   pub first : List (List Entry)
   pub rest : List (List Entry)
@@ -50,10 +54,12 @@ pub record TakesThen (clients : Meaning) (f : Facts) (session k : ℕ) (r : Reco
 
 -- ---- many records
 
--- Behind a journal of these facts records are taken, the first of them as the session's k-th, up to a place that has P:
--- of the
--- facts there, the number of the next record, the records that are left, and the batches that are left.
-abbrev pub TakesTo : Meaning → ℕ → (Facts → ℕ → List Record → List (List Entry) → Type 0) → Facts → ℕ → List Record
+-- Behind a journal of these facts records are taken, the first of them as the session's k-th, up to
+-- a place that has P: of the
+-- facts there, the number of the next record, the records that are left, and the batches that are
+-- left.
+abbrev pub TakesTo : Meaning → ℕ → (Facts → ℕ → List Record → List (List Entry) → Type 0) → Facts
+    → ℕ → List Record
     → List (List Entry) → Type 0
 TakesTo clients session P f k [] more = P f k [] more
 TakesTo clients session P f k (r ∷ rs) more =
@@ -72,4 +78,5 @@ SomeTaken clients session f k (r ∷ rs) more = (more ≡ []) ⊎ TakesRecord cl
 -- nothing more is done, and for the next record there is no room in this store
 abbrev pub NoRoomFor : ℕ → StoreValue → Facts → ℕ → List Record → List (List Entry) → Type 0
 NoRoomFor session s f k [] more = ⊥
-NoRoomFor session s f k (r ∷ rs) more = (more ≡ []) × (s.limit < needed s (next_take s.state.facts session k r))
+NoRoomFor session s f k (r ∷ rs) more =
+    (more ≡ []) × (s.limit < needed s (next_take s.state.facts session k r))

@@ -23,12 +23,19 @@ all_told host = record {
   heard_are = refl;
 }
 
-pub opens_in_memory : (clients : Meaning) (asked : Asked) (old new : MemHostValue) → AlwaysOpens clients asked (host_told old) (host_told new) → OpensInMemory clients asked old new
+pub opens_in_memory : (clients : Meaning) (asked : Asked) (old new : MemHostValue)
+    → AlwaysOpens clients asked (host_told old) (host_told new)
+    → OpensInMemory clients asked old new
 opens_in_memory clients (Usage place) old new opens = tt
-opens_in_memory clients (Do (command.Sync turns quiet links)) old new opens = λ made since until left image.
+opens_in_memory clients (Do (command.Sync turns quiet links)) old new opens =
+    λ made since until left image.
     let all = opens (files_by old old.disk.calls) refl (all_told new) in
-    elim (all.moments (record { files = left; sent = told.sent_by (first_calls made new) }) (record { made = made; since = since; until = until; image = image; sent = refl })) [
-      | inl untouched ↦ inl (record { image = untouched.now.image; nothing_sent = untouched.nothing_sent })
+    elim (all.moments (record { files = left; sent = told.sent_by (first_calls made new) })
+    (record { made = made; since = since; until = until; image = image; sent = refl })) [
+      | inl untouched ↦ inl (record {
+        image = untouched.now.image;
+        nothing_sent = untouched.nothing_sent;
+      })
       | inr on ↦ inr on
     ]
 opens_in_memory clients (Do _) old new opens = tt

@@ -31,12 +31,14 @@ pub record IsAsBefore (old : MemHostValue) (left : Two (List ℕ)) (sent : ℕ �
   pub image : IsImage (files_by old old.disk.calls) left
   pub nothing_sent : (link : ℕ) → sent link ≡ []
 
--- From one host to a later one: whatever a crash leaves after so many calls is as before, or stands for a sound journal of the run, by
--- what the links of the later host heard and what was sent by then.
+-- From one host to a later one: whatever a crash leaves after so many calls is as before, or stands
+-- for a sound journal of the run, by what the links of the later host heard and what was sent by
+-- then.
 abbrev pub OpensInMemory : Meaning → Asked → (old new : MemHostValue) → Type 0
 OpensInMemory clients (Do (command.Sync turns quiet links)) old new =
     (made : ℕ) → length old.disk.calls ≤ made → made ≤ length new.disk.calls
     → (left : Two (List ℕ)) → IsImage (files_by new (first_calls made new)) left
     → IsAsBefore old left (sent_by (first_calls made new))
-    ⊎ OpensOn clients (stands clients (read_files (files_by old old.disk.calls))) (heard_on (host_told new).links) (sent_by (first_calls made new)) left
+    ⊎ OpensOn clients (stands clients (read_files (files_by old old.disk.calls)))
+    (heard_on (host_told new).links) (sent_by (first_calls made new)) left
 OpensInMemory clients _ old new = Unit {0}

@@ -13,9 +13,11 @@ use Rattle.sync_top.specs.Run.{Ran}
 abbrev pub no_text : Stream
 no_text = record { bytes = Some []; faults = 0 }
 
--- From this host and this source the command came to what its words ask for, and gave this status; both outputs were empty before.
+-- From this host and this source the command came to what its words ask for, and gave this status;
+-- both outputs were empty before.
 abbrev pub RanInMemory : Meaning → Asked → (old new : MemHostValue) → (input input' : SourceValue)
     → (out err : SinkValue) → Status → Type 0
 RanInMemory clients asked old new input input' out err given =
-    Ran clients asked (host_told old) (host_told new) (source_told input) (source_told input') no_text
+    Ran clients asked (host_told old) (host_told new) (source_told input) (source_told input')
+    no_text
     (sink_told out) no_text (sink_told err) given

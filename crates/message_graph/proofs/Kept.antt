@@ -162,7 +162,7 @@ module _ (nodes : List Node) (links : WaitIndex) (states : NodeWaits) (spare : �
               λ open_answer. ap (λ (x : Node). x.ending) (sym is) ∙ goes
           | inr other ↦ g.order k m (sym (get-change_other f nodes n k other) ∙ h)
         ];
-        count = ap (λ (x : Numbers). x.count) same_numbers ∙ g.count ∙ sym (length-change f n nodes);
+        count = ap (λ (x : Numbers). length x.names) same_numbers ∙ g.count ∙ sym (length-change f n nodes);
         numbers = subst (λ (x : Numbers). spare ≤ x.room) (sym same_numbers) g.numbers;
         room = room;
         places = subst (λ r. spare ≤ r) (sym places) g.places;
@@ -173,7 +173,7 @@ module _ (nodes : List Node) (links : WaitIndex) (states : NodeWaits) (spare : �
 
   -- a node was held under a new name, and those that wait for it were told
   pub hold_kept : (name : List ℕ) (group : ℕ) (after : WaitIndex) (later : NodeWaits) → number_of nodes name ≡ None → length nodes < 2 ^ 32 - 1 → 0 < spare
-      → ((other : List ℕ) → holder_of after other ≡ (if same_name other name then Some (length nodes) else holder_of links other)) → after.numbers.count ≡ links.numbers.count + 1 → links.numbers.room ≤ after.numbers.room + 1 → after.edges ≡ links.edges → links.room ≤ after.room + 1
+      → ((other : List ℕ) → holder_of after other ≡ (if same_name other name then Some (length nodes) else holder_of links other)) → after.numbers.names ≡ links.numbers.names ++ name ∷ [] → links.numbers.room ≤ after.numbers.room + 1 → after.edges ≡ links.edges → links.room ≤ after.room + 1
       → length later.waits ≡ length nodes + 1 → later.room + 1 ≡ states.room
       → ((k : ℕ) → wait_at later.waits k ≡ told_times (news.Arrived group) (group_at (nodes ++ fresh name group ∷ []) k) (count_before after.edges name k (length after.edges)) (wait_at (states.waits ++ waiting.Unjudged ∷ []) k))
       → IsGraph (nodes ++ fresh name group ∷ []) after later (spare - 1)
@@ -207,7 +207,7 @@ module _ (nodes : List Node) (links : WaitIndex) (states : NodeWaits) (spare : �
           | inl old ↦ g.order k x old
           | inr last ↦ λ open_answer. ap (λ (y : Node). y.ending) (sym last.1)
         ];
-        count = omega (arith, one_more, g.count, total);
+        count = ap length one_more ∙ length-append links.numbers.names (name ∷ []) ∙ omega (arith, g.count, total);
         numbers = omega (arith, left, g.numbers);
         room = omega (arith, g.room);
         places = omega (arith, g.places);

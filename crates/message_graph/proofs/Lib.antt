@@ -8,5 +8,6 @@ pub mod Named
 pub mod Steps
 pub mod Changes
 pub mod Firsts
+pub mod Unnamed
 pub mod Kept
 pub mod NodeLaws

@@ -3,7 +3,7 @@ use Rattle.std.proofs.Common.{◌≡◌, ℕ, zero, suc, ◌⊎◌, ◌+◌, ◌
 use Rattle.std.proofs.lemmas.List.{get_or-set_same, get_or-set_other, get_or_append_left, get_or_push, get_or_past, length-map, map-set, length-set, map-append}
 use Rattle.std.proofs.lemmas.Bool.{cases_eq, cases_lt}
 use Rattle.message_graph.specs.declared.index.Slot.{Slot}
-use Rattle.message_graph.specs.Links.{place_of, holder_at, IsPlaced}
+use Rattle.message_graph.specs.Links.{place_of, holder_at, names_at, IsPlaced}
 use Rattle.message_graph.proofs.Linked.{holders_of}
 
 -- a slot that nobody holds, at the end
@@ -78,3 +78,11 @@ held_place names slots places p name number h = by (place_of names name) refl h
     by : (o : Option ℕ) → place_of names name ≡ o → holder_at (holders_of slots) o ≡ Some number → (place : ℕ) × ((place_of names name ≡ Some place) × (slice_get places number ≡ Some place))
     by None e g = absurd (let c : None ≡ Some number = g in cc)
     by (Some place) e g = (place, (e, p.found place number g))
+
+-- a new name leaves the names of the nodes
+pub names_at-push : (names : List (List ℕ)) (name : List ℕ) (slots : List Slot) (places : List ℕ) → length slots ≡ length names → IsPlaced slots places → names_at (names ++ name ∷ []) places ≡ names_at names places
+names_at-push names name slots places many p = by places (λ number place h. let old = p.inside number place h in omega (arith, old, many))
+  where
+    by : (ps : List ℕ) → ((number place : ℕ) → slice_get ps number ≡ Some place → place < length names) → names_at (names ++ name ∷ []) ps ≡ names_at names ps
+    by [] h = refl
+    by (place ∷ ps) h = (λ i. get_or_append_left names (name ∷ []) [] place (h 0 place refl) i ∷ by ps (λ number other there. h (suc number) other there) i)

@@ -9,12 +9,12 @@ use Rattle.message_graph.specs.Nodes.{same_name}
 abbrev pub WaitEdge : Type 0
 WaitEdge = List ℕ × ℕ
 
--- how many nodes there are, and for how many more there is room
+-- the names of the nodes by number, and for how many more nodes there is room
 pub record Numbers : Type 0 where
-  pub count : ℕ
+  pub names : List (List ℕ)
   pub room : ℕ
 
--- an index: all names, the number of the node that holds each, the nodes' numbers, the edges, and the room for more names and more edges
+-- an index: all names, the number of the node that holds each, the nodes' names by number, the edges, and the room for more names and more edges
 pub record WaitIndex : Type 0 where
   pub names : List (List ℕ)
   pub holders : List (Option ℕ)
@@ -49,6 +49,10 @@ abbrev pub count_before : List (List ℕ × ℕ) → List ℕ → ℕ → ℕ �
 count_before edges name waiter zero = 0
 count_before edges name waiter (suc end) =
     (if same_name name (edge_at edges end).0 && (waiter == (edge_at edges end).1) then 1 else 0) + count_before edges name waiter end
+
+-- the names at places
+abbrev pub names_at : List (List ℕ) → List ℕ → List (List ℕ)
+names_at names places = map (λ place. slice_index_or names place []) places
 
 -- the edges with their names, of edges that keep the places of names
 abbrev pub named : List (List ℕ) → Edge → List ℕ × ℕ

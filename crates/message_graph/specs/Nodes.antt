@@ -3,6 +3,7 @@ use Rattle.std.specs.Prelude.{ℕ, zero, suc, ◌+◌, ◌==◌, nat_eq, Bool, t
 use Rattle.std.specs.Cmp.Lexicographic.{pointwise}
 use Rattle.std.specs.List.{list_any, list_all}
 use Rattle.message_graph.specs.declared.nodes.Node.{Node}
+use Rattle.message_graph.specs.declared.nodes.Unnamed.{Unnamed}
 use Rattle.message_graph.specs.declared.nodes.Judged.{Judged}
 use Rattle.message_graph.specs.declared.nodes.Judged.TheVariants as judged
 use Rattle.message_graph.specs.declared.nodes.Ending.{Ending}
@@ -16,6 +17,16 @@ use Rattle.message_graph.specs.declared.nodes.Fate.TheVariants as fate
 pub record Shown : Type 0 where
   pub nodes : List Node
   pub spare : ℕ
+
+-- a node, of its name and the rest of it
+abbrev pub with_name : List ℕ → Unnamed → Node
+with_name name rest = record { name = name; group = rest.group; answer = rest.answer; ending = rest.ending }
+
+-- the nodes, of their names and the rest of each
+abbrev pub with_names : List (List ℕ) → List Unnamed → List Node
+with_names [] rests = []
+with_names (name ∷ names) [] = []
+with_names (name ∷ names) (rest ∷ rests) = with_name name rest ∷ with_names names rests
 
 -- whether two names are the same bytes
 abbrev pub same_name : List ℕ → List ℕ → Bool

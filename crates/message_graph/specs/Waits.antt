@@ -1,6 +1,7 @@
 -- What each node waits for, as the code keeps it.
 use Rattle.std.specs.Prelude.{ℕ, zero, suc, ◌+◌, ◌-◌, ◌==◌, Bool, true, false, if◌then◌else◌, List, [], ◌∷◌, map, Option, None, Some, slice_index_or}
 use Rattle.message_graph.specs.declared.nodes.Node.{Node}
+use Rattle.message_graph.specs.declared.nodes.Unnamed.{Unnamed}
 use Rattle.message_graph.specs.declared.nodes.Judged.{Judged}
 use Rattle.message_graph.specs.declared.nodes.Judged.TheVariants as judged
 use Rattle.message_graph.specs.declared.nodes.Ending.{Ending}
@@ -99,3 +100,7 @@ wait_at waits number = slice_index_or waits number waiting.Ended
 -- the node's group; past the end 0
 abbrev pub group_at : List Node → ℕ → ℕ
 group_at nodes number = slice_index_or (map (λ node. node.group) nodes) number 0
+
+-- the same of nodes without their names
+abbrev pub group_in : List Unnamed → ℕ → ℕ
+group_in rests number = slice_index_or (map (λ rest. rest.group) rests) number 0

@@ -60,7 +60,7 @@ pub record IsGraph (nodes : List Node) (links : WaitIndex) (states : NodeWaits) 
   pub edges : (name : List ℕ) (waiter : ℕ) → count_before links.edges name waiter (length links.edges) ≡ occurrences name (dependencies_at nodes waiter)
   pub firsts : (waiter : ℕ) → first_for links.edges waiter ≡ slice_get (dependencies_at nodes waiter) 0
   pub order : (number : ℕ) (node : Node) → slice_get nodes number ≡ Some node → IsNodeInOrder node
-  pub count : links.numbers.count ≡ length nodes
+  pub count : length links.numbers.names ≡ length nodes
   pub numbers : spare ≤ links.numbers.room
   pub room : spare ≤ links.room
   pub places : spare ≤ states.room

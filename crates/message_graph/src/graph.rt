@@ -7,8 +7,7 @@ ghost use Rattle.message_graph.specs.Nodes.{with_ending, after_step, EndsNode};
 ghost use Rattle.message_graph.specs.Whole.{ending_step, ending_news, first_held};
 
 use crate::index::Index;
-use crate::nodes::{Ending, Fate, Judged, Node, Step};
-use crate::plain::fate_in;
+use crate::nodes::{Ending, Fate, Judged, Step, Unnamed, fate_by};
 use crate::states::{News, States, Waiting};
 use crate::waiters::{answered, tell};
 use std::alloc::{AllocError, Global};
@@ -16,27 +15,32 @@ use std::hash::RandomState;
 use std::marker::Model;
 
 /// Held messages by number, and the next step among them, found in time logarithmic in their count.
-/// Contracts see the list of the nodes, and for how many more there is room.
+/// Contracts see the list of the nodes, and for how many more there is room. The table of names alone
+/// has a node's name.
 #[derive(Drop)]
 pub struct Graph {
-    nodes: Vec<Node>,
+    nodes: Vec<Unnamed>,
     index: Index,
     states: States,
     spare: usize,
 }
 
 impl Model for Graph {
-    ghost use Rattle.std.specs.Prelude.{◌+◌, ◌≤◌, length, vec_capacity};
-    ghost use Rattle.message_graph.specs.Nodes.{Shown};
+    ghost use Rattle.std.specs.Prelude.{◌≡◌, ◌+◌, ◌≤◌, length, vec_capacity};
+    ghost use Rattle.message_graph.specs.Nodes.{Shown, with_names};
 
     ghost Value = { Shown };
 
     ghost use Rattle.message_graph.specs.Whole.{IsGraph};
 
-    ghost view = { λ g. record { nodes = g.nodes.items; spare = g.spare } };
+    ghost view = { λ g. record {
+      nodes = with_names g.index.numbers.names g.nodes.items;
+      spare = g.spare;
+    } };
 
-    ghost invariant = { λ g. IsGraph g.nodes.items g.index g.states g.spare
-        × (length g.nodes.items + g.spare ≤ vec_capacity g.nodes) };
+    ghost invariant = { λ g. IsGraph (with_names g.index.numbers.names g.nodes.items) g.index
+        g.states g.spare × (length g.nodes.items + g.spare ≤ vec_capacity g.nodes)
+        × (length g.index.numbers.names ≡ length g.nodes.items) };
 }
 
 impl Graph {
@@ -80,8 +84,7 @@ impl Graph {
         } }
     {
         let number = self.nodes.len() as u32;
-        let node = Node {
-            name,
+        let node = Unnamed {
             group,
             answer: None,
             ending: None,
@@ -126,7 +129,7 @@ impl Graph {
         requires { n < length self.now.nodes }
         ensures { option_map (λ node. node.name) (slice_get self.now.nodes n) ≡ Some result }
     {
-        self.nodes[n as usize].name
+        self.index.name(n)
     }
 
     /// What hashes names.
@@ -184,7 +187,8 @@ impl Graph {
         requires { n < length self.now.nodes }
         ensures { option_map fate_of (slice_get self.now.nodes n) ≡ Some result }
     {
-        fate_in(&self.nodes[n as usize])
+        let node = &self.nodes[n as usize];
+        fate_by(&node.answer, node.ending)
     }
 
     /// Of each node the number of the node that holds the first name that it depends on; `None`

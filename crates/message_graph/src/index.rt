@@ -72,7 +72,7 @@ pub(crate) struct Index {
 impl Model for Index {
     ghost use Rattle.std.specs.Prelude.{◌-◌, ◌^◌, length, map, min, vec_capacity};
     ghost use Rattle.indexmap.specs.IndexSet.{spare};
-    ghost use Rattle.message_graph.specs.Links.{WaitIndex, named, IsLinked, IsPlaced};
+    ghost use Rattle.message_graph.specs.Links.{WaitIndex, named, names_at, IsLinked, IsPlaced};
 
     ghost Value = { WaitIndex };
 
@@ -80,7 +80,7 @@ impl Model for Index {
       names = i.names.keys;
       holders = map (λ slot. slot.holder) i.slots.items;
       numbers = record {
-        count = length i.places.items;
+        names = names_at i.names.keys i.places.items;
         room = vec_capacity i.places - length i.places.items;
       };
       edges = map (named i.names.keys) i.edges.items;
@@ -132,7 +132,7 @@ impl Index {
     /// No names; they are hashed by `hasher`.
     pub(crate) fn new(alloc: Global, hasher: RandomState) -> Index
         ensures names { result.names ≡ [] }
-        ensures count { result.numbers.count ≡ 0 }
+        ensures held { result.numbers.names ≡ [] }
         ensures edges { result.edges ≡ [] }
     {
         Index {
@@ -165,7 +165,7 @@ impl Index {
     pub(crate) fn reserve_nodes(&mut self, nodes: usize) -> Result<(), AllocError>
         ensures names { self.new.names ≡ self.old.names }
         ensures holders { self.new.holders ≡ self.old.holders }
-        ensures count { self.new.numbers.count ≡ self.old.numbers.count }
+        ensures held { self.new.numbers.names ≡ self.old.numbers.names }
         ensures edges { self.new.edges ≡ self.old.edges }
         ensures room { self.old.room ≤ self.new.room }
         ensures numbers { self.old.numbers.room ≤ self.new.numbers.room }
@@ -184,6 +184,16 @@ impl Index {
         self.slots[place].holder
     }
 
+    /// The name of the node of this number.
+    pub(crate) fn name(&self, number: u32) -> [u8; 32]
+        requires { number < length self.now.numbers.names }
+        ensures { slice_get self.now.numbers.names number ≡ Some result }
+    {
+        let place = self.places[number as usize] as usize;
+        let key = &self.names.as_slice()[place];
+        key.0
+    }
+
     /// What hashes names.
     pub(crate) fn hasher(&self) -> RandomState {
         *self.names.hasher()
@@ -191,7 +201,7 @@ impl Index {
 
     /// The last edge of those who wait for the name of the node of this number.
     pub(crate) fn last(&self, number: u32) -> Option<u32>
-        requires { number < self.now.numbers.count }
+        requires { number < length self.now.numbers.names }
         ensures { (name : List ℕ) → holder_of self.now name ≡ Some number
             → result ≡ last_before self.now.edges name (length self.now.edges) }
     {
@@ -253,12 +263,12 @@ impl Index {
     pub(crate) fn hold(&mut self, name: [u8; 32], number: u32) -> Option<u32>
         requires room { 0 < self.old.room }
         requires numbers { 0 < self.old.numbers.room }
-        requires next { number ≡ self.old.numbers.count }
+        requires next { number ≡ length self.old.numbers.names }
         ensures last { result ≡ last_before self.old.edges name (length self.old.edges) }
         ensures holders { (other : List ℕ)
             → holder_of self.new other ≡ (if same_name other name then Some number else holder_of
             self.old other) }
-        ensures count { self.new.numbers.count ≡ self.old.numbers.count + 1 }
+        ensures held { self.new.numbers.names ≡ self.old.numbers.names ++ name ∷ [] }
         ensures left { self.old.numbers.room ≤ self.new.numbers.room + 1 }
         ensures edges { self.new.edges ≡ self.old.edges }
         ensures room { self.old.room ≤ self.new.room + 1 }

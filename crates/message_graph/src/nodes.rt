@@ -1,6 +1,7 @@
 //! Nodes, and what is said of them.
-ghost use Rattle.std.specs.Prelude.{◌≡◌, option_copied};
-ghost use Rattle.message_graph.specs.Nodes.{fails, serves};
+ghost use Rattle.std.specs.Prelude.{◌≡◌, ℕ, List, option_copied};
+ghost use Rattle.std.specs.Option.{option_map};
+ghost use Rattle.message_graph.specs.Nodes.{fails, serves, fate_by, with_name};
 
 use std::marker::Model;
 
@@ -59,6 +60,14 @@ pub struct Node {
     pub ending: Option<Ending>,
 }
 
+/// All of a node but its name. A graph keeps each name once, in its table of names.
+#[derive(Drop)]
+pub(crate) struct Unnamed {
+    pub(crate) group: u32,
+    pub(crate) answer: Option<Judged>,
+    pub(crate) ending: Option<Ending>,
+}
+
 /// What is to be done next, with the number of the node.
 #[derive(Clone, Copy, Debug, PartialEq, Eq)]
 pub enum Step {
@@ -76,10 +85,23 @@ pub enum Fate {
     Delivered,
 }
 
+/// The fate of a message, by its answer and its ending.
+pub(crate) fn fate_by(answer: &Option<Judged>, ending: Option<Ending>) -> Fate
+    ensures { result ≡ fate_by answer.now ending }
+{
+    match (answer, ending) {
+        (_, Some(Ending::Invalid)) => Fate::Invalid,
+        (_, Some(Ending::Delivered)) => Fate::Delivered,
+        (None, None) => Fate::Unknown,
+        (Some(_), None) => Fate::Pending,
+    }
+}
+
 /// Whether a dependency can never be delivered to a node of the group: it is held in another group,
 /// or invalid.
-pub(crate) fn fails(held: Option<&Node>, group: u32) -> bool
-    ensures { result ≡ fails group (option_copied held.entry) }
+pub(crate) fn fails(held: Option<&Unnamed>, group: u32) -> bool
+    ensures { (name : List ℕ) → result ≡ fails group (option_map (with_name name) (option_copied
+        held.entry)) }
 {
     match held {
         None => false,
@@ -88,8 +110,9 @@ pub(crate) fn fails(held: Option<&Node>, group: u32) -> bool
 }
 
 /// Whether a dependency is delivered, in the group.
-pub(crate) fn serves(held: Option<&Node>, group: u32) -> bool
-    ensures { result ≡ serves group (option_copied held.entry) }
+pub(crate) fn serves(held: Option<&Unnamed>, group: u32) -> bool
+    ensures { (name : List ℕ) → result ≡ serves group (option_map (with_name name) (option_copied
+        held.entry)) }
 {
     match held {
         None => false,

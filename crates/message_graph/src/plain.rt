@@ -4,7 +4,7 @@ ghost use Rattle.std.specs.List.{list_any, list_all};
 ghost use Rattle.message_graph.specs.Nodes.{same_name, node_named, fails, serves, step_accepted};
 ghost use Rattle.message_graph.specs.Nodes.{step_of, next, fate_of};
 
-use crate::nodes::{Ending, Fate, Judged, Node, Step, fails, serves};
+use crate::nodes::{Ending, Fate, Judged, Node, Step, fate_by};
 
 /// The node of that name.
 fn node_named<'a>(nodes: &'a [Node], name: &[u8; 32]) -> Option<&'a Node>
@@ -16,6 +16,26 @@ fn node_named<'a>(nodes: &'a [Node], name: &[u8; 32]) -> Option<&'a Node>
         }
     }
     None
+}
+
+/// Whether a dependency can never be delivered to a node of the group.
+fn fails(held: Option<&Node>, group: u32) -> bool
+    ensures { result ≡ fails group (option_copied held.entry) }
+{
+    match held {
+        None => false,
+        Some(node) => node.group != group || node.ending == Some(Ending::Invalid),
+    }
+}
+
+/// Whether a dependency is delivered, in the group.
+fn serves(held: Option<&Node>, group: u32) -> bool
+    ensures { result ≡ serves group (option_copied held.entry) }
+{
+    match held {
+        None => false,
+        Some(node) => node.group == group && node.ending == Some(Ending::Delivered),
+    }
 }
 
 /// Whether some dependency can never be delivered.
@@ -95,10 +115,5 @@ pub fn next_in(nodes: &[Node]) -> Option<Step>
 pub fn fate_in(node: &Node) -> Fate
     ensures { result ≡ fate_of node.now }
 {
-    match (&node.answer, node.ending) {
-        (_, Some(Ending::Invalid)) => Fate::Invalid,
-        (_, Some(Ending::Delivered)) => Fate::Delivered,
-        (None, None) => Fate::Unknown,
-        (Some(_), None) => Fate::Pending,
-    }
+    fate_by(&node.answer, node.ending)
 }

@@ -1,14 +1,15 @@
 //! Telling those who wait, and noting who waits.
 ghost use Rattle.std.specs.Prelude.{◌≡◌, ℕ, List, ◌+◌, ◌<◌, ◌≤◌, ◌++◌, length, map, option_copied};
 ghost use Rattle.std.specs.Prelude.{IfOk, OnOk, OnErr, Some};
-ghost use Rattle.message_graph.specs.Nodes.{node_named, number_of};
+ghost use Rattle.std.specs.Option.{option_map};
+ghost use Rattle.message_graph.specs.Nodes.{node_named, number_of, with_name, with_names};
 ghost use Rattle.message_graph.specs.Waits.{missing, from_missing, waiting_open, told_times};
-ghost use Rattle.message_graph.specs.Waits.{wait_at, group_at};
+ghost use Rattle.message_graph.specs.Waits.{wait_at, group_in};
 ghost use Rattle.message_graph.specs.Links.{holder_of, edge_at, count_before, last_before};
 ghost use Rattle.message_graph.specs.Whole.{dependencies};
 
 use crate::index::Index;
-use crate::nodes::{Judged, Node, fails, serves};
+use crate::nodes::{Judged, Unnamed, fails, serves};
 use crate::states::{News, States, Waiting, told};
 use std::alloc::AllocError;
 
@@ -16,7 +17,7 @@ use std::alloc::AllocError;
 pub(crate) fn tell(
     states: &mut States,
     index: &Index,
-    nodes: &[Node],
+    nodes: &[Unnamed],
     last: Option<u32>,
     news: News,
 )
@@ -29,7 +30,7 @@ pub(crate) fn tell(
     ensures room { states.new.room ≡ states.old.room }
     ensures waits { (name : List ℕ)
         → last ≡ last_before index.now.edges name (length index.now.edges) → (number : ℕ)
-        → wait_at states.new.waits number ≡ told_times news (group_at nodes.now number)
+        → wait_at states.new.waits number ≡ told_times news (group_in nodes.now number)
         (count_before index.now.edges name number (length index.now.edges))
         (wait_at states.old.waits number) }
 {
@@ -43,18 +44,22 @@ pub(crate) fn tell(
 }
 
 /// The node that holds the name.
-fn held<'a>(nodes: &'a [Node], index: &Index, name: &[u8; 32]) -> Option<&'a Node>
-    requires { (other : List ℕ) → holder_of index.now other ≡ number_of nodes.now other }
-    ensures { option_copied result ≡ node_named nodes.now name.now }
+fn held<'a>(nodes: &'a [Unnamed], index: &Index, name: &[u8; 32]) -> Option<&'a Unnamed>
+    requires { (other : List ℕ) → holder_of index.now other ≡ number_of (with_names
+        index.now.numbers.names nodes.now) other }
+    ensures { option_map (with_name name.now) (option_copied result) ≡ node_named (with_names
+        index.now.numbers.names nodes.now) name.now }
 {
     let number = index.holder(name)?;
     Some(&nodes[number as usize])
 }
 
 /// What an accepted node of the group waits for.
-pub(crate) fn missing(nodes: &[Node], index: &Index, group: u32, names: &[[u8; 32]]) -> Waiting
-    requires { (other : List ℕ) → holder_of index.now other ≡ number_of nodes.now other }
-    ensures { result ≡ from_missing (missing (node_named nodes.now) group names.now) }
+pub(crate) fn missing(nodes: &[Unnamed], index: &Index, group: u32, names: &[[u8; 32]]) -> Waiting
+    requires { (other : List ℕ) → holder_of index.now other ≡ number_of (with_names
+        index.now.numbers.names nodes.now) other }
+    ensures { result ≡ from_missing (missing (node_named (with_names index.now.numbers.names
+        nodes.now)) group names.now) }
 {
     let mut count = 0;
     for name in names {
@@ -87,16 +92,18 @@ pub(crate) fn enlist(index: &mut Index, names: &[[u8; 32]], waiter: u32)
 /// can still be held after it.
 fn accepted(
     index: &mut Index,
-    nodes: &[Node],
+    nodes: &[Unnamed],
     spare: usize,
     n: u32,
     group: u32,
     names: &[[u8; 32]],
 ) -> Result<Waiting, AllocError>
-    requires holders { (other : List ℕ) → holder_of index.old other ≡ number_of nodes.now other }
+    requires holders { (other : List ℕ) → holder_of index.old other ≡ number_of (with_names
+        index.old.numbers.names nodes.now) other }
     requires room { spare ≤ index.old.room }
     ensures waiting { IfOk result
-        (λ waiting. waiting ≡ from_missing (missing (node_named nodes.now) group names.now)) }
+        (λ waiting. waiting ≡ from_missing (missing (node_named (with_names index.old.numbers.names
+        nodes.now)) group names.now)) }
     ensures edges { OnOk result (index.new.edges ≡ index.old.edges ++ map (λ name. (name, n))
         names.now) }
     ensures err { OnErr result (index.new.edges ≡ index.old.edges) }
@@ -117,16 +124,17 @@ fn accepted(
 /// What a node of the group waits for after its answer, noted with each name that it depends on.
 pub(crate) fn answered(
     index: &mut Index,
-    nodes: &[Node],
+    nodes: &[Unnamed],
     spare: usize,
     n: u32,
     group: u32,
     answer: &Judged,
 ) -> Result<Waiting, AllocError>
-    requires holders { (other : List ℕ) → holder_of index.old other ≡ number_of nodes.now other }
+    requires holders { (other : List ℕ) → holder_of index.old other ≡ number_of (with_names
+        index.old.numbers.names nodes.now) other }
     requires room { spare ≤ index.old.room }
-    ensures waiting { IfOk result (λ waiting. waiting ≡ waiting_open (node_named nodes.now) group
-        answer.now) }
+    ensures waiting { IfOk result (λ waiting. waiting ≡ waiting_open (node_named (with_names
+        index.old.numbers.names nodes.now)) group answer.now) }
     ensures edges { OnOk result (index.new.edges ≡ index.old.edges ++ map (λ name. (name, n))
         (dependencies (Some answer.now))) }
     ensures err { OnErr result (index.new.edges ≡ index.old.edges) }

@@ -1,5 +1,6 @@
 -- The last message of a group that was written here, message by message.
-use Rattle.std.proofs.Common.{◌≡◌, ℕ, zero, suc, ◌+◌, ◌<◌, ◌≤◌, Bool, cond, List, [], ◌∷◌, length, take}
+use Rattle.std.proofs.Common.{◌≡◌, ℕ, zero, suc, ◌+◌, ◌<◌, ◌≤◌, Bool, cond, List, [], ◌∷◌, length}
+use Rattle.std.proofs.Common.{take}
 use Rattle.std.proofs.Common.{Some, sym, ap, ◌∙◌, add-one}
 use Rattle.std.specs.Prelude.{◌&&◌, slice_get}
 use Rattle.std.specs.Option.{option_map}
@@ -8,9 +9,10 @@ use Rattle.sync_ids.specs.Values.{MessageValue}
 use Rattle.sync_rules.specs.declared.states.Origin.{Origin}
 use Rattle.sync_rules.specs.Facts.{Facts, Held, Id, held_at}
 use Rattle.sync_rules.specs.Lists.{same_id}
+use Rattle.sync_rules.specs.Sessions.{is_author}
 use Rattle.sync_rules.specs.Views.{IsPlace}
 use Rattle.store_commands.proofs.Lines.{item_at}
-use Rattle.sharing_commands.specs.Sayings.{is_author, is_own, last_own, own_or}
+use Rattle.sharing_commands.specs.Sayings.{is_own, last_own, own_or}
 
 module _ (f : Facts) (group : Id) where
   take_own : (earlier : Id) (ids : List Id) (k : ℕ) (id : Id) → slice_get ids k ≡ Some id

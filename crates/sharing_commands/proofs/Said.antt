@@ -25,7 +25,8 @@ use Rattle.sharing_commands.specs.Sayings.{message_said, say_by, say_plan, shari
 
 -- ---- the plan
 
-pub say_follows : (clients : Meaning) (f : Facts) (s : Speech) (e : Entry) → say_plan clients s f ≡ adds e → MayAdd clients f e
+pub say_follows : (clients : Meaning) (f : Facts) (s : Speech) (e : Entry)
+    → say_plan clients s f ≡ adds e → MayAdd clients f e
 say_follows clients f s e is = by (sharing_test (group_at f.groups s.group)) is where
   by : (o : Option Refused) → say_by clients f s o ≡ adds e → MayAdd clients f e
   by (Some why) w = absurd (let no : refuses why ≡ adds e = w in cc)
@@ -33,12 +34,17 @@ say_follows clients f s e is = by (sharing_test (group_at f.groups s.group)) is 
 
 -- ---- a message that may not be added
 
-pub said_fault : (clients : Meaning) (plan : Facts → Plan) (old new : Outside) (out out' : Stream) (s : StoreValue) → DiskRun old new
+pub said_fault : (clients : Meaning) (plan : Facts → Plan) (old new : Outside) (out out' : Stream)
+    (s : StoreValue) → DiskRun old new
     → ((two : Two File) → old.files ≡ Some two → LeavesFilesSo (LoadKeeps (Ok s) two) two old new)
-    → ((two : Two File) → old.files ≡ Some two → HasFacts (stands clients (read_files two)) s) → IsIdle out out'
-    → (came : Outcome) → IsPlanOfPost (plan s.state.facts) (Err came) → HasAdded clients plan settling.BeforeAndAfter old new out out' came
+    → ((two : Two File) → old.files ≡ Some two → HasFacts (stands clients (read_files two)) s)
+    → IsIdle out out'
+    → (came : Outcome) → IsPlanOfPost (plan s.state.facts) (Err came)
+    → HasAdded clients plan settling.BeforeAndAfter old new out out' came
 said_fault clients plan old new out out' s run rests loaded quiet outcome.Memory is =
-    added_none clients plan settling.BeforeAndAfter old new out out' outcome.Memory run (λ two told. rests two told) tt (λ two told. tt) quiet
+    added_none clients plan settling.BeforeAndAfter old new out out' outcome.Memory run (λ two told.
+    rests two told) tt (λ two told. tt) quiet
 said_fault clients plan old new out out' s run rests loaded quiet (outcome.Refused why) is =
-    added_refused clients plan settling.BeforeAndAfter old new out out' s why run rests loaded is quiet
+    added_refused clients plan settling.BeforeAndAfter old new out out' s why run rests loaded is
+    quiet
 said_fault clients plan old new out out' s run rests loaded quiet _ is = absurd is

@@ -1,5 +1,5 @@
--- What `agree` does: it migrates the journal and settles it, adds what the targets ask for, each entry a batch of its own, and
--- prints a line for each group.
+-- What `agree` does: it migrates the journal and settles it, adds what the targets ask for, each
+-- entry a batch of its own, and prints a line for each group.
 use Rattle.std.specs.Prelude.{◌≡◌, ◌⊎◌, ℕ, ◌<◌, ◌≤◌, false, true, List, [], ◌∷◌, ◌++◌, Some, None}
 use Rattle.std.specs.Io.KnownBytes.{Appends}
 use Rattle.outside.specs.declared.limits.TheConstants.{MAX_JOURNAL}
@@ -26,14 +26,16 @@ use Rattle.sharing_commands.specs.Agreement.{agree_test, agreed_batches, agreed_
 -- ---- journals
 
 -- behind a journal of these facts: all of its settling, and what the targets ask for then
-pub record AgreesWhole (clients : Meaning) (contact : ℕ) (group : Id) (f : Facts) (more : List (List Entry)) : Type 0 where
+pub record AgreesWhole (clients : Meaning) (contact : ℕ) (group : Id) (f : Facts)
+    (more : List (List Entry)) : Type 0 where
   pub first : List (List Entry)
   pub settles : AllSettling clients f first
   pub settled : IsSettled clients (after_batches f first)
   pub is : more ≡ first ++ agreed_batches clients contact group (after_batches f first)
 
 -- the journal with a front of settling, or of all of its settling and what the targets ask for
-pub record AgreesOn (clients : Meaning) (contact : ℕ) (group : Id) (j whole : List (List Entry)) : Type 0 where
+pub record AgreesOn (clients : Meaning) (contact : ℕ) (group : Id)
+    (j whole : List (List Entry)) : Type 0 where
   pub more : List (List Entry)
   pub adds : AllSettling clients (facts j) more ⊎ AgreesWhole clients contact group (facts j) more
   pub between : IsBetween j more whole
@@ -43,29 +45,34 @@ abbrev pub EachFoundRoom : List (List Entry) → List (List Entry) → Type 0
 EachFoundRoom j [] = Unit {0}
 EachFoundRoom j (b ∷ bs) = (needed_by j b ≤ MAX_JOURNAL) × EachFoundRoom (j ++ b ∷ []) bs
 
--- The files stand, in format 2, for the journal, all of its settling, and all that the targets ask for; nothing is pending in
--- them, so that each crash leaves this. The text is that of the targets.
-pub record IsAgreed (clients : Meaning) (contact : ℕ) (group : Id) (j : List (List Entry)) (two : Two File) (P : List ℕ → Type 0) : Type 0 where
+-- The files stand, in format 2, for the journal, all of its settling, and all that the targets ask
+-- for; nothing is pending in them, so that each crash leaves this. The text is that of the targets.
+pub record IsAgreed (clients : Meaning) (contact : ℕ) (group : Id) (j : List (List Entry))
+    (two : Two File) (P : List ℕ → Type 0) : Type 0 where
   pub first : List (List Entry)
   pub settles : AllSettling clients (facts j) first
   pub settled : IsSettled clients (after_batches (facts j) first)
   pub short : IsInFormat kind.Short (read_files two)
-  pub roomy : EachFoundRoom (j ++ first) (agreed_batches clients contact group (after_batches (facts j) first))
-  pub stands_for : stands clients (read_files two) ≡ journal (j ++ (first ++ agreed_batches clients contact group (after_batches (facts j) first)))
+  pub roomy : EachFoundRoom (j ++ first)
+      (agreed_batches clients contact group (after_batches (facts j) first))
+  pub stands_for : stands clients (read_files two) ≡ journal
+      (j ++ (first ++ agreed_batches clients contact group (after_batches (facts j) first)))
   pub first_settled : NothingPending two 0
   pub second_settled : NothingPending two 1
   pub printed : P (agreed_text clients contact group (after_batches (facts j) first))
 
--- The files stand, in format 2, for the journal, all of its settling, and a front of what the targets ask for, and there is no
--- room for the batch behind it.
-pub record IsAgreementCut (clients : Meaning) (contact : ℕ) (group : Id) (j : List (List Entry)) (two : Two File) : Type 0 where
+-- The files stand, in format 2, for the journal, all of its settling, and a front of what the
+-- targets ask for, and there is no room for the batch behind it.
+pub record IsAgreementCut (clients : Meaning) (contact : ℕ) (group : Id) (j : List (List Entry))
+    (two : Two File) : Type 0 where
   pub first : List (List Entry)
   pub front : List (List Entry)
   pub next : List Entry
   pub rest : List (List Entry)
   pub settles : AllSettling clients (facts j) first
   pub settled : IsSettled clients (after_batches (facts j) first)
-  pub parts : agreed_batches clients contact group (after_batches (facts j) first) ≡ front ++ next ∷ rest
+  pub parts : agreed_batches clients contact group
+      (after_batches (facts j) first) ≡ front ++ next ∷ rest
   pub stands_for : stands clients (read_files two) ≡ journal (j ++ (first ++ front))
   pub short : IsInFormat kind.Short (read_files two)
   pub over : MAX_JOURNAL < needed_by (j ++ (first ++ front)) next
@@ -73,7 +80,8 @@ pub record IsAgreementCut (clients : Meaning) (contact : ℕ) (group : Id) (j : 
 -- ---- from the files that were told
 
 -- the files stood for a journal over which the tests hold
-pub record MayAgree (contact : ℕ) (group : Id) (standing : Standing) (P : List (List Entry) → Type 0) : Type 0 where
+pub record MayAgree (contact : ℕ) (group : Id) (standing : Standing)
+    (P : List (List Entry) → Type 0) : Type 0 where
   pub before : List (List Entry)
   pub stood : standing ≡ journal before
   pub tested : agree_test (facts before) contact group ≡ None
@@ -88,30 +96,47 @@ pub record IsDenied (contact : ℕ) (group : Id) (standing : Standing) (why : Re
 -- a moment once batches are added; there is none where the command was refused or ended earlier
 abbrev pub AgreesMoment : Meaning → ℕ → Id → Standing → Outcome → List (List ℕ) → Moment → Type 0
 AgreesMoment clients contact group standing came sent m =
-    (is_late came ≡ true) × MayAgree contact group standing (λ j. JournalMoment clients (AgreesOn clients contact group j) sent m)
+    (is_late came ≡ true)
+    × MayAgree contact group standing (λ j.
+    JournalMoment clients (AgreesOn clients contact group j) sent m)
 
 -- the outcome by what the files stood for
-abbrev pub AgreesEnds : Meaning → ℕ → Id → Standing → Two File → Two File → (out out' : Stream) → Outcome → Type 0
-AgreesEnds clients contact group standing two two' out out' outcome.NoStore = (standing ≡ no_store) × FilesReadSame two two'
-AgreesEnds clients contact group standing two two' out out' (outcome.Damaged place) = (standing ≡ damaged place.file place.at) × FilesReadSame two two'
-AgreesEnds clients contact group standing two two' out out' (outcome.Refused why) = IsDenied contact group standing why × FilesReadSame two two'
-AgreesEnds clients contact group standing two two' out out' outcome.Full = MayAgree contact group standing (λ j. IsAgreementCut clients contact group j two' ⊎ WasSpent two two')
+abbrev pub AgreesEnds : Meaning → ℕ → Id → Standing → Two File → Two File → (out out' : Stream)
+    → Outcome → Type 0
+AgreesEnds clients contact group standing two two' out out' outcome.NoStore =
+    (standing ≡ no_store) × FilesReadSame two two'
+AgreesEnds clients contact group standing two two' out out' (outcome.Damaged place) =
+    (standing ≡ damaged place.file place.at) × FilesReadSame two two'
+AgreesEnds clients contact group standing two two' out out' (outcome.Refused why) =
+    IsDenied contact group standing why × FilesReadSame two two'
+AgreesEnds clients contact group standing two two' out out' outcome.Full =
+    MayAgree contact group standing (λ j. IsAgreementCut clients contact group j two'
+    ⊎ WasSpent two two')
 AgreesEnds clients contact group standing two two' out out' outcome.Done =
-    MayAgree contact group standing (λ j. IsAgreed clients contact group j two' (Appends out.bytes out'.bytes))
+    MayAgree contact group standing (λ j.
+    IsAgreed clients contact group j two' (Appends out.bytes out'.bytes))
 AgreesEnds clients contact group standing two two' out out' outcome.WriteFault =
-    MayAgree contact group standing (λ j. IsAgreed clients contact group j two' (GetsFront out out'))
+    MayAgree contact group standing (λ j.
+    IsAgreed clients contact group j two' (GetsFront out out'))
 AgreesEnds clients contact group standing two two' out out' _ = Unit {0}
 
--- what is so where the files are told: each moment is as a crash might have left them before, or has batches added
-pub record AgreesTold (clients : Meaning) (contact : ℕ) (group : Id) (two : Two File) (old new : Outside) (out out' : Stream) (came : Outcome) : Type 0 where
+-- what is so where the files are told: each moment is as a crash might have left them before, or
+-- has batches added
+pub record AgreesTold (clients : Meaning) (contact : ℕ) (group : Id) (two : Two File)
+    (old new : Outside) (out out' : Stream) (came : Outcome) : Type 0 where
   pub moments : MomentsAre old new
-      (λ m. IsNow two old.links m ⊎ AgreesMoment clients contact group (stands clients (read_files two)) came (sent_of old.links.told) m)
-  pub ends : (two' : Two File) → new.files ≡ Some two' → AgreesEnds clients contact group (stands clients (read_files two)) two two' out out' came
+      (λ m. IsNow two old.links m
+      ⊎ AgreesMoment clients contact group (stands clients (read_files two)) came
+      (sent_of old.links.told) m)
+  pub ends : (two' : Two File) → new.files ≡ Some two' → AgreesEnds clients contact group
+      (stands clients (read_files two)) two two' out out' came
   -- a journal of format 1 with the last generation is not added to
   pub spent : HasLastGeneration (read_files two) → is_added came ≡ false
 
 -- a command that sets the levels that two people agreed on
-pub record HasAgreed (clients : Meaning) (contact : ℕ) (group : Id) (old new : Outside) (out out' : Stream) (came : Outcome) : Type 0 where
+pub record HasAgreed (clients : Meaning) (contact : ℕ) (group : Id) (old new : Outside)
+    (out out' : Stream) (came : Outcome) : Type 0 where
   pub run : DiskRun old new
   pub by : AddsBy old new out out' came
-  pub told : (two : Two File) → old.files ≡ Some two → AgreesTold clients contact group two old new out out' came
+  pub told : (two : Two File) → old.files ≡ Some two
+      → AgreesTold clients contact group two old new out out' came

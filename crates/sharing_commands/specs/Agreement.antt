@@ -1,5 +1,6 @@
 -- The levels that follow from what this device and a contact said in a group.
-use Rattle.std.specs.Prelude.{◌≡◌, ◌≢◌, ℕ, true, false, cond, if◌then◌else◌, nat_lt, List, [], ◌∷◌, Option, Some, is_some}
+use Rattle.std.specs.Prelude.{◌≡◌, ◌≢◌, ℕ, true, false, cond, if◌then◌else◌, nat_lt, List, [], ◌∷◌}
+use Rattle.std.specs.Prelude.{Option, Some, is_some}
 use Rattle.sync_rules.specs.declared.entries.Entry.{Entry}
 use Rattle.sync_rules.specs.declared.entries.Level.{Level}
 use Rattle.sync_rules.specs.declared.states.Refused.{Refused}
@@ -13,16 +14,20 @@ use Rattle.sharing_commands.specs.Deeds.{all_batches, all_text, target_id}
 use Rattle.sharing_commands.specs.Sayings.{sharing_test}
 use Rattle.sharing_commands.specs.Words.{said_in}
 
--- the tests of `agree`, over the journal as it was loaded: the contact is known, and the group is a known `sharing` group
+-- the tests of `agree`, over the journal as it was loaded: the contact is known, and the group is a
+-- known `sharing` group
 abbrev pub agree_test : Facts → ℕ → Id → Option Refused
-agree_test f contact group = if nat_lt contact f.contacts then sharing_test (group_at f.groups group) else Some refused.UnknownContact
+agree_test f contact group =
+    if nat_lt contact f.contacts then sharing_test (group_at f.groups group) else Some
+    refused.UnknownContact
 
 abbrev pub agreed_targets : Facts → ℕ → Id → List Target
 agreed_targets f contact group = targets_of (said_in f contact group)
 
 -- what is added to a settled journal of these facts, and what is printed
 abbrev pub agreed_batches : Meaning → ℕ → Id → Facts → List (List Entry)
-agreed_batches clients contact group f = all_batches clients contact f (agreed_targets f contact group)
+agreed_batches clients contact group f =
+    all_batches clients contact f (agreed_targets f contact group)
 
 abbrev pub agreed_text : Meaning → ℕ → Id → Facts → List ℕ
 agreed_text clients contact group f = all_text clients contact f (agreed_targets f contact group)
@@ -36,12 +41,18 @@ last_level before id (t ∷ ts) = last_level (cond (same_id (target_id t) id) t.
 
 -- what the batches of all targets leave of the levels
 pub record SetsTargetLevels (contact : ℕ) (ts : List Target) (f later : Facts) : Type 0 where
-  -- the contact's level of a group that is known then is that of the group's last target, or as before
-  pub agreed : (id : Id) → is_some (group_at later.groups id) ≡ true → level_at later.levels contact id ≡ last_level (level_at f.levels contact id) id ts
+  -- the contact's level of a group that is known then is that of the group's last target, or as
+  -- before
+  pub agreed : (id : Id) → is_some (group_at later.groups id) ≡ true
+      → level_at later.levels contact id ≡ last_level (level_at f.levels contact id) id ts
   -- and of a group that is not known, as before
-  pub unknown : (id : Id) → is_some (group_at later.groups id) ≡ false → level_at later.levels contact id ≡ level_at f.levels contact id
+  pub unknown : (id : Id) → is_some (group_at later.groups id) ≡ false
+      → level_at later.levels contact id ≡ level_at f.levels contact id
   -- so is every level for another contact
-  pub others : (other : ℕ) (id : Id) → other ≢ contact → level_at later.levels other id ≡ level_at f.levels other id
+  pub others : (other : ℕ) (id : Id) → other ≢ contact
+      → level_at later.levels other id ≡ level_at f.levels other id
 
 abbrev pub TargetsSetLevels : Type 0
-TargetsSetLevels = (clients : Meaning) (contact : ℕ) (f : Facts) (ts : List Target) → SetsTargetLevels contact ts f (after_batches f (all_batches clients contact f ts))
+TargetsSetLevels =
+    (clients : Meaning) (contact : ℕ) (f : Facts) (ts : List Target)
+    → SetsTargetLevels contact ts f (after_batches f (all_batches clients contact f ts))

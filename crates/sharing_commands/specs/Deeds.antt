@@ -1,6 +1,7 @@
--- What the levels that two people agreed on ask of a journal: entries, each a batch of its own, and a line for each group, by the
--- facts of the journal as it stands then.
-use Rattle.std.specs.Prelude.{ℕ, Bool, true, false, if◌then◌else◌, List, [], ◌∷◌, ◌++◌, codes, is_some, Result, Ok, Err}
+-- What the levels that two people agreed on ask of a journal: entries, each a batch of its own, and
+-- a line for each group, by the facts of the journal as it stands then.
+use Rattle.std.specs.Prelude.{ℕ, Bool, true, false, if◌then◌else◌, List, [], ◌∷◌, ◌++◌, codes}
+use Rattle.std.specs.Prelude.{is_some, Result, Ok, Err}
 use Rattle.hex.specs.Hex.{encode_lower}
 use Rattle.sync_ids.specs.Ids.{group_id_of}
 use Rattle.sync_rules.specs.declared.entries.Entry.{Entry}
@@ -25,7 +26,8 @@ same_level a b = false
 abbrev pub target_id : Target → Id
 target_id t = group_id_of t.def
 
--- where the group of a target is not known: an Invisible one asks for nothing, and any other for its group, where that may be added
+-- where the group of a target is not known: an Invisible one asks for nothing, and any other for
+-- its group, where that may be added
 abbrev pub deed_new : Level → Result Id Refused → Deed
 deed_new level.Invisible answer = deed.Nothing
 deed_new l (Ok id) = deed.Add
@@ -35,13 +37,15 @@ deed_new l (Err why) = deed.Skip
 abbrev pub deed_of : Meaning → ℕ → Facts → Target → Deed
 deed_of clients contact f t =
     if is_some (group_at f.groups (target_id t))
-    then (if same_level (level_at f.levels contact (target_id t)) t.level then deed.Keep else deed.Set)
+    then (if same_level (level_at f.levels contact (target_id t)) t.level then deed.Keep else
+    deed.Set)
     else deed_new t.level (group_answer clients f t.def)
 
 -- the batches of a deed
 abbrev pub deed_batches : ℕ → Target → Deed → List (List Entry)
 deed_batches contact t deed.Set = (entry.Level contact (target_id t) t.level ∷ []) ∷ []
-deed_batches contact t deed.Add = (entry.Group t.def ∷ []) ∷ (entry.Level contact (target_id t) t.level ∷ []) ∷ []
+deed_batches contact t deed.Add =
+    (entry.Group t.def ∷ []) ∷ (entry.Level contact (target_id t) t.level ∷ []) ∷ []
 deed_batches contact t d = []
 
 -- a group that is agreed on and can't be added
@@ -66,9 +70,11 @@ text_for clients contact f t = deed_text contact (target_id t) t.level (deed_of 
 abbrev pub all_batches : Meaning → ℕ → Facts → List Target → List (List Entry)
 all_batches clients contact f [] = []
 all_batches clients contact f (t ∷ ts) =
-    batches_for clients contact f t ++ all_batches clients contact (after_batches f (batches_for clients contact f t)) ts
+    batches_for clients contact f t
+    ++ all_batches clients contact (after_batches f (batches_for clients contact f t)) ts
 
 abbrev pub all_text : Meaning → ℕ → Facts → List Target → List ℕ
 all_text clients contact f [] = []
 all_text clients contact f (t ∷ ts) =
-    text_for clients contact f t ++ all_text clients contact (after_batches f (batches_for clients contact f t)) ts
+    text_for clients contact f t
+    ++ all_text clients contact (after_batches f (batches_for clients contact f t)) ts

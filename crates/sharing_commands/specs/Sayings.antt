@@ -1,14 +1,14 @@
--- What `say` adds to a journal: a message of a `sharing` group that says that its author joins a group or leaves it, by the
--- facts of the journal as it was loaded.
-use Rattle.std.specs.Prelude.{Bool, true, false, cond, ◌&&◌, if◌then◌else◌, List, [], ◌∷◌, replicate, Option, Some, None}
+-- What `say` adds to a journal: a message of a `sharing` group that says that its author joins a
+-- group or leaves it, by the facts of the journal as it was loaded.
+use Rattle.std.specs.Prelude.{Bool, false, cond, ◌&&◌, if◌then◌else◌, List, [], ◌∷◌, replicate}
+use Rattle.std.specs.Prelude.{Option, Some, None}
 use Rattle.sync_ids.specs.Values.{MessageValue}
-use Rattle.sync_rules.specs.declared.states.Origin.{Origin}
-use Rattle.sync_rules.specs.declared.states.Origin.TheVariants as origin
 use Rattle.sync_rules.specs.declared.states.Refused.{Refused}
 use Rattle.sync_rules.specs.declared.states.Refused.TheVariants as refused
 use Rattle.sync_rules.specs.Clients.{Meaning}
 use Rattle.sync_rules.specs.Facts.{Facts, Held, Id, Known, group_at, held_at}
 use Rattle.sync_rules.specs.Lists.{same_id}
+use Rattle.sync_rules.specs.Sessions.{is_author}
 use Rattle.store_commands.specs.Plans.{Plan, refuses, message_plan}
 use Rattle.store_commands.specs.Post.{message_of}
 use Rattle.client_sharing.specs.declared.bodies.Saying.{Saying}
@@ -24,10 +24,6 @@ sharing_test (Some g) = if is_sharing g.def then None else Some refused.NotShari
 
 -- ---- the previous message of its author
 
-abbrev pub is_author : Origin → Bool
-is_author origin.Author = true
-is_author (origin.From contact) = false
-
 -- a held message of the group that was written here
 abbrev pub is_own : Id → Option Held → Bool
 is_own group None = false
@@ -42,7 +38,8 @@ abbrev pub last_own : Facts → Id → Id → List Id → Id
 last_own f group earlier [] = earlier
 last_own f group earlier (id ∷ ids) = last_own f group (own_or f group earlier id) ids
 
--- the delivered message of the group that was written here and delivered last; 32 zero bytes where there is none
+-- the delivered message of the group that was written here and delivered last; 32 zero bytes where
+-- there is none
 abbrev pub previous_own : Facts → Id → Id
 previous_own f group = last_own f group (replicate 32 0) f.delivered
 

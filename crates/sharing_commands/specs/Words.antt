@@ -10,7 +10,8 @@ use Rattle.client_sharing.specs.declared.agreement.Said.{Said}
 use Rattle.client_sharing.specs.declared.bodies.Saying.{Saying}
 use Rattle.client_sharing.specs.Bodies.{saying_of}
 
--- whose word a message is: one of this device, or of the contact; that of another contact is neither's
+-- whose word a message is: one of this device, or of the contact; that of another contact is
+-- neither's
 abbrev pub side_of : ℕ → Origin → Option Bool
 side_of contact origin.Author = Some true
 side_of contact (origin.From c) = cond (nat_eq c contact) (Some false) None
@@ -22,7 +23,8 @@ said_as side saying = None
 
 -- a message of this origin
 abbrev pub said_by : ℕ → Id → Origin → MessageValue → Option Said
-said_by contact group from m = cond (same_id m.group group) (said_as (side_of contact from) (saying_of m.body)) None
+said_by contact group from m =
+    cond (same_id m.group group) (said_as (side_of contact from) (saying_of m.body)) None
 
 abbrev pub words_of : Option Said → List Said
 words_of None = []

@@ -2,7 +2,8 @@
 ghost use Rattle.std.specs.Prelude.{◌≡◌, ◌&&◌, ◌<◌, length, slice_get, Some};
 ghost use Rattle.sync_rules.specs.Facts.{Id, held_at};
 ghost use Rattle.sync_rules.specs.Lists.{same_id};
-ghost use Rattle.sharing_commands.specs.Sayings.{is_author, own_or, previous_own};
+ghost use Rattle.sync_rules.specs.Sessions.{is_author};
+ghost use Rattle.sharing_commands.specs.Sayings.{own_or, previous_own};
 
 use sync_ids::{Fixed, GroupId, Message, MessageId};
 use sync_rules::Origin;

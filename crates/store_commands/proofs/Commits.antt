@@ -1,7 +1,9 @@
 -- From the batch that is added to the entry and its line.
-use Rattle.std.proofs.Common.{◌≡◌, ℕ, ◌<◌, false, true, List, [], ◌∷◌, ◌++◌, length, refl, sym, ap, ◌∙◌, subst, inl, arith, append-nil, Some, Result, Ok, Err}
+use Rattle.std.proofs.Common.{◌≡◌, ℕ, ◌<◌, false, true, List, [], ◌∷◌, ◌++◌, length, refl, sym, ap}
+use Rattle.std.proofs.Common.{◌∙◌, subst, inl, arith, append-nil, Some, Result, Ok, Err}
 use Rattle.std.proofs.lemmas.List.{ext_get_or}
-use Rattle.outside.specs.Files.{Two, File, IsFileImage, IsImage, NothingPending, read_files, settled}
+use Rattle.outside.specs.Files.{Two, File, IsFileImage, IsImage, NothingPending, read_files}
+use Rattle.outside.specs.Files.{settled}
 use Rattle.outside.specs.Links.{sent_of}
 use Rattle.outside.specs.Outside.{Outside, Moment, DiskRun}
 use Rattle.outside.proofs.CallSteps.{moments_none, run_none}
@@ -26,22 +28,29 @@ use Rattle.store_commands.specs.Shown.{added_text}
 settled_only : (bytes left : List ℕ) → IsFileImage (settled bytes) left → left ≡ bytes
 settled_only bytes left image =
     let long : length left ≡ length bytes = omega (arith, image.no_shorter, image.no_longer) in
-    ext_get_or 0 left bytes long (λ i below. let within : i < length bytes = omega (arith, below, long) in image.kept i within refl)
+    ext_get_or 0 left bytes long (λ i below. let within : i < length bytes =
+    omega (arith, below, long) in image.kept i within refl)
 
-file_only : (file : File) (left : List ℕ) → file ≡ settled file.now → IsFileImage file left → left ≡ file.now
-file_only file left pending image = settled_only file.now left (subst (λ (f : File). IsFileImage f left) pending image)
+file_only : (file : File) (left : List ℕ) → file ≡ settled file.now → IsFileImage file left
+    → left ≡ file.now
+file_only file left pending image =
+    settled_only file.now left (subst (λ (f : File). IsFileImage f left) pending image)
 
-files_only : (two : Two File) (left : Two (List ℕ)) → NothingPending two 0 → NothingPending two 1 → IsImage two left → left ≡ read_files two
+files_only : (two : Two File) (left : Two (List ℕ)) → NothingPending two 0 → NothingPending two 1
+    → IsImage two left → left ≡ read_files two
 files_only two left first second image =
     let one : left.first ≡ two.first.now = file_only two.first left.first first image.first in
-    let other : left.second ≡ two.second.now = file_only two.second left.second second image.second in
+    let other : left.second ≡ two.second.now =
+    file_only two.second left.second second image.second in
     let with_first : List ℕ → Two (List ℕ) = λ a. record { first = a; second = left.second } in
     let with_second : List ℕ → Two (List ℕ) = λ a. record { first = two.first.now; second = a } in
     ap with_first one ∙ ap with_second other
 
 -- each moment of now stands for the journal that the disk fits
-still_moment : (clients : Meaning) (s : StoreValue) (batch : List Entry) (j : List (List Entry)) (two : Two File) (o : Outside) → o.files ≡ Some two → FitsFiles clients s j two → (m : Moment)
-    → o.moments o.clock m → JournalMoment clients (GoesOnByBatch clients j batch) (sent_of o.links.told) m
+still_moment : (clients : Meaning) (s : StoreValue) (batch : List Entry) (j : List (List Entry))
+    (two : Two File) (o : Outside) → o.files ≡ Some two → FitsFiles clients s j two → (m : Moment)
+    → o.moments o.clock m
+    → JournalMoment clients (GoesOnByBatch clients j batch) (sent_of o.links.told) m
 still_moment clients s batch j two o files fits m w =
     let now = o.now_is two m files w in
     let same = files_only two m.files fits.first_settled fits.second_settled now.image in
@@ -53,7 +62,8 @@ still_moment clients s batch j two o files fits m w =
     }
 
 -- memory was wanting before any call
-pub entry_none : (clients : Meaning) (settling : Settling) (s : StoreValue) (e : Entry) (o : Outside) (out out' : Stream) (came : Outcome) → came ≡ outcome.Memory → IsIdle out out'
+pub entry_none : (clients : Meaning) (settling : Settling) (s : StoreValue) (e : Entry)
+    (o : Outside) (out out' : Stream) (came : Outcome) → came ≡ outcome.Memory → IsIdle out out'
     → EntryAdded clients settling s e o o out out' came
 entry_none clients settling s e o out out' came is idle =
     subst (λ (c : Outcome). EntryAdded clients settling s e o o out out' c) (sym is) (record {
@@ -69,53 +79,67 @@ entry_none clients settling s e o out out' came is idle =
 
 -- ---- the line
 
-printed_by : (o o2 : Outside) (out out' : Stream) (text : List ℕ) (came : Outcome) → PrintsText text out out' came → AddsBy o o2 out out' came
+printed_by : (o o2 : Outside) (out out' : Stream) (text : List ℕ) (came : Outcome)
+    → PrintsText text out out' came → AddsBy o o2 out out' came
 printed_by o o2 out out' text outcome.Done p = tt
 printed_by o o2 out out' text outcome.WriteFault p = p.0
 printed_by o o2 out out' text outcome.Memory p = p
 printed_by o o2 out out' text _ p = absurd p
 
-printed_late : (out out' : Stream) (text : List ℕ) (came : Outcome) → PrintsText text out out' came → is_late came ≡ true
+printed_late : (out out' : Stream) (text : List ℕ) (came : Outcome) → PrintsText text out out' came
+    → is_late came ≡ true
 printed_late out out' text outcome.Done p = refl
 printed_late out out' text outcome.WriteFault p = refl
 printed_late out out' text outcome.Memory p = refl
 printed_late out out' text _ p = absurd p
 
-printed_ends : (clients : Meaning) (settling : Settling) (j : List (List Entry)) (e : Entry) (out out' : Stream) (came : Outcome) (two two' : Two File) → IsAdded clients settling j (e ∷ []) two'
-    → PrintsText (added_text e) out out' came → EntryEnds clients settling j e out out' came two two'
+printed_ends : (clients : Meaning) (settling : Settling) (j : List (List Entry)) (e : Entry)
+    (out out' : Stream) (came : Outcome) (two two' : Two File)
+    → IsAdded clients settling j (e ∷ []) two'
+    → PrintsText (added_text e) out out' came
+    → EntryEnds clients settling j e out out' came two two'
 printed_ends clients settling j e out out' outcome.Done two two' added p = (added, p)
 printed_ends clients settling j e out out' outcome.WriteFault two two' added p = (added, p.1)
 printed_ends clients settling j e out out' outcome.Memory two two' added p = tt
 printed_ends clients settling j e out out' _ two two' added p = absurd p
 
 -- what is told of a batch, for the batch of an entry
-of_entry : (clients : Meaning) (settling : Settling) (two : Two File) (o o2 : Outside) (j : List (List Entry)) (e : Entry) (batch : List Entry) (result : Result (Unit {0}) Outcome)
-    → batch ≡ e ∷ [] → ExtendsTold clients settling j batch two o o2 result → ExtendsTold clients settling j (e ∷ []) two o o2 result
+of_entry : (clients : Meaning) (settling : Settling) (two : Two File) (o o2 : Outside)
+    (j : List (List Entry)) (e : Entry) (batch : List Entry) (result : Result (Unit {0}) Outcome)
+    → batch ≡ e ∷ [] → ExtendsTold clients settling j batch two o o2 result
+    → ExtendsTold clients settling j (e ∷ []) two o o2 result
 of_entry clients settling two o o2 j e batch result is told =
     subst (λ (b : List Entry). ExtendsTold clients settling j b two o o2 result) is told
 
-pub entry_printed : (clients : Meaning) (settling : Settling) (s : StoreValue) (e : Entry) (o o2 : Outside) (out out' : Stream) (text : List ℕ) (batch : List Entry) (u : Unit {0}) (came : Outcome)
+pub entry_printed : (clients : Meaning) (settling : Settling) (s : StoreValue) (e : Entry)
+    (o o2 : Outside) (out out' : Stream) (text : List ℕ) (batch : List Entry) (u : Unit {0})
+    (came : Outcome)
     → batch ≡ e ∷ [] → text ≡ added_text e → DiskRun o o2
-    → ((two : Two File) → o.files ≡ Some two → (j : List (List Entry)) → FitsFiles clients s j two → ExtendsTold clients settling j batch two o o2 (Ok u))
+    → ((two : Two File) → o.files ≡ Some two → (j : List (List Entry)) → FitsFiles clients s j two
+    → ExtendsTold clients settling j batch two o o2 (Ok u))
     → PrintsText text out out' came → EntryAdded clients settling s e o o2 out out' came
 entry_printed clients settling s e o o2 out out' text batch u came is line run told printed =
-    let p : PrintsText (added_text e) out out' came = subst (λ (t : List ℕ). PrintsText t out out' came) line printed in
+    let p : PrintsText (added_text e) out out' came =
+    subst (λ (t : List ℕ). PrintsText t out out' came) line printed in
     record {
       run = run;
       by = printed_by o o2 out out' (added_text e) came p;
       late = printed_late out out' (added_text e) came p;
       told = λ two files j fits.
-          let went = of_entry clients settling two o o2 j e batch (Ok u) is (told two files j fits) in
+          let went = of_entry clients settling two o o2 j e batch (Ok u) is
+          (told two files j fits) in
           record {
             moments = went.moments;
-            ends = λ two' files'. printed_ends clients settling j e out out' came two two' (went.ends two' files') p;
+            ends = λ two' files'.
+                printed_ends clients settling j e out out' came two two' (went.ends two' files') p;
             spent = λ last. absurd (went.spent last);
           };
     }
 
 -- ---- the batch was not added
 
-failed_by : (o o2 : Outside) (out out' : Stream) (came : Outcome) → IsIdle out out' → ExtendsBy o o2 (Err came) → AddsBy o o2 out out' came
+failed_by : (o o2 : Outside) (out out' : Stream) (came : Outcome) → IsIdle out out' → ExtendsBy o o2
+    (Err came) → AddsBy o o2 out out' came
 failed_by o o2 out out' outcome.Full idle by = idle
 failed_by o o2 out out' outcome.DiskFault idle by = (by, idle)
 failed_by o o2 out out' outcome.Memory idle by = idle
@@ -127,32 +151,39 @@ failed_late o o2 outcome.DiskFault by = refl
 failed_late o o2 outcome.Memory by = refl
 failed_late o o2 _ by = absurd by
 
-failed_ends : (clients : Meaning) (settling : Settling) (o o2 : Outside) (j : List (List Entry)) (e : Entry) (out out' : Stream) (came : Outcome) (two two' : Two File)
-    → ExtendsBy o o2 (Err came) → ExtendsEnds clients settling j (e ∷ []) (Err came) two two' → EntryEnds clients settling j e out out' came two two'
+failed_ends : (clients : Meaning) (settling : Settling) (o o2 : Outside) (j : List (List Entry))
+    (e : Entry) (out out' : Stream) (came : Outcome) (two two' : Two File)
+    → ExtendsBy o o2 (Err came) → ExtendsEnds clients settling j (e ∷ []) (Err came) two two'
+    → EntryEnds clients settling j e out out' came two two'
 failed_ends clients settling o o2 j e out out' outcome.Full two two' by ends = ends
 failed_ends clients settling o o2 j e out out' outcome.DiskFault two two' by ends = tt
 failed_ends clients settling o o2 j e out out' outcome.Memory two two' by ends = tt
 failed_ends clients settling o o2 j e out out' _ two two' by ends = absurd by
 
-failed_unadded : (o o2 : Outside) (came : Outcome) → ExtendsBy o o2 (Err came) → is_added came ≡ false
+failed_unadded : (o o2 : Outside) (came : Outcome) → ExtendsBy o o2 (Err came)
+    → is_added came ≡ false
 failed_unadded o o2 outcome.Full by = refl
 failed_unadded o o2 outcome.DiskFault by = refl
 failed_unadded o o2 outcome.Memory by = refl
 failed_unadded o o2 _ by = absurd by
 
-pub entry_failed : (clients : Meaning) (settling : Settling) (s : StoreValue) (e : Entry) (o o2 : Outside) (out out' : Stream) (batch : List Entry) (came : Outcome)
+pub entry_failed : (clients : Meaning) (settling : Settling) (s : StoreValue) (e : Entry)
+    (o o2 : Outside) (out out' : Stream) (batch : List Entry) (came : Outcome)
     → batch ≡ e ∷ [] → IsIdle out out' → DiskRun o o2 → ExtendsBy o o2 (Err came)
-    → ((two : Two File) → o.files ≡ Some two → (j : List (List Entry)) → FitsFiles clients s j two → ExtendsTold clients settling j batch two o o2 (Err came))
+    → ((two : Two File) → o.files ≡ Some two → (j : List (List Entry)) → FitsFiles clients s j two
+    → ExtendsTold clients settling j batch two o o2 (Err came))
     → EntryAdded clients settling s e o o2 out out' came
 entry_failed clients settling s e o o2 out out' batch came is idle run by told = record {
   run = run;
   by = failed_by o o2 out out' came idle by;
   late = failed_late o o2 came by;
   told = λ two files j fits.
-      let went = of_entry clients settling two o o2 j e batch (Err came) is (told two files j fits) in
+      let went = of_entry clients settling two o o2 j e batch (Err came) is
+      (told two files j fits) in
       record {
         moments = went.moments;
-        ends = λ two' files'. failed_ends clients settling o o2 j e out out' came two two' by (went.ends two' files');
+        ends = λ two' files'.
+            failed_ends clients settling o o2 j e out out' came two two' by (went.ends two' files');
         spent = λ last. failed_unadded o o2 came by;
       };
 }

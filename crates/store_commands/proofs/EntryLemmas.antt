@@ -1,5 +1,6 @@
 -- An entry that is added, from the loaded store to the line.
-use Rattle.std.proofs.Common.{◌≡◌, ◌⊎◌, ℕ, ◌≤◌, Bool, false, true, List, [], ◌∷◌, sym, ap, ◌∙◌, subst, refl, inl, inr, arith, Some, Ok, Err}
+use Rattle.std.proofs.Common.{◌≡◌, ◌⊎◌, ℕ, ◌≤◌, Bool, false, true, List, [], ◌∷◌, sym, ap, ◌∙◌}
+use Rattle.std.proofs.Common.{subst, refl, inl, inr, arith, Some, Ok, Err}
 use Rattle.outside.specs.Faults.{CountRose}
 use Rattle.outside.specs.Files.{Two, File, read_files}
 use Rattle.outside.specs.Links.{Links, sent_of}
@@ -15,7 +16,8 @@ use Rattle.sync_store.specs.Fitting.{FitsFiles}
 use Rattle.sync_store.specs.Moments.{JournalMoment}
 use Rattle.sync_words.specs.declared.outcome.Outcome.{Outcome}
 use Rattle.sync_words.specs.declared.outcome.Outcome.TheVariants as outcome
-use Rattle.store_commands.specs.Entries.{AddsBy, AddsEnds, AddsMoment, EntryAdded, EntryEnds, HasAdded, is_added, is_late}
+use Rattle.store_commands.specs.Entries.{AddsBy, AddsEnds, AddsMoment, EntryAdded, EntryEnds}
+use Rattle.store_commands.specs.Entries.{HasAdded, is_added, is_late}
 use Rattle.store_commands.specs.declared.commit.Settling.{Settling}
 use Rattle.store_commands.specs.Commit.{GoesOnByBatch, HasLastGeneration, IsFull}
 use Rattle.outside.specs.Streams.{Stream, IsIdle}
@@ -24,61 +26,84 @@ use Rattle.store_commands.specs.Show.{KeepsFiles, LeavesFilesSo}
 use Rattle.store_commands.specs.Plans.{Plan, adds, refuses}
 
 -- moments of loading alone
-rest_moments : (clients : Meaning) (plan : Facts → Plan) (standing : Standing) (came : Outcome) (P : Two File → Type 0) (two : Two File) (o o1 : Outside) → LeavesFilesSo P two o o1
-    → MomentsAre o o1 (λ m. IsNow two o.links m ⊎ AddsMoment clients plan standing came (sent_of o.links.told) m)
-rest_moments clients plan standing came P two o o1 rests = moments_map o o1 _ _ (λ m w. inl w) rests.moments
+rest_moments : (clients : Meaning) (plan : Facts → Plan) (standing : Standing) (came : Outcome)
+    (P : Two File → Type 0) (two : Two File) (o o1 : Outside) → LeavesFilesSo P two o o1
+    → MomentsAre o o1 (λ m. IsNow two o.links m
+    ⊎ AddsMoment clients plan standing came (sent_of o.links.told) m)
+rest_moments clients plan standing came P two o o1 rests =
+    moments_map o o1 _ _ (λ m w. inl w) rests.moments
 
 -- ---- no store was loaded
 
-none_by : (old new : Outside) (out out' : Stream) (came : Outcome) → IsIdle out out' → LoadedBy old new (Err came) → AddsBy old new out out' came
+none_by : (old new : Outside) (out out' : Stream) (came : Outcome) → IsIdle out out'
+    → LoadedBy old new (Err came) → AddsBy old new out out' came
 none_by old new out out' outcome.DiskFault idle by = (by, idle)
 none_by old new out out' outcome.NoStore idle by = idle
 none_by old new out out' (outcome.Damaged place) idle by = idle
 none_by old new out out' outcome.Memory idle by = idle
 none_by old new out out' _ idle by = absurd by
 
-none_ends : (clients : Meaning) (plan : Facts → Plan) (settling : Settling) (standing : Standing) (two two' : Two File) (old new : Outside) (out out' : Stream) (came : Outcome)
-    → LoadedBy old new (Err came) → IsLoaded standing (Err came) → KeepsFiles came two two' → AddsEnds clients plan settling standing two two' out out' came
-none_ends clients plan settling standing two two' old new out out' outcome.DiskFault by loaded same = tt
-none_ends clients plan settling standing two two' old new out out' outcome.NoStore by loaded same = (loaded, same)
-none_ends clients plan settling standing two two' old new out out' (outcome.Damaged place) by loaded same = (loaded, same)
-none_ends clients plan settling standing two two' old new out out' outcome.Memory by loaded same = tt
+none_ends : (clients : Meaning) (plan : Facts → Plan) (settling : Settling) (standing : Standing)
+    (two two' : Two File) (old new : Outside) (out out' : Stream) (came : Outcome)
+    → LoadedBy old new (Err came) → IsLoaded standing (Err came) → KeepsFiles came two two'
+    → AddsEnds clients plan settling standing two two' out out' came
+none_ends clients plan settling standing two two' old new out out' outcome.DiskFault by loaded
+    same = tt
+none_ends clients plan settling standing two two' old new out out' outcome.NoStore by loaded same =
+    (loaded, same)
+none_ends clients plan settling standing two two' old new out out' (outcome.Damaged place) by loaded
+    same = (loaded, same)
+none_ends clients plan settling standing two two' old new out out' outcome.Memory by loaded same =
+    tt
 none_ends clients plan settling standing two two' old new out out' _ by loaded same = absurd by
 
-none_unadded : (old new : Outside) (came : Outcome) → LoadedBy old new (Err came) → is_added came ≡ false
+none_unadded : (old new : Outside) (came : Outcome) → LoadedBy old new (Err came)
+    → is_added came ≡ false
 none_unadded old new outcome.DiskFault by = refl
 none_unadded old new outcome.NoStore by = refl
 none_unadded old new (outcome.Damaged place) by = refl
 none_unadded old new outcome.Memory by = refl
 none_unadded old new _ by = absurd by
 
-pub added_none : (clients : Meaning) (plan : Facts → Plan) (settling : Settling) (old new : Outside) (out out' : Stream) (came : Outcome) → DiskRun old new
-    → ((two : Two File) → old.files ≡ Some two → LeavesFilesSo (LoadKeeps (Err came) two) two old new) → LoadedBy old new (Err came)
-    → ((two : Two File) → old.files ≡ Some two → IsLoaded (stands clients (read_files two)) (Err came)) → IsIdle out out' → HasAdded clients plan settling old new out out' came
+pub added_none : (clients : Meaning) (plan : Facts → Plan) (settling : Settling) (old new : Outside)
+    (out out' : Stream) (came : Outcome) → DiskRun old new
+    → ((two : Two File) → old.files ≡ Some two
+    → LeavesFilesSo (LoadKeeps (Err came) two) two old new) → LoadedBy old new (Err came)
+    → ((two : Two File) → old.files ≡ Some two
+    → IsLoaded (stands clients (read_files two)) (Err came)) → IsIdle out out'
+    → HasAdded clients plan settling old new out out' came
 added_none clients plan settling old new out out' came run rests by loaded idle = record {
   run = run;
   by = none_by old new out out' came idle by;
   told = λ two told. record {
-    moments = rest_moments clients plan (stands clients (read_files two)) came _ two old new (rests two told);
+    moments = rest_moments clients plan (stands clients (read_files two)) came _ two old new
+        (rests two told);
     ends = λ two' told'.
-        none_ends clients plan settling (stands clients (read_files two)) two two' old new out out' came by (loaded two told) ((rests two told).kept two' told');
+        none_ends clients plan settling (stands clients (read_files two)) two two' old new out out'
+        came by (loaded two told) ((rests two told).kept two' told');
     spent = λ last. none_unadded old new came by;
   };
 }
 
 -- ---- the command is refused
 
-pub added_refused : (clients : Meaning) (plan : Facts → Plan) (settling : Settling) (old new : Outside) (out out' : Stream) (s : StoreValue) (why : Refused) → DiskRun old new
-    → ((two : Two File) → old.files ≡ Some two → LeavesFilesSo (LoadKeeps (Ok s) two) two old new) → ((two : Two File) → old.files ≡ Some two → HasFacts (stands clients (read_files two)) s)
-    → plan s.state.facts ≡ refuses why → IsIdle out out' → HasAdded clients plan settling old new out out' (outcome.Refused why)
+pub added_refused : (clients : Meaning) (plan : Facts → Plan) (settling : Settling)
+    (old new : Outside) (out out' : Stream) (s : StoreValue) (why : Refused) → DiskRun old new
+    → ((two : Two File) → old.files ≡ Some two → LeavesFilesSo (LoadKeeps (Ok s) two) two old new)
+    → ((two : Two File) → old.files ≡ Some two → HasFacts (stands clients (read_files two)) s)
+    → plan s.state.facts ≡ refuses why → IsIdle out out'
+    → HasAdded clients plan settling old new out out' (outcome.Refused why)
 added_refused clients plan settling old new out out' s why run rests loaded planned idle = record {
   run = run;
   by = idle;
   told = λ two told. record {
-    moments = rest_moments clients plan (stands clients (read_files two)) (outcome.Refused why) _ two old new (rests two told);
+    moments = rest_moments clients plan (stands clients (read_files two)) (outcome.Refused why) _
+        two old new (rests two told);
     ends = λ two' told'.
-        let has = loaded two told in
-        (record { before = has.of; stood = has.stood; planned = ap plan has.are ∙ planned }, (rests two told).kept two' told');
+        let has = loaded two told in (
+          record { before = has.of; stood = has.stood; planned = ap plan has.are ∙ planned },
+          (rests two told).kept two' told',
+        );
     spent = λ last. refl;
   };
 }
@@ -86,27 +111,48 @@ added_refused clients plan settling old new out out' s why run rests loaded plan
 -- ---- the entry is added
 
 -- the files before the entry read as those before the load
-full_first : (clients : Meaning) (j : List (List Entry)) (e : Entry) (two two1 two' : Two File) → read_files two1 ≡ read_files two → IsFull clients j (e ∷ []) two1 two' → IsFull clients j (e ∷ []) two two'
+full_first : (clients : Meaning) (j : List (List Entry)) (e : Entry) (two two1 two' : Two File)
+    → read_files two1 ≡ read_files two → IsFull clients j (e ∷ []) two1 two'
+    → IsFull clients j (e ∷ []) two two'
 full_first clients j e two two1 two' same (inl over) = inl over
-full_first clients j e two two1 two' same (inr spent) = inr (subst HasLastGeneration same spent.0, spent.1 ∙ same)
+full_first clients j e two two1 two' same (inr spent) =
+    inr (subst HasLastGeneration same spent.0, spent.1 ∙ same)
 
-entry_ends : (clients : Meaning) (plan : Facts → Plan) (settling : Settling) (standing : Standing) (two two1 two' : Two File) (out out' : Stream) (j : List (List Entry)) (e : Entry) (came : Outcome)
-    → read_files two1 ≡ read_files two → is_late came ≡ true → standing ≡ journal j → plan (facts j) ≡ adds e → EntryEnds clients settling j e out out' came two1 two' → AddsEnds clients plan settling standing two two' out out' came
-entry_ends clients plan settling standing two two1 two' out out' j e outcome.Done same late stood planned ends =
+entry_ends : (clients : Meaning) (plan : Facts → Plan) (settling : Settling) (standing : Standing)
+    (two two1 two' : Two File) (out out' : Stream) (j : List (List Entry)) (e : Entry)
+    (came : Outcome)
+    → read_files two1 ≡ read_files two → is_late came ≡ true → standing ≡ journal j
+    → plan (facts j) ≡ adds e → EntryEnds clients settling j e out out' came two1 two'
+    → AddsEnds clients plan settling standing two two' out out' came
+entry_ends clients plan settling standing two two1 two' out out' j e outcome.Done same late stood
+    planned ends =
     record { before = j; entry = e; stood = stood; planned = planned; leads = ends }
-entry_ends clients plan settling standing two two1 two' out out' j e outcome.WriteFault same late stood planned ends =
+entry_ends clients plan settling standing two two1 two' out out' j e outcome.WriteFault same late
+    stood planned ends =
     record { before = j; entry = e; stood = stood; planned = planned; leads = ends }
-entry_ends clients plan settling standing two two1 two' out out' j e outcome.Full same late stood planned ends =
-    record { before = j; entry = e; stood = stood; planned = planned; leads = full_first clients j e two two1 two' same ends }
-entry_ends clients plan settling standing two two1 two' out out' j e outcome.Memory same late stood planned ends = tt
-entry_ends clients plan settling standing two two1 two' out out' j e outcome.DiskFault same late stood planned ends = tt
-entry_ends clients plan settling standing two two1 two' out out' j e _ same late stood planned ends = cc
+entry_ends clients plan settling standing two two1 two' out out' j e outcome.Full same late stood
+    planned ends =
+    record {
+      before = j;
+      entry = e;
+      stood = stood;
+      planned = planned;
+      leads = full_first clients j e two two1 two' same ends;
+    }
+entry_ends clients plan settling standing two two1 two' out out' j e outcome.Memory same late stood
+    planned ends = tt
+entry_ends clients plan settling standing two two1 two' out out' j e outcome.DiskFault same late
+    stood planned ends = tt
+entry_ends clients plan settling standing two two1 two' out out' j e _ same late stood planned
+    ends = cc
 
 rose_before : (a b c : ℕ) → a ≤ b → CountRose b c → CountRose a c
 rose_before a b c later rose = omega arith
 
-by_later : (o o1 o2 : Outside) (out out' : Stream) (came : Outcome) → o.disk_faults ≤ o1.disk_faults → AddsBy o1 o2 out out' came → AddsBy o o2 out out' came
-by_later o o1 o2 out out' outcome.DiskFault later by = (rose_before o.disk_faults o1.disk_faults o2.disk_faults later by.0, by.1)
+by_later : (o o1 o2 : Outside) (out out' : Stream) (came : Outcome) → o.disk_faults ≤ o1.disk_faults
+    → AddsBy o1 o2 out out' came → AddsBy o o2 out out' came
+by_later o o1 o2 out out' outcome.DiskFault later by =
+    (rose_before o.disk_faults o1.disk_faults o2.disk_faults later by.0, by.1)
 by_later o o1 o2 out out' outcome.Done later by = by
 by_later o o1 o2 out out' outcome.WriteFault later by = by
 by_later o o1 o2 out out' outcome.Full later by = by
@@ -117,11 +163,17 @@ by_later o o1 o2 out out' (outcome.Damaged place) later by = by
 by_later o o1 o2 out out' _ later by = absurd by
 
 -- the journal that the disk fits is the one that the files stood for
-same_journal : (clients : Meaning) (s : StoreValue) (two two1 : Two File) (j : List (List Entry)) → read_files two1 ≡ read_files two → FitsFiles clients s j two1 → stands clients (read_files two) ≡ journal j
+same_journal : (clients : Meaning) (s : StoreValue) (two two1 : Two File) (j : List (List Entry))
+    → read_files two1 ≡ read_files two → FitsFiles clients s j two1
+    → stands clients (read_files two) ≡ journal j
 same_journal clients s two two1 j same fits = ap (stands clients) (sym same) ∙ fits.stands_for
 
-pub added_entry : (clients : Meaning) (plan : Facts → Plan) (settling : Settling) (o o1 o2 : Outside) (out out' : Stream) (s : StoreValue) (e : Entry) (came : Outcome) → DiskRun o o1
-    → ((two : Two File) → o.files ≡ Some two → LeavesFilesSo (LoadKeeps (Ok s) two) two o o1) → MayExtend clients s o1.files → plan s.state.facts ≡ adds e → EntryAdded clients settling s e o1 o2 out out' came
+pub added_entry : (clients : Meaning) (plan : Facts → Plan) (settling : Settling)
+    (o o1 o2 : Outside) (out out' : Stream) (s : StoreValue) (e : Entry) (came : Outcome)
+    → DiskRun o o1
+    → ((two : Two File) → o.files ≡ Some two → LeavesFilesSo (LoadKeeps (Ok s) two) two o o1)
+    → MayExtend clients s o1.files → plan s.state.facts ≡ adds e
+    → EntryAdded clients settling s e o1 o2 out out' came
     → HasAdded clients plan settling o o2 out out' came
 added_entry clients plan settling o o1 o2 out out' s e came run rests ready planned added = record {
   run = run_then o o1 o2 run added.run;
@@ -135,7 +187,8 @@ added_entry clients plan settling o o1 o2 out out' s e came run rests ready plan
       let went = added.told told1.0 told1.1 fit.0 fit.1 in
       record {
         moments =
-            moments_then o o1 o2 _ (rest_moments clients plan (stands clients (read_files two)) came _ two o o1 rest)
+            moments_then o o1 o2 _
+            (rest_moments clients plan (stands clients (read_files two)) came _ two o o1 rest)
             (moments_map o1 o2 _ _ (λ m w. inr (
               added.late,
               record {
@@ -143,11 +196,16 @@ added_entry clients plan settling o o1 o2 out out' s e came run rests ready plan
                 entry = e;
                 stood = stood;
                 planned = plans;
-                leads = subst (λ (l : Links). JournalMoment clients (GoesOnByBatch clients fit.0 (e ∷ [])) (sent_of l.told) m) run.same_links w;
+                leads =
+                    subst (λ (l : Links).
+                    JournalMoment clients (GoesOnByBatch clients fit.0 (e ∷ []))
+                    (sent_of l.told) m) run.same_links w;
               },
             )) went.moments);
         ends = λ two' told'.
-            entry_ends clients plan settling (stands clients (read_files two)) two told1.0 two' out out' fit.0 e came (rest.kept told1.0 told1.1) added.late stood plans (went.ends two' told');
+            entry_ends clients plan settling (stands clients (read_files two)) two told1.0 two' out
+            out' fit.0 e came (rest.kept told1.0 told1.1) added.late stood plans
+            (went.ends two' told');
         spent = λ last. went.spent (subst HasLastGeneration (sym (rest.kept told1.0 told1.1)) last);
       };
 }

@@ -1,5 +1,7 @@
 -- Lines that are added one after the other.
-use Rattle.std.proofs.Common.{◌≡◌, ℕ, zero, suc, ◌+◌, ◌<◌, List, [], ◌∷◌, ◌++◌, length, take, Option, Some, None, refl, sym, ap, ◌∙◌, append_assoc, append-nil, add-one, arith}
+use Rattle.std.proofs.Common.{◌≡◌, ℕ, zero, suc, ◌+◌, ◌<◌, List, [], ◌∷◌, ◌++◌, length, take}
+use Rattle.std.proofs.Common.{Option, Some, None, refl, sym, ap, ◌∙◌, append_assoc, append-nil}
+use Rattle.std.proofs.Common.{add-one, arith}
 use Rattle.std.specs.Prelude.{slice_get}
 use Rattle.std.specs.List.{flat_map}
 use Rattle.std.specs.Option.{option_map}
@@ -11,22 +13,28 @@ use Rattle.sync_words.specs.HeldTexts.{inbox_text}
 use Rattle.store_commands.specs.Shown.{delivered_line}
 
 -- an index within a list names an item
-pub item_at : {A : Type 0} (xs : List A) (n : ℕ) → n < length xs → (x : A) × (slice_get xs n ≡ Some x)
+pub item_at : {A : Type 0} (xs : List A) (n : ℕ) → n < length xs
+    → (x : A) × (slice_get xs n ≡ Some x)
 item_at [] n within = absurd (omega arith)
 item_at (y ∷ ys) zero within = (y, refl)
 item_at (y ∷ ys) (suc n) within = item_at ys n (omega arith)
 
 -- the lines up to an item and its own
-take_line : {A : Type 0} (line : A → List ℕ) (xs : List A) (n : ℕ) (x : A) → slice_get xs n ≡ Some x → flat_map line (take (suc n) xs) ≡ flat_map line (take n xs) ++ line x
+take_line : {A : Type 0} (line : A → List ℕ) (xs : List A) (n : ℕ) (x : A) → slice_get xs n ≡ Some x
+    → flat_map line (take (suc n) xs) ≡ flat_map line (take n xs) ++ line x
 take_line line [] n x e = cc
 take_line line (y ∷ ys) zero x e =
     let same : y ≡ x = cc in
     append-nil (line y) ∙ ap line same
-take_line line (y ∷ ys) (suc n) x e = ap (λ z. line y ++ z) (take_line line ys n x e) ∙ sym (append_assoc (line y) (flat_map line (take n ys)) (line x))
+take_line line (y ∷ ys) (suc n) x e =
+    ap (λ z. line y ++ z) (take_line line ys n x e)
+    ∙ sym (append_assoc (line y) (flat_map line (take n ys)) (line x))
 
 -- one line more
-pub more_lines : {A : Type 0} (line : A → List ℕ) (xs : List A) (n : ℕ) (start old new : List ℕ) → n < length xs → old ≡ start ++ flat_map line (take n xs)
-    → ((x : A) → slice_get xs n ≡ Some x → new ≡ old ++ line x) → new ≡ start ++ flat_map line (take (n + 1) xs)
+pub more_lines : {A : Type 0} (line : A → List ℕ) (xs : List A) (n : ℕ) (start old new : List ℕ)
+    → n < length xs → old ≡ start ++ flat_map line (take n xs)
+    → ((x : A) → slice_get xs n ≡ Some x → new ≡ old ++ line x)
+    → new ≡ start ++ flat_map line (take (n + 1) xs)
 more_lines line xs n start old new within before more =
     let item = item_at xs n within in
     more item.0 item.1
@@ -36,17 +44,27 @@ more_lines line xs n start old new within before more =
     ∙ ap (λ k. start ++ flat_map line (take k xs)) (sym (add-one n))
 
 -- all lines
-pub all_lines : {A : Type 0} (line : A → List ℕ) (xs : List A) (start new : List ℕ) → new ≡ start ++ flat_map line (take (length xs) xs) → new ≡ start ++ flat_map line xs
-all_lines line xs start new e = e ∙ ap (λ ys. start ++ flat_map line ys) (take_all (length xs) xs (omega arith))
+pub all_lines : {A : Type 0} (line : A → List ℕ) (xs : List A) (start new : List ℕ)
+    → new ≡ start ++ flat_map line (take (length xs) xs) → new ≡ start ++ flat_map line xs
+all_lines line xs start new e =
+    e ∙ ap (λ ys. start ++ flat_map line ys) (take_all (length xs) xs (omega arith))
 
 -- the line of a message by what look-ups of its number say
-pub delivered_shown : (held : List Held) (n : ℕ) (h : Held) (id : List ℕ) (m : MessageValue) (from : Origin) → slice_get held n ≡ Some h
-    → option_map (λ h. h.id) (slice_get held n) ≡ Some id → option_map (λ h. h.message) (slice_get held n) ≡ Some m → option_map (λ h. h.origin) (slice_get held n) ≡ Some from
+pub delivered_shown : (held : List Held) (n : ℕ) (h : Held) (id : List ℕ) (m : MessageValue)
+    (from : Origin) → slice_get held n ≡ Some h
+    → option_map (λ h. h.id) (slice_get held n) ≡ Some id
+    → option_map (λ h. h.message) (slice_get held n) ≡ Some m
+    → option_map (λ h. h.origin) (slice_get held n) ≡ Some from
     → inbox_text id m.group m.timestamp from (length m.body) ≡ delivered_line (Some h)
 delivered_shown held n h id m from e named said came =
-    let same_id : h.id ≡ id = let it : Some h.id ≡ Some id = sym (ap (option_map (λ (h : Held). h.id)) e) ∙ named in cc in
-    let same_message : h.message ≡ m = let it : Some h.message ≡ Some m = sym (ap (option_map (λ (h : Held). h.message)) e) ∙ said in cc in
-    let same_origin : h.origin ≡ from = let it : Some h.origin ≡ Some from = sym (ap (option_map (λ (h : Held). h.origin)) e) ∙ came in cc in
+    let same_id : h.id ≡ id = let it : Some h.id ≡ Some id =
+    sym (ap (option_map (λ (h : Held). h.id)) e) ∙ named in cc in
+    let same_message : h.message ≡ m = let it : Some h.message ≡ Some m =
+    sym (ap (option_map (λ (h : Held). h.message)) e) ∙ said in cc in
+    let same_origin : h.origin ≡ from = let it : Some h.origin ≡ Some from =
+    sym (ap (option_map (λ (h : Held). h.origin)) e) ∙ came in cc in
     ap (λ x. inbox_text x m.group m.timestamp from (length m.body)) (sym same_id)
-    ∙ ap (λ (x : MessageValue). inbox_text h.id x.group x.timestamp from (length x.body)) (sym same_message)
-    ∙ ap (λ x. inbox_text h.id h.message.group h.message.timestamp x (length h.message.body)) (sym same_origin)
+    ∙ ap (λ (x : MessageValue). inbox_text h.id x.group x.timestamp from (length x.body))
+    (sym same_message)
+    ∙ ap (λ x. inbox_text h.id h.message.group h.message.timestamp x (length h.message.body))
+    (sym same_origin)

@@ -1,5 +1,6 @@
 -- A post, from its body to its outcome.
-use Rattle.std.proofs.Common.{◌≡◌, ℕ, ◌+◌, Bool, true, false, List, [], ◌∷◌, ◌++◌, length, sym, ap, ◌∙◌, inl, inr, arith, length-append, Some, Ok, Err}
+use Rattle.std.proofs.Common.{◌≡◌, ℕ, ◌+◌, Bool, true, false, List, [], ◌∷◌, ◌++◌, length, sym, ap}
+use Rattle.std.proofs.Common.{◌∙◌, inl, inr, arith, length-append, Some, Ok, Err}
 use Rattle.std.specs.Prelude.{◌==◌, nat_lt, is_some, if◌then◌else◌}
 use Rattle.std.specs.List.{list_all}
 use Rattle.outside.specs.Faults.{CountRose}
@@ -28,84 +29,122 @@ use Rattle.store_commands.specs.declared.commit.Settling.TheVariants as settling
 use Rattle.store_commands.specs.Entries.{EntryAdded, HasAdded, is_late}
 use Rattle.store_commands.specs.Load.{HasFacts, IsLoaded, LoadedBy, LoadKeeps, MayExtend}
 use Rattle.store_commands.specs.Show.{LeavesFilesSo}
-use Rattle.store_commands.specs.Plans.{Plan, adds, refuses, body_plan, message_plan, planned, post_plan}
-use Rattle.store_commands.specs.Post.{HasPosted, IsBody, IsPlanOfPost, IsBodyRead, PostsBody, PostStopsBy, PostStopsWhere, StopsShort, message_of}
+use Rattle.store_commands.specs.Plans.{Plan, adds, refuses, body_plan, message_plan, planned}
+use Rattle.store_commands.specs.Plans.{post_plan}
+use Rattle.store_commands.specs.Post.{HasPosted, IsBody, IsPlanOfPost, IsBodyRead, PostsBody}
+use Rattle.store_commands.specs.Post.{PostStopsBy, PostStopsWhere, StopsShort, message_of}
 use Rattle.store_commands.proofs.EntryLemmas.{added_entry, added_none, added_refused}
 
 -- ---- plans
 
-pub plan_unknown : (clients : Meaning) (f : Facts) (m : MessageValue) → is_some (group_at f.groups m.group) ≡ false → post_plan clients f m ≡ refuses refused.UnknownGroup
-plan_unknown clients f m unknown = ap (λ b. if b then body_plan clients f m else refuses refused.UnknownGroup) unknown
+pub plan_unknown : (clients : Meaning) (f : Facts) (m : MessageValue)
+    → is_some (group_at f.groups m.group) ≡ false
+    → post_plan clients f m ≡ refuses refused.UnknownGroup
+plan_unknown clients f m unknown =
+    ap (λ b. if b then body_plan clients f m else refuses refused.UnknownGroup) unknown
 
-pub plan_known : (clients : Meaning) (f : Facts) (m : MessageValue) → is_some (group_at f.groups m.group) ≡ true → post_plan clients f m ≡ body_plan clients f m
-plan_known clients f m known = ap (λ b. if b then body_plan clients f m else refuses refused.UnknownGroup) known
+pub plan_known : (clients : Meaning) (f : Facts) (m : MessageValue)
+    → is_some (group_at f.groups m.group) ≡ true → post_plan clients f m ≡ body_plan clients f m
+plan_known clients f m known =
+    ap (λ b. if b then body_plan clients f m else refuses refused.UnknownGroup) known
 
-plan_long : (clients : Meaning) (f : Facts) (m : MessageValue) → is_some (group_at f.groups m.group) ≡ true → length m.body ≡ MAX_BODY + 1 → post_plan clients f m ≡ refuses refused.BodyTooLong
+plan_long : (clients : Meaning) (f : Facts) (m : MessageValue)
+    → is_some (group_at f.groups m.group) ≡ true → length m.body ≡ MAX_BODY + 1
+    → post_plan clients f m ≡ refuses refused.BodyTooLong
 plan_long clients f m known long =
     plan_known clients f m known
-    ∙ ap (λ n. if n == 0 then refuses refused.EmptyBody else if nat_lt MAX_BODY n then refuses refused.BodyTooLong else message_plan clients f m) long
+    ∙ ap (λ n. if n == 0 then refuses refused.EmptyBody else if nat_lt MAX_BODY n then refuses
+    refused.BodyTooLong else message_plan clients f m) long
 
-judged_other : (f : Facts) (m : MessageValue) (answer : Judgement) → planned (λ (id : Id). entry.Author m) (judged_answer f m answer) ≡ refuses refused.UnknownGroup → ⊥
+judged_other : (f : Facts) (m : MessageValue) (answer : Judgement)
+    → planned (λ (id : Id). entry.Author m) (judged_answer f m answer)
+    ≡ refuses refused.UnknownGroup → ⊥
 judged_other f m judgement.Refuse is = cc
 judged_other f m (judgement.Accept deps share) is =
-    elim (list_all (is_served f m.group) deps) as (λ b. planned (λ (id : Id). entry.Author m) (if b then Ok (message_id_of m) else Err refused.DependencyNotDelivered) ≡ refuses refused.UnknownGroup → ⊥) [
+    elim (list_all (is_served f m.group) deps) as (λ b.
+    planned (λ (id : Id). entry.Author m)
+    (if b then Ok (message_id_of m) else Err refused.DependencyNotDelivered)
+    ≡ refuses refused.UnknownGroup → ⊥) [
       | true ↦ λ w. cc
       | false ↦ λ w. cc
     ] is
 
-message_other : (clients : Meaning) (f : Facts) (m : MessageValue) → is_some (group_at f.groups m.group) ≡ true → message_plan clients f m ≡ refuses refused.UnknownGroup → ⊥
+message_other : (clients : Meaning) (f : Facts) (m : MessageValue)
+    → is_some (group_at f.groups m.group) ≡ true
+    → message_plan clients f m ≡ refuses refused.UnknownGroup → ⊥
 message_other clients f m known is = by_group (is_some (group_at f.groups m.group)) known is where
-  by_held : (b : Bool) → planned (λ (id : Id). entry.Author m) (if b then Err refused.AlreadyHeld else judged_answer f m (verdict_in clients f.groups m)) ≡ refuses refused.UnknownGroup → ⊥
+  by_held : (b : Bool) → planned (λ (id : Id). entry.Author m)
+      (if b then Err refused.AlreadyHeld else judged_answer f m (verdict_in clients f.groups m))
+      ≡ refuses refused.UnknownGroup → ⊥
   by_held true w = cc
   by_held false w = judged_other f m (verdict_in clients f.groups m) w
 
   by_group : (a : Bool) → a ≡ true
-      → planned (λ (id : Id). entry.Author m) (if a then (if is_some (held_at f.held (message_id_of m)) then Err refused.AlreadyHeld else judged_answer f m (verdict_in clients f.groups m)) else Err refused.UnknownGroup)
+      → planned (λ (id : Id). entry.Author m)
+      (if a then (if is_some (held_at f.held (message_id_of m)) then Err refused.AlreadyHeld
+      else judged_answer f m (verdict_in clients f.groups m)) else Err refused.UnknownGroup)
       ≡ refuses refused.UnknownGroup → ⊥
   by_group true e w = by_held (is_some (held_at f.held (message_id_of m))) w
   by_group false e w = cc
 
-body_other : (clients : Meaning) (f : Facts) (m : MessageValue) → is_some (group_at f.groups m.group) ≡ true → body_plan clients f m ≡ refuses refused.UnknownGroup → ⊥
+body_other : (clients : Meaning) (f : Facts) (m : MessageValue)
+    → is_some (group_at f.groups m.group) ≡ true
+    → body_plan clients f m ≡ refuses refused.UnknownGroup → ⊥
 body_other clients f m known is =
-    elim (length m.body == 0) as (λ b. (if b then refuses refused.EmptyBody else if nat_lt MAX_BODY (length m.body) then refuses refused.BodyTooLong else message_plan clients f m) ≡ refuses refused.UnknownGroup → ⊥) [
+    elim (length m.body == 0) as (λ b.
+    (if b then refuses refused.EmptyBody else if nat_lt MAX_BODY (length m.body) then refuses
+    refused.BodyTooLong else message_plan clients f m) ≡ refuses refused.UnknownGroup → ⊥) [
       | true ↦ λ w. cc
       | false ↦ λ w.
-          elim (nat_lt MAX_BODY (length m.body)) as (λ b. (if b then refuses refused.BodyTooLong else message_plan clients f m) ≡ refuses refused.UnknownGroup → ⊥) [
+          elim (nat_lt MAX_BODY (length m.body)) as (λ b.
+          (if b then refuses refused.BodyTooLong else message_plan clients f m)
+          ≡ refuses refused.UnknownGroup → ⊥) [
             | true ↦ λ v. cc
             | false ↦ λ v. message_other clients f m known v
           ] w
     ] is
 
 -- the id that comes with a yes is the message's
-judged_id : (f : Facts) (m : MessageValue) (answer : Judgement) (id : Id) → judged_answer f m answer ≡ Ok id → id ≡ message_id_of m
+judged_id : (f : Facts) (m : MessageValue) (answer : Judgement) (id : Id)
+    → judged_answer f m answer ≡ Ok id → id ≡ message_id_of m
 judged_id f m judgement.Refuse id is = cc
 judged_id f m (judgement.Accept deps share) id is =
-    elim (list_all (is_served f m.group) deps) as (λ b. (if b then Ok (message_id_of m) else Err refused.DependencyNotDelivered) ≡ Ok id → id ≡ message_id_of m) [
+    elim (list_all (is_served f m.group) deps) as (λ b.
+    (if b then Ok (message_id_of m) else Err refused.DependencyNotDelivered) ≡ Ok id
+    → id ≡ message_id_of m) [
       | true ↦ λ w. cc
       | false ↦ λ w. cc
     ] is
 
-pub post_id : (clients : Meaning) (f : Facts) (m : MessageValue) (id : Id) → post_answer clients f m ≡ Ok id → id ≡ message_id_of m
+pub post_id : (clients : Meaning) (f : Facts) (m : MessageValue) (id : Id)
+    → post_answer clients f m ≡ Ok id → id ≡ message_id_of m
 post_id clients f m id is = by_group (is_some (group_at f.groups m.group)) is where
-  by_held : (b : Bool) → (if b then Err refused.AlreadyHeld else judged_answer f m (verdict_in clients f.groups m)) ≡ Ok id → id ≡ message_id_of m
+  by_held : (b : Bool)
+      → (if b then Err refused.AlreadyHeld else judged_answer f m (verdict_in clients f.groups m))
+      ≡ Ok id → id ≡ message_id_of m
   by_held true w = cc
   by_held false w = judged_id f m (verdict_in clients f.groups m) id w
 
-  by_group : (a : Bool) → (if a then (if is_some (held_at f.held (message_id_of m)) then Err refused.AlreadyHeld else judged_answer f m (verdict_in clients f.groups m)) else Err refused.UnknownGroup) ≡ Ok id
+  by_group : (a : Bool)
+      → (if a then (if is_some (held_at f.held (message_id_of m)) then Err refused.AlreadyHeld else
+      judged_answer f m (verdict_in clients f.groups m)) else Err refused.UnknownGroup) ≡ Ok id
       → id ≡ message_id_of m
   by_group true w = by_held (is_some (held_at f.held (message_id_of m))) w
   by_group false w = cc
 
 -- ---- the command stopped before its body was read
 
-stops_by : (old new : Outside) (input input' : Stream) (came : Outcome) → IsIdle input input' → LoadedBy old new (Err came) → PostStopsBy old new input input' came
+stops_by : (old new : Outside) (input input' : Stream) (came : Outcome) → IsIdle input input'
+    → LoadedBy old new (Err came) → PostStopsBy old new input input' came
 stops_by old new input input' outcome.DiskFault idle by = (by, idle)
 stops_by old new input input' outcome.NoStore idle by = idle
 stops_by old new input input' (outcome.Damaged place) idle by = idle
 stops_by old new input input' outcome.Memory idle by = tt
 stops_by old new input input' _ idle by = absurd by
 
-stops_ends : (old new : Outside) (standing : Standing) (group : Id) (came : Outcome) → LoadedBy old new (Err came) → IsLoaded standing (Err came) → PostStopsWhere standing group came
+stops_ends : (old new : Outside) (standing : Standing) (group : Id) (came : Outcome)
+    → LoadedBy old new (Err came) → IsLoaded standing (Err came)
+    → PostStopsWhere standing group came
 stops_ends old new standing group outcome.DiskFault by loaded = tt
 stops_ends old new standing group outcome.NoStore by loaded = loaded
 stops_ends old new standing group (outcome.Damaged place) by loaded = loaded
@@ -113,74 +152,120 @@ stops_ends old new standing group outcome.Memory by loaded = tt
 stops_ends old new standing group _ by loaded = absurd by
 
 -- no store was loaded
-not_loaded : (clients : Meaning) (group : Id) (old new : Outside) (input input' out out' : Stream) (came : Outcome) → DiskRun old new
-    → ((two : Two File) → old.files ≡ Some two → LeavesFilesSo (LoadKeeps (Err came) two) two old new) → LoadedBy old new (Err came)
-    → ((two : Two File) → old.files ≡ Some two → IsLoaded (stands clients (read_files two)) (Err came)) → IsIdle input input' → IsIdle out out'
+not_loaded : (clients : Meaning) (group : Id) (old new : Outside) (input input' out out' : Stream)
+    (came : Outcome) → DiskRun old new
+    → ((two : Two File) → old.files ≡ Some two
+    → LeavesFilesSo (LoadKeeps (Err came) two) two old new) → LoadedBy old new (Err came)
+    → ((two : Two File) → old.files ≡ Some two
+    → IsLoaded (stands clients (read_files two)) (Err came)) → IsIdle input input'
+    → IsIdle out out'
     → StopsShort clients group old new input input' out out' came
-not_loaded clients group old new input input' out out' came run rests by loaded idle quiet = record {
-  run = run;
-  by = stops_by old new input input' came idle by;
-  quiet = quiet;
-  told = λ two told. record { rests = rests two told; ends = stops_ends old new (stands clients (read_files two)) group came by (loaded two told) };
-}
+not_loaded clients group old new input input' out out' came run rests by loaded idle quiet =
+    record {
+      run = run;
+      by = stops_by old new input input' came idle by;
+      quiet = quiet;
+      told = λ two told. record {
+        rests = rests two told;
+        ends = stops_ends old new (stands clients (read_files two)) group came by (loaded two told);
+      };
+    }
 
-pub posted_none : (clients : Meaning) (group : Id) (timestamp : ℕ) (old new : Outside) (input input' out out' : Stream) (came : Outcome) → DiskRun old new
-    → ((two : Two File) → old.files ≡ Some two → LeavesFilesSo (LoadKeeps (Err came) two) two old new) → LoadedBy old new (Err came)
-    → ((two : Two File) → old.files ≡ Some two → IsLoaded (stands clients (read_files two)) (Err came)) → IsIdle input input' → IsIdle out out'
+pub posted_none : (clients : Meaning) (group : Id) (timestamp : ℕ) (old new : Outside)
+    (input input' out out' : Stream) (came : Outcome) → DiskRun old new
+    → ((two : Two File) → old.files ≡ Some two
+    → LeavesFilesSo (LoadKeeps (Err came) two) two old new) → LoadedBy old new (Err came)
+    → ((two : Two File) → old.files ≡ Some two
+    → IsLoaded (stands clients (read_files two)) (Err came)) → IsIdle input input'
+    → IsIdle out out'
     → HasPosted clients group timestamp old new input input' out out' came
-posted_none clients group timestamp old new input input' out out' outcome.DiskFault run rests by loaded idle quiet =
-    inl (not_loaded clients group old new input input' out out' outcome.DiskFault run rests by loaded idle quiet)
-posted_none clients group timestamp old new input input' out out' outcome.NoStore run rests by loaded idle quiet =
-    not_loaded clients group old new input input' out out' outcome.NoStore run rests by loaded idle quiet
-posted_none clients group timestamp old new input input' out out' (outcome.Damaged place) run rests by loaded idle quiet =
-    not_loaded clients group old new input input' out out' (outcome.Damaged place) run rests by loaded idle quiet
-posted_none clients group timestamp old new input input' out out' outcome.Memory run rests by loaded idle quiet =
-    inl (not_loaded clients group old new input input' out out' outcome.Memory run rests by loaded idle quiet)
-posted_none clients group timestamp old new input input' out out' _ run rests by loaded idle quiet = absurd by
+posted_none clients group timestamp old new input input' out out' outcome.DiskFault run rests by
+    loaded idle quiet =
+    inl (not_loaded clients group old new input input' out out' outcome.DiskFault run rests by
+    loaded idle quiet)
+posted_none clients group timestamp old new input input' out out' outcome.NoStore run rests by
+    loaded idle quiet =
+    not_loaded clients group old new input input' out out' outcome.NoStore run rests by loaded idle
+    quiet
+posted_none clients group timestamp old new input input' out out' (outcome.Damaged place) run rests
+    by loaded idle quiet =
+    not_loaded clients group old new input input' out out' (outcome.Damaged place) run rests by
+    loaded idle quiet
+posted_none clients group timestamp old new input input' out out' outcome.Memory run rests by loaded
+    idle quiet =
+    inl (not_loaded clients group old new input input' out out' outcome.Memory run rests by loaded
+    idle quiet)
+posted_none clients group timestamp old new input input' out out' _ run rests by loaded idle quiet =
+    absurd by
 
 -- what is known of a store that was loaded
-module _ (clients : Meaning) (group : Id) (timestamp : ℕ) (old new : Outside) (input input' out out' : Stream) (s : StoreValue) (run : DiskRun old new)
-    (rests : (two : Two File) → old.files ≡ Some two → LeavesFilesSo (LoadKeeps (Ok s) two) two old new) (loaded : (two : Two File) → old.files ≡ Some two → HasFacts (stands clients (read_files two)) s)
+module _ (clients : Meaning) (group : Id) (timestamp : ℕ) (old new : Outside)
+    (input input' out out' : Stream) (s : StoreValue) (run : DiskRun old new)
+    (rests : (two : Two File) → old.files ≡ Some two
+    → LeavesFilesSo (LoadKeeps (Ok s) two) two old new) (loaded : (two : Two File)
+    → old.files ≡ Some two → HasFacts (stands clients (read_files two)) s)
     (quiet : IsIdle out out') where
   abbrev Posted : Outcome → Type 0
   Posted came = HasPosted clients group timestamp old new input input' out out' came
 
   -- the group is not known
-  pub posted_unknown : is_some (group_at s.state.facts.groups group) ≡ false → IsIdle input input' → Posted (outcome.Refused refused.UnknownGroup)
+  pub posted_unknown : is_some (group_at s.state.facts.groups group) ≡ false → IsIdle input input'
+      → Posted (outcome.Refused refused.UnknownGroup)
   posted_unknown unknown idle = record {
     run = run;
     by = idle;
     quiet = quiet;
     told = λ two told.
         let has = loaded two told in
-        record { rests = rests two told; ends = record { of = has.of; stood = has.stood; known = ap (λ (f : Facts). is_some (group_at f.groups group)) has.are ∙ unknown } };
+        record {
+          rests = rests two told;
+          ends = record {
+            of = has.of;
+            stood = has.stood;
+            known = ap (λ (f : Facts). is_some (group_at f.groups group)) has.are ∙ unknown;
+          };
+        };
   }
 
   -- memory was wanting for the message
-  added_memory : (body : List ℕ) → HasAdded clients (λ f. post_plan clients f (message_of group timestamp body)) settling.BeforeAndAfter old new out out' outcome.Memory
+  added_memory : (body : List ℕ) → HasAdded clients
+      (λ f. post_plan clients f (message_of group timestamp body)) settling.BeforeAndAfter old new
+      out out' outcome.Memory
   added_memory body =
-      added_none clients (λ f. post_plan clients f (message_of group timestamp body)) settling.BeforeAndAfter old new out out' outcome.Memory run (λ two told. rests two told) tt (λ two told. tt) quiet
+      added_none clients (λ f. post_plan clients f (message_of group timestamp body))
+      settling.BeforeAndAfter old new out out' outcome.Memory run (λ two told. rests two told)
+      tt (λ two told. tt) quiet
 
-  refused_body : (body : List ℕ) (why : Refused) → IsBody input input' body → post_plan clients s.state.facts (message_of group timestamp body) ≡ refuses why
+  refused_body : (body : List ℕ) (why : Refused) → IsBody input input' body
+      → post_plan clients s.state.facts (message_of group timestamp body) ≡ refuses why
       → PostsBody clients group timestamp old new input input' out out' (outcome.Refused why)
   refused_body body why read is = record {
     body = body;
     reads = read;
-    added = added_refused clients (λ f. post_plan clients f (message_of group timestamp body)) settling.BeforeAndAfter old new out out' s why run rests loaded is quiet;
+    added = added_refused clients (λ f. post_plan clients f (message_of group timestamp body))
+        settling.BeforeAndAfter old new out out' s why run rests loaded is quiet;
   }
 
   module _ (known : is_some (group_at s.state.facts.groups group) ≡ true) where
     -- the body was not read whole
     pub posted_unread : (came : Outcome) → IsBodyRead input input' (Err came) → Posted came
     posted_unread (outcome.Refused refused.BodyTooLong) read =
-        refused_body read.0 refused.BodyTooLong read.1 (plan_long clients s.state.facts (message_of group timestamp read.0) known read.2)
+        refused_body read.0 refused.BodyTooLong read.1
+        (plan_long clients s.state.facts (message_of group timestamp read.0) known read.2)
     posted_unread outcome.ReadFault read = record {
       run = run;
       by = read;
       quiet = quiet;
       told = λ two told.
           let has = loaded two told in
-          record { rests = rests two told; ends = record { of = has.of; stood = has.stood; known = ap (λ (f : Facts). is_some (group_at f.groups group)) has.are ∙ known } };
+          record {
+            rests = rests two told;
+            ends = record {
+              of = has.of;
+              stood = has.stood;
+              known = ap (λ (f : Facts). is_some (group_at f.groups group)) has.are ∙ known;
+            };
+          };
     }
     posted_unread outcome.Memory read = inl (record {
       run = run;
@@ -191,46 +276,66 @@ module _ (clients : Meaning) (group : Id) (timestamp : ℕ) (old new : Outside) 
     posted_unread _ read = absurd read
 
     -- the message is refused
-    posted_refused : (body : List ℕ) (why : Refused) → IsBody input input' body → post_plan clients s.state.facts (message_of group timestamp body) ≡ refuses why
+    posted_refused : (body : List ℕ) (why : Refused) → IsBody input input' body
+        → post_plan clients s.state.facts (message_of group timestamp body) ≡ refuses why
         → Posted (outcome.Refused why)
     posted_refused body refused.UnknownGroup read is =
-        absurd (body_other clients s.state.facts (message_of group timestamp body) known (sym (plan_known clients s.state.facts (message_of group timestamp body) known) ∙ is))
+        absurd (body_other clients s.state.facts (message_of group timestamp body) known
+        (sym (plan_known clients s.state.facts (message_of group timestamp body) known) ∙ is))
     posted_refused body _ read is = refused_body body _ read is
 
     -- the message may not be added
-    pub posted_fault : (body : List ℕ) (came : Outcome) → IsBody input input' body → IsPlanOfPost (post_plan clients s.state.facts (message_of group timestamp body)) (Err came) → Posted came
-    posted_fault body outcome.Memory read is = inr (record { body = body; reads = read; added = added_memory body })
+    pub posted_fault : (body : List ℕ) (came : Outcome) → IsBody input input' body → IsPlanOfPost
+        (post_plan clients s.state.facts (message_of group timestamp body)) (Err came) → Posted came
+    posted_fault body outcome.Memory read is =
+        inr (record { body = body; reads = read; added = added_memory body })
     posted_fault body (outcome.Refused why) read is = posted_refused body why read is
     posted_fault body _ read is = absurd is
 
 -- ---- the message is added
 
-posted_late : (clients : Meaning) (group : Id) (timestamp : ℕ) (old new : Outside) (input input' out out' : Stream) (came : Outcome) → is_late came ≡ true
-    → PostsBody clients group timestamp old new input input' out out' came → HasPosted clients group timestamp old new input input' out out' came
+posted_late : (clients : Meaning) (group : Id) (timestamp : ℕ) (old new : Outside)
+    (input input' out out' : Stream) (came : Outcome) → is_late came ≡ true
+    → PostsBody clients group timestamp old new input input' out out' came
+    → HasPosted clients group timestamp old new input input' out out' came
 posted_late clients group timestamp old new input input' out out' outcome.Done late posts = posts
-posted_late clients group timestamp old new input input' out out' outcome.WriteFault late posts = posts
+posted_late clients group timestamp old new input input' out out' outcome.WriteFault late posts =
+    posts
 posted_late clients group timestamp old new input input' out out' outcome.Full late posts = posts
-posted_late clients group timestamp old new input input' out out' outcome.DiskFault late posts = inr posts
-posted_late clients group timestamp old new input input' out out' outcome.Memory late posts = inr posts
+posted_late clients group timestamp old new input input' out out' outcome.DiskFault late posts =
+    inr posts
+posted_late clients group timestamp old new input input' out out' outcome.Memory late posts =
+    inr posts
 posted_late clients group timestamp old new input input' out out' _ late posts = cc
 
-pub posted_entry : (clients : Meaning) (group : Id) (timestamp : ℕ) (o o1 o2 : Outside) (input input' out out' : Stream) (s : StoreValue) (body : List ℕ) (e : Entry) (came : Outcome) → DiskRun o o1
-    → ((two : Two File) → o.files ≡ Some two → LeavesFilesSo (LoadKeeps (Ok s) two) two o o1) → MayExtend clients s o1.files → IsBody input input' body
-    → post_plan clients s.state.facts (message_of group timestamp body) ≡ adds e → EntryAdded clients settling.BeforeAndAfter s e o1 o2 out out' came
+pub posted_entry : (clients : Meaning) (group : Id) (timestamp : ℕ) (o o1 o2 : Outside)
+    (input input' out out' : Stream) (s : StoreValue) (body : List ℕ) (e : Entry) (came : Outcome)
+    → DiskRun o o1
+    → ((two : Two File) → o.files ≡ Some two → LeavesFilesSo (LoadKeeps (Ok s) two) two o o1)
+    → MayExtend clients s o1.files → IsBody input input' body
+    → post_plan clients s.state.facts (message_of group timestamp body) ≡ adds e
+    → EntryAdded clients settling.BeforeAndAfter s e o1 o2 out out' came
     → HasPosted clients group timestamp o o2 input input' out out' came
-posted_entry clients group timestamp o o1 o2 input input' out out' s body e came run rests ready read is added =
+posted_entry clients group timestamp o o1 o2 input input' out out' s body e came run rests ready
+    read is added =
     posted_late clients group timestamp o o2 input input' out out' came added.late (record {
       body = body;
       reads = read;
-      added = added_entry clients (λ f. post_plan clients f (message_of group timestamp body)) settling.BeforeAndAfter o o1 o2 out out' s e came run rests ready is added;
+      added = added_entry clients (λ f. post_plan clients f (message_of group timestamp body))
+          settling.BeforeAndAfter o o1 o2 out out' s e came run rests ready is added;
     })
 
 -- ---- the body
 
-pub read_whole : (input input' : Stream) (body : List ℕ) → ReadsAll MAX_BODY input.bytes input'.bytes body → IsBody input input' body
-read_whole input input' body read = record { consumed = read.consumed; whole = inl (read.at_end, read.within) }
+pub read_whole : (input input' : Stream) (body : List ℕ)
+    → ReadsAll MAX_BODY input.bytes input'.bytes body → IsBody input input' body
+read_whole input input' body read =
+    record { consumed = read.consumed; whole = inl (read.at_end, read.within) }
 
-pub read_long : (input input' : Stream) (body : List ℕ) → ReadsTooMuch MAX_BODY input.bytes input'.bytes body → (whole : List ℕ) × IsBody input input' whole × (length whole ≡ MAX_BODY + 1)
+pub read_long : (input input' : Stream) (body : List ℕ)
+    → ReadsTooMuch MAX_BODY input.bytes input'.bytes body
+    → (whole : List ℕ) × IsBody input input' whole × (length whole ≡ MAX_BODY + 1)
 read_long input input' body read =
-    let long : length (body ++ read.byte ∷ []) ≡ MAX_BODY + 1 = omega (arith, length-append body (read.byte ∷ []), read.full) in
+    let long : length (body ++ read.byte ∷ []) ≡ MAX_BODY + 1 =
+    omega (arith, length-append body (read.byte ∷ []), read.full) in
     (body ++ read.byte ∷ [], record { consumed = read.consumed; whole = inr long }, long)

@@ -1,5 +1,6 @@
 -- What migrating a store, settling it, adding a batch to it and settling again comes to.
-use Rattle.std.specs.Prelude.{◌≡◌, ◌⊎◌, ℕ, ◌+◌, ◌-◌, ◌^◌, ◌<◌, ◌≤◌, false, List, [], ◌∷◌, ◌++◌, Option, Some, Result, Ok, Err, OnOk}
+use Rattle.std.specs.Prelude.{◌≡◌, ◌⊎◌, ℕ, ◌+◌, ◌-◌, ◌^◌, ◌<◌, ◌≤◌, false, List, [], ◌∷◌, ◌++◌}
+use Rattle.std.specs.Prelude.{Option, Some, Result, Ok, Err, OnOk}
 use Rattle.outside.specs.declared.limits.TheConstants.{MAX_JOURNAL}
 use Rattle.outside.specs.Faults.{CountRose}
 use Rattle.outside.specs.Files.{Two, File, file_of, read_files, NothingPending}
@@ -31,7 +32,8 @@ use Rattle.store_commands.specs.declared.commit.Settling.TheVariants as settling
 -- ---- journals
 
 -- behind a journal of these facts: settling, the batch, and settling
-pub record HasOneBatch (clients : Meaning) (f : Facts) (batch : List Entry) (more : List (List Entry)) : Type 0 where
+pub record HasOneBatch (clients : Meaning) (f : Facts) (batch : List Entry)
+    (more : List (List Entry)) : Type 0 where
   pub first : List (List Entry)
   pub rest : List (List Entry)
   pub is : more ≡ first ++ batch ∷ rest
@@ -43,7 +45,8 @@ abbrev pub HasAtMostBatch : Meaning → Facts → List Entry → List (List Entr
 HasAtMostBatch clients f batch more = AllSettling clients f more ⊎ HasOneBatch clients f batch more
 
 -- the journal goes on from an earlier one by settling and at most the one batch
-pub record GoesOnByBatch (clients : Meaning) (j : List (List Entry)) (batch : List Entry) (whole : List (List Entry)) : Type 0 where
+pub record GoesOnByBatch (clients : Meaning) (j : List (List Entry)) (batch : List Entry)
+    (whole : List (List Entry)) : Type 0 where
   pub more : List (List Entry)
   pub is : whole ≡ j ++ more
   pub adds : HasAtMostBatch clients (facts j) batch more
@@ -51,7 +54,8 @@ pub record GoesOnByBatch (clients : Meaning) (j : List (List Entry)) (batch : Li
 -- what stands behind the batch: nothing, or settling up to its end
 abbrev pub SettlesBehind : Settling → Meaning → Facts → List (List Entry) → Type 0
 SettlesBehind settling.Before clients f rest = rest ≡ []
-SettlesBehind settling.BeforeAndAfter clients f rest = AllSettling clients f rest × IsSettled clients (after_batches f rest)
+SettlesBehind settling.BeforeAndAfter clients f rest =
+    AllSettling clients f rest × IsSettled clients (after_batches f rest)
 
 -- the journal's file of two files is in this format
 pub record IsInFormat (format : Format) (files : Two (List ℕ)) : Type 0 where
@@ -70,27 +74,34 @@ pub record HasLastGeneration (files : Two (List ℕ)) : Type 0 where
 abbrev pub MayMigrate : Option (Two File) → Type 0
 MayMigrate files = (two : Two File) → files ≡ Some two → HasLastGeneration (read_files two) → ⊥
 
--- The length that a journal needs in format 2 with a batch: the batch's frame is added, and room is counted for all that settling
--- may then add. Whatever is added is added in format 2.
+-- The length that a journal needs in format 2 with a batch: the batch's frame is added, and room is
+-- counted for all that settling may then add. Whatever is added is added in format 2.
 abbrev pub needed_by : List (List Entry) → List Entry → ℕ
-needed_by j batch = journal_end kind.Short j + 5 + payload_len kind.Short batch + room_of kind.Short (after_all (facts j) batch)
+needed_by j batch =
+    journal_end kind.Short j + 5 + payload_len kind.Short batch
+    + room_of kind.Short (after_all (facts j) batch)
 
--- The files stand, in format 2, for the journal, all of its settling, the one batch, for which there was room when it was committed,
--- and what follows it; nothing is pending in them, so that each crash leaves this.
-pub record IsAdded (clients : Meaning) (settling : Settling) (j : List (List Entry)) (batch : List Entry) (two : Two File) : Type 0 where
+-- The files stand, in format 2, for the journal, all of its settling, the one batch, for which
+-- there was room when it was committed, and what follows it; nothing is pending in them, so that
+-- each crash leaves this.
+pub record IsAdded (clients : Meaning) (settling : Settling) (j : List (List Entry))
+    (batch : List Entry) (two : Two File) : Type 0 where
   pub first : List (List Entry)
   pub rest : List (List Entry)
   pub settles : AllSettling clients (facts j) first
   pub settled : IsSettled clients (after_batches (facts j) first)
   pub roomy : needed_by (j ++ first) batch ≤ MAX_JOURNAL
   pub short : IsInFormat kind.Short (read_files two)
-  pub follows : SettlesBehind settling clients (after_all (after_batches (facts j) first) batch) rest
+  pub follows : SettlesBehind settling clients
+      (after_all (after_batches (facts j) first) batch) rest
   pub stands_for : stands clients (read_files two) ≡ journal (j ++ (first ++ batch ∷ rest))
   pub first_settled : NothingPending two 0
   pub second_settled : NothingPending two 1
 
--- the files stand, in format 2, for the journal and all of its settling, and there is no room for the batch
-pub record IsFullForBatch (clients : Meaning) (j : List (List Entry)) (batch : List Entry) (two : Two File) : Type 0 where
+-- the files stand, in format 2, for the journal and all of its settling, and there is no room for
+-- the batch
+pub record IsFullForBatch (clients : Meaning) (j : List (List Entry)) (batch : List Entry)
+    (two : Two File) : Type 0 where
   pub first : List (List Entry)
   pub settles : AllSettling clients (facts j) first
   pub settled : IsSettled clients (after_batches (facts j) first)
@@ -110,7 +121,8 @@ IsFull clients j batch two two' = IsFullForBatch clients j batch two' ⊎ WasSpe
 
 -- a batch may follow a journal of these facts once that is settled
 pub record MayFollow (clients : Meaning) (f : Facts) (batch : List Entry) : Type 0 where
-  pub follows : (more : List (List Entry)) → AllSettling clients f more → IsSettled clients (after_batches f more) → Allowed clients (after_batches f more) batch
+  pub follows : (more : List (List Entry)) → AllSettling clients f more → IsSettled clients
+      (after_batches f more) → Allowed clients (after_batches f more) batch
 
 -- the causes, whatever the disk tells
 abbrev pub ExtendsBy : (old new : Outside) → Result (Unit {0}) Outcome → Type 0
@@ -139,7 +151,8 @@ next_generation s = short_generation (written_in s) s.generation
 -- what a migration leaves of the store: at Ok its journal is in format 2
 abbrev pub MigratedBy : StoreValue → StoreValue → Result (Unit {0}) Outcome → Type 0
 MigratedBy s s' (Ok _) =
-    (s'.closed ≡ false) × (written_in s' ≡ kind.Short) × (IsSpent s → ⊥) × (s'.generation ≡ next_generation s)
+    (s'.closed ≡ false) × (written_in s' ≡ kind.Short) × (IsSpent s → ⊥)
+    × (s'.generation ≡ next_generation s)
 MigratedBy s s' (Err outcome.Full) = IsSpent s × (s' ≡ s)
 MigratedBy s s' (Err outcome.Memory) = Unit {0}
 MigratedBy s s' (Err outcome.DiskFault) = Unit {0}
@@ -148,7 +161,8 @@ MigratedBy s s' (Err _) = ⊥
 -- what both leave of it
 abbrev pub SettledAnew : Meaning → StoreValue → StoreValue → Result (Unit {0}) Outcome → Type 0
 SettledAnew clients s s' (Ok _) =
-    (s'.closed ≡ false) × IsSettled clients s'.state.facts × (written_in s' ≡ kind.Short) × (IsSpent s → ⊥)
+    (s'.closed ≡ false) × IsSettled clients s'.state.facts × (written_in s' ≡ kind.Short)
+    × (IsSpent s → ⊥)
     × (s'.generation ≡ next_generation s)
 SettledAnew clients s s' (Err outcome.Full) = IsSpent s × (s' ≡ s)
 SettledAnew clients s s' (Err outcome.Memory) = Unit {0}
@@ -156,53 +170,65 @@ SettledAnew clients s s' (Err outcome.DiskFault) = Unit {0}
 SettledAnew clients s s' (Err _) = ⊥
 
 -- but where a call on the disk failed the store is ready
-abbrev pub StoreStaysReady : Meaning → StoreValue → Option (Two File) → Result (Unit {0}) Outcome → Type 0
+abbrev pub StoreStaysReady : Meaning → StoreValue → Option (Two File) → Result (Unit {0}) Outcome
+    → Type 0
 StoreStaysReady clients s files (Err outcome.DiskFault) = Unit {0}
 StoreStaysReady clients s files _ = IsReady clients s files
 
--- A store came by these settling batches to this one, in the file that it was in or in the other. Its facts are those after them;
--- at each moment the files stand for the journal with a front of them, and in the end, unless the store is closed, the disk fits
--- it with the journal and all of them.
-pub record ComesAnew (clients : Meaning) (s s' : StoreValue) (old new : Outside) (more : List (List Entry)) : Type 0 where
+-- A store came by these settling batches to this one, in the file that it was in or in the other.
+-- Its facts are those after them; at each moment the files stand for the journal with a front of
+-- them, and in the end, unless the store is closed, the disk fits it with the journal and all of
+-- them.
+pub record ComesAnew (clients : Meaning) (s s' : StoreValue) (old new : Outside)
+    (more : List (List Entry)) : Type 0 where
   pub settling : AllSettling clients s.state.facts more
   pub facts : s'.state.facts ≡ after_batches s.state.facts more
   pub limit : s'.limit ≡ s.limit
   pub leads : LeadsBy clients s s' old new more
 
--- a store was migrated as far as the answer says: at each moment the files stand for the same journal
-pub record MigratesAs (clients : Meaning) (s s' : StoreValue) (old new : Outside) (result : Result (Unit {0}) Outcome) : Type 0 where
+-- a store was migrated as far as the answer says: at each moment the files stand for the same
+-- journal
+pub record MigratesAs (clients : Meaning) (s s' : StoreValue) (old new : Outside)
+    (result : Result (Unit {0}) Outcome) : Type 0 where
   pub comes : ComesAnew clients s s' old new []
   pub answer : MigratedBy s s' result
 
 -- a store was migrated, and came by settling batches as far as the answer says
-pub record SettlesAnew (clients : Meaning) (s s' : StoreValue) (old new : Outside) (result : Result (Unit {0}) Outcome) : Type 0 where
+pub record SettlesAnew (clients : Meaning) (s s' : StoreValue) (old new : Outside)
+    (result : Result (Unit {0}) Outcome) : Type 0 where
   pub more : List (List Entry)
   pub comes : ComesAnew clients s s' old new more
   pub answer : SettledAnew clients s s' result
 
 -- a store came by settling batches as far as the answer says
-pub record SettlesAs (clients : Meaning) (s s' : StoreValue) (old new : Outside) (result : Result (Unit {0}) Outcome) : Type 0 where
+pub record SettlesAs (clients : Meaning) (s s' : StoreValue) (old new : Outside)
+    (result : Result (Unit {0}) Outcome) : Type 0 where
   pub more : List (List Entry)
   pub comes : ComesBy clients s s' old new more
   pub answer : SettledBy clients s' result
 
 -- the batch, and behind it what is to follow
-pub record IsBatchAndSettling (clients : Meaning) (settling : Settling) (f : Facts) (batch : List Entry) (more : List (List Entry)) : Type 0 where
+pub record IsBatchAndSettling (clients : Meaning) (settling : Settling) (f : Facts)
+    (batch : List Entry) (more : List (List Entry)) : Type 0 where
   pub rest : List (List Entry)
   pub is : more ≡ batch ∷ rest
   pub follows : SettlesBehind settling clients (after_all f batch) rest
 
 -- the sum of the room, and which batches were added, by the answer
-abbrev pub AddedSo : Meaning → Settling → StoreValue → StoreValue → List Entry → List (List Entry) → Result (Unit {0}) Outcome → Type 0
+abbrev pub AddedSo : Meaning → Settling → StoreValue → StoreValue → List Entry → List (List Entry)
+    → Result (Unit {0}) Outcome → Type 0
 AddedSo clients settling s s' batch more (Ok _) =
-    (s'.closed ≡ false) × (needed s batch ≤ s.limit) × IsBatchAndSettling clients settling s.state.facts batch more
-AddedSo clients settling s s' batch more (Err outcome.Full) = (s'.closed ≡ false) × (s.limit < needed s batch) × (more ≡ [])
+    (s'.closed ≡ false) × (needed s batch ≤ s.limit)
+    × IsBatchAndSettling clients settling s.state.facts batch more
+AddedSo clients settling s s' batch more (Err outcome.Full) =
+    (s'.closed ≡ false) × (s.limit < needed s batch) × (more ≡ [])
 AddedSo clients settling s s' batch more (Err outcome.Memory) = Unit {0}
 AddedSo clients settling s s' batch more (Err outcome.DiskFault) = Unit {0}
 AddedSo clients settling s s' batch more (Err _) = ⊥
 
 -- a batch was added to a settled store, with what is to follow it, as far as the answer says
-pub record AddsAs (clients : Meaning) (settling : Settling) (s s' : StoreValue) (batch : List Entry) (old new : Outside) (result : Result (Unit {0}) Outcome) : Type 0 where
+pub record AddsAs (clients : Meaning) (settling : Settling) (s s' : StoreValue) (batch : List Entry)
+    (old new : Outside) (result : Result (Unit {0}) Outcome) : Type 0 where
   pub more : List (List Entry)
   pub adds : AddsBatch clients s.state.facts batch more
   pub format : s'.format ≡ s.format
@@ -212,14 +238,19 @@ pub record AddsAs (clients : Meaning) (settling : Settling) (s s' : StoreValue) 
 -- ---- settling, the batch, and settling again
 
 -- by the answer
-abbrev pub ExtendsEnds : Meaning → Settling → List (List Entry) → List Entry → Result (Unit {0}) Outcome → Two File → Two File → Type 0
+abbrev pub ExtendsEnds : Meaning → Settling → List (List Entry) → List Entry
+    → Result (Unit {0}) Outcome → Two File → Two File → Type 0
 ExtendsEnds clients settling j batch (Ok _) two two' = IsAdded clients settling j batch two'
 ExtendsEnds clients settling j batch (Err outcome.Full) two two' = IsFull clients j batch two two'
 ExtendsEnds clients settling j batch (Err _) two two' = Unit {0}
 
--- Each moment stands for the journal with settling and at most the batch, and at Ok and Full the files are so, which were `two`
--- before. Where they had no generation left it is not Ok.
-pub record ExtendsTold (clients : Meaning) (settling : Settling) (j : List (List Entry)) (batch : List Entry) (two : Two File) (old new : Outside) (result : Result (Unit {0}) Outcome) : Type 0 where
-  pub moments : MomentsAre old new (JournalMoment clients (GoesOnByBatch clients j batch) (sent_of old.links.told))
-  pub ends : (two' : Two File) → new.files ≡ Some two' → ExtendsEnds clients settling j batch result two two'
+-- Each moment stands for the journal with settling and at most the batch, and at Ok and Full the
+-- files are so, which were `two` before. Where they had no generation left it is not Ok.
+pub record ExtendsTold (clients : Meaning) (settling : Settling) (j : List (List Entry))
+    (batch : List Entry) (two : Two File) (old new : Outside)
+    (result : Result (Unit {0}) Outcome) : Type 0 where
+  pub moments : MomentsAre old new
+      (JournalMoment clients (GoesOnByBatch clients j batch) (sent_of old.links.told))
+  pub ends : (two' : Two File) → new.files ≡ Some two'
+      → ExtendsEnds clients settling j batch result two two'
   pub spent : HasLastGeneration (read_files two) → OnOk result ⊥

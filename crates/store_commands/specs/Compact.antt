@@ -1,6 +1,7 @@
--- What `compact` does: it migrates the journal and settles it, writes it anew as its brief account, and prints where it ended
--- before and where it ends then.
-use Rattle.std.specs.Prelude.{◌≡◌, ◌⊎◌, ℕ, ◌+◌, ◌-◌, ◌^◌, ◌<◌, ◌≤◌, false, true, List, ◌++◌, Option, Some, Result, Ok, Err}
+-- What `compact` does: it migrates the journal and settles it, writes it anew as its brief account,
+-- and prints where it ended before and where it ends then.
+use Rattle.std.specs.Prelude.{◌≡◌, ◌⊎◌, ℕ, ◌+◌, ◌-◌, ◌^◌, ◌<◌, ◌≤◌, false, true, List, ◌++◌, Option}
+use Rattle.std.specs.Prelude.{Some, Result, Ok, Err}
 use Rattle.std.specs.Io.KnownBytes.{Appends}
 use Rattle.outside.specs.declared.limits.TheConstants.{MAX_JOURNAL}
 use Rattle.outside.specs.Faults.{CountRose}
@@ -34,7 +35,8 @@ use Rattle.store_commands.specs.Show.{FilesReadSame}
 -- ---- journals
 
 -- this is so of the journal with all of its settling
-pub record OnceSettled (clients : Meaning) (j : List (List Entry)) (P : List (List Entry) → Type 0) : Type 0 where
+pub record OnceSettled (clients : Meaning) (j : List (List Entry))
+    (P : List (List Entry) → Type 0) : Type 0 where
   pub first : List (List Entry)
   pub settles : AllSettling clients (facts j) first
   pub settled : IsSettled clients (after_batches (facts j) first)
@@ -46,16 +48,19 @@ pub record GoesSettling (clients : Meaning) (j whole : List (List Entry)) : Type
   pub is : whole ≡ j ++ more
   pub settles : AllSettling clients (facts j) more
 
--- the journal goes on by settling alone, or in its place stands the brief account of it with all of its settling
+-- the journal goes on by settling alone, or in its place stands the brief account of it with all of
+-- its settling
 abbrev pub GoesBrief : Meaning → (j whole : List (List Entry)) → Type 0
-GoesBrief clients j whole = GoesSettling clients j whole ⊎ OnceSettled clients j (λ settled. whole ≡ brief settled)
+GoesBrief clients j whole =
+    GoesSettling clients j whole ⊎ OnceSettled clients j (λ settled. whole ≡ brief settled)
 
--- The length that the brief account of a settled journal needs in format 2, in which it is written: room is counted for all that
--- settling may yet add.
+-- The length that the brief account of a settled journal needs in format 2, in which it is written:
+-- room is counted for all that settling may yet add.
 abbrev pub brief_len : List (List Entry) → ℕ
 brief_len settled = journal_end kind.Short (brief settled) + room_of kind.Short (facts settled)
 
--- No generation is left for the brief account of the journal of two files: once that is in format 2 it has the last one.
+-- No generation is left for the brief account of the journal of two files: once that is in format 2
+-- it has the last one.
 pub record LacksGeneration (files : Two (List ℕ)) : Type 0 where
   pub file : ℕ
   pub found : journal_file files ≡ Some file
@@ -67,26 +72,31 @@ pub record LacksGeneration (files : Two (List ℕ)) : Type 0 where
 abbrev pub MayRenew : Option (Two File) → Type 0
 MayRenew files = (two : Two File) → files ≡ Some two → LacksGeneration (read_files two) → ⊥
 
--- The files stand, in format 2, for the brief account of a settled journal, for which there was room. Nothing is pending in them, so
--- that each crash leaves this. P is so of the line of the two ends.
-pub record AreFilesCompacted (clients : Meaning) (settled : List (List Entry)) (two : Two File) (P : List ℕ → Type 0) : Type 0 where
+-- The files stand, in format 2, for the brief account of a settled journal, for which there was
+-- room. Nothing is pending in them, so that each crash leaves this. P is so of the line of the two
+-- ends.
+pub record AreFilesCompacted (clients : Meaning) (settled : List (List Entry)) (two : Two File)
+    (P : List ℕ → Type 0) : Type 0 where
   pub roomy : brief_len settled ≤ MAX_JOURNAL
   pub short : IsInFormat kind.Short (read_files two)
   pub stands_for : stands clients (read_files two) ≡ journal (brief settled)
   pub first_settled : NothingPending two 0
   pub second_settled : NothingPending two 1
-  pub printed : P (compacted_text (journal_end kind.Short settled) (journal_end kind.Short (brief settled)))
+  pub printed : P
+      (compacted_text (journal_end kind.Short settled) (journal_end kind.Short (brief settled)))
 
--- The files, which were `two` before, stand in format 2 for a settled journal, and there is no room for its brief account, or no
--- generation was left.
-pub record IsUncompacted (clients : Meaning) (settled : List (List Entry)) (two two' : Two File) : Type 0 where
+-- The files, which were `two` before, stand in format 2 for a settled journal, and there is no room
+-- for its brief account, or no generation was left.
+pub record IsUncompacted (clients : Meaning) (settled : List (List Entry))
+    (two two' : Two File) : Type 0 where
   pub stands_for : stands clients (read_files two') ≡ journal settled
   pub short : IsInFormat kind.Short (read_files two')
   pub over : (MAX_JOURNAL < brief_len settled) ⊎ LacksGeneration (read_files two)
 
 -- the same, or no generation was left for a journal in format 2, and the files read as before
 abbrev pub IsBriefFull : Meaning → List (List Entry) → (two two' : Two File) → Type 0
-IsBriefFull clients j two two' = OnceSettled clients j (λ settled. IsUncompacted clients settled two two') ⊎ WasSpent two two'
+IsBriefFull clients j two two' =
+    OnceSettled clients j (λ settled. IsUncompacted clients settled two two') ⊎ WasSpent two two'
 
 -- ---- from the files that were told
 
@@ -96,36 +106,52 @@ pub record StoodFor (standing : Standing) (P : List (List Entry) → Type 0) : T
   pub stood : standing ≡ journal before
   pub leads : P before
 
--- a moment once the journal is settled or written anew, nothing more being sent; there is none where the command ended earlier
+-- a moment once the journal is settled or written anew, nothing more being sent; there is none
+-- where the command ended earlier
 abbrev pub CompactsMoment : Meaning → Standing → Outcome → List (List ℕ) → Moment → Type 0
 CompactsMoment clients standing came sent m =
-    (is_late came ≡ true) × StoodFor standing (λ j. JournalMoment clients (GoesBrief clients j) sent m)
+    (is_late came ≡ true)
+    × StoodFor standing (λ j. JournalMoment clients (GoesBrief clients j) sent m)
 
 -- the outcome by what the files stood for
-abbrev pub CompactsEnds : Meaning → Standing → Two File → Two File → (out out' : Stream) → Outcome → Type 0
-CompactsEnds clients standing two two' out out' outcome.NoStore = (standing ≡ no_store) × FilesReadSame two two'
-CompactsEnds clients standing two two' out out' (outcome.Damaged place) = (standing ≡ damaged place.file place.at) × FilesReadSame two two'
-CompactsEnds clients standing two two' out out' outcome.Full = StoodFor standing (λ j. IsBriefFull clients j two two')
+abbrev pub CompactsEnds : Meaning → Standing → Two File → Two File → (out out' : Stream) → Outcome
+    → Type 0
+CompactsEnds clients standing two two' out out' outcome.NoStore =
+    (standing ≡ no_store) × FilesReadSame two two'
+CompactsEnds clients standing two two' out out' (outcome.Damaged place) =
+    (standing ≡ damaged place.file place.at) × FilesReadSame two two'
+CompactsEnds clients standing two two' out out' outcome.Full =
+    StoodFor standing (λ j. IsBriefFull clients j two two')
 CompactsEnds clients standing two two' out out' outcome.Done =
-    StoodFor standing (λ j. OnceSettled clients j (λ settled. AreFilesCompacted clients settled two' (Appends out.bytes out'.bytes)))
+    StoodFor standing (λ j.
+    OnceSettled clients j (λ settled.
+    AreFilesCompacted clients settled two' (Appends out.bytes out'.bytes)))
 CompactsEnds clients standing two two' out out' outcome.WriteFault =
-    StoodFor standing (λ j. OnceSettled clients j (λ settled. AreFilesCompacted clients settled two' (GetsFront out out')))
+    StoodFor standing (λ j.
+    OnceSettled clients j (λ settled.
+    AreFilesCompacted clients settled two' (GetsFront out out')))
 CompactsEnds clients standing two two' out out' _ = Unit {0}
 
--- what is so where the files are told: each moment is as a crash might have left them before, or has the journal settled or brief
-pub record CompactsTold (clients : Meaning) (two : Two File) (old new : Outside) (out out' : Stream) (came : Outcome) : Type 0 where
+-- what is so where the files are told: each moment is as a crash might have left them before, or
+-- has the journal settled or brief
+pub record CompactsTold (clients : Meaning) (two : Two File) (old new : Outside) (out out' : Stream)
+    (came : Outcome) : Type 0 where
   pub moments : MomentsAre old new
-      (λ m. IsNow two old.links m ⊎ CompactsMoment clients (stands clients (read_files two)) came (sent_of old.links.told) m)
-  pub ends : (two' : Two File) → new.files ≡ Some two' → CompactsEnds clients (stands clients (read_files two)) two two' out out' came
+      (λ m. IsNow two old.links m
+      ⊎ CompactsMoment clients (stands clients (read_files two)) came (sent_of old.links.told)
+      m)
+  pub ends : (two' : Two File) → new.files ≡ Some two' → CompactsEnds clients
+      (stands clients (read_files two)) two two' out out' came
   -- without a generation nothing is written anew
   pub spent : LacksGeneration (read_files two) → is_added came ≡ false
 
--- The causes of an outcome, whatever the disk tells: a fault comes only where its count rose, and nothing is written but the line. No
--- test refuses the command.
+-- The causes of an outcome, whatever the disk tells: a fault comes only where its count rose, and
+-- nothing is written but the line. No test refuses the command.
 abbrev pub CompactsBy : (old new : Outside) (out out' : Stream) → Outcome → Type 0
 CompactsBy old new out out' outcome.Done = Unit {0}
 CompactsBy old new out out' outcome.WriteFault = CountRose out.faults out'.faults
-CompactsBy old new out out' outcome.DiskFault = CountRose old.disk_faults new.disk_faults × IsIdle out out'
+CompactsBy old new out out' outcome.DiskFault =
+    CountRose old.disk_faults new.disk_faults × IsIdle out out'
 CompactsBy old new out out' outcome.NoStore = IsIdle out out'
 CompactsBy old new out out' (outcome.Damaged place) = IsIdle out out'
 CompactsBy old new out out' outcome.Full = IsIdle out out'
@@ -133,10 +159,12 @@ CompactsBy old new out out' outcome.Memory = IsIdle out out'
 CompactsBy old new out out' _ = ⊥
 
 -- a command that writes a journal anew as its brief account
-pub record HasCompacted (clients : Meaning) (old new : Outside) (out out' : Stream) (came : Outcome) : Type 0 where
+pub record HasCompacted (clients : Meaning) (old new : Outside) (out out' : Stream)
+    (came : Outcome) : Type 0 where
   pub run : DiskRun old new
   pub by : CompactsBy old new out out' came
-  pub told : (two : Two File) → old.files ≡ Some two → CompactsTold clients two old new out out' came
+  pub told : (two : Two File) → old.files ≡ Some two
+      → CompactsTold clients two old new out out' came
 
 -- ---- the store alone
 
@@ -145,7 +173,8 @@ abbrev pub brief_where : List (List Entry) → Result (Unit {0}) Outcome → Lis
 brief_where j (Ok _) = brief j
 brief_where j (Err _) = j
 
--- what compacting leaves of a store, by the answer: at Full there was no room or no generation, and all is as before
+-- what compacting leaves of a store, by the answer: at Full there was no room or no generation, and
+-- all is as before
 abbrev pub CompactedBy : Meaning → StoreValue → StoreValue → Result (Unit {0}) Outcome → Type 0
 CompactedBy clients s s' (Ok _) = ShortensJournal clients s s'
 CompactedBy clients s s' (Err outcome.Full) = IsTooLong clients s × (s' ≡ s)
@@ -153,30 +182,41 @@ CompactedBy clients s s' (Err outcome.Memory) = Unit {0}
 CompactedBy clients s s' (Err outcome.DiskFault) = Unit {0}
 CompactedBy clients s s' (Err _) = ⊥
 
--- A settled store in format 2 was compacted as far as the answer says: at each moment the files stand for its journal or for the brief
--- account of that, and in the end, unless the store is closed, the disk fits it with the one that the answer says.
-pub record CompactsAs (clients : Meaning) (s s' : StoreValue) (old new : Outside) (result : Result (Unit {0}) Outcome) : Type 0 where
-  pub leads : (two : Two File) → old.files ≡ Some two → (j : List (List Entry)) → FitsFiles clients s j two
+-- A settled store in format 2 was compacted as far as the answer says: at each moment the files
+-- stand for its journal or for the brief account of that, and in the end, unless the store is
+-- closed, the disk fits it with the one that the answer says.
+pub record CompactsAs (clients : Meaning) (s s' : StoreValue) (old new : Outside)
+    (result : Result (Unit {0}) Outcome) : Type 0 where
+  pub leads : (two : Two File) → old.files ≡ Some two → (j : List (List Entry))
+      → FitsFiles clients s j two
       → LeadsTo clients (IsOrBrief j) (λ whole. whole ≡ brief_where j result) s' old new
   pub answer : CompactedBy clients s s' result
 
 -- ---- the store and the line
 
 -- the outcome of compacting a store and printing the line of the two ends
-abbrev pub BriefEnds : Meaning → List (List Entry) → (out out' : Stream) → Outcome → Two File → Two File → Type 0
-BriefEnds clients j out out' outcome.Done two two' = OnceSettled clients j (λ settled. AreFilesCompacted clients settled two' (Appends out.bytes out'.bytes))
-BriefEnds clients j out out' outcome.WriteFault two two' = OnceSettled clients j (λ settled. AreFilesCompacted clients settled two' (GetsFront out out'))
+abbrev pub BriefEnds : Meaning → List (List Entry) → (out out' : Stream) → Outcome → Two File
+    → Two File → Type 0
+BriefEnds clients j out out' outcome.Done two two' =
+    OnceSettled clients j (λ settled.
+    AreFilesCompacted clients settled two' (Appends out.bytes out'.bytes))
+BriefEnds clients j out out' outcome.WriteFault two two' =
+    OnceSettled clients j (λ settled. AreFilesCompacted clients settled two' (GetsFront out out'))
 BriefEnds clients j out out' outcome.Full two two' = IsBriefFull clients j two two'
 BriefEnds clients j out out' _ two two' = Unit {0}
 
-pub record BriefTold (clients : Meaning) (j : List (List Entry)) (two : Two File) (old new : Outside) (out out' : Stream) (came : Outcome) : Type 0 where
-  pub moments : MomentsAre old new (JournalMoment clients (GoesBrief clients j) (sent_of old.links.told))
+pub record BriefTold (clients : Meaning) (j : List (List Entry)) (two : Two File)
+    (old new : Outside) (out out' : Stream) (came : Outcome) : Type 0 where
+  pub moments : MomentsAre old new
+      (JournalMoment clients (GoesBrief clients j) (sent_of old.links.told))
   pub ends : (two' : Two File) → new.files ≡ Some two' → BriefEnds clients j out out' came two two'
   pub spent : LacksGeneration (read_files two) → is_added came ≡ false
 
 -- a store was migrated, settled and compacted
-pub record MakesBrief (clients : Meaning) (s : StoreValue) (old new : Outside) (out out' : Stream) (came : Outcome) : Type 0 where
+pub record MakesBrief (clients : Meaning) (s : StoreValue) (old new : Outside) (out out' : Stream)
+    (came : Outcome) : Type 0 where
   pub run : DiskRun old new
   pub by : CompactsBy old new out out' came
   pub late : is_late came ≡ true
-  pub told : (two : Two File) → old.files ≡ Some two → (j : List (List Entry)) → FitsFiles clients s j two → BriefTold clients j two old new out out' came
+  pub told : (two : Two File) → old.files ≡ Some two → (j : List (List Entry))
+      → FitsFiles clients s j two → BriefTold clients j two old new out out' came

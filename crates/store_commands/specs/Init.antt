@@ -14,27 +14,31 @@ use Rattle.store_commands.specs.Show.{FilesReadSame}
 -- the line is printed
 abbrev pub PrintsReady : Stream → Stream → Outcome → Type 0
 PrintsReady out out' outcome.Done = Appends out.bytes out'.bytes ready_text
-PrintsReady out out' outcome.WriteFault = CountRose out.faults out'.faults × GetsFront out out' ready_text
+PrintsReady out out' outcome.WriteFault =
+    CountRose out.faults out'.faults × GetsFront out out' ready_text
 PrintsReady out out' _ = ⊥
 
--- the causes of an outcome, whatever the disk tells: a fault comes only where its count rose, and nothing is written but the line
+-- the causes of an outcome, whatever the disk tells: a fault comes only where its count rose, and
+-- nothing is written but the line
 abbrev pub BeginsBy : (old new : Outside) (out out' : Stream) → Outcome → Type 0
 BeginsBy old new out out' outcome.Done = Appends out.bytes out'.bytes ready_text
-BeginsBy old new out out' outcome.WriteFault = CountRose out.faults out'.faults × GetsFront out out' ready_text
-BeginsBy old new out out' outcome.DiskFault = CountRose old.disk_faults new.disk_faults × IsIdle out out'
+BeginsBy old new out out' outcome.WriteFault =
+    CountRose out.faults out'.faults × GetsFront out out' ready_text
+BeginsBy old new out out' outcome.DiskFault =
+    CountRose old.disk_faults new.disk_faults × IsIdle out out'
 BeginsBy old new out out' outcome.Exists = IsIdle out out'
 BeginsBy old new out out' _ = ⊥
 
--- The outcome by the files: a store exists exactly where a file has an open header, and is left as it reads. At Done every crash
--- leaves the empty journal.
+-- The outcome by the files: a store exists exactly where a file has an open header, and is left as
+-- it reads. At Done every crash leaves the empty journal.
 abbrev pub BeginsEnds : Two File → Two File → Outcome → Type 0
 BeginsEnds two two' outcome.Done = (has_open two ≡ false) × BeginsJournal two two'
 BeginsEnds two two' outcome.WriteFault = (has_open two ≡ false) × BeginsJournal two two'
 BeginsEnds two two' outcome.Exists = (has_open two ≡ true) × FilesReadSame two two'
 BeginsEnds two two' _ = Unit {0}
 
--- What is so where the files are told: each moment is as a crash might have left them before, or, where no header was open, they
--- stand for no store or for the empty journal.
+-- What is so where the files are told: each moment is as a crash might have left them before, or,
+-- where no header was open, they stand for no store or for the empty journal.
 pub record BeginsTold (two : Two File) (old new : Outside) (came : Outcome) : Type 0 where
   pub moments : MomentsAre old new (InitMoment two old.links)
   pub ends : (two' : Two File) → new.files ≡ Some two' → BeginsEnds two two' came

@@ -1,5 +1,6 @@
--- What a command that adds to a journal plans, by the facts of the journal as it was loaded, before it is settled: the test
--- that refuses it, of several that fail the first in order, or the one entry that it adds. The tests are those of a store.
+-- What a command that adds to a journal plans, by the facts of the journal as it was loaded, before
+-- it is settled: the test that refuses it, of several that fail the first in order, or the one
+-- entry that it adds. The tests are those of a store.
 use Rattle.std.specs.Prelude.{ℕ, ◌==◌, nat_lt, if◌then◌else◌, length, is_some, Result, Ok, Err}
 use Rattle.sync_ids.specs.declared.message.TheConstants.{MAX_BODY}
 use Rattle.sync_ids.specs.Values.{GroupValue, MessageValue}
@@ -32,7 +33,8 @@ group_plan clients f def = planned (λ (id : Id). entry.Group def) (group_answer
 
 -- `share`: the level is set also where it stays the same
 abbrev pub level_plan : Facts → ℕ → Id → Level → Plan
-level_plan f contact group l = planned (λ (u : Unit {0}). entry.Level contact group l) (level_answer f contact group)
+level_plan f contact group l =
+    planned (λ (u : Unit {0}). entry.Level contact group l) (level_answer f contact group)
 
 -- a message within its limits
 abbrev pub message_plan : Meaning → Facts → MessageValue → Plan
@@ -48,7 +50,8 @@ body_plan clients f m =
 -- `post`: the group is known before the body is read
 abbrev pub post_plan : Meaning → Facts → MessageValue → Plan
 post_plan clients f m =
-    if is_some (group_at f.groups m.group) then body_plan clients f m else refuses refused.UnknownGroup
+    if is_some (group_at f.groups m.group) then body_plan clients f m else refuses
+    refused.UnknownGroup
 
 -- a plan as it is answered
 abbrev pub plan_of : Result Entry Refused → Plan

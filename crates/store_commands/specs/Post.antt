@@ -1,5 +1,6 @@
 -- What `post` does: it reads a body, adds a message of a known group, and settles.
-use Rattle.std.specs.Prelude.{◌≡◌, ◌⊎◌, ℕ, ◌+◌, ◌≤◌, Bool, true, false, List, length, Option, Some, is_some, Result, Ok, Err}
+use Rattle.std.specs.Prelude.{◌≡◌, ◌⊎◌, ℕ, ◌+◌, ◌≤◌, Bool, true, false, List, length, Option, Some}
+use Rattle.std.specs.Prelude.{is_some, Result, Ok, Err}
 use Rattle.std.specs.Global.{Vec}
 use Rattle.std.specs.Io.KnownBytes.{Consumes, IsAtEnd}
 use Rattle.outside.specs.Faults.{CountRose}
@@ -33,10 +34,13 @@ abbrev pub message_of : Id → ℕ → List ℕ → MessageValue
 message_of group timestamp body = record { group = group; timestamp = timestamp; body = body }
 
 -- the body was read, and the message that is added, or refused, is of it
-pub record PostsBody (clients : Meaning) (group : Id) (timestamp : ℕ) (old new : Outside) (input input' out out' : Stream) (came : Outcome) : Type 0 where
+pub record PostsBody (clients : Meaning) (group : Id) (timestamp : ℕ) (old new : Outside)
+    (input input' out out' : Stream) (came : Outcome) : Type 0 where
   pub body : List ℕ
   pub reads : IsBody input input' body
-  pub added : HasAdded clients (λ f. post_plan clients f (message_of group timestamp body)) settling.BeforeAndAfter old new out out' came
+  pub added : HasAdded clients
+      (λ f. post_plan clients f (message_of group timestamp body)) settling.BeforeAndAfter old new
+      out out' came
 
 -- the files stood for a journal that knows the group, or that does not
 pub record Groups (standing : Standing) (group : Id) (answer : Bool) : Type 0 where
@@ -44,13 +48,14 @@ pub record Groups (standing : Standing) (group : Id) (answer : Bool) : Type 0 wh
   pub stood : standing ≡ journal of
   pub known : is_some (group_at (facts of).groups group) ≡ answer
 
--- The causes of an outcome for which no body was read whole: the input is read once the group is known to be there. Where memory
--- was wanting it may have been read in part.
+-- The causes of an outcome for which no body was read whole: the input is read once the group is
+-- known to be there. Where memory was wanting it may have been read in part.
 abbrev pub PostStopsBy : (old new : Outside) (input input' : Stream) → Outcome → Type 0
 PostStopsBy old new input input' outcome.NoStore = IsIdle input input'
 PostStopsBy old new input input' (outcome.Damaged place) = IsIdle input input'
 PostStopsBy old new input input' (outcome.Refused refused.UnknownGroup) = IsIdle input input'
-PostStopsBy old new input input' outcome.DiskFault = CountRose old.disk_faults new.disk_faults × IsIdle input input'
+PostStopsBy old new input input' outcome.DiskFault =
+    CountRose old.disk_faults new.disk_faults × IsIdle input input'
 PostStopsBy old new input input' outcome.ReadFault = CountRose input.faults input'.faults
 PostStopsBy old new input input' outcome.Memory = Unit {0}
 PostStopsBy old new input input' _ = ⊥
@@ -64,36 +69,44 @@ PostStopsWhere standing group outcome.ReadFault = Groups standing group true
 PostStopsWhere standing group _ = Unit {0}
 
 -- what is so where the files are told: nothing was added
-pub record PostStopsTold (clients : Meaning) (group : Id) (two : Two File) (old new : Outside) (came : Outcome) : Type 0 where
+pub record PostStopsTold (clients : Meaning) (group : Id) (two : Two File) (old new : Outside)
+    (came : Outcome) : Type 0 where
   pub rests : LeavesFilesSo (KeepsFiles came two) two old new
   pub ends : PostStopsWhere (stands clients (read_files two)) group came
 
 -- no body was read whole, nothing was added and nothing printed
-pub record StopsShort (clients : Meaning) (group : Id) (old new : Outside) (input input' out out' : Stream) (came : Outcome) : Type 0 where
+pub record StopsShort (clients : Meaning) (group : Id) (old new : Outside)
+    (input input' out out' : Stream) (came : Outcome) : Type 0 where
   pub run : DiskRun old new
   pub by : PostStopsBy old new input input' came
   pub quiet : IsIdle out out'
   pub told : (two : Two File) → old.files ≡ Some two → PostStopsTold clients group two old new came
 
 -- A message is posted, or it is refused; or the command stopped before its body was read.
-abbrev pub HasPosted : Meaning → Id → ℕ → (old new : Outside) → (input input' out out' : Stream) → Outcome → Type 0
-HasPosted clients group timestamp old new input input' out out' outcome.NoStore = StopsShort clients group old new input input' out out' outcome.NoStore
+abbrev pub HasPosted : Meaning → Id → ℕ → (old new : Outside) → (input input' out out' : Stream)
+    → Outcome → Type 0
+HasPosted clients group timestamp old new input input' out out' outcome.NoStore =
+    StopsShort clients group old new input input' out out' outcome.NoStore
 HasPosted clients group timestamp old new input input' out out' (outcome.Damaged place) =
     StopsShort clients group old new input input' out out' (outcome.Damaged place)
-HasPosted clients group timestamp old new input input' out out' (outcome.Refused refused.UnknownGroup) =
+HasPosted clients group timestamp old new input input' out out'
+    (outcome.Refused refused.UnknownGroup) =
     StopsShort clients group old new input input' out out' (outcome.Refused refused.UnknownGroup)
-HasPosted clients group timestamp old new input input' out out' outcome.ReadFault = StopsShort clients group old new input input' out out' outcome.ReadFault
+HasPosted clients group timestamp old new input input' out out' outcome.ReadFault =
+    StopsShort clients group old new input input' out out' outcome.ReadFault
 HasPosted clients group timestamp old new input input' out out' outcome.DiskFault =
     StopsShort clients group old new input input' out out' outcome.DiskFault
     ⊎ PostsBody clients group timestamp old new input input' out out' outcome.DiskFault
 HasPosted clients group timestamp old new input input' out out' outcome.Memory =
     StopsShort clients group old new input input' out out' outcome.Memory
     ⊎ PostsBody clients group timestamp old new input input' out out' outcome.Memory
-HasPosted clients group timestamp old new input input' out out' came = PostsBody clients group timestamp old new input input' out out' came
+HasPosted clients group timestamp old new input input' out out' came =
+    PostsBody clients group timestamp old new input input' out out' came
 
 -- the plan of a post as it is answered, with the message's id, but for want of memory
 abbrev pub IsPlanOfPost : Plan → Result PlannedPost Outcome → Type 0
-IsPlanOfPost plan (Ok post) = (plan ≡ adds (entry.Author post.message)) × (post.id ≡ message_id_of post.message)
+IsPlanOfPost plan (Ok post) =
+    (plan ≡ adds (entry.Author post.message)) × (post.id ≡ message_id_of post.message)
 IsPlanOfPost plan (Err outcome.Memory) = Unit {0}
 IsPlanOfPost plan (Err (outcome.Refused why)) = plan ≡ refuses why
 IsPlanOfPost plan (Err _) = ⊥
@@ -101,7 +114,8 @@ IsPlanOfPost plan (Err _) = ⊥
 -- what reading a body answers
 abbrev pub IsBodyRead : (input input' : Stream) → Result (Vec ℕ) Outcome → Type 0
 IsBodyRead input input' (Ok body) = IsBody input input' body.items
-IsBodyRead input input' (Err (outcome.Refused refused.BodyTooLong)) = (body : List ℕ) × IsBody input input' body × (length body ≡ MAX_BODY + 1)
+IsBodyRead input input' (Err (outcome.Refused refused.BodyTooLong)) =
+    (body : List ℕ) × IsBody input input' body × (length body ≡ MAX_BODY + 1)
 IsBodyRead input input' (Err outcome.ReadFault) = CountRose input.faults input'.faults
 IsBodyRead input input' (Err outcome.Memory) = Unit {0}
 IsBodyRead input input' (Err came) = ⊥

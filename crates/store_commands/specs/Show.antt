@@ -1,4 +1,5 @@
--- What a command that only looks does: it writes nothing to the files, and shows a text of the journal that they stand for.
+-- What a command that only looks does: it writes nothing to the files, and shows a text of the
+-- journal that they stand for.
 use Rattle.std.specs.Prelude.{◌≡◌, ℕ, List, Option, Some}
 use Rattle.std.specs.Io.KnownBytes.{Appends}
 use Rattle.outside.specs.Faults.{CountRose}
@@ -13,11 +14,13 @@ use Rattle.sync_words.specs.declared.outcome.Outcome.TheVariants as outcome
 use Rattle.outside.specs.Streams.{Stream, IsIdle, GetsFront}
 use Rattle.store_commands.specs.Shown.{Showing, denies, shows}
 
--- the causes of an outcome, whatever the disk tells: a fault comes only where its count rose, and nothing is written but the text
+-- the causes of an outcome, whatever the disk tells: a fault comes only where its count rose, and
+-- nothing is written but the text
 abbrev pub LooksBy : (old new : Outside) (out out' : Stream) → Outcome → Type 0
 LooksBy old new out out' outcome.Done = Unit {0}
 LooksBy old new out out' outcome.WriteFault = CountRose out.faults out'.faults
-LooksBy old new out out' outcome.DiskFault = CountRose old.disk_faults new.disk_faults × IsIdle out out'
+LooksBy old new out out' outcome.DiskFault =
+    CountRose old.disk_faults new.disk_faults × IsIdle out out'
 LooksBy old new out out' outcome.NoStore = IsIdle out out'
 LooksBy old new out out' (outcome.Damaged place) = IsIdle out out'
 LooksBy old new out out' (outcome.Refused why) = IsIdle out out'
@@ -27,7 +30,8 @@ LooksBy old new out out' _ = ⊥
 -- a text is printed, where memory is found for it
 abbrev pub PrintsText : List ℕ → Stream → Stream → Outcome → Type 0
 PrintsText text out out' outcome.Done = Appends out.bytes out'.bytes text
-PrintsText text out out' outcome.WriteFault = CountRose out.faults out'.faults × GetsFront out out' text
+PrintsText text out out' outcome.WriteFault =
+    CountRose out.faults out'.faults × GetsFront out out' text
 PrintsText text out out' outcome.Memory = IsIdle out out'
 PrintsText text out out' _ = ⊥
 
@@ -37,13 +41,15 @@ PrintsShowing (shows text) out out' came = PrintsText text out out' came
 PrintsShowing (denies why) out out' came = (came ≡ outcome.Refused why) × IsIdle out out'
 
 -- the files stand for a journal of which this is shown
-pub record ShowsOfStanding (shown : Facts → Showing) (standing : Standing) (what : Showing) : Type 0 where
+pub record ShowsOfStanding (shown : Facts → Showing) (standing : Standing)
+    (what : Showing) : Type 0 where
   pub of : List (List Entry)
   pub stood : standing ≡ journal of
   pub is : shown (facts of) ≡ what
 
 -- the text is shown, or for want of the output a front of it
-pub record ShowsText (shown : Facts → Showing) (standing : Standing) (P : List ℕ → Type 0) : Type 0 where
+pub record ShowsText (shown : Facts → Showing) (standing : Standing)
+    (P : List ℕ → Type 0) : Type 0 where
   pub text : List ℕ
   pub shown_so : ShowsOfStanding shown standing (shows text)
   pub printed : P text
@@ -52,8 +58,10 @@ pub record ShowsText (shown : Facts → Showing) (standing : Standing) (P : List
 abbrev pub LooksEnds : (Facts → Showing) → Standing → Stream → Stream → Outcome → Type 0
 LooksEnds shown standing out out' outcome.NoStore = standing ≡ no_store
 LooksEnds shown standing out out' (outcome.Damaged place) = standing ≡ damaged place.file place.at
-LooksEnds shown standing out out' (outcome.Refused why) = ShowsOfStanding shown standing (denies why)
-LooksEnds shown standing out out' outcome.Done = ShowsText shown standing (Appends out.bytes out'.bytes)
+LooksEnds shown standing out out' (outcome.Refused why) =
+    ShowsOfStanding shown standing (denies why)
+LooksEnds shown standing out out' outcome.Done =
+    ShowsText shown standing (Appends out.bytes out'.bytes)
 LooksEnds shown standing out out' outcome.WriteFault = ShowsText shown standing (GetsFront out out')
 LooksEnds shown standing out out' _ = Unit {0}
 
@@ -61,7 +69,8 @@ LooksEnds shown standing out out' _ = Unit {0}
 abbrev pub FilesReadSame : Two File → Two File → Type 0
 FilesReadSame two two' = read_files two' ≡ read_files two
 
--- the files read as before; where a call on the disk failed nothing is said of them but at each moment
+-- the files read as before; where a call on the disk failed nothing is said of them but at each
+-- moment
 abbrev pub KeepsFiles : Outcome → Two File → Two File → Type 0
 KeepsFiles outcome.DiskFault two two' = Unit {0}
 KeepsFiles came two two' = FilesReadSame two two'
@@ -72,12 +81,15 @@ pub record LeavesFilesSo (P : Two File → Type 0) (two : Two File) (old new : O
   pub kept : (two' : Two File) → new.files ≡ Some two' → P two'
 
 -- what is so where the files are told
-pub record LooksTold (clients : Meaning) (shown : Facts → Showing) (two : Two File) (old new : Outside) (out out' : Stream) (came : Outcome) : Type 0 where
+pub record LooksTold (clients : Meaning) (shown : Facts → Showing) (two : Two File)
+    (old new : Outside) (out out' : Stream) (came : Outcome) : Type 0 where
   pub rests : LeavesFilesSo (KeepsFiles came two) two old new
   pub ends : LooksEnds shown (stands clients (read_files two)) out out' came
 
 -- a command that only looks
-pub record HasLooked (clients : Meaning) (shown : Facts → Showing) (old new : Outside) (out out' : Stream) (came : Outcome) : Type 0 where
+pub record HasLooked (clients : Meaning) (shown : Facts → Showing) (old new : Outside)
+    (out out' : Stream) (came : Outcome) : Type 0 where
   pub run : DiskRun old new
   pub by : LooksBy old new out out' came
-  pub told : (two : Two File) → old.files ≡ Some two → LooksTold clients shown two old new out out' came
+  pub told : (two : Two File) → old.files ≡ Some two
+      → LooksTold clients shown two old new out out' came

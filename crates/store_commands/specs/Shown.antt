@@ -13,7 +13,8 @@ use Rattle.sync_rules.specs.Steps.{fate_held}
 use Rattle.store_commands.specs.declared.listing.Listing.{Listing}
 use Rattle.store_commands.specs.declared.listing.Listing.TheVariants as listing
 use Rattle.sync_words.specs.EntryTexts.{contact_text, group_text, posted_text, set_level_text}
-use Rattle.sync_words.specs.HeldTexts.{contacts_text, inbox_text, known_group_text, message_state_text, sessions_text}
+use Rattle.sync_words.specs.HeldTexts.{contacts_text, inbox_text, known_group_text}
+use Rattle.sync_words.specs.HeldTexts.{message_state_text, sessions_text}
 
 -- the line of the entry that a command adds
 abbrev pub added_text : Entry → List ℕ
@@ -51,8 +52,8 @@ levels_below f (suc n) = levels_below f n ++ contact_levels f n
 abbrev pub message_line : Facts → Held → List ℕ
 message_line f h = message_state_text h.id h.message.group (fate_held f h.id)
 
--- All that `show` prints: the contacts, the groups, the levels, the messages in order of arrival, the number of sessions
--- begun
+-- All that `show` prints: the contacts, the groups, the levels, the messages in order of arrival,
+-- the number of sessions begun
 abbrev pub show_text : Facts → List ℕ
 show_text f =
     contacts_text f.contacts
@@ -63,7 +64,8 @@ show_text f =
 
 abbrev pub delivered_line : Option Held → List ℕ
 delivered_line None = []
-delivered_line (Some h) = inbox_text h.id h.message.group h.message.timestamp h.origin (length h.message.body)
+delivered_line (Some h) =
+    inbox_text h.id h.message.group h.message.timestamp h.origin (length h.message.body)
 
 -- all that `inbox` prints: the delivered messages in the order of their delivery
 abbrev pub inbox_of : Facts → List ℕ

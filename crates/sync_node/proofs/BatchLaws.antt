@@ -154,6 +154,7 @@ module _ (clients : Meaning) (batch : List Entry) (s s' : StoreValue)
     more = has.more;
     adds = has.adds;
     did = all_did still;
+    facts = has.runs.facts still;
     ready = ready' still;
   }
 
@@ -196,8 +197,10 @@ add_did clients batch s s' u o o' ready has ready' = record {
     more = has.more;
     adds = has.adds;
     did = all_did clients batch s s' (Ok u) o o' ready has has.answer.0;
+    facts = has.runs.facts has.answer.0;
     ready = ready' has.answer.0;
   };
   some = has.answer.2;
+  same_links = has.runs.run.same_links;
   settled = has.answer.3;
 }

@@ -10,7 +10,9 @@ mod StateLaws
 mod NodeLaws
 mod AttachLaws
 mod CauseLaws
-mod StopLaws
+mod KeepLaws
+mod TurnKeeps
+mod CallLaws
 mod BeginLaws
 mod AddLaws
 pub mod SentLaws

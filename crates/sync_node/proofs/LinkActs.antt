@@ -242,6 +242,7 @@ module _ (clients : Meaning) (session : ℕ) (r : Record) (s : StoreValue) (o : 
   pub record_taken : (mid s' : StoreValue) (m o' : Outside) → Committed clients batch s mid o m
       → Settled clients mid s' m o' → RecordTaken clients session r s s' o o'
   record_taken mid s' m o' commits settles = record {
+    settled = settles.settled;
     went = λ n place its p takes same.
         let q : Spot = record { doing = Takes (items_after r its); link = link_after place r p.link; moved = p.moved; facts = mid.state.facts } in
         link_joins clients n session p q (record q { facts = s'.state.facts }) s mid s' o m o'

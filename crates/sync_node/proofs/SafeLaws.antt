@@ -24,7 +24,6 @@ use Rattle.sync_store.specs.Moments.{JournalMoment, LeadsTo}
 use Rattle.sync_node.specs.Going.{LetsNothingFall, specs_of}
 use Rattle.sync_node.specs.Output.{AreOutput, Journal, heard_on, output, sent_on}
 use Rattle.sync_node.specs.Safe.{Begin, IsCovered, IsCoveredNow, IsEarly, Safe, read_now}
-use Rattle.sync_node.specs.Starting.{HasOutput}
 use Rattle.sync_node.specs.Suits.{SuitsRun}
 use Rattle.sync_node.proofs.Fronts.{front_taken}
 use Rattle.sync_node.proofs.SuitLaws.{Grows, HearsMore, outputs_grown, suits_grown, suits_more}
@@ -267,60 +266,20 @@ safe_calm fronts clients b plans s o o' call grows same_told safe =
 
 -- ---- a send
 
-pub safe_send : FrontsHaveFronts → ImagesStand → (clients : Meaning) (b : Begin)
-    (plans : List Session) (s : StoreValue) (o o' : Outside) (link : ℕ) (bytes : List ℕ)
-    (result : Result (Unit {0}) Failed)
-    → s.closed ≡ false → s.end + room_of (written_in s) s.state.facts ≤ MAX_JOURNAL → link < o.links.dialled
-    → LinkCall (SendsPart o link bytes) o o' → SendsOnLink link bytes result o.links o'.links
-    → HasOutput clients (b.first + link) link bytes s o
-    → Safe clients b plans s o → Safe clients b plans s o'
-safe_send fronts stand clients b plans s o o' link bytes result opened roomy within call sends output_has safe =
-    let back : TellsAll o' → TellsAll o = told_by o o' (ap is_some call.same_files) (grow_send link bytes result o.links o'.links sends) in
-    let hears : HearsMore (heard_on o.links) (heard_on o'.links) = heard_more o.links o'.links (grow_send link bytes result o.links o'.links sends) in
-    let none : IsFront plans plans = front_same plans plans refl in
-    let here : (told : TellsAll o) (n : ℕ) (whole : Journal) → FitsFiles clients s whole told.two → IsFront (sent_on o.links link ++ take n bytes) (output whole (b.first + link)) =
-    λ told n whole fits. front_then _ _ _ (front_taken n (sent_on o.links link) bytes) (output_has told whole fits) in
-    let behind : s.closed ≡ false → (told' : TellsAll o') → IsCoveredNow clients b plans (heard_on o'.links) (sent_on o'.links) s told'.two =
-    λ opened' told'.
-    let told = back told' in
-    let now = safe.now opened told in
-    let two : told'.two ≡ told.two = cc (told'.files_are, told.files_are, call.same_files) in
-    let out = went_out link bytes result o.links o'.links sends in
-    let inside : link < length told.links = omega (arith, within, o.all_told told.links told.links_are) in
-    let went : sent_on o'.links link ≡ sent_on o.links link ++ take out.0 bytes = ap (λ t. sent_at t link) out.1 ∙ sent_at-with_sent o.links.told told.links link (take out.0 bytes) told.links_are inside in
-    record {
-      whole = now.whole;
-      fits = subst (λ (t : Two File). FitsFiles clients s now.whole t) (sym two) now.fits;
-      suits = suits_more fronts clients b.journal b.first plans plans _ _ none hears now.whole now.suits;
-      has_sent = λ i. elim (cases_eq i link) [
-        | inl is ↦
-            subst (λ (k : ℕ). IsFront (sent_on o'.links k) (output now.whole (b.first + k))) (sym is)
-            (subst (λ (l : List ℕ). IsFront l (output now.whole (b.first + link))) (sym went) (here told out.0 now.whole now.fits))
-        | inr other ↦
-            subst (λ (l : List ℕ). IsFront l (output now.whole (b.first + i))) (sym ((others_send link bytes result o.links o'.links sends).sent i other)) (now.has_sent i)
-      ];
-    } in
-    record {
-      later = λ told'. omega (arith, safe.later (back told'), call.time.later);
-      moments = λ told' m w.
-          let told = back told' in
-          let now = safe.now opened told in
-          covered_more fronts clients b plans plans _ _ none hears m (elim (call.time.nothing_else b.clock m (safe.later told) w) [
-            | inl old ↦ safe.moments told m old
-            | inr during ↦
-                let part = send_moments o told link bytes within m during in
-                inr (record {
-                  whole = now.whole;
-                  stands_for = stand clients s now.whole told.two m.files now.fits roomy part.image;
-                  suits = now.suits;
-                  has_sent = λ i. elim (cases_eq i link) [
-                    | inl is ↦
-                        subst (λ (k : ℕ). IsFront (slice_index_or m.sent k []) (output now.whole (b.first + k))) (sym is)
-                        (subst (λ (l : List ℕ). IsFront l (output now.whole (b.first + link))) (sym part.here) (here told part.count now.whole now.fits))
-                    | inr other ↦ subst (λ (l : List ℕ). IsFront l (output now.whole (b.first + i))) (sym (part.others i other)) (now.has_sent i)
-                  ];
-                })
-          ]);
-      reads = λ told'. covered_now clients b plans (heard_on o'.links) s told'.two o' (behind opened told');
-      now = behind;
-    }
+-- more sessions may be planned
+pub safe_planned : FrontsHaveFronts → (clients : Meaning) (b : Begin) (plans later : List Session)
+    (s : StoreValue) (o : Outside) → IsFront plans later → Safe clients b plans s o
+    → Safe clients b later s o
+safe_planned fronts clients b plans later s o more safe = record {
+  later = safe.later;
+  moments = λ told m w. covered_more fronts clients b plans later (heard_on o.links) (heard_on o.links) more (λ link. front_same _ _ refl) m (safe.moments told m w);
+  reads = λ told. covered_wide fronts clients b plans later (heard_on o.links) (heard_on o.links) more (λ link. front_same _ _ refl) (read_now told.two o) (safe.reads told);
+  now = λ opened told.
+      let now = safe.now opened told in
+      record {
+        whole = now.whole;
+        fits = now.fits;
+        suits = suits_more fronts clients b.journal b.first plans later (heard_on o.links) (heard_on o.links) more (λ link. front_same _ _ refl) now.whole now.suits;
+        has_sent = now.has_sent;
+      };
+}

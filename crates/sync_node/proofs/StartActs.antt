@@ -58,11 +58,13 @@ greeted_once stand n first second l l' o o' within sends over =
     by_result (Ok u) went ends = record {
       acts = Send n first ∷ [];
       is = inl (refl, over ends, ends);
+      same_files = sends.call.same_files;
       did = λ clients s roomy. did_send stand clients n first s o o' roomy within sends.call u went;
     }
     by_result (Err why) went ends = record {
       acts = Fail n first went.sent.0 ∷ [];
       is = inr (inr (inl (went.sent.0, refl, ends)));
+      same_files = sends.call.same_files;
       did = λ clients s roomy. did_fail stand clients n first s o o' roomy within sends.call why went;
     }
 
@@ -79,6 +81,7 @@ greeted_twice stand n first second l mid l' o o1 o' within within1 unfailed one 
     by_results (Ok u) (Ok v) went ends went' ends' = record {
       acts = Send n first ∷ (Send n second ∷ []);
       is = inr (inl (refl, ends' ∙ ends));
+      same_files = two.call.same_files ∙ one.call.same_files;
       did = λ clients s roomy.
           did_then clients (Send n first ∷ []) (Send n second ∷ []) s s s o o1 o'
           (did_send stand clients n first s o o1 roomy within one.call u went)
@@ -87,6 +90,7 @@ greeted_twice stand n first second l mid l' o o1 o' within within1 unfailed one 
     by_results (Ok u) (Err why) went ends went' ends' = record {
       acts = Send n first ∷ (Fail n second went'.sent.0 ∷ []);
       is = inr (inr (inr (went'.sent.0, refl, ends' ∙ ap (λ (x : Link). record x { end = link_end.Failed }) ends)));
+      same_files = two.call.same_files ∙ one.call.same_files;
       did = λ clients s roomy.
           did_then clients (Send n first ∷ []) (Fail n second went'.sent.0 ∷ []) s s s o o1 o'
           (did_send stand clients n first s o o1 roomy within one.call u went)
@@ -262,6 +266,7 @@ module _ (clients : Meaning) (x : Session) (s : StoreValue) (o : Outside) (batch
   start_went n first second begun reader l s1 o1 o2 ready commits roomy bytes found is_fresh awaits greets =
       let as_is : s1.state.facts ≡ after_all s.state.facts (session_batch x) = commits.facts ∙ ap (λ (b : List Entry). after_all s.state.facts b) is in
       record {
+        facts = as_is;
         has_read = λ going. subst (λ (r : ReaderState). HasRead [] r) (sym (reader_of greets.is)) (fresh_has_read awaits awaits.nothing);
         went = λ two told terms left links moved still made long numbered.
             let some = ready.fits two told in
@@ -295,6 +300,7 @@ module _ (clients : Meaning) (x : Session) (links : List Link) (s : StoreValue) 
   pub begin_went : (n : ℕ) (links' : List Link) (s' : StoreValue) → length links ≡ n
       → StartWentLast clients n x links links' s s' o o' → BeginWent clients x links links' s s' o o'
   begin_went n links' s' last behind = record {
+    facts = behind.starts.facts;
     has_read = λ heard none read i y there.
         elim (get_push_cases links behind.link i y (subst (λ (ls : List Link). slice_get ls i ≡ Some y) behind.pushed there)) [
           | inl old ↦ read i y old

@@ -85,13 +85,15 @@ pub record CommitsAndSettles (clients : Meaning) (batch : List Entry) (s s' : St
   pub more : Journal
   pub adds : AddsBatch clients s.state.facts batch more
   pub did : Did clients (commit_acts more) s s' o o'
+  pub facts : s'.state.facts ≡ after_batches s.state.facts more
   pub ready : IsReady clients s' o'.files
 
--- it was, and nothing is left to be settled
+-- it was, nothing is left to be settled, and no link was asked
 pub record Added (clients : Meaning) (batch : List Entry) (s s' : StoreValue)
     (o o' : Outside) : Type 0 where
   pub by : CommitsAndSettles clients batch s s' o o'
   pub some : by.more ≢ []
+  pub same_links : o'.links ≡ o.links
   pub settled : IsSettled clients s'.state.facts
 
 pub record AddingFull (clients : Meaning) (batch : List Entry) (s s' : StoreValue)

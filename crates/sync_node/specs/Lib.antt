@@ -14,6 +14,8 @@ pub mod Redundant
 pub mod Starting
 pub mod Adding
 pub mod Node
+pub mod Keeps
+pub mod Calls
 pub mod Stays
 pub mod Stops
 pub mod Begun

@@ -6,6 +6,7 @@ use Rattle.record_grammar.specs.declared.stream.Item.{Item}
 use Rattle.record_grammar.specs.declared.stream.Item.TheVariants as item
 use Rattle.sync_ids.specs.declared.records.Record.{Record}
 use Rattle.sync_rules.specs.Clients.{Meaning}
+use Rattle.sync_rules.specs.Steps.{IsSettled}
 use Rattle.sync_store.specs.Store.{StoreValue}
 use Rattle.sync_course.specs.Acts.{Act, batches_in}
 use Rattle.sync_course.specs.Links as course_links
@@ -56,6 +57,7 @@ LinkStopped clients n session p link s s' o o' e =
 -- the record at the front of the items was taken, and the journal settled
 pub record RecordTaken (clients : Meaning) (session : ℕ) (r : Record) (s s' : StoreValue)
     (o o' : Outside) : Type 0 where
+  pub settled : IsSettled clients s'.state.facts
   pub went : (n place : ℕ) (its : List Item) (p : Spot) → p.doing ≡ Takes (item.One place r ∷ its)
       → p.facts ≡ s.state.facts
       → LinkWent clients n session p

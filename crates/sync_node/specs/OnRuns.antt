@@ -4,7 +4,9 @@ use Rattle.entry_codec.specs.Standing.{room_of}
 use Rattle.outside.specs.declared.limits.TheConstants.{MAX_JOURNAL}
 use Rattle.outside.specs.Files.{Two, File}
 use Rattle.outside.specs.Outside.{Outside}
+use Rattle.sync_rules.specs.declared.entries.Entry.TheVariants as entry
 use Rattle.sync_rules.specs.declared.entries.Session.{Session}
+use Rattle.sync_rules.specs.Facts.{after_all}
 use Rattle.sync_rules.specs.Clients.{Meaning}
 use Rattle.sync_store.specs.Store.{StoreValue, written_in}
 use Rattle.sync_course.specs.Acts.{Act, Fail, Send, batches_in}
@@ -21,6 +23,7 @@ use Rattle.sync_node.specs.declared.link.Link.{Link}
 use Rattle.sync_course.specs.declared.ends.LinkEnd.TheVariants as link_end
 use Rattle.sync_node.specs.Courses.{AllRead, IsLinkRead, IsReadyToSend, attaching_at, link_at, links_from, place_at}
 use Rattle.sync_node.specs.Did.{Did}
+use Rattle.sync_node.specs.Starting.{HasBegun}
 use Rattle.sync_node.specs.Went.{Stopped, Went}
 
 abbrev pub RunActs : Meaning → Terms → Owing Place → Act → Owing Place → Type 0
@@ -164,14 +167,16 @@ IsGreeting n first second l l' acts =
 pub record GreetsBy (n : ℕ) (first second : List ℕ) (l l' : Link) (o o' : Outside) : Type 0 where
   pub acts : List Act
   pub is : IsGreeting n first second l l' acts
+  pub same_files : o'.files ≡ o.files
   pub did : (clients : Meaning) (s : StoreValue)
       → s.end + room_of (written_in s) s.state.facts ≤ MAX_JOURNAL → Did clients acts s s o o'
 
--- Where files are told, a session began on the link of this number, behind the others, and greeted
+-- A session began: where files are told, on the link of this number, behind the others, and greeted
 -- there. Nothing was heard on it.
 pub record StartWent (clients : Meaning) (n : ℕ) (session : Session) (l : Link)
     (s s' : StoreValue) (o o' : Outside) : Type 0 where
   pub has_read : IsLinkRead [] l
+  pub facts : s'.state.facts ≡ after_all s.state.facts (entry.Session session ∷ [])
   pub went : (two : Two File) → o.files ≡ Some two → (terms : Terms) (left : List Session)
       (links : List course_links.Link) (moved : Bool) (still made : ℕ) → length links ≡ n
       → session.number ≡ terms.first + n
@@ -190,12 +195,14 @@ pub record StartWentLast (clients : Meaning) (n : ℕ) (session : Session) (link
     (s s' : StoreValue) (o o' : Outside) : Type 0 where
   pub link : Link
   pub starts : StartWent clients n session link s s' o o'
+  pub begun : HasBegun clients n session link s s' o o'
   pub pushed : links' ≡ links ++ link ∷ []
 
--- where files are told, the next session began on the link behind those of a node, on which nothing
--- was heard
+-- The next session began: where files are told, on the link behind those of a node, on which nothing
+-- was heard.
 pub record BeginWent (clients : Meaning) (session : Session) (links links' : List Link)
     (s s' : StoreValue) (o o' : Outside) : Type 0 where
+  pub facts : s'.state.facts ≡ after_all s.state.facts (entry.Session session ∷ [])
   pub has_read : (heard : ℕ → List ℕ) → heard (length links) ≡ [] → AllRead heard links
       → AllRead heard links'
   pub went : (two : Two File) → o.files ≡ Some two → (terms : Terms) (left : List Session)

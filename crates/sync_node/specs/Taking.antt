@@ -30,22 +30,6 @@ pub record IsOpenToTake (clients : Meaning) (session : Session) (s : StoreValue)
 abbrev pub next_take : Facts → Session → Record → List Entry
 next_take f session r = take_of f session (takes_of f.takes session.number) r
 
--- a record was taken, and the journal settled behind it
-pub record TakesOn (clients : Meaning) (session : Session) (r : Record) (s s' : StoreValue)
-    (o o' : Outside) : Type 0 where
-  pub allowed : Allowed clients s.state.facts (next_take s.state.facts session r)
-  pub more : Journal
-  pub settling : AllSettling clients (after_all s.state.facts (next_take s.state.facts session r)) more
-  pub commits : CommitsBatches clients (next_take s.state.facts session r ∷ more) s s' o o'
-  pub settled : IsSettled clients s'.state.facts
-
--- where the record is the next that was heard on the session's link, it stays safe
-pub record TakesSafe (clients : Meaning) (session : Session) (r : Record) (s s' : StoreValue)
-    (o o' : Outside) : Type 0 where
-  pub safe : (b : Begin) (plans : List Session) (link : ℕ) → session.number ≡ b.first + link
-      → (TellsAll o → slice_get (records (heard_on o.links link)) (takes_of s.state.facts.takes session.number) ≡ Some r)
-      → Safe clients b plans s o → Safe clients b plans s' o'
-
 -- fewer bytes are left, held or of the piece; or nothing is left of the piece, and no item stands
 -- whole in what is held
 abbrev pub LeavesLess : Link → List ℕ → Link → List ℕ → Bool → Type 0

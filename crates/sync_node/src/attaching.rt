@@ -1,21 +1,12 @@
 //! A session that begins on a link.
-ghost use Rattle.std.specs.Prelude.{IfErr};
-ghost use Rattle.std.specs.Prelude.{IsErrOf};
-ghost use Rattle.outside.specs.Faults.{CountRose};
-ghost use Rattle.std.specs.Prelude.{◌≡◌, ◌<◌, ◌++◌, ◌∷◌, [], length, IfOk, OnErr, OnOk};
+ghost use Rattle.std.specs.Prelude.{◌≡◌, ◌<◌, ◌∷◌, [], length, IfErr, IfOk, OnOk};
 ghost use Rattle.record_stream.specs.Reading.{AwaitsBytes, fresh};
 ghost use Rattle.sync_rules.specs.Legal.{Allowed};
 ghost use Rattle.sync_rules.specs.declared.entries.Entry.TheVariants as entry;
 ghost use Rattle.sync_store.specs.Ready.{IsReady};
-ghost use Rattle.sync_node.specs.Causes.{LinkGoes, LinksGo};
-ghost use Rattle.sync_node.specs.Courses.{GreetsAsCourse, StartsAsCourse};
-ghost use Rattle.sync_node.specs.Courses.{StartsBehind};
-ghost use Rattle.sync_node.specs.Fulls.{FullStart};
-ghost use Rattle.sync_node.specs.Going.{LetsNothingFall};
+ghost use Rattle.sync_node.specs.Causes.{LinkGoes};
 ghost use Rattle.sync_node.specs.OnRuns.{GreetsBy, StartStopped, StartWent, StartWentLast};
-ghost use Rattle.sync_node.specs.Starting.{GreetsOnLink, StartsSession, StartsLast, StartsSafe};
-ghost use Rattle.sync_node.specs.Stays.{IsUndoneBy, KeepsReady};
-ghost use Rattle.sync_node.specs.Stops.{StaysSame};
+ghost use Rattle.sync_node.specs.Starting.{AttachKeeps, HasBegun, StartKeeps, StartStops};
 
 use crate::fault::Fault;
 use crate::link::Link;
@@ -30,7 +21,10 @@ use sync_rules::{Batch, Clients, Entry, Session};
 use sync_store::Store;
 
 /// Begins a session on the next link, and puts the link behind the others. It takes the buffer of
-/// the link's reader, and room for the link, before anything else.
+/// the link's reader, and room for the link, before anything else. `went`: the session stands in the
+/// journal, and the link greeted, or its greeting failed and it is closed. `stopped`: nothing was
+/// done for want of memory or of room; or a call of the disk failed in the commit, and nothing was
+/// sent.
 pub(crate) fn attach_on<H: Host, C: Clients>(
     alloc: Global,
     store: &mut Store,
@@ -50,30 +44,11 @@ pub(crate) fn attach_on<H: Host, C: Clients>(
         (H.tells host.new)) }
     ensures stopped { IfErr result (StartStopped (C.meaning clients.now) session store.old
         store.new (H.tells host.old) (H.tells host.new)) }
-    ensures ready { IfErr result (KeepsReady (C.meaning clients.now) store.new
-        (H.tells host.new)) }
-    ensures starts { OnOk result (StartsLast (C.meaning clients.now) number session
-        links.old.items links.new.items store.old store.new (H.tells host.old)
-        (H.tells host.new)) }
-    ensures course { OnOk result (StartsBehind (C.meaning clients.now) number session
-        links.old.items links.new.items store.old store.new (H.tells host.old)
-        (H.tells host.new)) }
-    ensures same { OnErr result (links.new.items ≡ links.old.items) }
-    ensures safe { StartsSafe (C.meaning clients.now) number session store.old store.new
-        (H.tells host.old) (H.tells host.new) }
-    ensures run { LinksGo links.old.items links.new.items (H.tells host.old)
-        (H.tells host.new) }
-    ensures limit { store.new.limit ≡ store.old.limit }
-    ensures format { store.new.format ≡ store.old.format }
-    ensures undone { IfErr result (IsUndoneBy store.old store.new host.old host.new) }
-    ensures as_before { IsErrOf result Fault.Full → StaysSame (C.meaning clients.now) store.old
-        store.new (H.tells host.old) (H.tells host.new) }
-    ensures full { IsErrOf result Fault.Full → FullStart (C.meaning clients.now) session store.old
-        store.new (H.tells host.old) (H.tells host.new) }
-    ensures fault { IsErrOf result Fault.DiskFault → CountRose (H.tells host.old).disk_faults
-        (H.tells host.new).disk_faults }
+    ensures keeps { AttachKeeps links.old.items links.new.items store.old store.new
+        (H.tells host.old) (H.tells host.new) result }
+    ensures stops { IfErr result (StartStops (C.meaning clients.now) store.old store.new host.old
+        host.new (H.tells host.old) (H.tells host.new)) }
 {
-    cite_laws();
     let reader = Reader::new(alloc)?;
     links.reserve(1)?;
     let link = start(alloc, store, host, clients, number, session, reader)?;
@@ -100,31 +75,14 @@ fn start<H: Host, C: Clients>(
     requires dialled { number < (H.tells host.old).links.dialled }
     ensures went { IfOk result (λ link. StartWent (C.meaning clients.now) number session link
         store.old store.new (H.tells host.old) (H.tells host.new)) }
+    ensures begun { IfOk result (λ link. HasBegun (C.meaning clients.now) number session link
+        store.old store.new (H.tells host.old) (H.tells host.new)) }
     ensures stopped { IfErr result (StartStopped (C.meaning clients.now) session store.old
         store.new (H.tells host.old) (H.tells host.new)) }
-    ensures ready { IfErr result (KeepsReady (C.meaning clients.now) store.new
-        (H.tells host.new)) }
-    ensures course { IfOk result (λ link. StartsAsCourse (C.meaning clients.now) number session link
-        store.old store.new (H.tells host.old) (H.tells host.new)) }
-    ensures starts { IfOk result (λ link. StartsSession (C.meaning clients.now) number session link
-        store.old store.new (H.tells host.old) (H.tells host.new)) }
-    ensures safe { StartsSafe (C.meaning clients.now) number session store.old store.new
-        (H.tells host.old) (H.tells host.new) }
-    ensures run { LetsNothingFall (H.tells host.old) (H.tells host.new) }
-    ensures cause { IfOk result (λ link. link.end ≡ LinkEnd.Failed
-        → CountRose ((H.tells host.old).links.faults number)
-        ((H.tells host.new).links.faults number)) }
-    ensures limit { store.new.limit ≡ store.old.limit }
-    ensures format { store.new.format ≡ store.old.format }
-    ensures undone { IfErr result (IsUndoneBy store.old store.new host.old host.new) }
-    ensures as_before { IsErrOf result Fault.Full → StaysSame (C.meaning clients.now) store.old
-        store.new (H.tells host.old) (H.tells host.new) }
-    ensures full { IsErrOf result Fault.Full → FullStart (C.meaning clients.now) session store.old
-        store.new (H.tells host.old) (H.tells host.new) }
-    ensures fault { IsErrOf result Fault.DiskFault → CountRose (H.tells host.old).disk_faults
-        (H.tells host.new).disk_faults }
+    ensures keeps { StartKeeps store.old store.new (H.tells host.old) (H.tells host.new) }
+    ensures stops { IfErr result (StartStops (C.meaning clients.now) store.old store.new host.old
+        host.new (H.tells host.old) (H.tells host.new)) }
 {
-    cite_laws();
     let versions = spell_versions(alloc)?;
     let priority = spell_nonce(alloc, &session.nonce)?;
     let batch = Batch::single(alloc, Entry::Session(session))?;
@@ -155,10 +113,6 @@ fn greet<H: Host>(host: &mut H, number: u8, link: &mut Link, versions: &[u8], pr
     ensures went { GreetsBy number versions.now priority.now link.old link.new
         (H.tells host.old) (H.tells host.new) }
     ensures run { LinkGoes number link.old link.new (H.tells host.old) (H.tells host.new) }
-    ensures told { GreetsAsCourse number link.old link.new (H.tells host.old)
-        (H.tells host.new) }
-    ensures greets { GreetsOnLink number (versions.now ++ priority.now) link.old link.new (H.tells
-        host.old) (H.tells host.new) }
 {
     cite_laws();
     send_on(host, number, link, versions);

@@ -1,18 +1,13 @@
 //! What is heard on a link is taken.
-ghost use Rattle.std.specs.Prelude.{IfErr};
-ghost use Rattle.std.specs.Prelude.{◌≡◌, ◌<◌, [], false, true, length, IfOk, OnErr};
-ghost use Rattle.std.specs.Prelude.{IsErrOf, OnOk};
-ghost use Rattle.outside.specs.Faults.{CountRose};
+ghost use Rattle.std.specs.Prelude.{◌≡◌, length, IfErr, IfOk, OnOk};
 ghost use Rattle.sync_course.specs.declared.TheConstants.{PIECE_LEN};
-ghost use Rattle.sync_node.specs.Causes.{LinkGoes};
 ghost use Rattle.sync_node.specs.Going.{LetsNothingFall};
 ghost use Rattle.sync_node.specs.Hearing.{LearnsNonce};
+ghost use Rattle.sync_node.specs.Keeps.{LinkKeeps, StaysSettled, StoreKeeps};
 ghost use Rattle.sync_node.specs.OnLinks.{HearingStopped, HearingWent, ItemsStopped, NextWent};
 ghost use Rattle.sync_node.specs.OnLinks.{PieceWent, RecordStopped, RecordTaken};
-ghost use Rattle.sync_node.specs.Taking.{IsOpenToTake, LeavesLess, TakesOn, TakesSafe};
-ghost use Rattle.sync_node.specs.Working.{IsAble, StaysSafe, HasGivenItems, WorksOnLink};
-ghost use Rattle.sync_node.specs.Stays.{KeepsReady};
-ghost use Rattle.sync_node.specs.Stops.{StaysSame, StopsSent};
+ghost use Rattle.sync_node.specs.Taking.{IsOpenToTake, LeavesLess};
+ghost use Rattle.sync_node.specs.Working.{HasGivenItems, IsAble, MayWork};
 
 use crate::fault::Fault;
 use crate::link::{Link, ended};
@@ -27,7 +22,9 @@ use sync_rules::{Clients, Session};
 use sync_store::Store;
 
 /// Hears once on a link that is still asked, and takes what came. Answers whether nothing came for
-/// now.
+/// now. `went`: each record that came was taken, with the settling behind it, and the link waits for
+/// the clock or is closed. `stopped`: some records were taken, and then memory was wanting, or the
+/// next one would pass the limit, or a call of the disk failed in the next batch.
 pub(crate) fn receive_on<H: Host, C: Clients>(
     alloc: Global,
     store: &mut Store,
@@ -37,33 +34,16 @@ pub(crate) fn receive_on<H: Host, C: Clients>(
     link: &mut Link,
     buffer: &mut [u8],
 ) -> Result<bool, Fault>
-    requires able { IsAble (C.meaning clients.now) number link.old.session store.old
-        (H.tells host.old) }
+    requires able { MayWork (C.meaning clients.now) number link.old store.old (H.tells host.old) }
     requires asked { link.old.end ≡ LinkEnd.Going }
-    requires waits { HasGivenItems link.old }
-    requires room { 0 < length buffer.old }
-    ensures went { length buffer.old ≡ PIECE_LEN → IfOk result (HearingWent
-        (C.meaning clients.now) number link.old link.new store.old store.new (H.tells host.old)
-        (H.tells host.new)) }
-    ensures stopped { length buffer.old ≡ PIECE_LEN → IfErr result (HearingStopped
-        (C.meaning clients.now) number link.old link.new store.old store.new (H.tells host.old)
-        (H.tells host.new)) }
-    ensures ready { IfErr result (KeepsReady (C.meaning clients.now) store.new
-        (H.tells host.new)) }
-    ensures able { OnOk result (IsAble (C.meaning clients.now) number link.new.session store.new
-        (H.tells host.new)) }
-    ensures waits { OnOk result (HasGivenItems link.new) }
-    ensures works { OnOk result (WorksOnLink (C.meaning clients.now) number [] [] link.old link.new
+    requires whole { length buffer.old ≡ PIECE_LEN }
+    ensures went { IfOk result (HearingWent (C.meaning clients.now) number link.old link.new
         store.old store.new (H.tells host.old) (H.tells host.new)) }
-    ensures stays { OnErr result (StaysSafe (C.meaning clients.now) number [] link.old store.old
-        store.new (H.tells host.old) (H.tells host.new)) }
-    ensures sent { IsErrOf result Fault.Full → StopsSent (C.meaning clients.now) number [] link.old
-        store.old store.new (H.tells host.old) (H.tells host.new) }
-    ensures run { LinkGoes number link.old link.new (H.tells host.old) (H.tells host.new) }
-    ensures limit { store.new.limit ≡ store.old.limit }
-    ensures format { store.new.format ≡ store.old.format }
-    ensures fault { IsErrOf result Fault.DiskFault → CountRose (H.tells host.old).disk_faults
-        (H.tells host.new).disk_faults }
+    ensures stopped { IfErr result (HearingStopped (C.meaning clients.now) number link.old link.new
+        store.old store.new (H.tells host.old) (H.tells host.new)) }
+    ensures keeps { LinkKeeps (C.meaning clients.now) number link.old link.new store.old store.new
+        (H.tells host.old) (H.tells host.new) result }
+    ensures waits { OnOk result (HasGivenItems link.new) }
 {
     cite_laws();
     match host.recv(number, buffer) {
@@ -85,7 +65,7 @@ pub(crate) fn receive_on<H: Host, C: Clients>(
 }
 
 // Takes the records of a piece, one after the other, until the piece is used up or the link is
-// closed.
+// closed. Where it is stopped, what came before was taken.
 fn take_piece<H: Host, C: Clients>(
     alloc: Global,
     store: &mut Store,
@@ -102,22 +82,9 @@ fn take_piece<H: Host, C: Clients>(
         link.new store.old store.new (H.tells host.old) (H.tells host.new)) }
     ensures stopped { IfErr result (ItemsStopped (C.meaning clients.now) number piece.old link.old
         link.new store.old store.new (H.tells host.old) (H.tells host.new)) }
-    ensures ready { IfErr result (KeepsReady (C.meaning clients.now) store.new
-        (H.tells host.new)) }
-    ensures able { OnOk result (IsAble (C.meaning clients.now) number link.new.session store.new
-        (H.tells host.new)) }
+    ensures keeps { LinkKeeps (C.meaning clients.now) number link.old link.new store.old store.new
+        (H.tells host.old) (H.tells host.new) result }
     ensures waits { OnOk result (HasGivenItems link.new) }
-    ensures works { OnOk result (WorksOnLink (C.meaning clients.now) number piece.old [] link.old link.new
-        store.old store.new (H.tells host.old) (H.tells host.new)) }
-    ensures stays { OnErr result (StaysSafe (C.meaning clients.now) number piece.old link.old
-        store.old store.new (H.tells host.old) (H.tells host.new)) }
-    ensures sent { IsErrOf result Fault.Full → StopsSent (C.meaning clients.now) number piece.old
-        link.old store.old store.new (H.tells host.old) (H.tells host.new) }
-    ensures run { LinkGoes number link.old link.new (H.tells host.old) (H.tells host.new) }
-    ensures limit { store.new.limit ≡ store.old.limit }
-    ensures format { store.new.format ≡ store.old.format }
-    ensures fault { IsErrOf result Fault.DiskFault → CountRose (H.tells host.old).disk_faults
-        (H.tells host.new).disk_faults }
 {
     'items: while link.is_asked() {
         if !take_next(alloc, store, host, clients, number, link, piece)? {
@@ -128,7 +95,8 @@ fn take_piece<H: Host, C: Clients>(
 }
 
 // Takes the next record of a piece, or passes over the next skipped one. Answers whether there was
-// one; no record closes the link.
+// one; no record closes the link. Where it is stopped, nothing of the record is committed but what
+// a failed call of the disk left, or its batch alone where settling behind it was stopped.
 fn take_next<H: Host, C: Clients>(
     alloc: Global,
     store: &mut Store,
@@ -145,22 +113,9 @@ fn take_next<H: Host, C: Clients>(
         link.old link.new store.old store.new (H.tells host.old) (H.tells host.new)) }
     ensures stopped { IfErr result (ItemsStopped (C.meaning clients.now) number piece.old link.old
         link.new store.old store.new (H.tells host.old) (H.tells host.new)) }
-    ensures ready { IfErr result (KeepsReady (C.meaning clients.now) store.new
-        (H.tells host.new)) }
-    ensures able { OnOk result (IsAble (C.meaning clients.now) number link.new.session store.new
-        (H.tells host.new)) }
+    ensures keeps { LinkKeeps (C.meaning clients.now) number link.old link.new store.old store.new
+        (H.tells host.old) (H.tells host.new) result }
     ensures left { IfOk result (LeavesLess link.old piece.old link.new piece.new) }
-    ensures works { OnOk result (WorksOnLink (C.meaning clients.now) number piece.old piece.new link.old
-        link.new store.old store.new (H.tells host.old) (H.tells host.new)) }
-    ensures stays { OnErr result (StaysSafe (C.meaning clients.now) number piece.old link.old
-        store.old store.new (H.tells host.old) (H.tells host.new)) }
-    ensures sent { IsErrOf result Fault.Full → StopsSent (C.meaning clients.now) number piece.old
-        link.old store.old store.new (H.tells host.old) (H.tells host.new) }
-    ensures run { LinkGoes number link.old link.new (H.tells host.old) (H.tells host.new) }
-    ensures limit { store.new.limit ≡ store.old.limit }
-    ensures format { store.new.format ≡ store.old.format }
-    ensures fault { IsErrOf result Fault.DiskFault → CountRose (H.tells host.old).disk_faults
-        (H.tells host.new).disk_faults }
 {
     cite_laws();
     match link.reader.next_in(piece)? {
@@ -199,6 +154,7 @@ fn learn(link: &mut Link, place: u64, rec: &Record)
 }
 
 // Commits the batch of a session's next record, with the id that was computed for it, and settles.
+// Where it is stopped, the batch is not committed, or it is and some settling is left.
 fn take_one<H: Host, C: Clients>(
     alloc: Global,
     store: &mut Store,
@@ -212,19 +168,10 @@ fn take_one<H: Host, C: Clients>(
         store.old store.new (H.tells host.old) (H.tells host.new)) }
     ensures stopped { IfErr result (RecordStopped (C.meaning clients.now) session.now.number rec
         store.old store.new (H.tells host.old) (H.tells host.new)) }
-    ensures ready { IfErr result (KeepsReady (C.meaning clients.now) store.new
-        (H.tells host.new)) }
-    ensures takes { OnOk result (TakesOn (C.meaning clients.now) session.now rec store.old
-        store.new (H.tells host.old) (H.tells host.new)) }
-    ensures safe { TakesSafe (C.meaning clients.now) session.now rec store.old store.new
-        (H.tells host.old) (H.tells host.new) }
-    ensures run { LetsNothingFall (H.tells host.old) (H.tells host.new) }
-    ensures limit { store.new.limit ≡ store.old.limit }
-    ensures format { store.new.format ≡ store.old.format }
-    ensures as_before { IsErrOf result Fault.Full → StaysSame (C.meaning clients.now) store.old
-        store.new (H.tells host.old) (H.tells host.new) }
-    ensures fault { IsErrOf result Fault.DiskFault → CountRose (H.tells host.old).disk_faults
-        (H.tells host.new).disk_faults }
+    ensures goes { LetsNothingFall (H.tells host.old) (H.tells host.new) }
+    ensures keeps { StoreKeeps (StaysSettled (C.meaning clients.now) store.old store.new
+        (H.tells host.new)) (C.meaning clients.now) store.old store.new (H.tells host.old)
+        (H.tells host.new) result }
 {
     records_are_within(&rec);
     let taken = store.state().takes(session.number);

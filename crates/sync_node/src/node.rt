@@ -9,7 +9,7 @@ use crate::fault::{Fault, NodeFault};
 use crate::hearing::receive_on;
 use crate::link::Link;
 use crate::sending::send_all;
-use crate::told::{add_settled, cite_laws};
+use crate::told::add_settled;
 use crate::turning::turn_all;
 use outside::Host;
 use std::alloc::{AllocError, Global};
@@ -94,42 +94,28 @@ fn zeros(alloc: Global, len: usize) -> Result<Vec<u8>, AllocError>
 }
 
 impl Node {
-    ghost use Rattle.std.specs.Prelude.{[], ◌∷◌, slice_get, OnErr, OnOk, Some};
+    ghost use Rattle.std.specs.Prelude.{slice_get, IfErr, OnOk, Some};
     ghost use Rattle.std.specs.Option.{option_map};
     ghost use Rattle.sync_node.specs.declared.link.Link.{Link};
-    ghost use Rattle.std.specs.Prelude.{IsErrOf};
-    ghost use Rattle.outside.specs.Faults.{CountRose};
     ghost use Rattle.outside.specs.Files.{Two, File};
     ghost use Rattle.sync_rules.specs.Legal.{Allowed, suits_nonce};
+    ghost use Rattle.sync_rules.specs.Steps.{IsSettled};
     ghost use Rattle.sync_rules.specs.declared.limits.TheConstants.{MAX_SESSIONS};
     ghost use Rattle.sync_store.specs.Fitting.{FitsFiles};
     ghost use Rattle.sync_store.specs.Moments.{LeadsTo};
-    ghost use Rattle.sync_node.specs.Adding.{AddsAtMost, AddsSettled, AddsWithin, IsPlain};
-    ghost use Rattle.sync_node.specs.Output.{Journal};
-    ghost use Rattle.sync_rules.specs.Steps.{IsSettled};
-    ghost use Rattle.sync_node.specs.Causes.{FailByCause, PushesOne};
-    ghost use Rattle.sync_store.specs.Commits.{needed};
-    ghost use Rattle.sync_node.specs.Fulls.{FullBeginning, FullReceiving, FullSending};
-    ghost use Rattle.sync_node.specs.Fulls.{FullTurn};
-    ghost use Rattle.sync_node.specs.Going.{LetsNothingFall};
-    ghost use Rattle.sync_node.specs.Node.{AnswersAndCloses, AttachesLink, IsNode, KeepsJoined, KeepsSafe, KeepsSessions};
-    ghost use Rattle.sync_node.specs.Node.{KeepsSafeAnew};
-    ghost use Rattle.sync_node.specs.Node.{MayRun, PlansSafe, StaysClosed, new_node};
-    ghost use Rattle.sync_node.specs.Courses.{BeginsNextSession, HaltsBeginning};
-    ghost use Rattle.sync_node.specs.Courses.{HaltsReceiving, HaltsSending, HaltsTurn};
-    ghost use Rattle.sync_node.specs.Courses.{MakesTurn, ReceivesOnce, SendsDue, is_still};
-    ghost use Rattle.sync_node.specs.Node.{IsNode};
+    ghost use Rattle.sync_node.specs.Adding.{AddsAtMost, IsPlain};
     ghost use Rattle.sync_node.specs.Batches.{Added, AddStops};
-    ghost use Rattle.sync_node.specs.OnRuns.{AskingStopped, AskingWent, BeginStopped, BeginWent};
-    ghost use Rattle.sync_node.specs.OnRuns.{ByFault, OutsSent};
-    ghost use Rattle.sync_node.specs.OnRuns.{OutsStopped, RoundStopped, RoundWent};
-    ghost use Rattle.std.specs.Prelude.{IfErr};
-    ghost use Rattle.sync_node.specs.Stays.{IsUndone, IsUndoneAt, StaysReady};
-    ghost use Rattle.sync_node.specs.Stops.{NodeSendsAll};
-    ghost use Rattle.sync_node.specs.Plans.{session_of};
-    ghost use Rattle.sync_rules.specs.Facts.{after_all};
-    ghost use Rattle.sync_rules.specs.declared.entries.Entry.TheVariants as entry;
+    ghost use Rattle.sync_node.specs.Calls.{AddCallStops, AttachStops, CallAnswers, CallGoes};
+    ghost use Rattle.sync_node.specs.Calls.{CallStops};
+    ghost use Rattle.sync_node.specs.Causes.{PushesOne};
+    ghost use Rattle.sync_node.specs.Courses.{is_still};
     ghost use Rattle.sync_node.specs.Ends.{MaySend};
+    ghost use Rattle.sync_node.specs.Node.{IsNode, KeepsSessions, MayRun, new_node};
+    ghost use Rattle.sync_node.specs.OnRuns.{AskingStopped, AskingWent, BeginStopped, BeginWent};
+    ghost use Rattle.sync_node.specs.OnRuns.{ByFault, OutsSent, OutsStopped, RoundStopped};
+    ghost use Rattle.sync_node.specs.OnRuns.{RoundWent};
+    ghost use Rattle.sync_node.specs.Output.{Journal};
+    ghost use Rattle.sync_node.specs.Plans.{session_of};
 
     /// A node over a store, which no failed call has closed. It takes the buffer here that links
     /// are asked with. It fails only for want of memory.
@@ -173,7 +159,12 @@ impl Node {
 
     /// Commits a batch of one entry that adds a contact, a group or a message, or sets a level, and
     /// may follow the journal; and settles. Nothing is sent: at each moment the files stand for the
-    /// journal, or for it with the batch and settling behind it.
+    /// journal, or for it with the batch and settling behind it (`leads`).
+    ///
+    /// Ok: the batch and settling behind it were committed, and nothing is left to be settled.
+    /// Memory: nothing was committed, or the batch and some of that settling. Full: with the batch
+    /// the journal would pass its limit, and nothing was done. DiskFault: a front of the batch and
+    /// its settling stands, and a crash may leave more of it.
     pub fn add<H: Host, C: Clients>(
         &mut self,
         host: &mut H,
@@ -184,45 +175,23 @@ impl Node {
         requires allowed { self.old.closed ≡ false
             → Allowed (C.meaning clients.now) self.old.store.state.facts batch }
         requires plain { IsPlain batch }
-        ensures closed { self.old.closed ≡ true
-            → StaysClosed self.old self.new host.old host.new result }
-        ensures answer { self.old.closed ≡ false → AnswersAndCloses result self.new }
+        ensures answers { CallAnswers self.old self.new host.old host.new result }
         ensures may { MayRun (C.meaning clients.now) self.new (H.tells host.new) }
-        ensures stays { self.old.closed ≡ false → StaysReady (C.meaning clients.now) self.new
-            (H.tells host.new) result }
+        ensures goes { CallGoes self.old self.new (H.tells host.old) (H.tells host.new) }
+        ensures links { self.new.links ≡ self.old.links }
+        ensures stops { self.old.closed ≡ false → AddCallStops (C.meaning clients.now) self.old
+            self.new host.old host.new (H.tells host.old) (H.tells host.new) result }
         ensures went { OnOk result (Added (C.meaning clients.now) batch self.old.store
             self.new.store (H.tells host.old) (H.tells host.new)) }
         ensures stopped { self.old.closed ≡ false → IfErr result (ByFault (AddStops
             (C.meaning clients.now) batch self.old.store self.new.store (H.tells host.old)
             (H.tells host.new))) }
-        ensures node { IsNode self.new }
-        ensures joined { OnOk result (KeepsJoined (C.meaning clients.now) self.old self.new
-            (H.tells host.old) (H.tells host.new)) }
-        ensures settled { OnOk result (IsSettled (C.meaning clients.now)
-            self.new.store.state.facts) }
         ensures leads { self.old.closed ≡ false → (two : Two File)
             → (H.tells host.old).files ≡ Some two → (j : Journal)
-            → FitsFiles (C.meaning clients.now) self.old.store j two → LeadsTo (C.meaning clients.now)
-            (AddsAtMost (C.meaning clients.now) j batch)
+            → FitsFiles (C.meaning clients.now) self.old.store j two
+            → LeadsTo (C.meaning clients.now) (AddsAtMost (C.meaning clients.now) j batch)
             (AddsAtMost (C.meaning clients.now) j batch) self.new.store (H.tells host.old)
             (H.tells host.new) }
-        ensures within { self.old.closed ≡ false → AddsWithin (C.meaning clients.now) batch
-            self.old.store (H.tells host.old) (H.tells host.new) }
-        ensures added { OnOk result (AddsSettled (C.meaning clients.now) batch self.old.store
-            self.new.store (H.tells host.old) (H.tells host.new)) }
-        ensures anew { OnOk result (KeepsSafeAnew (C.meaning clients.now) self.old self.new
-            (H.tells host.old) (H.tells host.new)) }
-        ensures limit { self.new.store.limit ≡ self.old.store.limit }
-        ensures format { self.new.store.format ≡ self.old.store.format }
-        ensures run { LetsNothingFall (H.tells host.old) (H.tells host.new) }
-        ensures links { self.new.links ≡ self.old.links }
-        ensures first { self.new.first ≡ self.old.first }
-        ensures undone { IsErrOf result NodeFault.Full
-            → IsUndone self.old.store self.new.store host.old host.new }
-        ensures full { IsErrOf result NodeFault.Full
-            → self.old.store.limit < needed self.old.store batch }
-        ensures fault { IsErrOf result NodeFault.DiskFault → CountRose (H.tells host.old).disk_faults
-            (H.tells host.new).disk_faults }
     {
         if self.closed {
             return Err(NodeFault::Closed);
@@ -237,6 +206,10 @@ impl Node {
     /// and, where it has a nonce, PRIORITY. The journal is settled and has fewer than 4,294,967,295
     /// sessions, the contact is known, the latency is at least 1, and a nonce is given in
     /// interactive mode alone. A failed send closes the link, and the answer is Ok.
+    ///
+    /// Ok: the session was committed, and then its greeting was sent, or a front of it. Memory:
+    /// nothing was done. Full: with the session the journal would pass its limit, and nothing was
+    /// done. DiskFault: nothing was sent, and a crash may leave the session or not.
     pub fn attach<H: Host, C: Clients>(
         &mut self,
         host: &mut H,
@@ -255,12 +228,12 @@ impl Node {
         requires next { link ≡ length self.old.links }
         requires few { link < LINKS }
         requires dialled { link < (H.tells host.old).links.dialled }
-        ensures closed { self.old.closed ≡ true
-            → StaysClosed self.old self.new host.old host.new result }
-        ensures answer { self.old.closed ≡ false → AnswersAndCloses result self.new }
+        ensures answers { CallAnswers self.old self.new host.old host.new result }
         ensures may { MayRun (C.meaning clients.now) self.new (H.tells host.new) }
-        ensures stays { self.old.closed ≡ false → StaysReady (C.meaning clients.now) self.new
-            (H.tells host.new) result }
+        ensures goes { CallGoes self.old self.new (H.tells host.old) (H.tells host.new) }
+        ensures links { PushesOne result self.old.links self.new.links }
+        ensures stops { self.old.closed ≡ false → AttachStops (C.meaning clients.now) self.old
+            self.new host.old host.new (H.tells host.old) (H.tells host.new) result }
         ensures went { self.old.closed ≡ false → OnOk result (BeginWent (C.meaning clients.now)
             (session_of self.old.store.state.facts.begun plan.now nonce) self.old.links
             self.new.links self.old.store self.new.store (H.tells host.old) (H.tells host.new)) }
@@ -268,38 +241,7 @@ impl Node {
             (C.meaning clients.now) (session_of self.old.store.state.facts.begun plan.now nonce)
             self.old.links self.new.links self.old.store self.new.store (H.tells host.old)
             (H.tells host.new))) }
-        ensures node { IsNode self.new }
-        ensures course { self.old.closed ≡ false → OnOk result (BeginsNextSession (C.meaning clients.now)
-            (session_of self.old.store.state.facts.begun plan.now nonce) self.old.links
-            self.new.links self.old.store self.new.store (H.tells host.old) (H.tells host.new)) }
-        ensures halts { self.old.closed ≡ false → OnErr result (HaltsBeginning
-            (C.meaning clients.now) (session_of self.old.store.state.facts.begun plan.now nonce)
-            self.old.links self.new.links self.old.store (H.tells host.old) (H.tells host.new)) }
-        ensures links { PushesOne result self.old.links self.new.links }
-        ensures first { self.new.first ≡ self.old.first }
-        ensures undone { IsUndoneAt self.old self.new host.old host.new result }
-        ensures joined { OnOk result (AttachesLink (C.meaning clients.now) self.old self.new
-            (H.tells host.old) (H.tells host.new)) }
-        ensures facts { OnOk result (self.new.store.state.facts
-            ≡ after_all self.old.store.state.facts
-            (entry.Session (session_of self.old.store.state.facts.begun plan.now nonce) ∷ [])) }
-        ensures safe { PlansSafe (C.meaning clients.now)
-            (session_of self.old.store.state.facts.begun plan.now nonce) self.old self.new
-            (H.tells host.old) (H.tells host.new) }
-        ensures limit { self.new.store.limit ≡ self.old.store.limit }
-        ensures format { self.new.store.format ≡ self.old.store.format }
-        ensures run { LetsNothingFall (H.tells host.old) (H.tells host.new) }
-        ensures cause { FailByCause self.old.links self.new.links (H.tells host.old)
-            (H.tells host.new) }
-        ensures sent { self.old.closed ≡ false → IsErrOf result NodeFault.Full → NodeSendsAll
-            (C.meaning clients.now) self.old self.new (H.tells host.old) (H.tells host.new) }
-        ensures full { IsErrOf result NodeFault.Full → FullBeginning (C.meaning clients.now)
-            (session_of self.old.store.state.facts.begun plan.now nonce) self.old.links
-            self.old.store self.new.store (H.tells host.old) (H.tells host.new) }
-        ensures fault { IsErrOf result NodeFault.DiskFault → CountRose (H.tells host.old).disk_faults
-            (H.tells host.new).disk_faults }
     {
-        cite_laws();
         if self.closed {
             return Err(NodeFault::Closed);
         }
@@ -326,6 +268,10 @@ impl Node {
 
     /// Asks a link once that is attached and still asked, and takes what came: the batch of each
     /// record, and settling behind it. Answers whether nothing came for now.
+    ///
+    /// Ok: all that came was taken, and the link waits for the clock, or it is closed. Memory: some
+    /// of it was. Full: some of it was, and with the next record the journal would pass its limit.
+    /// DiskFault: some of it was, and a crash may leave a front of the batches that were next.
     pub fn receive<H: Host, C: Clients>(
         &mut self,
         host: &mut H,
@@ -336,40 +282,18 @@ impl Node {
         requires attached { link < length self.old.links }
         requires asked { (l : Link) → slice_get self.old.links link ≡ Some l
             → l.end ≡ LinkEnd.Going }
-        ensures closed { self.old.closed ≡ true
-            → StaysClosed self.old self.new host.old host.new result }
-        ensures answer { self.old.closed ≡ false → AnswersAndCloses result self.new }
+        ensures answers { CallAnswers self.old self.new host.old host.new result }
         ensures may { MayRun (C.meaning clients.now) self.new (H.tells host.new) }
-        ensures stays { self.old.closed ≡ false → StaysReady (C.meaning clients.now) self.new
-            (H.tells host.new) result }
+        ensures goes { CallGoes self.old self.new (H.tells host.old) (H.tells host.new) }
+        ensures kept { KeepsSessions self.old self.new }
+        ensures stops { self.old.closed ≡ false → CallStops (C.meaning clients.now) self.new
+            (H.tells host.old) (H.tells host.new) result }
         ensures went { self.old.closed ≡ false → IfOk result (AskingWent (C.meaning clients.now)
             self.old.first link self.old.links self.new.links self.old.store self.new.store
             (H.tells host.old) (H.tells host.new)) }
         ensures stopped { self.old.closed ≡ false → IfErr result (ByFault (AskingStopped
             (C.meaning clients.now) self.old.first link self.old.links self.new.links
             self.old.store self.new.store (H.tells host.old) (H.tells host.new))) }
-        ensures node { IsNode self.new }
-        ensures course { self.old.closed ≡ false → IfOk result (ReceivesOnce (C.meaning clients.now)
-            self.old.first link self.old.links self.new.links self.old.store self.new.store
-            (H.tells host.old) (H.tells host.new)) }
-        ensures halts { self.old.closed ≡ false → OnErr result (HaltsReceiving
-            (C.meaning clients.now) self.old.first link self.old.links self.new.links
-            self.old.store (H.tells host.old) (H.tells host.new)) }
-        ensures kept { KeepsSessions self.old self.new }
-        ensures joined { OnOk result (KeepsJoined (C.meaning clients.now) self.old self.new
-            (H.tells host.old) (H.tells host.new)) }
-        ensures safe { KeepsSafe (C.meaning clients.now) self.old self.new (H.tells host.old)
-            (H.tells host.new) }
-        ensures limit { self.new.store.limit ≡ self.old.store.limit }
-        ensures format { self.new.store.format ≡ self.old.store.format }
-        ensures run { LetsNothingFall (H.tells host.old) (H.tells host.new) }
-        ensures cause { FailByCause self.old.links self.new.links (H.tells host.old)
-            (H.tells host.new) }
-        ensures full { IsErrOf result NodeFault.Full → FullReceiving (C.meaning clients.now)
-            self.old.first link self.old.links self.old.store self.new.store (H.tells host.old)
-            (H.tells host.new) }
-        ensures fault { IsErrOf result NodeFault.DiskFault → CountRose (H.tells host.old).disk_faults
-            (H.tells host.new).disk_faults }
     {
         if self.closed {
             return Err(NodeFault::Closed);
@@ -390,6 +314,11 @@ impl Node {
 
     /// Commits and sends what is due at this time in milliseconds on a link that is attached and
     /// not closed, at most `MAX_OUTPUTS` outputs, and answers how many that were.
+    ///
+    /// Ok: so many outputs were committed, each of them was sent behind its commit, and nothing
+    /// more is due, or they are as many as may be, or a send failed and the link is closed. Memory:
+    /// some were committed and sent. Full: some were, and with the next one the journal would pass
+    /// its limit. DiskFault: some were, and a crash may leave the next one or not; it was not sent.
     pub fn send_due<H: Host, C: Clients>(
         &mut self,
         host: &mut H,
@@ -401,40 +330,18 @@ impl Node {
         requires attached { link < length self.old.links }
         requires unclosed { (l : Link) → slice_get self.old.links link ≡ Some l
             → MaySend l.end }
-        ensures closed { self.old.closed ≡ true
-            → StaysClosed self.old self.new host.old host.new result }
-        ensures answer { self.old.closed ≡ false → AnswersAndCloses result self.new }
+        ensures answers { CallAnswers self.old self.new host.old host.new result }
         ensures may { MayRun (C.meaning clients.now) self.new (H.tells host.new) }
-        ensures stays { self.old.closed ≡ false → StaysReady (C.meaning clients.now) self.new
-            (H.tells host.new) result }
+        ensures goes { CallGoes self.old self.new (H.tells host.old) (H.tells host.new) }
+        ensures kept { KeepsSessions self.old self.new }
+        ensures stops { self.old.closed ≡ false → CallStops (C.meaning clients.now) self.new
+            (H.tells host.old) (H.tells host.new) result }
         ensures went { self.old.closed ≡ false → IfOk result (OutsSent (C.meaning clients.now)
             self.old.first link now self.old.links self.new.links self.old.store self.new.store
             (H.tells host.old) (H.tells host.new)) }
         ensures stopped { self.old.closed ≡ false → IfErr result (ByFault (OutsStopped
             (C.meaning clients.now) self.old.first link now self.old.links self.new.links
             self.old.store self.new.store (H.tells host.old) (H.tells host.new))) }
-        ensures node { IsNode self.new }
-        ensures course { self.old.closed ≡ false → IfOk result (SendsDue (C.meaning clients.now)
-            self.old.first link now self.old.links self.new.links self.old.store self.new.store
-            (H.tells host.old) (H.tells host.new)) }
-        ensures halts { self.old.closed ≡ false → OnErr result (HaltsSending
-            (C.meaning clients.now) self.old.first link now self.old.links self.new.links
-            self.old.store (H.tells host.old) (H.tells host.new)) }
-        ensures kept { KeepsSessions self.old self.new }
-        ensures joined { OnOk result (KeepsJoined (C.meaning clients.now) self.old self.new
-            (H.tells host.old) (H.tells host.new)) }
-        ensures safe { KeepsSafe (C.meaning clients.now) self.old self.new (H.tells host.old)
-            (H.tells host.new) }
-        ensures limit { self.new.store.limit ≡ self.old.store.limit }
-        ensures format { self.new.store.format ≡ self.old.store.format }
-        ensures run { LetsNothingFall (H.tells host.old) (H.tells host.new) }
-        ensures cause { FailByCause self.old.links self.new.links (H.tells host.old)
-            (H.tells host.new) }
-        ensures full { IsErrOf result NodeFault.Full → FullSending (C.meaning clients.now)
-            self.old.first link now self.old.links self.old.store self.new.store
-            (H.tells host.old) (H.tells host.new) }
-        ensures fault { IsErrOf result NodeFault.DiskFault → CountRose (H.tells host.old).disk_faults
-            (H.tells host.new).disk_faults }
     {
         if self.closed {
             return Err(NodeFault::Closed);
@@ -455,48 +362,28 @@ impl Node {
 
     /// Goes through the links in order: asks each that is still asked, and sends what is due on
     /// each that is not closed. Then the redundant ones are closed.
+    ///
+    /// Ok: one whole turn of the course, which was still where nothing came and nothing was
+    /// committed to be sent. Memory, Full, DiskFault: the turn was stopped at some link, in what
+    /// `receive` and `send_due` say of it.
     pub fn turn<H: Host, C: Clients>(
         &mut self,
         host: &mut H,
         clients: &C,
     ) -> Result<Turned, NodeFault>
         requires may { MayRun (C.meaning clients.now) self.old (H.tells host.old) }
-        ensures closed { self.old.closed ≡ true
-            → StaysClosed self.old self.new host.old host.new result }
-        ensures answer { self.old.closed ≡ false → AnswersAndCloses result self.new }
+        ensures answers { CallAnswers self.old self.new host.old host.new result }
         ensures may { MayRun (C.meaning clients.now) self.new (H.tells host.new) }
-        ensures stays { self.old.closed ≡ false → StaysReady (C.meaning clients.now) self.new
-            (H.tells host.new) result }
+        ensures goes { CallGoes self.old self.new (H.tells host.old) (H.tells host.new) }
+        ensures kept { KeepsSessions self.old self.new }
+        ensures stops { self.old.closed ≡ false → CallStops (C.meaning clients.now) self.new
+            (H.tells host.old) (H.tells host.new) result }
         ensures went { self.old.closed ≡ false → IfOk result (λ turned. RoundWent
             (C.meaning clients.now) self.old.first self.old.links self.new.links self.old.store
             self.new.store (H.tells host.old) (H.tells host.new) (is_still turned)) }
         ensures stopped { self.old.closed ≡ false → IfErr result (ByFault (RoundStopped
             (C.meaning clients.now) self.old.first self.old.links self.new.links self.old.store
             self.new.store (H.tells host.old) (H.tells host.new))) }
-        ensures node { IsNode self.new }
-        ensures course { self.old.closed ≡ false → IfOk result (λ turned. MakesTurn
-            (C.meaning clients.now) self.old.first self.old.links self.new.links self.old.store
-            self.new.store (H.tells host.old) (H.tells host.new) (is_still turned)) }
-        ensures halts { self.old.closed ≡ false → OnErr result (HaltsTurn (C.meaning clients.now)
-            self.old.first self.old.links self.new.links self.old.store (H.tells host.old)
-            (H.tells host.new)) }
-        ensures kept { KeepsSessions self.old self.new }
-        ensures joined { OnOk result (KeepsJoined (C.meaning clients.now) self.old self.new
-            (H.tells host.old) (H.tells host.new)) }
-        ensures safe { KeepsSafe (C.meaning clients.now) self.old self.new (H.tells host.old)
-            (H.tells host.new) }
-        ensures limit { self.new.store.limit ≡ self.old.store.limit }
-        ensures format { self.new.store.format ≡ self.old.store.format }
-        ensures run { LetsNothingFall (H.tells host.old) (H.tells host.new) }
-        ensures cause { FailByCause self.old.links self.new.links (H.tells host.old)
-            (H.tells host.new) }
-        ensures sent { self.old.closed ≡ false → IsErrOf result NodeFault.Full → NodeSendsAll
-            (C.meaning clients.now) self.old self.new (H.tells host.old) (H.tells host.new) }
-        ensures full { IsErrOf result NodeFault.Full → FullTurn (C.meaning clients.now)
-            self.old.first self.old.links self.old.store self.new.store (H.tells host.old)
-            (H.tells host.new) }
-        ensures fault { IsErrOf result NodeFault.DiskFault → CountRose (H.tells host.old).disk_faults
-            (H.tells host.new).disk_faults }
     {
         if self.closed {
             return Err(NodeFault::Closed);

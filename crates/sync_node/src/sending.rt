@@ -1,16 +1,12 @@
 //! What is due on a link is committed and sent.
-ghost use Rattle.std.specs.Prelude.{IfErr};
-ghost use Rattle.std.specs.Prelude.{◌≡◌, ◌≢◌, ◌∷◌, ◌<◌, [], IfOk, IsErrOf, OnErr, OnOk};
-ghost use Rattle.outside.specs.Faults.{CountRose};
+ghost use Rattle.std.specs.Prelude.{◌≡◌, ◌≢◌, ◌∷◌, ◌<◌, [], IfErr, IfOk, OnOk};
 ghost use Rattle.sync_rules.specs.Legal.{Allowed};
 ghost use Rattle.sync_rules.specs.declared.entries.Entry.TheVariants as entry;
-ghost use Rattle.sync_node.specs.Causes.{LinkGoes};
 ghost use Rattle.sync_node.specs.Ends.{MaySend};
+ghost use Rattle.sync_node.specs.Keeps.{LinkKeeps};
 ghost use Rattle.sync_node.specs.OnLinks.{DueStopped, DueWent, PutStopped, PutWent};
 ghost use Rattle.sync_node.specs.Sending.{SendsOn};
-ghost use Rattle.sync_node.specs.Working.{IsAble, StaysSafe, HasGivenItems, WorksOnLink};
-ghost use Rattle.sync_node.specs.Stays.{KeepsReady};
-ghost use Rattle.sync_node.specs.Stops.{StopsSent};
+ghost use Rattle.sync_node.specs.Working.{HasGivenItems, MayWork};
 
 use crate::fault::Fault;
 use crate::link::Link;
@@ -23,7 +19,10 @@ use sync_rules::{Batch, Clients, Entry, Out};
 use sync_store::Store;
 
 /// Commits and sends what is due on the link at this time, at most `MAX_OUTPUTS` outputs, and
-/// answers how many. A failed send closes the link.
+/// answers how many. A failed send closes the link. `went`: so many outputs were committed, each of
+/// them was sent behind its commit, and the link's turn is done. `stopped`: some of them were, and
+/// then memory was wanting; or the next one would pass the limit; or a call of the disk failed in its
+/// commit.
 pub(crate) fn send_all<H: Host, C: Clients>(
     alloc: Global,
     store: &mut Store,
@@ -33,29 +32,14 @@ pub(crate) fn send_all<H: Host, C: Clients>(
     link: &mut Link,
     now: u64,
 ) -> Result<u32, Fault>
-    requires able { IsAble (C.meaning clients.now) number link.old.session store.old
-        (H.tells host.old) }
-    requires waits { HasGivenItems link.old }
+    requires able { MayWork (C.meaning clients.now) number link.old store.old (H.tells host.old) }
     ensures went { MaySend link.old.end → IfOk result (DueWent (C.meaning clients.now) number now
         link.old link.new store.old store.new (H.tells host.old) (H.tells host.new)) }
     ensures stopped { MaySend link.old.end → IfErr result (DueStopped (C.meaning clients.now) number
         now link.old link.new store.old store.new (H.tells host.old) (H.tells host.new)) }
-    ensures ready { IfErr result (KeepsReady (C.meaning clients.now) store.new
-        (H.tells host.new)) }
-    ensures able { OnOk result (IsAble (C.meaning clients.now) number link.new.session store.new
-        (H.tells host.new)) }
+    ensures keeps { LinkKeeps (C.meaning clients.now) number link.old link.new store.old store.new
+        (H.tells host.old) (H.tells host.new) result }
     ensures waits { OnOk result (HasGivenItems link.new) }
-    ensures works { OnOk result (WorksOnLink (C.meaning clients.now) number [] [] link.old link.new
-        store.old store.new (H.tells host.old) (H.tells host.new)) }
-    ensures stays { OnErr result (StaysSafe (C.meaning clients.now) number [] link.old store.old
-        store.new (H.tells host.old) (H.tells host.new)) }
-    ensures sent { IsErrOf result Fault.Full → StopsSent (C.meaning clients.now) number [] link.old
-        store.old store.new (H.tells host.old) (H.tells host.new) }
-    ensures run { LinkGoes number link.old link.new (H.tells host.old) (H.tells host.new) }
-    ensures limit { store.new.limit ≡ store.old.limit }
-    ensures format { store.new.format ≡ store.old.format }
-    ensures fault { IsErrOf result Fault.DiskFault → CountRose (H.tells host.old).disk_faults
-        (H.tells host.new).disk_faults }
 {
     let mut made = 0;
     'outs: while made < MAX_OUTPUTS && link.may_send() {
@@ -69,7 +53,8 @@ pub(crate) fn send_all<H: Host, C: Clients>(
 }
 
 // Commits an output, and then sends it. It is spelled first, so that nothing may fail between the
-// two.
+// two. `went`: it stands in the journal, and then it was sent, or the send failed and the link is
+// closed. `stopped`: nothing was sent, and nothing committed but what a failed call of the disk left.
 fn put_out<H: Host, C: Clients>(
     alloc: Global,
     store: &mut Store,
@@ -80,9 +65,7 @@ fn put_out<H: Host, C: Clients>(
     now: u64,
     out: Out,
 ) -> Result<(), Fault>
-    requires able { IsAble (C.meaning clients.now) number link.old.session store.old
-        (H.tells host.old) }
-    requires waits { HasGivenItems link.old }
+    requires able { MayWork (C.meaning clients.now) number link.old store.old (H.tells host.old) }
     requires unfailed { link.old.end ≢ LinkEnd.Failed }
     requires allowed { Allowed (C.meaning clients.now) store.old.state.facts
         (entry.Out link.old.session.number now out ∷ []) }
@@ -90,22 +73,9 @@ fn put_out<H: Host, C: Clients>(
         store.old store.new (H.tells host.old) (H.tells host.new)) }
     ensures stopped { IfErr result (PutStopped (C.meaning clients.now) number now link.old link.new
         store.old store.new (H.tells host.old) (H.tells host.new)) }
-    ensures ready { IfErr result (KeepsReady (C.meaning clients.now) store.new
-        (H.tells host.new)) }
-    ensures able { OnOk result (IsAble (C.meaning clients.now) number link.new.session store.new
-        (H.tells host.new)) }
+    ensures keeps { LinkKeeps (C.meaning clients.now) number link.old link.new store.old store.new
+        (H.tells host.old) (H.tells host.new) result }
     ensures waits { OnOk result (HasGivenItems link.new) }
-    ensures works { OnOk result (WorksOnLink (C.meaning clients.now) number [] [] link.old link.new
-        store.old store.new (H.tells host.old) (H.tells host.new)) }
-    ensures stays { OnErr result (StaysSafe (C.meaning clients.now) number [] link.old store.old
-        store.new (H.tells host.old) (H.tells host.new)) }
-    ensures sent { IsErrOf result Fault.Full → StopsSent (C.meaning clients.now) number [] link.old
-        store.old store.new (H.tells host.old) (H.tells host.new) }
-    ensures run { LinkGoes number link.old link.new (H.tells host.old) (H.tells host.new) }
-    ensures limit { store.new.limit ≡ store.old.limit }
-    ensures format { store.new.format ≡ store.old.format }
-    ensures fault { IsErrOf result Fault.DiskFault → CountRose (H.tells host.old).disk_faults
-        (H.tells host.new).disk_faults }
 {
     cite_laws();
     let bytes = spell_out(alloc, store, &out)?;

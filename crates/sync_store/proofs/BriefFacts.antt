@@ -21,6 +21,13 @@ left_same f (h ∷ hs) = ap (λ n. left_for f h.id + n) (left_same f hs)
 pub left_without : (f : Facts) → left_of (without_sessions f) ≡ left_of f
 left_without f = left_same f f.held
 
-pub settled_without : (clients : Meaning) (f : Facts) → IsSettled clients f → IsSettled clients (without_sessions f)
+pub settled_without : (clients : Meaning) (f : Facts) → IsSettled clients f → IsSettled clients
+    (without_sessions f)
 settled_without clients f settled =
-    same_next clients f (without_sessions f) (record { groups = refl; held = refl; judged = refl; invalid = refl; delivered = refl }) ∙ settled
+    same_next clients f (without_sessions f) (record {
+      groups = refl;
+      held = refl;
+      judged = refl;
+      invalid = refl;
+      delivered = refl;
+    }) ∙ settled

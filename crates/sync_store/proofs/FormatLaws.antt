@@ -18,13 +18,15 @@ apart : (n : ℕ) → (n == 1) ≡ true → (n == 2) ≡ false
 apart n e = ap (λ (k : ℕ). k == 2) (eqb-true n 1 e)
 
 known_by : (a b : Bool) → (a ≡ true → b ≡ false) → (a || b) ≡ true
-    → cond a (some_format kind.Whole) (cond b (some_format kind.Short) None) ≡ some_format (cond b kind.Short kind.Whole)
+    → cond a (some_format kind.Whole) (cond b (some_format kind.Short) None)
+    ≡ some_format (cond b kind.Short kind.Whole)
 known_by true true not_both e = let clash : true ≡ false = not_both refl in cc
 known_by true false not_both e = refl
 known_by false true not_both e = refl
 known_by false false not_both e = cc
 
-unknown_by : (a b : Bool) → (a || b) ≡ false → cond a (some_format kind.Whole) (cond b (some_format kind.Short) None) ≡ None
+unknown_by : (a b : Bool) → (a || b) ≡ false → cond a (some_format kind.Whole)
+    (cond b (some_format kind.Short) None) ≡ None
 unknown_by true b e = cc
 unknown_by false true e = cc
 unknown_by false false e = refl
@@ -69,18 +71,21 @@ room_less kind.Whole few many le = omega (arith, le)
 room_less kind.Short few many le = omega (arith, le)
 
 -- and so many that are made leave theirs
-pub room_split : (f : Format) (few made many : ℕ) → few + made ≤ many → step_bytes f * few + step_bytes f * made ≤ step_bytes f * many
+pub room_split : (f : Format) (few made many : ℕ) → few + made ≤ many
+    → step_bytes f * few + step_bytes f * made ≤ step_bytes f * many
 room_split kind.Whole few made many le = omega (arith, le)
 room_split kind.Short few made many le = omega (arith, le)
 
 -- steps in one frame take no more than each in its own
-pub room_framed : (f : Format) (few made many : ℕ) → few + made ≤ many → 1 ≤ made → 5 + step_len f * made + step_bytes f * few ≤ step_bytes f * many
+pub room_framed : (f : Format) (few made many : ℕ) → few + made ≤ many → 1 ≤ made
+    → 5 + step_len f * made + step_bytes f * few ≤ step_bytes f * many
 room_framed kind.Whole few made many le some = omega (arith, le, some)
 room_framed kind.Short few made many le some = omega (arith, le, some)
 
 -- ---- the first format
 
-whole_by : (n : ℕ) (a b : Bool) → (a ≡ true → n ≡ 1) → cond a (some_format kind.Whole) (cond b (some_format kind.Short) None) ≡ some_format kind.Whole → n ≡ 1
+whole_by : (n : ℕ) (a b : Bool) → (a ≡ true → n ≡ 1) → cond a (some_format kind.Whole)
+    (cond b (some_format kind.Short) None) ≡ some_format kind.Whole → n ≡ 1
 unfolding some_format
 whole_by n true b one e = one refl
 whole_by n false true one e = cc

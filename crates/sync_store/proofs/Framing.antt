@@ -1,5 +1,6 @@
 -- A payload within its frame.
-use Rattle.std.proofs.Common.{◌≡◌, ℕ, ◌+◌, ◌-◌, List, [], ◌∷◌, ◌++◌, length, take, drop, refl, sym, ap, ◌∙◌, subst, arith, length-append, append_assoc}
+use Rattle.std.proofs.Common.{◌≡◌, ℕ, ◌+◌, ◌-◌, List, [], ◌∷◌, ◌++◌, length, take, drop, refl, sym}
+use Rattle.std.proofs.Common.{ap, ◌∙◌, subst, arith, length-append, append_assoc}
 use Rattle.std.specs.Int.{w32, to_be_bytes}
 use Rattle.std.proofs.Math.Seq.{take-append_seam, drop-append_seam}
 use Rattle.outside.specs.Frames.{IsPayload}
@@ -22,12 +23,15 @@ framed_length p =
 behind_head : (p : List ℕ) → drop 4 (framed_of p) ≡ p ++ 0 ∷ []
 behind_head p =
     let head = to_be_bytes w32 (length p) in
-    ap (drop 4) (append_assoc head p (0 ∷ [])) ∙ ap (λ n. drop n (head ++ (p ++ 0 ∷ []))) (sym (be_long (length p))) ∙ drop-append_seam head (p ++ 0 ∷ [])
+    ap (drop 4) (append_assoc head p (0 ∷ []))
+    ∙ ap (λ n. drop n (head ++ (p ++ 0 ∷ []))) (sym (be_long (length p)))
+    ∙ drop-append_seam head (p ++ 0 ∷ [])
 
 pub payload_framed : (p : List ℕ) → payload_of (framed_of p) ≡ p
 payload_framed p =
     let n : length (framed_of p) - 5 ≡ length p = omega (arith, framed_length p) in
-    ap (λ k. take k (drop 4 (framed_of p))) n ∙ ap (take (length p)) (behind_head p) ∙ take-append_seam p (0 ∷ [])
+    ap (λ k. take k (drop 4 (framed_of p))) n ∙ ap (take (length p)) (behind_head p)
+    ∙ take-append_seam p (0 ∷ [])
 
 pub framed_so : (p : List ℕ) → IsPayload p → IsFramed (framed_of p)
 framed_so p fits =
@@ -37,11 +41,19 @@ framed_so p fits =
       spelled = ap framed_of (sym same);
     }
 
-pub framed_long : (framed : List ℕ) → IsFramed framed → length framed ≡ 5 + length (payload_of framed)
+pub framed_long : (framed : List ℕ) → IsFramed framed → length framed ≡ 5 + length
+    (payload_of framed)
 framed_long framed is_framed = ap length is_framed.spelled ∙ framed_length (payload_of framed)
 
 -- the end of a journal with a batch more
-pub end_framed : (format : Format) (j : List (List Entry)) (b : List Entry) (framed : List ℕ) → IsFramed framed → payload_of framed ≡ payload format (facts j) b
+pub end_framed : (format : Format) (j : List (List Entry)) (b : List Entry) (framed : List ℕ)
+    → IsFramed framed → payload_of framed ≡ payload format (facts j) b
     → journal_end format (j ++ b ∷ []) ≡ journal_end format j + length framed
 end_framed format j b framed is_framed same =
-    omega (arith, journal_end_push format j b, framed_long framed is_framed, ap length same, batch_len_same format (names_of (facts j)) b)
+    omega (
+      arith,
+      journal_end_push format j b,
+      framed_long framed is_framed,
+      ap length same,
+      batch_len_same format (names_of (facts j)) b,
+    )

@@ -1,5 +1,7 @@
 -- A store that gains a batch.
-use Rattle.std.proofs.Common.{◌≡◌, ◌⊎◌, ℕ, ◌+◌, ◌*◌, ◌≤◌, ◌<◌, Bool, true, false, eqb, nat_lt, List, [], ◌∷◌, length, map, Option, Some, Result, Ok, Err, IsErr, refl, sym, ap, ◌∙◌, subst, inl, inr, arith}
+use Rattle.std.proofs.Common.{◌≡◌, ◌⊎◌, ℕ, ◌+◌, ◌*◌, ◌≤◌, ◌<◌, Bool, true, false, eqb, nat_lt, List}
+use Rattle.std.proofs.Common.{[], ◌∷◌, length, map, Option, Some, Result, Ok, Err, IsErr, refl, sym}
+use Rattle.std.proofs.Common.{ap, ◌∙◌, subst, inl, inr, arith}
 use Rattle.std.specs.List.{AllByRecursion}
 use Rattle.std.proofs.lemmas.Bool.Decides.{nat_tests}
 use Rattle.outside.specs.Files.{Two, File, file_of}
@@ -29,12 +31,14 @@ use Rattle.outside.specs.declared.limits.TheConstants.{MAX_JOURNAL}
 use Rattle.sync_store.specs.declared.fault.StoreFault.{StoreFault}
 use Rattle.sync_store.specs.declared.fault.StoreFault.TheVariants as fault
 use Rattle.sync_store.specs.Cited.{StoreLaws}
-use Rattle.sync_store.specs.Store.{HasNumbers, IsStore, StoreValue, counts_to, format_meant, written_in}
+use Rattle.sync_store.specs.Store.{HasNumbers, IsStore, StoreValue, counts_to, format_meant}
+use Rattle.sync_store.specs.Store.{written_in}
 use Rattle.sync_store.specs.Commits.{GainsBatch, MayAdd, needed}
 use Rattle.sync_store.specs.Moments.{journal_with}
 use Rattle.sync_store.specs.Ready.{IsReady}
 use Rattle.sync_store.specs.Settling.{BatchSo, ComesBy, IsOneBatch, MakesBatch}
-use Rattle.sync_store.proofs.FitSteps.{IsSame, adds_err, adds_ok, fits_some_same, framed_len, true≢false}
+use Rattle.sync_store.proofs.FitSteps.{IsSame, adds_err, adds_ok, fits_some_same, framed_len}
+use Rattle.sync_store.proofs.FitSteps.{true≢false}
 use Rattle.sync_store.proofs.FormatLaws.{room_framed, room_less, steps_few, steps_some}
 use Rattle.sync_store.proofs.Framing.{framed_length, framed_so, payload_framed}
 use Rattle.sync_store.proofs.HeldIds.{names_stay}
@@ -45,54 +49,82 @@ use Rattle.sync_store.proofs.Steps.{numbers_stay}
 
 -- ---- numbers
 
-grown_numbers : StoreLaws → (clients : Meaning) (f : Facts) (batch : List Entry) (end later : ℕ) → Allowed clients f batch → HasNumbers f end → end + 1 ≤ later → HasNumbers (after_all f batch) later
+grown_numbers : StoreLaws → (clients : Meaning) (f : Facts) (batch : List Entry) (end later : ℕ)
+    → Allowed clients f batch → HasNumbers f end → end + 1 ≤ later
+    → HasNumbers (after_all f batch) later
 grown_numbers laws clients f batch end later allowed numbers far =
     let added = laws.add_one clients f batch allowed in
     record {
       held = omega (arith, added.0, numbers.held);
       sessions = omega (arith, added.1, numbers.sessions);
-      records = λ session. omega (arith, laws.take_one clients f batch session allowed, numbers.records session);
+      records = λ session. omega (
+        arith,
+        laws.take_one clients f batch session allowed,
+        numbers.records session,
+      );
     }
 
 -- the numbers of a store that gained a batch
-pub grown_store : StoreLaws → (clients : Meaning) (s new : StoreValue) (batch : List Entry) (framed : List ℕ) → IsStore s → MayAdd clients s batch framed → GainsBatch s new batch → IsStore new
+pub grown_store : StoreLaws → (clients : Meaning) (s new : StoreValue) (batch : List Entry)
+    (framed : List ℕ) → IsStore s → MayAdd clients s batch framed → GainsBatch s new batch
+    → IsStore new
 grown_store laws clients s new batch framed store may gains =
-    let long : length framed ≡ 5 + payload_len (written_in s) batch = framed_len s batch framed may.is_framed may.payload_is in
-    let room : room_of (written_in new) new.state.facts ≡ room_of (written_in s) (after_all s.state.facts batch) =
-    ap (λ (f : Facts). room_of (written_in new) f) gains.facts ∙ ap (λ n. room_of (format_meant n) (after_all s.state.facts batch)) gains.format in
+    let long : length framed ≡ 5 + payload_len (written_in s) batch =
+    framed_len s batch framed may.is_framed may.payload_is in
+    let room : room_of (written_in new) new.state.facts
+    ≡ room_of (written_in s) (after_all s.state.facts batch) =
+    ap (λ (f : Facts). room_of (written_in new) f) gains.facts
+    ∙ ap (λ n. room_of (format_meant n) (after_all s.state.facts batch)) gains.format in
     record {
       limited = omega (arith, store.limited, gains.limit);
       roomy = omega (arith, may.still_roomy, gains.end, long, room);
       numbers =
           subst (λ (f : Facts). HasNumbers f (counts_to (written_in new) new.end)) (sym gains.facts)
-          (subst (λ (n : ℕ). HasNumbers (after_all s.state.facts batch) (counts_to (format_meant n) new.end)) (sym gains.format)
-          (grown_numbers laws clients s.state.facts batch (counts_to (written_in s) s.end) (counts_to (written_in s) new.end) may.allowed store.numbers
+          (subst (λ (n : ℕ). HasNumbers (after_all s.state.facts batch)
+          (counts_to (format_meant n) new.end)) (sym gains.format)
+          (grown_numbers laws clients s.state.facts batch (counts_to (written_in s) s.end)
+          (counts_to (written_in s) new.end) may.allowed store.numbers
           (counts_more (written_in s) s.end new.end (omega (arith, gains.end)))));
     }
 
 -- a store whose state made steps keeps its numbers
-pub stepped_store : (clients : Meaning) (s new : StoreValue) (es : List Entry) → IsStore s → IsSettling clients s.state.facts es → new.state.facts ≡ after_all s.state.facts es → new.end ≡ s.end
+pub stepped_store : (clients : Meaning) (s new : StoreValue) (es : List Entry) → IsStore s
+    → IsSettling clients s.state.facts es → new.state.facts ≡ after_all s.state.facts es
+    → new.end ≡ s.end
     → new.limit ≡ s.limit → new.format ≡ s.format → IsStore new
 stepped_store clients s new es store settling facts end limit format =
     let fewer = steps_lower clients s.state.facts es settling in
-    let left : left_of new.state.facts ≤ left_of s.state.facts = omega (arith, fewer, ap left_of facts) in
-    let room : room_of (written_in new) new.state.facts ≡ room_of (written_in s) new.state.facts = ap (λ n. room_of (format_meant n) new.state.facts) format in
+    let left : left_of new.state.facts ≤ left_of s.state.facts =
+    omega (arith, fewer, ap left_of facts) in
+    let room : room_of (written_in new) new.state.facts ≡ room_of (written_in s) new.state.facts =
+    ap (λ n. room_of (format_meant n) new.state.facts) format in
     record {
       limited = omega (arith, store.limited, limit);
-      roomy = omega (arith, store.roomy, room_less (written_in s) (left_of new.state.facts) (left_of s.state.facts) left, room, end);
+      roomy = omega (
+        arith,
+        store.roomy,
+        room_less (written_in s) (left_of new.state.facts) (left_of s.state.facts) left,
+        room,
+        end,
+      );
       numbers =
           subst (λ (n : ℕ). HasNumbers new.state.facts (counts_to (written_in new) n)) (sym end)
-          (subst (λ (n : ℕ). HasNumbers new.state.facts (counts_to (format_meant n) s.end)) (sym format)
+          (subst (λ (n : ℕ). HasNumbers new.state.facts (counts_to (format_meant n) s.end))
+          (sym format)
           (subst (λ (f : Facts). HasNumbers f (counts_to (written_in s) s.end)) (sym facts)
-          (numbers_stay clients s.state.facts es (counts_to (written_in s) s.end) settling store.numbers)));
+          (numbers_stay clients s.state.facts es (counts_to (written_in s) s.end) settling
+          store.numbers)));
     }
 
 -- a store that is ready is so once there is room for a batch
-pub ready_same : (clients : Meaning) (s new : StoreValue) (files : Option (Two File)) → IsReady clients s files → IsSame s new → new.state.answers ≡ s.state.answers → new.closed ≡ false
+pub ready_same : (clients : Meaning) (s new : StoreValue) (files : Option (Two File))
+    → IsReady clients s files → IsSame s new → new.state.answers ≡ s.state.answers
+    → new.closed ≡ false
     → IsReady clients new files
 ready_same clients s new files ready same answers still = record {
   still_open = still;
-  knows = answers ∙ ready.knows ∙ ap (λ (f : Facts). map (answer_of clients f) f.held) (sym same.facts);
+  knows =
+      answers ∙ ready.knows ∙ ap (λ (f : Facts). map (answer_of clients f) f.held) (sym same.facts);
   fits = fits_some_same clients s new files ready.fits same;
 }
 
@@ -108,8 +140,12 @@ length_by : (p framed : List ℕ) → framed ≡ framed_of p → length framed �
 length_by p framed is = ap length is ∙ framed_length p
 
 -- what a commit found of its batch
-pub may_add : StoreLaws → (clients : Meaning) (s new : StoreValue) (batch : List Entry) (framed : List ℕ) → IsStore s → new.state.facts ≡ s.state.facts → new.end ≡ s.end
-    → new.format ≡ s.format → Allowed clients s.state.facts batch → is_account_kind batch ≡ false → AllByRecursion IsEntry batch → framed ≡ framed_of (payload (written_in s) s.state.facts batch) → needed s batch ≤ s.limit
+pub may_add : StoreLaws → (clients : Meaning) (s new : StoreValue) (batch : List Entry)
+    (framed : List ℕ) → IsStore s → new.state.facts ≡ s.state.facts → new.end ≡ s.end
+    → new.format ≡ s.format → Allowed clients s.state.facts batch → is_account_kind batch ≡ false
+    → AllByRecursion IsEntry batch
+    → framed ≡ framed_of (payload (written_in s) s.state.facts batch)
+    → needed s batch ≤ s.limit
     → MayAdd clients new batch framed
 may_add laws clients s new batch framed store facts end format allowed plain within is fits =
     let kind = written_in s in
@@ -118,12 +154,16 @@ may_add laws clients s new batch framed store facts end format allowed plain wit
     let len = batch_len_same kind (names_of s.state.facts) batch in
     let same : written_in new ≡ kind = ap format_meant format in
     let room : room_of (written_in new) new.state.facts ≡ room_of kind s.state.facts =
-    ap (λ (f : Facts). room_of (written_in new) f) facts ∙ ap (λ (k : Format). room_of k s.state.facts) same in
-    let after : room_of (written_in new) (after_all new.state.facts batch) ≡ room_of kind (after_all s.state.facts batch) =
-    ap (λ (f : Facts). room_of (written_in new) (after_all f batch)) facts ∙ ap (λ (k : Format). room_of k (after_all s.state.facts batch)) same in
+    ap (λ (f : Facts). room_of (written_in new) f) facts
+    ∙ ap (λ (k : Format). room_of k s.state.facts) same in
+    let after : room_of (written_in new) (after_all new.state.facts batch)
+    ≡ room_of kind (after_all s.state.facts batch) =
+    ap (λ (f : Facts). room_of (written_in new) (after_all f batch)) facts
+    ∙ ap (λ (k : Format). room_of k (after_all s.state.facts batch)) same in
     record {
       allowed = subst (λ (f : Facts). Allowed clients f batch) (sym facts) allowed;
-      kinds = kinds_of (written_in new) batch (allowed_old clients s.state.facts batch allowed plain);
+      kinds =
+          kinds_of (written_in new) batch (allowed_old clients s.state.facts batch allowed plain);
       within = within;
       is_framed = framed_by p framed is (omega (arith, short.0, len), omega (arith, short.1, len));
       payload_is =
@@ -136,7 +176,8 @@ may_add laws clients s new batch framed store facts end format allowed plain wit
 -- ---- a settling batch in its frame
 
 -- a store, the facts that its state came to by some steps, and the frame of those
-pub record Filled (clients : Meaning) (s : StoreValue) (facts : Facts) (es : List Entry) (framed : List ℕ) : Type 0 where
+pub record Filled (clients : Meaning) (s : StoreValue) (facts : Facts) (es : List Entry)
+    (framed : List ℕ) : Type 0 where
   pub settling : IsSettling clients s.state.facts es
   pub some : 1 ≤ length es
   pub few : length es ≤ MAX_STEPS
@@ -147,30 +188,41 @@ pub record Filled (clients : Meaning) (s : StoreValue) (facts : Facts) (es : Lis
   pub store : IsStore s
   pub still : s.closed ≡ false
 
-pub filled_may : (clients : Meaning) (s : StoreValue) (facts : Facts) (es : List Entry) (framed : List ℕ) → Filled clients s facts es framed → MayAdd clients s es framed
+pub filled_may : (clients : Meaning) (s : StoreValue) (facts : Facts) (es : List Entry)
+    (framed : List ℕ) → Filled clients s facts es framed → MayAdd clients s es framed
 filled_may clients s facts es framed f =
     let kind = written_in s in
     let p = payload kind s.state.facts es in
     let len = batch_len_same kind (names_of s.state.facts) es in
     let fewer = steps_lower clients s.state.facts es f.settling in
-    let frame = room_framed kind (left_of (after_all s.state.facts es)) (length es) (left_of s.state.facts) fewer f.some in
+    let frame = room_framed kind (left_of (after_all s.state.facts es)) (length es)
+    (left_of s.state.facts) fewer f.some in
     record {
       allowed = allowed_settling clients s.state.facts es (f.some, f.few, f.settling);
       kinds = kinds_of kind es (settling_old clients s.state.facts es f.settling);
       within = f.within;
-      is_framed = framed_by p framed f.framed_is (omega (arith, f.long, len, steps_some kind (length es) f.some), omega (arith, f.long, len, f.few, steps_few kind (length es)));
+      is_framed =
+          framed_by p framed f.framed_is (
+            omega (arith, f.long, len, steps_some kind (length es) f.some),
+            omega (arith, f.long, len, f.few, steps_few kind (length es)),
+          );
       payload_is = payload_by p framed f.framed_is;
       roomy = f.store.roomy;
-      still_roomy = omega (arith, f.store.roomy, frame, f.long, len, length_by p framed f.framed_is);
+      still_roomy =
+          omega (arith, f.store.roomy, frame, f.long, len, length_by p framed f.framed_is);
     }
 
-pub filled_room : (clients : Meaning) (s : StoreValue) (facts : Facts) (es : List Entry) (framed : List ℕ) → Filled clients s facts es framed → s.end + length framed + room_of (written_in s) facts ≤ MAX_JOURNAL
+pub filled_room : (clients : Meaning) (s : StoreValue) (facts : Facts) (es : List Entry)
+    (framed : List ℕ) → Filled clients s facts es framed
+    → s.end + length framed + room_of (written_in s) facts ≤ MAX_JOURNAL
 filled_room clients s facts es framed f =
     let may = filled_may clients s facts es framed f in
-    let same : room_of (written_in s) facts ≡ room_of (written_in s) (after_all s.state.facts es) = ap (room_of (written_in s)) f.facts_are in
+    let same : room_of (written_in s) facts ≡ room_of (written_in s) (after_all s.state.facts es) =
+    ap (room_of (written_in s)) f.facts_are in
     omega (arith, may.still_roomy, same)
 
-filled_less : (clients : Meaning) (s : StoreValue) (facts : Facts) (es : List Entry) (framed : List ℕ) → Filled clients s facts es framed → left_of facts < left_of s.state.facts
+filled_less : (clients : Meaning) (s : StoreValue) (facts : Facts) (es : List Entry)
+    (framed : List ℕ) → Filled clients s facts es framed → left_of facts < left_of s.state.facts
 filled_less clients s facts es framed f =
     let fewer = steps_lower clients s.state.facts es f.settling in
     let same : left_of facts ≡ left_of (after_all s.state.facts es) = ap left_of f.facts_are in
@@ -186,11 +238,19 @@ pub record Came (s new : StoreValue) (facts : Facts) : Type 0 where
 
 -- ---- the frame was written
 
-filled_len : (clients : Meaning) (s : StoreValue) (facts : Facts) (es : List Entry) (framed : List ℕ) → Filled clients s facts es framed → length framed ≡ 5 + payload_len (written_in s) es
+filled_len : (clients : Meaning) (s : StoreValue) (facts : Facts) (es : List Entry)
+    (framed : List ℕ) → Filled clients s facts es framed
+    → length framed ≡ 5 + payload_len (written_in s) es
 filled_len clients s facts es framed f =
-    omega (arith, length_by (payload (written_in s) s.state.facts es) framed f.framed_is, batch_len_same (written_in s) (names_of s.state.facts) es)
+    omega (
+      arith,
+      length_by (payload (written_in s) s.state.facts es) framed f.framed_is,
+      batch_len_same (written_in s) (names_of s.state.facts) es,
+    )
 
-filled_gains : (clients : Meaning) (s new : StoreValue) (facts : Facts) (es : List Entry) (framed : List ℕ) → Filled clients s facts es framed → Came s new facts → new.end ≡ s.end + length framed
+filled_gains : (clients : Meaning) (s new : StoreValue) (facts : Facts) (es : List Entry)
+    (framed : List ℕ) → Filled clients s facts es framed → Came s new facts
+    → new.end ≡ s.end + length framed
     → new.closed ≡ false → GainsBatch s new es
 filled_gains clients s new facts es framed f came end closed = record {
   facts = came.facts_are ∙ f.facts_are;
@@ -202,9 +262,14 @@ filled_gains clients s new facts es framed f came end closed = record {
   closed = closed;
 }
 
-pub filled_ok : JournalsStand → (clients : Meaning) (s new : StoreValue) (facts : Facts) (es : List Entry) (framed : List ℕ) (o o' : Outside) → Filled clients s facts es framed → Came s new facts
-    → new.end ≡ s.end + length framed → new.closed ≡ false → ((two : Two File) → o.files ≡ Some two → PassedMoments two o o' s.file (BeforeOrWith (file_of two s.file).now s.end framed))
-    → RelatesTold (AppendsFrame s.file s.end framed) o.files o'.files → MakesJust 4 o o' → ComesBy clients s new o o' (es ∷ [])
+pub filled_ok : JournalsStand → (clients : Meaning) (s new : StoreValue) (facts : Facts)
+    (es : List Entry) (framed : List ℕ) (o o' : Outside) → Filled clients s facts es framed
+    → Came s new facts
+    → new.end ≡ s.end + length framed → new.closed ≡ false
+    → ((two : Two File) → o.files ≡ Some two
+    → PassedMoments two o o' s.file (BeforeOrWith (file_of two s.file).now s.end framed))
+    → RelatesTold (AppendsFrame s.file s.end framed) o.files o'.files → MakesJust 4 o o'
+    → ComesBy clients s new o o' (es ∷ [])
 filled_ok stand clients s new facts es framed o o' f came end closed passed becomes made = record {
   settling = ((f.some, f.few, f.settling), tt);
   facts = came.facts_are ∙ f.facts_are;
@@ -215,14 +280,19 @@ filled_ok stand clients s new facts es framed o o' f came end closed passed beco
   end = λ still. omega (arith, end, filled_len clients s facts es framed f, f.long);
   leads = λ two told j fits.
       leads_one clients j es new tt o o'
-      (adds_ok stand clients s new j two es framed tt o o' fits (filled_may clients s facts es framed f) told (passed two told) becomes
+      (adds_ok stand clients s new j two es framed tt o o' fits
+      (filled_may clients s facts es framed f) told (passed two told) becomes
       (filled_gains clients s new facts es framed f came end closed));
   calls = calls_one new o o' made;
 }
 
 -- the disk failed
-pub filled_err : JournalsStand → (clients : Meaning) (s new : StoreValue) (facts : Facts) (es : List Entry) (framed : List ℕ) (e : StoreFault) (o o' : Outside) → Filled clients s facts es framed
-    → Came s new facts → e ≡ fault.DiskFault → new.closed ≡ true → ((two : Two File) → o.files ≡ Some two → PassedMoments two o o' s.file (BeforeOrWith (file_of two s.file).now s.end framed))
+pub filled_err : JournalsStand → (clients : Meaning) (s new : StoreValue) (facts : Facts)
+    (es : List Entry) (framed : List ℕ) (e : StoreFault) (o o' : Outside)
+    → Filled clients s facts es framed
+    → Came s new facts → e ≡ fault.DiskFault → new.closed ≡ true
+    → ((two : Two File) → o.files ≡ Some two
+    → PassedMoments two o o' s.file (BeforeOrWith (file_of two s.file).now s.end framed))
     → MakesAtMost 4 o o' → MakesBatch clients s new (Err e) o o'
 filled_err stand clients s new facts es framed e o o' f came is closed passed made = record {
   more = es ∷ [];
@@ -236,7 +306,8 @@ filled_err stand clients s new facts es framed e o o' f came is closed passed ma
     end = λ still. true≢false new.closed closed still;
     leads = λ two told j fits.
         leads_one_closed clients j es new e o o'
-        (adds_err stand clients s new j two es framed e o o' fits (filled_may clients s facts es framed f) (passed two told) closed) closed;
+        (adds_err stand clients s new j two es framed e o o' fits
+        (filled_may clients s facts es framed f) (passed two told) closed) closed;
     calls = calls_closed new o o' closed made;
   };
   few = omega arith;
@@ -244,25 +315,38 @@ filled_err stand clients s new facts es framed e o o' f came is closed passed ma
 }
 
 -- memory was wanting for the steps behind them
-pub filled_memory : JournalsStand → (clients : Meaning) (s new : StoreValue) (facts : Facts) (es : List Entry) (framed : List ℕ) (e : StoreFault) (o o' : Outside) → Filled clients s facts es framed
+pub filled_memory : JournalsStand → (clients : Meaning) (s new : StoreValue) (facts : Facts)
+    (es : List Entry) (framed : List ℕ) (e : StoreFault) (o o' : Outside)
+    → Filled clients s facts es framed
     → Came s new facts → new.end ≡ s.end + length framed → new.closed ≡ false → e ≡ fault.Memory
-    → ((two : Two File) → o.files ≡ Some two → PassedMoments two o o' s.file (BeforeOrWith (file_of two s.file).now s.end framed))
-    → RelatesTold (AppendsFrame s.file s.end framed) o.files o'.files → MakesJust 4 o o' → MakesBatch clients s new (Err e) o o'
-filled_memory stand clients s new facts es framed e o o' f came end closed is passed becomes made = record {
-  more = es ∷ [];
-  comes = filled_ok stand clients s new facts es framed o o' f came end closed passed becomes made;
-  few = omega arith;
-  answer = subst (λ (x : StoreFault). BatchSo clients s new (es ∷ []) (Err x)) (sym is) closed;
-}
+    → ((two : Two File) → o.files ≡ Some two
+    → PassedMoments two o o' s.file (BeforeOrWith (file_of two s.file).now s.end framed))
+    → RelatesTold (AppendsFrame s.file s.end framed) o.files o'.files → MakesJust 4 o o'
+    → MakesBatch clients s new (Err e) o o'
+filled_memory stand clients s new facts es framed e o o' f came end closed is passed becomes made =
+    record {
+      more = es ∷ [];
+      comes =
+          filled_ok stand clients s new facts es framed o o' f came end closed passed becomes made;
+      few = omega arith;
+      answer = subst (λ (x : StoreFault). BatchSo clients s new (es ∷ []) (Err x)) (sym is) closed;
+    }
 
 -- the batch is full, or no step is left
-pub filled_whole : JournalsStand → (clients : Meaning) (s new : StoreValue) (facts : Facts) (es : List Entry) (framed : List ℕ) (n : ℕ) (u : Unit {0}) (o o' : Outside) → Filled clients s facts es framed
+pub filled_whole : JournalsStand → (clients : Meaning) (s new : StoreValue) (facts : Facts)
+    (es : List Entry) (framed : List ℕ) (n : ℕ) (u : Unit {0}) (o o' : Outside)
+    → Filled clients s facts es framed
     → Came s new facts → new.end ≡ s.end + length framed → new.closed ≡ false
-    → ((two : Two File) → o.files ≡ Some two → PassedMoments two o o' s.file (BeforeOrWith (file_of two s.file).now s.end framed))
-    → RelatesTold (AppendsFrame s.file s.end framed) o.files o'.files → MakesJust 4 o o' → length es ≡ n → (n ≡ MAX_STEPS) ⊎ IsSettled clients facts → MakesBatch clients s new (Ok u) o o'
-filled_whole stand clients s new facts es framed n u o o' f came end closed passed becomes made long full =
+    → ((two : Two File) → o.files ≡ Some two
+    → PassedMoments two o o' s.file (BeforeOrWith (file_of two s.file).now s.end framed))
+    → RelatesTold (AppendsFrame s.file s.end framed) o.files o'.files → MakesJust 4 o o'
+    → length es ≡ n → (n ≡ MAX_STEPS) ⊎ IsSettled clients facts
+    → MakesBatch clients s new (Ok u) o o'
+filled_whole stand clients s new facts es framed n u o o' f came end closed passed becomes made long
+    full =
     let less : left_of new.state.facts < left_of s.state.facts =
-    subst (λ (g : Facts). left_of g < left_of s.state.facts) (sym came.facts_are) (filled_less clients s facts es framed f) in
+    subst (λ (g : Facts). left_of g < left_of s.state.facts) (sym came.facts_are)
+    (filled_less clients s facts es framed f) in
     let each : IsOneBatch clients new (es ∷ []) =
     elim full [
       | inl all ↦ inl (long ∙ all, tt)
@@ -270,13 +354,16 @@ filled_whole stand clients s new facts es framed n u o o' f came end closed pass
     ] in
     record {
       more = es ∷ [];
-      comes = filled_ok stand clients s new facts es framed o o' f came end closed passed becomes made;
+      comes =
+          filled_ok stand clients s new facts es framed o o' f came end closed passed becomes made;
       few = omega arith;
       answer = (closed, less, each);
     }
 
 -- no step was made: memory was wanting
-pub made_none : (clients : Meaning) (s new : StoreValue) (e : StoreFault) (o o' : Outside) → ComesBy clients s new o o' [] → e ≡ fault.Memory → new.closed ≡ false → MakesBatch clients s new (Err e) o o'
+pub made_none : (clients : Meaning) (s new : StoreValue) (e : StoreFault) (o o' : Outside)
+    → ComesBy clients s new o o' [] → e ≡ fault.Memory → new.closed ≡ false
+    → MakesBatch clients s new (Err e) o o'
 made_none clients s new e o o' comes is still = record {
   more = [];
   comes = comes;
@@ -286,12 +373,14 @@ made_none clients s new e o o' comes is still = record {
 
 -- ---- what tests say
 
-pub with_none : (j : List (List Entry)) (batch : List Entry) (result : Result (Unit {0}) StoreFault) → IsErr result → j ≡ journal_with j batch result
+pub with_none : (j : List (List Entry)) (batch : List Entry) (result : Result (Unit {0}) StoreFault)
+    → IsErr result → j ≡ journal_with j batch result
 with_none j batch (Ok u) err = cc
 with_none j batch (Err e) err = refl
 
 -- an error for which no call was made
-pub no_calls : (result : Result (Unit {0}) StoreFault) (o : Outside) → IsErr result → MakesCalls 4 result o o
+pub no_calls : (result : Result (Unit {0}) StoreFault) (o : Outside) → IsErr result
+    → MakesCalls 4 result o o
 no_calls (Ok u) o err = cc
 no_calls (Err e) o err = record { just = tt; most = most_none 4 o }
 
@@ -309,21 +398,30 @@ length_nil [] none = refl
 length_nil (x ∷ xs) none = absurd (omega (arith, none))
 
 -- what a buffer of steps and the frame of them say of each other
-pub filled_from : (clients : Meaning) (s : StoreValue) (format : Format) → format ≡ written_in s → (facts : Facts) (items es : List Entry) (bytes framed : List ℕ) → es ≡ items → IsSettling clients s.state.facts items → facts ≡ after_all s.state.facts items
-    → 1 ≤ length es → length es ≤ MAX_STEPS → AllByRecursion IsEntry es → framed ≡ bytes → bytes ≡ framed_of (spellings format (names_of facts) es)
-    → length (spellings format (names_of facts) es) ≡ step_len format * length es → IsStore s → s.closed ≡ false → Filled clients s facts es framed
-filled_from clients s format kind facts items es bytes framed same settling facts_are some few within is spelled long store still = record {
-  settling = subst (λ (xs : List Entry). IsSettling clients s.state.facts xs) (sym same) settling;
-  some = some;
-  few = few;
-  facts_are = facts_are ∙ ap (λ (xs : List Entry). after_all s.state.facts xs) (sym same);
-  within = within;
-  framed_is =
-      is ∙ spelled ∙ ap (λ (k : Format). framed_of (spellings k (names_of facts) es)) kind
-      ∙ ap (λ (names : List (List ℕ)). framed_of (spellings (written_in s) names es)) (ap names_of facts_are ∙ names_stay clients s.state.facts items settling);
-  long =
-      sym (batch_len_same (written_in s) (names_of facts) es)
-      ∙ subst (λ (k : Format). length (spellings k (names_of facts) es) ≡ step_len k * length es) kind long;
-  store = store;
-  still = still;
-}
+pub filled_from : (clients : Meaning) (s : StoreValue) (format : Format) → format ≡ written_in s
+    → (facts : Facts) (items es : List Entry) (bytes framed : List ℕ) → es ≡ items
+    → IsSettling clients s.state.facts items → facts ≡ after_all s.state.facts items
+    → 1 ≤ length es → length es ≤ MAX_STEPS → AllByRecursion IsEntry es → framed ≡ bytes
+    → bytes ≡ framed_of (spellings format (names_of facts) es)
+    → length (spellings format (names_of facts) es) ≡ step_len format * length es → IsStore s
+    → s.closed ≡ false → Filled clients s facts es framed
+filled_from clients s format kind facts items es bytes framed same settling facts_are some few
+    within is spelled long store still = record {
+      settling =
+          subst (λ (xs : List Entry). IsSettling clients s.state.facts xs) (sym same) settling;
+      some = some;
+      few = few;
+      facts_are = facts_are ∙ ap (λ (xs : List Entry). after_all s.state.facts xs) (sym same);
+      within = within;
+      framed_is =
+          is ∙ spelled ∙ ap (λ (k : Format). framed_of (spellings k (names_of facts) es)) kind
+          ∙ ap (λ (names : List (List ℕ)). framed_of (spellings (written_in s) names es))
+          (ap names_of facts_are ∙ names_stay clients s.state.facts items settling);
+      long =
+          sym (batch_len_same (written_in s) (names_of facts) es)
+          ∙ subst (λ (k : Format). length (spellings k (names_of facts) es)
+          ≡ step_len k * length es)
+          kind long;
+      store = store;
+      still = still;
+    }

@@ -1,5 +1,6 @@
 -- Limits of counts and sums.
-use Rattle.std.proofs.Common.{◌≡◌, ℕ, ◌+◌, ◌-◌, ◌*◌, ◌^◌, ◌<◌, ◌≤◌, length, min, nat_lt, arith, ap, ◌∙◌, mul_comm}
+use Rattle.std.proofs.Common.{◌≡◌, ℕ, ◌+◌, ◌-◌, ◌*◌, ◌^◌, ◌<◌, ◌≤◌, length, min, nat_lt, arith, ap}
+use Rattle.std.proofs.Common.{◌∙◌, mul_comm}
 use Rattle.std.proofs.lemmas.Bool.Decides.{nat_tests}
 use Rattle.outside.specs.declared.limits.TheConstants.{MAX_JOURNAL}
 use Rattle.sync_rules.specs.Facts.{Facts}
@@ -9,17 +10,23 @@ use Rattle.sync_store.specs.Store.{HasNumbers, IsStore, StoreValue, counts_to, w
 
 -- a sum that stands still at its type's end passes a lower limit exactly where the whole sum does
 passes_by : (limit room len end : ℕ) → limit ≤ MAX_JOURNAL
-    → nat_lt limit (min (2 ^ 64 - 1) (min (2 ^ 64 - 1) (min (2 ^ 64 - 1) room + min len (2 ^ 64 - 1)) + (end + 5))) ≡ nat_lt limit (end + 5 + len + room)
+    → nat_lt limit (min (2 ^ 64 - 1)
+    (min (2 ^ 64 - 1) (min (2 ^ 64 - 1) room + min len (2 ^ 64 - 1)) + (end + 5)))
+    ≡ nat_lt limit (end + 5 + len + room)
 passes_by limit room len end low = grind (arith, nat_tests)
 
 pub passes : (limit left step len end : ℕ) → limit ≤ MAX_JOURNAL
-    → nat_lt limit (min (2 ^ 64 - 1) (min (2 ^ 64 - 1) (min (2 ^ 64 - 1) (left * step) + min len (2 ^ 64 - 1)) + (end + 5))) ≡ nat_lt limit (end + 5 + len + step * left)
+    → nat_lt limit (min (2 ^ 64 - 1)
+    (min (2 ^ 64 - 1) (min (2 ^ 64 - 1) (left * step) + min len (2 ^ 64 - 1)) + (end + 5)))
+    ≡ nat_lt limit (end + 5 + len + step * left)
 passes limit left step len end low =
-    passes_by limit (left * step) len end low ∙ ap (λ (room : ℕ). nat_lt limit (end + 5 + len + room)) (mul_comm left step)
+    passes_by limit (left * step) len end low
+    ∙ ap (λ (room : ℕ). nat_lt limit (end + 5 + len + room)) (mul_comm left step)
 
 -- ---- the bound on the counts
 
-pub counts_more : (format : Format) (end later : ℕ) → end + 1 ≤ later → counts_to format end + 1 ≤ counts_to format later
+pub counts_more : (format : Format) (end later : ℕ) → end + 1 ≤ later
+    → counts_to format end + 1 ≤ counts_to format later
 counts_more kind.Whole end later far = far
 counts_more kind.Short end later far = omega (arith, far)
 
@@ -27,12 +34,14 @@ pub counts_reach : (format : Format) (end : ℕ) → end ≤ counts_to format en
 counts_reach kind.Whole end = omega arith
 counts_reach kind.Short end = omega arith
 
-pub counts_few : (format : Format) (end : ℕ) → end ≤ MAX_JOURNAL → counts_to format end ≤ MAX_JOURNAL + MAX_JOURNAL
+pub counts_few : (format : Format) (end : ℕ) → end ≤ MAX_JOURNAL
+    → counts_to format end ≤ MAX_JOURNAL + MAX_JOURNAL
 counts_few kind.Whole end few = omega (arith, few)
 counts_few kind.Short end few = omega (arith, few)
 
 -- a bound that is greater
-pub numbers_wider : (f : Facts) (bound wider : ℕ) → HasNumbers f bound → bound ≤ wider → HasNumbers f wider
+pub numbers_wider : (f : Facts) (bound wider : ℕ) → HasNumbers f bound → bound ≤ wider
+    → HasNumbers f wider
 numbers_wider f bound wider numbers far = record {
   held = omega (arith, numbers.held, far);
   sessions = omega (arith, numbers.sessions, far);
@@ -41,4 +50,10 @@ numbers_wider f bound wider numbers far = record {
 
 -- there is a number for one more message
 pub few_held : (s : StoreValue) → IsStore s → length s.state.facts.held < 2 ^ 32 - 1
-few_held s store = omega (arith, store.numbers.held, store.roomy, counts_few (written_in s) s.end (omega (arith, store.roomy)))
+few_held s store =
+    omega (
+      arith,
+      store.numbers.held,
+      store.roomy,
+      counts_few (written_in s) s.end (omega (arith, store.roomy)),
+    )

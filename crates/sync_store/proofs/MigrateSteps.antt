@@ -1,5 +1,6 @@
 -- A journal written anew, as the store sees it.
-use Rattle.std.proofs.Common.{◌≡◌, ℕ, ◌+◌, true, false, List, [], ◌++◌, Option, Some, Result, Ok, Err, refl, sym, ap, ◌∙◌, subst, arith, append-nil}
+use Rattle.std.proofs.Common.{◌≡◌, ℕ, ◌+◌, true, false, List, [], ◌++◌, Option, Some, Result, Ok}
+use Rattle.std.proofs.Common.{Err, refl, sym, ap, ◌∙◌, subst, arith, append-nil}
 use Rattle.std.specs.List.{AllByRecursion}
 use Rattle.std.specs.Option.{ForSome}
 use Rattle.outside.specs.Disk.{RelatesTold}
@@ -21,7 +22,8 @@ use Rattle.entry_codec.specs.Standing.{room_of}
 use Rattle.entry_codec.proofs.FormatKinds.{short_journal}
 use Rattle.entry_codec.specs.StandingLaws.{JournalsStand}
 use Rattle.journal_state.specs.Whole.{StateValue}
-use Rattle.journal_migration.specs.Migrating.{HoldsFirst, HoldsSecond, IsNextJournal, KeepsFile, MigratesJournal, StandsStill}
+use Rattle.journal_migration.specs.Migrating.{HoldsFirst, HoldsSecond, IsNextJournal, KeepsFile}
+use Rattle.journal_migration.specs.Migrating.{MigratesJournal, StandsStill}
 use Rattle.journal_migration.specs.Starting.{IsSettledBoth}
 use Rattle.journal_migration.specs.declared.fault.MigrationFault.{MigrationFault}
 use Rattle.journal_migration.specs.declared.fault.MigrationFault.TheVariants as migration
@@ -30,7 +32,8 @@ use Rattle.sync_store.specs.Fitting.{FitsFiles, FitsSome}
 use Rattle.sync_store.specs.Migrations.{IsInOldFormat, MovesJournal}
 use Rattle.sync_store.specs.Moments.{IsBetween, JournalMoment}
 use Rattle.sync_store.specs.Runs.{LeadsBy}
-use Rattle.sync_store.specs.Store.{HasNumbers, IsStore, StoreValue, counts_to, format_meant, written_in}
+use Rattle.sync_store.specs.Store.{HasNumbers, IsStore, StoreValue, counts_to, format_meant}
+use Rattle.sync_store.specs.Store.{written_in}
 use Rattle.sync_store.proofs.FitSteps.{IsSame, leads_none, true≢false}
 use Rattle.sync_store.proofs.FormatLaws.{short_room, whole_is_one}
 use Rattle.sync_store.proofs.Limits.{numbers_wider}
@@ -43,14 +46,17 @@ same_self s = record { facts = refl; file = refl; format = refl; generation = re
 between_none : (j : List (List Entry)) → IsBetween j [] j
 between_none j = record { front = []; rest = []; parts = refl; is = sym (append-nil j) }
 
-pub leads_still : JournalsStand → (clients : Meaning) (s : StoreValue) (o : Outside) → IsStore s → LeadsBy clients s s o o []
+pub leads_still : JournalsStand → (clients : Meaning) (s : StoreValue) (o : Outside) → IsStore s
+    → LeadsBy clients s s o o []
 leads_still stand clients s o store two told j fits =
-    leads_none stand clients (IsBetween j []) (λ whole. whole ≡ j ++ []) s s j two o fits store.roomy told (same_self s) (between_none j) (sym (append-nil j))
+    leads_none stand clients (IsBetween j []) (λ whole. whole ≡ j ++ []) s s j two o fits
+    store.roomy told (same_self s) (between_none j) (sym (append-nil j))
 
 -- ---- before
 
 -- the disk that fits a store in format 1 holds its journal so
-pub holds_of : (clients : Meaning) (s : StoreValue) (j : List (List Entry)) (two : Two File) → IsInOldFormat s → FitsFiles clients s j two → HoldsFirst clients s.file s.generation j two
+pub holds_of : (clients : Meaning) (s : StoreValue) (j : List (List Entry)) (two : Two File)
+    → IsInOldFormat s → FitsFiles clients s j two → HoldsFirst clients s.file s.generation j two
 holds_of clients s j two old fits = record {
   first_settled = fits.first_settled;
   second_settled = fits.second_settled;
@@ -60,20 +66,32 @@ holds_of clients s j two old fits = record {
   stands_for = fits.stands_for;
 }
 
-pub settled_both : (clients : Meaning) (s : StoreValue) (files : Option (Two File)) → FitsSome clients s files → ForSome files IsSettledBoth
-settled_both clients s files fits two told = let there = fits two told in record { first = there.1.first_settled; second = there.1.second_settled }
+pub settled_both : (clients : Meaning) (s : StoreValue) (files : Option (Two File))
+    → FitsSome clients s files → ForSome files IsSettledBoth
+settled_both clients s files fits two told = let there =
+    fits two told in record { first = there.1.first_settled; second = there.1.second_settled }
 
 -- ---- after
 
 -- the store with this state, and its journal there
 abbrev pub moved_with : StoreValue → StateValue → JournalValue → StoreValue
-moved_with s state n = record { state = state; file = n.file; format = n.format; generation = n.generation; end = n.end; limit = s.limit; closed = s.closed }
+moved_with s state n =
+    record {
+      state = state;
+      file = n.file;
+      format = n.format;
+      generation = n.generation;
+      end = n.end;
+      limit = s.limit;
+      closed = s.closed;
+    }
 
 -- the store with its journal there
 abbrev pub moved_to : StoreValue → JournalValue → StoreValue
 moved_to s n = moved_with s s.state n
 
-pub moves_on : (s : StoreValue) (n : JournalValue) → IsInOldFormat s → s.closed ≡ false → IsNextJournal s.file s.generation s.end n → MovesJournal s (moved_to s n)
+pub moves_on : (s : StoreValue) (n : JournalValue) → IsInOldFormat s → s.closed ≡ false
+    → IsNextJournal s.file s.generation s.end n → MovesJournal s (moved_to s n)
 moves_on s n old still next = record {
   was = old;
   state = refl;
@@ -85,12 +103,16 @@ moves_on s n old still next = record {
   closed = still;
 }
 
-pub moved_store : (s : StoreValue) (n : JournalValue) → IsInOldFormat s → IsStore s → IsNextJournal s.file s.generation s.end n → IsStore (moved_to s n)
+pub moved_store : (s : StoreValue) (n : JournalValue) → IsInOldFormat s → IsStore s
+    → IsNextJournal s.file s.generation s.end n → IsStore (moved_to s n)
 moved_store s n old store next =
     let f = s.state.facts in
-    let short : room_of (format_meant n.format) f ≡ room_of kind.Short f = ap (λ k. room_of (format_meant k) f) next.format_is in
-    let whole : room_of (written_in s) f ≡ room_of kind.Whole f = ap (λ (k : Format). room_of k f) old.whole in
-    let numbers : HasNumbers f s.end = subst (λ (k : Format). HasNumbers f (counts_to k s.end)) old.whole store.numbers in
+    let short : room_of (format_meant n.format) f ≡ room_of kind.Short f =
+    ap (λ k. room_of (format_meant k) f) next.format_is in
+    let whole : room_of (written_in s) f ≡ room_of kind.Whole f =
+    ap (λ (k : Format). room_of k f) old.whole in
+    let numbers : HasNumbers f s.end =
+    subst (λ (k : Format). HasNumbers f (counts_to k s.end)) old.whole store.numbers in
     record {
       limited = store.limited;
       roomy = omega (arith, store.roomy, next.no_longer, short, whole, short_room f);
@@ -100,7 +122,9 @@ moved_store s n old store next =
     }
 
 -- the disk fits the store with its journal there
-pub fits_at : (clients : Meaning) (s : StoreValue) (state : StateValue) (n : JournalValue) (j : List (List Entry)) (two : Two File) → facts j ≡ state.facts → n.format ≡ 2 → HoldsSecond clients n j two
+pub fits_at : (clients : Meaning) (s : StoreValue) (state : StateValue) (n : JournalValue)
+    (j : List (List Entry)) (two : Two File) → facts j ≡ state.facts → n.format ≡ 2
+    → HoldsSecond clients n j two
     → FitsFiles clients (moved_with s state n) j two
 fits_at clients s state n j two facts_are short holds = record {
   first_settled = holds.first_settled;
@@ -113,14 +137,20 @@ fits_at clients s state n j two facts_are short holds = record {
   format_known = subst (λ k. format_of k ≡ Some (format_meant k)) (sym short) refl;
   generation_is = holds.generation_is;
   header = holds.header;
-  frames = subst (λ k. HasFrames (file_of two n.file).now holds.header (payloads (format_meant k) nothing j)) (sym short) holds.frames;
+  frames =
+      subst (λ k. HasFrames (file_of two n.file).now holds.header
+      (payloads (format_meant k) nothing j)) (sym short) holds.frames;
   end_is = holds.end_is ∙ ap (λ k. journal_end (format_meant k) j) (sym short);
-  kinds = subst (λ k. AllByRecursion (AllByRecursion (IsOfFormat (format_meant k))) j) (sym short) (short_journal j);
+  kinds =
+      subst (λ k. AllByRecursion (AllByRecursion (IsOfFormat (format_meant k))) j) (sym short)
+      (short_journal j);
   within = holds.within;
 }
 
 -- the disk still fits the store
-fits_still : (clients : Meaning) (s : StoreValue) (j : List (List Entry)) (two two' : Two File) → FitsFiles clients s j two → HoldsFirst clients s.file s.generation j two' → file_of two' s.file ≡ file_of two s.file
+fits_still : (clients : Meaning) (s : StoreValue) (j : List (List Entry)) (two two' : Two File)
+    → FitsFiles clients s j two → HoldsFirst clients s.file s.generation j two'
+    → file_of two' s.file ≡ file_of two s.file
     → FitsFiles clients s j two'
 fits_still clients s j two two' fits holds same = record {
   first_settled = holds.first_settled;
@@ -133,7 +163,9 @@ fits_still clients s j two two' fits holds same = record {
   format_known = fits.format_known;
   generation_is = holds.generation_is;
   header = fits.header;
-  frames = subst (λ (f : File). HasFrames f.now fits.header (payloads (written_in s) nothing j)) (sym same) fits.frames;
+  frames =
+      subst (λ (f : File). HasFrames f.now fits.header (payloads (written_in s) nothing j))
+      (sym same) fits.frames;
   end_is = fits.end_is;
   kinds = fits.kinds;
   within = fits.within;
@@ -141,27 +173,43 @@ fits_still clients s j two two' fits holds same = record {
 
 -- ---- the moments
 
-still_moments : (clients : Meaning) (j : List (List Entry)) (o o' : Outside) → MomentsAre o o' (StandsStill clients j (sent_of o.links.told))
+still_moments : (clients : Meaning) (j : List (List Entry)) (o o' : Outside) → MomentsAre o o'
+    (StandsStill clients j (sent_of o.links.told))
     → MomentsAre o o' (JournalMoment clients (IsBetween j []) (sent_of o.links.told))
 still_moments clients j o o' moments =
-    moments_map o o' (StandsStill clients j (sent_of o.links.told)) (JournalMoment clients (IsBetween j []) (sent_of o.links.told))
-    (λ m still. record { whole = j; has = between_none j; stands_for = still.stands_for; nothing_sent = still.nothing_sent }) moments
+    moments_map o o' (StandsStill clients j (sent_of o.links.told))
+    (JournalMoment clients (IsBetween j []) (sent_of o.links.told))
+    (λ m still. record {
+      whole = j;
+      has = between_none j;
+      stands_for = still.stands_for;
+      nothing_sent = still.nothing_sent;
+    }) moments
 
 -- what is asked of a migration: this is what it gives, whatever journal the disk holds
-abbrev pub Gives : Meaning → StoreValue → Result JournalValue MigrationFault → Outside → Outside → Type 0
+abbrev pub Gives : Meaning → StoreValue → Result JournalValue MigrationFault → Outside → Outside
+    → Type 0
 Gives clients s result o o' =
-    (j : List (List Entry)) (two : Two File) → o.files ≡ Some two → facts j ≡ s.state.facts → HoldsFirst clients s.file s.generation j two
+    (j : List (List Entry)) (two : Two File) → o.files ≡ Some two → facts j ≡ s.state.facts
+    → HoldsFirst clients s.file s.generation j two
     → MigratesJournal clients s.file s.generation j o o' result
 
-pub leads_moved : (clients : Meaning) (s : StoreValue) (n : JournalValue) (o o' : Outside) → IsInOldFormat s → n.format ≡ 2 → Gives clients s (Ok n) o o' → LeadsBy clients s (moved_to s n) o o' []
+pub leads_moved : (clients : Meaning) (s : StoreValue) (n : JournalValue) (o o' : Outside)
+    → IsInOldFormat s → n.format ≡ 2 → Gives clients s (Ok n) o o'
+    → LeadsBy clients s (moved_to s n) o o' []
 leads_moved clients s n o o' old short gives two told j fits =
     let kept = gives j two told fits.facts_are (holds_of clients s j two old fits) in
     record {
       moments = still_moments clients j o o' kept.moments;
-      ends = λ still two' told'. (j, sym (append-nil j), fits_at clients s s.state n j two' fits.facts_are short (kept.ends two' told'));
+      ends = λ still two' told'. (
+        j,
+        sym (append-nil j),
+        fits_at clients s s.state n j two' fits.facts_are short (kept.ends two' told'),
+      );
     }
 
-pub leads_memory : (clients : Meaning) (s : StoreValue) (o o' : Outside) → IsInOldFormat s → RelatesTold (KeepsFile s.file) o.files o'.files → Gives clients s (Err migration.Memory) o o'
+pub leads_memory : (clients : Meaning) (s : StoreValue) (o o' : Outside) → IsInOldFormat s
+    → RelatesTold (KeepsFile s.file) o.files o'.files → Gives clients s (Err migration.Memory) o o'
     → LeadsBy clients s s o o' []
 leads_memory clients s o o' old own gives two told j fits =
     let kept = gives j two told fits.facts_are (holds_of clients s j two old fits) in
@@ -170,17 +218,27 @@ leads_memory clients s o o' old own gives two told j fits =
       ends = λ still two' told'.
           let there = becomes_told (KeepsFile s.file) o.files o'.files two told own in
           let both : Some there.0 ≡ Some two' = sym there.1 ∙ told' in
-          let one : there.0 ≡ two' = cc in
-          (j, sym (append-nil j), fits_still clients s j two two' fits (kept.ends two' told') (subst (λ (t : Two File). file_of t s.file ≡ file_of two s.file) one there.2));
+          let one : there.0 ≡ two' = cc in (
+            j,
+            sym (append-nil j),
+            fits_still clients s j two two' fits (kept.ends two' told')
+                (subst (λ (t : Two File). file_of t s.file ≡ file_of two s.file) one there.2),
+          );
     }
 
-pub leads_failed : (clients : Meaning) (s new : StoreValue) (o o' : Outside) → IsInOldFormat s → new.closed ≡ true → Gives clients s (Err migration.DiskFault) o o' → LeadsBy clients s new o o' []
+pub leads_failed : (clients : Meaning) (s new : StoreValue) (o o' : Outside) → IsInOldFormat s
+    → new.closed ≡ true → Gives clients s (Err migration.DiskFault) o o'
+    → LeadsBy clients s new o o' []
 leads_failed clients s new o o' old closed gives two told j fits =
     let kept = gives j two told fits.facts_are (holds_of clients s j two old fits) in
-    record { moments = still_moments clients j o o' kept.moments; ends = λ still. true≢false new.closed closed still }
+    record {
+      moments = still_moments clients j o o' kept.moments;
+      ends = λ still. true≢false new.closed closed still;
+    }
 
 -- where the disk fits a store at first, it fits the one that it leads to
-pub leads_fits : (clients : Meaning) (s new : StoreValue) (o o' : Outside) → DiskRun o o' → LeadsBy clients s new o o' [] → FitsSome clients s o.files → new.closed ≡ false
+pub leads_fits : (clients : Meaning) (s new : StoreValue) (o o' : Outside) → DiskRun o o'
+    → LeadsBy clients s new o o' [] → FitsSome clients s o.files → new.closed ≡ false
     → FitsSome clients new o'.files
 leads_fits clients s new o o' run leads fits still two' told' =
     let there = told_back o o' two' run.same_told told' in
@@ -189,14 +247,22 @@ leads_fits clients s new o o' run leads fits still two' told' =
     (end.0, end.2)
 
 -- the same of numbers that are the store's
-pub gives_of : (clients : Meaning) (s : StoreValue) (result : Result JournalValue MigrationFault) (o o' : Outside) (file generation : ℕ) → file ≡ s.file → generation ≡ s.generation
-    → ((j : List (List Entry)) (two : Two File) → o.files ≡ Some two → facts j ≡ s.state.facts → HoldsFirst clients file generation j two → MigratesJournal clients file generation j o o' result)
+pub gives_of : (clients : Meaning) (s : StoreValue) (result : Result JournalValue MigrationFault)
+    (o o' : Outside) (file generation : ℕ) → file ≡ s.file → generation ≡ s.generation
+    → ((j : List (List Entry)) (two : Two File) → o.files ≡ Some two → facts j ≡ s.state.facts
+    → HoldsFirst clients file generation j two
+    → MigratesJournal clients file generation j o o' result)
     → Gives clients s result o o'
 gives_of clients s result o o' file generation one other given =
     let At : ℕ → ℕ → Type 0 =
-    λ a b. (j : List (List Entry)) (two : Two File) → o.files ≡ Some two → facts j ≡ s.state.facts → HoldsFirst clients a b j two → MigratesJournal clients a b j o o' result in
+    λ a b. (j : List (List Entry)) (two : Two File) → o.files ≡ Some two → facts j ≡ s.state.facts
+    → HoldsFirst clients a b j two → MigratesJournal clients a b j o o' result in
     subst (λ (a : ℕ). At a s.generation) one (subst (λ (b : ℕ). At file b) other given)
 
-pub next_of : (s : StoreValue) (n : JournalValue) (file generation end : ℕ) → file ≡ s.file → generation ≡ s.generation → end ≡ s.end → IsNextJournal file generation end n → IsNextJournal s.file s.generation s.end n
+pub next_of : (s : StoreValue) (n : JournalValue) (file generation end : ℕ) → file ≡ s.file
+    → generation ≡ s.generation → end ≡ s.end → IsNextJournal file generation end n
+    → IsNextJournal s.file s.generation s.end n
 next_of s n file generation end one other last next =
-    subst (λ (a : ℕ). IsNextJournal a s.generation s.end n) one (subst (λ (b : ℕ). IsNextJournal file b s.end n) other (subst (λ (c : ℕ). IsNextJournal file generation c n) last next))
+    subst (λ (a : ℕ). IsNextJournal a s.generation s.end n) one
+    (subst (λ (b : ℕ). IsNextJournal file b s.end n) other
+    (subst (λ (c : ℕ). IsNextJournal file generation c n) last next))

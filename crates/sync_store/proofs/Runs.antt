@@ -1,11 +1,13 @@
 -- Runs of a store's calls, one behind the other: for whoever calls a store more than once.
-use Rattle.std.proofs.Common.{◌≡◌, ℕ, ◌≤◌, true, false, List, [], ◌∷◌, ◌++◌, Some, Result, Ok, Err, refl, sym, ap, ◌∙◌, subst, inl, inr, append-nil, arith}
+use Rattle.std.proofs.Common.{◌≡◌, ℕ, ◌≤◌, true, false, List, [], ◌∷◌, ◌++◌, Some, Result, Ok, Err}
+use Rattle.std.proofs.Common.{refl, sym, ap, ◌∙◌, subst, inl, inr, append-nil, arith}
 use Rattle.std.specs.Prelude.{IsErrOf}
 use Rattle.outside.specs.Faults.{CountRose}
 use Rattle.outside.specs.Files.{Two, File}
 use Rattle.outside.specs.Links.{Links, sent_of}
 use Rattle.outside.specs.Outside.{Outside, DiskRun, MakesAtMost, MakesCalls, MakesJust}
-use Rattle.outside.proofs.CallSteps.{moments_map, moments_none, moments_then, run_none, run_then, told_back, told_on}
+use Rattle.outside.proofs.CallSteps.{moments_map, moments_none, moments_then, run_none, run_then}
+use Rattle.outside.proofs.CallSteps.{told_back, told_on}
 use Rattle.sync_rules.specs.declared.entries.Entry.{Entry}
 use Rattle.sync_rules.specs.Clients.{Meaning}
 use Rattle.sync_rules.specs.Facts.{Facts, after_batches}
@@ -15,7 +17,8 @@ use Rattle.sync_rules.proofs.WorkLaws.{settling_goes_on}
 use Rattle.sync_store.specs.declared.fault.StoreFault.{StoreFault}
 use Rattle.sync_store.specs.declared.fault.StoreFault.TheVariants as fault
 use Rattle.entry_codec.specs.Standing.{room_of}
-use Rattle.sync_store.specs.Store.{StoreValue, HasNumbers, IsStore, counts_to, format_meant, written_in}
+use Rattle.sync_store.specs.Store.{StoreValue, HasNumbers, IsStore, counts_to, format_meant}
+use Rattle.sync_store.specs.Store.{written_in}
 use Rattle.sync_store.specs.Commits.{AnswersCommit, KeepsStore, UnaskedDisk, needed}
 use Rattle.sync_store.specs.Compactions.{IsBetweenOrBrief, IsOrBrief, LeadsToBrief, compacted_by}
 use Rattle.sync_store.specs.Fitting.{FitsFiles, FitsSome, ImagesStand}
@@ -23,12 +26,20 @@ use Rattle.sync_store.specs.Moments.{RunsCommit, IsBetween, JournalMoment, Leads
 use Rattle.sync_store.specs.Runs.{AddsBatch, ExtendsSo, HasExtended, LeadsBy, RunsBy, committed_by}
 use Rattle.sync_store.specs.Settling.{HasSettled, SettlesSo}
 use Rattle.sync_store.proofs.FitSteps.{IsSame, fits_same, true≢false}
-use Rattle.sync_store.proofs.SettleSteps.{calls_closed, calls_none, calls_one, calls_runs, leads_one, leads_one_closed, leads_then}
+use Rattle.sync_store.proofs.SettleSteps.{calls_closed, calls_none, calls_one, calls_runs}
+use Rattle.sync_store.proofs.SettleSteps.{leads_one, leads_one_closed, leads_then}
 
 -- ---- none
 
 same_store : (s new : StoreValue) → KeepsStore s new → IsSame s new
-same_store s new stays = record { facts = stays.facts; file = stays.file; format = stays.format; generation = stays.generation; end = stays.end }
+same_store s new stays =
+    record {
+      facts = stays.facts;
+      file = stays.file;
+      format = stays.format;
+      generation = stays.generation;
+      end = stays.end;
+    }
 
 -- a store that all is as before of keeps what it kept
 store_back : (s new : StoreValue) → KeepsStore s new → IsStore new → IsStore s
@@ -45,11 +56,13 @@ store_back s new stays store = record {
   numbers =
       subst (λ (f : Facts). HasNumbers f (counts_to (written_in s) s.end)) stays.facts
       (subst (λ (n : ℕ). HasNumbers new.state.facts (counts_to (format_meant n) s.end)) stays.format
-      (subst (λ (n : ℕ). HasNumbers new.state.facts (counts_to (written_in new) n)) stays.end store.numbers));
+      (subst (λ (n : ℕ). HasNumbers new.state.facts (counts_to (written_in new) n)) stays.end
+      store.numbers));
 }
 
 -- no call was made of the disk
-pub runs_none : ImagesStand → (clients : Meaning) (s new : StoreValue) (o : Outside) → IsStore s → KeepsStore s new → RunsBy clients s new o o []
+pub runs_none : ImagesStand → (clients : Meaning) (s new : StoreValue) (o : Outside) → IsStore s
+    → KeepsStore s new → RunsBy clients s new o o []
 runs_none images clients s new o store stays = record {
   goes_on = tt;
   facts = λ still. stays.facts;
@@ -70,8 +83,12 @@ runs_none images clients s new o store stays = record {
           nothing_sent = now.sent;
         });
     ends = λ still two' told'.
-        let one : two ≡ two' = cc in
-        (j, sym (append-nil j), subst (λ (t : Two File). FitsFiles clients new j t) one (fits_same clients s new j two fits (same_store s new stays)));
+        let one : two ≡ two' = cc in (
+          j,
+          sym (append-nil j),
+          subst (λ (t : Two File). FitsFiles clients new j t) one
+              (fits_same clients s new j two fits (same_store s new stays)),
+        );
   };
   calls = calls_none new o;
 }
@@ -79,8 +96,11 @@ runs_none images clients s new o store stays = record {
 -- ---- one commit
 
 -- a batch was committed
-runs_committed : (clients : Meaning) (s new : StoreValue) (batch : List Entry) (u : Unit {0}) (o o' : Outside) → Allowed clients s.state.facts batch → AnswersCommit s new batch (Ok u) → DiskRun o o' → MakesJust 4 o o'
-    → ((two : Two File) → o.files ≡ Some two → (j : List (List Entry)) → FitsFiles clients s j two → RunsCommit clients batch (Ok u) new o o' j) → RunsBy clients s new o o' (batch ∷ [])
+runs_committed : (clients : Meaning) (s new : StoreValue) (batch : List Entry) (u : Unit {0})
+    (o o' : Outside) → Allowed clients s.state.facts batch → AnswersCommit s new batch (Ok u)
+    → DiskRun o o' → MakesJust 4 o o'
+    → ((two : Two File) → o.files ≡ Some two → (j : List (List Entry)) → FitsFiles clients s j two
+    → RunsCommit clients batch (Ok u) new o o' j) → RunsBy clients s new o o' (batch ∷ [])
 runs_committed clients s new batch u o o' allowed commits run made adds = record {
   goes_on = (allowed, tt);
   facts = λ still. commits.2.facts;
@@ -94,8 +114,12 @@ runs_committed clients s new batch u o o' allowed commits run made adds = record
 }
 
 -- the disk failed
-runs_broken : (clients : Meaning) (s new : StoreValue) (batch : List Entry) (o o' : Outside) → Allowed clients s.state.facts batch → AnswersCommit s new batch (Err fault.DiskFault) → DiskRun o o' → MakesAtMost 4 o o'
-    → ((two : Two File) → o.files ≡ Some two → (j : List (List Entry)) → FitsFiles clients s j two → RunsCommit clients batch (Err fault.DiskFault) new o o' j) → RunsBy clients s new o o' (batch ∷ [])
+runs_broken : (clients : Meaning) (s new : StoreValue) (batch : List Entry) (o o' : Outside)
+    → Allowed clients s.state.facts batch → AnswersCommit s new batch (Err fault.DiskFault)
+    → DiskRun o o' → MakesAtMost 4 o o'
+    → ((two : Two File) → o.files ≡ Some two → (j : List (List Entry)) → FitsFiles clients s j two
+    → RunsCommit clients batch (Err fault.DiskFault) new o o' j)
+    → RunsBy clients s new o o' (batch ∷ [])
 runs_broken clients s new batch o o' allowed commits run made adds = record {
   goes_on = (allowed, tt);
   facts = λ still. true≢false new.closed commits.2.closed still;
@@ -104,28 +128,44 @@ runs_broken clients s new batch o o' allowed commits run made adds = record {
   generation = commits.2.generation;
   limit = commits.2.limit;
   run = run;
-  leads = λ two told j fits. leads_one_closed clients j batch new fault.DiskFault o o' (adds two told j fits) commits.2.closed;
+  leads = λ two told j fits.
+      leads_one_closed clients j batch new fault.DiskFault o o' (adds two told j fits)
+      commits.2.closed;
   calls = calls_closed new o o' commits.2.closed made;
 }
 
--- A commit, whatever it answered: `tells` says what a disk tells, `d` and `d'` are the disk before and after.
-pub runs_commit : ImagesStand → (clients : Meaning) (s new : StoreValue) (batch : List Entry) (result : Result (Unit {0}) StoreFault) (D : Type 0) (tells : D → Outside) (d d' : D) → IsStore new
-    → s.closed ≡ false → Allowed clients s.state.facts batch → AnswersCommit s new batch result → UnaskedDisk result d d' → DiskRun (tells d) (tells d') → MakesCalls 4 result (tells d) (tells d')
-    → ((two : Two File) → (tells d).files ≡ Some two → (j : List (List Entry)) → FitsFiles clients s j two → RunsCommit clients batch result new (tells d) (tells d') j)
+-- A commit, whatever it answered: `tells` says what a disk tells, `d` and `d'` are the disk before
+-- and after.
+pub runs_commit : ImagesStand → (clients : Meaning) (s new : StoreValue) (batch : List Entry)
+    (result : Result (Unit {0}) StoreFault) (D : Type 0) (tells : D → Outside) (d d' : D)
+    → IsStore new
+    → s.closed ≡ false → Allowed clients s.state.facts batch → AnswersCommit s new batch result
+    → UnaskedDisk result d d' → DiskRun (tells d) (tells d')
+    → MakesCalls 4 result (tells d) (tells d')
+    → ((two : Two File) → (tells d).files ≡ Some two → (j : List (List Entry))
+    → FitsFiles clients s j two → RunsCommit clients batch result new (tells d) (tells d') j)
     → RunsBy clients s new (tells d) (tells d') (committed_by batch result)
-runs_commit images clients s new batch (Ok u) D tells d d' store opened allowed commits unasked run made adds =
+runs_commit images clients s new batch (Ok u) D tells d d' store opened allowed commits unasked run
+    made adds =
     runs_committed clients s new batch u (tells d) (tells d') allowed commits run made.just adds
-runs_commit images clients s new batch (Err fault.DiskFault) D tells d d' store opened allowed commits unasked run made adds =
+runs_commit images clients s new batch (Err fault.DiskFault) D tells d d' store opened allowed
+    commits unasked run made adds =
     runs_broken clients s new batch (tells d) (tells d') allowed commits run made.most adds
-runs_commit images clients s new batch (Err fault.Closed) D tells d d' store opened allowed commits unasked run made adds = true≢false s.closed commits.0 opened
-runs_commit images clients s new batch (Err fault.Full) D tells d d' store opened allowed commits unasked run made adds =
-    subst (λ (x : D). RunsBy clients s new (tells d) (tells x) []) (sym unasked) (runs_none images clients s new (tells d) (store_back s new commits.2 store) commits.2)
-runs_commit images clients s new batch (Err fault.Memory) D tells d d' store opened allowed commits unasked run made adds =
-    subst (λ (x : D). RunsBy clients s new (tells d) (tells x) []) (sym unasked) (runs_none images clients s new (tells d) (store_back s new commits.2 store) commits.2)
+runs_commit images clients s new batch (Err fault.Closed) D tells d d' store opened allowed commits
+    unasked run made adds = true≢false s.closed commits.0 opened
+runs_commit images clients s new batch (Err fault.Full) D tells d d' store opened allowed commits
+    unasked run made adds =
+    subst (λ (x : D). RunsBy clients s new (tells d) (tells x) []) (sym unasked)
+    (runs_none images clients s new (tells d) (store_back s new commits.2 store) commits.2)
+runs_commit images clients s new batch (Err fault.Memory) D tells d d' store opened allowed commits
+    unasked run made adds =
+    subst (λ (x : D). RunsBy clients s new (tells d) (tells x) []) (sym unasked)
+    (runs_none images clients s new (tells d) (store_back s new commits.2 store) commits.2)
 
 -- ---- one settling
 
-pub runs_settled : (clients : Meaning) (s new : StoreValue) (result : Result (Unit {0}) StoreFault) (o o' : Outside) (has : HasSettled clients s new result o o') → DiskRun o o'
+pub runs_settled : (clients : Meaning) (s new : StoreValue) (result : Result (Unit {0}) StoreFault)
+    (o o' : Outside) (has : HasSettled clients s new result o o') → DiskRun o o'
     → RunsBy clients s new o o' has.more
 runs_settled clients s new result o o' has run = record {
   goes_on = settling_goes_on clients s.state.facts has.more has.comes.settling;
@@ -141,13 +181,19 @@ runs_settled clients s new result o o' has run = record {
 
 -- ---- one run behind another
 
-pub runs_then : (clients : Meaning) (s0 s1 s2 : StoreValue) (o0 o1 o2 : Outside) (xs ys : List (List Entry)) → s1.closed ≡ false → RunsBy clients s0 s1 o0 o1 xs → RunsBy clients s1 s2 o1 o2 ys
+pub runs_then : (clients : Meaning) (s0 s1 s2 : StoreValue) (o0 o1 o2 : Outside)
+    (xs ys : List (List Entry)) → s1.closed ≡ false → RunsBy clients s0 s1 o0 o1 xs
+    → RunsBy clients s1 s2 o1 o2 ys
     → RunsBy clients s0 s2 o0 o2 (xs ++ ys)
 runs_then clients s0 s1 s2 o0 o1 o2 xs ys still first second =
     let f = s0.state.facts in
     record {
-      goes_on = goes_on_both clients f xs ys first.goes_on (subst (λ (g : Facts). GoesOn clients g ys) (first.facts still) second.goes_on);
-      facts = λ opened. second.facts opened ∙ ap (λ (g : Facts). after_batches g ys) (first.facts still) ∙ sym (after_batches-append f xs ys);
+      goes_on =
+          goes_on_both clients f xs ys first.goes_on
+          (subst (λ (g : Facts). GoesOn clients g ys) (first.facts still) second.goes_on);
+      facts = λ opened. second.facts opened
+          ∙ ap (λ (g : Facts). after_batches g ys) (first.facts still)
+          ∙ sym (after_batches-append f xs ys);
       file = second.file ∙ first.file;
       format = second.format ∙ first.format;
       generation = second.generation ∙ first.generation;
@@ -158,38 +204,52 @@ runs_then clients s0 s1 s2 o0 o1 o2 xs ys still first second =
     }
 
 -- what one run leads to behind another
-pub leads_both : (clients : Meaning) (s0 s1 s2 : StoreValue) (o0 o1 o2 : Outside) (xs ys : List (List Entry)) → s1.closed ≡ false → DiskRun o0 o1 → LeadsBy clients s0 s1 o0 o1 xs
+pub leads_both : (clients : Meaning) (s0 s1 s2 : StoreValue) (o0 o1 o2 : Outside)
+    (xs ys : List (List Entry)) → s1.closed ≡ false → DiskRun o0 o1 → LeadsBy clients s0 s1 o0 o1 xs
     → LeadsBy clients s1 s2 o1 o2 ys → LeadsBy clients s0 s2 o0 o2 (xs ++ ys)
-leads_both clients s0 s1 s2 o0 o1 o2 xs ys still run first second = leads_then clients s0 s1 s2 o0 o1 o2 xs ys still run first second
+leads_both clients s0 s1 s2 o0 o1 o2 xs ys still run first second =
+    leads_then clients s0 s1 s2 o0 o1 o2 xs ys still run first second
 
 -- ---- a compaction behind a run
 
-between_or_brief : (j more whole : List (List Entry)) → IsOrBrief (j ++ more) whole → IsBetweenOrBrief j more whole
-between_or_brief j more whole (inl own) = inl (record { front = more; rest = []; parts = sym (append-nil more); is = own })
+between_or_brief : (j more whole : List (List Entry)) → IsOrBrief (j ++ more) whole
+    → IsBetweenOrBrief j more whole
+between_or_brief j more whole (inl own) =
+    inl (record { front = more; rest = []; parts = sym (append-nil more); is = own })
 between_or_brief j more whole (inr short) = inr short
 
--- at each moment the files stand for the journal with a front of the batches, or for the brief account of it with all of them
-pub leads_compacted : (clients : Meaning) (s0 s1 s2 : StoreValue) (result : Result (Unit {0}) StoreFault) (o0 o1 o2 : Outside) (more : List (List Entry)) → s1.closed ≡ false → DiskRun o0 o1
-    → LeadsBy clients s0 s1 o0 o1 more → LeadsToBrief clients s1 s2 result o1 o2 → (two : Two File) → o0.files ≡ Some two → (j : List (List Entry)) → FitsFiles clients s0 j two
-    → LeadsTo clients (IsBetweenOrBrief j more) (λ whole. whole ≡ compacted_by (j ++ more) result) s2 o0 o2
+-- at each moment the files stand for the journal with a front of the batches, or for the brief
+-- account of it with all of them
+pub leads_compacted : (clients : Meaning) (s0 s1 s2 : StoreValue)
+    (result : Result (Unit {0}) StoreFault) (o0 o1 o2 : Outside) (more : List (List Entry))
+    → s1.closed ≡ false → DiskRun o0 o1
+    → LeadsBy clients s0 s1 o0 o1 more → LeadsToBrief clients s1 s2 result o1 o2 → (two : Two File)
+    → o0.files ≡ Some two → (j : List (List Entry)) → FitsFiles clients s0 j two
+    → LeadsTo clients (IsBetweenOrBrief j more) (λ whole. whole ≡ compacted_by (j ++ more) result)
+    s2 o0 o2
 leads_compacted clients s0 s1 s2 result o0 o1 o2 more still run first second two told j fits =
     let begun = first two told j fits in
     let there = told_on o0 o1 two run.same_told told in
     let mid = begun.ends still there.0 there.1 in
-    let later = second there.0 there.1 (j ++ more) (subst (λ (k : List (List Entry)). FitsFiles clients s1 k there.0) mid.1 mid.2) in
-    let same : sent_of o1.links.told ≡ sent_of o0.links.told = ap (λ (l : Links). sent_of l.told) run.same_links in
+    let later =
+    second there.0 there.1 (j ++ more)
+    (subst (λ (k : List (List Entry)). FitsFiles clients s1 k there.0) mid.1 mid.2) in
+    let same : sent_of o1.links.told ≡ sent_of o0.links.told =
+    ap (λ (l : Links). sent_of l.told) run.same_links in
     let sent0 = sent_of o0.links.told in
     record {
       moments =
           moments_then o0 o1 o2 (JournalMoment clients (IsBetweenOrBrief j more) sent0)
-          (moments_map o0 o1 (JournalMoment clients (IsBetween j more) sent0) (JournalMoment clients (IsBetweenOrBrief j more) sent0)
+          (moments_map o0 o1 (JournalMoment clients (IsBetween j more) sent0)
+          (JournalMoment clients (IsBetweenOrBrief j more) sent0)
           (λ m moment. record {
             whole = moment.whole;
             has = inl moment.has;
             stands_for = moment.stands_for;
             nothing_sent = moment.nothing_sent;
           }) begun.moments)
-          (moments_map o1 o2 (JournalMoment clients (IsOrBrief (j ++ more)) (sent_of o1.links.told)) (JournalMoment clients (IsBetweenOrBrief j more) sent0)
+          (moments_map o1 o2 (JournalMoment clients (IsOrBrief (j ++ more)) (sent_of o1.links.told))
+          (JournalMoment clients (IsBetweenOrBrief j more) sent0)
           (λ m moment. record {
             whole = moment.whole;
             has = between_or_brief j more moment.whole moment.has;
@@ -202,7 +262,8 @@ leads_compacted clients s0 s1 s2 result o0 o1 o2 more still run first second two
 -- ---- the end
 
 -- at the end the disk fits the store
-pub runs_fits : (clients : Meaning) (s new : StoreValue) (o o' : Outside) (more : List (List Entry)) → RunsBy clients s new o o' more → FitsSome clients s o.files → new.closed ≡ false
+pub runs_fits : (clients : Meaning) (s new : StoreValue) (o o' : Outside) (more : List (List Entry))
+    → RunsBy clients s new o o' more → FitsSome clients s o.files → new.closed ≡ false
     → FitsSome clients new o'.files
 runs_fits clients s new o o' more runs fits still two' told' =
     let there = told_back o o' two' runs.run.same_told told' in
@@ -212,32 +273,44 @@ runs_fits clients s new o o' more runs fits still two' told' =
 
 -- ---- a batch, and settling behind it
 
-adds_by : (clients : Meaning) (f : Facts) (batch : List Entry) (e : StoreFault) → AddsBatch clients f batch (committed_by batch (Err e))
+adds_by : (clients : Meaning) (f : Facts) (batch : List Entry) (e : StoreFault)
+    → AddsBatch clients f batch (committed_by batch (Err e))
 adds_by clients f batch fault.DiskFault = (refl, tt, tt)
 adds_by clients f batch fault.Closed = tt
 adds_by clients f batch fault.Full = tt
 adds_by clients f batch fault.Memory = tt
 
-failed_so : (clients : Meaning) (s new : StoreValue) (batch : List Entry) (e : StoreFault) → s.closed ≡ false → AnswersCommit s new batch (Err e)
+failed_so : (clients : Meaning) (s new : StoreValue) (batch : List Entry) (e : StoreFault)
+    → s.closed ≡ false → AnswersCommit s new batch (Err e)
     → ExtendsSo clients s new batch (committed_by batch (Err e)) (Err e)
 failed_so clients s new batch fault.Closed opened commits = true≢false s.closed commits.0 opened
 failed_so clients s new batch fault.Full opened commits = (commits.1, refl, commits.2)
-failed_so clients s new batch fault.Memory opened commits = (commits.2.closed ∙ commits.0, commits.1)
+failed_so clients s new batch fault.Memory opened commits =
+    (commits.2.closed ∙ commits.0, commits.1)
 failed_so clients s new batch fault.DiskFault opened commits = (commits.2.closed, commits.1)
 
 -- the batch was not committed
-pub extends_failed : ImagesStand → (clients : Meaning) (s new : StoreValue) (batch : List Entry) (e : StoreFault) (D : Type 0) (tells : D → Outside) (d d' : D) → IsStore new
-    → s.closed ≡ false → Allowed clients s.state.facts batch → AnswersCommit s new batch (Err e) → UnaskedDisk (Err e) d d' → DiskRun (tells d) (tells d') → MakesAtMost 4 (tells d) (tells d')
-    → ((two : Two File) → (tells d).files ≡ Some two → (j : List (List Entry)) → FitsFiles clients s j two → RunsCommit clients batch (Err e) new (tells d) (tells d') j)
+pub extends_failed : ImagesStand → (clients : Meaning) (s new : StoreValue) (batch : List Entry)
+    (e : StoreFault) (D : Type 0) (tells : D → Outside) (d d' : D) → IsStore new
+    → s.closed ≡ false → Allowed clients s.state.facts batch → AnswersCommit s new batch (Err e)
+    → UnaskedDisk (Err e) d d' → DiskRun (tells d) (tells d')
+    → MakesAtMost 4 (tells d) (tells d')
+    → ((two : Two File) → (tells d).files ≡ Some two → (j : List (List Entry))
+    → FitsFiles clients s j two → RunsCommit clients batch (Err e) new (tells d) (tells d') j)
     → HasExtended clients s new batch (Err e) (tells d) (tells d')
-extends_failed images clients s new batch e D tells d d' store opened allowed commits unasked run made adds = record {
-  more = committed_by batch (Err e);
-  runs = runs_commit images clients s new batch (Err e) D tells d d' store opened allowed commits unasked run (record { just = tt; most = made }) adds;
-  adds = adds_by clients s.state.facts batch e;
-  answer = failed_so clients s new batch e opened commits;
-}
+extends_failed images clients s new batch e D tells d d' store opened allowed commits unasked run
+    made adds = record {
+      more = committed_by batch (Err e);
+      runs =
+          runs_commit images clients s new batch (Err e) D tells d d' store opened allowed commits
+          unasked run (record { just = tt; most = made }) adds;
+      adds = adds_by clients s.state.facts batch e;
+      answer = failed_so clients s new batch e opened commits;
+    }
 
-settled_so : (clients : Meaning) (s new : StoreValue) (batch : List Entry) (rest : List (List Entry)) (result : Result (Unit {0}) StoreFault) → needed s batch ≤ s.limit → SettlesSo clients new result
+settled_so : (clients : Meaning) (s new : StoreValue) (batch : List Entry)
+    (rest : List (List Entry)) (result : Result (Unit {0}) StoreFault) → needed s batch ≤ s.limit
+    → SettlesSo clients new result
     → ExtendsSo clients s new batch (batch ∷ rest) result
 settled_so clients s new batch rest (Ok u) roomy so = (so.0, roomy, (λ none. cc), so.1)
 settled_so clients s new batch rest (Err fault.Closed) roomy so = so
@@ -246,36 +319,53 @@ settled_so clients s new batch rest (Err fault.Memory) roomy so = (so, roomy)
 settled_so clients s new batch rest (Err fault.DiskFault) roomy so = (so, roomy)
 
 -- the batch was committed, and the store settled as far as its answer says
-pub extends_settled : (clients : Meaning) (s mid new : StoreValue) (batch : List Entry) (u : Unit {0}) (result : Result (Unit {0}) StoreFault) (o o1 o2 : Outside) → Allowed clients s.state.facts batch
+pub extends_settled : (clients : Meaning) (s mid new : StoreValue) (batch : List Entry)
+    (u : Unit {0}) (result : Result (Unit {0}) StoreFault) (o o1 o2 : Outside)
+    → Allowed clients s.state.facts batch
     → AnswersCommit s mid batch (Ok u) → DiskRun o o1 → MakesJust 4 o o1
-    → ((two : Two File) → o.files ≡ Some two → (j : List (List Entry)) → FitsFiles clients s j two → RunsCommit clients batch (Ok u) mid o o1 j)
-    → HasSettled clients mid new result o1 o2 → DiskRun o1 o2 → HasExtended clients s new batch result o o2
-extends_settled clients s mid new batch u result o o1 o2 allowed commits run made adds has run' = record {
-  more = batch ∷ has.more;
-  runs =
-      runs_then clients s mid new o o1 o2 (batch ∷ []) has.more commits.2.closed (runs_committed clients s mid batch u o o1 allowed commits run made adds)
-      (runs_settled clients mid new result o1 o2 has run');
-  adds = (refl, subst (λ (f : Facts). AllSettling clients f has.more) commits.2.facts has.comes.settling, has.filled);
-  answer = settled_so clients s new batch has.more result commits.1 has.answer;
-}
+    → ((two : Two File) → o.files ≡ Some two → (j : List (List Entry)) → FitsFiles clients s j two
+    → RunsCommit clients batch (Ok u) mid o o1 j)
+    → HasSettled clients mid new result o1 o2 → DiskRun o1 o2
+    → HasExtended clients s new batch result o o2
+extends_settled clients s mid new batch u result o o1 o2 allowed commits run made adds has run' =
+    record {
+      more = batch ∷ has.more;
+      runs =
+          runs_then clients s mid new o o1 o2 (batch ∷ []) has.more commits.2.closed
+          (runs_committed clients s mid batch u o o1 allowed commits run made adds)
+          (runs_settled clients mid new result o1 o2 has run');
+      adds = (
+        refl,
+        subst (λ (f : Facts). AllSettling clients f has.more) commits.2.facts
+            has.comes.settling,
+        has.filled,
+      );
+      answer = settled_so clients s new batch has.more result commits.1 has.answer;
+    }
 
 -- a store that was closed answers so, and does nothing
-pub closed_failed : {D : Type 0} (s new : StoreValue) (batch : List Entry) (e : StoreFault) (d d' : D) → s.closed ≡ true → AnswersCommit s new batch (Err e) → UnaskedDisk (Err e) d d'
+pub closed_failed : {D : Type 0} (s new : StoreValue) (batch : List Entry) (e : StoreFault)
+    (d d' : D) → s.closed ≡ true → AnswersCommit s new batch (Err e) → UnaskedDisk (Err e) d d'
     → (e ≡ fault.Closed) × KeepsStore s new × (d' ≡ d)
 closed_failed s new batch fault.Closed d d' closed commits unasked = (refl, commits.1, unasked)
-closed_failed s new batch fault.Full d d' closed commits unasked = true≢false s.closed closed commits.0
-closed_failed s new batch fault.Memory d d' closed commits unasked = true≢false s.closed closed commits.0
-closed_failed s new batch fault.DiskFault d d' closed commits unasked = true≢false s.closed closed commits.0
+closed_failed s new batch fault.Full d d' closed commits unasked =
+    true≢false s.closed closed commits.0
+closed_failed s new batch fault.Memory d d' closed commits unasked =
+    true≢false s.closed closed commits.0
+closed_failed s new batch fault.DiskFault d d' closed commits unasked =
+    true≢false s.closed closed commits.0
 
 -- a store that is full made no call on the disk
-pub full_unasked : {D : Type 0} (e : StoreFault) (d d' : D) → e ≡ fault.Full → UnaskedDisk (Err e) d d' → d' ≡ d
+pub full_unasked : {D : Type 0} (e : StoreFault) (d d' : D) → e ≡ fault.Full → UnaskedDisk
+    (Err e) d d' → d' ≡ d
 full_unasked fault.Full d d' is unasked = unasked
 full_unasked fault.Closed d d' is unasked = unasked
 full_unasked fault.Memory d d' is unasked = unasked
 full_unasked fault.DiskFault d d' is unasked = cc
 
 -- settling is never full
-pub settled_full : (clients : Meaning) (s new : StoreValue) (result : Result (Unit {0}) StoreFault) (o o' : Outside) → HasSettled clients s new result o o' → IsErrOf result fault.Full → ⊥
+pub settled_full : (clients : Meaning) (s new : StoreValue) (result : Result (Unit {0}) StoreFault)
+    (o o' : Outside) → HasSettled clients s new result o o' → IsErrOf result fault.Full → ⊥
 settled_full clients s new (Ok u) o o' has full = cc
 settled_full clients s new (Err fault.Full) o o' has full = has.answer
 settled_full clients s new (Err fault.Closed) o o' has full = has.answer
@@ -283,7 +373,8 @@ settled_full clients s new (Err fault.Memory) o o' has full = cc
 settled_full clients s new (Err fault.DiskFault) o o' has full = cc
 
 -- an error that is this one
-pub full_is : (r : Result (Unit {0}) StoreFault) (e : StoreFault) → r ≡ Err e → IsErrOf r fault.Full → e ≡ fault.Full
+pub full_is : (r : Result (Unit {0}) StoreFault) (e : StoreFault) → r ≡ Err e → IsErrOf r fault.Full
+    → e ≡ fault.Full
 full_is r e same is = cc
 
 -- a count that rose behind a run rose

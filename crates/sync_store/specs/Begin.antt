@@ -12,16 +12,20 @@ use Rattle.sync_store.specs.declared.fault.InitFault.TheVariants as init
 
 -- whatever the clients mean, the files stand for no store or for the empty journal
 abbrev pub StandsForNone : Two (List ℕ) → Type 0
-StandsForNone files = ((clients : Meaning) → stands clients files ≡ no_store) ⊎ ((clients : Meaning) → stands clients files ≡ journal [])
+StandsForNone files =
+    ((clients : Meaning) → stands clients files ≡ no_store)
+    ⊎ ((clients : Meaning) → stands clients files ≡ journal [])
 
 -- some file has an open header
 abbrev pub has_open : Two File → Bool
 has_open two = is_open two.first.now || is_open two.second.now
 
--- A moment while a store is begun: one from before, or, where no header is open, the files stand for no store or for the empty
--- journal, nothing more being sent.
+-- A moment while a store is begun: one from before, or, where no header is open, the files stand
+-- for no store or for the empty journal, nothing more being sent.
 abbrev pub InitMoment : Two File → Links → Moment → Type 0
-InitMoment two links m = IsNow two links m ⊎ ((has_open two ≡ false) × StandsForNone m.files × (m.sent ≡ sent_of links.told))
+InitMoment two links m =
+    IsNow two links m ⊎ ((has_open two ≡ false) × StandsForNone m.files
+    × (m.sent ≡ sent_of links.told))
 
 -- nothing is pending in either file, and no header is open
 pub record IsFree (two : Two File) : Type 0 where
@@ -40,4 +44,5 @@ IsAnswer two (Err init.DiskFault) = Unit {0}
 pub record BeginsJournal (old new : Two File) : Type 0 where
   pub first : new.first ≡ settled (begun_bytes 2 1)
   pub second : new.second ≡ settled old.second.now
-  pub each_image : (clients : Meaning) (left : Two (List ℕ)) → IsImage new left → stands clients left ≡ journal []
+  pub each_image : (clients : Meaning) (left : Two (List ℕ)) → IsImage new left
+      → stands clients left ≡ journal []

@@ -2,7 +2,8 @@
 use Rattle.brief_account.specs.Laws.{BriefKeepsFacts}
 use Rattle.sync_rules.specs.Allows.{AllowsIsAllowed}
 use Rattle.entry_codec.specs.Laws.{AllowedNames, PayloadsFitFrames}
-use Rattle.entry_codec.specs.StandingLaws.{AllowedAddOne, AllowedMayBeWritten, AllowedTakeOne, JournalsStand}
+use Rattle.entry_codec.specs.StandingLaws.{AllowedAddOne, AllowedMayBeWritten, AllowedTakeOne}
+use Rattle.entry_codec.specs.StandingLaws.{JournalsStand}
 
 pub record StoreLaws : Type 0 where
   pub stand : JournalsStand

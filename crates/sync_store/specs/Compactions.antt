@@ -1,5 +1,6 @@
 -- A store whose journal is replaced by its brief account.
-use Rattle.std.specs.Prelude.{◌≡◌, ◌⊎◌, ◌+◌, ◌-◌, ◌^◌, ◌<◌, ◌≤◌, true, false, List, ◌++◌, Some, Result, Ok, Err}
+use Rattle.std.specs.Prelude.{◌≡◌, ◌⊎◌, ◌+◌, ◌-◌, ◌^◌, ◌<◌, ◌≤◌, true, false, List, ◌++◌, Some}
+use Rattle.std.specs.Prelude.{Result, Ok, Err}
 use Rattle.outside.specs.Files.{Two, File}
 use Rattle.outside.specs.Outside.{Outside}
 use Rattle.sync_rules.specs.declared.entries.Entry.{Entry}
@@ -16,17 +17,20 @@ use Rattle.sync_store.specs.Moments.{IsBetween, LeadsTo}
 use Rattle.sync_store.specs.declared.fault.StoreFault.{StoreFault}
 use Rattle.sync_store.specs.declared.fault.StoreFault.TheVariants as fault
 
--- no further generation is left for the journal, or its brief account passes the limit with the room for settling
+-- no further generation is left for the journal, or its brief account passes the limit with the
+-- room for settling
 abbrev pub IsTooLong : Meaning → StoreValue → Type 0
 IsTooLong clients s = (s.generation ≡ 2 ^ 64 - 1) ⊎ (s.limit < compacted_len clients s.state.facts)
 
--- a further generation is left, and the brief account is within the limit with the room for settling
+-- a further generation is left, and the brief account is within the limit with the room for
+-- settling
 pub record MayShorten (clients : Meaning) (s : StoreValue) : Type 0 where
   pub generation : s.generation < 2 ^ 64 - 1
   pub roomy : compacted_len clients s.state.facts ≤ s.limit
 
--- The journal is the brief account, which is in the other file, in format 2 and with the next generation. No session goes on, no
--- step is left, and all else that contracts see of the store is as before.
+-- The journal is the brief account, which is in the other file, in format 2 and with the next
+-- generation. No session goes on, no step is left, and all else that contracts see of the store is
+-- as before.
 pub record ShortensJournal (clients : Meaning) (old new : StoreValue) : Type 0 where
   pub may : MayShorten clients old
   pub facts : new.state.facts ≡ without_sessions old.state.facts
@@ -39,14 +43,17 @@ pub record ShortensJournal (clients : Meaning) (old new : StoreValue) : Type 0 w
   pub limit : new.limit ≡ old.limit
   pub closed : new.closed ≡ false
 
--- Full comes exactly where the brief account is too long or has no generation, but that memory may be wanting before that is
--- known. After both all is as before, and after DiskFault too, but that the store is closed then.
-abbrev pub AnswersCompact : Meaning → StoreValue → StoreValue → Result (Unit {0}) StoreFault → Type 0
+-- Full comes exactly where the brief account is too long or has no generation, but that memory may
+-- be wanting before that is known. After both all is as before, and after DiskFault too, but that
+-- the store is closed then.
+abbrev pub AnswersCompact : Meaning → StoreValue → StoreValue → Result (Unit {0}) StoreFault
+    → Type 0
 AnswersCompact clients old new (Ok _) = ShortensJournal clients old new
 AnswersCompact clients old new (Err fault.Closed) = ⊥
 AnswersCompact clients old new (Err fault.Full) = IsTooLong clients old × (new ≡ old)
 AnswersCompact clients old new (Err fault.Memory) = (old.generation < 2 ^ 64 - 1) × (new ≡ old)
-AnswersCompact clients old new (Err fault.DiskFault) = MayShorten clients old × (new ≡ record old { closed = true })
+AnswersCompact clients old new (Err fault.DiskFault) =
+    MayShorten clients old × (new ≡ record old { closed = true })
 
 -- the journal by the answer
 abbrev pub compacted_by : List (List Entry) → Result (Unit {0}) StoreFault → List (List Entry)
@@ -61,14 +68,16 @@ IsOrBrief j whole = (whole ≡ j) ⊎ (whole ≡ brief j)
 abbrev pub IsBetweenOrBrief : List (List Entry) → List (List Entry) → List (List Entry) → Type 0
 IsBetweenOrBrief j more whole = IsBetween j more whole ⊎ (whole ≡ brief (j ++ more))
 
--- whatever journal the disk fits: at each moment the files stand for it or for its brief account, and in the end, unless the store
--- is closed, the disk fits the store with the one of the answer
-abbrev pub LeadsToBrief : Meaning → StoreValue → StoreValue → Result (Unit {0}) StoreFault → Outside → Outside → Type 0
+-- whatever journal the disk fits: at each moment the files stand for it or for its brief account,
+-- and in the end, unless the store is closed, the disk fits the store with the one of the answer
+abbrev pub LeadsToBrief : Meaning → StoreValue → StoreValue → Result (Unit {0}) StoreFault → Outside
+    → Outside → Type 0
 LeadsToBrief clients old new result o o' =
     (two : Two File) → o.files ≡ Some two → (j : List (List Entry)) → FitsFiles clients old j two
     → LeadsTo clients (IsOrBrief j) (λ whole. whole ≡ compacted_by j result) new o o'
 
 -- a store that is not closed was compacted, as far as the answer says
-pub record StoreHasCompacted (clients : Meaning) (old new : StoreValue) (result : Result (Unit {0}) StoreFault) (o o' : Outside) : Type 0 where
+pub record StoreHasCompacted (clients : Meaning) (old new : StoreValue)
+    (result : Result (Unit {0}) StoreFault) (o o' : Outside) : Type 0 where
   pub answer : AnswersCompact clients old new result
   pub leads : LeadsToBrief clients old new result o o'

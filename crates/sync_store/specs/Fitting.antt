@@ -14,7 +14,8 @@ use Rattle.entry_codec.specs.Standing.{stands, journal, room_of}
 use Rattle.outside.specs.declared.limits.TheConstants.{MAX_JOURNAL}
 use Rattle.sync_store.specs.Store.{StoreValue, written_in}
 
-pub record FitsFiles (clients : Meaning) (s : StoreValue) (j : List (List Entry)) (two : Two File) : Type 0 where
+pub record FitsFiles (clients : Meaning) (s : StoreValue) (j : List (List Entry))
+    (two : Two File) : Type 0 where
   -- nothing is pending in either file
   pub first_settled : NothingPending two 0
   pub second_settled : NothingPending two 1
@@ -22,7 +23,8 @@ pub record FitsFiles (clients : Meaning) (s : StoreValue) (j : List (List Entry)
   pub stands_for : stands clients (read_files two) ≡ journal j
   pub facts_are : facts j ≡ s.state.facts
   pub legal : Legal clients j
-  -- the journal's file is the store's, and so are its generation and its format, which is one of the two
+  -- the journal's file is the store's, and so are its generation and its format, which is one of
+  -- the two
   pub file_is : journal_file (read_files two) ≡ Some s.file
   pub format_is : format_in (file_of two s.file).now ≡ s.format
   pub format_known : format_of s.format ≡ Some (written_in s)
@@ -37,10 +39,13 @@ pub record FitsFiles (clients : Meaning) (s : StoreValue) (j : List (List Entry)
 
 -- where the files are told they fit the store with some journal
 abbrev pub FitsSome : Meaning → StoreValue → Option (Two File) → Type 0
-FitsSome clients s files = (two : Two File) → files ≡ Some two → (j : List (List Entry)) × FitsFiles clients s j two
+FitsSome clients s files =
+    (two : Two File) → files ≡ Some two → (j : List (List Entry)) × FitsFiles clients s j two
 
 -- whatever a crash leaves of a disk that fits a store stands for the journal
 abbrev pub ImagesStand : Type 0
 ImagesStand =
-    (clients : Meaning) (s : StoreValue) (j : List (List Entry)) (two : Two File) (left : Two (List ℕ)) → FitsFiles clients s j two
-    → s.end + room_of (written_in s) s.state.facts ≤ MAX_JOURNAL → IsImage two left → stands clients left ≡ journal j
+    (clients : Meaning) (s : StoreValue) (j : List (List Entry)) (two : Two File)
+    (left : Two (List ℕ)) → FitsFiles clients s j two
+    → s.end + room_of (written_in s) s.state.facts ≤ MAX_JOURNAL → IsImage two left
+    → stands clients left ≡ journal j

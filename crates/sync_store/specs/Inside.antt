@@ -3,4 +3,12 @@ use Rattle.sync_store.specs.declared.store.Store.TheInside.{Inside}
 use Rattle.sync_store.specs.Store.{StoreValue}
 
 abbrev pub value_of : Inside → StoreValue
-value_of s = record { state = s.state; file = s.journal.file; format = s.journal.format; generation = s.journal.generation; end = s.journal.end; limit = s.limit; closed = s.closed }
+value_of s = record {
+  state = s.state;
+  file = s.journal.file;
+  format = s.journal.format;
+  generation = s.journal.generation;
+  end = s.journal.end;
+  limit = s.limit;
+  closed = s.closed;
+}

@@ -18,8 +18,8 @@ pub record IsInOldFormat (s : StoreValue) : Type 0 where
   pub whole : written_in s ≡ kind.Whole
   pub generation : s.generation < 2 ^ 64 - 1
 
--- The journal moved to the other file: it is there in format 2, with the next generation, and ends no later. All else that
--- contracts see of the store is as before.
+-- The journal moved to the other file: it is there in format 2, with the next generation, and ends
+-- no later. All else that contracts see of the store is as before.
 pub record MovesJournal (old new : StoreValue) : Type 0 where
   pub was : IsInOldFormat old
   pub state : new.state ≡ old.state
@@ -30,21 +30,25 @@ pub record MovesJournal (old new : StoreValue) : Type 0 where
   pub limit : new.limit ≡ old.limit
   pub closed : new.closed ≡ false
 
--- A journal in format 2 stays where it is. Full comes exactly where one in format 1 has the last generation, and then all is as
--- before; so it is after Memory, and after DiskFault, but that the store is closed then.
+-- A journal in format 2 stays where it is. Full comes exactly where one in format 1 has the last
+-- generation, and then all is as before; so it is after Memory, and after DiskFault, but that the
+-- store is closed then.
 abbrev pub AnswersMigrate : StoreValue → StoreValue → Result (Unit {0}) StoreFault → Type 0
 AnswersMigrate old new (Ok _) = ((written_in old ≡ kind.Short) × (new ≡ old)) ⊎ MovesJournal old new
 AnswersMigrate old new (Err fault.Closed) = ⊥
 AnswersMigrate old new (Err fault.Full) = IsSpent old × (new ≡ old)
 AnswersMigrate old new (Err fault.Memory) = IsInOldFormat old × (new ≡ old)
-AnswersMigrate old new (Err fault.DiskFault) = IsInOldFormat old × (new ≡ record old { closed = true })
+AnswersMigrate old new (Err fault.DiskFault) =
+    IsInOldFormat old × (new ≡ record old { closed = true })
 
--- A store that is not closed was migrated, as far as the answer says: at each moment, and at the end, the files stand for the
--- same journal.
-pub record HasMigrated (clients : Meaning) (old new : StoreValue) (result : Result (Unit {0}) StoreFault) (o o' : Outside) : Type 0 where
+-- A store that is not closed was migrated, as far as the answer says: at each moment, and at the
+-- end, the files stand for the same journal.
+pub record HasMigrated (clients : Meaning) (old new : StoreValue)
+    (result : Result (Unit {0}) StoreFault) (o o' : Outside) : Type 0 where
   pub answer : AnswersMigrate old new result
   pub leads : LeadsBy clients old new o o' []
 
--- the disk is as before where no call on it is made: where the journal is in format 2, and where it has the last generation
+-- the disk is as before where no call on it is made: where the journal is in format 2, and where it
+-- has the last generation
 abbrev pub UntouchedDisk : {D : Type 0} → StoreValue → D → D → Type 0
 UntouchedDisk s old new = ((written_in s ≡ kind.Short) ⊎ IsSpent s) → new ≡ old

@@ -1,4 +1,5 @@
--- What a run of a store's calls leaves at each moment, and at its end, in words of the whole journal that the files stand for.
+-- What a run of a store's calls leaves at each moment, and at its end, in words of the whole
+-- journal that the files stand for.
 use Rattle.std.specs.Prelude.{◌≡◌, ◌⊎◌, ℕ, ◌*◌, false, List, [], ◌∷◌, ◌++◌, Some, Result, Ok, Err}
 use Rattle.outside.specs.Files.{Two, File}
 use Rattle.outside.specs.Links.{sent_of}
@@ -11,19 +12,23 @@ use Rattle.sync_store.specs.Fitting.{FitsFiles}
 use Rattle.sync_store.specs.declared.fault.StoreFault.{StoreFault}
 
 -- a moment whose files stand for a journal that has P, nothing more being sent
-pub record JournalMoment (clients : Meaning) (P : List (List Entry) → Type 0) (sent : List (List ℕ)) (m : Moment) : Type 0 where
+pub record JournalMoment (clients : Meaning) (P : List (List Entry) → Type 0) (sent : List (List ℕ))
+    (m : Moment) : Type 0 where
   pub whole : List (List Entry)
   pub has : P whole
   pub stands_for : stands clients m.files ≡ journal whole
   pub nothing_sent : m.sent ≡ sent
 
--- What a run leads to: at each moment the files stand for a journal that has P; and at its end, unless the store is closed, the
--- disk fits the store with a journal that has Q.
-pub record LeadsTo (clients : Meaning) (P Q : List (List Entry) → Type 0) (s : StoreValue) (old new : Outside) : Type 0 where
+-- What a run leads to: at each moment the files stand for a journal that has P; and at its end,
+-- unless the store is closed, the disk fits the store with a journal that has Q.
+pub record LeadsTo (clients : Meaning) (P Q : List (List Entry) → Type 0) (s : StoreValue)
+    (old new : Outside) : Type 0 where
   pub moments : MomentsAre old new (JournalMoment clients P (sent_of old.links.told))
-  pub ends : s.closed ≡ false → (two : Two File) → new.files ≡ Some two → (whole : List (List Entry)) × Q whole × FitsFiles clients s whole two
+  pub ends : s.closed ≡ false → (two : Two File) → new.files ≡ Some two
+      → (whole : List (List Entry)) × Q whole × FitsFiles clients s whole two
 
--- How many calls of the disk so many batches take: four each, and where a call failed, so that the store is closed, no more.
+-- How many calls of the disk so many batches take: four each, and where a call failed, so that the
+-- store is closed, no more.
 pub record CallsFor (batches : ℕ) (s : StoreValue) (old new : Outside) : Type 0 where
   pub just : s.closed ≡ false → MakesJust (4 * batches) old new
   pub most : MakesAtMost (4 * batches) old new
@@ -35,13 +40,16 @@ abbrev pub WithAtMost : List (List Entry) → List Entry → List (List Entry) �
 WithAtMost j batch whole = (whole ≡ j) ⊎ (whole ≡ j ++ batch ∷ [])
 
 -- the journal with the batch where that was committed
-abbrev pub journal_with : List (List Entry) → List Entry → Result (Unit {0}) StoreFault → List (List Entry)
+abbrev pub journal_with : List (List Entry) → List Entry → Result (Unit {0}) StoreFault
+    → List (List Entry)
 journal_with j batch (Ok _) = j ++ batch ∷ []
 journal_with j batch (Err _) = j
 
 -- the run that commits a batch
-abbrev pub RunsCommit : Meaning → List Entry → Result (Unit {0}) StoreFault → StoreValue → Outside → Outside → List (List Entry) → Type 0
-RunsCommit clients batch result s old new j = LeadsTo clients (WithAtMost j batch) (λ whole. whole ≡ journal_with j batch result) s old new
+abbrev pub RunsCommit : Meaning → List Entry → Result (Unit {0}) StoreFault → StoreValue → Outside
+    → Outside → List (List Entry) → Type 0
+RunsCommit clients batch result s old new j =
+    LeadsTo clients (WithAtMost j batch) (λ whole. whole ≡ journal_with j batch result) s old new
 
 -- ---- a list of batches
 

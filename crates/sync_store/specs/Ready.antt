@@ -6,7 +6,8 @@ use Rattle.journal_state.specs.Whole.{KnowsJudgements}
 use Rattle.sync_store.specs.Store.{StoreValue}
 use Rattle.sync_store.specs.Fitting.{FitsSome}
 
--- no call on its disk failed, it knows what these clients said of its messages, and its disk fits it
+-- no call on its disk failed, it knows what these clients said of its messages, and its disk fits
+-- it
 pub record IsReady (clients : Meaning) (s : StoreValue) (files : Option (Two File)) : Type 0 where
   pub still_open : s.closed ≡ false
   pub knows : KnowsJudgements clients s.state

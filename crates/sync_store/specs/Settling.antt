@@ -1,5 +1,6 @@
 -- What settling answers, and what stands after each answer: one list of batches tells all of it.
-use Rattle.std.specs.Prelude.{◌≡◌, ◌⊎◌, ℕ, ◌+◌, ◌*◌, ◌<◌, ◌≤◌, true, false, List, [], ◌∷◌, ◌++◌, length, Some, Result, Ok, Err}
+use Rattle.std.specs.Prelude.{◌≡◌, ◌⊎◌, ℕ, ◌+◌, ◌*◌, ◌<◌, ◌≤◌, true, false, List, [], ◌∷◌, ◌++◌}
+use Rattle.std.specs.Prelude.{length, Some, Result, Ok, Err}
 use Rattle.std.specs.List.{AllByRecursion}
 use Rattle.outside.specs.Files.{Two, File}
 use Rattle.outside.specs.Outside.{Outside}
@@ -45,7 +46,8 @@ AreFilled [] = Unit {0}
 AreFilled (b ∷ []) = Unit {0}
 AreFilled (b ∷ c ∷ bs) = IsFullBatch b × AreFilled (c ∷ bs)
 
--- Full never comes. After Ok the journal is settled; after DiskFault the store is closed, and after Memory it is not.
+-- Full never comes. After Ok the journal is settled; after DiskFault the store is closed, and after
+-- Memory it is not.
 abbrev pub SettlesSo : Meaning → StoreValue → Result (Unit {0}) StoreFault → Type 0
 SettlesSo clients new (Ok _) = (new.closed ≡ false) × IsSettled clients new.state.facts
 SettlesSo clients new (Err fault.Closed) = ⊥
@@ -53,10 +55,12 @@ SettlesSo clients new (Err fault.Full) = ⊥
 SettlesSo clients new (Err fault.Memory) = new.closed ≡ false
 SettlesSo clients new (Err fault.DiskFault) = new.closed ≡ true
 
--- A store came by these settling batches to this one. Its facts are those after them, also where the disk failed at the last of
--- them. At each moment the files stand for the journal with a front of them, and in the end, unless the store is closed, the disk
--- fits it with the journal and all of them. Each takes four calls of the disk.
-pub record ComesBy (clients : Meaning) (old new : StoreValue) (o o' : Outside) (more : List (List Entry)) : Type 0 where
+-- A store came by these settling batches to this one. Its facts are those after them, also where
+-- the disk failed at the last of them. At each moment the files stand for the journal with a front
+-- of them, and in the end, unless the store is closed, the disk fits it with the journal and all of
+-- them. Each takes four calls of the disk.
+pub record ComesBy (clients : Meaning) (old new : StoreValue) (o o' : Outside)
+    (more : List (List Entry)) : Type 0 where
   pub settling : AllSettling clients old.state.facts more
   pub facts : new.state.facts ≡ after_batches old.state.facts more
   pub file : new.file ≡ old.file
@@ -64,17 +68,20 @@ pub record ComesBy (clients : Meaning) (old new : StoreValue) (o o' : Outside) (
   pub generation : new.generation ≡ old.generation
   pub limit : new.limit ≡ old.limit
   pub end : new.closed ≡ false → new.end ≡ old.end + settling_len (written_in old) more
-  pub leads : (two : Two File) → o.files ≡ Some two → (j : List (List Entry)) → FitsFiles clients old j two
+  pub leads : (two : Two File) → o.files ≡ Some two → (j : List (List Entry))
+      → FitsFiles clients old j two
       → LeadsTo clients (IsBetween j more) (λ whole. whole ≡ j ++ more) new o o'
   pub calls : CallsFor (length more) new o o'
 
 -- A store that is not closed was settled, as far as the answer says.
-pub record HasSettled (clients : Meaning) (old new : StoreValue) (result : Result (Unit {0}) StoreFault) (o o' : Outside) : Type 0 where
+pub record HasSettled (clients : Meaning) (old new : StoreValue)
+    (result : Result (Unit {0}) StoreFault) (o o' : Outside) : Type 0 where
   pub more : List (List Entry)
   pub comes : ComesBy clients old new o o' more
   pub filled : AreFilled more
   -- each step takes its bytes of the room, so there are at most two for each held message
-  pub room : room_of (written_in old) new.state.facts + step_bytes (written_in old) * steps_in more ≤ room_of (written_in old) old.state.facts
+  pub room : room_of (written_in old) new.state.facts + step_bytes
+      (written_in old) * steps_in more ≤ room_of (written_in old) old.state.facts
   pub few : steps_in more ≤ 2 * length old.state.facts.held
   pub answer : SettlesSo clients new result
 
@@ -85,15 +92,19 @@ abbrev pub IsOneBatch : Meaning → StoreValue → List (List Entry) → Type 0
 IsOneBatch clients new more = (AllByRecursion IsFullBatch more) ⊎ IsSettled clients new.state.facts
 
 -- what stands of one batch that was asked for where a step was left
-abbrev pub BatchSo : Meaning → StoreValue → StoreValue → List (List Entry) → Result (Unit {0}) StoreFault → Type 0
-BatchSo clients old new more (Ok _) = (new.closed ≡ false) × (left_of new.state.facts < left_of old.state.facts) × IsOneBatch clients new more
+abbrev pub BatchSo : Meaning → StoreValue → StoreValue → List (List Entry)
+    → Result (Unit {0}) StoreFault → Type 0
+BatchSo clients old new more (Ok _) =
+    (new.closed ≡ false) × (left_of new.state.facts < left_of old.state.facts)
+    × IsOneBatch clients new more
 BatchSo clients old new more (Err fault.Closed) = ⊥
 BatchSo clients old new more (Err fault.Full) = ⊥
 BatchSo clients old new more (Err fault.Memory) = new.closed ≡ false
 BatchSo clients old new more (Err fault.DiskFault) = new.closed ≡ true
 
 -- at most one settling batch was made
-pub record MakesBatch (clients : Meaning) (old new : StoreValue) (result : Result (Unit {0}) StoreFault) (o o' : Outside) : Type 0 where
+pub record MakesBatch (clients : Meaning) (old new : StoreValue)
+    (result : Result (Unit {0}) StoreFault) (o o' : Outside) : Type 0 where
   pub more : List (List Entry)
   pub comes : ComesBy clients old new o o' more
   pub few : length more ≤ 1

@@ -8,9 +8,9 @@ use Rattle.entry_codec.specs.Standing.{room_of}
 use Rattle.journal_state.specs.Whole.{StateValue, state_code}
 use Rattle.outside.specs.declared.limits.TheConstants.{MAX_JOURNAL}
 
--- The facts of the journal and the judgements of its messages; the number of the journal's file, its format and generation, and
--- the place of its closed gate plus one; the length that commits may fill; and whether a call on the disk failed. The journal
--- itself is not kept.
+-- The facts of the journal and the judgements of its messages; the number of the journal's file,
+-- its format and generation, and the place of its closed gate plus one; the length that commits may
+-- fill; and whether a call on the disk failed. The journal itself is not kept.
 pub record StoreValue : Type 0 where
   pub state : StateValue
   pub file : ℕ
@@ -31,7 +31,8 @@ written_in s = format_meant s.format
 abbrev pub store_code : Coded StoreValue
 store_code =
     code_by (StateValue × (ℕ × (ℕ × (ℕ × (ℕ × (ℕ × Bool))))))
-    (coded× state_code (coded× coded_ℕ (coded× coded_ℕ (coded× coded_ℕ (coded× coded_ℕ (coded× coded_ℕ coded_bool))))))
+    (coded× state_code (coded× coded_ℕ
+    (coded× coded_ℕ (coded× coded_ℕ (coded× coded_ℕ (coded× coded_ℕ coded_bool))))))
     (λ s. (s.state, (s.file, (s.format, (s.generation, (s.end, (s.limit, s.closed)))))))
     (λ p. record {
       state = p.0;
@@ -44,21 +45,22 @@ store_code =
     })
     (λ _. refl)
 
--- The counts of a journal are within a bound. Of the sessions those count that a brief account did not drop: how many there were
--- before them it states as one number.
+-- The counts of a journal are within a bound. Of the sessions those count that a brief account did
+-- not drop: how many there were before them it states as one number.
 pub record HasNumbers (f : Facts) (bound : ℕ) : Type 0 where
   pub held : length f.held ≤ bound
   pub sessions : length f.sessions ≤ bound
   pub records : (session : ℕ) → takes_of f.takes session ≤ bound
 
--- The bound on the counts of a journal in this format that ends there. In format 1 it is the end: each held message, each session
--- begun and each record taken has its bytes in the file. A journal in format 2 may have been written anew from one that was
--- longer, by at most the greatest length.
+-- The bound on the counts of a journal in this format that ends there. In format 1 it is the end:
+-- each held message, each session begun and each record taken has its bytes in the file. A journal
+-- in format 2 may have been written anew from one that was longer, by at most the greatest length.
 abbrev pub counts_to : Format → ℕ → ℕ
 counts_to kind.Whole end = end
 counts_to kind.Short end = MAX_JOURNAL + end
 
--- what every store keeps: its limit is one of a journal, settling finds its room, and its counts are bounded by its end and format
+-- what every store keeps: its limit is one of a journal, settling finds its room, and its counts
+-- are bounded by its end and format
 pub record IsStore (s : StoreValue) : Type 0 where
   pub limited : s.limit ≤ MAX_JOURNAL
   pub roomy : s.end + room_of (written_in s) s.state.facts ≤ MAX_JOURNAL

@@ -1,5 +1,8 @@
--- A command comes to what it should where nothing stands in its way: by what it came to, each other outcome has a cause.
-use Rattle.std.proofs.Common.{◌≡◌, ℕ, ◌+◌, ◌<◌, ◌≤◌, Bool, true, false, List, [], ◌∷◌, ◌++◌, length, take, append_assoc, le-ltb, lt-ltb, refl, sym, ◌∙◌, ap, subst, inl, inr, arith, Option, None, Some, is_some}
+-- A command comes to what it should where nothing stands in its way: by what it came to, each other
+-- outcome has a cause.
+use Rattle.std.proofs.Common.{◌≡◌, ℕ, ◌+◌, ◌<◌, ◌≤◌, Bool, true, false, List, [], ◌∷◌, ◌++◌, length}
+use Rattle.std.proofs.Common.{take, append_assoc, le-ltb, lt-ltb, refl, sym, ◌∙◌, ap, subst, inl}
+use Rattle.std.proofs.Common.{inr, arith, Option, None, Some, is_some}
 use Rattle.std.specs.Prelude.{◌⊎◌, if◌then◌else◌, nat_lt}
 use Rattle.std.proofs.lemmas.List.{take_all}
 use Rattle.outside.specs.declared.limits.TheConstants.{MAX_JOURNAL}
@@ -49,14 +52,19 @@ use Rattle.sharing_commands.proofs.Fronts.{room_at}
 use Rattle.mailbox_core.specs.Files.{box_ending}
 use Rattle.mailbox_commands.specs.declared.sending.Sending.{Sending}
 use Rattle.mailbox_commands.specs.declared.taking.TheConstants.{MAX_MAIL}
-use Rattle.mailbox_commands.specs.Errands.{Errand, HasErrandRoom, IsErrandCutShort as IsErrandCut, mailbox_test}
+use Rattle.mailbox_commands.specs.Errands.{Errand, HasErrandRoom, IsErrandCutShort as IsErrandCut}
+use Rattle.mailbox_commands.specs.Errands.{mailbox_test}
 use Rattle.mailbox_commands.specs.Running.{FilesRun, IsTested}
 use Rattle.mailbox_commands.specs.Sending.{HasSentMail, out_errand}
 use Rattle.mailbox_commands.specs.Taking.{HasTakenMail, IsMail, TakesMail, in_errand, outcome_at}
 use Rattle.store_commands.proofs.Stood.{last_lacks}
 use Rattle.sync_top.specs.declared.input.TheConstants.{MAX_INPUT}
-use Rattle.sync_top.specs.Complete.{BytesDecide, ComesOut, Complete, HasBriefRoom, HasRoomForBatch, HasRooms, MayAddPlanned, MayAgreeOn, MayAudit, MayCompact, MayPost, MaySendMail, MayShow, MayTakeMail, MailDecides, NothingFails, mail_status, ServesCommand, status_at, status_by}
-use Rattle.sync_top.specs.Run.{WordsComeTo, ComesOfStore, ReadsStream, ReadsWhole, ReportsOutcome, Streams, TriesClient, outcome_of, sending_of, speech_of}
+use Rattle.sync_top.specs.Complete.{BytesDecide, ComesOut, Complete, HasBriefRoom, HasRoomForBatch}
+use Rattle.sync_top.specs.Complete.{HasRooms, MayAddPlanned, MayAgreeOn, MayAudit, MayCompact}
+use Rattle.sync_top.specs.Complete.{MayPost, MaySendMail, MayShow, MayTakeMail, MailDecides}
+use Rattle.sync_top.specs.Complete.{NothingFails, mail_status, ServesCommand, status_at, status_by}
+use Rattle.sync_top.specs.Run.{WordsComeTo, ComesOfStore, ReadsStream, ReadsWhole, ReportsOutcome}
+use Rattle.sync_top.specs.Run.{Streams, TriesClient, outcome_of, sending_of, speech_of}
 use Rattle.sync_top.proofs.CompleteRuns.{run_comes_out}
 
 -- ---- the bytes decide
@@ -80,23 +88,43 @@ one_past n is = omega (arith, is)
 
 module _ (input input' out out' : Stream) where
   -- an input that was read to its end
-  whole_decides : (read : List ℕ) (came : Outcome) → ReadsWhole input input' read → outcome_of (ending 0 (take MAX_INPUT read)) ≡ came → status_of came ≡ status_by read
+  whole_decides : (read : List ℕ) (came : Outcome) → ReadsWhole input input' read → outcome_of
+      (ending 0 (take MAX_INPUT read)) ≡ came → status_of came ≡ status_by read
   whole_decides read came whole is =
       let all : take MAX_INPUT read ≡ read = take_all MAX_INPUT read whole.within in
-      let few : nat_lt MAX_INPUT (length read) ≡ false = le-ltb MAX_INPUT (length read) whole.within in
+      let few : nat_lt MAX_INPUT (length read) ≡ false =
+      le-ltb MAX_INPUT (length read) whole.within in
       sym (ap status_of is)
       ∙ status_same (ending 0 (take MAX_INPUT read))
       ∙ ap (λ (bytes : List ℕ). status_at (ending 0 bytes)) all
-      ∙ sym (test_by (nat_lt MAX_INPUT (length read)) status.TooMuch (status_at (ending 0 read)) few)
+      ∙ sym (test_by (nat_lt MAX_INPUT (length read)) status.TooMuch (status_at (ending 0 read))
+      few)
 
-  bytes_decide : (text : List ℕ) (came : Outcome) (told : List Item → List ℕ → Type 0) (r : ReadsStream told input input' out out' came)
-      → (CountRose input.faults input'.faults → ⊥) → (CountRose out.faults out'.faults → ⊥) → BytesDecide input input' (status_of came)
+  bytes_decide : (text : List ℕ) (came : Outcome) (told : List Item → List ℕ → Type 0)
+      (r : ReadsStream told input input' out out' came)
+      → (CountRose input.faults input'.faults → ⊥) → (CountRose out.faults out'.faults → ⊥)
+      → BytesDecide input input' (status_of came)
   bytes_decide text outcome.Done told r source sink =
-      record { read = r.read; consumed = r.consumed; whole = inl (r.ended.0.at_end, r.ended.0.within); decides = whole_decides r.read outcome.Done r.ended.0 r.ended.1 }
+      record {
+        read = r.read;
+        consumed = r.consumed;
+        whole = inl (r.ended.0.at_end, r.ended.0.within);
+        decides = whole_decides r.read outcome.Done r.ended.0 r.ended.1;
+      }
   bytes_decide text (outcome.Bad place why) told r source sink =
-      record { read = r.read; consumed = r.consumed; whole = inl (r.ended.0.at_end, r.ended.0.within); decides = whole_decides r.read (outcome.Bad place why) r.ended.0 r.ended.1 }
+      record {
+        read = r.read;
+        consumed = r.consumed;
+        whole = inl (r.ended.0.at_end, r.ended.0.within);
+        decides = whole_decides r.read (outcome.Bad place why) r.ended.0 r.ended.1;
+      }
   bytes_decide text (outcome.Inside place) told r source sink =
-      record { read = r.read; consumed = r.consumed; whole = inl (r.ended.0.at_end, r.ended.0.within); decides = whole_decides r.read (outcome.Inside place) r.ended.0 r.ended.1 }
+      record {
+        read = r.read;
+        consumed = r.consumed;
+        whole = inl (r.ended.0.at_end, r.ended.0.within);
+        decides = whole_decides r.read (outcome.Inside place) r.ended.0 r.ended.1;
+      }
   bytes_decide text outcome.TooMuch told r source sink =
       let past : MAX_INPUT < length r.read = one_past (length r.read) r.ended.0 in
       let many : nat_lt MAX_INPUT (length r.read) ≡ true = lt-ltb MAX_INPUT (length r.read) past in
@@ -104,26 +132,34 @@ module _ (input input' out out' : Stream) where
         read = r.read;
         consumed = r.consumed;
         whole = inr r.ended.0;
-        decides = sym (test_past (nat_lt MAX_INPUT (length r.read)) status.TooMuch (status_at (ending 0 r.read)) many);
+        decides =
+            sym (test_past (nat_lt MAX_INPUT (length r.read)) status.TooMuch
+            (status_at (ending 0 r.read)) many);
       }
   bytes_decide text outcome.ReadFault told r source sink = absurd (source r.ended.0)
   bytes_decide text outcome.WriteFault told r source sink = absurd (sink r.ended.0)
   bytes_decide text _ told r source sink = absurd r.ended
 
-  streams_decide : (came : Outcome) (told : List Item → List ℕ → Type 0) → Streams told input input' out out' came → (CountRose input.faults input'.faults → ⊥) → (CountRose out.faults out'.faults → ⊥)
+  streams_decide : (came : Outcome) (told : List Item → List ℕ → Type 0)
+      → Streams told input input' out out' came → (CountRose input.faults input'.faults → ⊥)
+      → (CountRose out.faults out'.faults → ⊥)
       → BytesDecide input input' (status_of came) ⊎ (status_of came ≡ status.Memory)
   streams_decide outcome.Memory told streams source sink = inr refl
   streams_decide came told streams source sink = inl (bytes_decide [] came told streams source sink)
 
-  tries_decide : (clients : Meaning) (name descriptor : List ℕ) (o : Option ℕ) (came : Outcome) → is_some o ≡ true → TriesClient clients name descriptor o input input' out out' came
-      → (CountRose input.faults input'.faults → ⊥) → (CountRose out.faults out'.faults → ⊥) → BytesDecide input input' (status_of came) ⊎ (status_of came ≡ status.Memory)
+  tries_decide : (clients : Meaning) (name descriptor : List ℕ) (o : Option ℕ) (came : Outcome)
+      → is_some o ≡ true → TriesClient clients name descriptor o input input' out out' came
+      → (CountRose input.faults input'.faults → ⊥) → (CountRose out.faults out'.faults → ⊥)
+      → BytesDecide input input' (status_of came) ⊎ (status_of came ≡ status.Memory)
   tries_decide clients name descriptor None came known tries source sink = cc
-  tries_decide clients name descriptor (Some kind) came known tries source sink = streams_decide came _ tries source sink
+  tries_decide clients name descriptor (Some kind) came known tries source sink =
+      streams_decide came _ tries source sink
 
 -- ---- commands of a store
 
 -- a journal that files stand for is the one that they stand for
-one_journal : (clients : Meaning) (files : Option (Two File)) (two : Two File) (j : List (List Entry)) (standing : Standing) → files ≡ Some two → ReadsAs clients files j
+one_journal : (clients : Meaning) (files : Option (Two File)) (two : Two File)
+    (j : List (List Entry)) (standing : Standing) → files ≡ Some two → ReadsAs clients files j
     → stands clients (read_files two) ≡ standing → standing ≡ journal j
 one_journal clients files two j standing told reads is =
     let both : Some reads.0 ≡ Some two = sym reads.1 ∙ told in
@@ -131,51 +167,66 @@ one_journal clients files two j standing told reads is =
     sym is ∙ ap (λ (t : Two File). stands clients (read_files t)) (sym same) ∙ reads.2
 
 -- a generation was left
-not_spent : {P : Type 0} (files : Option (Two File)) (two two' : Two File) → MayMigrate files → files ≡ Some two → WasSpent two two' → P
+not_spent : {P : Type 0} (files : Option (Two File)) (two two' : Two File) → MayMigrate files
+    → files ≡ Some two → WasSpent two two' → P
 not_spent files two two' next told spent = absurd (next two told spent.0)
 
 -- there was room for a batch
-not_full : {P : Type 0} (clients : Meaning) (files : Option (Two File)) (two two' : Two File) (j : List (List Entry)) (batch : List Entry)
-    → HasRoomForBatch clients j batch → MayMigrate files → files ≡ Some two → IsFull clients j batch two two' → P
+not_full : {P : Type 0} (clients : Meaning) (files : Option (Two File)) (two two' : Two File)
+    (j : List (List Entry)) (batch : List Entry)
+    → HasRoomForBatch clients j batch → MayMigrate files → files ≡ Some two
+    → IsFull clients j batch two two' → P
 not_full clients files two two' j batch has next told (inl over) =
     let room = has over.first over.settles over.settled in
     absurd (omega (arith, room, over.over))
-not_full clients files two two' j batch has next told (inr spent) = not_spent files two two' next told spent
+not_full clients files two two' j batch has next told (inr spent) =
+    not_spent files two two' next told spent
 
 -- there was room for each batch that the targets ask for
-not_cut : {P : Type 0} (clients : Meaning) (contact : ℕ) (group : Id) (files : Option (Two File)) (two two' : Two File) (j : List (List Entry))
-    → HasRooms clients contact group j → MayMigrate files → files ≡ Some two → IsAgreementCut clients contact group j two' ⊎ WasSpent two two' → P
+not_cut : {P : Type 0} (clients : Meaning) (contact : ℕ) (group : Id) (files : Option (Two File))
+    (two two' : Two File) (j : List (List Entry))
+    → HasRooms clients contact group j → MayMigrate files → files ≡ Some two
+    → IsAgreementCut clients contact group j two' ⊎ WasSpent two two' → P
 not_cut clients contact group files two two' j has next told (inl cut) =
     let roomy : EachFoundRoom (j ++ cut.first) (cut.front ++ cut.next ∷ cut.rest) =
     subst (EachFoundRoom (j ++ cut.first)) cut.parts (has cut.first cut.settles cut.settled) in
     let room : needed_by (j ++ (cut.first ++ cut.front)) cut.next ≤ MAX_JOURNAL =
-    subst (λ (whole : List (List Entry)). needed_by whole cut.next ≤ MAX_JOURNAL) (append_assoc j cut.first cut.front)
+    subst (λ (whole : List (List Entry)). needed_by whole cut.next ≤ MAX_JOURNAL)
+    (append_assoc j cut.first cut.front)
     (room_at (j ++ cut.first) cut.front cut.next cut.rest roomy) in
     absurd (omega (arith, room, cut.over))
-not_cut clients contact group files two two' j has next told (inr spent) = not_spent files two two' next told spent
+not_cut clients contact group files two two' j has next told (inr spent) =
+    not_spent files two two' next told spent
 
 -- there was room for the errand
-not_errand_cut : {P : Type 0} (clients : Meaning) (errand : Errand) (files : Option (Two File)) (two two' : Two File) (j : List (List Entry))
-    → HasErrandRoom clients errand j → MayMigrate files → files ≡ Some two → IsErrandCut clients errand j two' ⊎ WasSpent two two' → P
+not_errand_cut : {P : Type 0} (clients : Meaning) (errand : Errand) (files : Option (Two File))
+    (two two' : Two File) (j : List (List Entry))
+    → HasErrandRoom clients errand j → MayMigrate files → files ≡ Some two
+    → IsErrandCut clients errand j two' ⊎ WasSpent two two' → P
 not_errand_cut clients errand files two two' j has next told (inl cut) =
     let room = has cut.first cut.rest cut.next cut.settles cut.settled cut.follows in
     absurd (omega (arith, room, cut.over))
-not_errand_cut clients errand files two two' j has next told (inr spent) = not_spent files two two' next told spent
+not_errand_cut clients errand files two two' j has next told (inr spent) =
+    not_spent files two two' next told spent
 
 -- there was room and a generation for the brief account
-not_brief_full : {P : Type 0} (clients : Meaning) (files : Option (Two File)) (two two' : Two File) (j : List (List Entry)) → HasBriefRoom clients j → MayRenew files → files ≡ Some two
+not_brief_full : {P : Type 0} (clients : Meaning) (files : Option (Two File)) (two two' : Two File)
+    (j : List (List Entry)) → HasBriefRoom clients j → MayRenew files → files ≡ Some two
     → IsBriefFull clients j two two' → P
 not_brief_full clients files two two' j has next told (inl once) = absurd (elim once.has.over [
   | inl past ↦ let room = has once.first once.settles once.settled in omega (arith, room, past)
   | inr lacks ↦ next two told lacks
 ])
-not_brief_full clients files two two' j has next told (inr spent) = absurd (next two told (last_lacks (read_files two) spent.0))
+not_brief_full clients files two two' j has next told (inr spent) =
+    absurd (next two told (last_lacks (read_files two) spent.0))
 
-module _ (clients : Meaning) (old new : Outside) (input input' out out' : Stream) (fails : NothingFails old new input input' out out') where
+module _ (clients : Meaning) (old new : Outside) (input input' out out' : Stream)
+    (fails : NothingFails old new input input' out out') where
   abbrev Done : Outcome → Type 0
   Done came = (status_of came ≡ status.Done) ⊎ (status_of came ≡ status.Memory)
 
-  begun_done : (came : Outcome) → HasBegun old new out out' came → (two : Two File) → old.files ≡ Some two → has_open two ≡ false → Done came
+  begun_done : (came : Outcome) → HasBegun old new out out' came → (two : Two File)
+      → old.files ≡ Some two → has_open two ≡ false → Done came
   begun_done outcome.Done did two told none = inl refl
   begun_done outcome.WriteFault did two told none = absurd (fails.sink did.by.0)
   begun_done outcome.DiskFault did two told none = absurd (fails.disk did.by.0)
@@ -184,57 +235,70 @@ module _ (clients : Meaning) (old new : Outside) (input input' out out' : Stream
       absurd (let is : true ≡ false = sym (((did.told two told).ends now.0 now.1).0) ∙ none in cc)
   begun_done _ did two told none = absurd did.by
 
-  added_done : (plan : Facts → Plan) (asked : Settling) (came : Outcome) → HasAdded clients plan asked old new out out' came → MayAddPlanned clients plan old.files → Done came
+  added_done : (plan : Facts → Plan) (asked : Settling) (came : Outcome)
+      → HasAdded clients plan asked old new out out' came → MayAddPlanned clients plan old.files
+      → Done came
   added_done plan asked outcome.Done did may = inl refl
   added_done plan asked outcome.Memory did may = inr refl
   added_done plan asked outcome.WriteFault did may = absurd (fails.sink did.by)
   added_done plan asked outcome.DiskFault did may = absurd (fails.disk did.by.0)
   added_done plan asked outcome.NoStore did may =
       let now = told_on old new may.stood.0 did.run.same_told may.stood.1 in
-      let is : no_store ≡ journal may.before = sym (((did.told may.stood.0 may.stood.1).ends now.0 now.1).0) ∙ may.stood.2 in
+      let is : no_store ≡ journal may.before =
+      sym (((did.told may.stood.0 may.stood.1).ends now.0 now.1).0) ∙ may.stood.2 in
       cc
   added_done plan asked (outcome.Damaged place) did may =
       let now = told_on old new may.stood.0 did.run.same_told may.stood.1 in
-      let is : damaged place.file place.at ≡ journal may.before = sym (((did.told may.stood.0 may.stood.1).ends now.0 now.1).0) ∙ may.stood.2 in
+      let is : damaged place.file place.at ≡ journal may.before =
+      sym (((did.told may.stood.0 may.stood.1).ends now.0 now.1).0) ∙ may.stood.2 in
       cc
   added_done plan asked (outcome.Refused why) did may =
       let now = told_on old new may.stood.0 did.run.same_told may.stood.1 in
       let r = ((did.told may.stood.0 may.stood.1).ends now.0 now.1).0 in
       let both : journal r.before ≡ journal may.before = sym r.stood ∙ may.stood.2 in
       let same : r.before ≡ may.before = cc in
-      let is : refuses why ≡ adds may.entry = sym r.planned ∙ ap (λ (j : List (List Entry)). plan (facts j)) same ∙ may.planned in
+      let is : refuses why ≡ adds may.entry = sym r.planned
+      ∙ ap (λ (j : List (List Entry)). plan (facts j)) same ∙ may.planned in
       cc
   added_done plan asked outcome.Full did may =
       let now = told_on old new may.stood.0 did.run.same_told may.stood.1 in
       let full = (did.told may.stood.0 may.stood.1).ends now.0 now.1 in
       let both : journal full.before ≡ journal may.before = sym full.stood ∙ may.stood.2 in
       let same : full.before ≡ may.before = cc in
-      let is : adds full.entry ≡ adds may.entry = sym full.planned ∙ ap (λ (j : List (List Entry)). plan (facts j)) same ∙ may.planned in
+      let is : adds full.entry ≡ adds may.entry = sym full.planned
+      ∙ ap (λ (j : List (List Entry)). plan (facts j)) same ∙ may.planned in
       let one : full.entry ≡ may.entry = cc in
       let has : HasRoomForBatch clients full.before (full.entry ∷ []) =
-      subst (λ (j : List (List Entry)). HasRoomForBatch clients j (full.entry ∷ [])) (sym same) (subst (λ (e : Entry). HasRoomForBatch clients may.before (e ∷ [])) (sym one) may.room) in
-      not_full clients old.files may.stood.0 now.0 full.before (full.entry ∷ []) has may.next may.stood.1 full.leads
+      subst (λ (j : List (List Entry)). HasRoomForBatch clients j (full.entry ∷ [])) (sym same)
+      (subst (λ (e : Entry). HasRoomForBatch clients may.before (e ∷ [])) (sym one) may.room) in
+      not_full clients old.files may.stood.0 now.0 full.before (full.entry ∷ []) has may.next
+      may.stood.1 full.leads
   added_done plan asked _ did may = absurd did.by
 
-  agreed_done : (contact : ℕ) (group : Id) (came : Outcome) → HasAgreed clients contact group old new out out' came → MayAgreeOn clients contact group old.files → Done came
+  agreed_done : (contact : ℕ) (group : Id) (came : Outcome)
+      → HasAgreed clients contact group old new out out' came
+      → MayAgreeOn clients contact group old.files → Done came
   agreed_done contact group outcome.Done did may = inl refl
   agreed_done contact group outcome.Memory did may = inr refl
   agreed_done contact group outcome.WriteFault did may = absurd (fails.sink did.by)
   agreed_done contact group outcome.DiskFault did may = absurd (fails.disk did.by.0)
   agreed_done contact group outcome.NoStore did may =
       let now = told_on old new may.stood.0 did.run.same_told may.stood.1 in
-      let is : no_store ≡ journal may.before = sym (((did.told may.stood.0 may.stood.1).ends now.0 now.1).0) ∙ may.stood.2 in
+      let is : no_store ≡ journal may.before =
+      sym (((did.told may.stood.0 may.stood.1).ends now.0 now.1).0) ∙ may.stood.2 in
       cc
   agreed_done contact group (outcome.Damaged place) did may =
       let now = told_on old new may.stood.0 did.run.same_told may.stood.1 in
-      let is : damaged place.file place.at ≡ journal may.before = sym (((did.told may.stood.0 may.stood.1).ends now.0 now.1).0) ∙ may.stood.2 in
+      let is : damaged place.file place.at ≡ journal may.before =
+      sym (((did.told may.stood.0 may.stood.1).ends now.0 now.1).0) ∙ may.stood.2 in
       cc
   agreed_done contact group (outcome.Refused why) did may =
       let now = told_on old new may.stood.0 did.run.same_told may.stood.1 in
       let r = ((did.told may.stood.0 may.stood.1).ends now.0 now.1).0 in
       let both : journal r.before ≡ journal may.before = sym r.stood ∙ may.stood.2 in
       let same : r.before ≡ may.before = cc in
-      let is : Some why ≡ None = sym r.tested ∙ ap (λ (j : List (List Entry)). agree_test (facts j) contact group) same ∙ may.tested in
+      let is : Some why ≡ None = sym r.tested
+      ∙ ap (λ (j : List (List Entry)). agree_test (facts j) contact group) same ∙ may.tested in
       cc
   agreed_done contact group outcome.Full did may =
       let now = told_on old new may.stood.0 did.run.same_told may.stood.1 in
@@ -243,77 +307,99 @@ module _ (clients : Meaning) (old new : Outside) (input input' out out' : Stream
       let same : full.before ≡ may.before = cc in
       let has : HasRooms clients contact group full.before =
       subst (λ (j : List (List Entry)). HasRooms clients contact group j) (sym same) may.room in
-      not_cut clients contact group old.files may.stood.0 now.0 full.before has may.next may.stood.1 full.leads
+      not_cut clients contact group old.files may.stood.0 now.0 full.before has may.next may.stood.1
+      full.leads
   agreed_done contact group _ did may = absurd did.by
 
-  compacted_done : (came : Outcome) → HasCompacted clients old new out out' came → MayCompact clients old.files → Done came
+  compacted_done : (came : Outcome) → HasCompacted clients old new out out' came
+      → MayCompact clients old.files → Done came
   compacted_done outcome.Done did may = inl refl
   compacted_done outcome.Memory did may = inr refl
   compacted_done outcome.WriteFault did may = absurd (fails.sink did.by)
   compacted_done outcome.DiskFault did may = absurd (fails.disk did.by.0)
   compacted_done outcome.NoStore did may =
       let now = told_on old new may.stood.0 did.run.same_told may.stood.1 in
-      let is : no_store ≡ journal may.before = sym (((did.told may.stood.0 may.stood.1).ends now.0 now.1).0) ∙ may.stood.2 in
+      let is : no_store ≡ journal may.before =
+      sym (((did.told may.stood.0 may.stood.1).ends now.0 now.1).0) ∙ may.stood.2 in
       cc
   compacted_done (outcome.Damaged place) did may =
       let now = told_on old new may.stood.0 did.run.same_told may.stood.1 in
-      let is : damaged place.file place.at ≡ journal may.before = sym (((did.told may.stood.0 may.stood.1).ends now.0 now.1).0) ∙ may.stood.2 in
+      let is : damaged place.file place.at ≡ journal may.before =
+      sym (((did.told may.stood.0 may.stood.1).ends now.0 now.1).0) ∙ may.stood.2 in
       cc
   compacted_done outcome.Full did may =
       let now = told_on old new may.stood.0 did.run.same_told may.stood.1 in
       let full = (did.told may.stood.0 may.stood.1).ends now.0 now.1 in
       let both : journal full.before ≡ journal may.before = sym full.stood ∙ may.stood.2 in
       let same : full.before ≡ may.before = cc in
-      let has : HasBriefRoom clients full.before = subst (λ (j : List (List Entry)). HasBriefRoom clients j) (sym same) may.room in
-      not_brief_full clients old.files may.stood.0 now.0 full.before has may.next may.stood.1 full.leads
+      let has : HasBriefRoom clients full.before =
+      subst (λ (j : List (List Entry)). HasBriefRoom clients j) (sym same) may.room in
+      not_brief_full clients old.files may.stood.0 now.0 full.before has may.next may.stood.1
+      full.leads
   compacted_done _ did may = absurd did.by
 
   -- the tests hold over the journal that the files stand for
-  not_tested : {P : Type 0} (contact : ℕ) (two : Two File) (j : List (List Entry)) (why : Refused) → stands clients (read_files two) ≡ journal j
-      → mailbox_test (facts j) contact ≡ None → IsTested contact (stands clients (read_files two)) (Some why) → P
+  not_tested : {P : Type 0} (contact : ℕ) (two : Two File) (j : List (List Entry)) (why : Refused)
+      → stands clients (read_files two) ≡ journal j
+      → mailbox_test (facts j) contact ≡ None
+      → IsTested contact (stands clients (read_files two)) (Some why) → P
   not_tested contact two j why stood holds t =
       let both : journal t.before ≡ journal j = sym t.stood ∙ stood in
       let same : t.before ≡ j = cc in
-      let is : Some why ≡ None = sym t.tested ∙ ap (λ (i : List (List Entry)). mailbox_test (facts i) contact) same ∙ holds in
+      let is : Some why ≡ None = sym t.tested
+      ∙ ap (λ (i : List (List Entry)). mailbox_test (facts i) contact) same ∙ holds in
       absurd (let no : Some why ≡ None = is in cc)
 
   -- there was room for an errand
-  ran_not_full : {P : Type 0} (contact : ℕ) (errand : Errand) (before : List (List Entry)) (stood : ReadsAs clients old.files before) → HasErrandRoom clients errand before → MayMigrate old.files
-      → FilesRun clients contact errand old new out out' outcome.Full → is_some new.files ≡ is_some old.files → P
+  ran_not_full : {P : Type 0} (contact : ℕ) (errand : Errand) (before : List (List Entry))
+      (stood : ReadsAs clients old.files before) → HasErrandRoom clients errand before
+      → MayMigrate old.files
+      → FilesRun clients contact errand old new out out' outcome.Full
+      → is_some new.files ≡ is_some old.files → P
   ran_not_full contact errand before stood room next did told_same =
       let now = told_on old new stood.0 told_same stood.1 in
       let full = (did.told stood.0 stood.1).ends now.0 now.1 in
       let both : journal full.before ≡ journal before = sym full.stood ∙ stood.2 in
       let same : full.before ≡ before = cc in
-      let has : HasErrandRoom clients errand full.before = subst (HasErrandRoom clients errand) (sym same) room in
+      let has : HasErrandRoom clients errand full.before =
+      subst (HasErrandRoom clients errand) (sym same) room in
       not_errand_cut clients errand old.files stood.0 now.0 full.before has next stood.1 full.leads
 
-  mailed_done : (asked : Sending) (came : Outcome) → HasSentMail clients asked old new out out' came → MaySendMail clients asked old new → Done came
+  mailed_done : (asked : Sending) (came : Outcome) → HasSentMail clients asked old new out out' came
+      → MaySendMail clients asked old new → Done came
   mailed_done asked outcome.Done did may = inl refl
   mailed_done asked outcome.Memory did may = inr refl
   mailed_done asked outcome.WriteFault did may = absurd (fails.sink did.did.by)
   mailed_done asked outcome.DiskFault (inl did) may = absurd (fails.disk did.by)
   mailed_done asked outcome.DiskFault (inr did) may = absurd (fails.disk did.did.by.0)
   mailed_done asked outcome.NoStore did may =
-      let is : no_store ≡ journal may.before = sym (did.told may.stood.0 may.stood.1).ends ∙ may.stood.2 in
+      let is : no_store ≡ journal may.before = sym (did.told may.stood.0 may.stood.1).ends
+      ∙ may.stood.2 in
       cc
   mailed_done asked (outcome.Damaged place) did may =
-      let is : damaged place.file place.at ≡ journal may.before = sym (did.told may.stood.0 may.stood.1).ends ∙ may.stood.2 in
+      let is : damaged place.file place.at ≡ journal may.before =
+      sym (did.told may.stood.0 may.stood.1).ends ∙ may.stood.2 in
       cc
   mailed_done asked (outcome.Refused why) did may =
-      not_tested asked.contact may.stood.0 may.before why may.stood.2 may.tested (did.told may.stood.0 may.stood.1).ends
+      not_tested asked.contact may.stood.0 may.before why may.stood.2 may.tested
+      (did.told may.stood.0 may.stood.1).ends
   mailed_done asked outcome.Full did may =
-      ran_not_full asked.contact (out_errand clients asked did.now) may.before may.stood (may.room did.now did.reads.clock) may.next did.did did.reads.same_told
-  mailed_done asked (outcome.Inside place) did may = absurd (let is : outcome.Done ≡ outcome.Inside place = did.did.by in cc)
-  mailed_done asked (outcome.Bad place why) did may = absurd (let is : outcome.Done ≡ outcome.Bad place why = did.did.by in cc)
-  mailed_done asked (outcome.NoVersion place) did may = absurd (let is : outcome.Done ≡ outcome.NoVersion place = did.did.by in cc)
+      ran_not_full asked.contact (out_errand clients asked did.now) may.before may.stood
+      (may.room did.now did.reads.clock) may.next did.did did.reads.same_told
+  mailed_done asked (outcome.Inside place) did may =
+      absurd (let is : outcome.Done ≡ outcome.Inside place = did.did.by in cc)
+  mailed_done asked (outcome.Bad place why) did may =
+      absurd (let is : outcome.Done ≡ outcome.Bad place why = did.did.by in cc)
+  mailed_done asked (outcome.NoVersion place) did may =
+      absurd (let is : outcome.Done ≡ outcome.NoVersion place = did.did.by in cc)
   mailed_done asked _ did may = absurd did.did.by
 
   abbrev Decided : Outcome → Type 0
   Decided came = MailDecides input input' (status_of came) ⊎ (status_of came ≡ status.Memory)
 
   -- the whole input was read
-  mail_decides : (read : List ℕ) (came : Outcome) → IsMail input input' read → outcome_at (box_ending read) ≡ came → Decided came
+  mail_decides : (read : List ℕ) (came : Outcome) → IsMail input input' read → outcome_at
+      (box_ending read) ≡ came → Decided came
   mail_decides read came mail is =
       let few : nat_lt MAX_MAIL (length read) ≡ false = le-ltb MAX_MAIL (length read) mail.within in
       inl (record {
@@ -322,56 +408,73 @@ module _ (clients : Meaning) (old new : Outside) (input input' out out' : Stream
         whole = inl (mail.at_end, mail.within);
         decides =
             sym (ap status_of is)
-            ∙ sym (test_by (nat_lt MAX_MAIL (length read)) status.TooMuch (status_of (outcome_at (box_ending read))) few);
+            ∙ sym (test_by (nat_lt MAX_MAIL (length read)) status.TooMuch
+            (status_of (outcome_at (box_ending read))) few);
       })
 
-  taken_done : (contact : ℕ) (came : Outcome) → HasTakenMail clients contact old new input input' out out' came → MayTakeMail clients contact old.files input input' → Decided came
+  taken_done : (contact : ℕ) (came : Outcome)
+      → HasTakenMail clients contact old new input input' out out' came
+      → MayTakeMail clients contact old.files input input' → Decided came
   taken_done contact outcome.Done did may = mail_decides did.bytes outcome.Done did.reads did.did.by
-  taken_done contact (outcome.Inside place) did may = mail_decides did.bytes (outcome.Inside place) did.reads did.did.by
-  taken_done contact (outcome.Bad place why) did may = mail_decides did.bytes (outcome.Bad place why) did.reads did.did.by
-  taken_done contact (outcome.NoVersion place) did may = mail_decides did.bytes (outcome.NoVersion place) did.reads did.did.by
+  taken_done contact (outcome.Inside place) did may =
+      mail_decides did.bytes (outcome.Inside place) did.reads did.did.by
+  taken_done contact (outcome.Bad place why) did may =
+      mail_decides did.bytes (outcome.Bad place why) did.reads did.did.by
+  taken_done contact (outcome.NoVersion place) did may =
+      mail_decides did.bytes (outcome.NoVersion place) did.reads did.did.by
   taken_done contact outcome.Memory did may = inr refl
   taken_done contact outcome.TooMuch did may =
       let past : MAX_MAIL < length did.1.read = omega (arith, did.1.past) in
-      let many : nat_lt MAX_MAIL (length did.1.read) ≡ true = lt-ltb MAX_MAIL (length did.1.read) past in
+      let many : nat_lt MAX_MAIL (length did.1.read) ≡ true =
+      lt-ltb MAX_MAIL (length did.1.read) past in
       inl (record {
         read = did.1.read;
         consumed = did.1.consumed;
         whole = inr did.1.past;
-        decides = sym (test_past (nat_lt MAX_MAIL (length did.1.read)) status.TooMuch (status_of (outcome_at (box_ending did.1.read))) many);
+        decides =
+            sym (test_past (nat_lt MAX_MAIL (length did.1.read)) status.TooMuch
+            (status_of (outcome_at (box_ending did.1.read))) many);
       })
   taken_done contact outcome.ReadFault did may = absurd (fails.source did.1)
   taken_done contact outcome.WriteFault did may = absurd (fails.sink did.did.by)
   taken_done contact outcome.DiskFault (inl did) may = absurd (fails.disk did.0.by)
   taken_done contact outcome.DiskFault (inr did) may = absurd (fails.disk did.did.by.0)
   taken_done contact outcome.NoStore did may =
-      let is : no_store ≡ journal may.before = sym (did.0.told may.stood.0 may.stood.1).ends ∙ may.stood.2 in
+      let is : no_store ≡ journal may.before = sym (did.0.told may.stood.0 may.stood.1).ends
+      ∙ may.stood.2 in
       cc
   taken_done contact (outcome.Damaged place) did may =
-      let is : damaged place.file place.at ≡ journal may.before = sym (did.0.told may.stood.0 may.stood.1).ends ∙ may.stood.2 in
+      let is : damaged place.file place.at ≡ journal may.before =
+      sym (did.0.told may.stood.0 may.stood.1).ends ∙ may.stood.2 in
       cc
   taken_done contact (outcome.Refused why) did may =
-      not_tested contact may.stood.0 may.before why may.stood.2 may.tested (did.0.told may.stood.0 may.stood.1).ends
+      not_tested contact may.stood.0 may.before why may.stood.2 may.tested
+      (did.0.told may.stood.0 may.stood.1).ends
   taken_done contact outcome.Full did may =
-      ran_not_full contact (in_errand clients contact did.bytes) may.before may.stood (may.room did.bytes did.reads) may.next did.did did.run.same_told
+      ran_not_full contact (in_errand clients contact did.bytes) may.before may.stood
+      (may.room did.bytes did.reads) may.next did.did did.run.same_told
   taken_done contact _ did may = absurd did.did.by
 
-  looked_done : (shown : Facts → Showing) (came : Outcome) → HasLooked clients shown old new out out' came → MayShow clients shown old.files → Done came
+  looked_done : (shown : Facts → Showing) (came : Outcome)
+      → HasLooked clients shown old new out out' came → MayShow clients shown old.files → Done came
   looked_done shown outcome.Done did may = inl refl
   looked_done shown outcome.Memory did may = inr refl
   looked_done shown outcome.WriteFault did may = absurd (fails.sink did.by)
   looked_done shown outcome.DiskFault did may = absurd (fails.disk did.by.0)
   looked_done shown outcome.NoStore did may =
-      let is : no_store ≡ journal may.of = sym (did.told may.stood.0 may.stood.1).ends ∙ may.stood.2 in
+      let is : no_store ≡ journal may.of = sym (did.told may.stood.0 may.stood.1).ends
+      ∙ may.stood.2 in
       cc
   looked_done shown (outcome.Damaged place) did may =
-      let is : damaged place.file place.at ≡ journal may.of = sym (did.told may.stood.0 may.stood.1).ends ∙ may.stood.2 in
+      let is : damaged place.file place.at ≡ journal may.of =
+      sym (did.told may.stood.0 may.stood.1).ends ∙ may.stood.2 in
       cc
   looked_done shown (outcome.Refused why) did may =
       let r = (did.told may.stood.0 may.stood.1).ends in
       let both : journal r.of ≡ journal may.of = sym r.stood ∙ may.stood.2 in
       let same : r.of ≡ may.of = cc in
-      let is : denies why ≡ shows may.text = sym r.is ∙ ap (λ (j : List (List Entry)). shown (facts j)) same ∙ may.is in
+      let is : denies why ≡ shows may.text =
+      sym r.is ∙ ap (λ (j : List (List Entry)). shown (facts j)) same ∙ may.is in
       cc
   looked_done shown _ did may = absurd did.by
 
@@ -391,22 +494,30 @@ module _ (clients : Meaning) (old new : Outside) (input input' out out' : Stream
       cc
   audited_done _ did may = absurd did.by
 
-  body_done : (group : Id) (timestamp : ℕ) (came : Outcome) → PostsBody clients group timestamp old new input input' out out' came → MayPost clients group timestamp old.files input input' → Done came
-  body_done group timestamp came did may = added_done _ settling.BeforeAndAfter came did.added (may.may_add did.body did.reads)
+  body_done : (group : Id) (timestamp : ℕ) (came : Outcome)
+      → PostsBody clients group timestamp old new input input' out out' came
+      → MayPost clients group timestamp old.files input input' → Done came
+  body_done group timestamp came did may =
+      added_done _ settling.BeforeAndAfter came did.added (may.may_add did.body did.reads)
 
-  posted_done : (group : Id) (timestamp : ℕ) (came : Outcome) → HasPosted clients group timestamp old new input input' out out' came
+  posted_done : (group : Id) (timestamp : ℕ) (came : Outcome)
+      → HasPosted clients group timestamp old new input input' out out' came
       → MayPost clients group timestamp old.files input input' → Done came
   posted_done group timestamp outcome.NoStore did may =
-      let is : no_store ≡ journal may.before = sym (did.told may.stood.0 may.stood.1).ends ∙ may.stood.2 in
+      let is : no_store ≡ journal may.before = sym (did.told may.stood.0 may.stood.1).ends
+      ∙ may.stood.2 in
       cc
   posted_done group timestamp (outcome.Damaged place) did may =
-      let is : damaged place.file place.at ≡ journal may.before = sym (did.told may.stood.0 may.stood.1).ends ∙ may.stood.2 in
+      let is : damaged place.file place.at ≡ journal may.before =
+      sym (did.told may.stood.0 may.stood.1).ends ∙ may.stood.2 in
       cc
   posted_done group timestamp (outcome.Refused refused.UnknownGroup) did may =
       let g = (did.told may.stood.0 may.stood.1).ends in
       let both : journal g.of ≡ journal may.before = sym g.stood ∙ may.stood.2 in
       let same : g.of ≡ may.before = cc in
-      let is : true ≡ false = sym may.known ∙ ap (λ (j : List (List Entry)). is_some (group_at (facts j).groups group)) (sym same) ∙ g.known in
+      let is : true ≡ false = sym may.known
+      ∙ ap (λ (j : List (List Entry)). is_some (group_at (facts j).groups group)) (sym same)
+      ∙ g.known in
       cc
   posted_done group timestamp outcome.ReadFault did may = absurd (fails.source did.by)
   posted_done group timestamp outcome.DiskFault (inl did) may = absurd (fails.disk did.by.0)
@@ -415,37 +526,76 @@ module _ (clients : Meaning) (old new : Outside) (input input' out out' : Stream
   posted_done group timestamp came did may = body_done group timestamp came did may
 
   -- a command of a store, which may have wanted for memory before it began
-  store_done : (did : Outcome → Type 0) (came : Outcome) → (did came → Done came) → ComesOfStore did old new input input' out out' came → Done came
+  store_done : (did : Outcome → Type 0) (came : Outcome) → (did came → Done came)
+      → ComesOfStore did old new input input' out out' came → Done came
   store_done did came done (inl so) = done so
   store_done did came done (inr none) = inr (ap status_of none.0)
 
 -- ---- all commands
 
 -- what each command comes to
-command_comes_out : (clients : Meaning) (asked : Command) (old new : Outside) (input input' out out' : Stream) (came : Outcome)
-    → WordsComeTo clients (Do asked) old new input input' out out' came → ServesCommand clients asked old new input input' → NothingFails old new input input' out out'
-    → ComesOut clients asked old new input input' (status_of came) ⊎ (status_of came ≡ status.Memory)
-command_comes_out clients (command.Try name descriptor) old new input input' out out' came comes serves fails =
-    tries_decide input input' out out' clients name descriptor (clients.kind_of name 0) came serves comes fails.source fails.sink
-command_comes_out clients command.Records old new input input' out out' came comes serves fails = streams_decide input input' out out' came _ comes fails.source fails.sink
+command_comes_out : (clients : Meaning) (asked : Command) (old new : Outside)
+    (input input' out out' : Stream) (came : Outcome)
+    → WordsComeTo clients (Do asked) old new input input' out out' came
+    → ServesCommand clients asked old new input input'
+    → NothingFails old new input input' out out'
+    → ComesOut clients asked old new input input' (status_of came)
+    ⊎ (status_of came ≡ status.Memory)
+command_comes_out clients (command.Try name descriptor) old new input input' out out' came comes
+    serves fails =
+    tries_decide input input' out out' clients name descriptor (clients.kind_of name 0) came serves
+    comes fails.source fails.sink
+command_comes_out clients command.Records old new input input' out out' came comes serves fails =
+    streams_decide input input' out out' came _ comes fails.source fails.sink
 command_comes_out clients command.Init old new input input' out out' came comes serves fails =
-    store_done clients old new input input' out out' fails (λ (o : Outcome). HasBegun old new out out' o × IsIdle input input') came (λ did. begun_done clients old new input input' out out' fails came did.0 serves.0 serves.1 serves.2) comes
+    store_done clients old new input input' out out' fails (λ (o : Outcome).
+    HasBegun old new out out' o × IsIdle input input') came (λ did.
+    begun_done clients old new input input' out out' fails came did.0 serves.0 serves.1
+    serves.2) comes
 command_comes_out clients command.Contact old new input input' out out' came comes serves fails =
-    store_done clients old new input input' out out' fails (λ (o : Outcome). HasAdded clients contact_plan settling.Before old new out out' o × IsIdle input input') came (λ did. added_done clients old new input input' out out' fails contact_plan settling.Before came did.0 serves) comes
-command_comes_out clients (command.Group name major descriptor) old new input input' out out' came comes serves fails =
-    store_done clients old new input input' out out' fails (λ (o : Outcome). HasAdded clients (λ f. group_plan clients f (record { name = name; major = major; descriptor = descriptor })) settling.Before old new out out' o × IsIdle input input') came
-    (λ did. added_done clients old new input input' out out' fails (λ f. group_plan clients f (record { name = name; major = major; descriptor = descriptor })) settling.Before came did.0 serves) comes
-command_comes_out clients (command.Share contact group level) old new input input' out out' came comes serves fails =
-    store_done clients old new input input' out out' fails (λ (o : Outcome). HasAdded clients (λ f. level_plan f contact group level) settling.Before old new out out' o × IsIdle input input') came
-    (λ did. added_done clients old new input input' out out' fails (λ f. level_plan f contact group level) settling.Before came did.0 serves) comes
-command_comes_out clients (command.Post group timestamp) old new input input' out out' came comes serves fails =
-    store_done clients old new input input' out out' fails (λ (o : Outcome). HasPosted clients group timestamp old new input input' out out' o) came (λ did. posted_done clients old new input input' out out' fails group timestamp came did serves) comes
+    store_done clients old new input input' out out' fails (λ (o : Outcome).
+    HasAdded clients contact_plan settling.Before old new out out' o × IsIdle input input') came
+    (λ did. added_done clients old new input input' out out' fails contact_plan
+    settling.Before came did.0 serves) comes
+command_comes_out clients (command.Group name major descriptor) old new input input' out out' came
+    comes serves fails =
+    store_done clients old new input input' out out' fails (λ (o : Outcome).
+    HasAdded clients (λ f.
+    group_plan clients f (record { name = name; major = major; descriptor = descriptor }))
+    settling.Before old new out out' o × IsIdle input input') came
+    (λ did. added_done clients old new input input' out out' fails (λ f.
+    group_plan clients f (record { name = name; major = major; descriptor = descriptor }))
+    settling.Before came did.0 serves) comes
+command_comes_out clients (command.Share contact group level) old new input input' out out' came
+    comes serves fails =
+    store_done clients old new input input' out out' fails (λ (o : Outcome).
+    HasAdded clients (λ f. level_plan f contact group level) settling.Before old new out out' o
+    × IsIdle input input') came
+    (λ did. added_done clients old new input input' out out' fails (λ f.
+    level_plan f contact group level) settling.Before came did.0 serves) comes
+command_comes_out clients (command.Post group timestamp) old new input input' out out' came comes
+    serves fails =
+    store_done clients old new input input' out out' fails (λ (o : Outcome).
+    HasPosted clients group timestamp old new input input' out out' o) came (λ did.
+    posted_done clients old new input input' out out' fails group timestamp came did serves)
+    comes
 command_comes_out clients command.Show old new input input' out out' came comes serves fails =
-    store_done clients old new input input' out out' fails (λ (o : Outcome). HasLooked clients (listing_shown listing.Store) old new out out' o × IsIdle input input') came (λ did. looked_done clients old new input input' out out' fails (listing_shown listing.Store) came did.0 serves) comes
+    store_done clients old new input input' out out' fails (λ (o : Outcome).
+    HasLooked clients (listing_shown listing.Store) old new out out' o
+    × IsIdle input input') came (λ did.
+    looked_done clients old new input input' out out' fails
+    (listing_shown listing.Store) came did.0 serves) comes
 command_comes_out clients command.Inbox old new input input' out out' came comes serves fails =
-    store_done clients old new input input' out out' fails (λ (o : Outcome). HasLooked clients (listing_shown listing.Inbox) old new out out' o × IsIdle input input') came (λ did. looked_done clients old new input input' out out' fails (listing_shown listing.Inbox) came did.0 serves) comes
+    store_done clients old new input input' out out' fails (λ (o : Outcome).
+    HasLooked clients (listing_shown listing.Inbox) old new out out' o
+    × IsIdle input input') came (λ did.
+    looked_done clients old new input input' out out' fails
+    (listing_shown listing.Inbox) came did.0 serves) comes
 command_comes_out clients (command.Body id) old new input input' out out' came comes serves fails =
-    store_done clients old new input input' out out' fails (λ (o : Outcome). HasLooked clients (body_shown id) old new out out' o × IsIdle input input') came (λ did. looked_done clients old new input input' out out' fails (body_shown id) came did.0 serves) comes
+    store_done clients old new input input' out out' fails (λ (o : Outcome).
+    HasLooked clients (body_shown id) old new out out' o × IsIdle input input') came (λ did.
+    looked_done clients old new input input' out out' fails (body_shown id) came did.0
+    serves) comes
 command_comes_out clients (command.Tree group from count) old new input input' out out' came comes
     serves fails =
     store_done clients old new input input' out out' fails
@@ -459,38 +609,57 @@ command_comes_out clients command.Audit old new input input' out out' came comes
     store_done clients old new input input' out out' fails
     (λ (o : Outcome). HasAudited clients old new out out' o × IsIdle input input') came
     (λ did. audited_done clients old new input input' out out' fails came did.0 serves) comes
-command_comes_out clients (command.Say group timestamp join name major descriptor) old new input input' out out' came comes serves fails =
+command_comes_out clients (command.Say group timestamp join name major descriptor) old new input
+    input' out out' came comes serves fails =
     let plan = say_plan clients (speech_of group timestamp join name major descriptor) in
-    store_done clients old new input input' out out' fails (λ (o : Outcome). HasAdded clients plan settling.BeforeAndAfter old new out out' o × IsIdle input input') came
-    (λ did. added_done clients old new input input' out out' fails plan settling.BeforeAndAfter came did.0 serves) comes
-command_comes_out clients (command.Agree contact group) old new input input' out out' came comes serves fails =
-    store_done clients old new input input' out out' fails (λ (o : Outcome). HasAgreed clients contact group old new out out' o × IsIdle input input') came
-    (λ did. agreed_done clients old new input input' out out' fails contact group came did.0 serves) comes
+    store_done clients old new input input' out out' fails (λ (o : Outcome).
+    HasAdded clients plan settling.BeforeAndAfter old new out out' o × IsIdle input input') came
+    (λ did. added_done clients old new input input' out out' fails plan settling.BeforeAndAfter came
+    did.0 serves) comes
+command_comes_out clients (command.Agree contact group) old new input input' out out' came comes
+    serves fails =
+    store_done clients old new input input' out out' fails (λ (o : Outcome).
+    HasAgreed clients contact group old new out out' o × IsIdle input input') came
+    (λ did. agreed_done clients old new input input' out out' fails contact group came did.0 serves)
+    comes
 command_comes_out clients command.Compact old new input input' out out' came comes serves fails =
-    store_done clients old new input input' out out' fails (λ (o : Outcome). HasCompacted clients old new out out' o × IsIdle input input') came
+    store_done clients old new input input' out out' fails (λ (o : Outcome).
+    HasCompacted clients old new out out' o × IsIdle input input') came
     (λ did. compacted_done clients old new input input' out out' fails came did.0 serves) comes
-command_comes_out clients (command.MailboxIn contact) old new input input' out out' came comes serves fails =
+command_comes_out clients (command.MailboxIn contact) old new input input' out out' came comes
+    serves fails =
     elim comes [
       | inl did ↦ taken_done clients old new input input' out out' fails contact came did serves
       | inr none ↦ inr (ap status_of none.0)
     ]
-command_comes_out clients (command.MailboxOut contact latency count) old new input input' out out' came comes serves fails =
+command_comes_out clients (command.MailboxOut contact latency count) old new input input' out out'
+    came comes serves fails =
     store_done clients old new input input' out out' fails
-    (λ (o : Outcome). HasSentMail clients (sending_of contact latency count) old new out out' o × IsIdle input input') came
-    (λ did. mailed_done clients old new input input' out out' fails (sending_of contact latency count) came did.0 serves) comes
-command_comes_out clients (command.Sync turns quiet links) old new input input' out out' came comes serves fails =
+    (λ (o : Outcome). HasSentMail clients (sending_of contact latency count) old new out out' o
+    × IsIdle input input') came
+    (λ did. mailed_done clients old new input input' out out' fails
+    (sending_of contact latency count) came did.0 serves) comes
+command_comes_out clients (command.Sync turns quiet links) old new input input' out out' came comes
+    serves fails =
     elim comes [
-      | inl did ↦ run_comes_out clients (record { turns = turns; quiet = quiet }) links old new fails.disk fails.links came did.0 serves
+      | inl did ↦ run_comes_out clients (record { turns = turns; quiet = quiet }) links old new
+          fails.disk fails.links came did.0 serves
       | inr none ↦ inr (ap status_of none.0)
     ]
 
-comes_out : (clients : Meaning) (words : Asked) (old new : Outside) (input input' out out' : Stream) (came : Outcome) → WordsComeTo clients words old new input input' out out' came
+comes_out : (clients : Meaning) (words : Asked) (old new : Outside) (input input' out out' : Stream)
+    (came : Outcome) → WordsComeTo clients words old new input input' out out' came
     → Complete clients words old new input input' out out' (status_of came)
 comes_out clients (Usage place) old new input input' out out' came comes = tt
-comes_out clients (Do asked) old new input input' out out' came comes = command_comes_out clients asked old new input input' out out' came comes
+comes_out clients (Do asked) old new input input' out out' came comes =
+    command_comes_out clients asked old new input input' out out' came comes
 
 -- the status that was given is that of the outcome
-pub complete : (clients : Meaning) (words : Asked) (old new : Outside) (input input' out out' err err' : Stream) (came : Outcome) (given : Status)
-    → WordsComeTo clients words old new input input' out out' came → ReportsOutcome came err err' given → Complete clients words old new input input' out out' given
+pub complete : (clients : Meaning) (words : Asked) (old new : Outside)
+    (input input' out out' err err' : Stream) (came : Outcome) (given : Status)
+    → WordsComeTo clients words old new input input' out out' came
+    → ReportsOutcome came err err' given
+    → Complete clients words old new input input' out out' given
 complete clients words old new input input' out out' err err' came given comes reports =
-    subst (Complete clients words old new input input' out out') (sym reports.0) (comes_out clients words old new input input' out out' came comes)
+    subst (Complete clients words old new input input' out out') (sym reports.0)
+    (comes_out clients words old new input input' out out' came comes)

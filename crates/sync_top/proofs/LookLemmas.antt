@@ -20,10 +20,15 @@ use Rattle.sync_top.specs.Run.{WordsComeTo, ComesOfStore, KeepsHost}
 looks_at_none : (o : Outside) → OnlyLooks o o
 looks_at_none o = record { run = run_none o; moments = λ two told. (looks_none o).moments two told }
 
-module _ (clients : Meaning) (old new : Outside) (input input' out out' : Stream) (came : Outcome) where
-  looked : (shown : Facts → Showing) → ComesOfStore (λ did. HasLooked clients shown old new out out' did × IsIdle input input') old new input input' out out' came → OnlyLooks old new
-  looked shown (inl did) = record { run = did.0.run; moments = λ two told. (did.0.told two told).rests.moments }
-  looked shown (inr none) = record { run = none.1.run; moments = λ two told. (none.1.rests two told).moments }
+module _ (clients : Meaning) (old new : Outside) (input input' out out' : Stream)
+    (came : Outcome) where
+  looked : (shown : Facts → Showing) → ComesOfStore
+      (λ did. HasLooked clients shown old new out out' did × IsIdle input input') old new input
+      input' out out' came → OnlyLooks old new
+  looked shown (inl did) =
+      record { run = did.0.run; moments = λ two told. (did.0.told two told).rests.moments }
+  looked shown (inr none) =
+      record { run = none.1.run; moments = λ two told. (none.1.rests two told).moments }
 
   audited : ComesOfStore (λ did. HasAudited clients old new out out' did × IsIdle input input')
       old new input input' out out' came → OnlyLooks old new
@@ -32,17 +37,25 @@ module _ (clients : Meaning) (old new : Outside) (input input' out out' : Stream
   audited (inr none) =
       record { run = none.1.run; moments = λ two told. (none.1.rests two told).moments }
 
-module _ {H : Type 0} (tells : H → Outside) (clients : Meaning) (h h' : H) (input input' out out' : Stream) (came : Outcome) where
+module _ {H : Type 0} (tells : H → Outside) (clients : Meaning) (h h' : H)
+    (input input' out out' : Stream) (came : Outcome) where
   kept : h' ≡ h → OnlyLooks (tells h) (tells h')
   kept same = subst (λ (x : H). OnlyLooks (tells h) (tells x)) (sym same) (looks_at_none (tells h))
 
-  pub only_looks : (words : Asked) → WordsComeTo clients words (tells h) (tells h') input input' out out' came → KeepsHost words h h' → LooksUnless words (tells h) (tells h')
+  pub only_looks : (words : Asked) → WordsComeTo clients words (tells h)
+      (tells h') input input' out out' came → KeepsHost words h h'
+      → LooksUnless words (tells h) (tells h')
   only_looks (Usage place) comes keeps = kept keeps
   only_looks (Do (command.Try name descriptor)) comes keeps = λ reads. kept keeps
   only_looks (Do command.Records) comes keeps = λ reads. kept keeps
-  only_looks (Do command.Show) comes keeps = λ reads. looked clients (tells h) (tells h') input input' out out' came (listing_shown listing.Store) comes
-  only_looks (Do command.Inbox) comes keeps = λ reads. looked clients (tells h) (tells h') input input' out out' came (listing_shown listing.Inbox) comes
-  only_looks (Do (command.Body id)) comes keeps = λ reads. looked clients (tells h) (tells h') input input' out out' came (body_shown id) comes
+  only_looks (Do command.Show) comes keeps =
+      λ reads. looked clients (tells h) (tells h') input input' out out' came
+      (listing_shown listing.Store) comes
+  only_looks (Do command.Inbox) comes keeps =
+      λ reads. looked clients (tells h) (tells h') input input' out out' came
+      (listing_shown listing.Inbox) comes
+  only_looks (Do (command.Body id)) comes keeps =
+      λ reads. looked clients (tells h) (tells h') input input' out out' came (body_shown id) comes
   only_looks (Do (command.Tree group from count)) comes keeps =
       λ reads. looked clients (tells h) (tells h') input input' out out' came
       (tree_shown clients (record { group = group; from = from; count = count })) comes
@@ -50,12 +63,20 @@ module _ {H : Type 0} (tells : H → Outside) (clients : Meaning) (h h' : H) (in
       λ reads. audited clients (tells h) (tells h') input input' out out' came comes
   only_looks (Do command.Init) comes keeps = λ reads. absurd (let e : true ≡ false = reads in cc)
   only_looks (Do command.Contact) comes keeps = λ reads. absurd (let e : true ≡ false = reads in cc)
-  only_looks (Do (command.Group name major descriptor)) comes keeps = λ reads. absurd (let e : true ≡ false = reads in cc)
-  only_looks (Do (command.Share contact group level)) comes keeps = λ reads. absurd (let e : true ≡ false = reads in cc)
-  only_looks (Do (command.Post group timestamp)) comes keeps = λ reads. absurd (let e : true ≡ false = reads in cc)
-  only_looks (Do (command.Say group timestamp join name major descriptor)) comes keeps = λ reads. absurd (let e : true ≡ false = reads in cc)
-  only_looks (Do (command.Agree contact group)) comes keeps = λ reads. absurd (let e : true ≡ false = reads in cc)
-  only_looks (Do (command.MailboxIn contact)) comes keeps = λ reads. absurd (let e : true ≡ false = reads in cc)
-  only_looks (Do (command.MailboxOut contact latency count)) comes keeps = λ reads. absurd (let e : true ≡ false = reads in cc)
+  only_looks (Do (command.Group name major descriptor)) comes keeps =
+      λ reads. absurd (let e : true ≡ false = reads in cc)
+  only_looks (Do (command.Share contact group level)) comes keeps =
+      λ reads. absurd (let e : true ≡ false = reads in cc)
+  only_looks (Do (command.Post group timestamp)) comes keeps =
+      λ reads. absurd (let e : true ≡ false = reads in cc)
+  only_looks (Do (command.Say group timestamp join name major descriptor)) comes keeps =
+      λ reads. absurd (let e : true ≡ false = reads in cc)
+  only_looks (Do (command.Agree contact group)) comes keeps =
+      λ reads. absurd (let e : true ≡ false = reads in cc)
+  only_looks (Do (command.MailboxIn contact)) comes keeps =
+      λ reads. absurd (let e : true ≡ false = reads in cc)
+  only_looks (Do (command.MailboxOut contact latency count)) comes keeps =
+      λ reads. absurd (let e : true ≡ false = reads in cc)
   only_looks (Do command.Compact) comes keeps = λ reads. absurd (let e : true ≡ false = reads in cc)
-  only_looks (Do (command.Sync turns quiet links)) comes keeps = λ reads. absurd (let e : true ≡ false = reads in cc)
+  only_looks (Do (command.Sync turns quiet links)) comes keeps =
+      λ reads. absurd (let e : true ≡ false = reads in cc)

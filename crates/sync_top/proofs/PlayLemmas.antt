@@ -51,7 +51,8 @@ plays_nothing clients play = record { same = refl; takes = λ def records played
 -- an item without a record changes nothing
 pub plays_same : (clients : Meaning) (play : Played) (some : List Item) (clients' : Meaning)
     (play' : Played) (i : Item) → records_of (i ∷ []) ≡ []
-    → PlaysItems clients play some clients' play' → PlaysItems clients play (some ++ i ∷ []) clients' play'
+    → PlaysItems clients play some clients' play'
+    → PlaysItems clients play (some ++ i ∷ []) clients' play'
 plays_same clients play some clients' play' i none plays =
     plays_by clients play (some ++ i ∷ []) clients' play' plays.same (λ def records played.
     let all : records_of (some ++ i ∷ []) ≡ records_of some =
@@ -65,7 +66,8 @@ pub plays_more : (clients : Meaning) (play : Played) (some : List Item) (clients
     (play' play'' : Played) (i : Item) (r : Record) → records_of (i ∷ []) ≡ r ∷ []
     → ((def : GroupValue) (records : List Record) → HasPlayed clients' def records play'
     → HasPlayed clients' def (records ++ r ∷ []) play'')
-    → PlaysItems clients play some clients' play' → PlaysItems clients play (some ++ i ∷ []) clients' play''
+    → PlaysItems clients play some clients' play'
+    → PlaysItems clients play (some ++ i ∷ []) clients' play''
 plays_more clients play some clients' play' play'' i r one hears plays =
     plays_by clients play (some ++ i ∷ []) clients' play'' plays.same (λ def records played.
     let all : records_of (some ++ i ∷ []) ≡ records_of some ++ r ∷ [] =

@@ -1,5 +1,7 @@
--- Each moment of a run of sessions opens to a sound journal: by the headline and the laws of legal journals.
-use Rattle.std.proofs.Common.{◌≡◌, ◌⊎◌, ℕ, ◌+◌, List, [], ◌∷◌, ◌++◌, append_assoc, length, refl, sym, ap, ◌∙◌, subst, inl, inr, Option, None, Some}
+-- Each moment of a run of sessions opens to a sound journal: by the headline and the laws of legal
+-- journals.
+use Rattle.std.proofs.Common.{◌≡◌, ◌⊎◌, ℕ, ◌+◌, List, [], ◌∷◌, ◌++◌, append_assoc, length, refl}
+use Rattle.std.proofs.Common.{sym, ap, ◌∙◌, subst, inl, inr, Option, None, Some}
 use Rattle.std.proofs.lemmas.List.{append_cancel_left}
 use Rattle.outside.specs.Files.{Two, File, read_files}
 use Rattle.outside.specs.Links.{ToldLink, sent_of}
@@ -27,36 +29,51 @@ use Rattle.commands.specs.Reading.Asked.{Usage, Do}
 use Rattle.sync_run.specs.Headline.{HeadlineTold, RunsOn, StandsForRun, sent_by}
 use Rattle.sync_top.specs.Run.{AsksSync, Covered}
 use Rattle.sync_top.proofs.HeadlineLemmas.{no_links, none_at}
-use Rattle.sync_top.specs.Sound.{AlwaysOpens, OpensOn, OpensSound, OpensTold, RunsAreSound, TakesInOrder}
+use Rattle.sync_top.specs.Sound.{AlwaysOpens, OpensOn, OpensSound, OpensTold, RunsAreSound}
+use Rattle.sync_top.specs.Sound.{TakesInOrder}
 
 -- ---- the records that were taken
 
 -- the next step takes no record
-takes_no_step : (clients : Meaning) (f : Facts) (session k : ℕ) (rest : List Entry) → IsSettlingBatch clients f (entry.Take session k ∷ rest) → ⊥
-takes_no_step clients f session k rest settling = next_is_settling clients f (entry.Take session k) settling.2.0
+takes_no_step : (clients : Meaning) (f : Facts) (session k : ℕ) (rest : List Entry)
+    → IsSettlingBatch clients f (entry.Take session k ∷ rest) → ⊥
+takes_no_step clients f session k rest settling =
+    next_is_settling clients f (entry.Take session k) settling.2.0
 
 -- a batch of a run suits it at its place
-suits_at : (clients : Meaning) (first : ℕ) (plans : List Session) (heard : ℕ → List ℕ) (f : Facts) (before behind : Journal) (b : List Entry)
-    → AllSuitSessions clients first plans heard f (before ++ b ∷ behind) → SuitsSessions clients first plans heard (after_batches f before) b
+suits_at : (clients : Meaning) (first : ℕ) (plans : List Session) (heard : ℕ → List ℕ) (f : Facts)
+    (before behind : Journal) (b : List Entry)
+    → AllSuitSessions clients first plans heard f (before ++ b ∷ behind)
+    → SuitsSessions clients first plans heard (after_batches f before) b
 suits_at clients first plans heard f [] behind b suit = suit.0
-suits_at clients first plans heard f (c ∷ before) behind b suit = suits_at clients first plans heard (after_all f c) before behind b suit.1
+suits_at clients first plans heard f (c ∷ before) behind b suit =
+    suits_at clients first plans heard (after_all f c) before behind b suit.1
 
-takes_suited : (clients : Meaning) (first : ℕ) (plans : List Session) (heard : ℕ → List ℕ) (f : Facts) (session k : ℕ) (rest : List Entry)
-    → SuitsSessions clients first plans heard f (entry.Take session k ∷ rest) → TakesHeard first heard f session k rest
-takes_suited clients first plans heard f session k rest (inl settling) = absurd (takes_no_step clients f session k rest settling)
+takes_suited : (clients : Meaning) (first : ℕ) (plans : List Session) (heard : ℕ → List ℕ)
+    (f : Facts) (session k : ℕ) (rest : List Entry)
+    → SuitsSessions clients first plans heard f (entry.Take session k ∷ rest)
+    → TakesHeard first heard f session k rest
+takes_suited clients first plans heard f session k rest (inl settling) =
+    absurd (takes_no_step clients f session k rest settling)
 takes_suited clients first plans heard f session k rest (inr takes) = takes
 
-takes_in_order : (clients : Meaning) (begin whole : Journal) (first : ℕ) (plans : List Session) (heard : ℕ → List ℕ) → Legal clients whole → SuitsRun clients begin first plans heard whole
+takes_in_order : (clients : Meaning) (begin whole : Journal) (first : ℕ) (plans : List Session)
+    (heard : ℕ → List ℕ) → Legal clients whole → SuitsRun clients begin first plans heard whole
     → TakesInOrder begin whole first heard
 takes_in_order clients begin whole first plans heard legal suits before behind session k rest is =
     let b : List Entry = entry.Take session k ∷ rest in
     let more : suits.more ≡ before ++ b ∷ behind =
-    append_cancel_left begin suits.more (before ++ b ∷ behind) (sym suits.extends ∙ is ∙ append_assoc begin before (b ∷ behind)) in
+    append_cancel_left begin suits.more (before ++ b ∷ behind) (sym suits.extends ∙ is
+    ∙ append_assoc begin before (b ∷ behind)) in
     let suit : SuitsSessions clients first plans heard (after_batches (facts begin) before) b =
-    suits_at clients first plans heard (facts begin) before behind b (subst (λ (m : Journal). AllSuitSessions clients first plans heard (facts begin) m) more suits.suits) in
-    let here : after_batches (facts begin) before ≡ facts (begin ++ before) = sym (after_batches-append nothing begin before) in
+    suits_at clients first plans heard (facts begin) before behind b
+    (subst (λ (m : Journal). AllSuitSessions clients first plans heard (facts begin) m) more
+    suits.suits) in
+    let here : after_batches (facts begin) before ≡ facts (begin ++ before) =
+    sym (after_batches-append nothing begin before) in
     let allowed : Allowed clients (facts (begin ++ before)) b =
-    (goes_on_back clients nothing (begin ++ before) (b ∷ behind) (subst (λ (w : Journal). Legal clients w) is legal)).0 in (
+    (goes_on_back clients nothing (begin ++ before) (b ∷ behind)
+    (subst (λ (w : Journal). Legal clients w) is legal)).0 in (
       allowed.1.numbered,
       takes_suited clients first plans heard (facts (begin ++ before)) session k rest
           (subst (λ (f : Facts). SuitsSessions clients first plans heard f b) here suit),
@@ -64,11 +81,15 @@ takes_in_order clients begin whole first plans heard legal suits before behind s
 
 -- ---- the law
 
-pub runs_sound : ((clients : Meaning) (j : Journal) → Legal clients j → BringsOnce j) → ((clients : Meaning) (j : Journal) → Legal clients j → JudgesOnce j)
-    → ((clients : Meaning) (j : Journal) → Legal clients j → EndsOnce j) → ((clients : Meaning) (j : Journal) → Legal clients j → IsInOrder clients j)
-    → ((clients : Meaning) (j : Journal) → Legal clients j → HasOwnOrigin j) → ((clients : Meaning) (j : Journal) → Legal clients j → SendsTheOpen j)
+pub runs_sound : ((clients : Meaning) (j : Journal) → Legal clients j → BringsOnce j)
+    → ((clients : Meaning) (j : Journal) → Legal clients j → JudgesOnce j)
+    → ((clients : Meaning) (j : Journal) → Legal clients j → EndsOnce j)
+    → ((clients : Meaning) (j : Journal) → Legal clients j → IsInOrder clients j)
+    → ((clients : Meaning) (j : Journal) → Legal clients j → HasOwnOrigin j)
+    → ((clients : Meaning) (j : Journal) → Legal clients j → SendsTheOpen j)
     → StandingIsLegal → RunsAreSound
-runs_sound brings judges ends order origin open_only legal clients words begin heard sent files run =
+runs_sound brings judges ends order origin open_only legal clients words begin heard sent files
+    run =
     let is_legal : Legal clients run.whole = legal clients files run.whole run.stands_for in
     record {
       whole = run.whole;
@@ -81,7 +102,8 @@ runs_sound brings judges ends order origin open_only legal clients words begin h
         ends_once = ends clients run.whole is_legal;
         in_order = order clients run.whole is_legal;
         from_where = origin clients run.whole is_legal;
-        takes = takes_in_order clients begin run.whole (facts begin).begun run.sessions heard is_legal run.suits;
+        takes = takes_in_order clients begin run.whole (facts begin).begun run.sessions heard
+            is_legal run.suits;
         has_sent = run.has_sent;
         sends_the_open = open_only clients run.whole is_legal;
       };
@@ -90,33 +112,56 @@ runs_sound brings judges ends order origin open_only legal clients words begin h
 -- ---- the moments of a run
 
 -- nothing was sent on a host without links, by any moment of then
-none_sent : (told : Option (List ToldLink)) → ((links : List ToldLink) → told ≡ Some links → length links ≡ 0) → sent_of told ≡ []
+none_sent : (told : Option (List ToldLink))
+    → ((links : List ToldLink) → told ≡ Some links → length links ≡ 0) → sent_of told ≡ []
 none_sent None all = refl
-none_sent (Some links) all = ap (λ (l : List ToldLink). sent_of (Some l)) (no_links links (all links refl))
+none_sent (Some links) all =
+    ap (λ (l : List ToldLink). sent_of (Some l)) (no_links links (all links refl))
 
-silent_by : (o : Outside) (m : Moment) (link : ℕ) → o.links.dialled ≡ 0 → m.sent ≡ sent_of o.links.told → sent_by m link ≡ []
-silent_by o m link none sent = none_at m.sent link (sent ∙ none_sent o.links.told (λ links told. o.all_told links told ∙ none))
+silent_by : (o : Outside) (m : Moment) (link : ℕ) → o.links.dialled ≡ 0
+    → m.sent ≡ sent_of o.links.told → sent_by m link ≡ []
+silent_by o m link none sent =
+    none_at m.sent link (sent ∙ none_sent o.links.told (λ links told. o.all_told links told ∙ none))
 
-module _ (law : RunsAreSound) (clients : Meaning) (words : List LinkWords) (heard : ℕ → List ℕ) where
-  opens_on : (stood : Standing) (sent : ℕ → List ℕ) (files : Two (List ℕ)) → RunsOn clients words stood heard sent files → OpensOn clients stood heard sent files
-  opens_on stood sent files on = record { begin = on.begin; began = on.began; opens = law clients words on.begin heard sent files on.stands_for }
+module _ (law : RunsAreSound) (clients : Meaning) (words : List LinkWords)
+    (heard : ℕ → List ℕ) where
+  opens_on : (stood : Standing) (sent : ℕ → List ℕ) (files : Two (List ℕ))
+      → RunsOn clients words stood heard sent files → OpensOn clients stood heard sent files
+  opens_on stood sent files on =
+      record {
+        begin = on.begin;
+        began = on.began;
+        opens = law clients words on.begin heard sent files on.stands_for;
+      }
 
-pub opens_told : RunsAreSound → (clients : Meaning) (words : List LinkWords) (two : Two File) (old new : Outside) (told : TellsAll new) → old.links.dialled ≡ 0 → HeadlineTold clients words two old new told
+pub opens_told : RunsAreSound → (clients : Meaning) (words : List LinkWords) (two : Two File)
+    (old new : Outside) (told : TellsAll new) → old.links.dialled ≡ 0
+    → HeadlineTold clients words two old new told
     → OpensTold clients two old new told
 opens_told law clients words two old new told none headline =
     record {
       moments = λ m w. elim (headline.moments m w) [
-        | inl now ↦ inl (record { now = now; nothing_sent = λ link. silent_by old m link none now.sent })
-        | inr on ↦ inr (opens_on law clients words (heard_on new.links) (stands clients (read_files two)) (sent_by m) m.files on)
+        | inl now ↦ inl (record {
+          now = now;
+          nothing_sent = λ link. silent_by old m link none now.sent;
+        })
+        | inr on
+            ↦ inr (opens_on law clients words (heard_on new.links) (stands clients (read_files two))
+            (sent_by m) m.files on)
       ];
       once_sent = λ m w link some.
-          opens_on law clients words (heard_on new.links) (stands clients (read_files two)) (sent_by m) m.files (headline.once_sent m w link some);
-      ends = λ begin stood. law clients words begin (heard_on new.links) (sent_on new.links) (read_files told.two) (headline.ends begin stood);
+          opens_on law clients words (heard_on new.links) (stands clients (read_files two))
+          (sent_by m) m.files (headline.once_sent m w link some);
+      ends = λ begin stood.
+          law clients words begin (heard_on new.links) (sent_on new.links) (read_files told.two)
+          (headline.ends begin stood);
     }
 
-pub always_opens : RunsAreSound → (clients : Meaning) (words : Asked) (old new : Outside) → (AsksSync words → old.links.dialled ≡ 0) → Covered clients words old new
+pub always_opens : RunsAreSound → (clients : Meaning) (words : Asked) (old new : Outside)
+    → (AsksSync words → old.links.dialled ≡ 0) → Covered clients words old new
     → AlwaysOpens clients words old new
 always_opens law clients (Usage place) old new unused covered = tt
-always_opens law clients (Do (command.Sync turns quiet links)) old new unused covered = λ two files told.
+always_opens law clients (Do (command.Sync turns quiet links)) old new unused covered =
+    λ two files told.
     opens_told law clients links two old new told (unused tt) (covered two files told)
 always_opens law clients (Do _) old new unused covered = tt

@@ -1,5 +1,7 @@
--- Where `try` wrote its whole text, it told the state of each message; and what words come to that could not be obeyed.
-use Rattle.std.proofs.Common.{◌≡◌, ℕ, Bool, List, refl, sym, ap, ◌∙◌, subst, inl, inr, Option, Some, None, Result, Ok, Err}
+-- Where `try` wrote its whole text, it told the state of each message; and what words come to that
+-- could not be obeyed.
+use Rattle.std.proofs.Common.{◌≡◌, ℕ, Bool, List, refl, sym, ap, ◌∙◌, subst, inl, inr, Option, Some}
+use Rattle.std.proofs.Common.{None, Result, Ok, Err}
 use Rattle.std.specs.Prelude.{IsErrAnd}
 use Rattle.std.specs.Io.KnownBytes.{Appends}
 use Rattle.std.proofs.lemmas.List.{take_all}
@@ -34,15 +36,21 @@ use Rattle.store_commands.specs.Plans.{group_plan}
 use Rattle.sharing_commands.specs.declared.saying.Speech.{Speech}
 use Rattle.sharing_commands.specs.Sayings.{say_plan}
 use Rattle.sync_top.specs.declared.input.TheConstants.{MAX_INPUT}
-use Rattle.sync_top.specs.Run.{AsksSync, WordsComeTo, DoesNothing, KeepsHost, ReportsOutcome, ReadsStream, ReadsWhole, Streams, TriesClient}
+use Rattle.sync_top.specs.Run.{AsksSync, WordsComeTo, DoesNothing, KeepsHost, ReportsOutcome}
+use Rattle.sync_top.specs.Run.{ReadsStream, ReadsWhole, Streams, TriesClient}
 use Rattle.sync_top.specs.States.{TellsStates, TellsGroup, TellsWhole}
 
-module _ (law : (clients : Meaning) (kind : ℕ) (def : GroupValue) (records : List Record) (text : List ℕ)
-    → kind_of_def clients def ≡ Some kind → IsTextOf clients def records text → SaysFates clients kind (group_id_of def) records text)
+module _
+    (law : (clients : Meaning) (kind : ℕ) (def : GroupValue) (records : List Record) (text : List ℕ)
+    → kind_of_def clients def ≡ Some kind → IsTextOf clients def records text
+    → SaysFates clients kind (group_id_of def) records text)
     (clients : Meaning) (input input' out out' : Stream) where
-  whole_states : (kind : ℕ) (def : GroupValue) (came : Outcome) → kind_of_def clients def ≡ Some kind
-      → (r : ReadsStream (λ some text. IsTextOf clients def (records_of some) text) input input' out out' came)
-      → ReadsWhole input input' r.read → Appends out.bytes out'.bytes r.text → TellsStates clients kind def input input' out out'
+  whole_states : (kind : ℕ) (def : GroupValue) (came : Outcome)
+      → kind_of_def clients def ≡ Some kind
+      → (r : ReadsStream (λ some text. IsTextOf clients def (records_of some) text) input input' out
+      out' came)
+      → ReadsWhole input input' r.read → Appends out.bytes out'.bytes r.text
+      → TellsStates clients kind def input input' out out'
   whole_states kind def came known r whole written = record {
     read = r.read;
     text = r.text;
@@ -50,15 +58,19 @@ module _ (law : (clients : Meaning) (kind : ℕ) (def : GroupValue) (records : L
     whole = whole;
     says =
         law clients kind def (records r.read) r.text known
-        (subst (λ (bytes : List ℕ). IsTextOf clients def (records_of (items 0 bytes)) r.text) (take_all MAX_INPUT r.read whole.within) r.text_is);
+        (subst (λ (bytes : List ℕ). IsTextOf clients def (records_of (items 0 bytes)) r.text)
+        (take_all MAX_INPUT r.read whole.within) r.text_is);
     written = written;
   }
 
   abbrev Tells : (name descriptor : List ℕ) → Outcome → Type 0
-  Tells name descriptor came = TellsWhole clients (Do (command.Try name descriptor)) input input' out out' (status_of came)
+  Tells name descriptor came =
+      TellsWhole clients (Do (command.Try name descriptor)) input input' out out' (status_of came)
 
-  group_states : (name descriptor : List ℕ) (o : Option ℕ) (came : Outcome) → clients.kind_of name 0 ≡ o
-      → TriesClient clients name descriptor o input input' out out' came → Tells name descriptor came
+  group_states : (name descriptor : List ℕ) (o : Option ℕ) (came : Outcome)
+      → clients.kind_of name 0 ≡ o
+      → TriesClient clients name descriptor o input input' out out' came
+      → Tells name descriptor came
   group_states name descriptor None outcome.Done known tries = absurd tries
   group_states name descriptor None (outcome.Bad place why) known tries = absurd tries
   group_states name descriptor None (outcome.Inside place) known tries = absurd tries
@@ -67,58 +79,73 @@ module _ (law : (clients : Meaning) (kind : ℕ) (def : GroupValue) (records : L
   group_states name descriptor None _ known tries = tt
   group_states name descriptor (Some kind) outcome.Done known tries =
       subst (λ o. TellsGroup clients name descriptor o input input' out out') (sym known)
-      (whole_states kind (record { name = name; major = 0; descriptor = descriptor }) outcome.Done known tries tries.ended.0 tries.ended.2)
+      (whole_states kind (record { name = name; major = 0; descriptor = descriptor }) outcome.Done
+      known tries tries.ended.0 tries.ended.2)
   group_states name descriptor (Some kind) (outcome.Bad place why) known tries =
       subst (λ o. TellsGroup clients name descriptor o input input' out out') (sym known)
-      (whole_states kind (record { name = name; major = 0; descriptor = descriptor }) (outcome.Bad place why) known tries tries.ended.0 tries.ended.2)
+      (whole_states kind (record { name = name; major = 0; descriptor = descriptor })
+      (outcome.Bad place why) known tries tries.ended.0 tries.ended.2)
   group_states name descriptor (Some kind) (outcome.Inside place) known tries =
       subst (λ o. TellsGroup clients name descriptor o input input' out out') (sym known)
-      (whole_states kind (record { name = name; major = 0; descriptor = descriptor }) (outcome.Inside place) known tries tries.ended.0 tries.ended.2)
-  group_states name descriptor (Some kind) (outcome.NoVersion place) known tries = absurd tries.ended
+      (whole_states kind (record { name = name; major = 0; descriptor = descriptor })
+      (outcome.Inside place) known tries tries.ended.0 tries.ended.2)
+  group_states name descriptor (Some kind) (outcome.NoVersion place) known tries =
+      absurd tries.ended
   group_states name descriptor (Some kind) (outcome.Links ends) known tries = absurd tries.ended
   group_states name descriptor (Some kind) _ known tries = tt
 
-  pub tells : (words : Asked) (old new : Outside) (err err' : Stream) (came : Outcome) (given : Status) → WordsComeTo clients words old new input input' out out' came → ReportsOutcome came err err' given
+  pub tells : (words : Asked) (old new : Outside) (err err' : Stream) (came : Outcome)
+      (given : Status) → WordsComeTo clients words old new input input' out out' came
+      → ReportsOutcome came err err' given
       → TellsWhole clients words input input' out out' given
   tells (Usage place) old new err err' came given comes reports = tt
   tells (Do (command.Try name descriptor)) old new err err' came given comes reports =
-      subst (TellsWhole clients (Do (command.Try name descriptor)) input input' out out') (sym reports.0)
+      subst (TellsWhole clients (Do (command.Try name descriptor)) input input' out out')
+      (sym reports.0)
       (group_states name descriptor (clients.kind_of name 0) came refl comes)
   tells (Do _) old new err err' came given comes reports = tt
 
 -- ---- memory
 
 -- no call was made
-does_nothing : (o : Outside) (input input' out out' : Stream) → IsIdle input input' → IsIdle out out' → DoesNothing o o input input' out out'
+does_nothing : (o : Outside) (input input' out out' : Stream) → IsIdle input input'
+    → IsIdle out out' → DoesNothing o o input input' out out'
 does_nothing o input input' out out' idle quiet = record {
   run = run_none o;
   rests = λ two told. record {
     moments = (looks_none o).moments two told;
-    kept = λ two' told'. let same : two' ≡ two = let it = sym told' ∙ told in cc in ap read_files same;
+    kept =
+        λ two' told'. let same : two' ≡ two = let it = sym told' ∙ told in cc in ap read_files same;
   };
   untouched = (idle, quiet);
 }
 
-pub tries_memory : (clients : Meaning) (name descriptor : List ℕ) (o : Option ℕ) (input input' out out' : Stream) → IsIdle out out'
+pub tries_memory : (clients : Meaning) (name descriptor : List ℕ) (o : Option ℕ)
+    (input input' out out' : Stream) → IsIdle out out'
     → TriesClient clients name descriptor o input input' out out' outcome.Memory
 tries_memory clients name descriptor None input input' out out' idle = idle
 tries_memory clients name descriptor (Some kind) input input' out out' idle = idle
 
 -- memory may be wanting for any words
-pub memory_comes : (clients : Meaning) (words : Asked) (o : Outside) (input input' out out' : Stream) → IsIdle input input' → IsIdle out out'
+pub memory_comes : (clients : Meaning) (words : Asked) (o : Outside)
+    (input input' out out' : Stream) → IsIdle input input' → IsIdle out out'
     → WordsComeTo clients words o o input input' out out' outcome.Memory
 memory_comes clients (Usage place) o input input' out out' idle quiet = quiet
 memory_comes clients (Do (command.Try name descriptor)) o input input' out out' idle quiet =
     tries_memory clients name descriptor (clients.kind_of name 0) input input' out out' quiet
 memory_comes clients (Do command.Records) o input input' out out' idle quiet = quiet
-memory_comes clients (Do _) o input input' out out' idle quiet = inr (refl, does_nothing o input input' out out' idle quiet)
+memory_comes clients (Do _) o input input' out out' idle quiet =
+    inr (refl, does_nothing o input input' out out' idle quiet)
 
 -- words that were not read come to their place, or memory was wanting
-pub words_come : (clients : Meaning) (words : Asked) (o : Outside) (input input' out out' : Stream) (e : WordsFault) → IsReadAs words (Err e) → IsIdle input input' → IsIdle out out'
+pub words_come : (clients : Meaning) (words : Asked) (o : Outside) (input input' out out' : Stream)
+    (e : WordsFault) → IsReadAs words (Err e) → IsIdle input input' → IsIdle out out'
     → WordsComeTo clients words o o input input' out out' (words_came e)
 words_come clients words o input input' out out' (fault.Usage place) is idle quiet =
-    subst (λ (a : Asked). WordsComeTo clients a o o input input' out out' (outcome.Usage place)) (sym is) (refl, (idle, quiet))
-words_come clients words o input input' out out' fault.Memory is idle quiet = memory_comes clients words o input input' out out' idle quiet
+    subst (λ (a : Asked). WordsComeTo clients a o o input input' out out' (outcome.Usage place))
+    (sym is) (refl, (idle, quiet))
+words_come clients words o input input' out out' fault.Memory is idle quiet =
+    memory_comes clients words o input input' out out' idle quiet
 
 -- a host that nothing was done to is as before
 pub keeps_host : {H : Type 0} (words : Asked) (host : H) → KeepsHost words host host
@@ -130,60 +157,105 @@ keeps_host (Do _) host = tt
 -- ---- a group
 
 -- the definition that the words give
-def_is : (name descriptor given rest : List ℕ) (major : ℕ) (def : GroupValue) → given ≡ name → rest ≡ descriptor → def ≡ record { name = given; major = major; descriptor = rest }
+def_is : (name descriptor given rest : List ℕ) (major : ℕ) (def : GroupValue) → given ≡ name
+    → rest ≡ descriptor → def ≡ record { name = given; major = major; descriptor = rest }
     → def ≡ record { name = name; major = major; descriptor = descriptor }
 def_is name descriptor given rest major def first second made =
-    let with_name : List ℕ → GroupValue = λ x. record { name = x; major = major; descriptor = rest } in
-    let with_descriptor : List ℕ → GroupValue = λ x. record { name = name; major = major; descriptor = x } in
+    let with_name : List ℕ → GroupValue =
+    λ x. record { name = x; major = major; descriptor = rest } in
+    let with_descriptor : List ℕ → GroupValue =
+    λ x. record { name = name; major = major; descriptor = x } in
     made ∙ ap with_name first ∙ ap with_descriptor second
 
 -- a group was added, of the definition that the words give
-pub group_comes : (clients : Meaning) (asked : Command) (name descriptor given rest : List ℕ) (major : ℕ) (def : GroupValue) (old new : Outside) (input input' out out' : Stream) (came : Outcome)
-    → asked ≡ command.Group name major descriptor → given ≡ name → rest ≡ descriptor → def ≡ record { name = given; major = major; descriptor = rest }
-    → HasAdded clients (λ f. group_plan clients f def) settling.Before old new out out' came → IsIdle input input' → WordsComeTo clients (Do asked) old new input input' out out' came
-group_comes clients asked name descriptor given rest major def old new input input' out out' came is first second made added idle =
-    let words : def ≡ record { name = name; major = major; descriptor = descriptor } = def_is name descriptor given rest major def first second made in
+pub group_comes : (clients : Meaning) (asked : Command) (name descriptor given rest : List ℕ)
+    (major : ℕ) (def : GroupValue) (old new : Outside) (input input' out out' : Stream)
+    (came : Outcome)
+    → asked ≡ command.Group name major descriptor → given ≡ name → rest ≡ descriptor
+    → def ≡ record { name = given; major = major; descriptor = rest }
+    → HasAdded clients (λ f. group_plan clients f def) settling.Before old new out out' came
+    → IsIdle input input' → WordsComeTo clients (Do asked) old new input input' out out' came
+group_comes clients asked name descriptor given rest major def old new input input' out out' came is
+    first second made added idle =
+    let words : def ≡ record { name = name; major = major; descriptor = descriptor } =
+    def_is name descriptor given rest major def first second made in
     subst (λ (a : Command). WordsComeTo clients (Do a) old new input input' out out' came) (sym is)
-    (inl (subst (λ (d : GroupValue). HasAdded clients (λ f. group_plan clients f d) settling.Before old new out out' came) words added, idle))
+    (inl (
+      subst (λ (d : GroupValue).
+          HasAdded clients (λ f. group_plan clients f d) settling.Before old new out out' came)
+          words
+          added,
+      idle,
+    ))
 
 -- what the words say was said
-pub say_comes : (clients : Meaning) (asked : Command) (group : Id) (timestamp : ℕ) (join : Bool) (name descriptor given rest : List ℕ) (major : ℕ) (def : GroupValue) (speech : Speech) (old new : Outside) (input input' out out' : Stream) (came : Outcome)
-    → asked ≡ command.Say group timestamp join name major descriptor → given ≡ name → rest ≡ descriptor → def ≡ record { name = given; major = major; descriptor = rest }
+pub say_comes : (clients : Meaning) (asked : Command) (group : Id) (timestamp : ℕ) (join : Bool)
+    (name descriptor given rest : List ℕ) (major : ℕ) (def : GroupValue) (speech : Speech)
+    (old new : Outside) (input input' out out' : Stream) (came : Outcome)
+    → asked ≡ command.Say group timestamp join name major descriptor → given ≡ name
+    → rest ≡ descriptor → def ≡ record { name = given; major = major; descriptor = rest }
     → speech ≡ record { group = group; timestamp = timestamp; join = join; def = def }
-    → HasAdded clients (say_plan clients speech) settling.BeforeAndAfter old new out out' came → IsIdle input input'
+    → HasAdded clients (say_plan clients speech) settling.BeforeAndAfter old new out out' came
+    → IsIdle input input'
     → WordsComeTo clients (Do asked) old new input input' out out' came
-say_comes clients asked group timestamp join name descriptor given rest major def speech old new input input' out out' came is first second made spoken added idle =
-    let said : HasAdded clients (say_plan clients (record { group = group; timestamp = timestamp; join = join; def = def })) settling.BeforeAndAfter old new out out' came =
-    subst (λ (s : Speech). HasAdded clients (say_plan clients s) settling.BeforeAndAfter old new out out' came) spoken added in
-    let words : def ≡ record { name = name; major = major; descriptor = descriptor } = def_is name descriptor given rest major def first second made in
+say_comes clients asked group timestamp join name descriptor given rest major def speech old new
+    input input' out out' came is first second made spoken added idle =
+    let said : HasAdded clients
+    (say_plan clients (record { group = group; timestamp = timestamp; join = join; def = def }))
+    settling.BeforeAndAfter old new out out' came =
+    subst (λ (s : Speech).
+    HasAdded clients (say_plan clients s) settling.BeforeAndAfter old new out out' came) spoken
+    added in
+    let words : def ≡ record { name = name; major = major; descriptor = descriptor } =
+    def_is name descriptor given rest major def first second made in
     subst (λ (a : Command). WordsComeTo clients (Do a) old new input input' out out' came) (sym is)
-    (inl (subst (λ (d : GroupValue). HasAdded clients (say_plan clients (record { group = group; timestamp = timestamp; join = join; def = d })) settling.BeforeAndAfter old new out out' came) words said, idle))
+    (inl (
+      subst (λ (d : GroupValue).
+          HasAdded clients (say_plan clients (record {
+            group = group;
+            timestamp = timestamp;
+            join = join;
+            def = d;
+          })) settling.BeforeAndAfter old new out out' came) words said,
+      idle,
+    ))
 
 -- ---- answers of commands
 
 -- what holds of a command holds of one that is it
-pub as_command : (clients : Meaning) (asked is : Command) (old new : Outside) (input input' out out' : Stream) (came : Outcome) → asked ≡ is
-    → WordsComeTo clients (Do is) old new input input' out out' came → WordsComeTo clients (Do asked) old new input input' out out' came
+pub as_command : (clients : Meaning) (asked is : Command) (old new : Outside)
+    (input input' out out' : Stream) (came : Outcome) → asked ≡ is
+    → WordsComeTo clients (Do is) old new input input' out out' came
+    → WordsComeTo clients (Do asked) old new input input' out out' came
 as_command clients asked is old new input input' out out' came same comes =
-    subst (λ (a : Command). WordsComeTo clients (Do a) old new input input' out out' came) (sym same) comes
+    subst (λ (a : Command). WordsComeTo clients (Do a) old new input input' out out' came)
+    (sym same) comes
 
 -- what is said of an outcome is said of one that is it
-pub came_as : (clients : Meaning) (asked : Command) (old new : Outside) (input input' out out' : Stream) (came given : Outcome) → given ≡ came → WordsComeTo clients (Do asked) old new input input' out out' came
+pub came_as : (clients : Meaning) (asked : Command) (old new : Outside)
+    (input input' out out' : Stream) (came given : Outcome) → given ≡ came
+    → WordsComeTo clients (Do asked) old new input input' out out' came
     → WordsComeTo clients (Do asked) old new input input' out out' given
 came_as clients asked old new input input' out out' came given same comes =
-    subst (λ (o : Outcome). WordsComeTo clients (Do asked) old new input input' out out' o) (sym same) comes
+    subst (λ (o : Outcome). WordsComeTo clients (Do asked) old new input input' out out' o)
+    (sym same) comes
 
 -- a command that is not `sync` does not ask for a run
-pub asks_none : (asked : Command) → ((turns quiet : ℕ) (links : List LinkWords) → asked ≡ command.Sync turns quiet links → ⊥) → AsksSync (Do asked) → ⊥
+pub asks_none : (asked : Command)
+    → ((turns quiet : ℕ) (links : List LinkWords) → asked ≡ command.Sync turns quiet links → ⊥)
+    → AsksSync (Do asked) → ⊥
 asks_none (command.Sync turns quiet links) other asks = other turns quiet links refl
 asks_none _ other asks = asks
 
 -- the outcome that was reported is that of the command
-pub reports_as : (came came' : Outcome) (err err' : Stream) (given : Status) → came ≡ came' → ReportsOutcome came err err' given → ReportsOutcome came' err err' given
-reports_as came came' err err' given same reports = subst (λ (o : Outcome). ReportsOutcome o err err' given) same reports
+pub reports_as : (came came' : Outcome) (err err' : Stream) (given : Status) → came ≡ came'
+    → ReportsOutcome came err err' given → ReportsOutcome came' err err' given
+reports_as came came' err err' given same reports =
+    subst (λ (o : Outcome). ReportsOutcome o err err' given) same reports
 
 -- what goes on by `?`
-passed : (P : Outcome → Type 0) (r : Result (Unit {0}) Outcome) (x : Outcome) → IsErrAnd r (λ e. e ≡ x) → P x → P (came_to r)
+passed : (P : Outcome → Type 0) (r : Result (Unit {0}) Outcome) (x : Outcome) → IsErrAnd r
+    (λ e. e ≡ x) → P x → P (came_to r)
 passed P (Ok u) x is h = absurd is
 passed P (Err e) x is h = subst P (sym is) h
 
@@ -191,14 +263,22 @@ module _ (r : Result (Unit {0}) Outcome) (x : Outcome) (is : IsErrAnd r (λ e. e
   pub came_on : came_to r ≡ x
   came_on = passed (λ (came : Outcome). came ≡ x) r x is refl
 
-  pub comes_on : (clients : Meaning) (words : Asked) (old new : Outside) (input input' out out' : Stream) → WordsComeTo clients words old new input input' out out' x
+  pub comes_on : (clients : Meaning) (words : Asked) (old new : Outside)
+      (input input' out out' : Stream) → WordsComeTo clients words old new input input' out out' x
       → WordsComeTo clients words old new input input' out out' (came_to r)
-  comes_on clients words old new input input' out out' = passed (λ (came : Outcome). WordsComeTo clients words old new input input' out out' came) r x is
+  comes_on clients words old new input input' out out' =
+      passed (λ (came : Outcome). WordsComeTo clients words old new input input' out out' came) r x
+      is
 
-  pub streams_on : (told : List Item → List ℕ → Type 0) (input input' out out' : Stream) → Streams told input input' out out' x → Streams told input input' out out' (came_to r)
-  streams_on told input input' out out' = passed (λ (came : Outcome). Streams told input input' out out' came) r x is
+  pub streams_on : (told : List Item → List ℕ → Type 0) (input input' out out' : Stream)
+      → Streams told input input' out out' x → Streams told input input' out out' (came_to r)
+  streams_on told input input' out out' =
+      passed (λ (came : Outcome). Streams told input input' out out' came) r x is
 
-  pub tries_on : (clients : Meaning) (name descriptor : List ℕ) (o : Option ℕ) (input input' out out' : Stream) → TriesClient clients name descriptor o input input' out out' x
+  pub tries_on : (clients : Meaning) (name descriptor : List ℕ) (o : Option ℕ)
+      (input input' out out' : Stream)
+      → TriesClient clients name descriptor o input input' out out' x
       → TriesClient clients name descriptor o input input' out out' (came_to r)
   tries_on clients name descriptor o input input' out out' =
-      passed (λ (came : Outcome). TriesClient clients name descriptor o input input' out out' came) r x is
+      passed (λ (came : Outcome). TriesClient clients name descriptor o input input' out out' came)
+      r x is

@@ -1,5 +1,6 @@
 -- No command damages a store.
-use Rattle.std.proofs.Common.{◌≡◌, ℕ, Bool, true, false, List, refl, sym, ap, ◌∙◌, subst, inl, inr, Option, Some, None}
+use Rattle.std.proofs.Common.{◌≡◌, ℕ, Bool, true, false, List, refl, sym, ap, ◌∙◌, subst, inl, inr}
+use Rattle.std.proofs.Common.{Option, Some, None}
 use Rattle.std.specs.Prelude.{◌⊎◌, ◌&&◌, ◌||◌, if◌then◌else◌, nat_lt}
 use Rattle.outside.specs.Files.{Two, File, IsImage, read_files}
 use Rattle.outside.specs.Frames.{generation_in, is_open, journal_file}
@@ -45,7 +46,9 @@ use Rattle.sync_words.specs.declared.link_words.LinkWords.{LinkWords}
 
 -- the journal's file by which headers are open, and whether the second is the later one
 abbrev file_where : (first second later : Bool) → Option ℕ
-file_where first second later = if first then (if second && later then Some 1 else Some 0) else (if second then Some 1 else None)
+file_where first second later =
+    if first then (if second && later then Some 1 else Some 0) else
+    (if second then Some 1 else None)
 
 no_file : (a b c : Bool) → (a || b) ≡ false → file_where a b c ≡ None
 no_file true b c none = absurd (let e : true ≡ false = none in cc)
@@ -54,9 +57,11 @@ no_file false false c none = refl
 
 none_open : (two : Two File) → has_open two ≡ false → journal_file (read_files two) ≡ None
 none_open two none =
-    no_file (is_open two.first.now) (is_open two.second.now) (nat_lt (generation_in two.first.now) (generation_in two.second.now)) none
+    no_file (is_open two.first.now) (is_open two.second.now)
+    (nat_lt (generation_in two.first.now) (generation_in two.second.now)) none
 
-no_store_there : (clients : Meaning) (two : Two File) → has_open two ≡ false → stands clients (read_files two) ≡ no_store
+no_store_there : (clients : Meaning) (two : Two File) → has_open two ≡ false → stands clients
+    (read_files two) ≡ no_store
 unfolding stands
 no_store_there clients two none = ap (stands_in clients (read_files two)) (none_open two none)
 
@@ -64,97 +69,153 @@ no_store_there clients two none = ap (stands_in clients (read_files two)) (none_
 
 module _ (clients : Meaning) (old new : Outside) where
   -- nothing is left but what a crash might have left before
-  of_now : ((two : Two File) → old.files ≡ Some two → MomentsAre old new (IsNow two old.links)) → Undamaged clients old new
-  of_now moments two files each = moments_map old new _ _ (λ m w. each m.files w.image) (moments two files)
+  of_now : ((two : Two File) → old.files ≡ Some two → MomentsAre old new (IsNow two old.links))
+      → Undamaged clients old new
+  of_now moments two files each =
+      moments_map old new _ _ (λ m w. each m.files w.image) (moments two files)
 
   -- a store was begun where there was one: there is no such moment
-  begun_moment : (two : Two File) → old.files ≡ Some two → ((left : Two (List ℕ)) → IsImage two left → StandsForSome clients left) → (m : Moment) → InitMoment two old.links m
+  begun_moment : (two : Two File) → old.files ≡ Some two
+      → ((left : Two (List ℕ)) → IsImage two left → StandsForSome clients left) → (m : Moment)
+      → InitMoment two old.links m
       → StandsForSome clients m.files
   begun_moment two files each m (inl now) = each m.files now.image
   begun_moment two files each m (inr begun) =
       let some = each (read_files two) (old.reads two files) in
-      absurd (let both : no_store ≡ journal some.of = sym (no_store_there clients two begun.0) ∙ some.stands_for in cc)
+      absurd (let both : no_store ≡ journal some.of = sym (no_store_there clients two begun.0)
+      ∙ some.stands_for in cc)
 
-  of_begun : (out out' : Stream) (came : Outcome) → HasBegun old new out out' came → Undamaged clients old new
-  of_begun out out' came did two files each = moments_map old new _ _ (begun_moment two files each) (did.told two files).moments
+  of_begun : (out out' : Stream) (came : Outcome) → HasBegun old new out out' came
+      → Undamaged clients old new
+  of_begun out out' came did two files each =
+      moments_map old new _ _ (begun_moment two files each) (did.told two files).moments
 
-  of_looked : (shown : Facts → Showing) (out out' : Stream) (came : Outcome) → HasLooked clients shown old new out out' came → Undamaged clients old new
+  of_looked : (shown : Facts → Showing) (out out' : Stream) (came : Outcome)
+      → HasLooked clients shown old new out out' came → Undamaged clients old new
   of_looked shown out out' came did = of_now (λ two files. (did.told two files).rests.moments)
 
   of_audited : (out out' : Stream) (came : Outcome) → HasAudited clients old new out out' came
       → Undamaged clients old new
   of_audited out out' came did = of_now (λ two files. (did.told two files).rests.moments)
 
-  added_moment : (plan : Facts → Plan) (standing : Standing) (came : Outcome) (sent : List (List ℕ)) (two : Two File) → ((left : Two (List ℕ)) → IsImage two left → StandsForSome clients left)
-      → (m : Moment) → IsNow two old.links m ⊎ AddsMoment clients plan standing came sent m → StandsForSome clients m.files
+  added_moment : (plan : Facts → Plan) (standing : Standing) (came : Outcome) (sent : List (List ℕ))
+      (two : Two File) → ((left : Two (List ℕ)) → IsImage two left → StandsForSome clients left)
+      → (m : Moment) → IsNow two old.links m ⊎ AddsMoment clients plan standing came sent m
+      → StandsForSome clients m.files
   added_moment plan standing came sent two each m (inl now) = each m.files now.image
-  added_moment plan standing came sent two each m (inr adds) = record { of = adds.1.leads.whole; stands_for = adds.1.leads.stands_for }
+  added_moment plan standing came sent two each m (inr adds) =
+      record { of = adds.1.leads.whole; stands_for = adds.1.leads.stands_for }
 
-  of_added : (plan : Facts → Plan) (asked : Settling) (out out' : Stream) (came : Outcome) → HasAdded clients plan asked old new out out' came → Undamaged clients old new
-  of_added plan asked out out' came did two files each = moments_map old new _ _ (added_moment plan _ came _ two each) (did.told two files).moments
+  of_added : (plan : Facts → Plan) (asked : Settling) (out out' : Stream) (came : Outcome)
+      → HasAdded clients plan asked old new out out' came → Undamaged clients old new
+  of_added plan asked out out' came did two files each =
+      moments_map old new _ _ (added_moment plan _ came _ two each) (did.told two files).moments
 
-  agreed_moment : (contact : ℕ) (group : Id) (standing : Standing) (came : Outcome) (sent : List (List ℕ)) (two : Two File) → ((left : Two (List ℕ)) → IsImage two left → StandsForSome clients left)
-      → (m : Moment) → IsNow two old.links m ⊎ AgreesMoment clients contact group standing came sent m → StandsForSome clients m.files
+  agreed_moment : (contact : ℕ) (group : Id) (standing : Standing) (came : Outcome)
+      (sent : List (List ℕ)) (two : Two File)
+      → ((left : Two (List ℕ)) → IsImage two left → StandsForSome clients left)
+      → (m : Moment) → IsNow two old.links m
+      ⊎ AgreesMoment clients contact group standing came sent m → StandsForSome clients m.files
   agreed_moment contact group standing came sent two each m (inl now) = each m.files now.image
-  agreed_moment contact group standing came sent two each m (inr adds) = record { of = adds.1.leads.whole; stands_for = adds.1.leads.stands_for }
+  agreed_moment contact group standing came sent two each m (inr adds) =
+      record { of = adds.1.leads.whole; stands_for = adds.1.leads.stands_for }
 
-  of_agreed : (contact : ℕ) (group : Id) (out out' : Stream) (came : Outcome) → HasAgreed clients contact group old new out out' came → Undamaged clients old new
+  of_agreed : (contact : ℕ) (group : Id) (out out' : Stream) (came : Outcome)
+      → HasAgreed clients contact group old new out out' came → Undamaged clients old new
   of_agreed contact group out out' came did two files each =
-      moments_map old new _ _ (agreed_moment contact group _ came _ two each) (did.told two files).moments
+      moments_map old new _ _ (agreed_moment contact group _ came _ two each)
+      (did.told two files).moments
 
-  compacted_moment : (standing : Standing) (came : Outcome) (sent : List (List ℕ)) (two : Two File) → ((left : Two (List ℕ)) → IsImage two left → StandsForSome clients left)
-      → (m : Moment) → IsNow two old.links m ⊎ CompactsMoment clients standing came sent m → StandsForSome clients m.files
+  compacted_moment : (standing : Standing) (came : Outcome) (sent : List (List ℕ)) (two : Two File)
+      → ((left : Two (List ℕ)) → IsImage two left → StandsForSome clients left)
+      → (m : Moment) → IsNow two old.links m ⊎ CompactsMoment clients standing came sent m
+      → StandsForSome clients m.files
   compacted_moment standing came sent two each m (inl now) = each m.files now.image
-  compacted_moment standing came sent two each m (inr makes) = record { of = makes.1.leads.whole; stands_for = makes.1.leads.stands_for }
+  compacted_moment standing came sent two each m (inr makes) =
+      record { of = makes.1.leads.whole; stands_for = makes.1.leads.stands_for }
 
-  of_compacted : (out out' : Stream) (came : Outcome) → HasCompacted clients old new out out' came → Undamaged clients old new
-  of_compacted out out' came did two files each = moments_map old new _ _ (compacted_moment _ came _ two each) (did.told two files).moments
+  of_compacted : (out out' : Stream) (came : Outcome) → HasCompacted clients old new out out' came
+      → Undamaged clients old new
+  of_compacted out out' came did two files each =
+      moments_map old new _ _ (compacted_moment _ came _ two each) (did.told two files).moments
 
-  ran_moment : (contact : ℕ) (errand : Errand) (standing : Standing) (sent : List (List ℕ)) (two : Two File) → ((left : Two (List ℕ)) → IsImage two left → StandsForSome clients left)
-      → (m : Moment) → IsNow two old.links m ⊎ MayRunErrand contact standing (λ j. JournalMoment clients (ErrandOn clients errand j) sent m) → StandsForSome clients m.files
+  ran_moment : (contact : ℕ) (errand : Errand) (standing : Standing) (sent : List (List ℕ))
+      (two : Two File) → ((left : Two (List ℕ)) → IsImage two left → StandsForSome clients left)
+      → (m : Moment) → IsNow two old.links m
+      ⊎ MayRunErrand contact standing (λ j.
+      JournalMoment clients (ErrandOn clients errand j) sent m)
+      → StandsForSome clients m.files
   ran_moment contact errand standing sent two each m (inl now) = each m.files now.image
-  ran_moment contact errand standing sent two each m (inr on) = record { of = on.leads.whole; stands_for = on.leads.stands_for }
+  ran_moment contact errand standing sent two each m (inr on) =
+      record { of = on.leads.whole; stands_for = on.leads.stands_for }
 
-  of_ran : (contact : ℕ) (errand : Errand) (out out' : Stream) (came : Outcome) → FilesRun clients contact errand old new out out' came → Undamaged clients old new
+  of_ran : (contact : ℕ) (errand : Errand) (out out' : Stream) (came : Outcome)
+      → FilesRun clients contact errand old new out out' came → Undamaged clients old new
   of_ran contact errand out out' came did two files each =
       moments_map old new _ _ (ran_moment contact errand _ _ two each) (did.told two files).moments
 
-  of_early : (contact : ℕ) (out out' : Stream) (came : Outcome) → StopsEarly clients contact old new out out' came → Undamaged clients old new
+  of_early : (contact : ℕ) (out out' : Stream) (came : Outcome)
+      → StopsEarly clients contact old new out out' came → Undamaged clients old new
   of_early contact out out' came did = of_now (λ two files. (did.told two files).rests.moments)
 
-  of_taken : (contact : ℕ) (input input' out out' : Stream) (came : Outcome) → HasTakenMail clients contact old new input input' out out' came → Undamaged clients old new
-  of_taken contact input input' out out' outcome.NoStore did = of_early contact out out' outcome.NoStore did.0
-  of_taken contact input input' out out' (outcome.Damaged place) did = of_early contact out out' (outcome.Damaged place) did.0
-  of_taken contact input input' out out' (outcome.Refused why) did = of_early contact out out' (outcome.Refused why) did.0
-  of_taken contact input input' out out' outcome.ReadFault did = of_early contact out out' outcome.ReadFault did.0
-  of_taken contact input input' out out' outcome.TooMuch did = of_early contact out out' outcome.TooMuch did.0
-  of_taken contact input input' out out' outcome.DiskFault (inl did) = of_early contact out out' outcome.DiskFault did.0
-  of_taken contact input input' out out' outcome.DiskFault (inr did) = of_ran contact (in_errand clients contact did.bytes) out out' outcome.DiskFault did.did
-  of_taken contact input input' out out' outcome.Memory (inl did) = of_early contact out out' outcome.Memory did
-  of_taken contact input input' out out' outcome.Memory (inr did) = of_ran contact (in_errand clients contact did.bytes) out out' outcome.Memory did.did
-  of_taken contact input input' out out' came did = of_ran contact (in_errand clients contact did.bytes) out out' came did.did
+  of_taken : (contact : ℕ) (input input' out out' : Stream) (came : Outcome)
+      → HasTakenMail clients contact old new input input' out out' came → Undamaged clients old new
+  of_taken contact input input' out out' outcome.NoStore did =
+      of_early contact out out' outcome.NoStore did.0
+  of_taken contact input input' out out' (outcome.Damaged place) did =
+      of_early contact out out' (outcome.Damaged place) did.0
+  of_taken contact input input' out out' (outcome.Refused why) did =
+      of_early contact out out' (outcome.Refused why) did.0
+  of_taken contact input input' out out' outcome.ReadFault did =
+      of_early contact out out' outcome.ReadFault did.0
+  of_taken contact input input' out out' outcome.TooMuch did =
+      of_early contact out out' outcome.TooMuch did.0
+  of_taken contact input input' out out' outcome.DiskFault (inl did) =
+      of_early contact out out' outcome.DiskFault did.0
+  of_taken contact input input' out out' outcome.DiskFault (inr did) =
+      of_ran contact (in_errand clients contact did.bytes) out out' outcome.DiskFault did.did
+  of_taken contact input input' out out' outcome.Memory (inl did) =
+      of_early contact out out' outcome.Memory did
+  of_taken contact input input' out out' outcome.Memory (inr did) =
+      of_ran contact (in_errand clients contact did.bytes) out out' outcome.Memory did.did
+  of_taken contact input input' out out' came did =
+      of_ran contact (in_errand clients contact did.bytes) out out' came did.did
 
-  of_mailed : (asked : Sending) (out out' : Stream) (came : Outcome) → HasSentMail clients asked old new out out' came → Undamaged clients old new
+  of_mailed : (asked : Sending) (out out' : Stream) (came : Outcome)
+      → HasSentMail clients asked old new out out' came → Undamaged clients old new
   of_mailed asked out out' outcome.NoStore did = of_early asked.contact out out' outcome.NoStore did
-  of_mailed asked out out' (outcome.Damaged place) did = of_early asked.contact out out' (outcome.Damaged place) did
-  of_mailed asked out out' (outcome.Refused why) did = of_early asked.contact out out' (outcome.Refused why) did
-  of_mailed asked out out' outcome.DiskFault (inl did) = of_early asked.contact out out' outcome.DiskFault did
-  of_mailed asked out out' outcome.DiskFault (inr did) = of_ran asked.contact (out_errand clients asked did.now) out out' outcome.DiskFault did.did
-  of_mailed asked out out' outcome.Memory (inl did) = of_early asked.contact out out' outcome.Memory did
-  of_mailed asked out out' outcome.Memory (inr did) = of_ran asked.contact (out_errand clients asked did.now) out out' outcome.Memory did.did
-  of_mailed asked out out' came did = of_ran asked.contact (out_errand clients asked did.now) out out' came did.did
+  of_mailed asked out out' (outcome.Damaged place) did =
+      of_early asked.contact out out' (outcome.Damaged place) did
+  of_mailed asked out out' (outcome.Refused why) did =
+      of_early asked.contact out out' (outcome.Refused why) did
+  of_mailed asked out out' outcome.DiskFault (inl did) =
+      of_early asked.contact out out' outcome.DiskFault did
+  of_mailed asked out out' outcome.DiskFault (inr did) =
+      of_ran asked.contact (out_errand clients asked did.now) out out' outcome.DiskFault did.did
+  of_mailed asked out out' outcome.Memory (inl did) =
+      of_early asked.contact out out' outcome.Memory did
+  of_mailed asked out out' outcome.Memory (inr did) =
+      of_ran asked.contact (out_errand clients asked did.now) out out' outcome.Memory did.did
+  of_mailed asked out out' came did =
+      of_ran asked.contact (out_errand clients asked did.now) out out' came did.did
 
   module _ (group : Id) (timestamp : ℕ) (input input' out out' : Stream) where
-    of_stopped : (came : Outcome) → StopsShort clients group old new input input' out out' came → Undamaged clients old new
+    of_stopped : (came : Outcome) → StopsShort clients group old new input input' out out' came
+        → Undamaged clients old new
     of_stopped came did = of_now (λ two files. (did.told two files).rests.moments)
 
-    of_body : (came : Outcome) → PostsBody clients group timestamp old new input input' out out' came → Undamaged clients old new
+    of_body : (came : Outcome)
+        → PostsBody clients group timestamp old new input input' out out' came
+        → Undamaged clients old new
     of_body came did = of_added _ _ out out' came did.added
 
-    of_posted : (came : Outcome) → HasPosted clients group timestamp old new input input' out out' came → Undamaged clients old new
+    of_posted : (came : Outcome)
+        → HasPosted clients group timestamp old new input input' out out' came
+        → Undamaged clients old new
     of_posted outcome.NoStore did = of_stopped outcome.NoStore did
     of_posted (outcome.Damaged place) did = of_stopped (outcome.Damaged place) did
-    of_posted (outcome.Refused refused.UnknownGroup) did = of_stopped (outcome.Refused refused.UnknownGroup) did
+    of_posted (outcome.Refused refused.UnknownGroup) did =
+        of_stopped (outcome.Refused refused.UnknownGroup) did
     of_posted outcome.ReadFault did = of_stopped outcome.ReadFault did
     of_posted outcome.DiskFault (inl did) = of_stopped outcome.DiskFault did
     of_posted outcome.DiskFault (inr did) = of_body outcome.DiskFault did
@@ -170,42 +231,75 @@ module _ (clients : Meaning) (old new : Outside) where
         | inr on ↦ record { of = on.stands_for.whole; stands_for = on.stands_for.stands_for }
       ]
 
-  of_store : (did : Outcome → Type 0) (input input' out out' : Stream) (came : Outcome) → (did came → Undamaged clients old new)
+  of_store : (did : Outcome → Type 0) (input input' out out' : Stream) (came : Outcome)
+      → (did came → Undamaged clients old new)
       → ComesOfStore did old new input input' out out' came → Undamaged clients old new
   of_store did input input' out out' came of_did (inl done) = of_did done
-  of_store did input input' out out' came of_did (inr none) = of_now (λ two files. (none.1.rests two files).moments)
+  of_store did input input' out out' came of_did (inr none) =
+      of_now (λ two files. (none.1.rests two files).moments)
 
 -- ---- all commands
 
 nothing_done : (clients : Meaning) (o : Outside) → Undamaged clients o o
-nothing_done clients o two files each = moments_none o _ (λ m w. each m.files (o.now_is two m files w).image)
+nothing_done clients o two files each =
+    moments_none o _ (λ m w. each m.files (o.now_is two m files w).image)
 
-module _ {H : Type 0} (tells : H → Outside) (clients : Meaning) (h h' : H) (input input' out out' : Stream) (came : Outcome) where
+module _ {H : Type 0} (tells : H → Outside) (clients : Meaning) (h h' : H)
+    (input input' out out' : Stream) (came : Outcome) where
   kept : h' ≡ h → Undamaged clients (tells h) (tells h')
-  kept same = subst (λ (x : H). Undamaged clients (tells h) (tells x)) (sym same) (nothing_done clients (tells h))
+  kept same =
+      subst (λ (x : H). Undamaged clients (tells h) (tells x)) (sym same)
+      (nothing_done clients (tells h))
 
-  pub undamaged : (words : Asked) → WordsComeTo clients words (tells h) (tells h') input input' out out' came → KeepsHost words h h' → Covered clients words (tells h) (tells h')
+  pub undamaged : (words : Asked) → WordsComeTo clients words (tells h)
+      (tells h') input input' out out' came → KeepsHost words h h'
+      → Covered clients words (tells h) (tells h')
       → NeverDamaged clients words (tells h) (tells h')
   undamaged (Usage place) comes keeps covered = kept keeps
   undamaged (Do (command.Try name descriptor)) comes keeps covered = kept keeps
   undamaged (Do command.Records) comes keeps covered = kept keeps
   undamaged (Do command.Init) comes keeps covered =
-      of_store clients (tells h) (tells h') (λ o. HasBegun (tells h) (tells h') out out' o × IsIdle input input') input input' out out' came (λ did. of_begun clients (tells h) (tells h') out out' came did.0) comes
+      of_store clients (tells h) (tells h') (λ o. HasBegun (tells h) (tells h') out out' o
+      × IsIdle input input') input input' out out' came (λ did.
+      of_begun clients (tells h) (tells h') out out' came did.0) comes
   undamaged (Do command.Contact) comes keeps covered =
-      of_store clients (tells h) (tells h') (λ o. HasAdded clients contact_plan settling.Before (tells h) (tells h') out out' o × IsIdle input input') input input' out out' came (λ did. of_added clients (tells h) (tells h') _ _ out out' came did.0) comes
+      of_store clients (tells h) (tells h') (λ o.
+      HasAdded clients contact_plan settling.Before (tells h) (tells h') out out' o
+      × IsIdle input input') input input' out out' came (λ did.
+      of_added clients (tells h) (tells h') _ _ out out' came did.0) comes
   undamaged (Do (command.Group name major descriptor)) comes keeps covered =
-      of_store clients (tells h) (tells h') (λ o. HasAdded clients (λ f. group_plan clients f (record { name = name; major = major; descriptor = descriptor })) settling.Before (tells h) (tells h') out out' o × IsIdle input input') input input' out out' came (λ did. of_added clients (tells h) (tells h') _ _ out out' came did.0) comes
+      of_store clients (tells h) (tells h') (λ o.
+      HasAdded clients (λ f.
+      group_plan clients f (record { name = name; major = major; descriptor = descriptor }))
+      settling.Before (tells h) (tells h') out out' o × IsIdle input input') input
+      input' out out' came (λ did.
+      of_added clients (tells h) (tells h') _ _ out out' came did.0) comes
   undamaged (Do (command.Share contact group level)) comes keeps covered =
-      of_store clients (tells h) (tells h') (λ o. HasAdded clients (λ f. level_plan f contact group level) settling.Before (tells h) (tells h') out out' o × IsIdle input input') input input' out out' came (λ did. of_added clients (tells h) (tells h') _ _ out out' came did.0) comes
+      of_store clients (tells h) (tells h') (λ o.
+      HasAdded clients (λ f. level_plan f contact group level) settling.Before (tells h)
+      (tells h') out out' o × IsIdle input input') input input' out out' came (λ did.
+      of_added clients (tells h) (tells h') _ _ out out' came did.0) comes
   undamaged (Do (command.Post group timestamp)) comes keeps covered =
-      of_store clients (tells h) (tells h') (λ o. HasPosted clients group timestamp (tells h) (tells h') input input' out out' o) input input' out out' came
-      (λ did. of_posted clients (tells h) (tells h') group timestamp input input' out out' came did) comes
+      of_store clients (tells h) (tells h') (λ o.
+      HasPosted clients group timestamp (tells h) (tells h') input input' out out' o) input
+      input' out out' came
+      (λ did. of_posted clients (tells h) (tells h') group timestamp input input' out out' came did)
+      comes
   undamaged (Do command.Show) comes keeps covered =
-      of_store clients (tells h) (tells h') (λ o. HasLooked clients (listing_shown listing.Store) (tells h) (tells h') out out' o × IsIdle input input') input input' out out' came (λ did. of_looked clients (tells h) (tells h') _ out out' came did.0) comes
+      of_store clients (tells h) (tells h') (λ o.
+      HasLooked clients (listing_shown listing.Store) (tells h) (tells h') out out' o
+      × IsIdle input input') input input' out out' came (λ did.
+      of_looked clients (tells h) (tells h') _ out out' came did.0) comes
   undamaged (Do command.Inbox) comes keeps covered =
-      of_store clients (tells h) (tells h') (λ o. HasLooked clients (listing_shown listing.Inbox) (tells h) (tells h') out out' o × IsIdle input input') input input' out out' came (λ did. of_looked clients (tells h) (tells h') _ out out' came did.0) comes
+      of_store clients (tells h) (tells h') (λ o.
+      HasLooked clients (listing_shown listing.Inbox) (tells h) (tells h') out out' o
+      × IsIdle input input') input input' out out' came (λ did.
+      of_looked clients (tells h) (tells h') _ out out' came did.0) comes
   undamaged (Do (command.Body id)) comes keeps covered =
-      of_store clients (tells h) (tells h') (λ o. HasLooked clients (body_shown id) (tells h) (tells h') out out' o × IsIdle input input') input input' out out' came (λ did. of_looked clients (tells h) (tells h') _ out out' came did.0) comes
+      of_store clients (tells h) (tells h') (λ o.
+      HasLooked clients (body_shown id) (tells h) (tells h') out out' o
+      × IsIdle input input') input input' out out' came (λ did.
+      of_looked clients (tells h) (tells h') _ out out' came did.0) comes
   undamaged (Do (command.Tree group from count)) comes keeps covered =
       of_store clients (tells h) (tells h')
       (λ o. HasLooked clients
@@ -219,21 +313,32 @@ module _ {H : Type 0} (tells : H → Outside) (clients : Meaning) (h h' : H) (in
       out out' came (λ did. of_audited clients (tells h) (tells h') out out' came did.0) comes
   undamaged (Do (command.Say group timestamp join name major descriptor)) comes keeps covered =
       of_store clients (tells h) (tells h')
-      (λ o. HasAdded clients (say_plan clients (speech_of group timestamp join name major descriptor)) settling.BeforeAndAfter (tells h) (tells h') out out' o × IsIdle input input')
-      input input' out out' came (λ did. of_added clients (tells h) (tells h') _ _ out out' came did.0) comes
+      (λ o.
+      HasAdded clients (say_plan clients (speech_of group timestamp join name major descriptor))
+      settling.BeforeAndAfter (tells h) (tells h') out out' o × IsIdle input input')
+      input input' out out' came (λ did.
+      of_added clients (tells h) (tells h') _ _ out out' came did.0) comes
   undamaged (Do (command.Agree contact group)) comes keeps covered =
       of_store clients (tells h) (tells h')
       (λ o. HasAgreed clients contact group (tells h) (tells h') out out' o × IsIdle input input')
-      input input' out out' came (λ did. of_agreed clients (tells h) (tells h') contact group out out' came did.0) comes
+      input input' out out' came (λ did.
+      of_agreed clients (tells h) (tells h') contact group out out' came did.0) comes
   undamaged (Do command.Compact) comes keeps covered =
-      of_store clients (tells h) (tells h') (λ o. HasCompacted clients (tells h) (tells h') out out' o × IsIdle input input') input input' out out' came
+      of_store clients (tells h) (tells h') (λ o.
+      HasCompacted clients (tells h) (tells h') out out' o × IsIdle input input') input input'
+      out out' came
       (λ did. of_compacted clients (tells h) (tells h') out out' came did.0) comes
   undamaged (Do (command.MailboxIn contact)) comes keeps covered =
       of_store clients (tells h) (tells h')
       (λ o. HasTakenMail clients contact (tells h) (tells h') input input' out out' o)
-      input input' out out' came (λ did. of_taken clients (tells h) (tells h') contact input input' out out' came did) comes
+      input input' out out' came (λ did.
+      of_taken clients (tells h) (tells h') contact input input' out out' came did) comes
   undamaged (Do (command.MailboxOut contact latency count)) comes keeps covered =
       of_store clients (tells h) (tells h')
-      (λ o. HasSentMail clients (sending_of contact latency count) (tells h) (tells h') out out' o × IsIdle input input')
-      input input' out out' came (λ did. of_mailed clients (tells h) (tells h') (sending_of contact latency count) out out' came did.0) comes
-  undamaged (Do (command.Sync turns quiet links)) comes keeps covered = of_run clients (tells h) (tells h') links covered
+      (λ o. HasSentMail clients (sending_of contact latency count) (tells h) (tells h') out out' o
+      × IsIdle input input')
+      input input' out out' came (λ did.
+      of_mailed clients (tells h) (tells h') (sending_of contact latency count) out out' came
+      did.0) comes
+  undamaged (Do (command.Sync turns quiet links)) comes keeps covered =
+      of_run clients (tells h) (tells h') links covered

@@ -56,19 +56,31 @@ outcome_of ends.Clean = outcome.Done
 outcome_of (ends.Inside place) = outcome.Inside place
 outcome_of (ends.Bad place why) = outcome.Bad place why
 
--- What a command comes to that reads its whole input, by the bytes read, the text for their first MAX_INPUT bytes and how
--- the stream of these ends.
-abbrev pub InputComesTo : (input input' out out' : Stream) (read text : List ℕ) (end : Ending) → Outcome → Type 0
-InputComesTo input input' out out' read text end outcome.Done = ReadsWhole input input' read × (outcome_of end ≡ outcome.Done) × Appends out.bytes out'.bytes text
-InputComesTo input input' out out' read text end (outcome.Bad place why) = ReadsWhole input input' read × (outcome_of end ≡ outcome.Bad place why) × Appends out.bytes out'.bytes text
-InputComesTo input input' out out' read text end (outcome.Inside place) = ReadsWhole input input' read × (outcome_of end ≡ outcome.Inside place) × Appends out.bytes out'.bytes text
-InputComesTo input input' out out' read text end outcome.TooMuch = (length read ≡ MAX_INPUT + 1) × GetsText out out' text
-InputComesTo input input' out out' read text end outcome.ReadFault = CountRose input.faults input'.faults × (length read ≤ MAX_INPUT) × GetsText out out' text
-InputComesTo input input' out out' read text end outcome.WriteFault = CountRose out.faults out'.faults × ReadsWhole input input' read × GetsFront out out' text
+-- What a command comes to that reads its whole input, by the bytes read, the text for their first
+-- MAX_INPUT bytes and how the stream of these ends.
+abbrev pub InputComesTo : (input input' out out' : Stream) (read text : List ℕ) (end : Ending)
+    → Outcome → Type 0
+InputComesTo input input' out out' read text end outcome.Done =
+    ReadsWhole input input' read × (outcome_of end ≡ outcome.Done)
+    × Appends out.bytes out'.bytes text
+InputComesTo input input' out out' read text end (outcome.Bad place why) =
+    ReadsWhole input input' read × (outcome_of end ≡ outcome.Bad place why)
+    × Appends out.bytes out'.bytes text
+InputComesTo input input' out out' read text end (outcome.Inside place) =
+    ReadsWhole input input' read × (outcome_of end ≡ outcome.Inside place)
+    × Appends out.bytes out'.bytes text
+InputComesTo input input' out out' read text end outcome.TooMuch =
+    (length read ≡ MAX_INPUT + 1) × GetsText out out' text
+InputComesTo input input' out out' read text end outcome.ReadFault =
+    CountRose input.faults input'.faults × (length read ≤ MAX_INPUT) × GetsText out out' text
+InputComesTo input input' out out' read text end outcome.WriteFault =
+    CountRose out.faults out'.faults × ReadsWhole input input' read × GetsFront out out' text
 InputComesTo input input' out out' read text end _ = ⊥
 
--- a command read these bytes, and its text is what is told of the items of their first MAX_INPUT bytes
-pub record ReadsStream (told : List Item → List ℕ → Type 0) (input input' out out' : Stream) (came : Outcome) : Type 0 where
+-- a command read these bytes, and its text is what is told of the items of their first MAX_INPUT
+-- bytes
+pub record ReadsStream (told : List Item → List ℕ → Type 0) (input input' out out' : Stream)
+    (came : Outcome) : Type 0 where
   pub read : List ℕ
   pub text : List ℕ
   pub consumed : Consumes input.bytes input'.bytes read
@@ -76,14 +88,16 @@ pub record ReadsStream (told : List Item → List ℕ → Type 0) (input input' 
   pub ended : InputComesTo input input' out out' read text (ending 0 (take MAX_INPUT read)) came
 
 -- memory may be wanting while the input is read, and then nothing was written
-abbrev pub Streams : (List Item → List ℕ → Type 0) → (input input' out out' : Stream) → Outcome → Type 0
+abbrev pub Streams : (List Item → List ℕ → Type 0) → (input input' out out' : Stream) → Outcome
+    → Type 0
 Streams told input input' out out' outcome.Memory = IsIdle out out'
 Streams told input input' out out' came = ReadsStream told input input' out out' came
 
 -- what the writing of the text comes to, by why the reading stopped and how the stream ends
 abbrev pub PrintEnds : Stop → Ending → (text : List ℕ) (out out' : Stream) → Outcome → Type 0
 PrintEnds stop.End end text out out' came =
-    ((came ≡ outcome_of end) × Appends out.bytes out'.bytes text) ⊎ ((came ≡ outcome.WriteFault) × CountRose out.faults out'.faults × GetsFront out out' text)
+    ((came ≡ outcome_of end) × Appends out.bytes out'.bytes text)
+    ⊎ ((came ≡ outcome.WriteFault) × CountRose out.faults out'.faults × GetsFront out out' text)
 PrintEnds stop.TooMuch end text out out' outcome.TooMuch = GetsText out out' text
 PrintEnds stop.TooMuch end text out out' _ = ⊥
 PrintEnds stop.ReadFault end text out out' outcome.ReadFault = GetsText out out' text
@@ -94,42 +108,55 @@ abbrev pub UntouchedStreams : Stream → Stream → Stream → Stream → Type 0
 UntouchedStreams input input' out out' = IsIdle input input' × IsIdle out out'
 
 -- a played journal was finished, and its text written
-pub record PlayPrinted (play : Played) (why : Stop) (end : Ending) (out out' : Stream) (came : Outcome) : Type 0 where
+pub record PlayPrinted (play : Played) (why : Stop) (end : Ending) (out out' : Stream)
+    (came : Outcome) : Type 0 where
   pub text : List ℕ
-  pub is : (clients : Meaning) (def : GroupValue) (records : List Record) → HasPlayed clients def records play → IsTextOf clients def records text
+  pub is : (clients : Meaning) (def : GroupValue) (records : List Record)
+      → HasPlayed clients def records play → IsTextOf clients def records text
   pub printed : PrintEnds why end text out out' came
 
 -- what the writing of a played journal comes to; memory may be wanting for its text
 abbrev pub PrintsPlay : Played → Stop → Ending → (out out' : Stream) → Outcome → Type 0
-PrintsPlay play why end out out' came = ((came ≡ outcome.Memory) × IsIdle out out') ⊎ PlayPrinted play why end out out' came
+PrintsPlay play why end out out' came =
+    ((came ≡ outcome.Memory) × IsIdle out out') ⊎ PlayPrinted play why end out out' came
 
--- `try` by whether its client is known: its text is that of a journal of the group that takes the records, settling after each
-abbrev pub TriesClient : Meaning → (name descriptor : List ℕ) → Option ℕ → (input input' out out' : Stream) → Outcome → Type 0
-TriesClient clients name descriptor None input input' out out' (outcome.Refused refused.UnknownClient) = UntouchedStreams input input' out out'
+-- `try` by whether its client is known: its text is that of a journal of the group that takes the
+-- records, settling after each
+abbrev pub TriesClient : Meaning → (name descriptor : List ℕ) → Option ℕ
+    → (input input' out out' : Stream) → Outcome → Type 0
+TriesClient clients name descriptor None input input' out out'
+    (outcome.Refused refused.UnknownClient) = UntouchedStreams input input' out out'
 TriesClient clients name descriptor None input input' out out' outcome.Memory = IsIdle out out'
 TriesClient clients name descriptor None input input' out out' _ = ⊥
 TriesClient clients name descriptor (Some kind) input input' out out' came =
-    Streams (λ items text. IsTextOf clients (record { name = name; major = 0; descriptor = descriptor }) (records_of items) text) input input' out out' came
+    Streams (λ items text.
+    IsTextOf clients (record { name = name; major = 0; descriptor = descriptor })
+    (records_of items) text) input input' out out' came
 
 -- faulty words come to their place; nothing was read or written
 abbrev pub Faulty : ℕ → (input input' out out' : Stream) → Outcome → Type 0
-Faulty place input input' out out' (outcome.Usage at) = (at ≡ place) × UntouchedStreams input input' out out'
+Faulty place input input' out out' (outcome.Usage at) =
+    (at ≡ place) × UntouchedStreams input input' out out'
 Faulty place input input' out out' outcome.Memory = IsIdle out out'
 Faulty place input input' out out' _ = ⊥
 
 -- no call was made on the disk but such as leave it as it was, and nothing was read or written
 pub record DoesNothing (old new : Outside) (input input' out out' : Stream) : Type 0 where
   pub run : DiskRun old new
-  pub rests : (two : Two File) → old.files ≡ Some two → LeavesFilesSo (λ two'. read_files two' ≡ read_files two) two old new
+  pub rests : (two : Two File) → old.files ≡ Some two → LeavesFilesSo
+      (λ two'. read_files two' ≡ read_files two) two old new
   pub untouched : UntouchedStreams input input' out out'
 
--- a command of a store came to what it should; or memory was wanting before it was begun, and nothing was done
-abbrev pub ComesOfStore : (Outcome → Type 0) → (old new : Outside) → (input input' out out' : Stream) → Outcome → Type 0
+-- a command of a store came to what it should; or memory was wanting before it was begun, and
+-- nothing was done
+abbrev pub ComesOfStore : (Outcome → Type 0) → (old new : Outside)
+    → (input input' out out' : Stream) → Outcome → Type 0
 ComesOfStore did old new input input' out out' came =
     did came ⊎ ((came ≡ outcome.Memory) × DoesNothing old new input input' out out')
 
 -- what the words of `say` say
-abbrev pub speech_of : (group : List ℕ) (timestamp : ℕ) (join : Bool) (name : List ℕ) (major : ℕ) (descriptor : List ℕ) → Speech
+abbrev pub speech_of : (group : List ℕ) (timestamp : ℕ) (join : Bool) (name : List ℕ) (major : ℕ)
+    (descriptor : List ℕ) → Speech
 speech_of group timestamp join name major descriptor = record {
   group = group;
   timestamp = timestamp;
@@ -142,55 +169,82 @@ abbrev pub sending_of : (contact latency count : ℕ) → Sending
 sending_of contact latency count = record { contact = contact; latency = latency; count = count }
 
 -- what the words ask for, and what it comes to
-abbrev pub WordsComeTo : Meaning → Asked → (old new : Outside) → (input input' out out' : Stream) → Outcome → Type 0
-WordsComeTo clients (Usage place) old new input input' out out' came = Faulty place input input' out out' came
+abbrev pub WordsComeTo : Meaning → Asked → (old new : Outside) → (input input' out out' : Stream)
+    → Outcome → Type 0
+WordsComeTo clients (Usage place) old new input input' out out' came =
+    Faulty place input input' out out' came
 WordsComeTo clients (Do (command.Try name descriptor)) old new input input' out out' came =
     TriesClient clients name descriptor (clients.kind_of name 0) input input' out out' came
-WordsComeTo clients (Do command.Records) old new input input' out out' came = Streams (λ items text. text ≡ items_text items) input input' out out' came
+WordsComeTo clients (Do command.Records) old new input input' out out' came =
+    Streams (λ items text. text ≡ items_text items) input input' out out' came
 WordsComeTo clients (Do command.Init) old new input input' out out' came =
-    ComesOfStore (λ did. HasBegun old new out out' did × IsIdle input input') old new input input' out out' came
+    ComesOfStore (λ did. HasBegun old new out out' did × IsIdle input input') old new input input'
+    out out' came
 WordsComeTo clients (Do command.Contact) old new input input' out out' came =
-    ComesOfStore (λ did. HasAdded clients contact_plan settling.Before old new out out' did × IsIdle input input') old new input input' out out' came
+    ComesOfStore (λ did. HasAdded clients contact_plan settling.Before old new out out' did
+    × IsIdle input input') old new input input' out out' came
 WordsComeTo clients (Do (command.Group name major descriptor)) old new input input' out out' came =
-    ComesOfStore (λ did. HasAdded clients (λ f. group_plan clients f (record { name = name; major = major; descriptor = descriptor })) settling.Before old new out out' did × IsIdle input input') old new input input' out out' came
+    ComesOfStore (λ did.
+    HasAdded clients (λ f.
+    group_plan clients f (record { name = name; major = major; descriptor = descriptor }))
+    settling.Before old new out out' did × IsIdle input input') old new input input' out
+    out' came
 WordsComeTo clients (Do (command.Share contact group level)) old new input input' out out' came =
-    ComesOfStore (λ did. HasAdded clients (λ f. level_plan f contact group level) settling.Before old new out out' did × IsIdle input input') old new input input' out out' came
+    ComesOfStore (λ did.
+    HasAdded clients (λ f. level_plan f contact group level) settling.Before old new out out'
+    did × IsIdle input input') old new input input' out out' came
 WordsComeTo clients (Do (command.Post group timestamp)) old new input input' out out' came =
-    ComesOfStore (λ did. HasPosted clients group timestamp old new input input' out out' did) old new input input' out out' came
+    ComesOfStore (λ did. HasPosted clients group timestamp old new input input' out out' did) old
+    new input input' out out' came
 WordsComeTo clients (Do command.Show) old new input input' out out' came =
-    ComesOfStore (λ did. HasLooked clients (listing_shown listing.Store) old new out out' did × IsIdle input input') old new input input' out out' came
+    ComesOfStore (λ did. HasLooked clients (listing_shown listing.Store) old new out out' did
+    × IsIdle input input') old new input input' out out' came
 WordsComeTo clients (Do command.Inbox) old new input input' out out' came =
-    ComesOfStore (λ did. HasLooked clients (listing_shown listing.Inbox) old new out out' did × IsIdle input input') old new input input' out out' came
+    ComesOfStore (λ did. HasLooked clients (listing_shown listing.Inbox) old new out out' did
+    × IsIdle input input') old new input input' out out' came
 WordsComeTo clients (Do (command.Body id)) old new input input' out out' came =
-    ComesOfStore (λ did. HasLooked clients (body_shown id) old new out out' did × IsIdle input input') old new input input' out out' came
+    ComesOfStore (λ did. HasLooked clients (body_shown id) old new out out' did
+    × IsIdle input input') old new input input' out out' came
 WordsComeTo clients (Do (command.Tree group from count)) old new input input' out out' came =
     ComesOfStore (λ did. HasLooked clients
     (tree_shown clients (record { group = group; from = from; count = count })) old new out out'
     did × IsIdle input input') old new input input'
     out out' came
 WordsComeTo clients (Do command.Audit) old new input input' out out' came =
-    ComesOfStore (λ did. HasAudited clients old new out out' did × IsIdle input input') old new input
+    ComesOfStore (λ did. HasAudited clients old new out out' did × IsIdle input input') old new
+    input
     input' out out' came
-WordsComeTo clients (Do (command.Say group timestamp join name major descriptor)) old new input input' out out' came =
-    ComesOfStore (λ did. HasAdded clients (say_plan clients (speech_of group timestamp join name major descriptor)) settling.BeforeAndAfter old new out out' did × IsIdle input input') old new input input' out out' came
+WordsComeTo clients (Do (command.Say group timestamp join name major descriptor)) old new input
+    input' out out' came =
+    ComesOfStore (λ did.
+    HasAdded clients (say_plan clients (speech_of group timestamp join name major descriptor))
+    settling.BeforeAndAfter old new out out' did × IsIdle input input') old new input input'
+    out out' came
 WordsComeTo clients (Do (command.Agree contact group)) old new input input' out out' came =
-    ComesOfStore (λ did. HasAgreed clients contact group old new out out' did × IsIdle input input') old new input input' out out' came
+    ComesOfStore (λ did. HasAgreed clients contact group old new out out' did
+    × IsIdle input input') old new input input' out out' came
 WordsComeTo clients (Do command.Compact) old new input input' out out' came =
-    ComesOfStore (λ did. HasCompacted clients old new out out' did × IsIdle input input') old new input input' out out' came
+    ComesOfStore (λ did. HasCompacted clients old new out out' did × IsIdle input input') old new
+    input input' out out' came
 WordsComeTo clients (Do (command.MailboxIn contact)) old new input input' out out' came =
-    ComesOfStore (λ did. HasTakenMail clients contact old new input input' out out' did) old new input input' out out' came
-WordsComeTo clients (Do (command.MailboxOut contact latency count)) old new input input' out out' came =
-    ComesOfStore (λ did. HasSentMail clients (sending_of contact latency count) old new out out' did × IsIdle input input')
+    ComesOfStore (λ did. HasTakenMail clients contact old new input input' out out' did) old new
+    input input' out out' came
+WordsComeTo clients (Do (command.MailboxOut contact latency count)) old new input input' out out'
+    came =
+    ComesOfStore (λ did. HasSentMail clients (sending_of contact latency count) old new out out' did
+    × IsIdle input input')
     old new input input' out out' came
 WordsComeTo clients (Do (command.Sync turns quiet links)) old new input input' out out' came =
-    ComesOfStore (λ did. HasRun clients (record { turns = turns; quiet = quiet }) links old new did × UntouchedStreams input input' out out') old new input input' out out' came
+    ComesOfStore (λ did. HasRun clients (record { turns = turns; quiet = quiet }) links old new did
+    × UntouchedStreams input input' out out') old new input input' out out' came
 
 -- the words ask for a run of sessions
 abbrev pub AsksSync : Asked → Type 0
 AsksSync (Do (command.Sync turns quiet links)) = Unit {0}
 AsksSync _ = ⊥
 
--- Whatever the links bring, whatever call fails and whenever the device stops, each moment of a run of sessions is covered.
+-- Whatever the links bring, whatever call fails and whenever the device stops, each moment of a run
+-- of sessions is covered.
 abbrev pub Covered : Meaning → Asked → (old new : Outside) → Type 0
 Covered clients (Do (command.Sync turns quiet links)) old new = Headline clients links old new
 Covered clients _ old new = Unit {0}
@@ -206,8 +260,10 @@ KeepsHost (Do _) old new = Unit {0}
 abbrev pub ReportsOutcome : Outcome → (err err' : Stream) → Status → Type 0
 ReportsOutcome came err err' given = (given ≡ status_of came) × GetsText err err' (text_of came)
 
--- a run of a command: what the words ask for came to an outcome, and the status and the error output tell it
-pub record Ran (clients : Meaning) (words : Asked) (old new : Outside) (input input' out out' err err' : Stream) (given : Status) : Type 0 where
+-- a run of a command: what the words ask for came to an outcome, and the status and the error
+-- output tell it
+pub record Ran (clients : Meaning) (words : Asked) (old new : Outside)
+    (input input' out out' err err' : Stream) (given : Status) : Type 0 where
   pub came : Outcome
   pub comes : WordsComeTo clients words old new input input' out out' came
   pub reports : ReportsOutcome came err err' given

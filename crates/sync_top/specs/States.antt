@@ -1,5 +1,5 @@
--- What `try` tells of the messages of its group where its whole text was written: the state of each, by rounds over the
--- messages and their verdicts alone.
+-- What `try` tells of the messages of its group where its whole text was written: the state of
+-- each, by rounds over the messages and their verdicts alone.
 use Rattle.std.specs.Prelude.{ℕ, List, Option, Some, None}
 use Rattle.std.specs.Io.KnownBytes.{Consumes, Appends}
 use Rattle.record_grammar.specs.Stream.{records}
@@ -15,9 +15,10 @@ use Rattle.commands.specs.Reading.{Asked}
 use Rattle.commands.specs.Reading.Asked.{Usage, Do}
 use Rattle.commands.specs.declared.command.Command.TheVariants as command
 
--- the input was read to its end, and the output got a text that says the state of each message which the records of the
--- bytes read bring to the group, whose client has this kind
-pub record TellsStates (clients : Meaning) (kind : ℕ) (def : GroupValue) (input input' out out' : Stream) : Type 0 where
+-- the input was read to its end, and the output got a text that says the state of each message
+-- which the records of the bytes read bring to the group, whose client has this kind
+pub record TellsStates (clients : Meaning) (kind : ℕ) (def : GroupValue)
+    (input input' out out' : Stream) : Type 0 where
   pub read : List ℕ
   pub text : List ℕ
   pub consumed : Consumes input.bytes input'.bytes read
@@ -26,13 +27,18 @@ pub record TellsStates (clients : Meaning) (kind : ℕ) (def : GroupValue) (inpu
   pub written : Appends out.bytes out'.bytes text
 
 -- the client of the name is known, and the states in the group of this descriptor are told
-abbrev pub TellsGroup : Meaning → (name descriptor : List ℕ) → Option ℕ → (input input' out out' : Stream) → Type 0
+abbrev pub TellsGroup : Meaning → (name descriptor : List ℕ) → Option ℕ
+    → (input input' out out' : Stream) → Type 0
 TellsGroup clients name descriptor None input input' out out' = ⊥
 TellsGroup clients name descriptor (Some kind) input input' out out' =
-    TellsStates clients kind (record { name = name; major = 0; descriptor = descriptor }) input input' out out'
+    TellsStates clients kind (record { name = name; major = 0; descriptor = descriptor }) input
+    input' out out'
 
--- `try` tells the states where it answers that all was done or that the input is no stream of records
+-- `try` tells the states where it answers that all was done or that the input is no stream of
+-- records
 abbrev pub TellsWhole : Meaning → Asked → (input input' out out' : Stream) → Status → Type 0
-TellsWhole clients (Do (command.Try name descriptor)) input input' out out' status.Done = TellsGroup clients name descriptor (clients.kind_of name 0) input input' out out'
-TellsWhole clients (Do (command.Try name descriptor)) input input' out out' status.BadStream = TellsGroup clients name descriptor (clients.kind_of name 0) input input' out out'
+TellsWhole clients (Do (command.Try name descriptor)) input input' out out' status.Done =
+    TellsGroup clients name descriptor (clients.kind_of name 0) input input' out out'
+TellsWhole clients (Do (command.Try name descriptor)) input input' out out' status.BadStream =
+    TellsGroup clients name descriptor (clients.kind_of name 0) input input' out out'
 TellsWhole clients words input input' out out' given = Unit {0}

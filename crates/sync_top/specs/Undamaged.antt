@@ -15,16 +15,19 @@ pub record StandsForSome (clients : Meaning) (files : Two (List ℕ)) : Type 0 w
   pub of : List (List Entry)
   pub stands_for : stands clients files ≡ journal of
 
--- If whatever a crash might have left at the start stands for a journal, so does whatever it might leave at any moment of the run.
+-- If whatever a crash might have left at the start stands for a journal, so does whatever it might
+-- leave at any moment of the run.
 abbrev pub Undamaged : Meaning → (old new : Outside) → Type 0
 Undamaged clients old new =
-    (two : Two File) → old.files ≡ Some two → ((left : Two (List ℕ)) → IsImage two left → StandsForSome clients left)
+    (two : Two File) → old.files ≡ Some two
+    → ((left : Two (List ℕ)) → IsImage two left → StandsForSome clients left)
     → MomentsAre old new (λ m. StandsForSome clients m.files)
 
 -- the same of a run of sessions, where its links are told too
 abbrev pub RunUndamaged : Meaning → (old new : Outside) → Type 0
 RunUndamaged clients old new =
-    (two : Two File) → old.files ≡ Some two → ((left : Two (List ℕ)) → IsImage two left → StandsForSome clients left)
+    (two : Two File) → old.files ≡ Some two
+    → ((left : Two (List ℕ)) → IsImage two left → StandsForSome clients left)
     → TellsAll new → (m : Moment) → new.moments old.clock m → StandsForSome clients m.files
 
 abbrev pub NeverDamaged : Meaning → Asked → (old new : Outside) → Type 0

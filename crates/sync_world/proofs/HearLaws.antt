@@ -13,16 +13,27 @@ use Rattle.world_laws.specs.Worlds.{End}
 use Rattle.sync_world.specs.Cited.{RecordLaws}
 use Rattle.sync_world.specs.Shown.{ShowsEnd}
 
-pub front_records : RecordLaws → (rs : List Record) (bytes : List ℕ) (r : Record) → AllByRecursion IsRecord rs → IsFront bytes (spelled rs) → In r (records bytes) → In r rs
+pub front_records : RecordLaws → (rs : List Record) (bytes : List ℕ) (r : Record)
+    → AllByRecursion IsRecord rs → IsFront bytes (spelled rs) → In r (records bytes) → In r rs
 front_records laws rs bytes r within front inside =
-    let cut : (later : List Record) × (records (bytes ++ front.rest) ≡ records bytes ++ later) = laws.fronts bytes front.rest in
-    let parts : rs ≡ records bytes ++ cut.0 = sym (laws.streams rs within).1 ∙ (ap records front.whole ∙ cut.1) in
+    let cut : (later : List Record) × (records (bytes ++ front.rest) ≡ records bytes ++ later) =
+    laws.fronts bytes front.rest in
+    let parts : rs ≡ records bytes ++ cut.0 = sym (laws.streams rs within).1
+    ∙ (ap records front.whole ∙ cut.1) in
     subst (In r) (sym parts) (In-append_left r (records bytes) cut.0 inside)
 
-pub given_front_records : RecordLaws → (e : EndValue) (x : End) (bytes : List ℕ) (r : Record) → ShowsEnd e x → IsFront bytes e.given → In r (records bytes) → In r x.given
+pub given_front_records : RecordLaws → (e : EndValue) (x : End) (bytes : List ℕ) (r : Record)
+    → ShowsEnd e x → IsFront bytes e.given → In r (records bytes) → In r x.given
 given_front_records laws e x bytes r s front inside =
-    front_records laws x.given bytes r s.given_within (record { rest = front.rest; whole = sym s.given ∙ front.whole }) inside
+    front_records laws x.given bytes r s.given_within (record {
+      rest = front.rest;
+      whole = sym s.given ∙ front.whole;
+    }) inside
 
-pub given_records : RecordLaws → (e : EndValue) (x : End) (n : ℕ) (r : Record) → ShowsEnd e x → In r (records (take n e.given)) → In r x.given
+pub given_records : RecordLaws → (e : EndValue) (x : End) (n : ℕ) (r : Record) → ShowsEnd e x
+    → In r (records (take n e.given)) → In r x.given
 given_records laws e x n r s inside =
-    given_front_records laws e x (take n e.given) r s (record { rest = drop n e.given; whole = sym (take-append-drop n e.given) }) inside
+    given_front_records laws e x (take n e.given) r s (record {
+      rest = drop n e.given;
+      whole = sym (take-append-drop n e.given);
+    }) inside

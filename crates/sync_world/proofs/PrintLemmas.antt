@@ -15,7 +15,8 @@ pub idle : (s : Stream) → IsIdle s s
 idle s = record { same = refl; same_faults = refl }
 
 -- a world that was not played to its end prints nothing
-pub unplayed : (what : Opening) (came : Outcome) (out : Stream) → ScriptComes what (Err came) → PlaysOut what out out came
+pub unplayed : (what : Opening) (came : Outcome) (out : Stream) → ScriptComes what (Err came)
+    → PlaysOut what out out came
 unplayed (Bad line) outcome.Done out comes = absurd comes
 unplayed (Opens devices course) outcome.Done out comes = absurd comes
 unplayed (Bad line) outcome.WriteFault out comes = absurd comes
@@ -38,17 +39,22 @@ unplayed what outcome.TooMuch out comes = (comes, idle out)
 unplayed what (outcome.BadScript line) out comes = (comes, idle out)
 
 -- a world that was played to its end is printed
-pub played : (what : Opening) (to : Player) (came : Outcome) (out out' : Stream) → ScriptComes what (Ok to) → PrintsWorld to out out' came → PlaysOut what out out' came
-played what to outcome.Done out out' comes prints = record { to = to; played = comes; printed = prints }
-played what to outcome.WriteFault out out' comes prints = record { to = to; played = comes; printed = prints }
+pub played : (what : Opening) (to : Player) (came : Outcome) (out out' : Stream) → ScriptComes what
+    (Ok to) → PrintsWorld to out out' came → PlaysOut what out out' came
+played what to outcome.Done out out' comes prints =
+    record { to = to; played = comes; printed = prints }
+played what to outcome.WriteFault out out' comes prints =
+    record { to = to; played = comes; printed = prints }
 played what to outcome.Memory out out' comes prints = prints
 played what to _ out out' comes prints = absurd prints
 
 -- words that were not read
-pub misread : (words : Wanted) (result : Result (Unit {0}) Outcome) (came : Outcome) (input out : Stream) → IsErrAnd result (λ o. o ≡ came) → Err came ≡ answer_of words
+pub misread : (words : Wanted) (result : Result (Unit {0}) Outcome) (came : Outcome)
+    (input out : Stream) → IsErrAnd result (λ o. o ≡ came) → Err came ≡ answer_of words
     → ReplaysWords words input input out out (came_to result)
 misread words (Ok u) came input out is asked = absurd is
 misread (Wrong place) (Err o) came input out is asked =
     let named : came ≡ outcome.Usage place = cc in
-    subst (λ (p : Outcome). ReplaysWords (Wrong place) input input out out p) (sym (is ∙ named)) (refl, idle input, idle out)
+    subst (λ (p : Outcome). ReplaysWords (Wrong place) input input out out p) (sym (is ∙ named))
+    (refl, idle input, idle out)
 misread (Wants what) (Err o) came input out is asked = absurd cc

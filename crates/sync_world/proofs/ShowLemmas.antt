@@ -1,11 +1,13 @@
 -- Messages counted one by one, and lines added device by device.
-use Rattle.std.proofs.Common.{◌≡◌, ℕ, zero, suc, ◌+◌, List, [], ◌∷◌, take, sym, ap, ◌∙◌, add-one, arith, Option, Some}
+use Rattle.std.proofs.Common.{◌≡◌, ℕ, zero, suc, ◌+◌, List, [], ◌∷◌, take, sym, ap, ◌∙◌, add-one}
+use Rattle.std.proofs.Common.{arith, Option, Some}
 use Rattle.std.specs.Prelude.{option_map, slice_get}
 use Rattle.sync_rules.specs.Facts.{Facts, Held}
 use Rattle.sync_rules.specs.Steps.{fate_held}
 use Rattle.sync_rules.specs.declared.states.Fate.{Fate}
 use Rattle.sync_rules.specs.declared.states.Fate.TheVariants as fate
-use Rattle.sync_world.specs.Showing.{AddsDevice, CountsOne, HasCounted, count_in, facts_of, is_marked, lines_below, lines_then, one_if}
+use Rattle.sync_world.specs.Showing.{AddsDevice, CountsOne, HasCounted, count_in, facts_of}
+use Rattle.sync_world.specs.Showing.{is_marked, lines_below, lines_then, one_if}
 use Rattle.sync_world.specs.declared.player.Player.{Player}
 use Rattle.sync_world.specs.declared.player.States.{States}
 
@@ -13,36 +15,52 @@ use Rattle.sync_world.specs.declared.player.States.{States}
 abbrev pub fate_at : Facts → List Held → ℕ → Option Fate
 fate_at f held n = option_map (λ (h : Held). fate_held f h.id) (slice_get held n)
 
-count_suc : (f : Facts) (state given : Fate) (held : List Held) (n : ℕ) → fate_at f held n ≡ Some given
+count_suc : (f : Facts) (state given : Fate) (held : List Held) (n : ℕ)
+    → fate_at f held n ≡ Some given
     → count_in f state (take (suc n) held) ≡ count_in f state (take n held) + one_if state given
 unfolding count_in
 count_suc f state given [] n is = absurd cc
 count_suc f state given (h ∷ held) zero is =
     let same : fate_held f h.id ≡ given = cc in
-    let one : one_if state (fate_held f h.id) ≡ one_if state given = ap (λ (x : Fate). one_if state x) same in
+    let one : one_if state (fate_held f h.id) ≡ one_if state given =
+    ap (λ (x : Fate). one_if state x) same in
     omega (arith, one)
 count_suc f state given (h ∷ held) (suc n) is =
     let more = count_suc f state given held n is in
     omega (arith, more)
 
-count_more : (f : Facts) (state given : Fate) (held : List Held) (n : ℕ) → fate_at f held n ≡ Some given
+count_more : (f : Facts) (state given : Fate) (held : List Held) (n : ℕ)
+    → fate_at f held n ≡ Some given
     → count_in f state (take (n + 1) held) ≡ count_in f state (take n held) + one_if state given
 count_more f state given held n is = rw add-one (count_suc f state given held n is)
 
-pub counted_more : (f : Facts) (held : List Held) (n : ℕ) (given : Fate) (old new : States) → fate_at f held n ≡ Some given → HasCounted f (take n held) old
+pub counted_more : (f : Facts) (held : List Held) (n : ℕ) (given : Fate) (old new : States)
+    → fate_at f held n ≡ Some given → HasCounted f (take n held) old
     → CountsOne given old new → HasCounted f (take (n + 1) held) new
 counted_more f held n given old new is counted one = record {
-  delivered = one.delivered ∙ ap (λ (k : ℕ). k + one_if fate.Delivered given) counted.delivered ∙ sym (count_more f fate.Delivered given held n is);
-  invalid = one.invalid ∙ ap (λ (k : ℕ). k + one_if fate.Invalid given) counted.invalid ∙ sym (count_more f fate.Invalid given held n is);
-  pending = one.pending ∙ ap (λ (k : ℕ). k + one_if fate.Pending given) counted.pending ∙ sym (count_more f fate.Pending given held n is);
-  unknown = one.unknown ∙ ap (λ (k : ℕ). k + one_if fate.Unknown given) counted.unknown ∙ sym (count_more f fate.Unknown given held n is);
+  delivered =
+      one.delivered ∙ ap (λ (k : ℕ). k + one_if fate.Delivered given) counted.delivered
+      ∙ sym (count_more f fate.Delivered given held n is);
+  invalid =
+      one.invalid ∙ ap (λ (k : ℕ). k + one_if fate.Invalid given) counted.invalid
+      ∙ sym (count_more f fate.Invalid given held n is);
+  pending =
+      one.pending ∙ ap (λ (k : ℕ). k + one_if fate.Pending given) counted.pending
+      ∙ sym (count_more f fate.Pending given held n is);
+  unknown =
+      one.unknown ∙ ap (λ (k : ℕ). k + one_if fate.Unknown given) counted.unknown
+      ∙ sym (count_more f fate.Unknown given held n is);
 }
 
-lines_suc : (p : Player) (n : ℕ) (old new : List ℕ) → lines_below p.shown p.world.devices.items n ≡ Some old → AddsDevice p n old new
+lines_suc : (p : Player) (n : ℕ) (old new : List ℕ)
+    → lines_below p.shown p.world.devices.items n ≡ Some old → AddsDevice p n old new
     → lines_below p.shown p.world.devices.items (suc n) ≡ Some new
 lines_suc p n old new below adds =
-    ap (λ (o : Option (List ℕ)). lines_then o n (is_marked (slice_get p.shown n)) (facts_of (slice_get p.world.devices.items n))) below ∙ adds
+    ap (λ (o : Option (List ℕ)).
+    lines_then o n (is_marked (slice_get p.shown n))
+    (facts_of (slice_get p.world.devices.items n))) below ∙ adds
 
-pub lines_more : (p : Player) (n : ℕ) (old new : List ℕ) → lines_below p.shown p.world.devices.items n ≡ Some old → AddsDevice p n old new
+pub lines_more : (p : Player) (n : ℕ) (old new : List ℕ)
+    → lines_below p.shown p.world.devices.items n ≡ Some old → AddsDevice p n old new
     → lines_below p.shown p.world.devices.items (n + 1) ≡ Some new
 lines_more p n old new below adds = rw add-one (lines_suc p n old new below adds)

@@ -1,5 +1,6 @@
 -- What the words ask for. Words are counted from 0 and read from left to right.
-use Rattle.std.specs.Prelude.{ℕ, ◌-◌, ◌^◌, ◌≤◌, if◌then◌else◌, List, [], ◌∷◌, Option, Some, None, codes, Result, Ok, Err}
+use Rattle.std.specs.Prelude.{ℕ, ◌-◌, ◌^◌, ◌≤◌, if◌then◌else◌, List, [], ◌∷◌, Option, Some, None}
+use Rattle.std.specs.Prelude.{codes, Result, Ok, Err}
 use Rattle.std.specs.Str.{bytes_eq}
 use Rattle.sync_words.specs.Words.{number_in}
 use Rattle.sync_words.specs.declared.outcome.Outcome.{Outcome}
@@ -14,7 +15,8 @@ abbrev pub IsWorldWithin : Asked → Type 0
 IsWorldWithin asked.Script = Unit {0}
 IsWorldWithin (asked.Generated seed count) = count ≤ MAX_POSTS
 
--- what is to be played, or the place of the first word that is wrong or too many, or the number of words where one is missing
+-- what is to be played, or the place of the first word that is wrong or too many, or the number of
+-- words where one is missing
 pub data Wanted : Type 0 where
   Wrong : ℕ → Wanted
   Wants : Asked → Wanted
@@ -32,12 +34,15 @@ wants what place (word ∷ words) = Wrong place
 -- COUNT, from 1 on, and no word behind it
 abbrev pub count_asked : (seed : ℕ) → List (List ℕ) → Wanted
 count_asked seed [] = Wrong 2
-count_asked seed (word ∷ words) = read_or_wrong (number_between 1 MAX_POSTS word) 2 (λ count. wants (asked.Generated seed count) 3 words)
+count_asked seed (word ∷ words) =
+    read_or_wrong (number_between 1 MAX_POSTS word) 2 (λ count.
+    wants (asked.Generated seed count) 3 words)
 
 -- SEED and COUNT
 abbrev pub world_asked : List (List ℕ) → Wanted
 world_asked [] = Wrong 1
-world_asked (word ∷ words) = read_or_wrong (number_in (2 ^ 64 - 1) word) 1 (λ seed. count_asked seed words)
+world_asked (word ∷ words) =
+    read_or_wrong (number_in (2 ^ 64 - 1) word) 1 (λ seed. count_asked seed words)
 
 -- what all words ask for: none the script, `gen SEED COUNT` a world that is made from a seed
 abbrev pub asks : List (List ℕ) → Wanted

@@ -1,5 +1,6 @@
 -- What becomes of a link by a step: the link afterwards, or nothing where the step is refused.
-use Rattle.std.specs.Prelude.{◌≡◌, ℕ, if◌then◌else◌, List, Option, Some, None, Result, Ok, Err, slice_get, slice_set}
+use Rattle.std.specs.Prelude.{◌≡◌, ℕ, if◌then◌else◌, List, Option, Some, None, Result, Ok, Err}
+use Rattle.std.specs.Prelude.{slice_get, slice_set}
 use Rattle.world_devices.specs.declared.stop.StepFault.{StepFault}
 use Rattle.world_devices.specs.declared.stop.StepFault.TheVariants as fault
 use Rattle.world_links.specs.declared.link.Link.{Link}
@@ -12,10 +13,12 @@ use Rattle.world_devices.specs.Devices.{DeviceValue}
 use Rattle.world_scripts.specs.declared.step.WorldStep.{WorldStep}
 use Rattle.world_scripts.specs.declared.step.WorldStep.TheVariants as step
 
--- the first records in flight from a device move, where the link is there, the device stands at it, and there is what moves
+-- the first records in flight from a device move, where the link is there, the device stands at it,
+-- and there is what moves
 abbrev pub moved_from : Move → Link → Option Side → Option Link
 moved_from how l None = None
-moved_from how l (Some side) = if is_possible how (end_of side l).flight then Some (moved how side l) else None
+moved_from how l (Some side) =
+    if is_possible how (end_of side l).flight then Some (moved how side l) else None
 
 abbrev pub link_moved : Move → ℕ → Option Link → Option Link
 link_moved how device None = None
@@ -27,7 +30,8 @@ link_cut None = None
 link_cut (Some l) = if l.is_cut then None else Some (cut l)
 
 -- the links after a step that makes this of one of them: refused exactly where it makes nothing
-abbrev pub MakesOfLink : Option Link → ℕ → List Link → List Link → Result (Unit {0}) StepFault → Type 0
+abbrev pub MakesOfLink : Option Link → ℕ → List Link → List Link → Result (Unit {0}) StepFault
+    → Type 0
 MakesOfLink None link old new (Ok _) = ⊥
 MakesOfLink None link old new (Err fault.Refused) = new ≡ old
 MakesOfLink None link old new (Err fault.Full) = ⊥
@@ -50,11 +54,16 @@ BecomesOne (Some l) old new (Err fault.Memory) = new ≡ old
 
 -- what a step makes of the links, where it is a move or a cut
 abbrev pub LinksBecome : WorldStep → List Link → List Link → Result (Unit {0}) StepFault → Type 0
-LinksBecome (step.Carry link d) old new result = MakesOfLink (link_moved move.Carry d (slice_get old link)) link old new result
-LinksBecome (step.Lose link d) old new result = MakesOfLink (link_moved move.Lose d (slice_get old link)) link old new result
-LinksBecome (step.Repeat link d) old new result = MakesOfLink (link_moved move.Repeat d (slice_get old link)) link old new result
-LinksBecome (step.Swap link d) old new result = MakesOfLink (link_moved move.Swap d (slice_get old link)) link old new result
-LinksBecome (step.Cut link) old new result = MakesOfLink (link_cut (slice_get old link)) link old new result
+LinksBecome (step.Carry link d) old new result =
+    MakesOfLink (link_moved move.Carry d (slice_get old link)) link old new result
+LinksBecome (step.Lose link d) old new result =
+    MakesOfLink (link_moved move.Lose d (slice_get old link)) link old new result
+LinksBecome (step.Repeat link d) old new result =
+    MakesOfLink (link_moved move.Repeat d (slice_get old link)) link old new result
+LinksBecome (step.Swap link d) old new result =
+    MakesOfLink (link_moved move.Swap d (slice_get old link)) link old new result
+LinksBecome (step.Cut link) old new result =
+    MakesOfLink (link_cut (slice_get old link)) link old new result
 LinksBecome _ old new result = Unit {0}
 
 -- such a step leaves the devices as they were

@@ -1,5 +1,6 @@
 -- What the groups of a world are called, and the nonces of its links.
-use Rattle.std.specs.Prelude.{ℕ, ◌+◌, ◌==◌, nat_le, if◌then◌else◌, List, length, Option, Some, None, Result, Ok, Err, ◌≡◌}
+use Rattle.std.specs.Prelude.{ℕ, ◌+◌, ◌==◌, nat_le, if◌then◌else◌, List, length, Option, Some, None}
+use Rattle.std.specs.Prelude.{Result, Ok, Err, ◌≡◌}
 use Rattle.std.specs.Int.{w128, to_be_bytes}
 use Rattle.client_basic.specs.Bodies.{note_name, thread_name, feed_name}
 use Rattle.sync_ids.specs.Values.{GroupValue}
@@ -13,19 +14,22 @@ use Rattle.world_scripts.specs.declared.step.TheConstants.{NOTE, THREAD, FEED}
 -- the name of the client of a kind
 abbrev pub name_of : ℕ → Option (List ℕ)
 name_of kind =
-    if kind == NOTE then Some note_name else if kind == THREAD then Some thread_name else if kind == FEED then Some feed_name else None
+    if kind == NOTE then Some note_name else if kind == THREAD then Some thread_name else if kind ==
+    FEED then Some feed_name else None
 
 -- the group of a client and a descriptor that is not too long
 abbrev pub group_named : Option (List ℕ) → List ℕ → Option GroupValue
 group_named None descriptor = None
 group_named (Some name) descriptor =
-    if nat_le (length descriptor) MAX_DESCRIPTOR then Some (record { name = name; major = 0; descriptor = descriptor }) else None
+    if nat_le (length descriptor) MAX_DESCRIPTOR then Some
+    (record { name = name; major = 0; descriptor = descriptor }) else None
 
 -- the group of a kind and a descriptor, where there is one
 abbrev pub group_of : ℕ → List ℕ → Option GroupValue
 group_of kind descriptor = group_named (name_of kind) descriptor
 
--- the nonce of the session that dials the link of this number, where it has one: the number plus one, in 16 bytes
+-- the nonce of the session that dials the link of this number, where it has one: the number plus
+-- one, in 16 bytes
 abbrev pub nonce_of : Mode → ℕ → Option (List ℕ)
 nonce_of mode.Interactive link = Some (to_be_bytes w128 (link + 1))
 nonce_of mode.Batch link = None

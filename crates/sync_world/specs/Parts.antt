@@ -1,12 +1,15 @@
 -- What the calls do that steps over links are made of, by what they answer.
-use Rattle.std.specs.Prelude.{◌≡◌, ℕ, Bool, true, false, List, length, Option, None, Result, Ok, Err}
+use Rattle.std.specs.Prelude.{◌≡◌, ℕ, Bool, true, false, List, length, Option, None, Result, Ok}
+use Rattle.std.specs.Prelude.{Err}
 use Rattle.sync_node.specs.declared.node.Plan.{Plan}
 use Rattle.world_devices.specs.declared.stop.Ran.{Ran}
 use Rattle.world_devices.specs.declared.stop.Ran.TheVariants as ran
 use Rattle.world_devices.specs.declared.stop.StepFault.{StepFault}
 use Rattle.world_devices.specs.declared.stop.StepFault.TheVariants as fault
 use Rattle.world_scripts.specs.declared.step.TheConstants.{MAX_DEVICES}
-use Rattle.sync_world.specs.Doing.{AllTurn, AttachesOn, CrashesOn, FillsAttaching, FillsFrom, FillsLinked, FillsTurning, Ground, RoundMade, TurnsLinked, TurnsOnce, dialled}
+use Rattle.sync_world.specs.Doing.{AllTurn, AttachesOn, CrashesOn, FillsAttaching, FillsFrom}
+use Rattle.sync_world.specs.Doing.{FillsLinked, FillsTurning, Ground, RoundMade, TurnsLinked}
+use Rattle.sync_world.specs.Doing.{TurnsOnce, dialled}
 use Rattle.sync_world.specs.declared.stage.Round.{Round}
 use Rattle.sync_world.specs.declared.stage.Round.TheVariants as round
 
@@ -22,7 +25,8 @@ DialsBy d e (Ok link) old new = (link ≡ length old.links) × (new ≡ dialled 
 DialsBy d e (Err f) old new = f ≡ fault.Memory
 
 -- a session of a device begins on a link, or the device crashes in it
-abbrev pub AttachesBy : (d link : ℕ) → Plan → Option (List ℕ) → Result Ran StepFault → Ground → Ground → Type 0
+abbrev pub AttachesBy : (d link : ℕ) → Plan → Option (List ℕ) → Result Ran StepFault → Ground
+    → Ground → Type 0
 AttachesBy d link plan nonce (Ok ran.Done) old new = AttachesOn d link plan nonce old new
 AttachesBy d link plan nonce (Ok ran.Crashed) old new = CrashesOn d plan nonce old new
 AttachesBy d link plan nonce (Err f) old new = WhenFull f (FillsAttaching d plan nonce old)

@@ -1,5 +1,6 @@
 -- What becomes of a world that a script is played in.
-use Rattle.std.specs.Prelude.{◌≡◌, ◌⊎◌, ℕ, ◌<◌, ◌≤◌, true, false, List, [], ◌∷◌, ◌++◌, map, replicate, Some, None, Result, Ok, Err, slice_set}
+use Rattle.std.specs.Prelude.{◌≡◌, ◌⊎◌, ℕ, ◌<◌, ◌≤◌, true, false, List, [], ◌∷◌, ◌++◌, map}
+use Rattle.std.specs.Prelude.{replicate, Some, None, Result, Ok, Err, slice_set}
 use Rattle.sync_words.specs.declared.outcome.Outcome.{Outcome}
 use Rattle.sync_words.specs.declared.outcome.Outcome.TheVariants as outcome
 use Rattle.sync_world.specs.Beginning.{IsNewStage}
@@ -23,14 +24,16 @@ pub record IsFirst (count : ℕ) (p : Player) : Type 0 where
   pub unshown : p.shown ≡ replicate 8 false
 
 -- a step is made of the world, and nothing else changes
-pub record StepsWorld (made : WorldStep) (old new : Player) (result : Result (Unit {0}) StepFault) : Type 0 where
+pub record StepsWorld (made : WorldStep) (old new : Player)
+    (result : Result (Unit {0}) StepFault) : Type 0 where
   pub stepped : HasStepped made old.world new.world result
   pub same_devices : new.devices ≡ old.devices
   pub same_shown : new.shown ≡ old.shown
 
 -- a device is marked; it is refused exactly where there is no device of this number
 abbrev pub MarksDevice : ℕ → Player → Player → Result (Unit {0}) StepFault → Type 0
-MarksDevice device old new (Ok _) = (device < old.devices) × (new ≡ record old { shown = slice_set old.shown device true })
+MarksDevice device old new (Ok _) =
+    (device < old.devices) × (new ≡ record old { shown = slice_set old.shown device true })
 MarksDevice device old new (Err fault.Refused) = (old.devices ≤ device) × (new ≡ old)
 MarksDevice device old new (Err _) = ⊥
 
@@ -42,7 +45,8 @@ AnswersAction (action.Show device) old new result = MarksDevice device old new r
 -- these actions are made one after another, and each answers Ok
 abbrev pub MakesActions : Player → List (ℕ × Action) → Player → Type 0
 MakesActions from [] to = to ≡ from
-MakesActions from (x ∷ more) to = (next : Player) × AnswersAction x.1 from next (Ok tt) × MakesActions next more to
+MakesActions from (x ∷ more) to =
+    (next : Player) × AnswersAction x.1 from next (Ok tt) × MakesActions next more to
 
 -- a new world of so many devices, in which these actions were made
 pub record Done (devices : ℕ) (actions : List (ℕ × Action)) (to : Player) : Type 0 where
@@ -51,7 +55,8 @@ pub record Done (devices : ℕ) (actions : List (ℕ × Action)) (to : Player) :
   pub does : MakesActions first actions to
 
 -- the first action that does not answer Ok is that of this line, and it answers this fault
-pub record StopsAtLine (devices : ℕ) (actions : List (ℕ × Action)) (line : ℕ) (why : StepFault) : Type 0 where
+pub record StopsAtLine (devices : ℕ) (actions : List (ℕ × Action)) (line : ℕ)
+    (why : StepFault) : Type 0 where
   pub before : List (ℕ × Action)
   pub it : Action
   pub later : List (ℕ × Action)
@@ -72,11 +77,13 @@ pub record ComesToBad (devices : ℕ) (course : ScriptCourse) (line : ℕ) : Typ
   pub to : Player
   pub done : Done devices course.actions to
 
--- What a course comes to in a new world of so many devices: all of it is done; or the first line is named that is bad by itself or
--- refused, where no step before it answered that a journal is full; or such a step stands before. Memory may be wanting.
+-- What a course comes to in a new world of so many devices: all of it is done; or the first line is
+-- named that is bad by itself or refused, where no step before it answered that a journal is full;
+-- or such a step stands before. Memory may be wanting.
 abbrev pub CourseComesTo : (devices : ℕ) → ScriptCourse → Result Player Outcome → Type 0
 CourseComesTo devices course (Ok to) = (course.bad ≡ None) × Done devices course.actions to
-CourseComesTo devices course (Err (outcome.BadScript line)) = StopsAtLine devices course.actions line fault.Refused ⊎ ComesToBad devices course line
+CourseComesTo devices course (Err (outcome.BadScript line)) =
+    StopsAtLine devices course.actions line fault.Refused ⊎ ComesToBad devices course line
 CourseComesTo devices course (Err outcome.Full) = PlayingStopsFull devices course.actions
 CourseComesTo devices course (Err outcome.Memory) = Unit {0}
 CourseComesTo devices course (Err _) = ⊥
@@ -99,7 +106,8 @@ made_by seed count = Opens GENERATED_DEVICES (course_of (steps_of seed count))
 -- the action of a line was made; what a fault of it comes to
 abbrev pub ActsAt : (line : ℕ) → Action → Player → Player → Result (Unit {0}) Outcome → Type 0
 ActsAt line it old new (Ok _) = AnswersAction it old new (Ok tt)
-ActsAt line it old new (Err (outcome.BadScript at)) = (at ≡ line) × AnswersAction it old new (Err fault.Refused)
+ActsAt line it old new (Err (outcome.BadScript at)) =
+    (at ≡ line) × AnswersAction it old new (Err fault.Refused)
 ActsAt line it old new (Err outcome.Full) = AnswersAction it old new (Err fault.Full)
 ActsAt line it old new (Err outcome.Memory) = Unit {0}
 ActsAt line it old new (Err _) = ⊥

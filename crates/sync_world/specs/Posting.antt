@@ -1,5 +1,6 @@
 -- The message that a post is.
-use Rattle.std.specs.Prelude.{ℕ, ◌==◌, ◌&&◌, Bool, true, false, nat_le, if◌then◌else◌, List, [], ◌∷◌, ◌++◌, length, replicate}
+use Rattle.std.specs.Prelude.{ℕ, ◌==◌, ◌&&◌, Bool, true, false, nat_le, if◌then◌else◌, List, []}
+use Rattle.std.specs.Prelude.{◌∷◌, ◌++◌, length, replicate}
 use Rattle.std.specs.Prelude.{Option, Some, None, slice_get, option_to_list}
 use Rattle.std.specs.List.{flat_map}
 use Rattle.sync_ids.specs.Values.{GroupValue, MessageValue}
@@ -21,7 +22,8 @@ zeros_for (id ∷ ids) = []
 
 -- what stands before the ids: a thread's body begins with their number
 abbrev pub head_of : ℕ → List (List ℕ) → List ℕ
-head_of kind ids = if kind == THREAD then length ids ∷ [] else if kind == FEED then zeros_for ids else []
+head_of kind ids =
+    if kind == THREAD then length ids ∷ [] else if kind == FEED then zeros_for ids else []
 
 -- the body of a post of this kind behind these messages
 abbrev pub body_of : ℕ → List (List ℕ) → List ℕ → List ℕ
@@ -38,13 +40,18 @@ message_in (Some def) time body =
     if nat_le time MAX_TIMESTAMP && nat_le (length body) MAX_BODY
     then Some (record { group = group_id_of def; timestamp = time; body = body }) else None
 
--- the message of a post in the group of a label: there is one where the text is not empty, the parents are labels of earlier posts
--- and suit the kind of the group, and the message is within its limits
-abbrev pub message_with : List (List ℕ) → Option KindAndDescriptor → ℕ → List ℕ → List ℕ → Option MessageValue
+-- the message of a post in the group of a label: there is one where the text is not empty, the
+-- parents are labels of earlier posts and suit the kind of the group, and the message is within its
+-- limits
+abbrev pub message_with : List (List ℕ) → Option KindAndDescriptor → ℕ → List ℕ → List ℕ
+    → Option MessageValue
 message_with posts None time parents text = None
 message_with posts (Some group) time parents text =
     if has_text text && (are_made parents (length posts) && suits_kind group.0 parents)
-    then message_in (group_of group.0 group.1) time (body_of group.0 (ids_of posts parents) text) else None
+    then message_in (group_of group.0 group.1) time (body_of group.0 (ids_of posts parents) text)
+    else None
 
-abbrev pub message_of : List KindAndDescriptor → List (List ℕ) → ℕ → ℕ → List ℕ → List ℕ → Option MessageValue
-message_of groups posts group time parents text = message_with posts (slice_get groups group) time parents text
+abbrev pub message_of : List KindAndDescriptor → List (List ℕ) → ℕ → ℕ → List ℕ → List ℕ
+    → Option MessageValue
+message_of groups posts group time parents text =
+    message_with posts (slice_get groups group) time parents text

@@ -1,12 +1,14 @@
 -- Where the rules of worlds refuse a step.
-use Rattle.std.specs.Prelude.{◌≡◌, ℕ, ◌+◌, ◌≤◌, ◌==◌, ◌||◌, not, Bool, true, false, nat_lt, is_none, List, length, Option, Some, None, slice_get}
+use Rattle.std.specs.Prelude.{◌≡◌, ℕ, ◌+◌, ◌≤◌, ◌==◌, ◌||◌, not, Bool, true, false, nat_lt, is_none}
+use Rattle.std.specs.Prelude.{List, length, Option, Some, None, slice_get}
 use Rattle.outside.specs.declared.limits.TheConstants.{LINKS}
 use Rattle.sync_ids.specs.Values.{GroupValue}
 use Rattle.sync_ids.specs.Ids.{group_id_of}
 use Rattle.sync_rules.specs.Facts.{group_at}
 use Rattle.sync_node.specs.Node.{NodeValue}
 use Rattle.world_devices.specs.Devices.{DeviceValue}
-use Rattle.world_devices.specs.Refusals.{by_facts, facts_of, refuses_group, refuses_link, refuses_message}
+use Rattle.world_devices.specs.Refusals.{by_facts, facts_of, refuses_group, refuses_link}
+use Rattle.world_devices.specs.Refusals.{refuses_message}
 use Rattle.world_links.specs.declared.moves.Move.TheVariants as move
 use Rattle.world_scripts.specs.Labels.{KindAndDescriptor}
 use Rattle.world_scripts.specs.declared.step.WorldStep.{WorldStep}
@@ -18,7 +20,8 @@ use Rattle.sync_world.specs.Naming.{group_of}
 use Rattle.sync_world.specs.Posting.{message_of}
 
 -- there is no such value, or no such device, or the device refuses the value
-abbrev pub refuses_with : {A : Type 0} → (A → DeviceValue → Bool) → Option A → Option DeviceValue → Bool
+abbrev pub refuses_with : {A : Type 0} → (A → DeviceValue → Bool) → Option A → Option DeviceValue
+    → Bool
 refuses_with refuses None device = true
 refuses_with refuses (Some value) None = true
 refuses_with refuses (Some value) (Some d) = refuses value d
@@ -44,24 +47,33 @@ has_links (Some d) = nat_lt 0 d.links
 
 -- there is no such device, or it refuses a further link with this contact
 abbrev pub refuses_to_attach : ℕ → Option DeviceValue → Bool
-refuses_to_attach contact device = refuses_with (λ c d. refuses_link d.node d.links c) (Some contact) device
+refuses_to_attach contact device =
+    refuses_with (λ c d. refuses_link d.node d.links c) (Some contact) device
 
 -- each device that runs knows a contact for each other one
 abbrev pub KnowContacts : List DeviceValue → Type 0
-KnowContacts ds = (device : ℕ) (d : DeviceValue) (n : NodeValue) → slice_get ds device ≡ Some d → d.node ≡ Some n → length ds ≤ n.store.state.facts.contacts + 1
+KnowContacts ds =
+    (device : ℕ) (d : DeviceValue) (n : NodeValue) → slice_get ds device ≡ Some d → d.node ≡ Some n
+    → length ds ≤ n.store.state.facts.contacts + 1
 
 -- the rules refuse a step
 abbrev pub refuses : WorldStep → Stage → Bool
-refuses (step.Group d kind descriptor) w = refuses_with (λ def x. refuses_group x.node def) (group_of kind descriptor) (slice_get w.devices.items d)
+refuses (step.Group d kind descriptor) w =
+    refuses_with (λ def x. refuses_group x.node def) (group_of kind descriptor)
+    (slice_get w.devices.items d)
 refuses (step.Share d e group level) w =
     (d == e)
-    || (is_none (slice_get w.devices.items e) || refuses_with lacks (group_labelled (slice_get w.groups group)) (slice_get w.devices.items d))
+    || (is_none (slice_get w.devices.items e)
+    || refuses_with lacks (group_labelled (slice_get w.groups group))
+    (slice_get w.devices.items d))
 refuses (step.Post d group time parents text) w =
-    refuses_with (λ m x. refuses_message x.node m) (message_of w.groups w.posts.items group time parents text) (slice_get w.devices.items d)
+    refuses_with (λ m x. refuses_message x.node m)
+    (message_of w.groups w.posts.items group time parents text) (slice_get w.devices.items d)
 refuses (step.Link d e mode latency) w =
     (d == e)
     || ((latency == 0)
-    || (not (has_room (slice_get w.devices.items d)) || not (has_room (slice_get w.devices.items e))))
+    || (not (has_room (slice_get w.devices.items d))
+    || not (has_room (slice_get w.devices.items e))))
 refuses (step.Turn d) w = is_none (slice_get w.devices.items d)
 refuses (step.Carry link d) w = is_none (link_moved move.Carry d (slice_get w.links.items link))
 refuses (step.Lose link d) w = is_none (link_moved move.Lose d (slice_get w.links.items link))

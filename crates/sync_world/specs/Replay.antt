@@ -20,8 +20,8 @@ use Rattle.world_scripts.specs.declared.script.TheConstants.{MAX_SCRIPT}
 
 -- ---- what is printed
 
--- What is to be printed of a world: its devices have such journals as the promises on many devices speak of, each of them runs,
--- and the text is the lines that these journals make.
+-- What is to be printed of a world: its devices have such journals as the promises on many devices
+-- speak of, each of them runs, and the text is the lines that these journals make.
 pub record IsText (p : Player) (text : List ℕ) : Type 0 where
   pub journals : List Journal
   pub many : AreManyDevices journals p.world.devices.items
@@ -54,7 +54,8 @@ pub record WorldPrinted (what : Opening) (out out' : Stream) (came : Outcome) : 
   pub played : ScriptComes what (Ok to)
   pub printed : PrintsWorld to out out' came
 
--- A world was played, and printed where it was played to its end; in each other case nothing was written.
+-- A world was played, and printed where it was played to its end; in each other case nothing was
+-- written.
 abbrev pub PlaysOut : Opening → (out out' : Stream) → Outcome → Type 0
 PlaysOut what out out' outcome.Done = WorldPrinted what out out' outcome.Done
 PlaysOut what out out' outcome.WriteFault = WorldPrinted what out out' outcome.WriteFault
@@ -95,12 +96,16 @@ NamesWord place _ = ⊥
 
 -- What the words ask for, and what it comes to. But for a script nothing is read.
 abbrev pub ReplaysWords : Wanted → (input input' out out' : Stream) → Outcome → Type 0
-ReplaysWords (Wrong place) input input' out out' came = NamesWord place came × IsIdle input input' × IsIdle out out'
+ReplaysWords (Wrong place) input input' out out' came =
+    NamesWord place came × IsIdle input input' × IsIdle out out'
 ReplaysWords (Wants asked.Script) input input' out out' came = OfScript input input' out out' came
-ReplaysWords (Wants (asked.Generated seed count)) input input' out out' came = IsIdle input input' × PlaysOut (made_by seed count) out out' came
+ReplaysWords (Wants (asked.Generated seed count)) input input' out out' came =
+    IsIdle input input' × PlaysOut (made_by seed count) out out' came
 
--- a replay: what the words ask for came to an outcome; the status is that outcome's, and the error output got its line
-pub record Replayed (words : Wanted) (input input' out out' err err' : Stream) (given : Status) : Type 0 where
+-- a replay: what the words ask for came to an outcome; the status is that outcome's, and the error
+-- output got its line
+pub record Replayed (words : Wanted) (input input' out out' err err' : Stream)
+    (given : Status) : Type 0 where
   pub came : Outcome
   pub replays : ReplaysWords words input input' out out' came
   pub status : given ≡ status_of came

@@ -1,5 +1,6 @@
 -- What is printed of a world that was played.
-use Rattle.std.specs.Prelude.{◌≡◌, ℕ, zero, suc, ◌+◌, Bool, true, false, if◌then◌else◌, List, [], ◌∷◌, ◌++◌, length, Option, Some, None, slice_get}
+use Rattle.std.specs.Prelude.{◌≡◌, ℕ, zero, suc, ◌+◌, Bool, true, false, if◌then◌else◌, List, []}
+use Rattle.std.specs.Prelude.{◌∷◌, ◌++◌, length, Option, Some, None, slice_get}
 use Rattle.store_commands.specs.Shown.{show_text}
 use Rattle.sync_node.specs.Node.{NodeValue}
 use Rattle.sync_rules.specs.Facts.{Facts, Held, facts}
@@ -35,9 +36,11 @@ count_of f state = count_in f state f.held
 -- a device's line: how many messages its journal has, and how many of them are in each state
 abbrev pub device_line : ℕ → Facts → List ℕ
 device_line number f =
-    device_text number (length f.held) (count_of f fate.Delivered) (count_of f fate.Invalid) (count_of f fate.Pending) (count_of f fate.Unknown)
+    device_text number (length f.held) (count_of f fate.Delivered) (count_of f fate.Invalid)
+    (count_of f fate.Pending) (count_of f fate.Unknown)
 
--- what is printed of a device: its line, and behind it, where the device is to be shown, all that `show` prints
+-- what is printed of a device: its line, and behind it, where the device is to be shown, all that
+-- `show` prints
 abbrev pub device_lines : ℕ → Bool → Facts → List ℕ
 device_lines number shown f = device_line number f ++ (if shown then show_text f else [])
 
@@ -64,7 +67,8 @@ lines_then _ number shown _ = None
 abbrev pub lines_below : (shown : List Bool) → List DeviceValue → ℕ → Option (List ℕ)
 lines_below shown devices zero = Some []
 lines_below shown devices (suc number) =
-    lines_then (lines_below shown devices number) number (is_marked (slice_get shown number)) (facts_of (slice_get devices number))
+    lines_then (lines_below shown devices number) number (is_marked (slice_get shown number))
+    (facts_of (slice_get devices number))
 
 -- all that is printed of a world that was played: the lines of each device that there is
 abbrev pub player_lines : Player → Option (List ℕ)
@@ -74,7 +78,8 @@ player_lines p = lines_below p.shown p.world.devices.items p.devices
 abbrev pub journal_lines : (shown : List Bool) → List Journal → ℕ → List ℕ
 journal_lines shown journals zero = []
 journal_lines shown journals (suc number) =
-    journal_lines shown journals number ++ device_lines number (is_marked (slice_get shown number)) (facts (journal_in journals number))
+    journal_lines shown journals number ++ device_lines number (is_marked (slice_get shown number))
+    (facts (journal_in journals number))
 
 -- these are the numbers of messages in each state
 pub record HasCounted (f : Facts) (held : List Held) (states : States) : Type 0 where
@@ -97,4 +102,5 @@ total_of states = states.delivered + states.invalid + states.pending + states.un
 -- the lines of a device were added, which is there and runs
 abbrev pub AddsDevice : Player → (number : ℕ) → (old new : List ℕ) → Type 0
 AddsDevice p number old new =
-    lines_then (Some old) number (is_marked (slice_get p.shown number)) (facts_of (slice_get p.world.devices.items number)) ≡ Some new
+    lines_then (Some old) number (is_marked (slice_get p.shown number))
+    (facts_of (slice_get p.world.devices.items number)) ≡ Some new

@@ -1,5 +1,8 @@
--- The links of a world of bytes, shown as the links of a world of records: of which the theorem of many devices speaks.
-use Rattle.std.specs.Prelude.{◌≡◌, ◌⊎◌, ℕ, ◌+◌, ◌-◌, ◌==◌, ◌||◌, ◌&&◌, Bool, true, false, if◌then◌else◌, nat_eq, nat_lt, List, [], ◌∷◌, ◌++◌, map, length, Option, Some, None, slice_get}
+-- The links of a world of bytes, shown as the links of a world of records: of which the theorem of
+-- many devices speaks.
+use Rattle.std.specs.Prelude.{◌≡◌, ◌⊎◌, ℕ, ◌+◌, ◌-◌, ◌==◌, ◌||◌, ◌&&◌, Bool, true, false}
+use Rattle.std.specs.Prelude.{if◌then◌else◌, nat_eq, nat_lt, List, [], ◌∷◌, ◌++◌, map, length}
+use Rattle.std.specs.Prelude.{Option, Some, None, slice_get}
 use Rattle.outside.specs.Runs.{IsFront}
 use Rattle.std.specs.List.{AllByRecursion}
 use Rattle.sync_ids.specs.declared.records.Record.{Record}
@@ -20,12 +23,15 @@ use Rattle.world_links.specs.Ends.{EndValue, flight_behind}
 use Rattle.world_links.specs.Links.{all_carried, end_of}
 use Rattle.world_laws.specs.Moves.{Move as WorldMove, Carry, Lose, Repeat, Swap}
 use Rattle.world_laws.specs.Theorem.{IsSoundWorld}
-use Rattle.world_laws.specs.Worlds.{AllHeard, AreSteps, End, HasNoBrief, HasSession, IsSent, Journal, WorldLink as RecordLink, World, contact_for, last_of, link_in, way_of}
+use Rattle.world_laws.specs.Worlds.{AllHeard, AreSteps, End, HasNoBrief, HasSession, IsSent}
+use Rattle.world_laws.specs.Worlds.{Journal, WorldLink as RecordLink, World, contact_for, last_of}
+use Rattle.world_laws.specs.Worlds.{link_in, way_of}
 
 -- ---- what is shown
 
--- An end in bytes shows an end of records: it has the same device and session, what is in flight from it are the spellings
--- of the records in flight, and what it was given are those of the records that it was given, one behind the other.
+-- An end in bytes shows an end of records: it has the same device and session, what is in flight
+-- from it are the spellings of the records in flight, and what it was given are those of the
+-- records that it was given, one behind the other.
 pub record ShowsEnd (e : EndValue) (x : End) : Type 0 where
   pub device : x.device ≡ e.device
   pub session : x.session ≡ e.session
@@ -74,12 +80,14 @@ left_link d x = if (x.near.device == d) || (x.far.device == d) then emptied x el
 abbrev pub given_more : List Record → End → End
 given_more rs x = record x { given = x.given ++ rs }
 
--- a link after all that is in flight from the near end, or from the far one, arrived at the other end
+-- a link after all that is in flight from the near end, or from the far one, arrived at the other
+-- end
 abbrev pub carried : Bool → RecordLink → RecordLink
 carried true x = record { near = emptied_end x.near; far = given_more x.near.flight x.far }
 carried false x = record { near = given_more x.far.flight x.near; far = emptied_end x.far }
 
--- a link in bytes after all that is in flight on it arrived, first what its near end sent; one that is cut stays
+-- a link in bytes after all that is in flight on it arrived, first what its near end sent; one that
+-- is cut stays
 abbrev pub arrived : Link → Link
 arrived l = if l.is_cut then l else all_carried side.Far (all_carried side.Near l)
 
@@ -121,9 +129,9 @@ pub record SendsAt (d : ℕ) (j : Journal) (old new : End) (r : Record) : Type 0
   pub own : old.device ≡ d
   pub is : IsSent j new.session r
 
--- What becomes of an end of a link while a device runs, j being its journal afterwards and other the device at the link's
--- other end: it keeps its device, what it was given, and its session, or the device begins one there; and what is in flight
--- was so before, or the device sent it.
+-- What becomes of an end of a link while a device runs, j being its journal afterwards and other
+-- the device at the link's other end: it keeps its device, what it was given, and its session, or
+-- the device begins one there; and what is in flight was so before, or the device sent it.
 pub record EndRuns (d : ℕ) (j : Journal) (other : ℕ) (old new : End) : Type 0 where
   pub device : new.device ≡ old.device
   pub given : new.given ≡ old.given
@@ -150,7 +158,8 @@ given_on d session x = if nat_eq x.device d && is_session x.session session then
 
 abbrev pub heard_by : ℕ → List RecordLink → ℕ → List Record
 heard_by d [] session = []
-heard_by d (x ∷ xs) session = given_on d session x.near ++ (given_on d session x.far ++ heard_by d xs session)
+heard_by d (x ∷ xs) session =
+    given_on d session x.near ++ (given_on d session x.far ++ heard_by d xs session)
 
 -- ---- the beginning
 
@@ -183,9 +192,11 @@ pub record IsGivenAt (d session : ℕ) (xs : List RecordLink) (r : Record) : Typ
   pub on : (way_of near link).receiver.session ≡ Some session
   pub inside : In r (way_of near link).receiver.given
 
--- the records among the bytes that were heard on the links of a run, by session: the first link has the session `first`
+-- the records among the bytes that were heard on the links of a run, by session: the first link has
+-- the session `first`
 abbrev pub heard_in_run : ℕ → (ℕ → List ℕ) → ℕ → List Record
-heard_in_run first heard session = if nat_lt session first then [] else records (heard (session - first))
+heard_in_run first heard session =
+    if nat_lt session first then [] else records (heard (session - first))
 
 -- ---- what is shown while a device runs
 
@@ -200,7 +211,8 @@ pub record ShownLinkRuns (d : ℕ) (j : Journal) (l : Link) (x : RecordLink) : T
   pub shown : ShowsLink l after
   pub runs : RunsLinkOfDevice d j x after
 
-pub record ShownLinksRun (d : ℕ) (j : Journal) (ls : List Link) (xs : List RecordLink) : Type 0 where
+pub record ShownLinksRun (d : ℕ) (j : Journal) (ls : List Link)
+    (xs : List RecordLink) : Type 0 where
   pub after : List RecordLink
   pub shown : ShowsLinks ls after
   pub runs : LinksRun d j xs after
@@ -239,9 +251,11 @@ pub record IsFrontAt (d session : ℕ) (ls : List Link) (bytes : List ℕ) : Typ
   pub on : (end_of from link).session ≡ Some session
   pub front : IsFront bytes (end_of from link).given
 
--- what the links of a run heard was given to the ends of the device, whose first link has the session `first`
+-- what the links of a run heard was given to the ends of the device, whose first link has the
+-- session `first`
 abbrev pub WasHeardAt : ℕ → ℕ → (ℕ → List ℕ) → List Link → Type 0
-WasHeardAt d first heard ls = (link : ℕ) → (heard link ≡ []) ⊎ IsFrontAt d (first + link) ls (heard link)
+WasHeardAt d first heard ls =
+    (link : ℕ) → (heard link ≡ []) ⊎ IsFrontAt d (first + link) ls (heard link)
 
 -- ---- sound worlds
 
@@ -251,9 +265,10 @@ pub record ShowsSound (clients : Meaning) (js : List Journal) (ls : List Link) :
   pub shown : ShowsLinks ls links
   pub sound : IsSoundWorld clients (world_of js links)
 
--- what a device adds to its journal while it runs: it may follow, it begins no brief account, and each record that is taken was
--- heard
-pub record AddsHeard (clients : Meaning) (before j : Journal) (heard : ℕ → List Record) : Type 0 where
+-- what a device adds to its journal while it runs: it may follow, it begins no brief account, and
+-- each record that is taken was heard
+pub record AddsHeard (clients : Meaning) (before j : Journal)
+    (heard : ℕ → List Record) : Type 0 where
   pub more : Journal
   pub goes_on : j ≡ before ++ more
   pub allowed : GoesOn clients (facts before) more

@@ -1,5 +1,6 @@
 -- What the parts of a step do to devices and links.
-use Rattle.std.specs.Prelude.{◌≡◌, ◌⊎◌, ℕ, ◌<◌, ◌≤◌, false, List, ◌++◌, map, length, drop, take, Option, Some, None, Result, Ok, Err, slice_get, slice_set}
+use Rattle.std.specs.Prelude.{◌≡◌, ◌⊎◌, ℕ, ◌<◌, ◌≤◌, false, List, ◌++◌, map, length, drop, take}
+use Rattle.std.specs.Prelude.{Option, Some, None, Result, Ok, Err, slice_get, slice_set}
 use Rattle.outside.specs.HostTold.{host_told}
 use Rattle.world_devices.specs.Brought.{brought_on}
 use Rattle.world_devices.specs.Devices.{DeviceValue}
@@ -35,7 +36,8 @@ pub record HearsMore (e e' : EndValue) : Type 0 where
 pub record BringsNextBytes (a : ℕ) (old new : DeviceValue) (e e' : EndValue) : Type 0 where
   pub same_node : new.node ≡ old.node
   pub same_links : new.links ≡ old.links
-  pub here : a < old.links → brought_on new.host a ≡ brought_on old.host a ++ take PIECE_LEN (input_of e)
+  pub here : a < old.links → brought_on new.host a ≡ brought_on old.host a ++ take PIECE_LEN
+      (input_of e)
   pub others : (i : ℕ) → (i ≡ a → ⊥) → brought_on new.host i ≡ brought_on old.host i
   pub hears : HearsMore e e'
 
@@ -62,7 +64,8 @@ PlansLink d old new l l' = ((new ≡ old) × (l' ≡ l)) ⊎ PlansSide d old new
 -- what was shown is shown still
 abbrev pub PlansAll : ℕ → DeviceValue → DeviceValue → List Link → List Link → Type 0
 PlansAll d old new links links' =
-    (w : World) (devices : List DeviceValue) → slice_get devices d ≡ Some old → IsShown w devices links → IsShown w (slice_set devices d new) links'
+    (w : World) (devices : List DeviceValue) → slice_get devices d ≡ Some old
+    → IsShown w devices links → IsShown w (slice_set devices d new) links'
 
 -- what a crash may leave of the files stays
 abbrev pub SameFiles : DeviceValue → DeviceValue → Type 0
@@ -81,7 +84,8 @@ begun_end number session e = record e { at = Some number; session = Some session
 -- a link whose end at a device has this number there, and this session
 abbrev pub attached_from : ℕ → ℕ → Option Side → Link → Link
 attached_from number session None l = l
-attached_from number session (Some from) l = with_end from (begun_end number session (end_of from l)) l
+attached_from number session (Some from) l =
+    with_end from (begun_end number session (end_of from l)) l
 
 abbrev pub attached_at : ℕ → ℕ → ℕ → Link → Link
 attached_at d number session l = attached_from number session (side_of d l) l

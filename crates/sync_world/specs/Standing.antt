@@ -1,5 +1,7 @@
 -- How a stage stands for a world of journals and records, and what a call on it leads to.
-use Rattle.std.specs.Prelude.{◌≡◌, ℕ, ◌+◌, ◌<◌, ◌≤◌, ◌==◌, Bool, true, false, if◌then◌else◌, List, [], ◌++◌, length, Option, Some, None, is_some, slice_get, Result, Ok, Err}
+use Rattle.std.specs.Prelude.{◌≡◌, ℕ, ◌+◌, ◌<◌, ◌≤◌, ◌==◌, Bool, true, false, if◌then◌else◌, List}
+use Rattle.std.specs.Prelude.{[], ◌++◌, length, Option, Some, None, is_some, slice_get, Result, Ok}
+use Rattle.std.specs.Prelude.{Err}
 use Rattle.std.specs.Option.{option_map}
 use Rattle.client_basic.specs.Bodies.{bundle_meaning}
 use Rattle.record_grammar.specs.Spelling.{spelled}
@@ -23,7 +25,8 @@ use Rattle.sync_world.specs.declared.stage.Stage.{Stage}
 
 -- ---- devices
 
--- it runs, whatever a crash leaves of its files stands for this legal journal, and its node has as many links as it
+-- it runs, whatever a crash leaves of its files stands for this legal journal, and its node has as
+-- many links as it
 pub record IsUp (j : Journal) (device : DeviceValue) : Type 0 where
   pub runs : is_some device.node ≡ true
   pub holds : HoldsAfterCrash j device.host
@@ -33,18 +36,21 @@ pub record IsUp (j : Journal) (device : DeviceValue) : Type 0 where
 -- there is a journal for each device, and each device is up with its own
 pub record AreUp (js : List Journal) (devices : List DeviceValue) : Type 0 where
   pub same_number : length js ≡ length devices
-  pub each : (d : ℕ) (device : DeviceValue) → slice_get devices d ≡ Some device → IsUp (journal_in js d) device
+  pub each : (d : ℕ) (device : DeviceValue) → slice_get devices d ≡ Some device
+      → IsUp (journal_in js d) device
 
 -- there is a journal for each device, and the files of each as they read stand for its own
 pub record AreRead (js : List Journal) (devices : List DeviceValue) : Type 0 where
   pub same_number : length js ≡ length devices
-  pub each : (d : ℕ) (device : DeviceValue) → slice_get devices d ≡ Some device → ReadsAsJournal (journal_in js d) device.host
+  pub each : (d : ℕ) (device : DeviceValue) → slice_get devices d ≡ Some device → ReadsAsJournal
+      (journal_in js d) device.host
 
 -- ---- ends of links
 
 -- the end of a link at which a device stands, if it is one of the two
 abbrev pub own_end : ℕ → Link → Option EndValue
-own_end d l = if l.near.device == d then Some l.near else if l.far.device == d then Some l.far else None
+own_end d l =
+    if l.near.device == d then Some l.near else if l.far.device == d then Some l.far else None
 
 abbrev pub place_in : Option EndValue → Option ℕ
 place_in None = None
@@ -65,10 +71,11 @@ pub record SeenBy (j : Journal) (number seen : ℕ) : Type 0 where
 abbrev pub session_on : DeviceValue → ℕ → Option ℕ
 session_on device a = option_map (λ (n : NodeValue). n.first + a) device.node
 
--- An end is wired to the link of this number at its device: it has the session of that link; what the link brings and what
--- is yet to be heard are all that the end was given; and where the link is not cut, what was seen are the first records of
--- the session.
-pub record IsEndWired (j : Journal) (device : DeviceValue) (cut : Bool) (e : EndValue) (a : ℕ) : Type 0 where
+-- An end is wired to the link of this number at its device: it has the session of that link; what
+-- the link brings and what is yet to be heard are all that the end was given; and where the link is
+-- not cut, what was seen are the first records of the session.
+pub record IsEndWired (j : Journal) (device : DeviceValue) (cut : Bool) (e : EndValue)
+    (a : ℕ) : Type 0 where
   pub below : a < device.links
   pub session : e.session ≡ session_on device a
   pub brought : brought_on device.host a ++ input_of e ≡ e.given
@@ -81,11 +88,14 @@ pub record IsSeated (d : ℕ) (links : List Link) (a : ℕ) : Type 0 where
   pub stands : slice_get links number ≡ Some link
   pub here : place_on d link ≡ Some a
 
--- each end that a device has is wired to the link of its number, no two have the same number, and each number has an end
+-- each end that a device has is wired to the link of its number, no two have the same number, and
+-- each number has an end
 pub record AreWired (j : Journal) (d : ℕ) (device : DeviceValue) (links : List Link) : Type 0 where
-  pub each : (i : ℕ) (l : Link) (e : EndValue) (a : ℕ) → slice_get links i ≡ Some l → own_end d l ≡ Some e → e.at ≡ Some a
+  pub each : (i : ℕ) (l : Link) (e : EndValue) (a : ℕ) → slice_get links i ≡ Some l
+      → own_end d l ≡ Some e → e.at ≡ Some a
       → IsEndWired j device l.is_cut e a
-  pub once : (i k : ℕ) (l m : Link) (a : ℕ) → slice_get links i ≡ Some l → slice_get links k ≡ Some m → place_on d l ≡ Some a
+  pub once : (i k : ℕ) (l m : Link) (a : ℕ) → slice_get links i ≡ Some l
+      → slice_get links k ≡ Some m → place_on d l ≡ Some a
       → place_on d m ≡ Some a → i ≡ k
   pub all : (a : ℕ) → a < device.links → IsSeated d links a
 
@@ -101,11 +111,14 @@ abbrev pub ArePlaced : ℕ → List Link → Type 0
 ArePlaced count links = (i : ℕ) (l : Link) → slice_get links i ≡ Some l → IsLinkPlaced count l
 
 abbrev pub AllWired : List Journal → List DeviceValue → List Link → Type 0
-AllWired js devices links = (d : ℕ) (device : DeviceValue) → slice_get devices d ≡ Some device → AreWired (journal_in js d) d device links
+AllWired js devices links =
+    (d : ℕ) (device : DeviceValue) → slice_get devices d ≡ Some device
+    → AreWired (journal_in js d) d device links
 
 -- ---- stages
 
--- devices and links show a world: each device is up with its journal, the links show its links, and their ends are wired
+-- devices and links show a world: each device is up with its journal, the links show its links, and
+-- their ends are wired
 pub record IsShown (w : World) (devices : List DeviceValue) (links : List Link) : Type 0 where
   pub up : AreUp w.journals devices
   pub shown : ShowsLinks links w.links
@@ -119,9 +132,10 @@ is_fatal (Err fault.Refused) = false
 is_fatal (Err fault.Full) = true
 is_fatal (Err fault.Memory) = true
 
--- Steps lead from a world to one whose journals the files of the devices stand for; and where nothing failed for good, the
--- devices and links show it.
-pub record LeadsOn (w : World) (fatal : Bool) (devices : List DeviceValue) (links : List Link) : Type 0 where
+-- Steps lead from a world to one whose journals the files of the devices stand for; and where
+-- nothing failed for good, the devices and links show it.
+pub record LeadsOn (w : World) (fatal : Bool) (devices : List DeviceValue)
+    (links : List Link) : Type 0 where
   pub after : World
   pub reached : ReachesWorld bundle_meaning w after
   pub read : AreRead after.journals devices
@@ -129,35 +143,42 @@ pub record LeadsOn (w : World) (fatal : Bool) (devices : List DeviceValue) (link
 
 -- so it is from each world that was shown before
 abbrev pub LeadsFromShown : Bool → Stage → Stage → Type 0
-LeadsFromShown fatal old new = (w : World) → IsShown w old.devices.items old.links.items → LeadsOn w fatal new.devices.items new.links.items
+LeadsFromShown fatal old new =
+    (w : World) → IsShown w old.devices.items old.links.items
+    → LeadsOn w fatal new.devices.items new.links.items
 
 -- the fault that a stage has answered
 abbrev pub is_harmed : Option StepFault → Bool
 is_harmed None = false
 is_harmed (Some f) = true
 
--- what every stage between steps is: it was reached from a new world by steps; and where no fault stands, the journal of each
--- device had a contact for each other one in that new world
+-- what every stage between steps is: it was reached from a new world by steps; and where no fault
+-- stands, the journal of each device had a contact for each other one in that new world
 pub record IsWorld (s : Stage) : Type 0 where
   pub start : World
   pub new : IsNewWorld bundle_meaning start
   pub stands : LeadsOn start (is_harmed s.fault) s.devices.items s.links.items
-  pub contacts : is_harmed s.fault ≡ false → (d : ℕ) → d < length s.devices.items → length s.devices.items ≤ (facts (journal_at start d)).contacts + 1
+  pub contacts : is_harmed s.fault ≡ false → (d : ℕ) → d < length s.devices.items
+      → length s.devices.items ≤ (facts (journal_at start d)).contacts + 1
 
 -- ---- many devices
 
 -- of each device: what stands on its links, and in its store
 abbrev pub AllLinksStand : List DeviceValue → Type 0
-AllLinksStand devices = (d : ℕ) (device : DeviceValue) → slice_get devices d ≡ Some device → DeviceLinksStand device
+AllLinksStand devices =
+    (d : ℕ) (device : DeviceValue) → slice_get devices d ≡ Some device → DeviceLinksStand device
 
 -- each device that runs has in its store the facts of its journal
 abbrev pub AreTold : List Journal → List DeviceValue → Type 0
-AreTold js devices = (d : ℕ) (device : DeviceValue) (n : NodeValue) → slice_get devices d ≡ Some device → device.node ≡ Some n
+AreTold js devices =
+    (d : ℕ) (device : DeviceValue) (n : NodeValue) → slice_get devices d ≡ Some device
+    → device.node ≡ Some n
     → n.store.state.facts ≡ facts (journal_in js d)
 
--- These are the journals of the devices: there is one for each, for which its files as they read stand, and each device that
--- runs has in its store the facts of its own. Each is legal; what a device counts as seen by another one is held by that other;
--- each held message was written by some device; and where a session is at rest all that is to reach its contact is held there.
+-- These are the journals of the devices: there is one for each, for which its files as they read
+-- stand, and each device that runs has in its store the facts of its own. Each is legal; what a
+-- device counts as seen by another one is held by that other; each held message was written by some
+-- device; and where a session is at rest all that is to reach its contact is held there.
 pub record AreManyDevices (journals : List Journal) (devices : List DeviceValue) : Type 0 where
   pub read : AreRead journals devices
   pub told : AreTold journals devices

@@ -12,7 +12,8 @@ use Rattle.world_devices.specs.declared.stop.StepFault.TheVariants as fault_kind
 use Rattle.world_scripts.specs.declared.step.WorldStep.{WorldStep}
 
 -- a step was made of a world and answered so
-pub record HasStepped (made : WorldStep) (old new : Stage) (result : Result (Unit {0}) StepFault) : Type 0 where
+pub record HasStepped (made : WorldStep) (old new : Stage)
+    (result : Result (Unit {0}) StepFault) : Type 0 where
   pub for_good : (fault : StepFault) → old.fault ≡ Some fault → (result ≡ Err fault) × (new ≡ old)
   pub fault : old.fault ≡ None → new.fault ≡ fault_after result
   pub links : old.fault ≡ None → LinksBecome made old.links.items new.links.items result

@@ -1,4 +1,5 @@
--- What becomes of a link by a look at what a device sent on it, and where all in flight on it arrives.
+-- What becomes of a link by a look at what a device sent on it, and where all in flight on it
+-- arrives.
 use Rattle.std.specs.Prelude.{ℕ, Bool, true, false, ◌||◌, if◌then◌else◌, Option, Some, None}
 use Rattle.world_devices.specs.Brought.{sent_by}
 use Rattle.world_devices.specs.Devices.{DeviceValue}
@@ -11,7 +12,8 @@ use Rattle.world_links.specs.declared.moves.Side.{Side}
 use Rattle.world_links.specs.declared.moves.Side.TheVariants as side
 use Rattle.sync_world.specs.Shown.{looked}
 
--- an end after a look at what its device sent on the link, which has this number there; the device may not have it any more
+-- an end after a look at what its device sent on the link, which has this number there; the device
+-- may not have it any more
 abbrev pub look_at : DeviceValue → Bool → Option ℕ → EndValue → EndValue
 look_at device is_cut None e = e
 look_at device is_cut (Some a) e = looked is_cut (sent_by device.host a) e
@@ -27,10 +29,13 @@ cut_if false l = l
 
 abbrev pub look_side : DeviceValue → Link → Option Side → Link
 look_side device l None = l
-look_side device l (Some side.Near) = cut_if (shut_at device l.near.at) (record l { near = look_at device l.is_cut l.near.at l.near })
-look_side device l (Some side.Far) = cut_if (shut_at device l.far.at) (record l { far = look_at device l.is_cut l.far.at l.far })
+look_side device l (Some side.Near) =
+    cut_if (shut_at device l.near.at) (record l { near = look_at device l.is_cut l.near.at l.near })
+look_side device l (Some side.Far) =
+    cut_if (shut_at device l.far.at) (record l { far = look_at device l.is_cut l.far.at l.far })
 
--- a link after a look at the end of a device: what was sent is in flight, and where the device closed the link it is cut
+-- a link after a look at the end of a device: what was sent is in flight, and where the device
+-- closed the link it is cut
 abbrev pub look_link : ℕ → DeviceValue → Link → Link
 look_link d device l = look_side device l (side_of d l)
 

@@ -8,7 +8,8 @@ use Rattle.outside.specs.Outside.{DiskRun, Outside}
 use Rattle.sync_rules.specs.Clients.{Meaning}
 use Rattle.sync_node.specs.declared.fault.NodeFault.{NodeFault}
 use Rattle.sync_node.specs.declared.fault.NodeFault.TheVariants as fault
-use Rattle.sync_node.specs.Node.{AnswersAndCloses, AttachesLink, KeepsJoined, MayRun, NodeValue, StaysClosed}
+use Rattle.sync_node.specs.Node.{AnswersAndCloses, AttachesLink, KeepsJoined, MayRun, NodeValue}
+use Rattle.sync_node.specs.Node.{StaysClosed}
 use Rattle.sync_store.specs.Ready.{IsReady}
 use Rattle.sync_store.specs.Store.{StoreValue}
 use Rattle.test_links.specs.Device.{IsTestNode}
@@ -20,7 +21,8 @@ record Grows (more : ℕ) (n n' : NodeValue) (o o' : Outside) : Type 0 where
 
 -- a node that is closed
 closed_device : (clients : Meaning) (n' : NodeValue) (o' : Outside) (links : ℕ) (failed : Bool)
-    → failed ≡ true → n'.closed ≡ true → MayRun clients n' o' → IsTestNode clients n' o' links failed
+    → failed ≡ true → n'.closed ≡ true → MayRun clients n' o'
+    → IsTestNode clients n' o' links failed
 closed_device clients n' o' links failed fails shut may = record {
   same_closed = fails ∙ sym shut;
   may = may;
@@ -101,7 +103,8 @@ pub device_kept : {T H : Type 0} (clients : Meaning) (n n' : NodeValue) (host ho
     → OnOk result (KeepsJoined clients n n' o o')
     → failed ≡ is_err result
     → IsTestNode clients n' o' links failed
-device_kept clients n n' host host' o o' links closed failed result device stays answer may keeps is =
+device_kept clients n n' host host' o o' links closed failed result device stays answer may keeps
+    is =
     let same : links + 0 ≡ links = omega arith in
     rw (is, ← same)
     (called clients n n' host host' o o' links 0 closed result device stays answer may

@@ -133,7 +133,8 @@ module _ (clients : Meaning) (f : Facts) (group : Id) where
 
 -- ---- what the state keeps of the first dependencies
 
-first_at : (held : List Held) (answers : List (Option Judgement)) (n : ℕ) (answer : Option Judgement)
+first_at : (held : List Held) (answers : List (Option Judgement)) (n : ℕ)
+    (answer : Option Judgement)
     (d : Option ℕ) → slice_get answers n ≡ Some answer
     → get_or (map (λ a. number_held held (first_dependency a)) answers) n d ≡ number_held held
     (first_dependency answer)
@@ -144,7 +145,8 @@ first_at held (a ∷ answers) zero answer d at =
 first_at held (a ∷ answers) (suc n) answer d at = first_at held answers n answer d at
 
 -- it is the number of a held message
-held_within : (held : List Held) (o : Option Id) → IfSome (number_held held o) (λ m. m < length held)
+held_within : (held : List Held) (o : Option Id) → IfSome (number_held held o)
+    (λ m. m < length held)
 held_within held None = tt
 held_within held (Some id) = found_within (place_of held id) (place_found held id)
   where
@@ -153,7 +155,8 @@ held_within held (Some id) = found_within (place_of held id) (place_found held i
     found_within (Some m) at = at.within
 
 all_within : (held : List Held) (answers : List (Option Judgement)) (n : ℕ) → IfSome
-    (get_or (map (λ a. number_held held (first_dependency a)) answers) n None) (λ m. m < length held)
+    (get_or (map (λ a. number_held held (first_dependency a)) answers) n None) (λ m.
+    m < length held)
 all_within held [] n = tt
 all_within held (a ∷ answers) zero = held_within held (first_dependency a)
 all_within held (a ∷ answers) (suc n) = all_within held answers n
@@ -163,7 +166,8 @@ pub first_within : (s : StateValue) (firsts : List (Option ℕ)) (n : ℕ) (d : 
     → IfSome (get_or firsts n d) (λ m. m < length s.facts.held)
 first_within s firsts n d are within =
     subst (λ (o : Option ℕ). IfSome o (λ m. m < length s.facts.held))
-    (sym (get_or_default firsts n d None within ∙ ap (λ (xs : List (Option ℕ)). get_or xs n None) are))
+    (sym (get_or_default firsts n d None within
+    ∙ ap (λ (xs : List (Option ℕ)). get_or xs n None) are))
     (all_within s.facts.held s.answers n)
 
 -- it stands where the first dependency of the verdict does

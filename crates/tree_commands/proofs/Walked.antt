@@ -70,7 +70,8 @@ module _ (clients : Meaning) (f : Facts) (ids : List Id) (t : ThreadValue)
 
 -- ---- what is shown
 
-pub shown_known : (clients : Meaning) (f : Facts) (w : Window) → is_some (group_at f.groups w.group) ≡ true
+pub shown_known : (clients : Meaning) (f : Facts) (w : Window)
+    → is_some (group_at f.groups w.group) ≡ true
     → tree_shown clients w f ≡ shows
     (walk_text (delivered_in f w.group) (parents_of clients f (delivered_in f w.group)) w.from
     w.count)
@@ -79,7 +80,8 @@ shown_known clients f w known =
     (walk_text (delivered_in f w.group) (parents_of clients f (delivered_in f w.group)) w.from
     w.count) else denies refused.UnknownGroup) known
 
-pub shown_unknown : (clients : Meaning) (f : Facts) (w : Window) → is_some (group_at f.groups w.group) ≡ false
+pub shown_unknown : (clients : Meaning) (f : Facts) (w : Window)
+    → is_some (group_at f.groups w.group) ≡ false
     → tree_shown clients w f ≡ denies refused.UnknownGroup
 shown_unknown clients f w unknown =
     ap (λ b. if b then shows

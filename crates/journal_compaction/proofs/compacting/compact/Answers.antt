@@ -14,7 +14,8 @@ use Rattle.journal_compaction.specs.Faults.{fault_of}
 use Rattle.journal_compaction.specs.Planning.{IsPlan}
 use Rattle.journal_compaction.proofs.Holding.{begun_failed, full_unmade, memory_unmade}
 use Rattle.journal_compaction.proofs.Limits.{fault_weighs, frames_fit, too_long, within_limit}
-use Rattle.journal_compaction.proofs.Publishing.{Begun, begun_so, compacted_so, open_failed, opened_so, works_begun}
+use Rattle.journal_compaction.proofs.Publishing.{Begun, begun_so, compacted_so, open_failed}
+use Rattle.journal_compaction.proofs.Publishing.{opened_so, works_begun}
 use Rattle.journal_compaction.proofs.Publishing.{write_failed}
 use Rattle.journal_compaction.proofs.compacting.compact.Goals as goal
 
@@ -24,7 +25,8 @@ returns-in_err-told-clause-compacts g c j two told same holds =
     let m = c.args.journal.now in
     let f = c.args.state.now.facts in
     let o0 = g.D.Disk.tells c.args.disk.now in
-    let few : m.file < 2 = subst (λ (k : ℕ). k < 2) c.file-file.ensures.value c.file-file.ensures.within in
+    let few : m.file < 2 =
+    subst (λ (k : ℕ). k < 2) c.file-file.ensures.value c.file-file.ensures.within in
     memory_unmade clients m j two few holds o0 c.from_residual.result told
     (err_is c.from_residual.result fault.Memory c.from_residual.ensures.1)
 
@@ -34,7 +36,8 @@ returns-in_err-plan-clause-compacts g c j two told same holds =
     let m = c.args.journal.now in
     let f = c.args.state.now.facts in
     let o0 = g.D.Disk.tells c.args.disk.now in
-    let few : m.file < 2 = subst (λ (k : ℕ). k < 2) c.file-file.ensures.value c.file-file.ensures.within in
+    let few : m.file < 2 =
+    subst (λ (k : ℕ). k < 2) c.file-file.ensures.value c.file-file.ensures.within in
     memory_unmade clients m j two few holds o0 c.from_residual-in_err-plan.result told
     (err_is c.from_residual-in_err-plan.result fault.Memory c.from_residual-in_err-plan.ensures.1)
 
@@ -45,9 +48,11 @@ returns-then-len-limit-clause-room g c =
     let f = c.args.state.now.facts in
     let o0 = g.D.Disk.tells c.args.disk.now in
     let p = c.in_ok-plan.plan in
-    let plan : IsPlan clients f p = c.in_ok-plan.ensures clients (ap (told_entries f.held) c.as_slice.ensures.value
+    let plan : IsPlan clients f p =
+    c.in_ok-plan.ensures clients (ap (told_entries f.held) c.as_slice.ensures.value
     ∙ c.in_ok-told.ensures.told) in
-    too_long clients f p c.args.limit c.len.result c.requires.limit plan c.len.ensures c.if-len-limit.true
+    too_long clients f p c.args.limit c.len.result c.requires.limit plan c.len.ensures
+    c.if-len-limit.true
 
 pub returns-then-len-limit-clause-compacts : goal.returns-then-len-limit-clause-compacts
 returns-then-len-limit-clause-compacts g c j two told same holds =
@@ -55,7 +60,8 @@ returns-then-len-limit-clause-compacts g c j two told same holds =
     let m = c.args.journal.now in
     let f = c.args.state.now.facts in
     let o0 = g.D.Disk.tells c.args.disk.now in
-    let few : m.file < 2 = subst (λ (k : ℕ). k < 2) c.file-file.ensures.value c.file-file.ensures.within in
+    let few : m.file < 2 =
+    subst (λ (k : ℕ). k < 2) c.file-file.ensures.value c.file-file.ensures.within in
     full_unmade clients m j two few holds o0 told
 
 pub returns-in_err-page-clause-compacts : goal.returns-in_err-page-clause-compacts
@@ -64,7 +70,8 @@ returns-in_err-page-clause-compacts g c j two told same holds =
     let m = c.args.journal.now in
     let f = c.args.state.now.facts in
     let o0 = g.D.Disk.tells c.args.disk.now in
-    let few : m.file < 2 = subst (λ (k : ℕ). k < 2) c.file-file.ensures.value c.file-file.ensures.within in
+    let few : m.file < 2 =
+    subst (λ (k : ℕ). k < 2) c.file-file.ensures.value c.file-file.ensures.within in
     memory_unmade clients m j two few holds o0 c.from_residual-in_err-page.result told
     (err_is c.from_residual-in_err-page.result fault.Memory c.from_residual-in_err-page.ensures.1)
 
@@ -75,12 +82,16 @@ returns-in_err-writer-clause-room g c =
     let f = c.args.state.now.facts in
     let o0 = g.D.Disk.tells c.args.disk.now in
     let p = c.in_ok-plan.plan in
-    let plan : IsPlan clients f p = c.in_ok-plan.ensures clients (ap (told_entries f.held) c.as_slice.ensures.value
+    let plan : IsPlan clients f p =
+    c.in_ok-plan.ensures clients (ap (told_entries f.held) c.as_slice.ensures.value
     ∙ c.in_ok-told.ensures.told) in
     let within : compacted_len clients f ≤ c.args.limit =
-    within_limit clients f p c.args.limit c.len.result c.requires.limit plan c.len.ensures c.if-len-limit.false in
-    fault_weighs clients f c.args.limit migration.DiskFault c.from_residual-in_err-writer.result within
-    (err_is c.from_residual-in_err-writer.result fault.DiskFault c.from_residual-in_err-writer.ensures.1)
+    within_limit clients f p c.args.limit c.len.result c.requires.limit plan c.len.ensures
+    c.if-len-limit.false in
+    fault_weighs clients f c.args.limit migration.DiskFault c.from_residual-in_err-writer.result
+    within
+    (err_is c.from_residual-in_err-writer.result fault.DiskFault
+    c.from_residual-in_err-writer.ensures.1)
 
 pub returns-in_err-writer-clause-compacts : goal.returns-in_err-writer-clause-compacts
 returns-in_err-writer-clause-compacts g c j two told same holds =
@@ -88,11 +99,13 @@ returns-in_err-writer-clause-compacts g c j two told same holds =
     let m = c.args.journal.now in
     let f = c.args.state.now.facts in
     let o0 = g.D.Disk.tells c.args.disk.now in
-    let few : m.file < 2 = subst (λ (k : ℕ). k < 2) c.file-file.ensures.value c.file-file.ensures.within in
+    let few : m.file < 2 =
+    subst (λ (k : ℕ). k < 2) c.file-file.ensures.value c.file-file.ensures.within in
     let o1 = g.D.Disk.tells c.begin.new.disk in
     begun_failed clients m j two few holds o0 o1 c.from_residual-in_err-writer.result told
     (subst (λ (k : ℕ). EndsOrStays (1 - k) o0 o1) c.file-file.ensures.value c.begin.ensures.moments)
-    (err_is c.from_residual-in_err-writer.result fault.DiskFault c.from_residual-in_err-writer.ensures.1)
+    (err_is c.from_residual-in_err-writer.result fault.DiskFault
+    c.from_residual-in_err-writer.ensures.1)
 
 pub write_plan-requires-clause-room : goal.write_plan-requires-clause-room
 write_plan-requires-clause-room g c =
@@ -101,9 +114,11 @@ write_plan-requires-clause-room g c =
     let f = c.args.state.now.facts in
     let o0 = g.D.Disk.tells c.args.disk.now in
     let p = c.in_ok-plan.plan in
-    let plan : IsPlan clients f p = c.in_ok-plan.ensures clients (ap (told_entries f.held) c.as_slice.ensures.value
+    let plan : IsPlan clients f p =
+    c.in_ok-plan.ensures clients (ap (told_entries f.held) c.as_slice.ensures.value
     ∙ c.in_ok-told.ensures.told) in
-    frames_fit clients f p c.args.limit c.len.result c.requires.limit plan c.len.ensures c.in_ok-writer.writer.end
+    frames_fit clients f p c.args.limit c.len.result c.requires.limit plan c.len.ensures
+    c.in_ok-writer.writer.end
     (ap (λ (v : JournalValue). v.end) c.in_ok-writer.ensures.value) c.if-len-limit.false
 
 pub write_plan-requires-clause-works : goal.write_plan-requires-clause-works
@@ -127,13 +142,16 @@ returns-in_err-write_plan-clause-room g c =
     let f = c.args.state.now.facts in
     let o0 = g.D.Disk.tells c.args.disk.now in
     let p = c.in_ok-plan.plan in
-    let plan : IsPlan clients f p = c.in_ok-plan.ensures clients (ap (told_entries f.held) c.as_slice.ensures.value
+    let plan : IsPlan clients f p =
+    c.in_ok-plan.ensures clients (ap (told_entries f.held) c.as_slice.ensures.value
     ∙ c.in_ok-told.ensures.told) in
     let within : compacted_len clients f ≤ c.args.limit =
-    within_limit clients f p c.args.limit c.len.result c.requires.limit plan c.len.ensures c.if-len-limit.false in
+    within_limit clients f p c.args.limit c.len.result c.requires.limit plan c.len.ensures
+    c.if-len-limit.false in
     let e = c.in_err-write_plan.field-0.0 in
     fault_weighs clients f c.args.limit e c.from_residual-in_err-write_plan.result within
-    (err_is c.from_residual-in_err-write_plan.result (fault_of e) c.from_residual-in_err-write_plan.ensures.1)
+    (err_is c.from_residual-in_err-write_plan.result (fault_of e)
+    c.from_residual-in_err-write_plan.ensures.1)
 
 pub returns-in_err-write_plan-clause-compacts : goal.returns-in_err-write_plan-clause-compacts
 returns-in_err-write_plan-clause-compacts g c j two told same holds =
@@ -141,7 +159,8 @@ returns-in_err-write_plan-clause-compacts g c j two told same holds =
     let m = c.args.journal.now in
     let f = c.args.state.now.facts in
     let o0 = g.D.Disk.tells c.args.disk.now in
-    let few : m.file < 2 = subst (λ (k : ℕ). k < 2) c.file-file.ensures.value c.file-file.ensures.within in
+    let few : m.file < 2 =
+    subst (λ (k : ℕ). k < 2) c.file-file.ensures.value c.file-file.ensures.within in
     let n0 = c.in_ok-writer.writer in
     let o1 = g.D.Disk.tells c.begin.new.disk in
     let begun : Begun m n0 o0 o1 =
@@ -150,9 +169,11 @@ returns-in_err-write_plan-clause-compacts g c j two told same holds =
     c.begin.ensures.moments c.begin.ensures.run in
     let e = c.in_err-write_plan.field-0.0 in
     let o2 = g.D.Disk.tells c.write_plan.new.disk in
-    write_failed clients m n0 j two o0 o1 o2 e c.from_residual-in_err-write_plan.result few holds told begun
+    write_failed clients m n0 j two o0 o1 o2 e c.from_residual-in_err-write_plan.result few holds
+    told begun
     c.in_err-write_plan.ensures.shut c.in_err-write_plan.ensures.idle
-    (err_is c.from_residual-in_err-write_plan.result (fault_of e) c.from_residual-in_err-write_plan.ensures.1)
+    (err_is c.from_residual-in_err-write_plan.result (fault_of e)
+    c.from_residual-in_err-write_plan.ensures.1)
 
 pub returns-in_err-publish-clause-room : goal.returns-in_err-publish-clause-room
 returns-in_err-publish-clause-room g c =
@@ -161,12 +182,16 @@ returns-in_err-publish-clause-room g c =
     let f = c.args.state.now.facts in
     let o0 = g.D.Disk.tells c.args.disk.now in
     let p = c.in_ok-plan.plan in
-    let plan : IsPlan clients f p = c.in_ok-plan.ensures clients (ap (told_entries f.held) c.as_slice.ensures.value
+    let plan : IsPlan clients f p =
+    c.in_ok-plan.ensures clients (ap (told_entries f.held) c.as_slice.ensures.value
     ∙ c.in_ok-told.ensures.told) in
     let within : compacted_len clients f ≤ c.args.limit =
-    within_limit clients f p c.args.limit c.len.result c.requires.limit plan c.len.ensures c.if-len-limit.false in
-    fault_weighs clients f c.args.limit migration.DiskFault c.from_residual-in_err-publish.result within
-    (err_is c.from_residual-in_err-publish.result fault.DiskFault c.from_residual-in_err-publish.ensures.1)
+    within_limit clients f p c.args.limit c.len.result c.requires.limit plan c.len.ensures
+    c.if-len-limit.false in
+    fault_weighs clients f c.args.limit migration.DiskFault c.from_residual-in_err-publish.result
+    within
+    (err_is c.from_residual-in_err-publish.result fault.DiskFault
+    c.from_residual-in_err-publish.ensures.1)
 
 pub returns-in_err-publish-clause-compacts : goal.returns-in_err-publish-clause-compacts
 returns-in_err-publish-clause-compacts g c j two told same holds =
@@ -174,12 +199,15 @@ returns-in_err-publish-clause-compacts g c j two told same holds =
     let m = c.args.journal.now in
     let f = c.args.state.now.facts in
     let o0 = g.D.Disk.tells c.args.disk.now in
-    let few : m.file < 2 = subst (λ (k : ℕ). k < 2) c.file-file.ensures.value c.file-file.ensures.within in
+    let few : m.file < 2 =
+    subst (λ (k : ℕ). k < 2) c.file-file.ensures.value c.file-file.ensures.within in
     let p = c.in_ok-plan.plan in
-    let plan : IsPlan clients f p = c.in_ok-plan.ensures clients (ap (told_entries f.held) c.as_slice.ensures.value
+    let plan : IsPlan clients f p =
+    c.in_ok-plan.ensures clients (ap (told_entries f.held) c.as_slice.ensures.value
     ∙ c.in_ok-told.ensures.told) in
     let within : compacted_len clients f ≤ c.args.limit =
-    within_limit clients f p c.args.limit c.len.result c.requires.limit plan c.len.ensures c.if-len-limit.false in
+    within_limit clients f p c.args.limit c.len.result c.requires.limit plan c.len.ensures
+    c.if-len-limit.false in
     let room : compacted_len clients f ≤ 268435456 = omega (arith, within, c.requires.limit) in
     let n0 = c.in_ok-writer.writer in
     let o1 = g.D.Disk.tells c.begin.new.disk in
@@ -191,13 +219,17 @@ returns-in_err-publish-clause-compacts g c j two told same holds =
     let o2 = g.D.Disk.tells c.write_plan.new.disk in
     let o3 = g.D.Disk.tells c.publish.new.disk in
     let many : m.generation + 1 < 2 ^ 64 = omega (arith, c.requires.generation) in
-    open_failed c.cite_laws.ensures clients f p m n0 n j two o0 o1 o2 o3 told few many holds same c.requires.still
+    open_failed c.cite_laws.ensures clients f p m n0 n j two o0 o1 o2 o3 told few many holds same
+    c.requires.still
     plan c.in_ok-write_plan.ensures.within room begun
-    c.in_ok-write_plan.ensures.adding c.in_ok-write_plan.ensures.works c.in_ok-write_plan.ensures.shut
+    c.in_ok-write_plan.ensures.adding c.in_ok-write_plan.ensures.works
+    c.in_ok-write_plan.ensures.shut
     c.write_plan.ensures.run
-    (λ t at. subst (λ (k : ℕ). PassedMoments t o2 o3 k (ShutOrOpened (file_of t k).now)) c.file.ensures.value
+    (λ t at. subst (λ (k : ℕ). PassedMoments t o2 o3 k (ShutOrOpened (file_of t k).now))
+    c.file.ensures.value
     (c.publish.ensures.any_moment t at)) c.from_residual-in_err-publish.result
-    (err_is c.from_residual-in_err-publish.result fault.DiskFault c.from_residual-in_err-publish.ensures.1)
+    (err_is c.from_residual-in_err-publish.result fault.DiskFault
+    c.from_residual-in_err-publish.ensures.1)
 
 pub returns-clause-next : goal.returns-clause-next
 returns-clause-next g c =
@@ -206,7 +238,8 @@ returns-clause-next g c =
     let f = c.args.state.now.facts in
     let o0 = g.D.Disk.tells c.args.disk.now in
     let p = c.in_ok-plan.plan in
-    let plan : IsPlan clients f p = c.in_ok-plan.ensures clients (ap (told_entries f.held) c.as_slice.ensures.value
+    let plan : IsPlan clients f p =
+    c.in_ok-plan.ensures clients (ap (told_entries f.held) c.as_slice.ensures.value
     ∙ c.in_ok-told.ensures.told) in
     let n0 = c.in_ok-writer.writer in
     let o1 = g.D.Disk.tells c.begin.new.disk in
@@ -214,7 +247,8 @@ returns-clause-next g c =
     begun_so m n0 c.file-file.result c.generation-generation.result o0 o1 c.file-file.ensures.value
     c.generation-generation.ensures c.in_ok-writer.ensures.value c.in_ok-writer.ensures.prepared
     c.begin.ensures.moments c.begin.ensures.run in
-    compacted_so clients f p m n0 c.write_plan.new.writer o0 o1 o1.files (g.D.Disk.tells c.write_plan.new.disk).files
+    compacted_so clients f p m n0 c.write_plan.new.writer o0 o1 o1.files
+    (g.D.Disk.tells c.write_plan.new.disk).files
     plan begun c.in_ok-write_plan.ensures.adding
 
 pub returns-clause-room : goal.returns-clause-room
@@ -224,9 +258,11 @@ returns-clause-room g c =
     let f = c.args.state.now.facts in
     let o0 = g.D.Disk.tells c.args.disk.now in
     let p = c.in_ok-plan.plan in
-    let plan : IsPlan clients f p = c.in_ok-plan.ensures clients (ap (told_entries f.held) c.as_slice.ensures.value
+    let plan : IsPlan clients f p =
+    c.in_ok-plan.ensures clients (ap (told_entries f.held) c.as_slice.ensures.value
     ∙ c.in_ok-told.ensures.told) in
-    within_limit clients f p c.args.limit c.len.result c.requires.limit plan c.len.ensures c.if-len-limit.false
+    within_limit clients f p c.args.limit c.len.result c.requires.limit plan c.len.ensures
+    c.if-len-limit.false
 
 pub returns-clause-compacts : goal.returns-clause-compacts
 returns-clause-compacts g c j two told same holds =
@@ -234,12 +270,15 @@ returns-clause-compacts g c j two told same holds =
     let m = c.args.journal.now in
     let f = c.args.state.now.facts in
     let o0 = g.D.Disk.tells c.args.disk.now in
-    let few : m.file < 2 = subst (λ (k : ℕ). k < 2) c.file-file.ensures.value c.file-file.ensures.within in
+    let few : m.file < 2 =
+    subst (λ (k : ℕ). k < 2) c.file-file.ensures.value c.file-file.ensures.within in
     let p = c.in_ok-plan.plan in
-    let plan : IsPlan clients f p = c.in_ok-plan.ensures clients (ap (told_entries f.held) c.as_slice.ensures.value
+    let plan : IsPlan clients f p =
+    c.in_ok-plan.ensures clients (ap (told_entries f.held) c.as_slice.ensures.value
     ∙ c.in_ok-told.ensures.told) in
     let within : compacted_len clients f ≤ c.args.limit =
-    within_limit clients f p c.args.limit c.len.result c.requires.limit plan c.len.ensures c.if-len-limit.false in
+    within_limit clients f p c.args.limit c.len.result c.requires.limit plan c.len.ensures
+    c.if-len-limit.false in
     let room : compacted_len clients f ≤ 268435456 = omega (arith, within, c.requires.limit) in
     let n0 = c.in_ok-writer.writer in
     let o1 = g.D.Disk.tells c.begin.new.disk in
@@ -251,10 +290,14 @@ returns-clause-compacts g c j two told same holds =
     let o2 = g.D.Disk.tells c.write_plan.new.disk in
     let o3 = g.D.Disk.tells c.publish.new.disk in
     let many : m.generation + 1 < 2 ^ 64 = omega (arith, c.requires.generation) in
-    opened_so c.cite_laws.ensures clients f p m n0 n j two o0 o1 o2 o3 told few many holds same c.requires.still plan
+    opened_so c.cite_laws.ensures clients f p m n0 n j two o0 o1 o2 o3 told few many holds same
+    c.requires.still plan
     c.in_ok-write_plan.ensures.within room begun
-    c.in_ok-write_plan.ensures.adding c.in_ok-write_plan.ensures.works c.in_ok-write_plan.ensures.shut
+    c.in_ok-write_plan.ensures.adding c.in_ok-write_plan.ensures.works
+    c.in_ok-write_plan.ensures.shut
     c.write_plan.ensures.run
-    (λ t at. subst (λ (k : ℕ). PassedMoments t o2 o3 k (ShutOrOpened (file_of t k).now)) c.file.ensures.value
+    (λ t at. subst (λ (k : ℕ). PassedMoments t o2 o3 k (ShutOrOpened (file_of t k).now))
+    c.file.ensures.value
     (c.publish.ensures.any_moment t at))
-    (subst (λ (k : ℕ). RelatesTold (PublishesHeader k) o2.files o3.files) c.file.ensures.value c.in_ok-publish.ensures.published)
+    (subst (λ (k : ℕ). RelatesTold (PublishesHeader k) o2.files o3.files) c.file.ensures.value
+    c.in_ok-publish.ensures.published)

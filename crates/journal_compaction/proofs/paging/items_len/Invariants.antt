@@ -6,6 +6,7 @@ use Rattle.journal_compaction.proofs.paging.items_len.Given as goal
 abbrev pub invariant-items : goal.invariant-items
 invariant-items l = record {
   few : l.len ≤ 2 ^ 64 - 1;
-  whole : min (l.len + items_len l.state.facts l.most l.left (drop l.item-index l.items)) (2 ^ 64 - 1)
+  whole : min (l.len + items_len l.state.facts l.most l.left (drop l.item-index l.items))
+      (2 ^ 64 - 1)
       ≡ min (items_len l.state.facts l.most 0 l.items) (2 ^ 64 - 1);
 }

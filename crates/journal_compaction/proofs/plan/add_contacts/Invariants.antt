@@ -4,4 +4,5 @@ use Rattle.journal_compaction.proofs.plan.add_contacts.Given as goal
 
 -- the contacts so far
 abbrev pub invariant-contacts : goal.invariant-contacts
-invariant-contacts l = AddsItems l.state.facts is_alone l.fn.items.items l.items.items (contact_entries l.contact)
+invariant-contacts l =
+    AddsItems l.state.facts is_alone l.fn.items.items l.items.items (contact_entries l.contact)

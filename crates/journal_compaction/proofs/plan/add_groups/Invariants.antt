@@ -6,4 +6,5 @@ use Rattle.journal_compaction.proofs.plan.add_groups.Given as goal
 -- the groups so far
 abbrev pub invariant-groups : goal.invariant-groups
 invariant-groups l =
-    AddsItems l.state.facts is_alone l.fn.items.items l.items.items (group_entries (take l.n l.state.facts.groups))
+    AddsItems l.state.facts is_alone l.fn.items.items l.items.items
+    (group_entries (take l.n l.state.facts.groups))

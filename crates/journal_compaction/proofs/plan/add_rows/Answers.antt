@@ -10,9 +10,12 @@ rows-preserved c =
     let so_far = c.rows.items.items in
     elim c.if-has_row.branch [
       | then-has_row+in_ok-push w ↦
-          row_more f c.args.contact c.args.items.now.items so_far c.if-has_row.items.items c.rows.n few c.rows.invariant
-          (sym c.has_row.ensures ∙ w.if-has_row.true) (ap (λ v. v.items) w.items-is ∙ w.in_ok-push.ensures.items)
+          row_more f c.args.contact c.args.items.now.items so_far c.if-has_row.items.items c.rows.n
+          few c.rows.invariant
+          (sym c.has_row.ensures ∙ w.if-has_row.true) (ap (λ v. v.items) w.items-is
+          ∙ w.in_ok-push.ensures.items)
       | else-has_row w ↦
-          row_none f c.args.contact c.args.items.now.items so_far c.if-has_row.items.items c.rows.n few c.rows.invariant
+          row_none f c.args.contact c.args.items.now.items so_far c.if-has_row.items.items c.rows.n
+          few c.rows.invariant
           (sym c.has_row.ensures ∙ w.if-has_row.false) (ap (λ v. v.items) w.items-is)
     ]

@@ -8,5 +8,6 @@ wants-preserved c =
     let f = c.args.state.now.facts in
     let few : c.wants.n < length (wanted_from f.wanted c.args.contact) =
     omega (arith, c.wants-test.true, c.wanted_count-n-end.ensures) in
-    want_more f c.args.contact c.args.items.now.items c.wants.items.items c.push.new.self.items c.wants.n few
+    want_more f c.args.contact c.args.items.now.items c.wants.items.items c.push.new.self.items
+    c.wants.n few
     c.in_ok-push.ensures.items c.wants.invariant

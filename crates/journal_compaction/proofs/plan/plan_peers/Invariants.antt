@@ -5,4 +5,5 @@ use Rattle.journal_compaction.proofs.plan.plan_peers.Given as goal
 
 -- the rows and wanted ids of the contacts so far
 abbrev pub invariant-contacts : goal.invariant-contacts
-invariant-contacts l = AddsItems l.state.facts is_peer [] l.items.items (peer_entries l.state.facts l.contact)
+invariant-contacts l =
+    AddsItems l.state.facts is_peer [] l.items.items (peer_entries l.state.facts l.contact)

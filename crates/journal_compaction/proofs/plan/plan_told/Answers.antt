@@ -17,7 +17,8 @@ told-preserved c f within =
     let so_far = c.told.items.items in
     let is : c.push.new.self.items ≡ so_far ++ item_told t ∷ [] =
     c.in_ok-push.ensures.items ∙ ap (λ (i : Item). so_far ++ i ∷ []) c.item_told.ensures in
-    told_more f ts [] so_far c.push.new.self.items n t (slice_get-get_or ts n (told.Kept 0) c.told-test.true) within
+    told_more f ts [] so_far c.push.new.self.items n t
+    (slice_get-get_or ts n (told.Kept 0) c.told-test.true) within
     is (c.told.invariant f within)
 
 pub returns : goal.returns
@@ -25,5 +26,6 @@ returns c f within =
     let ts = c.args.told.now in
     let all = take_all c.told.one-index ts c.told-test.false in
     adds_all f is_told c.told.items.items (told_entries f.held ts)
-    (subst (λ (l : List Told). AddsItems f is_told [] c.told.items.items (told_entries f.held l)) all
+    (subst (λ (l : List Told). AddsItems f is_told [] c.told.items.items (told_entries f.held l))
+    all
     (c.told.invariant f within))

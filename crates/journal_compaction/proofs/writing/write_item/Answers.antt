@@ -13,7 +13,8 @@ returns-clause-space g c =
     let bytes = bytes_of f i in
     let is : c.append_item.new.to.items ≡ page_for c.args.left page i ++ bytes =
     c.in_ok-append_item.ensures.ok
-    ∙ ap (λ (p : List ℕ). p ++ bytes) (c.in_ok-flush.ensures.left ∙ ap (λ j. cond j page []) c.joins.ensures) in
+    ∙ ap (λ (p : List ℕ). p ++ bytes) (c.in_ok-flush.ensures.left
+    ∙ ap (λ j. cond j page []) c.joins.ensures) in
     subst (λ (p : List ℕ). HasSpace c.left_after.result p) (sym is)
     (subst (λ (n : ℕ). HasSpace n (page_for c.args.left page i ++ bytes)) (sym c.left_after.ensures)
     (space_after f c.args.most c.args.left page i c.requires.some c.requires.few c.requires.space

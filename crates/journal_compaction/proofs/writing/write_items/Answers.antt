@@ -18,10 +18,13 @@ items-init g c =
     record {
       space = omega (arith, ap length c.requires.empty);
       within = tt;
-      written = written_none c.args.state.now.facts c.args.most c.args.items.now c.args.page.now.payload.items
+      written = written_none c.args.state.now.facts c.args.most c.args.items.now
+          c.args.page.now.payload.items
           c.args.writer.now o.files c.requires.empty;
       works = c.requires.works;
-      shut = shut_none c.args.writer.now.file o (idle_works c.args.writer.now o.files c.requires.works);
+      shut =
+          shut_none c.args.writer.now.file o
+          (idle_works c.args.writer.now o.files c.requires.works);
       run = run_none o;
     }
 
@@ -44,15 +47,18 @@ items-preserved g c =
     (drop_more items n item.Brief c.items-test.true) c.items.invariant.written in
     record {
       space = c.in_ok-left.ensures.space;
-      within = all_more (λ k. IsEntry (entry_of f k)) items n i (take_more items n item.Brief c.items-test.true)
+      within = all_more (λ k. IsEntry (entry_of f k)) items n i
+          (take_more items n item.Brief c.items-test.true)
           c.items.invariant.within c.in_ok-left.ensures.within;
       written =
-          written_more f most items rest i c.items.left page n0 n1 o0.files o1.files so_far c.in_ok-left.left
+          written_more f most items rest i c.items.left page n0 n1 o0.files o1.files so_far
+          c.in_ok-left.left
           c.write_item.new.page.payload.items c.write_item.new.writer o2.files
           c.in_ok-left.ensures.left c.in_ok-left.ensures.page c.in_ok-left.ensures.adding;
       works = c.in_ok-left.ensures.works;
       shut =
-          shut_then n0 n1 c.items.invariant.written.added o0 o1 o2 c.items.invariant.shut c.items.invariant.run
+          shut_then n0 n1 c.items.invariant.written.added o0 o1 o2 c.items.invariant.shut
+          c.items.invariant.run
           c.items.invariant.written.adding c.in_ok-left.ensures.shut;
       run = run_then o0 o1 o2 c.items.invariant.run c.in_ok-left.ensures.run;
     }
@@ -69,8 +75,11 @@ returns-clause-adding g c =
     let o0 = (g.D.Disk.tells c.args.disk.now).files in
     let o1 = (g.D.Disk.tells c.items.disk).files in
     let o2 = (g.D.Disk.tells c.flush.new.disk).files in
-    let none : drop c.items.item-index items ≡ [] = drop_all c.items.item-index items c.items-test.false in
-    on_ok_map c.flush.result (WritesPayloads n1 n2 (closed_page page) o1 o2) (WritesPayloads n0 n2 (pages f most 0 [] items) o0 o2)
-    (λ adding. written_all f most items (drop c.items.item-index items) c.items.left page n0 n1 o0 o1 none
+    let none : drop c.items.item-index items ≡ [] =
+    drop_all c.items.item-index items c.items-test.false in
+    on_ok_map c.flush.result (WritesPayloads n1 n2 (closed_page page) o1 o2)
+    (WritesPayloads n0 n2 (pages f most 0 [] items) o0 o2)
+    (λ adding. written_all f most items (drop c.items.item-index items) c.items.left page n0 n1 o0
+    o1 none
     c.items.invariant.written n2 o2 adding)
     c.flush.ensures.adding

@@ -12,7 +12,8 @@ abbrev pub invariant-items : goal.invariant-items
 invariant-items g l = record {
   space : HasSpace l.left l.page.payload.items;
   within : AllByRecursion (λ i. IsEntry (entry_of l.state.facts i)) (take l.item-index l.items);
-  written : Written l.state.facts l.most l.items (drop l.item-index l.items) l.left l.page.payload.items l.fn.writer
+  written : Written l.state.facts l.most l.items
+      (drop l.item-index l.items) l.left l.page.payload.items l.fn.writer
       l.writer
       (g.D.Disk.tells l.fn.disk).files (g.D.Disk.tells l.disk).files;
   works : ForSome (g.D.Disk.tells l.disk).files (IsWriterShut l.writer);

@@ -21,18 +21,23 @@ returns-clause-adding g c =
     let o2 = (g.D.Disk.tells c.write_items-2.new.disk).files in
     let o3 = (g.D.Disk.tells c.write_items-3.new.disk).files in
     let head : WritesPayloads n0 n1 (pages f MAX_STEPS 0 [] p.head.items) o0 o1 =
-    subst (λ (l : List Item). WritesPayloads n0 n1 (pages f MAX_STEPS 0 [] l) o0 o1) c.as_slice.ensures.value
+    subst (λ (l : List Item). WritesPayloads n0 n1 (pages f MAX_STEPS 0 [] l) o0 o1)
+    c.as_slice.ensures.value
     c.in_ok-write_items.ensures.adding in
     let told : WritesPayloads n1 n2 (pages f MAX_STEPS 0 [] p.told.items) o1 o2 =
-    subst (λ (l : List Item). WritesPayloads n1 n2 (pages f MAX_STEPS 0 [] l) o1 o2) c.as_slice-2.ensures.value
+    subst (λ (l : List Item). WritesPayloads n1 n2 (pages f MAX_STEPS 0 [] l) o1 o2)
+    c.as_slice-2.ensures.value
     c.in_ok-write_items-2.ensures.adding in
-    on_ok_map c.write_items-3.result (WritesPayloads n2 n3 (pages f MAX_ROWS 0 [] c.as_slice-3.result.now) o2 o3)
+    on_ok_map c.write_items-3.result
+    (WritesPayloads n2 n3 (pages f MAX_ROWS 0 [] c.as_slice-3.result.now) o2 o3)
     (WritesPayloads n0 n3 (plan_pages f p) o0 o3)
     (λ adding.
     let peers : WritesPayloads n2 n3 (pages f MAX_ROWS 0 [] p.peers.items) o2 o3 =
-    subst (λ (l : List Item). WritesPayloads n2 n3 (pages f MAX_ROWS 0 [] l) o2 o3) c.as_slice-3.ensures.value adding in
+    subst (λ (l : List Item). WritesPayloads n2 n3 (pages f MAX_ROWS 0 [] l) o2 o3)
+    c.as_slice-3.ensures.value adding in
     adding_then n0 n1 n3 (pages f MAX_STEPS 0 [] p.head.items)
     (pages f MAX_STEPS 0 [] p.told.items ++ pages f MAX_ROWS 0 [] p.peers.items) o0 o1 o3 head
-    (adding_then n1 n2 n3 (pages f MAX_STEPS 0 [] p.told.items) (pages f MAX_ROWS 0 [] p.peers.items) o1 o2 o3 told
+    (adding_then n1 n2 n3 (pages f MAX_STEPS 0 [] p.told.items)
+    (pages f MAX_ROWS 0 [] p.peers.items) o1 o2 o3 told
     peers))
     c.write_items-3.ensures.adding

@@ -15,10 +15,14 @@ invariant-frames g l = record {
   pair : IsPair l.reader l.writer;
   works : ForSome (g.D.Disk.tells l.disk).files (AreBothShut l.reader l.writer);
   same : IsSamePair l.fn.reader l.reader l.fn.writer l.writer;
-  copies : (clients : Meaning) (generation : ℕ) (j : List (List Entry)) (two : Two File) → (g.D.Disk.tells l.fn.disk).files ≡ Some two
+  copies : (clients : Meaning) (generation : ℕ) (j : List (List Entry)) (two : Two File)
+      → (g.D.Disk.tells l.fn.disk).files ≡ Some two
       → CopiesBatches clients l.state.facts generation j l.fn.reader l.fn.writer 0 two
-      → KeepsJournal clients j (CopiesBatches clients l.state.facts generation j l.reader l.writer l.count) (g.D.Disk.tells l.fn.disk) (g.D.Disk.tells l.disk);
-  own : RelatesTold (KeepsFile l.fn.reader.file) (g.D.Disk.tells l.fn.disk).files (g.D.Disk.tells l.disk).files;
+      → KeepsJournal clients j
+      (CopiesBatches clients l.state.facts generation j l.reader l.writer l.count)
+      (g.D.Disk.tells l.fn.disk) (g.D.Disk.tells l.disk);
+  own : RelatesTold (KeepsFile l.fn.reader.file) (g.D.Disk.tells l.fn.disk).files
+      (g.D.Disk.tells l.disk).files;
   run : DiskRun (g.D.Disk.tells l.fn.disk) (g.D.Disk.tells l.disk);
 }
 

@@ -6,7 +6,8 @@ use Rattle.entry_codec.specs.Payloads.{names_of}
 use Rattle.journal_migration.specs.Copying.{IsRespelled}
 use Rattle.journal_migration.specs.Faults.{fault_of_frame}
 use Rattle.journal_migration.specs.declared.fault.MigrationFault.TheVariants as fault
-use Rattle.journal_migration.proofs.Copied.{copied_all, copied_cut, copied_not, copied_one, next_false, next_true}
+use Rattle.journal_migration.proofs.Copied.{copied_all, copied_cut, copied_not, copied_one}
+use Rattle.journal_migration.proofs.Copied.{next_false, next_true}
 use Rattle.journal_migration.proofs.Errors.{err_is}
 use Rattle.journal_migration.proofs.Own.{own_cut, own_fault, own_looks, own_step, own_then}
 use Rattle.journal_migration.proofs.Shut.{moves_true, works_appended}
@@ -15,31 +16,41 @@ use Rattle.journal_migration.proofs.copying.copy_next.Goals as goal
 pub returns-in_err-more-clause-copies : goal.returns-in_err-more-clause-copies
 returns-in_err-more-clause-copies g c clients generation j two told copies =
     let e = fault_of_frame c.in_err-more.field-0.0 in
-    copied_not clients c.args.state.now.facts generation j c.args.reader.now c.next_frame.new.self c.args.writer.now c.args.writer.now c.args.count
-    (g.D.Disk.tells c.args.disk.now) (g.D.Disk.tells c.next_frame.new.disk) two told c.requires.pair copies c.next_frame.ensures.looks e c.from_residual.result
+    copied_not clients c.args.state.now.facts generation j c.args.reader.now c.next_frame.new.self
+    c.args.writer.now c.args.writer.now c.args.count
+    (g.D.Disk.tells c.args.disk.now) (g.D.Disk.tells c.next_frame.new.disk) two told c.requires.pair
+    copies c.next_frame.ensures.looks e c.from_residual.result
     (err_is c.from_residual.result e c.from_residual.ensures.1)
 
 pub returns-then-not-more-clause-copies : goal.returns-then-not-more-clause-copies
 returns-then-not-more-clause-copies g c clients generation j two told copies =
     let r = c.args.reader.now in
     let r' = c.next_frame.new.self in
-    let next = next_false (file_of two r.file).now r r' c.next_frame.new.to.items c.in_ok-more.more c.if-not-more.true (c.in_ok-more.ensures.next two told) in
+    let next = next_false (file_of two r.file).now r r' c.next_frame.new.to.items c.in_ok-more.more
+    c.if-not-more.true (c.in_ok-more.ensures.next two told) in
     copied_all clients c.args.state.now.facts generation j r r' c.args.writer.now c.args.count
-    (g.D.Disk.tells c.args.disk.now) (g.D.Disk.tells c.next_frame.new.disk) two told c.requires.pair copies c.next_frame.ensures.looks next.1 next.0
+    (g.D.Disk.tells c.args.disk.now) (g.D.Disk.tells c.next_frame.new.disk) two told c.requires.pair
+    copies c.next_frame.ensures.looks next.1 next.0
 
 pub returns-in_err-respelled-clause-copies : goal.returns-in_err-respelled-clause-copies
 returns-in_err-respelled-clause-copies g c clients generation j two told copies =
     let e = c.in_err-respelled.field-0.0 in
-    copied_not clients c.args.state.now.facts generation j c.args.reader.now c.next_frame.new.self c.args.writer.now c.args.writer.now c.args.count
-    (g.D.Disk.tells c.args.disk.now) (g.D.Disk.tells c.next_frame.new.disk) two told c.requires.pair copies c.next_frame.ensures.looks e c.from_residual-in_err-respelled.result
+    copied_not clients c.args.state.now.facts generation j c.args.reader.now c.next_frame.new.self
+    c.args.writer.now c.args.writer.now c.args.count
+    (g.D.Disk.tells c.args.disk.now) (g.D.Disk.tells c.next_frame.new.disk) two told c.requires.pair
+    copies c.next_frame.ensures.looks e c.from_residual-in_err-respelled.result
     (err_is c.from_residual-in_err-respelled.result e c.from_residual-in_err-respelled.ensures.1)
 
 pub returns-in_err-append-clause-copies : goal.returns-in_err-append-clause-copies
 returns-in_err-append-clause-copies g c clients generation j two told copies =
-    copied_cut clients c.args.state.now.facts generation j c.args.reader.now c.next_frame.new.self c.args.writer.now c.append.new.self c.args.count c.as_slice-2.result.now
-    (g.D.Disk.tells c.args.disk.now) (g.D.Disk.tells c.next_frame.new.disk) (g.D.Disk.tells c.append.new.disk) two told c.requires.pair copies c.next_frame.ensures.looks
+    copied_cut clients c.args.state.now.facts generation j c.args.reader.now c.next_frame.new.self
+    c.args.writer.now c.append.new.self c.args.count c.as_slice-2.result.now
+    (g.D.Disk.tells c.args.disk.now) (g.D.Disk.tells c.next_frame.new.disk)
+    (g.D.Disk.tells c.append.new.disk) two told c.requires.pair copies
+    c.next_frame.ensures.looks
     c.in_err-append.ensures.any_moment c.from_residual-in_err-append.result
-    (err_is c.from_residual-in_err-append.result fault.DiskFault c.from_residual-in_err-append.ensures.1)
+    (err_is c.from_residual-in_err-append.result fault.DiskFault
+    c.from_residual-in_err-append.ensures.1)
 
 pub returns-clause-works : goal.returns-clause-works
 returns-clause-works g c =
@@ -47,16 +58,26 @@ returns-clause-works g c =
     let r' = c.next_frame.new.self in
     let to = c.next_frame.new.to.items in
     let f = c.args.state.now.facts in
-    let respelled : IsRespelled (take c.args.count (names_of f)) to c.as_slice-2.result.now c.in_ok-respelled.respelled.brought =
-    subst (λ (framed : List ℕ). IsRespelled (take c.args.count (names_of f)) to framed c.in_ok-respelled.respelled.brought) (sym c.as_slice-2.ensures.value)
-    (subst (λ (bytes : List ℕ). IsRespelled (take c.args.count (names_of f)) bytes c.in_ok-respelled.respelled.framed.items c.in_ok-respelled.respelled.brought) c.as_slice.ensures.value
+    let respelled : IsRespelled (take c.args.count (names_of f)) to c.as_slice-2.result.now
+    c.in_ok-respelled.respelled.brought =
+    subst (λ (framed : List ℕ).
+    IsRespelled (take c.args.count (names_of f)) to framed c.in_ok-respelled.respelled.brought)
+    (sym c.as_slice-2.ensures.value)
+    (subst (λ (bytes : List ℕ).
+    IsRespelled (take c.args.count (names_of f)) bytes c.in_ok-respelled.respelled.framed.items
+    c.in_ok-respelled.respelled.brought) c.as_slice.ensures.value
     c.in_ok-respelled.ensures.spelled) in
-    works_appended r r' c.args.writer.now c.append.new.self (take c.args.count (names_of f)) to c.as_slice-2.result.now c.in_ok-respelled.respelled.brought
-    (g.D.Disk.tells c.args.disk.now) (g.D.Disk.tells c.next_frame.new.disk) (g.D.Disk.tells c.append.new.disk) c.requires.pair c.requires.works c.next_frame.ensures.looks
+    works_appended r r' c.args.writer.now c.append.new.self (take c.args.count (names_of f)) to
+    c.as_slice-2.result.now c.in_ok-respelled.respelled.brought
+    (g.D.Disk.tells c.args.disk.now) (g.D.Disk.tells c.next_frame.new.disk)
+    (g.D.Disk.tells c.append.new.disk) c.requires.pair c.requires.works
+    c.next_frame.ensures.looks
     c.append.ensures.run c.in_ok-append.ensures.appended
-    (λ two told. next_true (file_of two r.file).now r r' to c.in_ok-more.more c.if-not-more.false (c.in_ok-more.ensures.next two told))
+    (λ two told. next_true (file_of two r.file).now r r' to c.in_ok-more.more c.if-not-more.false
+    (c.in_ok-more.ensures.next two told))
     (moves_true r r' c.in_ok-more.more c.if-not-more.false c.in_ok-more.ensures.moves) respelled
-    (ap (λ (v : JournalValue). v.file) c.in_ok-append.ensures.ok) (ap (λ (v : JournalValue). v.end) c.in_ok-append.ensures.ok)
+    (ap (λ (v : JournalValue). v.file) c.in_ok-append.ensures.ok)
+    (ap (λ (v : JournalValue). v.end) c.in_ok-append.ensures.ok)
 
 pub returns-clause-copies : goal.returns-clause-copies
 returns-clause-copies g c clients generation j two told copies =
@@ -64,27 +85,39 @@ returns-clause-copies g c clients generation j two told copies =
     let r' = c.next_frame.new.self in
     let to = c.next_frame.new.to.items in
     let f = c.args.state.now.facts in
-    let respelled : IsRespelled (take c.args.count (names_of f)) to c.as_slice-2.result.now c.in_ok-respelled.respelled.brought =
-    subst (λ (framed : List ℕ). IsRespelled (take c.args.count (names_of f)) to framed c.in_ok-respelled.respelled.brought) (sym c.as_slice-2.ensures.value)
-    (subst (λ (bytes : List ℕ). IsRespelled (take c.args.count (names_of f)) bytes c.in_ok-respelled.respelled.framed.items c.in_ok-respelled.respelled.brought) c.as_slice.ensures.value
+    let respelled : IsRespelled (take c.args.count (names_of f)) to c.as_slice-2.result.now
+    c.in_ok-respelled.respelled.brought =
+    subst (λ (framed : List ℕ).
+    IsRespelled (take c.args.count (names_of f)) to framed c.in_ok-respelled.respelled.brought)
+    (sym c.as_slice-2.ensures.value)
+    (subst (λ (bytes : List ℕ).
+    IsRespelled (take c.args.count (names_of f)) bytes c.in_ok-respelled.respelled.framed.items
+    c.in_ok-respelled.respelled.brought) c.as_slice.ensures.value
     c.in_ok-respelled.ensures.spelled) in
-    copied_one c.cite_laws.ensures clients f generation j r r' c.args.writer.now c.append.new.self c.args.count c.in_ok-respelled.respelled.brought to c.as_slice-2.result.now
-    (g.D.Disk.tells c.args.disk.now) (g.D.Disk.tells c.next_frame.new.disk) (g.D.Disk.tells c.append.new.disk) two told c.requires.pair copies c.next_frame.ensures.looks
+    copied_one c.cite_laws.ensures clients f generation j r r' c.args.writer.now c.append.new.self
+    c.args.count c.in_ok-respelled.respelled.brought to c.as_slice-2.result.now
+    (g.D.Disk.tells c.args.disk.now) (g.D.Disk.tells c.next_frame.new.disk)
+    (g.D.Disk.tells c.append.new.disk) two told c.requires.pair copies
+    c.next_frame.ensures.looks
     c.in_ok-append.ensures.any_moment c.in_ok-append.ensures.appended c.show_sound.ensures.few
-    (next_true (file_of two r.file).now r r' to c.in_ok-more.more c.if-not-more.false (c.in_ok-more.ensures.next two told)) respelled
-    (ap (λ (v : JournalValue). v.end) c.in_ok-append.ensures.ok) (ap (λ (v : JournalValue). v.file) c.in_ok-append.ensures.ok)
+    (next_true (file_of two r.file).now r r' to c.in_ok-more.more c.if-not-more.false
+    (c.in_ok-more.ensures.next two told)) respelled
+    (ap (λ (v : JournalValue). v.end) c.in_ok-append.ensures.ok)
+    (ap (λ (v : JournalValue). v.file) c.in_ok-append.ensures.ok)
 
 pub returns-in_err-more-clause-own : goal.returns-in_err-more-clause-own
 returns-in_err-more-clause-own g c =
     let o = g.D.Disk.tells c.args.disk.now in
     let o' = g.D.Disk.tells c.next_frame.new.disk in
     let e = fault_of_frame c.in_err-more.field-0.0 in
-    own_fault c.args.reader.now.file o.files o'.files e c.from_residual.result (err_is c.from_residual.result e c.from_residual.ensures.1)
+    own_fault c.args.reader.now.file o.files o'.files e c.from_residual.result
+    (err_is c.from_residual.result e c.from_residual.ensures.1)
     (own_looks c.args.reader.now.file o o' c.next_frame.ensures.looks)
 
 pub returns-then-not-more-clause-own : goal.returns-then-not-more-clause-own
 returns-then-not-more-clause-own g c =
-    own_looks c.args.reader.now.file (g.D.Disk.tells c.args.disk.now) (g.D.Disk.tells c.next_frame.new.disk) c.next_frame.ensures.looks
+    own_looks c.args.reader.now.file (g.D.Disk.tells c.args.disk.now)
+    (g.D.Disk.tells c.next_frame.new.disk) c.next_frame.ensures.looks
 
 pub returns-in_err-respelled-clause-own : goal.returns-in_err-respelled-clause-own
 returns-in_err-respelled-clause-own g c =
@@ -92,12 +125,15 @@ returns-in_err-respelled-clause-own g c =
     let o' = g.D.Disk.tells c.next_frame.new.disk in
     let e = c.in_err-respelled.field-0.0 in
     own_fault c.args.reader.now.file o.files o'.files e c.from_residual-in_err-respelled.result
-    (err_is c.from_residual-in_err-respelled.result e c.from_residual-in_err-respelled.ensures.1) (own_looks c.args.reader.now.file o o' c.next_frame.ensures.looks)
+    (err_is c.from_residual-in_err-respelled.result e c.from_residual-in_err-respelled.ensures.1)
+    (own_looks c.args.reader.now.file o o' c.next_frame.ensures.looks)
 
 pub returns-in_err-append-clause-own : goal.returns-in_err-append-clause-own
 returns-in_err-append-clause-own g c =
-    own_cut c.args.reader.now.file (g.D.Disk.tells c.args.disk.now).files (g.D.Disk.tells c.append.new.disk).files c.from_residual-in_err-append.result
-    (err_is c.from_residual-in_err-append.result fault.DiskFault c.from_residual-in_err-append.ensures.1)
+    own_cut c.args.reader.now.file (g.D.Disk.tells c.args.disk.now).files
+    (g.D.Disk.tells c.append.new.disk).files c.from_residual-in_err-append.result
+    (err_is c.from_residual-in_err-append.result fault.DiskFault
+    c.from_residual-in_err-append.ensures.1)
 
 pub returns-clause-own : goal.returns-clause-own
 returns-clause-own g c =
@@ -107,4 +143,6 @@ returns-clause-own g c =
     let file = c.args.reader.now.file in
     let n = c.args.writer.now in
     own_then file o.files o1.files o2.files (own_looks file o o1 c.next_frame.ensures.looks)
-    (own_step (AppendsFrame n.file n.end c.as_slice-2.result.now) file n.file o1.files o2.files c.requires.pair.reads c.requires.pair.writes (λ a b x. x.other) c.in_ok-append.ensures.appended)
+    (own_step (AppendsFrame n.file n.end c.as_slice-2.result.now) file n.file o1.files o2.files
+    c.requires.pair.reads c.requires.pair.writes (λ a b x.
+    x.other) c.in_ok-append.ensures.appended)

@@ -6,20 +6,24 @@ use Rattle.outside.proofs.CallSteps.{run_then}
 use Rattle.frame_journal.specs.Journal.{JournalValue}
 use Rattle.frame_journal.specs.Create.{IsPrepared, PublishesHeader, ShutOrOpened}
 use Rattle.journal_migration.specs.Faults.{fault_of_start}
-use Rattle.journal_migration.specs.Migrating.{KeepsFile, MigratesJournal, FilesHoldMigrated, ReadsOnly}
+use Rattle.journal_migration.specs.Migrating.{KeepsFile, MigratesJournal, FilesHoldMigrated}
+use Rattle.journal_migration.specs.Migrating.{ReadsOnly}
 use Rattle.journal_migration.specs.declared.fault.MigrationFault.{MigrationFault}
 use Rattle.journal_migration.specs.declared.fault.MigrationFault.TheVariants as fault
 use Rattle.journal_migration.proofs.Begun.{begun_copies, begun_so}
 use Rattle.journal_migration.proofs.Errors.{err_is}
-use Rattle.journal_migration.proofs.Migrated.{copy_elsewhere, copy_failed, looked_so, open_failed, opened_so}
-use Rattle.journal_migration.proofs.Own.{own_begun, own_cut, own_fault, own_later, own_looks, own_step, own_then}
+use Rattle.journal_migration.proofs.Migrated.{copy_elsewhere, copy_failed, looked_so, open_failed}
+use Rattle.journal_migration.proofs.Migrated.{opened_so}
+use Rattle.journal_migration.proofs.Own.{own_begun, own_cut, own_fault, own_later, own_looks}
+use Rattle.journal_migration.proofs.Own.{own_step, own_then}
 use Rattle.journal_migration.proofs.Shut.{prepared_so, works_ready}
 use Rattle.journal_migration.proofs.migrating.migrate.Goals as goal
 
 pub returns-in_err-reader-clause-migrates : goal.returns-in_err-reader-clause-migrates
 returns-in_err-reader-clause-migrates g c clients j two told same holds =
     let e = fault_of_start c.in_err-reader.field-0.0 in
-    looked_so clients c.args.file c.args.generation j (g.D.Disk.tells c.args.disk.now) (g.D.Disk.tells c.start.new.disk) two told c.requires.file holds c.start.ensures.looks e
+    looked_so clients c.args.file c.args.generation j (g.D.Disk.tells c.args.disk.now)
+    (g.D.Disk.tells c.start.new.disk) two told c.requires.file holds c.start.ensures.looks e
     c.from_residual.result (err_is c.from_residual.result e c.from_residual.ensures.1)
 
 pub returns-in_err-writer-clause-migrates : goal.returns-in_err-writer-clause-migrates
@@ -28,14 +32,22 @@ returns-in_err-writer-clause-migrates g c clients j two told same holds =
     let o2 = g.D.Disk.tells c.begin.new.disk in
     let r = c.in_ok-reader.reader in
     let result = c.from_residual-in_err-writer.result in
-    subst (λ (x : Result JournalValue MigrationFault). MigratesJournal clients c.args.file c.args.generation j o0 o2 x) (sym (err_is result fault.DiskFault c.from_residual-in_err-writer.ensures.1))
-    (begun_so clients c.args.state.now.facts c.args.generation j c.args.file r r o0 (g.D.Disk.tells c.start.new.disk) o2 two told c.requires.file holds c.start.ensures.looks c.begin.ensures.moments
+    subst (λ (x : Result JournalValue MigrationFault).
+    MigratesJournal clients c.args.file c.args.generation j o0 o2 x)
+    (sym (err_is result fault.DiskFault c.from_residual-in_err-writer.ensures.1))
+    (begun_so clients c.args.state.now.facts c.args.generation j c.args.file r r o0
+    (g.D.Disk.tells c.start.new.disk) o2 two told c.requires.file holds c.start.ensures.looks
+    c.begin.ensures.moments
     (FilesHoldMigrated clients c.args.file c.args.generation j (Err fault.DiskFault)) (λ t end. tt))
 
 pub copy_all-requires-clause-works : goal.copy_all-requires-clause-works
 copy_all-requires-clause-works g c =
-    works_ready c.args.file (c.args.generation + 1) c.in_ok-reader.reader c.in_ok-writer.writer (g.D.Disk.tells c.args.disk.now) (g.D.Disk.tells c.start.new.disk) (g.D.Disk.tells c.begin.new.disk)
-    c.requires.file c.requires.settled c.start.ensures.looks c.begin.ensures.run c.in_ok-reader.ensures.start c.in_ok-writer.ensures.prepared (sym c.file.ensures.value ∙ c.if-file.false)
+    works_ready c.args.file (c.args.generation + 1) c.in_ok-reader.reader c.in_ok-writer.writer
+    (g.D.Disk.tells c.args.disk.now) (g.D.Disk.tells c.start.new.disk)
+    (g.D.Disk.tells c.begin.new.disk)
+    c.requires.file c.requires.settled c.start.ensures.looks c.begin.ensures.run
+    c.in_ok-reader.ensures.start c.in_ok-writer.ensures.prepared (sym c.file.ensures.value
+    ∙ c.if-file.false)
     c.in_ok-writer.ensures.value
 
 pub returns-in_err-copy_all-clause-migrates : goal.returns-in_err-copy_all-clause-migrates
@@ -49,12 +61,15 @@ returns-in_err-copy_all-clause-migrates g c clients j two told same holds =
     let o1 = g.D.Disk.tells c.start.new.disk in
     let o2 = g.D.Disk.tells c.begin.new.disk in
     let reader : r.file ≡ file = sym c.file.ensures.value ∙ c.if-file.false in
-    let begun = begun_copies clients f generation j file r n o0 o1 o2 two told c.requires.file holds c.start.ensures.looks c.begin.ensures.moments same reader c.in_ok-reader.ensures.fresh.1
+    let begun = begun_copies clients f generation j file r n o0 o1 o2 two told c.requires.file holds
+    c.start.ensures.looks c.begin.ensures.moments same reader c.in_ok-reader.ensures.fresh.1
     c.in_ok-writer.ensures.value c.in_ok-writer.ensures.prepared in
     let e = c.in_err-copy_all.field-0.0 in
-    copy_failed clients f generation j file r n c.copy_all.new.reader c.copy_all.new.writer o0 o2 (g.D.Disk.tells c.copy_all.new.disk) two told
+    copy_failed clients f generation j file r n c.copy_all.new.reader c.copy_all.new.writer o0 o2
+    (g.D.Disk.tells c.copy_all.new.disk) two told
     (run_then o0 o1 o2 c.start.ensures.looks.run c.begin.ensures.run) reader begun e
-    (λ mid at copies. c.in_err-copy_all.ensures.copies clients generation j mid at copies) c.from_residual-in_err-copy_all.result
+    (λ mid at copies. c.in_err-copy_all.ensures.copies clients generation j mid at copies)
+    c.from_residual-in_err-copy_all.result
     (err_is c.from_residual-in_err-copy_all.result e c.from_residual-in_err-copy_all.ensures.1)
 
 pub returns-then-end-clause-migrates : goal.returns-then-end-clause-migrates
@@ -68,15 +83,20 @@ returns-then-end-clause-migrates g c clients j two told same holds =
     let o1 = g.D.Disk.tells c.start.new.disk in
     let o2 = g.D.Disk.tells c.begin.new.disk in
     let reader : r.file ≡ file = sym c.file.ensures.value ∙ c.if-file.false in
-    let begun = begun_copies clients f generation j file r n o0 o1 o2 two told c.requires.file holds c.start.ensures.looks c.begin.ensures.moments same reader c.in_ok-reader.ensures.fresh.1
+    let begun = begun_copies clients f generation j file r n o0 o1 o2 two told c.requires.file holds
+    c.start.ensures.looks c.begin.ensures.moments same reader c.in_ok-reader.ensures.fresh.1
     c.in_ok-writer.ensures.value c.in_ok-writer.ensures.prepared in
-    copy_elsewhere clients f generation j file r n c.copy_all.new.reader c.copy_all.new.writer o0 o2 (g.D.Disk.tells c.copy_all.new.disk) two told
+    copy_elsewhere clients f generation j file r n c.copy_all.new.reader c.copy_all.new.writer o0 o2
+    (g.D.Disk.tells c.copy_all.new.disk) two told
     (run_then o0 o1 o2 c.start.ensures.looks.run c.begin.ensures.run) reader begun
-    (λ mid at copies. c.in_ok-copy_all.ensures.copies clients generation j mid at copies) (c.in_ok-copy_all.ensures.same.reader_file ∙ reader)
+    (λ mid at copies. c.in_ok-copy_all.ensures.copies clients generation j mid at copies)
+    (c.in_ok-copy_all.ensures.same.reader_file ∙ reader)
 
 pub publish-requires-clause-prepared : goal.publish-requires-clause-prepared
 publish-requires-clause-prepared g c x told =
-    subst (IsPrepared x) (sym c.file-2.ensures.value) (prepared_so c.copy_all.new.reader c.copy_all.new.writer x (c.in_ok-copy_all.ensures.works x told))
+    subst (IsPrepared x) (sym c.file-2.ensures.value)
+    (prepared_so c.copy_all.new.reader c.copy_all.new.writer x
+    (c.in_ok-copy_all.ensures.works x told))
 
 pub returns-in_err-publish-clause-migrates : goal.returns-in_err-publish-clause-migrates
 returns-in_err-publish-clause-migrates g c clients j two told same holds =
@@ -93,12 +113,16 @@ returns-in_err-publish-clause-migrates g c clients j two told same holds =
     let o4 = g.D.Disk.tells c.publish.new.disk in
     let reader : r.file ≡ file = sym c.file.ensures.value ∙ c.if-file.false in
     let run = run_then o0 o1 o2 c.start.ensures.looks.run c.begin.ensures.run in
-    let begun = begun_copies clients f generation j file r n o0 o1 o2 two told c.requires.file holds c.start.ensures.looks c.begin.ensures.moments same reader c.in_ok-reader.ensures.fresh.1
+    let begun = begun_copies clients f generation j file r n o0 o1 o2 two told c.requires.file holds
+    c.start.ensures.looks c.begin.ensures.moments same reader c.in_ok-reader.ensures.fresh.1
     c.in_ok-writer.ensures.value c.in_ok-writer.ensures.prepared in
     let result = c.from_residual-in_err-publish.result in
-    open_failed clients f generation j file r n c.copy_all.new.reader n' o0 o2 o3 two told run reader begun c.cite_laws.ensures o4 (run_then o0 o2 o3 run c.copy_all.ensures.run)
-    c.in_ok-copy_all.ensures.pair (omega (arith, c.requires.generation)) (λ mid at copies. c.in_ok-copy_all.ensures.copies clients generation j mid at copies)
-    (λ t at. subst (λ (k : ℕ). PassedMoments t o3 o4 k (ShutOrOpened (file_of t k).now)) c.file-2.ensures.value (c.publish.ensures.any_moment t at)) result
+    open_failed clients f generation j file r n c.copy_all.new.reader n' o0 o2 o3 two told run
+    reader begun c.cite_laws.ensures o4 (run_then o0 o2 o3 run c.copy_all.ensures.run)
+    c.in_ok-copy_all.ensures.pair (omega (arith, c.requires.generation)) (λ mid at copies.
+    c.in_ok-copy_all.ensures.copies clients generation j mid at copies)
+    (λ t at. subst (λ (k : ℕ). PassedMoments t o3 o4 k (ShutOrOpened (file_of t k).now))
+    c.file-2.ensures.value (c.publish.ensures.any_moment t at)) result
     (err_is result fault.DiskFault c.from_residual-in_err-publish.ensures.1)
 
 pub returns-clause-migrates : goal.returns-clause-migrates
@@ -116,28 +140,40 @@ returns-clause-migrates g c clients j two told same holds =
     let o4 = g.D.Disk.tells c.publish.new.disk in
     let reader : r.file ≡ file = sym c.file.ensures.value ∙ c.if-file.false in
     let run = run_then o0 o1 o2 c.start.ensures.looks.run c.begin.ensures.run in
-    let begun = begun_copies clients f generation j file r n o0 o1 o2 two told c.requires.file holds c.start.ensures.looks c.begin.ensures.moments same reader c.in_ok-reader.ensures.fresh.1
+    let begun = begun_copies clients f generation j file r n o0 o1 o2 two told c.requires.file holds
+    c.start.ensures.looks c.begin.ensures.moments same reader c.in_ok-reader.ensures.fresh.1
     c.in_ok-writer.ensures.value c.in_ok-writer.ensures.prepared in
-    opened_so clients f generation j file r n c.copy_all.new.reader n' o0 o2 o3 two told run reader begun c.cite_laws.ensures o4 (run_then o0 o2 o3 run c.copy_all.ensures.run)
-    c.in_ok-copy_all.ensures.pair (omega (arith, c.requires.generation)) (λ mid at copies. c.in_ok-copy_all.ensures.copies clients generation j mid at copies)
-    (λ t at. subst (λ (k : ℕ). PassedMoments t o3 o4 k (ShutOrOpened (file_of t k).now)) c.file-2.ensures.value (c.publish.ensures.any_moment t at))
-    (subst (λ (k : ℕ). RelatesTold (PublishesHeader k) o3.files o4.files) c.file-2.ensures.value c.in_ok-publish.ensures.published)
-    (c.in_ok-copy_all.ensures.same.writer_generation ∙ ap (λ (v : JournalValue). v.generation) c.in_ok-writer.ensures.value)
+    opened_so clients f generation j file r n c.copy_all.new.reader n' o0 o2 o3 two told run reader
+    begun c.cite_laws.ensures o4 (run_then o0 o2 o3 run c.copy_all.ensures.run)
+    c.in_ok-copy_all.ensures.pair (omega (arith, c.requires.generation)) (λ mid at copies.
+    c.in_ok-copy_all.ensures.copies clients generation j mid at copies)
+    (λ t at. subst (λ (k : ℕ). PassedMoments t o3 o4 k (ShutOrOpened (file_of t k).now))
+    c.file-2.ensures.value (c.publish.ensures.any_moment t at))
+    (subst (λ (k : ℕ). RelatesTold (PublishesHeader k) o3.files o4.files) c.file-2.ensures.value
+    c.in_ok-publish.ensures.published)
+    (c.in_ok-copy_all.ensures.same.writer_generation
+    ∙ ap (λ (v : JournalValue). v.generation) c.in_ok-writer.ensures.value)
 
 pub returns-in_err-reader-clause-own : goal.returns-in_err-reader-clause-own
 returns-in_err-reader-clause-own g c =
     let o = g.D.Disk.tells c.args.disk.now in
     let o' = g.D.Disk.tells c.start.new.disk in
     let e = fault_of_start c.in_err-reader.field-0.0 in
-    own_fault c.args.file o.files o'.files e c.from_residual.result (err_is c.from_residual.result e c.from_residual.ensures.1) (own_looks c.args.file o o' c.start.ensures.looks)
+    own_fault c.args.file o.files o'.files e c.from_residual.result
+    (err_is c.from_residual.result e c.from_residual.ensures.1)
+    (own_looks c.args.file o o' c.start.ensures.looks)
 
 pub returns-then-file-clause-own : goal.returns-then-file-clause-own
-returns-then-file-clause-own g c = own_looks c.args.file (g.D.Disk.tells c.args.disk.now) (g.D.Disk.tells c.start.new.disk) c.start.ensures.looks
+returns-then-file-clause-own g c =
+    own_looks c.args.file (g.D.Disk.tells c.args.disk.now) (g.D.Disk.tells c.start.new.disk)
+    c.start.ensures.looks
 
 pub returns-in_err-writer-clause-own : goal.returns-in_err-writer-clause-own
 returns-in_err-writer-clause-own g c =
-    own_cut c.args.file (g.D.Disk.tells c.args.disk.now).files (g.D.Disk.tells c.begin.new.disk).files c.from_residual-in_err-writer.result
-    (err_is c.from_residual-in_err-writer.result fault.DiskFault c.from_residual-in_err-writer.ensures.1)
+    own_cut c.args.file (g.D.Disk.tells c.args.disk.now).files
+    (g.D.Disk.tells c.begin.new.disk).files c.from_residual-in_err-writer.result
+    (err_is c.from_residual-in_err-writer.result fault.DiskFault
+    c.from_residual-in_err-writer.ensures.1)
 
 pub returns-in_err-copy_all-clause-own : goal.returns-in_err-copy_all-clause-own
 returns-in_err-copy_all-clause-own g c =
@@ -151,8 +187,10 @@ returns-in_err-copy_all-clause-own g c =
     let e = c.in_err-copy_all.field-0.0 in
     own_later (Unit {0}) file o0.files o2.files o3.files e c.from_residual-in_err-copy_all.result
     (err_is c.from_residual-in_err-copy_all.result e c.from_residual-in_err-copy_all.ensures.1)
-    (own_begun file (c.args.generation + 1) o0 o1 o2 c.requires.file c.start.ensures.looks c.in_ok-writer.ensures.prepared)
-    (subst (λ (k : ℕ). ReadsOnly {A = Unit {0}} k o2.files o3.files (Err e)) reader c.in_err-copy_all.ensures.own)
+    (own_begun file (c.args.generation + 1) o0 o1 o2 c.requires.file c.start.ensures.looks
+    c.in_ok-writer.ensures.prepared)
+    (subst (λ (k : ℕ). ReadsOnly {A = Unit {0}} k o2.files o3.files (Err e)) reader
+    c.in_err-copy_all.ensures.own)
 
 pub returns-then-end-clause-own : goal.returns-then-end-clause-own
 returns-then-end-clause-own g c =
@@ -163,13 +201,18 @@ returns-then-end-clause-own g c =
     let o2 = g.D.Disk.tells c.begin.new.disk in
     let o3 = g.D.Disk.tells c.copy_all.new.disk in
     let reader : r.file ≡ file = sym c.file.ensures.value ∙ c.if-file.false in
-    own_then file o0.files o2.files o3.files (own_begun file (c.args.generation + 1) o0 o1 o2 c.requires.file c.start.ensures.looks c.in_ok-writer.ensures.prepared)
-    (subst (λ (k : ℕ). RelatesTold (KeepsFile k) o2.files o3.files) reader c.in_ok-copy_all.ensures.own)
+    own_then file o0.files o2.files o3.files
+    (own_begun file (c.args.generation + 1) o0 o1 o2 c.requires.file c.start.ensures.looks
+    c.in_ok-writer.ensures.prepared)
+    (subst (λ (k : ℕ). RelatesTold (KeepsFile k) o2.files o3.files) reader
+    c.in_ok-copy_all.ensures.own)
 
 pub returns-in_err-publish-clause-own : goal.returns-in_err-publish-clause-own
 returns-in_err-publish-clause-own g c =
-    own_cut c.args.file (g.D.Disk.tells c.args.disk.now).files (g.D.Disk.tells c.publish.new.disk).files c.from_residual-in_err-publish.result
-    (err_is c.from_residual-in_err-publish.result fault.DiskFault c.from_residual-in_err-publish.ensures.1)
+    own_cut c.args.file (g.D.Disk.tells c.args.disk.now).files
+    (g.D.Disk.tells c.publish.new.disk).files c.from_residual-in_err-publish.result
+    (err_is c.from_residual-in_err-publish.result fault.DiskFault
+    c.from_residual-in_err-publish.ensures.1)
 
 pub returns-clause-own : goal.returns-clause-own
 returns-clause-own g c =
@@ -183,9 +226,15 @@ returns-clause-own g c =
     let o3 = g.D.Disk.tells c.copy_all.new.disk in
     let o4 = g.D.Disk.tells c.publish.new.disk in
     let reader : r.file ≡ file = sym c.file.ensures.value ∙ c.if-file.false in
-    let writes : n'.file ≡ 1 - file = c.in_ok-copy_all.ensures.same.writer_file ∙ ap (λ (v : JournalValue). v.file) c.in_ok-writer.ensures.value in
+    let writes : n'.file ≡ 1 - file = c.in_ok-copy_all.ensures.same.writer_file
+    ∙ ap (λ (v : JournalValue). v.file) c.in_ok-writer.ensures.value in
     own_then file o0.files o3.files o4.files
-    (own_then file o0.files o2.files o3.files (own_begun file (c.args.generation + 1) o0 o1 o2 c.requires.file c.start.ensures.looks c.in_ok-writer.ensures.prepared)
-    (subst (λ (k : ℕ). RelatesTold (KeepsFile k) o2.files o3.files) reader c.in_ok-copy_all.ensures.own))
-    (own_step (PublishesHeader n'.file) file n'.file o3.files o4.files c.requires.file writes (λ a b x. x.other)
-    (subst (λ (k : ℕ). RelatesTold (PublishesHeader k) o3.files o4.files) c.file-2.ensures.value c.in_ok-publish.ensures.published))
+    (own_then file o0.files o2.files o3.files
+    (own_begun file (c.args.generation + 1) o0 o1 o2 c.requires.file c.start.ensures.looks
+    c.in_ok-writer.ensures.prepared)
+    (subst (λ (k : ℕ). RelatesTold (KeepsFile k) o2.files o3.files) reader
+    c.in_ok-copy_all.ensures.own))
+    (own_step (PublishesHeader n'.file) file n'.file o3.files o4.files c.requires.file writes
+    (λ a b x. x.other)
+    (subst (λ (k : ℕ). RelatesTold (PublishesHeader k) o3.files o4.files) c.file-2.ensures.value
+    c.in_ok-publish.ensures.published))

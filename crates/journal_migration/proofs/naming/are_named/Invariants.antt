@@ -7,4 +7,6 @@ use Rattle.journal_migration.proofs.naming.are_named.Given as goal
 
 -- the entries so far name what has a name
 abbrev pub invariant-entries : goal.invariant-entries
-invariant-entries g l = AllByRecursion (EntryNames (IsNamed kind.Short (g.N.Names.named l.names))) (take l.entry-index l.entries)
+invariant-entries g l =
+    AllByRecursion (EntryNames (IsNamed kind.Short (g.N.Names.named l.names)))
+    (take l.entry-index l.entries)

@@ -12,10 +12,17 @@ frame-requires-clause-few c =
     let batch = c.in-Some.batch in
     let names = take c.args.count (names_of c.args.state.now.facts) in
     let found = rw c.in-Some.is at c.in_ok-batch.ensures in
-    omega (arith, c.requires, ap length found.spelled, batch_len_same kind.Whole names batch, batch_not_longer batch found.within)
+    omega (
+      arith,
+      c.requires,
+      ap length found.spelled,
+      batch_len_same kind.Whole names batch,
+      batch_not_longer batch found.within,
+    )
 
 pub frame-requires-clause-len : goal.frame-requires-clause-len
-frame-requires-clause-len c = batch_len_same kind.Short (take c.args.count (names_of c.args.state.now.facts)) c.in-Some.batch
+frame-requires-clause-len c =
+    batch_len_same kind.Short (take c.args.count (names_of c.args.state.now.facts)) c.in-Some.batch
 
 pub returns-clause-spelled : goal.returns-clause-spelled
 returns-clause-spelled c =
@@ -27,8 +34,17 @@ returns-clause-spelled c =
       read = sym found.exact;
       spelled = found.spelled;
       within = found.within;
-      some = some_spelled names batch found.within (subst (λ (b : List Entry). 1 ≤ length b) c.batch.view_is c.batch.invariant);
-      no_longer = omega (arith, ap length found.spelled, batch_len_same kind.Whole names batch, batch_len_same kind.Short names batch, batch_not_longer batch found.within);
+      some =
+          some_spelled names batch found.within
+          (subst (λ (b : List Entry). 1 ≤ length b) c.batch.view_is c.batch.invariant);
+      no_longer = omega (
+        arith,
+        ap length found.spelled,
+        batch_len_same kind.Whole names batch,
+        batch_len_same kind.Short names batch,
+        batch_not_longer batch found.within,
+      );
       framed_is = c.in_ok-framed.ensures;
-      brings = c.count_brought.ensures ∙ ap (λ (es : List Entry). counted_to (brought_by es)) c.entries-2.ensures.value;
+      brings = c.count_brought.ensures
+          ∙ ap (λ (es : List Entry). counted_to (brought_by es)) c.entries-2.ensures.value;
     }

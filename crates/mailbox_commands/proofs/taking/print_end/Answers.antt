@@ -8,7 +8,8 @@ pub returns-in_err-print_line : goal.returns-in_err-print_line
 returns-in_err-print_line g c =
     let empty : string_bytes c.new-line.result ≡ [] = c.new-line.ensures.bytes in
     prints_failed c.from_residual-in_err-print_line.result c.in_err-print_line.field-0.0
-    c.from_residual-in_err-print_line.ensures.1 (outcome_at c.args.end.ending) (taken_text c.args.end.taken)
+    c.from_residual-in_err-print_line.ensures.1 (outcome_at c.args.end.ending)
+    (taken_text c.args.end.taken)
     c.as_bytes.result.now _ _
     (c.as_bytes.ensures.value ∙ c.in_ok-taken_line.ensures
     ∙ ap (λ (z : List ℕ). z ++ taken_text c.args.end.taken) empty)

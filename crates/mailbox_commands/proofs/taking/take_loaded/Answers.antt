@@ -1,7 +1,8 @@
 use Rattle.std.proofs.Common.{◌≡◌, ℕ, List, [], ◌++◌, Err, ap, refl, sym, ◌∙◌}
 use Rattle.mailbox_core.specs.Files.{box_ending}
 use Rattle.mailbox_commands.specs.Taking.{in_errand, taken_text}
-use Rattle.mailbox_commands.proofs.Errands.{errand_on, errand_stopped, errand_unsettled, still_begins}
+use Rattle.mailbox_commands.proofs.Errands.{errand_on, errand_stopped, errand_unsettled}
+use Rattle.mailbox_commands.proofs.Errands.{still_begins}
 use Rattle.mailbox_commands.proofs.Taken.{taken_printed}
 use Rattle.mailbox_commands.proofs.taking.take_loaded.Goals as goal
 
@@ -24,7 +25,8 @@ take_records-requires g c =
     record {
       ready = c.in_ok-migrate_and_settle.ensures.ready;
       settled = settled.answer.1;
-      begins = still_begins clients c.args.contact c.args.store c.migrate_and_settle.new.store _ _ settled.more
+      begins = still_begins clients c.args.contact c.args.store c.migrate_and_settle.new.store _ _
+          settled.more
           c.requires.begins settled.comes;
     }
 
@@ -33,15 +35,20 @@ returns-in_err-end g c =
     let clients = g.C.Clients.meaning c.args.clients.now in
     let errand = in_errand clients c.args.contact c.args.bytes.now in
     let came = c.in_err-end.field-0.0 in
-    errand_on c.from_residual-in_err-end.result came c.from_residual-in_err-end.ensures.1 clients errand _ _ _ _ _
-    (errand_stopped clients errand c.args.store c.migrate_and_settle.new.store c.take_records.new.store _ _ _ _ _ _ came
-    (record { same = refl; same_faults = refl }) c.requires.ready.limited c.in_ok-migrate_and_settle.ensures.run
+    errand_on c.from_residual-in_err-end.result came c.from_residual-in_err-end.ensures.1 clients
+    errand _ _ _ _ _
+    (errand_stopped clients errand c.args.store c.migrate_and_settle.new.store
+    c.take_records.new.store _ _ _ _ _ _ came
+    (record { same = refl; same_faults = refl }) c.requires.ready.limited
+    c.in_ok-migrate_and_settle.ensures.run
     c.in_ok-migrate_and_settle.ensures.settled c.in_err-end.ensures.does)
 
 pub returns : goal.returns
 returns g c =
     let clients = g.C.Clients.meaning c.args.clients.now in
-    taken_printed clients c.args.contact c.args.bytes.now c.args.store c.migrate_and_settle.new.store
+    taken_printed clients c.args.contact c.args.bytes.now c.args.store
+    c.migrate_and_settle.new.store
     c.take_records.new.store _ _ _ _ _ _ _ c.in_ok-end.end _ c.requires.ready.limited
-    c.in_ok-migrate_and_settle.ensures.run c.in_ok-migrate_and_settle.ensures.settled c.in_ok-end.ensures.does
+    c.in_ok-migrate_and_settle.ensures.run c.in_ok-migrate_and_settle.ensures.settled
+    c.in_ok-end.ensures.does
     c.in_ok-end.ensures.end c.print_end.ensures

@@ -1,5 +1,6 @@
 use Rattle.std.proofs.Common.{refl, sym, ◌∙◌}
-use Rattle.mailbox_commands.proofs.Early.{early_memory, early_none, early_read_fault, early_refused, early_too_much, tested_begins}
+use Rattle.mailbox_commands.proofs.Early.{early_memory, early_none, early_read_fault, early_refused}
+use Rattle.mailbox_commands.proofs.Early.{early_too_much, tested_begins}
 use Rattle.mailbox_commands.proofs.Taken.{taken_none, taken_on, taken_read, taken_unread}
 use Rattle.mailbox_commands.proofs.taking.take_mail.Goals as goal
 
@@ -7,17 +8,24 @@ pub returns-in_err-store : goal.returns-in_err-store
 returns-in_err-store g c =
     let clients = g.C.Clients.meaning c.args.clients.now in
     let came = c.in_err-store.field-0.0 in
-    taken_on clients c.args.contact _ _ _ _ _ _ c.from_residual.result came c.from_residual.ensures.1
+    taken_on clients c.args.contact _ _ _ _ _ _ c.from_residual.result came
+    c.from_residual.ensures.1
     (taken_none clients c.args.contact _ _ _ _ _ _ came c.in_err-store.ensures.by
-    (early_none clients c.args.contact _ _ _ _ came c.in_err-store.ensures.run c.in_err-store.ensures.rests
-    c.in_err-store.ensures.by c.in_err-store.ensures.loaded (record { same = refl; same_faults = refl }))
+    (early_none clients c.args.contact _ _ _ _ came c.in_err-store.ensures.run
+    c.in_err-store.ensures.rests
+    c.in_err-store.ensures.by c.in_err-store.ensures.loaded (record {
+      same = refl;
+      same_faults = refl;
+    }))
     (record { same = refl; same_faults = refl }))
 
 pub returns-in-Some : goal.returns-in-Some
 returns-in-Some g c =
     let clients = g.C.Clients.meaning c.args.clients.now in (
-      early_refused clients c.args.contact _ _ _ _ c.in_ok-store.store c.in-Some.why c.in_ok-store.ensures.run
-          c.in_ok-store.ensures.rests c.in_ok-store.ensures.loaded (sym c.refusal.ensures ∙ c.in-Some.is)
+      early_refused clients c.args.contact _ _ _ _ c.in_ok-store.store c.in-Some.why
+          c.in_ok-store.ensures.run
+          c.in_ok-store.ensures.rests c.in_ok-store.ensures.loaded (sym c.refusal.ensures
+          ∙ c.in-Some.is)
           (record { same = refl; same_faults = refl }),
       record { same = refl; same_faults = refl },
     )
@@ -31,7 +39,8 @@ returns-in_err-bytes g c =
     taken_on clients c.args.contact _ _ _ _ _ _ c.from_residual-in_err-bytes.result came
     c.from_residual-in_err-bytes.ensures.1
     (taken_unread clients c.args.contact _ _ _ _ _ _ came c.in_err-bytes.ensures
-    (early_read_fault clients c.args.contact _ _ _ _ c.in_ok-store.store e.run e.rests e.loaded tested
+    (early_read_fault clients c.args.contact _ _ _ _ c.in_ok-store.store e.run e.rests e.loaded
+    tested
     (record { same = refl; same_faults = refl }))
     (early_too_much clients c.args.contact _ _ _ _ c.in_ok-store.store e.run e.rests e.loaded tested
     (record { same = refl; same_faults = refl }))
@@ -41,13 +50,17 @@ returns-in_err-bytes g c =
 pub take_loaded-requires : goal.take_loaded-requires
 take_loaded-requires g c = record {
   ready = c.in_ok-store.ensures.opened;
-  begins = tested_begins c.in_ok-store.store.state.facts c.args.contact (sym c.refusal.ensures ∙ c.in_default.is);
+  begins =
+      tested_begins c.in_ok-store.store.state.facts c.args.contact (sym c.refusal.ensures
+      ∙ c.in_default.is);
 }
 
 pub returns : goal.returns
 returns g c =
     let clients = g.C.Clients.meaning c.args.clients.now in
     let e = c.in_ok-store.ensures in
-    taken_read clients c.args.contact _ _ _ _ _ _ _ c.in_ok-store.store c.in_ok-bytes.bytes.items c.as_slice.result.now _
-    e.run e.rests e.opened (sym c.refusal.ensures ∙ c.in_default.is) c.in_ok-bytes.ensures c.as_slice.ensures.value
+    taken_read clients c.args.contact _ _ _ _ _ _ _ c.in_ok-store.store c.in_ok-bytes.bytes.items
+    c.as_slice.result.now _
+    e.run e.rests e.opened (sym c.refusal.ensures ∙ c.in_default.is) c.in_ok-bytes.ensures
+    c.as_slice.ensures.value
     c.take_loaded.ensures

@@ -5,7 +5,8 @@ use Rattle.mailbox_commands.proofs.taking.take_records.Goals as goal
 pub returns-in-Ok-clause-does : goal.returns-in-Ok-clause-does
 returns-in-Ok-clause-does g c =
     let clients = g.C.Clients.meaning c.args.clients.now in
-    does_all clients c.args.contact c.args.bytes.now c.args.store.now c.read_box.new.store _ _ c.in-Ok.end
+    does_all clients c.args.contact c.args.bytes.now c.args.store.now c.read_box.new.store _ _
+    c.in-Ok.end
     (c.in-Ok.ensures.read c.requires.ready.still_open)
 
 pub returns-in-Err-Full-clause-does : goal.returns-in-Err-Full-clause-does
@@ -24,5 +25,6 @@ pub returns-in-Err-DiskFault-clause-does : goal.returns-in-Err-DiskFault-clause-
 returns-in-Err-DiskFault-clause-does g c =
     let clients = g.C.Clients.meaning c.args.clients.now in
     does_disk clients c.args.contact c.args.bytes.now c.args.store.now c.read_box.new.store _ _
-    (rw c.in-Err-DiskFault.field-0-is at c.in-Err-DiskFault.ensures.read c.requires.ready.still_open)
+    (rw c.in-Err-DiskFault.field-0-is at c.in-Err-DiskFault.ensures.read
+    c.requires.ready.still_open)
     ((rw c.in-Err-DiskFault.field-0-is at c.in-Err-DiskFault.ensures.fault) refl)

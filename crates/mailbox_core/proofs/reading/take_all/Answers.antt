@@ -7,7 +7,9 @@ use Rattle.mailbox_core.proofs.reading.take_all.Goals as goal
 
 pub items-init : goal.items-init
 items-init g c = record {
-  before = c.takes-before.ensures ∙ ap (λ s. takes_of s.facts.takes c.args.session.now.number) c.state.ensures;
+  before =
+      c.takes-before.ensures
+      ∙ ap (λ s. takes_of s.facts.takes c.args.session.now.number) c.state.ensures;
   way = way_begins c.images_stand.ensures (g.C.Clients.meaning c.args.clients.now)
       c.args.session.now c.args.store.now (left_of c.args.reader.now c.args.piece.now)
       (g.D.Disk.tells c.args.disk.now) c.requires.able;
@@ -18,7 +20,8 @@ pub items-preserved : goal.items-preserved
 items-preserved g c = record {
   before = c.items.invariant.before;
   way = way_goes_on (g.C.Clients.meaning c.args.clients.now) c.args.session.now.number
-      c.args.store.now c.items.store c.take_next.new.store (left_of c.args.reader.now c.args.piece.now)
+      c.args.store.now c.items.store c.take_next.new.store
+      (left_of c.args.reader.now c.args.piece.now)
       (left_of c.items.reader c.items.piece) (left_of c.take_next.new.reader c.take_next.new.piece)
       (g.D.Disk.tells c.args.disk.now) (g.D.Disk.tells c.items.disk)
       (g.D.Disk.tells c.take_next.new.disk) c.items.invariant.way

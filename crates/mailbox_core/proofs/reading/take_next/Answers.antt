@@ -15,7 +15,8 @@ returns-in_err-place-clause-read g c =
     let left = left_of c.args.reader.now c.args.piece.now in
     let left' = left_of c.next_in.new.self c.next_in.new.piece in
     on_error c.from_residual.result fault.Memory
-    (λ r. HasReadItem clients c.args.session.now.number s s left left' r o o) c.from_residual.ensures.1
+    (λ r. HasReadItem clients c.args.session.now.number s s left left' r o o)
+    c.from_residual.ensures.1
     (read_starved c.images_stand.ensures clients c.args.session.now s left left' o c.requires.able)
 
 pub returns-then-foreign-clause-read : goal.returns-then-foreign-clause-read

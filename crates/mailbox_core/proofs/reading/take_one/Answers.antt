@@ -12,13 +12,15 @@ returns-in_err-batch-clause-taken g c =
     let s = c.args.store.now in
     let o = g.D.Disk.tells c.args.disk.now in
     on_error c.from_residual.result fault.Memory
-    (λ r. HasTakenRecord clients c.args.session.now.number c.args.rec s s r o o) c.from_residual.ensures.1
+    (λ r. HasTakenRecord clients c.args.session.now.number c.args.rec s s r o o)
+    c.from_residual.ensures.1
     (taken_starved c.images_stand.ensures clients c.args.session.now c.args.rec s o c.requires.able)
 
 pub returns-clause-taken : goal.returns-clause-taken
 returns-clause-taken g c =
     let clients = g.C.Clients.meaning c.args.clients.now in
-    let numbered = c.takes-k.ensures ∙ ap (λ s. takes_of s.facts.takes c.args.session.now.number) c.state.ensures in
+    let numbered = c.takes-k.ensures
+    ∙ ap (λ s. takes_of s.facts.takes c.args.session.now.number) c.state.ensures in
     has_taken clients c.args.session.now c.takes-k.result c.args.rec c.args.store.now
     c.extend_known.new.self c.in_ok-batch.batch _ _ c.extend_known.result c.requires.able numbered
     c.in_ok-batch.ensures.batch

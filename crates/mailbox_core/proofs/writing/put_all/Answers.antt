@@ -26,7 +26,8 @@ returns-in_err-put_next-clause-put g c =
     c.put_next.new.store c.args.to.now.items c.outs.to.items c.put_next.new.to.items
     c.outs.made (g.D.Disk.tells c.args.disk.now)
     (g.D.Disk.tells c.outs.disk) (g.D.Disk.tells c.put_next.new.disk)
-    c.outs.invariant.way c.args.count c.in_err-put_next.field-0.0 (omega arith) c.in_err-put_next.ensures.put)
+    c.outs.invariant.way c.args.count c.in_err-put_next.field-0.0 (omega arith)
+    c.in_err-put_next.ensures.put)
 
 pub returns-then-not-branch-clause-put : goal.returns-then-not-branch-clause-put
 returns-then-not-branch-clause-put g c =
@@ -51,7 +52,8 @@ outs-preserved g c = record {
 pub returns-clause-put : goal.returns-clause-put
 returns-clause-put g c =
     way_full (g.C.Clients.meaning c.args.clients.now) c.args.session.now.number c.args.now
-    c.args.store.now c.outs.store c.outs.store c.args.to.now.items c.outs.to.items c.outs.to.items c.outs.made
+    c.args.store.now c.outs.store c.outs.store c.args.to.now.items c.outs.to.items c.outs.to.items
+    c.outs.made
     (g.D.Disk.tells c.args.disk.now)
     (g.D.Disk.tells c.outs.disk) (g.D.Disk.tells c.outs.disk)
     c.outs.invariant.way c.args.count

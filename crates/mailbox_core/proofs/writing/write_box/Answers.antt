@@ -12,7 +12,8 @@ returns-in_err-bytes-clause-written g c = λ opened.
     let o = g.D.Disk.tells c.args.disk.now in
     let to = c.args.to.now.items in
     on_error c.from_residual.result fault.Memory
-    (λ r. HasWrittenBox clients c.args.contact c.args.latency c.args.now c.args.count s s to to r o o)
+    (λ r. HasWrittenBox clients c.args.contact c.args.latency c.args.now c.args.count s s to to r o
+    o)
     c.from_residual.ensures.1
     (box_starved clients c.args.contact c.args.latency c.args.now c.args.count s o to
     c.images_stand.ensures c.is_closed.ensures.numbers opened)
@@ -30,7 +31,8 @@ returns-in_err-made-clause-written g c = λ opened.
     c.from_residual-in_err-made.ensures.1
     (box_stopped clients c.args.contact c.args.latency c.args.now c.args.count s o to
     c.begin.new.store c.put_all.new.store c.in_ok-session.session (g.D.Disk.tells c.begin.new.disk)
-    o' c.in_ok-bytes.bytes.items c.put_all.new.to.items c.in_ok-session.ensures.begun c.in_err-made.field-0.0 c.in_err-made.ensures.put)
+    o' c.in_ok-bytes.bytes.items c.put_all.new.to.items c.in_ok-session.ensures.begun
+    c.in_err-made.field-0.0 c.in_err-made.ensures.put)
 
 pub returns-in_err-extend_from_slice-clause-written :
     goal.returns-in_err-extend_from_slice-clause-written
@@ -49,7 +51,8 @@ returns-in_err-extend_from_slice-clause-written g c = λ opened.
     (sym c.in_err-extend_from_slice.ensures.items)
     (box_unwritten clients c.args.contact c.args.latency c.args.now c.args.count s o to
     c.begin.new.store c.put_all.new.store c.in_ok-session.session (g.D.Disk.tells c.begin.new.disk)
-    o' c.in_ok-bytes.bytes.items c.put_all.new.to.items c.in_ok-session.ensures.begun c.in_ok-made.made c.in_ok-made.ensures.put))
+    o' c.in_ok-bytes.bytes.items c.put_all.new.to.items c.in_ok-session.ensures.begun
+    c.in_ok-made.made c.in_ok-made.ensures.put))
 
 pub returns-clause-written : goal.returns-clause-written
 returns-clause-written g c = λ opened.
@@ -59,4 +62,5 @@ returns-clause-written g c = λ opened.
     (g.D.Disk.tells c.put_all.new.disk) c.in_ok-bytes.bytes.items c.put_all.new.to.items
     c.in_ok-session.ensures.begun c.in_ok-made.made c.extend_from_slice.new.self.items
     c.in_ok-bytes.ensures c.in_ok-made.ensures.put
-    (c.in_ok-extend_from_slice.ensures.items ∙ ap (λ xs. c.args.to.now.items ++ xs) c.as_slice.ensures.value)
+    (c.in_ok-extend_from_slice.ensures.items
+    ∙ ap (λ xs. c.args.to.now.items ++ xs) c.as_slice.ensures.value)

@@ -11,11 +11,16 @@ use Rattle.memory_run.proofs.run.run_in_memory.Goals as goal
 pub returns-clause-opens : goal.returns-clause-opens
 returns-clause-opens g c =
     let clients = g.C.Clients.meaning c.args.clients.now in
-    subst (λ (h : MemHostValue). OpensInMemory clients (asks (texts c.args.words.now)) h c.run-status.new.host) c.into_host-host.ensures.host
-    (opens_in_memory clients (asks (texts c.args.words.now)) c.into_host-host.result c.run-status.new.host c.run-status.ensures.opens)
+    subst (λ (h : MemHostValue).
+    OpensInMemory clients (asks (texts c.args.words.now)) h c.run-status.new.host)
+    c.into_host-host.ensures.host
+    (opens_in_memory clients (asks (texts c.args.words.now)) c.into_host-host.result
+    c.run-status.new.host c.run-status.ensures.opens)
 
 pub returns-clause-ran : goal.returns-clause-ran
 returns-clause-ran g c =
-    ran_in_memory (g.C.Clients.meaning c.args.clients.now) (asks (texts c.args.words.now)) c.args.fresh c.into_host-host.result c.run-status.new.host c.args.source
-    c.run-status.new.input c.new-out.result c.run-status.new.out c.new-err.result c.run-status.new.err c.run-status.result c.into_host-host.ensures.host
+    ran_in_memory (g.C.Clients.meaning c.args.clients.now) (asks (texts c.args.words.now))
+    c.args.fresh c.into_host-host.result c.run-status.new.host c.args.source
+    c.run-status.new.input c.new-out.result c.run-status.new.out c.new-err.result
+    c.run-status.new.err c.run-status.result c.into_host-host.ensures.host
     (ap sink_told c.new-out.ensures) (ap sink_told c.new-err.ensures) c.run-status.ensures.ran

@@ -1,10 +1,10 @@
 use Rattle.std.proofs.Common.{◌≡◌, ℕ, List, ◌<◌, ◌≤◌, ◌+◌, Some, length, refl, subst, sym, ap, ◌∙◌, arith, set, get_or, slice_get}
 use Rattle.std.proofs.lemmas.List.{length-set, get_or-map}
 use Rattle.std.proofs.lemmas.Option.{get_or_from_slice_get}
-use Rattle.message_graph.specs.declared.nodes.Node.{Node}
+use Rattle.message_graph.specs.declared.nodes.Unnamed.{Unnamed}
 use Rattle.message_graph.specs.declared.states.Waiting.TheVariants as waiting
 use Rattle.message_graph.specs.Links.{edge_at, last_before}
-use Rattle.message_graph.specs.Waits.{NodeWaits, told, told_times, wait_at, group_at}
+use Rattle.message_graph.specs.Waits.{NodeWaits, told, told_times, wait_at, group_in}
 use Rattle.message_graph.proofs.Counts.{IsCursor, left, steps_left, left_last, cursor_last, steps_last, before_cursor, tells_one}
 use Rattle.message_graph.proofs.waiters.tell.Goals as goal
 
@@ -15,7 +15,7 @@ loop-cursor-init c =
       many = c.requires.many;
       room = refl;
       cursor = λ name last. subst (IsCursor edges name) (sym last) (cursor_last edges name (length edges) (omega arith));
-      waits = λ name last number. ap (λ k. told_times c.args.news (group_at c.args.nodes.now number) k (wait_at c.args.states.now.waits number)) (ap (left edges name number) last ∙ left_last edges name number (length edges));
+      waits = λ name last number. ap (λ k. told_times c.args.news (group_in c.args.nodes.now number) k (wait_at c.args.states.now.waits number)) (ap (left edges name number) last ∙ left_last edges name number (length edges));
     }
 
 pub loop-cursor-smaller : goal.loop-cursor-smaller
@@ -42,18 +42,18 @@ loop-cursor-preserved c =
     let within : w < length waits = omega (arith, c.loop-cursor.invariant.many) in
     let node = c.index-nodes-waiter.result in
     let waiter : c.waiter-waiter.result ≡ w = c.waiter-waiter.ensures in
-    let group : (get_or nodes c.waiter-waiter.result node).group ≡ group_at nodes w =
-    ap (λ k. (get_or nodes k node).group) waiter ∙ sym (get_or-map (λ (n : Node). n.group) nodes w node 0 inside) in
+    let group : (get_or nodes c.waiter-waiter.result node).group ≡ group_in nodes w =
+    ap (λ k. (get_or nodes k node).group) waiter ∙ sym (get_or-map (λ (n : Unnamed). n.group) nodes w node 0 inside) in
     let wait : c.get.result ≡ wait_at waits w = sym (get_or_from_slice_get waits w c.get.result waiting.Ended (ap (λ k. slice_get waits k) (sym waiter) ∙ c.get.ensures)) in
-    let new : c.told-waiting.result ≡ told c.args.news (group_at nodes w) (wait_at waits w) = c.told-waiting.ensures ∙ (λ i. told c.args.news (group i) (wait i)) in
-    let after : c.set.new.self.waits ≡ set waits w (told c.args.news (group_at nodes w) (wait_at waits w)) = ap (λ (s : NodeWaits). s.waits) c.set.ensures ∙ (λ i. set waits (waiter i) (new i)) in
+    let new : c.told-waiting.result ≡ told c.args.news (group_in nodes w) (wait_at waits w) = c.told-waiting.ensures ∙ (λ i. told c.args.news (group i) (wait i)) in
+    let after : c.set.new.self.waits ≡ set waits w (told c.args.news (group_in nodes w) (wait_at waits w)) = ap (λ (s : NodeWaits). s.waits) c.set.ensures ∙ (λ i. set waits (waiter i) (new i)) in
     record {
-      many = ap length after ∙ length-set waits w (told c.args.news (group_at nodes w) (wait_at waits w)) ∙ c.loop-cursor.invariant.many;
+      many = ap length after ∙ length-set waits w (told c.args.news (group_in nodes w) (wait_at waits w)) ∙ c.loop-cursor.invariant.many;
       room = ap (λ (s : NodeWaits). s.room) c.set.ensures ∙ c.loop-cursor.invariant.room;
       cursor = λ name last. subst (IsCursor edges name) (sym (before name last)) (cursor_last edges name edge (omega (arith, h.0)));
       waits = λ name last number.
-          (λ i. told_times c.args.news (group_at nodes number) (left edges name number (before name last i)) (wait_at (after i) number))
-          ∙ tells_one edges name c.args.news (group_at nodes) waits edge (stands c name last) within number
-          ∙ ap (λ o. told_times c.args.news (group_at nodes number) (left edges name number o) (wait_at waits number)) (sym c.in-Some.is)
+          (λ i. told_times c.args.news (group_in nodes number) (left edges name number (before name last i)) (wait_at (after i) number))
+          ∙ tells_one edges name c.args.news (group_in nodes) waits edge (stands c name last) within number
+          ∙ ap (λ o. told_times c.args.news (group_in nodes number) (left edges name number o) (wait_at waits number)) (sym c.in-Some.is)
           ∙ c.loop-cursor.invariant.waits name last number;
     }

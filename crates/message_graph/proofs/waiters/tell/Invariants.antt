@@ -1,6 +1,6 @@
 use Rattle.std.proofs.Common.{◌≡◌, ℕ, List, length}
 use Rattle.message_graph.specs.Links.{count_before, last_before}
-use Rattle.message_graph.specs.Waits.{told_times, wait_at, group_at}
+use Rattle.message_graph.specs.Waits.{told_times, wait_at, group_in}
 use Rattle.message_graph.proofs.Counts.{IsCursor, left, steps_left}
 use Rattle.message_graph.proofs.waiters.tell.Given as goal
 
@@ -10,8 +10,8 @@ invariant-loop-cursor l = record {
   room : l.states.room ≡ l.fn.states.room;
   cursor : (name : List ℕ) → l.fn.last ≡ last_before l.index.edges name (length l.index.edges) → IsCursor l.index.edges name l.cursor;
   waits : (name : List ℕ) → l.fn.last ≡ last_before l.index.edges name (length l.index.edges) → (number : ℕ)
-      → told_times l.news (group_at l.nodes number) (left l.index.edges name number l.cursor) (wait_at l.states.waits number)
-      ≡ told_times l.news (group_at l.nodes number) (count_before l.index.edges name number (length l.index.edges)) (wait_at l.fn.states.waits number);
+      → told_times l.news (group_in l.nodes number) (left l.index.edges name number l.cursor) (wait_at l.states.waits number)
+      ≡ told_times l.news (group_in l.nodes number) (count_before l.index.edges name number (length l.index.edges)) (wait_at l.fn.states.waits number);
 }
 
 abbrev pub decreases-loop-cursor : goal.decreases-loop-cursor

@@ -1,7 +1,8 @@
 use Rattle.std.proofs.Common.{◌≡◌, ℕ, List, [], ◌++◌, Err, ap, refl, ◌∙◌}
 use Rattle.std.specs.String.{string_bytes}
 use Rattle.sharing_commands.specs.Agreement.{agreed_text}
-use Rattle.sharing_commands.proofs.Wholes.{agrees_on, agrees_printed, agrees_stopped, agrees_unsettled, still_known}
+use Rattle.sharing_commands.proofs.Wholes.{agrees_on, agrees_printed, agrees_stopped}
+use Rattle.sharing_commands.proofs.Wholes.{agrees_unsettled, still_known}
 use Rattle.sharing_commands.proofs.agreeing.agree_loaded.Goals as goal
 
 pub returns-in_err-migrate_and_settle : goal.returns-in_err-migrate_and_settle
@@ -10,7 +11,8 @@ returns-in_err-migrate_and_settle g c =
     let came = c.in_err-migrate_and_settle.field-0.0 in
     agrees_on c.from_residual.result came c.from_residual.ensures.1 clients c.args.contact
     c.args.group.now _ _ _ _ _
-    (agrees_unsettled clients c.args.contact c.args.group.now c.args.store c.migrate_and_settle.new.store _ _ _
+    (agrees_unsettled clients c.args.contact c.args.group.now c.args.store
+    c.migrate_and_settle.new.store _ _ _
     _ came (record { same = refl; same_faults = refl }) c.in_err-migrate_and_settle.ensures.run
     c.in_err-migrate_and_settle.ensures.by
     (λ is. ap g.D.Disk.tells (c.in_err-migrate_and_settle.ensures.untouched (ap Err is)))
@@ -25,7 +27,8 @@ add_agreed-requires g c =
         ready = c.in_ok-migrate_and_settle.ensures.ready;
         is_store = c.end-end.ensures.numbers;
         settled = settled.answer.1;
-        known = still_known clients c.args.contact c.args.store c.migrate_and_settle.new.store _ _ settled.more
+        known = still_known clients c.args.contact c.args.store c.migrate_and_settle.new.store _ _
+            settled.more
             c.requires.known settled.comes;
       };
     }
@@ -36,19 +39,25 @@ returns-in_err-add_agreed g c =
     let came = c.in_err-add_agreed.field-0.0 in
     agrees_on c.from_residual-in_err-add_agreed.result came
     c.from_residual-in_err-add_agreed.ensures.1 clients c.args.contact c.args.group.now _ _ _ _ _
-    (agrees_stopped clients c.args.contact c.args.group.now c.args.store c.migrate_and_settle.new.store
+    (agrees_stopped clients c.args.contact c.args.group.now c.args.store
+    c.migrate_and_settle.new.store
     c.add_agreed.new.store _ _ _ _ _ _ came (record { same = refl; same_faults = refl })
-    c.requires.ready.limited c.in_ok-migrate_and_settle.ensures.run c.in_ok-migrate_and_settle.ensures.settled
+    c.requires.ready.limited c.in_ok-migrate_and_settle.ensures.run
+    c.in_ok-migrate_and_settle.ensures.settled
     c.in_err-add_agreed.ensures.adds c.in_err-add_agreed.ensures.by)
 
 pub returns : goal.returns
 returns g c =
     let clients = g.C.Clients.meaning c.args.clients.now in
     let empty : string_bytes c.new-text.result ≡ [] = c.new-text.ensures.bytes in
-    agrees_printed clients c.args.contact c.args.group.now c.args.store c.migrate_and_settle.new.store
+    agrees_printed clients c.args.contact c.args.group.now c.args.store
+    c.migrate_and_settle.new.store
     c.add_agreed.new.store _ _ _ _ _ _ _ c.as_str.result.now _ c.requires.ready.limited
-    c.in_ok-migrate_and_settle.ensures.run c.in_ok-migrate_and_settle.ensures.settled c.in_ok-add_agreed.ensures.adds
+    c.in_ok-migrate_and_settle.ensures.run c.in_ok-migrate_and_settle.ensures.settled
+    c.in_ok-add_agreed.ensures.adds
     (c.as_str.ensures.value ∙ c.in_ok-add_agreed.ensures.text
-    ∙ ap (λ (z : List ℕ). z ++ agreed_text clients c.args.contact c.args.group.now c.migrate_and_settle.new.store.state.facts)
+    ∙ ap (λ (z : List ℕ).
+    z ++ agreed_text clients c.args.contact c.args.group.now
+    c.migrate_and_settle.new.store.state.facts)
     empty)
     c.print_text.ensures

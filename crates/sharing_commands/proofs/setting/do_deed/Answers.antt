@@ -10,7 +10,8 @@ returns-in-Nothing-clause-adds g c =
     let clients = g.C.Clients.meaning c.args.clients.now in
     let s = c.args.store.now in
     let o = g.D.Disk.tells c.args.disk.now in
-    subst (λ (d : Deed). AddsFront clients s s o o (deed_batches c.args.contact c.args.target.now d) (Ok tt))
+    subst (λ (d : Deed).
+    AddsFront clients s s o o (deed_batches c.args.contact c.args.target.now d) (Ok tt))
     (sym c.in-Nothing.is)
     (nothing_added c.images_stand.ensures clients s o tt c.requires.stands.is_store
     c.requires.stands.ready.still_open)
@@ -20,7 +21,8 @@ returns-in-Skip-clause-adds g c =
     let clients = g.C.Clients.meaning c.args.clients.now in
     let s = c.args.store.now in
     let o = g.D.Disk.tells c.args.disk.now in
-    subst (λ (d : Deed). AddsFront clients s s o o (deed_batches c.args.contact c.args.target.now d) (Ok tt))
+    subst (λ (d : Deed).
+    AddsFront clients s s o o (deed_batches c.args.contact c.args.target.now d) (Ok tt))
     (sym c.in-Skip.is)
     (nothing_added c.images_stand.ensures clients s o tt c.requires.stands.is_store
     c.requires.stands.ready.still_open)
@@ -30,7 +32,8 @@ returns-in-Keep-clause-adds g c =
     let clients = g.C.Clients.meaning c.args.clients.now in
     let s = c.args.store.now in
     let o = g.D.Disk.tells c.args.disk.now in
-    subst (λ (d : Deed). AddsFront clients s s o o (deed_batches c.args.contact c.args.target.now d) (Ok tt))
+    subst (λ (d : Deed).
+    AddsFront clients s s o o (deed_batches c.args.contact c.args.target.now d) (Ok tt))
     (sym c.in-Keep.is)
     (nothing_added c.images_stand.ensures clients s o tt c.requires.stands.is_store
     c.requires.stands.ready.still_open)

@@ -9,37 +9,73 @@ returns-in-Ok-clause-added g c =
     let clients = g.C.Clients.meaning c.args.clients.now in
     let answer = c.in-Ok.ensures.answer in
     let runs =
-    runs_commit c.images_stand.ensures clients c.args.store.now c.commit_known.new.self c.args.batch (Ok tt) _ g.D.Disk.tells c.args.disk.now c.commit_known.new.disk c.in-Ok.ensures.numbers
-    c.requires.ready.still_open c.requires.allowed answer tt c.in-Ok.ensures.run c.in-Ok.ensures.calls (c.in-Ok.ensures.extends c.requires.ready.still_open) in
-    record { more = c.args.batch ∷ []; adds = (refl, tt, tt); format = runs.format; leads = runs.leads; answer = (answer.2.closed, answer.1, one_whole clients c.args.store.now.state.facts c.args.batch) }
+    runs_commit c.images_stand.ensures clients c.args.store.now c.commit_known.new.self c.args.batch
+    (Ok tt) _ g.D.Disk.tells c.args.disk.now c.commit_known.new.disk c.in-Ok.ensures.numbers
+    c.requires.ready.still_open c.requires.allowed answer tt c.in-Ok.ensures.run
+    c.in-Ok.ensures.calls (c.in-Ok.ensures.extends c.requires.ready.still_open) in
+    record {
+      more = c.args.batch ∷ [];
+      adds = (refl, tt, tt);
+      format = runs.format;
+      leads = runs.leads;
+      answer =
+          (answer.2.closed, answer.1, one_whole clients c.args.store.now.state.facts c.args.batch);
+    }
 
 pub returns-in-Err-Full-clause-added : goal.returns-in-Err-Full-clause-added
 returns-in-Err-Full-clause-added g c =
     let clients = g.C.Clients.meaning c.args.clients.now in
     let answer = rw c.in-Err-Full.field-0-is at c.in-Err-Full.ensures.answer in
     let runs =
-    runs_commit c.images_stand.ensures clients c.args.store.now c.commit_known.new.self c.args.batch (Err fault.Full) _ g.D.Disk.tells c.args.disk.now c.commit_known.new.disk c.in-Err-Full.ensures.numbers
-    c.requires.ready.still_open c.requires.allowed answer (rw c.in-Err-Full.field-0-is at c.in-Err-Full.ensures.unasked) c.in-Err-Full.ensures.run (record { just = tt; most = c.in-Err-Full.ensures.calls.most })
+    runs_commit c.images_stand.ensures clients c.args.store.now c.commit_known.new.self c.args.batch
+    (Err fault.Full) _ g.D.Disk.tells c.args.disk.now c.commit_known.new.disk
+    c.in-Err-Full.ensures.numbers
+    c.requires.ready.still_open c.requires.allowed answer
+    (rw c.in-Err-Full.field-0-is at c.in-Err-Full.ensures.unasked) c.in-Err-Full.ensures.run
+    (record { just = tt; most = c.in-Err-Full.ensures.calls.most })
     (c.in-Err-Full.ensures.extends c.requires.ready.still_open) in
-    record { more = []; adds = tt; format = runs.format; leads = runs.leads; answer = (answer.2.closed ∙ answer.0, answer.1, refl) }
+    record {
+      more = [];
+      adds = tt;
+      format = runs.format;
+      leads = runs.leads;
+      answer = (answer.2.closed ∙ answer.0, answer.1, refl);
+    }
 
 pub returns-in-Err-Memory-clause-added : goal.returns-in-Err-Memory-clause-added
 returns-in-Err-Memory-clause-added g c =
     let clients = g.C.Clients.meaning c.args.clients.now in
     let runs =
-    runs_commit c.images_stand.ensures clients c.args.store.now c.commit_known.new.self c.args.batch (Err fault.Memory) _ g.D.Disk.tells c.args.disk.now c.commit_known.new.disk c.in-Err-Memory.ensures.numbers
-    c.requires.ready.still_open c.requires.allowed (rw c.in-Err-Memory.field-0-is at c.in-Err-Memory.ensures.answer) (rw c.in-Err-Memory.field-0-is at c.in-Err-Memory.ensures.unasked)
-    c.in-Err-Memory.ensures.run (record { just = tt; most = c.in-Err-Memory.ensures.calls.most }) (c.in-Err-Memory.ensures.extends c.requires.ready.still_open) in
+    runs_commit c.images_stand.ensures clients c.args.store.now c.commit_known.new.self c.args.batch
+    (Err fault.Memory) _ g.D.Disk.tells c.args.disk.now c.commit_known.new.disk
+    c.in-Err-Memory.ensures.numbers
+    c.requires.ready.still_open c.requires.allowed
+    (rw c.in-Err-Memory.field-0-is at c.in-Err-Memory.ensures.answer)
+    (rw c.in-Err-Memory.field-0-is at c.in-Err-Memory.ensures.unasked)
+    c.in-Err-Memory.ensures.run (record { just = tt; most = c.in-Err-Memory.ensures.calls.most })
+    (c.in-Err-Memory.ensures.extends c.requires.ready.still_open) in
     record { more = []; adds = tt; format = runs.format; leads = runs.leads; answer = tt }
 
 pub returns-in-Err-DiskFault-clause-added : goal.returns-in-Err-DiskFault-clause-added
 returns-in-Err-DiskFault-clause-added g c =
     let clients = g.C.Clients.meaning c.args.clients.now in
     let runs =
-    runs_commit c.images_stand.ensures clients c.args.store.now c.commit_known.new.self c.args.batch (Err fault.DiskFault) _ g.D.Disk.tells c.args.disk.now c.commit_known.new.disk c.in-Err-DiskFault.ensures.numbers
-    c.requires.ready.still_open c.requires.allowed (rw c.in-Err-DiskFault.field-0-is at c.in-Err-DiskFault.ensures.answer) tt
-    c.in-Err-DiskFault.ensures.run (record { just = tt; most = c.in-Err-DiskFault.ensures.calls.most }) (c.in-Err-DiskFault.ensures.extends c.requires.ready.still_open) in
-    record { more = c.args.batch ∷ []; adds = (refl, tt, tt); format = runs.format; leads = runs.leads; answer = tt }
+    runs_commit c.images_stand.ensures clients c.args.store.now c.commit_known.new.self c.args.batch
+    (Err fault.DiskFault) _ g.D.Disk.tells c.args.disk.now c.commit_known.new.disk
+    c.in-Err-DiskFault.ensures.numbers
+    c.requires.ready.still_open c.requires.allowed
+    (rw c.in-Err-DiskFault.field-0-is at c.in-Err-DiskFault.ensures.answer) tt
+    c.in-Err-DiskFault.ensures.run
+    (record { just = tt; most = c.in-Err-DiskFault.ensures.calls.most })
+    (c.in-Err-DiskFault.ensures.extends c.requires.ready.still_open) in
+    record {
+      more = c.args.batch ∷ [];
+      adds = (refl, tt, tt);
+      format = runs.format;
+      leads = runs.leads;
+      answer = tt;
+    }
 
 pub returns-in-Err-DiskFault-clause-by : goal.returns-in-Err-DiskFault-clause-by
-returns-in-Err-DiskFault-clause-by g c = (rw c.in-Err-DiskFault.field-0-is at c.in-Err-DiskFault.ensures.fault) refl
+returns-in-Err-DiskFault-clause-by g c =
+    (rw c.in-Err-DiskFault.field-0-is at c.in-Err-DiskFault.ensures.fault) refl

@@ -6,23 +6,48 @@ pub returns-in-Ok-clause-added : goal.returns-in-Ok-clause-added
 returns-in-Ok-clause-added g c =
     let clients = g.C.Clients.meaning c.args.clients.now in
     let has = c.in-Ok.ensures.extended c.requires.ready.still_open in
-    record { more = has.more; adds = has.adds; format = has.runs.format; leads = has.runs.leads; answer = (has.answer.0, has.answer.1, extended_whole clients _ _ c.args.batch tt _ _ has) }
+    record {
+      more = has.more;
+      adds = has.adds;
+      format = has.runs.format;
+      leads = has.runs.leads;
+      answer = (has.answer.0, has.answer.1, extended_whole clients _ _ c.args.batch tt _ _ has);
+    }
 
 pub returns-in-Err-Full-clause-added : goal.returns-in-Err-Full-clause-added
 returns-in-Err-Full-clause-added g c =
     let has = c.in-Err-Full.ensures.extended c.requires.ready.still_open in
     let answer = rw c.in-Err-Full.field-0-is at has.answer in
-    record { more = has.more; adds = has.adds; format = has.runs.format; leads = has.runs.leads; answer = (answer.2.closed ∙ c.requires.ready.still_open, answer.0, answer.1) }
+    record {
+      more = has.more;
+      adds = has.adds;
+      format = has.runs.format;
+      leads = has.runs.leads;
+      answer = (answer.2.closed ∙ c.requires.ready.still_open, answer.0, answer.1);
+    }
 
 pub returns-in-Err-Memory-clause-added : goal.returns-in-Err-Memory-clause-added
 returns-in-Err-Memory-clause-added g c =
     let has = c.in-Err-Memory.ensures.extended c.requires.ready.still_open in
-    record { more = has.more; adds = has.adds; format = has.runs.format; leads = has.runs.leads; answer = tt }
+    record {
+      more = has.more;
+      adds = has.adds;
+      format = has.runs.format;
+      leads = has.runs.leads;
+      answer = tt;
+    }
 
 pub returns-in-Err-DiskFault-clause-added : goal.returns-in-Err-DiskFault-clause-added
 returns-in-Err-DiskFault-clause-added g c =
     let has = c.in-Err-DiskFault.ensures.extended c.requires.ready.still_open in
-    record { more = has.more; adds = has.adds; format = has.runs.format; leads = has.runs.leads; answer = tt }
+    record {
+      more = has.more;
+      adds = has.adds;
+      format = has.runs.format;
+      leads = has.runs.leads;
+      answer = tt;
+    }
 
 pub returns-in-Err-DiskFault-clause-by : goal.returns-in-Err-DiskFault-clause-by
-returns-in-Err-DiskFault-clause-by g c = (rw c.in-Err-DiskFault.field-0-is at c.in-Err-DiskFault.ensures.fault) refl
+returns-in-Err-DiskFault-clause-by g c =
+    (rw c.in-Err-DiskFault.field-0-is at c.in-Err-DiskFault.ensures.fault) refl

@@ -1,33 +1,46 @@
 use Rattle.std.proofs.Common.{◌≡◌, [], refl}
 use Rattle.store_commands.proofs.Adds.{caused_later}
-use Rattle.store_commands.proofs.Migrates.{comes_settled, migrated_anew_err, settled_anew, settled_unfull}
+use Rattle.store_commands.proofs.Migrates.{comes_settled, migrated_anew_err, settled_anew}
+use Rattle.store_commands.proofs.Migrates.{settled_unfull}
 use Rattle.store_commands.proofs.Passing.{anew_on, by_on, full_on, ready_on}
 use Rattle.store_commands.proofs.commit.migrate_and_settle.Goals as goal
 
 pub returns-in_err-migrate-clause-by : goal.returns-in_err-migrate-clause-by
 returns-in_err-migrate-clause-by g c =
-    by_on c.from_residual.result c.in_err-migrate.field-0.0 c.from_residual.ensures.1 (g.D.Disk.tells c.args.disk.now) (g.D.Disk.tells c.migrate.new.disk) c.in_err-migrate.ensures.by
+    by_on c.from_residual.result c.in_err-migrate.field-0.0 c.from_residual.ensures.1
+    (g.D.Disk.tells c.args.disk.now) (g.D.Disk.tells c.migrate.new.disk)
+    c.in_err-migrate.ensures.by
 
 pub returns-in_err-migrate-clause-settled : goal.returns-in_err-migrate-clause-settled
 returns-in_err-migrate-clause-settled g c =
     let clients = g.C.Clients.meaning c.args.clients.now in
     let came = c.in_err-migrate.field-0.0 in
     let migrated = c.in_err-migrate.ensures.migrated in
-    anew_on c.from_residual.result came c.from_residual.ensures.1 clients c.args.store.now c.migrate.new.store (g.D.Disk.tells c.args.disk.now) (g.D.Disk.tells c.migrate.new.disk)
-    (record { more = []; comes = migrated.comes; answer = migrated_anew_err clients c.args.store.now c.migrate.new.store came migrated.answer })
+    anew_on c.from_residual.result came c.from_residual.ensures.1 clients c.args.store.now
+    c.migrate.new.store (g.D.Disk.tells c.args.disk.now) (g.D.Disk.tells c.migrate.new.disk)
+    (record {
+      more = [];
+      comes = migrated.comes;
+      answer = migrated_anew_err clients c.args.store.now c.migrate.new.store came migrated.answer;
+    })
 
 pub returns-in_err-migrate-clause-untouched : goal.returns-in_err-migrate-clause-untouched
 returns-in_err-migrate-clause-untouched g c =
-    full_on c.from_residual.result c.in_err-migrate.field-0.0 c.from_residual.ensures.1 _ c.in_err-migrate.ensures.untouched
+    full_on c.from_residual.result c.in_err-migrate.field-0.0 c.from_residual.ensures.1 _
+    c.in_err-migrate.ensures.untouched
 
 pub returns-in_err-migrate-clause-stays : goal.returns-in_err-migrate-clause-stays
 returns-in_err-migrate-clause-stays g c =
-    ready_on c.from_residual.result c.in_err-migrate.field-0.0 c.from_residual.ensures.1 (g.C.Clients.meaning c.args.clients.now) c.migrate.new.store (g.D.Disk.tells c.migrate.new.disk).files
+    ready_on c.from_residual.result c.in_err-migrate.field-0.0 c.from_residual.ensures.1
+    (g.C.Clients.meaning c.args.clients.now) c.migrate.new.store
+    (g.D.Disk.tells c.migrate.new.disk).files
     c.in_err-migrate.ensures.stays
 
 pub returns-clause-by : goal.returns-clause-by
 returns-clause-by g c =
-    caused_later (g.D.Disk.tells c.args.disk.now) (g.D.Disk.tells c.migrate.new.disk) (g.D.Disk.tells c.settle.new.disk) c.settle.result c.in_ok-migrate.ensures.run.later c.settle.ensures.by
+    caused_later (g.D.Disk.tells c.args.disk.now) (g.D.Disk.tells c.migrate.new.disk)
+    (g.D.Disk.tells c.settle.new.disk) c.settle.result c.in_ok-migrate.ensures.run.later
+    c.settle.ensures.by
 
 pub returns-clause-settled : goal.returns-clause-settled
 returns-clause-settled g c =
@@ -40,10 +53,15 @@ returns-clause-settled g c =
     record {
       more = settled.more;
       comes =
-          comes_settled clients s s1 s2 (g.D.Disk.tells c.args.disk.now) (g.D.Disk.tells c.migrate.new.disk) (g.D.Disk.tells c.settle.new.disk) _ c.settle.result migrated.answer.0
+          comes_settled clients s s1 s2 (g.D.Disk.tells c.args.disk.now)
+          (g.D.Disk.tells c.migrate.new.disk) (g.D.Disk.tells c.settle.new.disk) _
+          c.settle.result migrated.answer.0
           c.in_ok-migrate.ensures.run migrated settled;
-      answer = settled_anew clients s s1 s2 _ c.settle.result migrated.answer settled.comes.format settled.comes.generation settled.answer;
+      answer = settled_anew clients s s1 s2 _ c.settle.result migrated.answer settled.comes.format
+          settled.comes.generation settled.answer;
     }
 
 pub returns-clause-untouched : goal.returns-clause-untouched
-returns-clause-untouched g c full = absurd (settled_unfull (g.C.Clients.meaning c.args.clients.now) c.settle.new.store c.settle.result c.settle.ensures.settled.answer full)
+returns-clause-untouched g c full =
+    absurd (settled_unfull (g.C.Clients.meaning c.args.clients.now) c.settle.new.store
+    c.settle.result c.settle.ensures.settled.answer full)

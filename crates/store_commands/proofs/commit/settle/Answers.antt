@@ -7,7 +7,8 @@ returns-in-Ok-clause-settled g c =
     record { more = has.more; comes = has.comes; answer = has.answer }
 
 pub returns-in-Ok-clause-ready : goal.returns-in-Ok-clause-ready
-returns-in-Ok-clause-ready g c = c.in-Ok.ensures.ready (c.in-Ok.ensures.settled c.requires.ready.still_open).answer.0
+returns-in-Ok-clause-ready g c =
+    c.in-Ok.ensures.ready (c.in-Ok.ensures.settled c.requires.ready.still_open).answer.0
 
 pub returns-in-Err-Memory-clause-settled : goal.returns-in-Err-Memory-clause-settled
 returns-in-Err-Memory-clause-settled g c =
@@ -20,4 +21,5 @@ returns-in-Err-DiskFault-clause-settled g c =
     record { more = has.more; comes = has.comes; answer = tt }
 
 pub returns-in-Err-DiskFault-clause-by : goal.returns-in-Err-DiskFault-clause-by
-returns-in-Err-DiskFault-clause-by g c = (rw c.in-Err-DiskFault.field-0-is at c.in-Err-DiskFault.ensures.fault) refl
+returns-in-Err-DiskFault-clause-by g c =
+    (rw c.in-Err-DiskFault.field-0-is at c.in-Err-DiskFault.ensures.fault) refl

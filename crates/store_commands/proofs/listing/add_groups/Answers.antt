@@ -6,4 +6,5 @@ use Rattle.store_commands.proofs.listing.add_groups.Goals as goal
 
 pub groups-preserved : goal.groups-preserved
 groups-preserved c =
-    more_lines group_line c.args.store.now.state.facts.groups c.groups.n (string_bytes c.args.to.now) _ _ (omega arith) c.groups.invariant c.in_ok-add_group.ensures
+    more_lines group_line c.args.store.now.state.facts.groups c.groups.n
+    (string_bytes c.args.to.now) _ _ (omega arith) c.groups.invariant c.in_ok-add_group.ensures

@@ -5,4 +5,6 @@ use Rattle.store_commands.specs.Shown.{group_line}
 use Rattle.store_commands.proofs.listing.add_groups.Given as goal
 
 abbrev pub invariant-groups : goal.invariant-groups
-invariant-groups l = string_bytes l.to ≡ string_bytes l.initial.to ++ flat_map group_line (take l.n l.store.state.facts.groups)
+invariant-groups l =
+    string_bytes l.to ≡ string_bytes l.initial.to
+    ++ flat_map group_line (take l.n l.store.state.facts.groups)

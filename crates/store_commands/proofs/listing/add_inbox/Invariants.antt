@@ -8,4 +8,6 @@ use Rattle.store_commands.proofs.listing.add_inbox.Given as goal
 abbrev pub invariant-delivered : goal.invariant-delivered
 invariant-delivered l =
     string_bytes l.to
-    ≡ string_bytes l.initial.to ++ flat_map (λ id. delivered_line (held_at l.store.state.facts.held id)) (take l.k l.store.state.facts.delivered)
+    ≡ string_bytes l.initial.to
+    ++ flat_map (λ id. delivered_line (held_at l.store.state.facts.held id))
+    (take l.k l.store.state.facts.delivered)

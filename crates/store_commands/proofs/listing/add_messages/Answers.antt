@@ -6,4 +6,6 @@ use Rattle.store_commands.proofs.listing.add_messages.Goals as goal
 
 pub messages-preserved : goal.messages-preserved
 messages-preserved c =
-    more_lines (message_line c.args.store.now.state.facts) c.args.store.now.state.facts.held c.messages.n (string_bytes c.args.to.now) _ _ (omega arith) c.messages.invariant c.in_ok-add_message.ensures
+    more_lines (message_line c.args.store.now.state.facts) c.args.store.now.state.facts.held
+    c.messages.n (string_bytes c.args.to.now) _ _ (omega arith) c.messages.invariant
+    c.in_ok-add_message.ensures

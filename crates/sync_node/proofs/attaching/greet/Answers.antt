@@ -1,40 +1,15 @@
-use Rattle.std.proofs.Common.{arith, eqb-true, sym}
-use Rattle.sync_node.proofs.OutLaws.{failed_then, may_unfailed}
-use Rattle.sync_node.proofs.CourseStart.{greets_once, greets_twice}
-use Rattle.sync_node.proofs.StartLaws.{greets_alone, greets_failed, greets_one, greets_then, none_long}
-use Rattle.sync_node.proofs.CauseLaws.{link_sent, link_then}
-use Rattle.std.proofs.Common.{◌∙◌, ap, subst}
+use Rattle.std.proofs.Common.{arith, eqb-true, sym, ◌∙◌, ap, subst}
 use Rattle.sync_node.specs.Ends.{MaySend}
+use Rattle.sync_node.proofs.CauseLaws.{link_sent, link_then}
+use Rattle.sync_node.proofs.OutLaws.{may_unfailed}
 use Rattle.sync_node.proofs.StartActs.{greeted_once, greeted_twice}
+use Rattle.sync_node.proofs.StartLaws.{none_long}
 use Rattle.sync_node.proofs.attaching.greet.Goals as goal
 use Rattle.sync_node.proofs.attaching.greet.Goals.{else-may_send-via-then-may_send+else-not-is_empty, else-may_send-via-else-may_send}
 
 pub send_on-requires-then-not-is_empty : goal.send_on-requires-then-not-is_empty
 send_on-requires-then-not-is_empty g c =
     omega (arith, c.requires.dialled, c.send_on.ensures.sends.same_dialled)
-
-pub returns-then-not-is_empty-clause-greets : goal.returns-then-not-is_empty-clause-greets
-returns-then-not-is_empty-clause-greets g c =
-    greets_then _ _ _ _ _ _ _ _ _ (may_unfailed _ (c.may_send.ensures.0 c.if-may_send.true))
-    (greets_one c.cite_laws.ensures.fronts c.cite_laws.ensures.images _ _ _ _ _ _ c.requires.dialled c.send_on.ensures)
-    (greets_one c.cite_laws.ensures.fronts c.cite_laws.ensures.images _ _ _ _ _ _ (omega (arith, c.requires.dialled, c.send_on.ensures.sends.same_dialled)) c.send_on-then-not-is_empty.ensures)
-
-pub returns-else-may_send-clause-greets : goal.returns-else-may_send-clause-greets
-returns-else-may_send-clause-greets g c =
-    let first = greets_one c.cite_laws.ensures.fronts c.cite_laws.ensures.images _ _ _ _ _ _ c.requires.dialled c.send_on.ensures in
-    elim c.else-may_send.branch [
-      | else-may_send-via-then-may_send+else-not-is_empty w ↦ greets_alone _ _ _ _ _ _ _ (none_long _ (eqb-true _ 0 (sym w.if-not-is_empty.ensures))) first
-      | else-may_send-via-else-may_send w ↦
-          greets_failed _ _ _ _ _ _ _
-          (failed_then _ _ _ _ _ _ c.send_on.ensures c.requires.going (λ may. let yes = c.may_send.ensures.1 may in let no = w.if-may_send.false in cc)) first
-    ]
-
-pub returns-then-not-is_empty-clause-told : goal.returns-then-not-is_empty-clause-told
-returns-then-not-is_empty-clause-told g c =
-    greets_twice _ _ _ _ _ _ _ _ _ (may_unfailed _ (c.may_send.ensures.0 c.if-may_send.true)) c.send_on.ensures c.send_on-then-not-is_empty.ensures
-
-pub returns-else-may_send-clause-told : goal.returns-else-may_send-clause-told
-returns-else-may_send-clause-told g c = greets_once _ _ _ _ _ _ c.send_on.ensures
 
 pub returns-then-not-is_empty-clause-run : goal.returns-then-not-is_empty-clause-run
 returns-then-not-is_empty-clause-run g c =

@@ -1,101 +1,34 @@
-use Rattle.std.proofs.Common.{refl, ap, length, arith}
+use Rattle.std.proofs.Common.{refl, ap, length, arith, true, false}
 use Rattle.record_stream.specs.Reading.{ReaderState}
-use Rattle.sync_node.proofs.TakeLaws.{more_works, open_for, skip_works, taken_able, taken_stays, taken_works}
-use Rattle.sync_node.proofs.WorkLaws.{on_err, stays_none, works_ended}
-use Rattle.sync_node.proofs.CauseLaws.{learnt_unfailed, link_kept, link_unfailed}
-use Rattle.sync_node.proofs.SafeLaws.{goes_none}
-use Rattle.std.proofs.Common.{Err}
-use Rattle.sync_node.proofs.WorkLaws.{err_was}
-use Rattle.sync_node.proofs.StopLaws.{stops_none}
 use Rattle.sync_node.specs.declared.fault.Fault.TheVariants as fault
+use Rattle.sync_node.proofs.CauseLaws.{learnt_unfailed, link_kept, link_unfailed}
+use Rattle.sync_node.proofs.KeepLaws.{store_ok, store_was, work_memory, work_none}
 use Rattle.sync_node.proofs.PieceActs.{item_bad, item_more, item_no_memory, item_one, item_skipped, item_stops}
+use Rattle.sync_node.proofs.SafeLaws.{goes_none}
+use Rattle.sync_node.proofs.TakeLaws.{open_for}
 use Rattle.sync_node.proofs.Undone.{if_err_was}
 use Rattle.sync_node.proofs.hearing.take_next.Goals as goal
 
 pub take_one-requires : goal.take_one-requires
 take_one-requires g c = record { able = open_for _ c.args.number c.args.link.now.session _ _ _ c.learn.ensures.same_session c.requires.able }
 
-pub returns-in_err-place-clause-stays : goal.returns-in_err-place-clause-stays
-returns-in_err-place-clause-stays g c = on_err _ _ (stays_none _ _ _ _ _ _)
-
-pub returns-in_err-take_one-in-One-clause-stays : goal.returns-in_err-take_one-in-One-clause-stays
-returns-in_err-take_one-in-One-clause-stays g c =
-    on_err _ _
-    (taken_stays c.cite_laws.ensures.join c.cite_laws.ensures.follow _ _ _ _ _ _ c.learn.new.link c.in-One.place c.in-One.rec _ _ _ _ c.requires.asked refl
-    (rw c.in-One.is at c.in_ok-place.ensures.stream) c.learn.ensures c.in_err-take_one-in-One.ensures.safe)
-
-pub returns-in_ok-take_one-in-One-clause-able : goal.returns-in_ok-take_one-in-One-clause-able
-returns-in_ok-take_one-in-One-clause-able g c =
-    taken_able _ _ c.args.link.now.session _ c.in-One.rec _ _ _ _ c.learn.ensures.same_session c.requires.able c.in_ok-take_one-in-One.ensures.takes
-
 pub returns-in_ok-take_one-in-One-clause-left : goal.returns-in_ok-take_one-in-One-clause-left
 returns-in_ok-take_one-in-One-clause-left g c =
     let left = rw c.in-One.is at c.in_ok-place.ensures.left in
     omega (arith, left, ap (λ (r : ReaderState). length r.bytes) c.learn.ensures.same_reader)
 
-pub returns-in_ok-take_one-in-One-clause-works : goal.returns-in_ok-take_one-in-One-clause-works
-returns-in_ok-take_one-in-One-clause-works g c =
-    taken_works c.cite_laws.ensures.join c.cite_laws.ensures.follow _ _ _ _ _ _ c.learn.new.link c.in-One.place c.in-One.rec _ _ _ _ c.requires.asked refl refl
-    (rw c.in-One.is at c.in_ok-place.ensures.stream) c.learn.ensures c.in_ok-take_one-in-One.ensures.takes c.in_ok-take_one-in-One.ensures.safe
-
-pub returns-in-Skipped-clause-able : goal.returns-in-Skipped-clause-able
-returns-in-Skipped-clause-able g c = c.requires.able
-
 pub returns-in-Skipped-clause-left : goal.returns-in-Skipped-clause-left
 returns-in-Skipped-clause-left g c = rw c.in-Skipped.is at c.in_ok-place.ensures.left
-
-pub returns-in-Skipped-clause-works : goal.returns-in-Skipped-clause-works
-returns-in-Skipped-clause-works g c =
-    skip_works c.cite_laws.ensures.join c.cite_laws.ensures.follow _ _ _ _ _ _ c.in-Skipped.field-0 c.in-Skipped.field-1 c.in-Skipped.field-2 _ _ refl refl refl
-    (rw c.in-Skipped.is at c.in_ok-place.ensures.stream)
-
-pub returns-in-More-clause-able : goal.returns-in-More-clause-able
-returns-in-More-clause-able g c = c.requires.able
 
 pub returns-in-More-clause-left : goal.returns-in-More-clause-left
 returns-in-More-clause-left g c =
     let left = rw c.in-More.is at c.in_ok-place.ensures.left in
     (left.0, λ _. left.1)
 
-pub returns-in-More-clause-works : goal.returns-in-More-clause-works
-returns-in-More-clause-works g c =
-    more_works c.cite_laws.ensures.follow _ _ _ _ _ _ _ _ refl refl refl (rw c.in-More.is at c.in_ok-place.ensures.stream)
-
-pub returns-in-Bad-clause-able : goal.returns-in-Bad-clause-able
-returns-in-Bad-clause-able g c = c.requires.able
-
 pub returns-in-Bad-clause-left : goal.returns-in-Bad-clause-left
 returns-in-Bad-clause-left g c =
     let left = rw c.in-Bad.is at c.in_ok-place.ensures.left in
     (left.0, λ _. left.1)
-
-pub returns-in-Bad-clause-works : goal.returns-in-Bad-clause-works
-returns-in-Bad-clause-works g c = works_ended _ _ _ _ _ _ _ _ refl (λ going. cc) c.requires.asked
-
-pub returns-in_err-place-clause-run : goal.returns-in_err-place-clause-run
-returns-in_err-place-clause-run g c = link_kept _ _ _ _ _ (goes_none _) refl refl
-
-pub returns-in_err-take_one-in-One-clause-run : goal.returns-in_err-take_one-in-One-clause-run
-returns-in_err-take_one-in-One-clause-run g c =
-    link_unfailed _ _ _ _ _ c.take_one.ensures.run c.learn.ensures.same_session (learnt_unfailed c.in-One.place c.in-One.rec _ _ c.learn.ensures c.requires.asked)
-
-pub returns-in_ok-take_one-in-One-clause-run : goal.returns-in_ok-take_one-in-One-clause-run
-returns-in_ok-take_one-in-One-clause-run g c =
-    link_unfailed _ _ _ _ _ c.take_one.ensures.run c.learn.ensures.same_session (learnt_unfailed c.in-One.place c.in-One.rec _ _ c.learn.ensures c.requires.asked)
-
-pub returns-in-Skipped-clause-run : goal.returns-in-Skipped-clause-run
-returns-in-Skipped-clause-run g c = link_kept _ _ _ _ _ (goes_none _) refl refl
-
-pub returns-in-More-clause-run : goal.returns-in-More-clause-run
-returns-in-More-clause-run g c = link_kept _ _ _ _ _ (goes_none _) refl refl
-
-pub returns-in-Bad-clause-run : goal.returns-in-Bad-clause-run
-returns-in-Bad-clause-run g c = link_unfailed _ _ _ _ _ (goes_none _) refl (λ failed. cc)
-
-pub returns-in_err-take_one-in-One-clause-sent : goal.returns-in_err-take_one-in-One-clause-sent
-returns-in_err-take_one-in-One-clause-sent g c = λ is.
-    stops_none _ _ _ _ _ _ _ _ (λ failed. let asked = c.requires.asked in cc)
-    (c.in_err-take_one-in-One.ensures.as_before (ap (λ e. Err e) (err_was _ c.in_err-take_one-in-One.field-0.0 _ c.from_residual-in_err-take_one-in-One.ensures.1 is)))
 
 pub returns-in_err-place-clause-stopped : goal.returns-in_err-place-clause-stopped
 returns-in_err-place-clause-stopped g c =
@@ -129,3 +62,30 @@ returns-in-Bad-clause-went g c =
     let left = rw c.in-Bad.is at c.in_ok-place.ensures.left in
     item_bad c.cite_laws.ensures.follow _ _ c.in-Bad.place c.in-Bad.reason _ _ _ _ _ _ c.requires.asked refl refl refl c.requires.able.settled
     (rw c.in-Bad.is at c.in_ok-place.ensures.stream) left.0 left.1 left.2
+
+pub returns-in_err-place-clause-keeps : goal.returns-in_err-place-clause-keeps
+returns-in_err-place-clause-keeps g c = 
+    work_memory _ _ _ _ _ _ _ c.from_residual.ensures.1 (link_kept _ _ _ _ _ (goes_none _) refl refl)
+    c.requires.able.ready
+
+pub returns-in_err-take_one-in-One-clause-keeps : goal.returns-in_err-take_one-in-One-clause-keeps
+returns-in_err-take_one-in-One-clause-keeps g c = record {
+  link = link_unfailed _ _ _ _ _ c.take_one.ensures.goes c.learn.ensures.same_session (learnt_unfailed c.in-One.place c.in-One.rec _ _ c.learn.ensures c.requires.asked);
+  store = store_was _ _ _ _ _ _ _ _ c.in_err-take_one-in-One.field-0.0 c.from_residual-in_err-take_one-in-One.ensures.1 c.in_err-take_one-in-One.ensures.keeps;
+}
+
+pub returns-in_ok-take_one-in-One-clause-keeps : goal.returns-in_ok-take_one-in-One-clause-keeps
+returns-in_ok-take_one-in-One-clause-keeps g c = record {
+  link = link_unfailed _ _ _ _ _ c.take_one.ensures.goes c.learn.ensures.same_session (learnt_unfailed c.in-One.place c.in-One.rec _ _ c.learn.ensures c.requires.asked);
+  store = store_ok _ _ _ _ _ _ _ true c.in_ok-take_one-in-One.ensures.keeps;
+}
+
+pub returns-in-Skipped-clause-keeps : goal.returns-in-Skipped-clause-keeps
+returns-in-Skipped-clause-keeps g c = work_none _ _ _ _ _ _ true (link_kept _ _ _ _ _ (goes_none _) refl refl) c.requires.able
+
+pub returns-in-More-clause-keeps : goal.returns-in-More-clause-keeps
+returns-in-More-clause-keeps g c = work_none _ _ _ _ _ _ false (link_kept _ _ _ _ _ (goes_none _) refl refl) c.requires.able
+
+pub returns-in-Bad-clause-keeps : goal.returns-in-Bad-clause-keeps
+returns-in-Bad-clause-keeps g c = 
+    work_none _ _ _ _ _ _ false (link_unfailed _ _ _ _ _ (goes_none _) refl (λ failed. cc)) c.requires.able

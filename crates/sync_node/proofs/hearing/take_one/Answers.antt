@@ -1,15 +1,14 @@
-use Rattle.sync_node.proofs.TakeLaws.{take_allowed, take_is, take_kind, take_own, take_safe, take_safe_none, take_safe_then, taken_on}
-use Rattle.sync_node.proofs.WorkLaws.{on_ok}
-use Rattle.sync_node.proofs.CourseTakes.{take_named}
-use Rattle.sync_node.proofs.SafeLaws.{goes_none}
-use Rattle.sync_node.proofs.WorkLaws.{goes_then}
-use Rattle.std.proofs.Common.{Err, ap, refl}
+use Rattle.std.proofs.Common.{refl}
 use Rattle.session_core.specs.Taking.{take_of}
-use Rattle.sync_node.proofs.WorkLaws.{err_was}
-use Rattle.sync_node.proofs.StateLaws.{takes_told}
 use Rattle.sync_node.specs.declared.fault.Fault.TheVariants as fault
+use Rattle.sync_node.proofs.CourseTakes.{take_named}
+use Rattle.sync_node.proofs.KeepLaws.{commit_goes, commit_keeps, settle_goes, settle_keeps, store_memory, store_was, take_keeps}
 use Rattle.sync_node.proofs.LinkActs.{record_no_memory, record_stops_at_commit, record_stops_at_settle, record_taken}
+use Rattle.sync_node.proofs.SafeLaws.{goes_none}
+use Rattle.sync_node.proofs.StateLaws.{takes_told}
+use Rattle.sync_node.proofs.TakeLaws.{take_allowed, take_is, take_kind, take_own}
 use Rattle.sync_node.proofs.Undone.{if_err_then, if_err_was}
+use Rattle.sync_node.proofs.WorkLaws.{goes_then, on_ok}
 use Rattle.sync_node.proofs.hearing.take_one.Goals as goal
 
 pub commit-requires-clause-ready : goal.commit-requires-clause-ready
@@ -27,41 +26,8 @@ pub commit-requires-clause-plain : goal.commit-requires-clause-plain
 commit-requires-clause-plain g c =
     take_own c.args.store.now.state.facts c.args.session.now c.takes-taken.result c.args.rec c.in_ok-known.known.0 c.in_ok-known.ensures.batch
 
-pub returns-in_err-known-clause-safe : goal.returns-in_err-known-clause-safe
-returns-in_err-known-clause-safe g c = take_safe_none _ _ _ _ _
-
-pub returns-in_err-commit-clause-safe : goal.returns-in_err-commit-clause-safe
-returns-in_err-commit-clause-safe g c =
-    take_safe _ _ _ _ _ _ _ c.in_ok-known.known.0 c.requires.able (take_is c.args.store.now.state.facts c.args.session.now c.takes-taken.result c.args.rec c.in_ok-known.known.0 (takes_told c.args.store.now.state _ _ _ c.state.ensures c.takes-taken.ensures) c.in_ok-known.ensures.batch) c.in_err-commit.ensures.safe
-
 pub settle-requires : goal.settle-requires
-settle-requires g c = record { ready = c.in_ok-commit.ensures.commits.ready }
-
-pub returns-clause-takes : goal.returns-clause-takes
-returns-clause-takes g c =
-    let allowed = take_allowed _ _ c.takes-taken.result c.args.rec _ _ c.in_ok-known.known.0 c.requires.able c.records_are_within.ensures (takes_told c.args.store.now.state _ _ _ c.state.ensures c.takes-taken.ensures) c.in_ok-known.ensures.batch in
-    on_ok c.settle.result _ _
-    (taken_on _ _ _ _ _ _ _ _ _ c.in_ok-known.known.0
-    (take_is c.args.store.now.state.facts c.args.session.now c.takes-taken.result c.args.rec c.in_ok-known.known.0 (takes_told c.args.store.now.state _ _ _ c.state.ensures c.takes-taken.ensures) c.in_ok-known.ensures.batch) allowed c.in_ok-commit.ensures.commits)
-    c.settle.ensures.settles
-
-pub returns-clause-safe : goal.returns-clause-safe
-returns-clause-safe g c =
-    take_safe_then _ _ _ _ _ _ _ _ _
-    (take_safe _ _ _ _ _ _ _ c.in_ok-known.known.0 c.requires.able (take_is c.args.store.now.state.facts c.args.session.now c.takes-taken.result c.args.rec c.in_ok-known.known.0 (takes_told c.args.store.now.state _ _ _ c.state.ensures c.takes-taken.ensures) c.in_ok-known.ensures.batch) c.in_ok-commit.ensures.safe)
-    c.settle.ensures.safe
-
-pub returns-in_err-known-clause-run : goal.returns-in_err-known-clause-run
-returns-in_err-known-clause-run g c = goes_none _
-
-pub returns-clause-run : goal.returns-clause-run
-returns-clause-run g c = goes_then _ _ _ c.commit.ensures.run c.settle.ensures.run
-
-pub returns-in_err-commit-clause-as_before : goal.returns-in_err-commit-clause-as_before
-returns-in_err-commit-clause-as_before g c = λ is. c.in_err-commit.ensures.as_before (ap (λ e. Err e) (err_was _ c.in_err-commit.field-0.0 _ c.from_residual-in_err-commit.ensures.1 is))
-
-pub returns-clause-as_before : goal.returns-clause-as_before
-returns-clause-as_before g c = λ is. absurd (c.settle.ensures.never is)
+settle-requires g c = record { ready = c.in_ok-commit.ensures.went.ready }
 
 pub commit-requires-clause-named : goal.commit-requires-clause-named
 commit-requires-clause-named g c = c.in_ok-known.ensures.named
@@ -104,3 +70,30 @@ returns-clause-stopped g c =
     (take_is c.args.store.now.state.facts c.args.session.now c.takes-taken.result c.args.rec c.in_ok-known.known.0 (takes_told c.args.store.now.state _ _ _ c.state.ensures c.takes-taken.ensures) c.in_ok-known.ensures.batch)) allowed
     _ _ _ _ e c.in_ok-commit.ensures.went stops)
     c.settle.ensures.stopped
+
+pub returns-in_err-known-clause-goes : goal.returns-in_err-known-clause-goes
+returns-in_err-known-clause-goes g c = goes_none _
+
+pub returns-in_err-commit-clause-goes : goal.returns-in_err-commit-clause-goes
+returns-in_err-commit-clause-goes g c = commit_goes _ c.in_ok-known.known.0 _ _ _ _ c.in_err-commit.field-0.0 c.in_err-commit.ensures.stopped
+
+pub returns-clause-goes : goal.returns-clause-goes
+returns-clause-goes g c = 
+    goes_then _ _ _ c.in_ok-commit.ensures.went.did.goes
+    (settle_goes _ _ _ _ _ c.settle.result c.settle.ensures.went c.settle.ensures.stopped)
+
+pub returns-in_err-known-clause-keeps : goal.returns-in_err-known-clause-keeps
+returns-in_err-known-clause-keeps g c = store_memory _ _ _ _ _ _ c.from_residual.ensures.1 c.requires.able.ready
+
+pub returns-in_err-commit-clause-keeps : goal.returns-in_err-commit-clause-keeps
+returns-in_err-commit-clause-keeps g c = 
+    store_was _ _ _ _ _ _ _ _ c.in_err-commit.field-0.0 c.from_residual-in_err-commit.ensures.1
+    (commit_keeps (Unit {0}) _ c.in_ok-known.known.0 _ _ _ _ c.in_err-commit.field-0.0 c.in_err-commit.ensures.stopped)
+
+pub returns-clause-keeps : goal.returns-clause-keeps
+returns-clause-keeps g c = 
+    let allowed = take_allowed _ _ c.takes-taken.result c.args.rec _ _ c.in_ok-known.known.0 c.requires.able c.records_are_within.ensures (takes_told c.args.store.now.state _ _ _ c.state.ensures c.takes-taken.ensures) c.in_ok-known.ensures.batch in
+    take_keeps _ c.args.session.now c.args.rec _ _ _ _ _ _ c.in_ok-known.known.0 _
+    (take_is c.args.store.now.state.facts c.args.session.now c.takes-taken.result c.args.rec c.in_ok-known.known.0 (takes_told c.args.store.now.state _ _ _ c.state.ensures c.takes-taken.ensures) c.in_ok-known.ensures.batch)
+    allowed c.in_ok-commit.ensures.went
+    (settle_keeps _ _ _ _ _ c.settle.result c.settle.ensures.went c.settle.ensures.stopped)

@@ -1,5 +1,5 @@
 use Rattle.sync_node.proofs.BeginLaws.{hung_up, left_safe}
-use Rattle.sync_node.proofs.StartLaws.{safe_planned}
+use Rattle.sync_node.proofs.SafeLaws.{safe_planned}
 use Rattle.sync_node.proofs.laws.runs_end.Goals as goal
 
 pub returns-clause-hung_up : goal.returns-clause-hung_up

@@ -9,9 +9,11 @@ use Rattle.sync_store.proofs.load.read_all.Given as goal
 -- the batches so far are played, and the disk was only read
 abbrev pub invariant-frames : goal.invariant-frames
 invariant-frames g l = record {
-  so_far : PlayedSoFar (g.C.Clients.meaning l.clients) (g.D.Disk.tells l.disk).files l.journal l.state;
+  so_far : PlayedSoFar (g.C.Clients.meaning l.clients)
+      (g.D.Disk.tells l.disk).files l.journal l.state;
   counts : (two : Two File) → (g.D.Disk.tells l.disk).files ≡ Some two
-      → CountsSo (g.C.Clients.meaning l.clients) (g.D.Disk.tells l.fn.disk) (g.D.Disk.tells l.disk) l.journal l.state two;
+      → CountsSo (g.C.Clients.meaning l.clients) (g.D.Disk.tells l.fn.disk) (g.D.Disk.tells l.disk)
+      l.journal l.state two;
   looks : OnlyReads (g.D.Disk.tells l.fn.disk) (g.D.Disk.tells l.disk);
 }
 

@@ -1,17 +1,21 @@
 use Rattle.std.proofs.Common.{◌≡◌, ◌-◌, ◌<◌, ◌≤◌, length, take, min, ap, arith}
 use Rattle.std.proofs.lemmas.List.{length-take, length-take-le}
-use Rattle.sync_top.proofs.InputLemmas.{consumed_none, reading_none, reading_more, reading_fails, reading_ends, reading_much, take_shorter}
+use Rattle.sync_top.proofs.InputLemmas.{consumed_none, reading_none, reading_more, reading_fails}
+use Rattle.sync_top.proofs.InputLemmas.{reading_ends, reading_much, take_shorter}
 use Rattle.sync_top.proofs.input.hear_input.Goals as goal
 
 pub pieces-init : goal.pieces-init
 pieces-init g c = record {
   room = let whole : length c.in_ok-buf.buf.items ≡ 65536 = c.in_ok-buf.ensures in omega arith;
-  reading = reading_none c.readings_join.ensures c.readings_are_whole.ensures g.L.Listener.heard _ _ _ c.in_ok-reader.ensures.fresh c.in_ok-reader.ensures.waits;
+  reading =
+      reading_none c.readings_join.ensures c.readings_are_whole.ensures g.L.Listener.heard _ _ _
+      c.in_ok-reader.ensures.fresh c.in_ok-reader.ensures.waits;
 }
 
 pub returns-in-Err : goal.returns-in-Err
 returns-in-Err g c =
-    reading_fails c.readings_join.ensures c.readings_are_whole.ensures g.L.Listener.heard _ _ _ _ _ _ _ _ _ c.pieces.invariant.reading c.in-Err.ensures.bytes
+    reading_fails c.readings_join.ensures c.readings_are_whole.ensures g.L.Listener.heard _ _ _ _ _
+    _ _ _ _ c.pieces.invariant.reading c.in-Err.ensures.bytes
     c.in-Err.ensures.cause.failed c.stopped.ensures.stop c.stopped.ensures.ending
 
 pub returns-then-n-eq0 : goal.returns-then-n-eq0
@@ -24,9 +28,13 @@ returns-then-n-eq0 g c =
     omega (arith, cut, cut_len, c.min.ensures, c.in-Ok.ensures.len, few, room) in
     let some_room : 0 < length c.read_piece.new.buf.items = omega (arith, len, few) in
     let none : c.in-Ok.n ≡ 0 = c.if-n-eq0.true in
-    let consumed = consumed_none (g.S.Source.tells c.pieces.input).bytes (g.S.Source.tells c.read_piece.new.input).bytes c.in-Ok.n c.read_piece.new.buf.items none c.in-Ok.ensures.bytes.0 in
-    reading_ends c.readings_join.ensures c.readings_are_whole.ensures g.L.Listener.heard _ _ _ _ _ _ _ _ _ c.pieces.invariant.reading consumed
-    (c.in-Ok.ensures.bytes.1 none some_room) c.stopped-then-n-eq0.ensures.stop c.stopped-then-n-eq0.ensures.ending
+    let consumed = consumed_none (g.S.Source.tells c.pieces.input).bytes
+    (g.S.Source.tells c.read_piece.new.input).bytes c.in-Ok.n c.read_piece.new.buf.items none
+    c.in-Ok.ensures.bytes.0 in
+    reading_ends c.readings_join.ensures c.readings_are_whole.ensures g.L.Listener.heard _ _ _ _ _ _
+    _ _ _ c.pieces.invariant.reading consumed
+    (c.in-Ok.ensures.bytes.1 none some_room) c.stopped-then-n-eq0.ensures.stop
+    c.stopped-then-n-eq0.ensures.ending
 
 pub returns-then-wanted-n : goal.returns-then-wanted-n
 returns-then-wanted-n g c =
@@ -43,11 +51,15 @@ returns-then-wanted-n g c =
     let less : wanted < n = c.if-wanted-n.true in
     let is : wanted ≡ min n (268435456 - c.pieces.total) = c.min-wanted.ensures in
     let piece_len : length (take n buf) ≡ n = length-take-le n buf bound in
-    let shorter : take wanted (take n buf) ≡ take wanted buf = take_shorter wanted n buf (omega (arith, less)) bound in
+    let shorter : take wanted (take n buf) ≡ take wanted buf =
+    take_shorter wanted n buf (omega (arith, less)) bound in
     let hearing = rw c.as_slice.ensures.value at c.in_ok-hear_piece.ensures.heard in
-    reading_much c.readings_join.ensures c.readings_are_whole.ensures g.L.Listener.heard _ _ _ c.pieces.total wanted (take n buf) _ _ _ _ _ _ _ c.pieces.invariant.reading
-    c.in-Ok.ensures.bytes.0 (omega (arith, piece_len, len, bound, less, is, few)) (omega (arith, len, bound, less, is, few))
-    c.stopped-then-wanted-n.ensures.stop (rw (← shorter) at hearing) c.in_ok-hear_piece.ensures.waits c.stopped-then-wanted-n.ensures.ending
+    reading_much c.readings_join.ensures c.readings_are_whole.ensures g.L.Listener.heard _ _ _
+    c.pieces.total wanted (take n buf) _ _ _ _ _ _ _ c.pieces.invariant.reading
+    c.in-Ok.ensures.bytes.0 (omega (arith, piece_len, len, bound, less, is, few))
+    (omega (arith, len, bound, less, is, few))
+    c.stopped-then-wanted-n.ensures.stop (rw (← shorter) at hearing)
+    c.in_ok-hear_piece.ensures.waits c.stopped-then-wanted-n.ensures.ending
 
 pub pieces-preserved : goal.pieces-preserved
 pieces-preserved g c =
@@ -68,6 +80,8 @@ pieces-preserved g c =
     let hearing = rw (c.as_slice.ensures.value, same) at c.in_ok-hear_piece.ensures.heard in
     record {
       room = omega (arith, len, bound, few);
-      reading = reading_more c.readings_join.ensures c.readings_are_whole.ensures g.L.Listener.heard _ _ _ c.pieces.total n (take n buf) _ _ _ _ _ c.pieces.invariant.reading
-          c.in-Ok.ensures.bytes.0 piece_len (omega (arith, all, is, few)) c.in-Ok.ensures.cause.later hearing c.in_ok-hear_piece.ensures.waits;
+      reading = reading_more c.readings_join.ensures c.readings_are_whole.ensures g.L.Listener.heard
+          _ _ _ c.pieces.total n (take n buf) _ _ _ _ _ c.pieces.invariant.reading
+          c.in-Ok.ensures.bytes.0 piece_len (omega (arith, all, is, few))
+          c.in-Ok.ensures.cause.later hearing c.in_ok-hear_piece.ensures.waits;
     }

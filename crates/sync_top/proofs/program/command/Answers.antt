@@ -13,5 +13,7 @@ returns-in-Err-clause-comes g c =
     let o = g.H.Disk.tells c.args.host.now in
     let input = g.S.Source.tells c.args.input.now in
     let out = g.W.Sink.tells c.args.out.now in
-    subst (λ (came : Outcome). WordsComeTo clients asked o o input input out out came) (sym c.from.ensures)
-    (words_come clients asked o input input out out c.in-Err.fault c.in-Err.ensures.read (record { same = refl; same_faults = refl }) (record { same = refl; same_faults = refl }))
+    subst (λ (came : Outcome). WordsComeTo clients asked o o input input out out came)
+    (sym c.from.ensures)
+    (words_come clients asked o input input out out c.in-Err.fault c.in-Err.ensures.read
+    (record { same = refl; same_faults = refl }) (record { same = refl; same_faults = refl }))

@@ -9,10 +9,18 @@ pub returns-in-Ok-clause-comes : goal.returns-in-Ok-clause-comes
 returns-in-Ok-clause-comes g c =
     let clients = g.C.Clients.meaning c.args.clients.now in
     let e = c.in-Ok.ensures in
-    as_command clients c.args.asked (command.Sync c.in-Sync.turns c.in-Sync.quiet c.in-Sync.links) _ _ _ _ _ _ _ c.in-Sync.is
+    as_command clients c.args.asked (command.Sync c.in-Sync.turns c.in-Sync.quiet c.in-Sync.links) _
+    _ _ _ _ _ _ c.in-Sync.is
     (inl (
-      has_run clients _ c.in-Sync.links c.as_slice.result.now _ _ (Ok c.in-Ok.ends) _ c.as_slice.ensures.links refl e.headline
-          (λ two files. record { rests = e.rests two files; sent = e.sent two files; sent_full = e.sent_full two files; comes = e.comes two files; unbegun = e.unbegun two files }) e.specs e.caused e.leaves,
+      has_run clients _ c.in-Sync.links c.as_slice.result.now _ _ (Ok c.in-Ok.ends) _
+          c.as_slice.ensures.links refl e.headline
+          (λ two files. record {
+            rests = e.rests two files;
+            sent = e.sent two files;
+            sent_full = e.sent_full two files;
+            comes = e.comes two files;
+            unbegun = e.unbegun two files;
+          }) e.specs e.caused e.leaves,
       (record { same = refl; same_faults = refl }, record { same = refl; same_faults = refl }),
     ))
 
@@ -20,9 +28,17 @@ pub returns-in-Sync-clause-comes : goal.returns-in-Sync-clause-comes
 returns-in-Sync-clause-comes g c =
     let clients = g.C.Clients.meaning c.args.clients.now in
     let e = c.in-Err.ensures in
-    as_command clients c.args.asked (command.Sync c.in-Sync.turns c.in-Sync.quiet c.in-Sync.links) _ _ _ _ _ _ _ c.in-Sync.is
+    as_command clients c.args.asked (command.Sync c.in-Sync.turns c.in-Sync.quiet c.in-Sync.links) _
+    _ _ _ _ _ _ c.in-Sync.is
     (inl (
-      has_run clients _ c.in-Sync.links c.as_slice.result.now _ _ (Err c.in-Err.came) _ c.as_slice.ensures.links refl e.headline
-          (λ two files. record { rests = e.rests two files; sent = e.sent two files; sent_full = e.sent_full two files; comes = e.comes two files; unbegun = e.unbegun two files }) e.specs e.caused e.leaves,
+      has_run clients _ c.in-Sync.links c.as_slice.result.now _ _ (Err c.in-Err.came) _
+          c.as_slice.ensures.links refl e.headline
+          (λ two files. record {
+            rests = e.rests two files;
+            sent = e.sent two files;
+            sent_full = e.sent_full two files;
+            comes = e.comes two files;
+            unbegun = e.unbegun two files;
+          }) e.specs e.caused e.leaves,
       (record { same = refl; same_faults = refl }, record { same = refl; same_faults = refl }),
     ))

@@ -5,7 +5,11 @@ use Rattle.sync_top.proofs.StateLemmas.{came_on}
 use Rattle.sync_top.proofs.streams.print_play.Goals as goal
 
 pub returns-in_err-text : goal.returns-in_err-text
-returns-in_err-text g c = inl (came_on c.from_residual.result outcome.Memory c.from_residual.ensures.1, (record { same = refl; same_faults = refl }))
+returns-in_err-text g c =
+    inl (
+      came_on c.from_residual.result outcome.Memory c.from_residual.ensures.1,
+      (record { same = refl; same_faults = refl }),
+    )
 
 pub returns : goal.returns
 returns g c = inr (record {

@@ -5,11 +5,13 @@ use Rattle.sync_world.proofs.player.states_of.Goals as goal
 
 pub messages-init : goal.messages-init
 unfolding count_in
-messages-init c = (record { delivered = refl; invalid = refl; pending = refl; unknown = refl }, refl)
+messages-init c =
+    (record { delivered = refl; invalid = refl; pending = refl; unknown = refl }, refl)
 
 pub messages-preserved : goal.messages-preserved
 messages-preserved c = (
-  counted_more c.args.store.now.state.facts c.args.store.now.state.facts.held c.messages.n c.fate.result c.messages.states c.count.new.self c.fate.ensures
+  counted_more c.args.store.now.state.facts c.args.store.now.state.facts.held c.messages.n
+      c.fate.result c.messages.states c.count.new.self c.fate.ensures
       c.messages.invariant.0 c.count.ensures.counted,
   c.count.ensures.total ∙ ap (λ (k : ℕ). k + 1) c.messages.invariant.1,
 )

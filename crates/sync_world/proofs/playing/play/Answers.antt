@@ -5,4 +5,5 @@ use Rattle.sync_world.proofs.playing.play.Goals as goal
 
 pub returns-in_err-read_words : goal.returns-in_err-read_words
 returns-in_err-read_words g c =
-    misread (asks (texts c.args.words.now)) c.from_residual.result c.in_err-read_words.field-0.0 _ _ c.from_residual.ensures.1 c.in_err-read_words.ensures.asked
+    misread (asks (texts c.args.words.now)) c.from_residual.result c.in_err-read_words.field-0.0 _ _
+    c.from_residual.ensures.1 c.in_err-read_words.ensures.asked

@@ -7,7 +7,8 @@ use Rattle.sync_world.proofs.playing.play_seed.Given as goal
 
 -- the steps before those that are left were made
 abbrev pub invariant-steps : goal.invariant-steps
-invariant-steps l = Playing GENERATED_DEVICES (course_of (steps_of l.seed l.count)) (course_of l.steps) l.player
+invariant-steps l =
+    Playing GENERATED_DEVICES (course_of (steps_of l.seed l.count)) (course_of l.steps) l.player
 
 abbrev pub decreases-steps : goal.decreases-steps
 decreases-steps l = length l.steps

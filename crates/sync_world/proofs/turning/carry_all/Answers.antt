@@ -6,10 +6,13 @@ use Rattle.sync_world.proofs.turning.carry_all.Goals as goal
 
 pub links-preserved : goal.links-preserved
 links-preserved c =
-    let within : c.links.link-index < length c.args.links.now = omega (arith, c.links-test.true, c.links.auto.links) in
+    let within : c.links.link-index < length c.args.links.now =
+    omega (arith, c.links-test.true, c.links.auto.links) in
     record {
-      some = one_more_test arrived is_moving c.args.links.now c.links.links c.links.link-index c.link-item.result c.links.some c.in_ok-carried.carried within c.links.invariant.carried
+      some = one_more_test arrived is_moving c.args.links.now c.links.links c.links.link-index
+          c.link-item.result c.links.some c.in_ok-carried.carried within c.links.invariant.carried
           c.link-item.is c.links.invariant.some c.in_ok-carried.ensures.some;
-      carried = one_more arrived c.args.links.now c.links.links c.links.link-index c.link-item.result c.carry.new.link within c.links.invariant.carried c.link-item.is
+      carried = one_more arrived c.args.links.now c.links.links c.links.link-index
+          c.link-item.result c.carry.new.link within c.links.invariant.carried c.link-item.is
           c.in_ok-carried.ensures.carried;
     }

@@ -7,5 +7,6 @@ use Rattle.sync_world.proofs.turning.carry_all.Given as goal
 abbrev pub invariant-links : goal.invariant-links
 invariant-links l = record {
   some : l.some ≡ list_any is_moving (take l.link-index l.initial.links);
-  carried : l.links ≡ map arrived (take l.link-index l.initial.links) ++ drop l.link-index l.initial.links;
+  carried : l.links ≡ map arrived
+      (take l.link-index l.initial.links) ++ drop l.link-index l.initial.links;
 }

@@ -7,7 +7,12 @@ use Rattle.sync_world.proofs.WireLaws.{set_length}
 use Rattle.sync_world.proofs.turning.plan_all.Goals as goal
 
 pub links-init : goal.links-init
-links-init c = record { files = refl; number = refl; planned = plans_none c.args.number c.args.device.now c.args.links.now; exact = front_none c.args.number c.args.device.now c.args.links.now }
+links-init c = record {
+  files = refl;
+  number = refl;
+  planned = plans_none c.args.number c.args.device.now c.args.links.now;
+  exact = front_none c.args.number c.args.device.now c.args.links.now;
+}
 
 pub links-preserved : goal.links-preserved
 links-preserved c =
@@ -15,12 +20,21 @@ links-preserved c =
     record {
       files = c.plan_on.ensures.files ∙ c.links.invariant.files;
       number = set_length c.links.links c.links.i c.plan_on.new.link ∙ c.links.invariant.number;
-      planned = plans_then c.args.number c.args.device.now c.links.device c.plan_on.new.device c.args.links.now c.links.links _ c.links.invariant.planned
-          (plan_on c.args.number c.links.i c.links.device c.plan_on.new.device c.links.links (slice_index_or c.links.links c.links.i c.index-links-i.result) c.plan_on.new.link (slice_get-get_or c.links.links c.links.i c.index-links-i.result within)
+      planned = plans_then c.args.number c.args.device.now c.links.device c.plan_on.new.device
+          c.args.links.now c.links.links _ c.links.invariant.planned
+          (plan_on c.args.number c.links.i c.links.device c.plan_on.new.device c.links.links
+          (slice_index_or c.links.links c.links.i c.index-links-i.result) c.plan_on.new.link
+          (slice_get-get_or c.links.links c.links.i c.index-links-i.result within)
           c.plan_on.ensures.files c.in_ok-plan_on.ensures.planned);
-      exact = front_next c.links.i c.args.number c.args.device.now c.links.device c.plan_on.new.device c.args.links.now c.links.links (slice_index_or c.links.links c.links.i c.index-links-i.result) c.plan_on.new.link
-          c.links.invariant.exact (slice_get-get_or c.links.links c.links.i c.index-links-i.result within) c.in_ok-plan_on.ensures.exact;
+      exact = front_next c.links.i c.args.number c.args.device.now c.links.device
+          c.plan_on.new.device c.args.links.now c.links.links
+          (slice_index_or c.links.links c.links.i c.index-links-i.result) c.plan_on.new.link
+          c.links.invariant.exact
+          (slice_get-get_or c.links.links c.links.i c.index-links-i.result within)
+          c.in_ok-plan_on.ensures.exact;
     }
 
 pub returns-clause-exact : goal.returns-clause-exact
-returns-clause-exact c = front_all c.links.i c.args.number c.args.device.now c.links.device c.args.links.now c.links.links c.links.invariant.exact (omega arith) c.links.invariant.number
+returns-clause-exact c =
+    front_all c.links.i c.args.number c.args.device.now c.links.device c.args.links.now
+    c.links.links c.links.invariant.exact (omega arith) c.links.invariant.number

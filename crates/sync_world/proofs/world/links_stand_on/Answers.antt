@@ -8,7 +8,9 @@ devices-init c = λ d device below there. absurd (omega (arith, below))
 
 pub devices-preserved : goal.devices-preserved
 devices-preserved c =
-    stand_more c.args.devices.now c.devices.d c.index-devices-d.result (get_at c.args.devices.now c.devices.d c.index-devices-d.result c.devices-test.true c.index-devices-d.is) c.links_stand.ensures
+    stand_more c.args.devices.now c.devices.d c.index-devices-d.result
+    (get_at c.args.devices.now c.devices.d c.index-devices-d.result c.devices-test.true
+    c.index-devices-d.is) c.links_stand.ensures
     c.devices.invariant
 
 pub returns : goal.returns

@@ -1,4 +1,5 @@
-use Rattle.std.proofs.Common.{◌≡◌, ◌<◌, ℕ, length, List, Option, None, Some, map, true, false, get_or}
+use Rattle.std.proofs.Common.{◌≡◌, ◌<◌, ℕ, length, List, Option, None, Some, map, true, false}
+use Rattle.std.proofs.Common.{get_or}
 use Rattle.std.proofs.Common.{slice_get, sym, ◌∙◌, subst}
 use Rattle.std.specs.Prelude.{IfSome}
 use Rattle.sync_rules.specs.Clients.{Meaning}
@@ -8,7 +9,8 @@ use Rattle.journal_state.specs.Sound.{AreApart, DeliversJudged}
 use Rattle.journal_state.specs.Whole.{KnowsJudgements, StateValue}
 use Rattle.tree_commands.specs.Gathered.{IsThreadOf, with_delivered}
 use Rattle.tree_commands.specs.Threads.{with_number}
-use Rattle.tree_commands.proofs.Gathers.{beside_is, first_stands, first_within, left_out, on_made, put_in}
+use Rattle.tree_commands.proofs.Gathers.{beside_is, first_stands, first_within, left_out, on_made}
+use Rattle.tree_commands.proofs.Gathers.{put_in}
 use Rattle.tree_commands.proofs.gather.add_delivered.Goals as goal
 
 pub returns-then-not-is_of-clause-added : goal.returns-then-not-is_of-clause-added

@@ -9,7 +9,8 @@ use Rattle.tree_commands.proofs.gather.gather.Given as goal
 
 abbrev pub invariant-delivered : goal.invariant-delivered
 invariant-delivered l = record {
-  of : (clients : Meaning) → KnowsJudgements clients l.store.state → IsThreadOf clients l.store.state.facts
+  of : (clients : Meaning) → KnowsJudgements clients l.store.state
+      → IsThreadOf clients l.store.state.facts
       (filter (λ id. is_beside l.group (held_at l.store.state.facts.held id))
       (take l.k l.store.state.facts.delivered)) l.thread;
   few : length l.thread.numbers ≤ l.k;

@@ -16,7 +16,8 @@ add_lines-requires-clause-within c =
     let f = c.args.store.now.state.facts in
     let thread = c.in_ok-thread.thread in
     let part : IsWindow thread.parents w.from w.count c.as_slice.result.now =
-    subst (λ (xs : List ℕ). IsWindow thread.parents w.from w.count xs) (sym c.as_slice.ensures.value)
+    subst (λ (xs : List ℕ). IsWindow thread.parents w.from w.count xs)
+    (sym c.as_slice.ensures.value)
     c.in_ok-items.ensures in
     items_within c.requires.0 f (delivered_in f w.group) thread
     (c.in_ok-thread.ensures c.requires.0 c.requires.1) w.from w.count c.as_slice.result.now part
@@ -28,11 +29,15 @@ returns c clients knows =
     let ids = delivered_in f w.group in
     let thread = c.in_ok-thread.thread in
     let part : IsWindow thread.parents w.from w.count c.as_slice.result.now =
-    subst (λ (xs : List ℕ). IsWindow thread.parents w.from w.count xs) (sym c.as_slice.ensures.value)
+    subst (λ (xs : List ℕ). IsWindow thread.parents w.from w.count xs)
+    (sym c.as_slice.ensures.value)
     c.in_ok-items.ensures in
-    let lines : flat_map (item_line (map (id_at f.held) thread.numbers) thread.parents) c.as_slice.result.now
+    let lines : flat_map (item_line (map (id_at f.held) thread.numbers) thread.parents)
+    c.as_slice.result.now
     ≡ walk_text ids (parents_of clients f ids) w.from w.count =
-    lines_are clients f ids thread (c.in_ok-thread.ensures clients knows) c.walks_are_one.ensures c.walk_is_sorted.ensures
+    lines_are clients f ids thread (c.in_ok-thread.ensures clients knows) c.walks_are_one.ensures
+    c.walk_is_sorted.ensures
     w.from w.count c.as_slice.result.now part in
-    on_lines c.add_lines.result (string_bytes c.args.to.now) (string_bytes c.add_lines.new.to) _ _ lines
+    on_lines c.add_lines.result (string_bytes c.args.to.now) (string_bytes c.add_lines.new.to) _ _
+    lines
     c.add_lines.ensures

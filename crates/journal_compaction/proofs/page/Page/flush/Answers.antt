@@ -1,10 +1,12 @@
-use Rattle.std.proofs.Common.{◌≡◌, ℕ, ◌+◌, ◌≤◌, cond, List, [], ◌∷◌, length, max, sym, ap, subst, ◌∙◌}
+use Rattle.std.proofs.Common.{◌≡◌, ℕ, ◌+◌, ◌≤◌, cond, List, [], ◌∷◌, length, max, sym, ap, subst}
+use Rattle.std.proofs.Common.{◌∙◌}
 use Rattle.std.specs.Prelude.{◌==◌}
 use Rattle.frame_journal.specs.Append.{framed_of}
 use Rattle.journal_compaction.specs.Paging.{closed_page}
 use Rattle.journal_compaction.specs.Writing.{WritesPayloads}
 use Rattle.journal_compaction.proofs.Filling.{closed_some}
-use Rattle.journal_compaction.proofs.Working.{adding_one, idle_works, shut_none, shut_one, some_bytes, works_one}
+use Rattle.journal_compaction.proofs.Working.{adding_one, idle_works, shut_none, shut_one}
+use Rattle.journal_compaction.proofs.Working.{some_bytes, works_one}
 use Rattle.journal_compaction.proofs.page.Page.flush.Goals as goal
 
 pub returns-then-stays-clause-shut : goal.returns-then-stays-clause-shut
@@ -34,9 +36,11 @@ returns-clause-adding g c =
     let some : 1 ≤ length p =
     some_bytes (length p) c.is_empty.result (c.is_empty.ensures
     ∙ ap (λ (l : List ℕ). length l == 0) c.as_slice.ensures.value) c.if-is_empty.false in
-    let one = adding_one n n' p framed (max n.len (n.end + length framed)) o o' is c.in_ok-append.ensures.ok
+    let one = adding_one n n' p framed (max n.len (n.end + length framed)) o o' is
+    c.in_ok-append.ensures.ok
     c.in_ok-append.ensures.appended in
-    let all : cond c.args.stays [] (closed_page p) ≡ p ∷ [] = ap (λ b. cond b [] (closed_page p)) c.if-stays.false
+    let all : cond c.args.stays [] (closed_page p) ≡ p ∷ [] =
+    ap (λ b. cond b [] (closed_page p)) c.if-stays.false
     ∙ closed_some p some in
     subst (λ (added : List (List ℕ)). WritesPayloads n n' added o o') (sym all) one
 
@@ -49,7 +53,8 @@ returns-clause-works g c =
     let some : 1 ≤ length p =
     some_bytes (length p) c.is_empty.result (c.is_empty.ensures
     ∙ ap (λ (l : List ℕ). length l == 0) c.as_slice.ensures.value) c.if-is_empty.false in
-    works_one n c.append.new.self p framed (max n.len (n.end + length framed)) (g.D.Disk.tells c.args.disk.now)
+    works_one n c.append.new.self p framed (max n.len (n.end + length framed))
+    (g.D.Disk.tells c.args.disk.now)
     (g.D.Disk.tells c.append.new.disk) is some c.requires.few
     c.in_ok-append.ensures.ok c.append.ensures.run c.in_ok-append.ensures.appended c.requires.works
 

@@ -1,9 +1,9 @@
-use Rattle.std.proofs.Common.{◌≡◌, Some, ◌<◌, ◌++◌, ◌∷◌, [], length, set, if◌then◌else◌, sym, ap, ◌∙◌, arith}
-use Rattle.std.proofs.lemmas.List.{map-set, length-set, length-map}
+use Rattle.std.proofs.Common.{◌≡◌, Some, ◌<◌, ◌++◌, ◌∷◌, [], length, map, set, get_or, if◌then◌else◌, sym, ap, ◌∙◌, arith}
+use Rattle.std.proofs.lemmas.List.{map-set, map-append, length-set, length-map}
 use Rattle.std.proofs.Math.Seq.{map-set_same}
 use Rattle.message_graph.specs.declared.index.Slot.{Slot}
 use Rattle.message_graph.specs.Nodes.{same_name}
-use Rattle.message_graph.specs.Links.{WaitIndex, Numbers, place_of, holder_of, holder_at, last_before}
+use Rattle.message_graph.specs.Links.{WaitIndex, Numbers, names_at, place_of, holder_of, holder_at, last_before}
 use Rattle.message_graph.proofs.Linked.{relinked, holder-set, holders_of, found_name, last_there, slot_last}
 use Rattle.message_graph.proofs.Placed.{placed-hold}
 use Rattle.message_graph.proofs.index.Index.hold.Goals as goal
@@ -15,7 +15,7 @@ within : (c : goal.After-self-1) → c.place-place.result < length c.self.inside
 within c = let i = c.self.inside in let f = (found_name i.names.keys i.slots.items i.edges.items c.self.invariant.0 c.args.name c.place-place.result (found c)).0 in omega (arith, f, c.self.invariant.0.many)
 
 number_is : (c : goal.After-self-1) → c.args.number ≡ length c.self.inside.places.items
-number_is c = c.requires.next ∙ sym (ap (λ (l : WaitIndex). l.numbers.count) c.self.view_is ∙ ap (λ (n : Numbers). n.count) c.place-place.ensures.numbers)
+number_is c = c.requires.next ∙ sym (ap (λ (l : WaitIndex). length l.numbers.names) c.self.view_is ∙ ap (λ (n : Numbers). length n.names) c.place-place.ensures.numbers) ∙ length-map c.self.inside.places.items (λ place. get_or c.self.inside.names.keys place [])
 
 places_are : (c : goal.After-self-1) → c.push.new.self.items ≡ c.self.inside.places.items ++ c.place-place.result ∷ []
 places_are c = rw c.unwrap.ensures at c.push.ensures.items
@@ -44,3 +44,10 @@ returns-clause-last c =
     sym (slot_last i.slots.items c.place-place.result c.index_mut-slot.result.now (within c) c.index_mut-slot.ensures.value)
     ∙ (last_there i.names.keys i.slots.items i.edges.items c.self.invariant.0 c.args.name c.place-place.result (found c)
     ∙ ap (λ es. last_before es c.args.name (length es)) (ap (λ (l : WaitIndex). l.edges) c.self.view_is ∙ c.place-place.ensures.edges))
+
+pub returns-clause-held : goal.returns-clause-held
+returns-clause-held c =
+    let i = c.self.inside in
+    let f = found_name i.names.keys i.slots.items i.edges.items c.self.invariant.0 c.args.name c.place-place.result (found c) in
+    ap (names_at i.names.keys) (places_are c) ∙ map-append (λ place. get_or i.names.keys place []) i.places.items (c.place-place.result ∷ [])
+    ∙ (λ k. (ap (λ (l : WaitIndex). l.numbers.names) c.self.view_is ∙ ap (λ (n : Numbers). n.names) c.place-place.ensures.numbers) k ++ sym f.1 k ∷ [])

@@ -2,9 +2,9 @@ use Rattle.std.proofs.Common.{◌≡◌, Bool, true, false, not, List, ℕ, None
 use Rattle.std.specs.List.{list_any}
 use Rattle.message_graph.specs.declared.index.Slot.{Slot}
 use Rattle.message_graph.specs.Nodes.{same_name}
-use Rattle.message_graph.specs.Links.{WaitIndex}
+use Rattle.message_graph.specs.Links.{WaitIndex, names_at}
 use Rattle.message_graph.proofs.Linked.{linked-push, named-push}
-use Rattle.message_graph.proofs.Placed.{placed-push}
+use Rattle.message_graph.proofs.Placed.{placed-push, names_at-push}
 use Rattle.message_graph.proofs.Positions.{passes_none}
 use Rattle.message_graph.proofs.index.Index.place.Goals as goal
 
@@ -59,3 +59,10 @@ pub returns-clause-edges : goal.returns-clause-edges
 returns-clause-edges c =
     let i = c.self.inside in
     rw (keys_are c) (named-push i.names.keys c.args.name i.edges.items c.self.invariant.0.places) ∙ ap (λ (l : WaitIndex). l.edges) c.self.view_is
+
+pub returns-clause-numbers : goal.returns-clause-numbers
+returns-clause-numbers c =
+    let i = c.self.inside in
+    let kept : names_at c.insert_full.new.self.keys i.places.items ≡ names_at i.names.keys i.places.items =
+    rw (keys_are c) (names_at-push i.names.keys c.args.name i.slots.items i.places.items c.self.invariant.0.many c.self.invariant.1) in
+    (λ k. record { names = (kept ∙ ap (λ (l : WaitIndex). l.numbers.names) c.self.view_is) k; room = ap (λ (l : WaitIndex). l.numbers.room) c.self.view_is k })

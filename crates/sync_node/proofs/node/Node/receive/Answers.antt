@@ -1,34 +1,40 @@
-use Rattle.std.proofs.Common.{inl, Bool, ◌<◌, List, ℕ, arith, refl, ap, sym, ◌∙◌, length, Some}
+use Rattle.std.proofs.Common.{Bool, ◌<◌, List, ℕ, arith, refl, ap, sym, subst, ◌∙◌, length, Some}
 use Rattle.std.specs.List.{slice_get}
 use Rattle.std.proofs.lemmas.Option.{slice_get-get_or}
-use Rattle.sync_node.specs.Node.{NodeValue}
-use Rattle.sync_node.proofs.NodeLaws.{true≢false, fault_answers, all_safe, is_closed_node, is_node, kept_long, length_set, link_able, links_go_on, links_one, node_keeps, node_may, node_safe, node_same, stays_closed}
-use Rattle.sync_node.proofs.NodeRuns.{once_received, receiving_full, receiving_halts}
-use Rattle.sync_node.proofs.CourseNode.{node_receives, node_receiving_halted}
-use Rattle.sync_node.proofs.SafeLaws.{goes_none}
-use Rattle.sync_node.specs.Causes.{sessions_of}
-use Rattle.sync_node.proofs.CauseLaws.{links_go_none, links_go_set, node_causes, sessions_set}
-use Rattle.sync_node.proofs.NodeLaws.{was_full}
-use Rattle.sync_node.proofs.CourseNode.{node_receiving_full}
+use Rattle.sync_node.specs.Node.{IsNode, NodeValue}
+use Rattle.sync_node.proofs.CallLaws.{answers_closed, answers_fault, answers_ok, goes_call, goes_same, kept_call, stops_call}
+use Rattle.sync_node.proofs.CauseLaws.{links_go_none, links_go_set, sessions_set}
 use Rattle.sync_node.proofs.NodeActs.{node_asked, node_asking_stopped}
+use Rattle.sync_node.proofs.NodeLaws.{all_attached, is_closed_node, is_node, kept_long, length_set, link_able, links_go_on, node_may, true≢false}
 use Rattle.sync_node.proofs.RunActLaws.{asking_stopped, asking_went}
 use Rattle.sync_node.proofs.node.Node.receive.Goals as goal
 
 pub same-self : goal.same-self
 same-self g c = refl
 
-pub returns-then-self-clause-closed : goal.returns-then-self-clause-closed
-returns-then-self-clause-closed g c = λ closed. stays_closed _ _
-
-pub returns-then-self-clause-answer : goal.returns-then-self-clause-answer
-returns-then-self-clause-answer g c =
-    λ opened. absurd (let yes = ap (λ (n : NodeValue). n.closed) c.self.view_is in let is = c.if-self.true in cc)
+pub returns-then-self-clause-answers : goal.returns-then-self-clause-answers
+returns-then-self-clause-answers g c = answers_closed _ _ (let yes = ap (λ (n : NodeValue). n.closed) c.self.view_is in let is = c.if-self.true in cc)
 
 pub returns-then-self-clause-may : goal.returns-then-self-clause-may
 returns-then-self-clause-may g c = c.requires.may
 
-pub returns-then-self-clause-safe : goal.returns-then-self-clause-safe
-returns-then-self-clause-safe g c = node_same _ _ _
+pub returns-then-self-clause-goes : goal.returns-then-self-clause-goes
+returns-then-self-clause-goes g c = goes_same _ _ (subst (λ (n : NodeValue). IsNode n) c.self.view_is c.self.invariant.1)
+
+pub returns-then-self-clause-stops : goal.returns-then-self-clause-stops
+returns-then-self-clause-stops g c =
+    λ opened. absurd (let yes = ap (λ (n : NodeValue). n.closed) c.self.view_is in let is = c.if-self.true in cc)
+
+pub returns-then-self-clause-went : goal.returns-then-self-clause-went
+returns-then-self-clause-went g c =
+    λ opened. absurd (let yes = ap (λ (n : NodeValue). n.closed) c.self.view_is in let is = c.if-self.true in cc)
+
+pub returns-then-self-clause-stopped : goal.returns-then-self-clause-stopped
+returns-then-self-clause-stopped g c =
+    λ opened. absurd (let yes = ap (λ (n : NodeValue). n.closed) c.self.view_is in let is = c.if-self.true in cc)
+
+pub returns-then-self-clause-kept : goal.returns-then-self-clause-kept
+returns-then-self-clause-kept g c = record { same_first = refl; same_sessions = refl }
 
 pub index_mut-requires : goal.index_mut-requires
 index_mut-requires g c =
@@ -41,30 +47,23 @@ receive_on-requires-clause-able g c =
     link_able _ c.self.inside.first c.args.link c.self.inside.links.items _ _ _ (node_may _ _ c.self.inside.first _ c.self.inside.closed _ _ c.self.view_is c.requires.may c.if-self.false)
     (c.self.invariant.1.attached c.if-self.false) here
 
-pub receive_on-requires-clause-waits : goal.receive_on-requires-clause-waits
-receive_on-requires-clause-waits g c =
-    let within : c.args.link < length c.self.inside.links.items = omega (arith, c.requires.attached, ap (λ (n : NodeValue). length n.links) c.self.view_is) in
-    let here = slice_get-get_or c.self.inside.links.items c.args.link c.index_mut.result.now within ∙ ap Some (sym c.index_mut.ensures.value) in
-    ((c.self.invariant.1.attached c.if-self.false).each c.args.link _ here).waits
-
 pub receive_on-requires-clause-asked : goal.receive_on-requires-clause-asked
 receive_on-requires-clause-asked g c =
     let within : c.args.link < length c.self.inside.links.items = omega (arith, c.requires.attached, ap (λ (n : NodeValue). length n.links) c.self.view_is) in
     let here = slice_get-get_or c.self.inside.links.items c.args.link c.index_mut.result.now within ∙ ap Some (sym c.index_mut.ensures.value) in
     c.requires.asked _ (ap (λ (n : NodeValue). slice_get n.links c.args.link) (sym c.self.view_is) ∙ here)
 
-pub receive_on-requires-clause-room : goal.receive_on-requires-clause-room
-receive_on-requires-clause-room g c =
-    omega (arith, c.self.invariant.0, ap (λ (b : List ℕ). length b) c.as_mut_slice.ensures.value)
+pub receive_on-requires-clause-whole : goal.receive_on-requires-clause-whole
+receive_on-requires-clause-whole g c = ap (λ (b : List ℕ). length b) c.as_mut_slice.ensures.value ∙ c.self.invariant.0
 
 pub invariant_of-self : goal.invariant_of-self
 invariant_of-self g c =
     let within : c.args.link < length c.self.inside.links.items = omega (arith, c.requires.attached, ap (λ (n : NodeValue). length n.links) c.self.view_is) in
     let here = slice_get-get_or c.self.inside.links.items c.args.link c.index_mut.result.now within ∙ ap Some (sym c.index_mut.ensures.value) in
-    let works = links_one _ c.self.inside.first c.args.link c.self.inside.links.items _ c.receive_on.new.link _ _ _ _ (c.self.invariant.1.attached c.if-self.false) here c.in-Ok.ensures.works c.in-Ok.ensures.waits in (
+    (
       kept_long c.self.inside.buffer.len _ c.self.inside.buffer.items c.receive_on.new.buffer c.self.invariant.0 (omega (arith, c.as_mut_slice.ensures.len, ap (λ (b : List ℕ). length b) c.as_mut_slice.ensures.value))
           (omega (arith, c.receive_on.auto.buffer, ap (λ (b : List ℕ). length b) c.as_mut_slice.ensures.value)),
-      is_node _ _ _ _ (omega (arith, c.self.invariant.1.few, works.same_number)) works.attached,
+      is_node _ _ _ _ (omega (arith, c.self.invariant.1.few, length_set c.self.inside.links.items c.args.link c.receive_on.new.link)) (all_attached _ c.self.inside.first c.args.link c.self.inside.links.items _ c.receive_on.new.link _ _ _ _ _ (c.self.invariant.1.attached c.if-self.false) here c.in-Ok.ensures.keeps c.in-Ok.ensures.waits),
     )
 
 pub invariant_of-self-in-Err : goal.invariant_of-self-in-Err
@@ -74,132 +73,14 @@ invariant_of-self-in-Err g c = (
   is_closed_node _ _ _ _ c.close.ensures.closed (omega (arith, c.self.invariant.1.few, length_set c.self.inside.links.items c.args.link c.receive_on.new.link)),
 )
 
-pub returns-in-Ok-clause-closed : goal.returns-in-Ok-clause-closed
-returns-in-Ok-clause-closed g c =
-    λ closed. absurd (let is = ap (λ (n : NodeValue). n.closed) c.self.view_is in let no = c.if-self.false in cc)
-
-pub returns-in-Ok-clause-answer : goal.returns-in-Ok-clause-answer
-returns-in-Ok-clause-answer g c = λ _. c.if-self.false
+pub returns-in-Ok-clause-answers : goal.returns-in-Ok-clause-answers
+returns-in-Ok-clause-answers g c =
+    answers_ok _ c.self.inside.first _ c.self.inside.closed _ _ _ _ c.in-Ok.idle c.self.view_is c.if-self.false c.if-self.false
 
 pub returns-in-Ok-clause-may : goal.returns-in-Ok-clause-may
 returns-in-Ok-clause-may g c = λ opened.
-    links_go_on _ c.args.link c.self.inside.links.items _ _ _ _ _ _ (node_may _ _ c.self.inside.first _ c.self.inside.closed _ _ c.self.view_is c.requires.may c.if-self.false)
-    (length_set c.self.inside.links.items c.args.link c.receive_on.new.link) c.in-Ok.ensures.works.goes c.in-Ok.ensures.able
-
-pub returns-in-Ok-clause-joined : goal.returns-in-Ok-clause-joined
-returns-in-Ok-clause-joined g c =
-    let within : c.args.link < length c.self.inside.links.items = omega (arith, c.requires.attached, ap (λ (n : NodeValue). length n.links) c.self.view_is) in
-    let here = slice_get-get_or c.self.inside.links.items c.args.link c.index_mut.result.now within ∙ ap Some (sym c.index_mut.ensures.value) in
-    node_keeps _ _ _ c.self.inside.first _ _ c.self.inside.closed _ _ _ _ c.self.view_is
-    (links_one _ c.self.inside.first c.args.link c.self.inside.links.items _ c.receive_on.new.link _ _ _ _ (c.self.invariant.1.attached c.if-self.false) here c.in-Ok.ensures.works c.in-Ok.ensures.waits)
-
-pub returns-in-Ok-clause-safe : goal.returns-in-Ok-clause-safe
-returns-in-Ok-clause-safe g c =
-    let within : c.args.link < length c.self.inside.links.items = omega (arith, c.requires.attached, ap (λ (n : NodeValue). length n.links) c.self.view_is) in
-    let here = slice_get-get_or c.self.inside.links.items c.args.link c.index_mut.result.now within ∙ ap Some (sym c.index_mut.ensures.value) in
-    node_safe _ _ _ c.self.inside.first c.self.inside.links.items _ c.self.inside.closed _ _ _ _ c.self.view_is
-    (record { safe = all_safe _ c.self.inside.first c.args.link c.self.inside.links.items _ _ _ _ _ (c.self.invariant.1.attached c.if-self.false) here c.in-Ok.ensures.works.stays })
-
-pub returns-in-Err-clause-closed : goal.returns-in-Err-clause-closed
-returns-in-Err-clause-closed g c =
-    λ closed. absurd (let is = ap (λ (n : NodeValue). n.closed) c.self.view_is in let no = c.if-self.false in cc)
-
-pub returns-in-Err-clause-answer : goal.returns-in-Err-clause-answer
-returns-in-Err-clause-answer g c =
-    λ _. fault_answers Bool c.in-Err.fault _ _ c.close.ensures.fault c.close.ensures.closed
-
-pub returns-in-Err-clause-may : goal.returns-in-Err-clause-may
-returns-in-Err-clause-may g c = λ opened. absurd (true≢false _ c.close.ensures.closed opened)
-
-pub returns-in-Err-clause-safe : goal.returns-in-Err-clause-safe
-returns-in-Err-clause-safe g c =
-    let within : c.args.link < length c.self.inside.links.items = omega (arith, c.requires.attached, ap (λ (n : NodeValue). length n.links) c.self.view_is) in
-    let here = slice_get-get_or c.self.inside.links.items c.args.link c.index_mut.result.now within ∙ ap Some (sym c.index_mut.ensures.value) in
-    node_safe _ _ _ c.self.inside.first c.self.inside.links.items _ c.self.inside.closed _ _ _ _ c.self.view_is
-    (record { safe = all_safe _ c.self.inside.first c.args.link c.self.inside.links.items _ _ _ _ _ (c.self.invariant.1.attached c.if-self.false) here c.in-Err.ensures.stays })
-
-pub returns-then-self-clause-halts : goal.returns-then-self-clause-halts
-returns-then-self-clause-halts g c =
-    λ opened. absurd (let yes = ap (λ (n : NodeValue). n.closed) c.self.view_is in let is = c.if-self.true in cc)
-
-pub returns-in-Ok-clause-course : goal.returns-in-Ok-clause-course
-returns-in-Ok-clause-course g c = λ opened.
-    let within : c.args.link < length c.self.inside.links.items = omega (arith, c.requires.attached, ap (λ (n : NodeValue). length n.links) c.self.view_is) in
-    let here = slice_get-get_or c.self.inside.links.items c.args.link c.index_mut.result.now within ∙ ap Some (sym c.index_mut.ensures.value) in
-    let numbered = ((c.self.invariant.1.attached c.if-self.false).each c.args.link _ here).numbered in
-    node_receives _ _ c.self.inside.first _ c.self.inside.closed _ _ _ c.self.view_is c.args.link _ _ c.in-Ok.idle
-    (once_received _ c.self.inside.first c.self.inside.links.items _ _ _ _ _ c.args.link c.in-Ok.idle
-    (asking_went _ c.self.inside.first c.args.link c.self.inside.links.items _ _ _ here numbered c.receive_on.new.link _ _ c.in-Ok.idle (c.in-Ok.ensures.went (ap (λ (b : List ℕ). length b) c.as_mut_slice.ensures.value ∙ c.self.invariant.0))))
-
-pub returns-in-Err-clause-halts : goal.returns-in-Err-clause-halts
-returns-in-Err-clause-halts g c = λ opened.
-    let within : c.args.link < length c.self.inside.links.items = omega (arith, c.requires.attached, ap (λ (n : NodeValue). length n.links) c.self.view_is) in
-    let here = slice_get-get_or c.self.inside.links.items c.args.link c.index_mut.result.now within ∙ ap Some (sym c.index_mut.ensures.value) in
-    let numbered = ((c.self.invariant.1.attached c.if-self.false).each c.args.link _ here).numbered in
-    node_receiving_halted _ _ c.self.inside.first _ c.self.inside.closed _ _ _ c.self.view_is c.args.link _
-    (receiving_halts _ c.self.inside.first c.self.inside.links.items _ _ _ _ _ c.args.link c.in-Err.fault
-    (asking_stopped _ c.self.inside.first c.args.link c.self.inside.links.items _ _ _ here numbered c.receive_on.new.link _ _ _ (c.in-Err.ensures.stopped (ap (λ (b : List ℕ). length b) c.as_mut_slice.ensures.value ∙ c.self.invariant.0))))
-
-pub returns-then-self-clause-run : goal.returns-then-self-clause-run
-returns-then-self-clause-run g c = goes_none _
-
-pub returns-then-self-clause-cause : goal.returns-then-self-clause-cause
-returns-then-self-clause-cause g c = λ number stands. inl stands
-
-pub returns-in-Ok-clause-run : goal.returns-in-Ok-clause-run
-returns-in-Ok-clause-run g c = c.receive_on.ensures.run.goes
-
-pub returns-in-Ok-clause-cause : goal.returns-in-Ok-clause-cause
-returns-in-Ok-clause-cause g c =
-    let within : c.args.link < length c.self.inside.links.items = omega (arith, c.requires.attached, ap (λ (n : NodeValue). length n.links) c.self.view_is) in
-    let here = slice_get-get_or c.self.inside.links.items c.args.link c.index_mut.result.now within ∙ ap Some (sym c.index_mut.ensures.value) in
-    node_causes _ c.self.inside.first c.self.inside.links.items _ c.self.inside.closed _ _ _ c.self.view_is
-    (links_go_set c.args.link _ c.self.inside.links.items _ c.receive_on.new.link _ _ _ (links_go_none _ _) here c.receive_on.ensures.run)
-
-pub returns-in-Err-clause-run : goal.returns-in-Err-clause-run
-returns-in-Err-clause-run g c = c.receive_on.ensures.run.goes
-
-pub returns-in-Err-clause-cause : goal.returns-in-Err-clause-cause
-returns-in-Err-clause-cause g c =
-    let within : c.args.link < length c.self.inside.links.items = omega (arith, c.requires.attached, ap (λ (n : NodeValue). length n.links) c.self.view_is) in
-    let here = slice_get-get_or c.self.inside.links.items c.args.link c.index_mut.result.now within ∙ ap Some (sym c.index_mut.ensures.value) in
-    node_causes _ c.self.inside.first c.self.inside.links.items _ c.self.inside.closed _ _ _ c.self.view_is
-    (links_go_set c.args.link _ c.self.inside.links.items _ c.receive_on.new.link _ _ _ (links_go_none _ _) here c.receive_on.ensures.run)
-
-pub returns-in-Err-clause-full : goal.returns-in-Err-clause-full
-returns-in-Err-clause-full g c = λ is.
-    let within : c.args.link < length c.self.inside.links.items = omega (arith, c.requires.attached, ap (λ (n : NodeValue). length n.links) c.self.view_is) in
-    let here = slice_get-get_or c.self.inside.links.items c.args.link c.index_mut.result.now within ∙ ap Some (sym c.index_mut.ensures.value) in
-    let numbered = ((c.self.invariant.1.attached c.if-self.false).each c.args.link _ here).numbered in
-    node_receiving_full _ _ c.self.inside.first _ c.self.inside.closed _ _ _ c.self.view_is c.args.link _
-    (receiving_full _ c.self.inside.first c.self.inside.links.items _ _ _ _ _ c.args.link c.in-Err.fault (was_full c.in-Err.fault _ c.close.ensures.fault is)
-    (asking_stopped _ c.self.inside.first c.args.link c.self.inside.links.items _ _ _ here numbered c.receive_on.new.link _ _ _ (c.in-Err.ensures.stopped (ap (λ (b : List ℕ). length b) c.as_mut_slice.ensures.value ∙ c.self.invariant.0))))
-
-pub returns-in-Ok-clause-node : goal.returns-in-Ok-clause-node
-returns-in-Ok-clause-node g c = (invariant_of-self g c).1
-
-pub returns-then-self-clause-kept : goal.returns-then-self-clause-kept
-returns-then-self-clause-kept g c = record { same_first = refl; same_sessions = refl }
-
-pub returns-in-Ok-clause-kept : goal.returns-in-Ok-clause-kept
-returns-in-Ok-clause-kept g c =
-    let within : c.args.link < length c.self.inside.links.items = omega (arith, c.requires.attached, ap (λ (n : NodeValue). length n.links) c.self.view_is) in
-    let here = slice_get-get_or c.self.inside.links.items c.args.link c.index_mut.result.now within ∙ ap Some (sym c.index_mut.ensures.value) in
-    record { same_first = ap (λ (n : NodeValue). n.first) c.self.view_is; same_sessions = sessions_set c.args.link c.self.inside.links.items _ c.receive_on.new.link here c.receive_on.ensures.run.same_session ∙ ap (λ (n : NodeValue). sessions_of n.links) c.self.view_is }
-
-pub returns-in-Err-clause-kept : goal.returns-in-Err-clause-kept
-returns-in-Err-clause-kept g c =
-    let within : c.args.link < length c.self.inside.links.items = omega (arith, c.requires.attached, ap (λ (n : NodeValue). length n.links) c.self.view_is) in
-    let here = slice_get-get_or c.self.inside.links.items c.args.link c.index_mut.result.now within ∙ ap Some (sym c.index_mut.ensures.value) in
-    record { same_first = ap (λ (n : NodeValue). n.first) c.self.view_is; same_sessions = sessions_set c.args.link c.self.inside.links.items _ c.receive_on.new.link here c.receive_on.ensures.run.same_session ∙ ap (λ (n : NodeValue). sessions_of n.links) c.self.view_is }
-
-pub returns-then-self-clause-went : goal.returns-then-self-clause-went
-returns-then-self-clause-went g c =
-    λ opened. absurd (let yes = ap (λ (n : NodeValue). n.closed) c.self.view_is in let is = c.if-self.true in cc)
-
-pub returns-then-self-clause-stopped : goal.returns-then-self-clause-stopped
-returns-then-self-clause-stopped g c =
-    λ opened. absurd (let yes = ap (λ (n : NodeValue). n.closed) c.self.view_is in let is = c.if-self.true in cc)
+    links_go_on _ c.args.link c.self.inside.links.items _ _ c.receive_on.new.link _ _ _ _ _ (node_may _ _ c.self.inside.first _ c.self.inside.closed _ _ c.self.view_is c.requires.may c.if-self.false)
+    (length_set c.self.inside.links.items c.args.link c.receive_on.new.link) c.in-Ok.ensures.keeps
 
 pub returns-in-Ok-clause-went : goal.returns-in-Ok-clause-went
 returns-in-Ok-clause-went g c = λ opened.
@@ -207,7 +88,14 @@ returns-in-Ok-clause-went g c = λ opened.
     let here = slice_get-get_or c.self.inside.links.items c.args.link c.index_mut.result.now within ∙ ap Some (sym c.index_mut.ensures.value) in
     let numbered = ((c.self.invariant.1.attached c.if-self.false).each c.args.link _ here).numbered in
     node_asked _ _ c.self.inside.first _ c.self.inside.closed _ _ _ c.self.view_is c.args.link _ _ c.in-Ok.idle
-    (asking_went _ c.self.inside.first c.args.link c.self.inside.links.items _ _ _ here numbered c.receive_on.new.link _ _ c.in-Ok.idle (c.in-Ok.ensures.went (ap (λ (b : List ℕ). length b) c.as_mut_slice.ensures.value ∙ c.self.invariant.0)))
+    (asking_went _ c.self.inside.first c.args.link c.self.inside.links.items _ _ _ here numbered c.receive_on.new.link _ _ c.in-Ok.idle c.in-Ok.ensures.went)
+
+pub returns-in-Err-clause-answers : goal.returns-in-Err-clause-answers
+returns-in-Err-clause-answers g c =
+    answers_fault _ c.self.inside.first _ c.self.inside.closed _ _ _ _ c.in-Err.fault _ c.self.view_is c.if-self.false c.close.ensures.fault c.close.ensures.closed
+
+pub returns-in-Err-clause-may : goal.returns-in-Err-clause-may
+returns-in-Err-clause-may g c = λ opened. absurd (true≢false _ c.close.ensures.closed opened)
 
 pub returns-in-Err-clause-stopped : goal.returns-in-Err-clause-stopped
 returns-in-Err-clause-stopped g c = λ opened.
@@ -215,4 +103,36 @@ returns-in-Err-clause-stopped g c = λ opened.
     let here = slice_get-get_or c.self.inside.links.items c.args.link c.index_mut.result.now within ∙ ap Some (sym c.index_mut.ensures.value) in
     let numbered = ((c.self.invariant.1.attached c.if-self.false).each c.args.link _ here).numbered in
     node_asking_stopped _ _ c.self.inside.first _ c.self.inside.closed _ _ _ c.self.view_is c.args.link _ _ c.in-Err.fault _ c.close.ensures.fault
-    (asking_stopped _ c.self.inside.first c.args.link c.self.inside.links.items _ _ _ here numbered c.receive_on.new.link _ _ _ (c.in-Err.ensures.stopped (ap (λ (b : List ℕ). length b) c.as_mut_slice.ensures.value ∙ c.self.invariant.0)))
+    (asking_stopped _ c.self.inside.first c.args.link c.self.inside.links.items _ _ _ here numbered c.receive_on.new.link _ _ _ c.in-Err.ensures.stopped)
+
+pub returns-in-Ok-clause-goes : goal.returns-in-Ok-clause-goes
+returns-in-Ok-clause-goes g c =
+    let within : c.args.link < length c.self.inside.links.items = omega (arith, c.requires.attached, ap (λ (n : NodeValue). length n.links) c.self.view_is) in
+    let here = slice_get-get_or c.self.inside.links.items c.args.link c.index_mut.result.now within ∙ ap Some (sym c.index_mut.ensures.value) in
+    goes_call _ _ c.self.inside.first c.self.inside.links.items _ c.self.inside.closed _ _ _ _ c.self.view_is (invariant_of-self g c).1
+    (links_go_set c.args.link _ c.self.inside.links.items _ c.receive_on.new.link _ _ _ (links_go_none _ _) here c.in-Ok.ensures.keeps.link) c.in-Ok.ensures.keeps.store.same_limit c.in-Ok.ensures.keeps.store.same_format
+
+pub returns-in-Ok-clause-kept : goal.returns-in-Ok-clause-kept
+returns-in-Ok-clause-kept g c =
+    let within : c.args.link < length c.self.inside.links.items = omega (arith, c.requires.attached, ap (λ (n : NodeValue). length n.links) c.self.view_is) in
+    let here = slice_get-get_or c.self.inside.links.items c.args.link c.index_mut.result.now within ∙ ap Some (sym c.index_mut.ensures.value) in
+    kept_call _ _ c.self.inside.first c.self.inside.links.items _ c.self.inside.closed _ _ c.self.view_is
+    (sessions_set c.args.link c.self.inside.links.items _ c.receive_on.new.link here c.in-Ok.ensures.keeps.link.same_session)
+
+pub returns-in-Err-clause-goes : goal.returns-in-Err-clause-goes
+returns-in-Err-clause-goes g c =
+    let within : c.args.link < length c.self.inside.links.items = omega (arith, c.requires.attached, ap (λ (n : NodeValue). length n.links) c.self.view_is) in
+    let here = slice_get-get_or c.self.inside.links.items c.args.link c.index_mut.result.now within ∙ ap Some (sym c.index_mut.ensures.value) in
+    goes_call _ _ c.self.inside.first c.self.inside.links.items _ c.self.inside.closed _ _ _ _ c.self.view_is (invariant_of-self-in-Err g c).1
+    (links_go_set c.args.link _ c.self.inside.links.items _ c.receive_on.new.link _ _ _ (links_go_none _ _) here c.in-Err.ensures.keeps.link) c.in-Err.ensures.keeps.store.same_limit c.in-Err.ensures.keeps.store.same_format
+
+pub returns-in-Err-clause-kept : goal.returns-in-Err-clause-kept
+returns-in-Err-clause-kept g c =
+    let within : c.args.link < length c.self.inside.links.items = omega (arith, c.requires.attached, ap (λ (n : NodeValue). length n.links) c.self.view_is) in
+    let here = slice_get-get_or c.self.inside.links.items c.args.link c.index_mut.result.now within ∙ ap Some (sym c.index_mut.ensures.value) in
+    kept_call _ _ c.self.inside.first c.self.inside.links.items _ c.self.inside.closed _ _ c.self.view_is
+    (sessions_set c.args.link c.self.inside.links.items _ c.receive_on.new.link here c.in-Err.ensures.keeps.link.same_session)
+
+pub returns-in-Err-clause-stops : goal.returns-in-Err-clause-stops
+returns-in-Err-clause-stops g c = λ opened.
+    stops_call Bool _ _ c.self.inside.first _ _ _ _ c.in-Err.fault _ c.close.ensures.fault c.in-Err.ensures.keeps.store.answered

@@ -7,4 +7,5 @@ returns-then-n-held c = sym c.id_at.ensures ∙ id_there c.args.self.now.state.n
 
 pub returns-else-n-held : goal.returns-else-n-held
 returns-else-n-held c =
-    sym (none_there c.args.self.now.state.now.facts.held c.args.n (omega (arith, c.held.ensures, c.if-n-held.false)))
+    sym (none_there c.args.self.now.state.now.facts.held c.args.n
+    (omega (arith, c.held.ensures, c.if-n-held.false)))

@@ -5,9 +5,11 @@ use Rattle.sync_store.proofs.HeldIds.{placed_among, same_place}
 use Rattle.sync_store.proofs.formats.HeldNamesNames.number.Goals as goal
 
 pub returns-clause-place : goal.returns-clause-place
-returns-clause-place c = c.find.ensures.place ∙ same_place c.args.self.now.state.now.facts.held c.args.id.now
+returns-clause-place c =
+    c.find.ensures.place ∙ same_place c.args.self.now.state.now.facts.held c.args.id.now
 
 pub returns-clause-known : goal.returns-clause-known
 returns-clause-known c =
-    ap is_some (c.find.ensures.place ∙ same_place c.args.self.now.state.now.facts.held c.args.id.now)
+    ap is_some (c.find.ensures.place
+    ∙ same_place c.args.self.now.state.now.facts.held c.args.id.now)
     ∙ placed_among (names_of c.args.self.now.state.now.facts) c.args.id.now

@@ -1,4 +1,5 @@
-use Rattle.std.proofs.Common.{◌≡◌, ◌+◌, List, ℕ, length, refl, sym, ap, ◌∙◌, subst, false, arith, Ok}
+use Rattle.std.proofs.Common.{◌≡◌, ◌+◌, List, ℕ, length, refl, sym, ap, ◌∙◌, subst, false, arith}
+use Rattle.std.proofs.Common.{Ok}
 use Rattle.frame_journal.specs.Journal.{JournalValue}
 use Rattle.journal_state.specs.Whole.{KnowsJudgements, StateValue}
 use Rattle.sync_rules.specs.declared.entries.Entry.{Entry}
@@ -18,17 +19,40 @@ use Rattle.sync_store.proofs.SettleSteps.{adds_ready_fits}
 use Rattle.sync_store.proofs.store.Store.add.Goals as goal
 
 -- what the store becomes once the frame is added and the batch taken
-gained : (clients : Meaning) (s : StoreValue) (state : StateValue) (journal : JournalValue) (batch : List Entry) (framed : List ℕ) → MayAdd clients s batch framed → s.closed ≡ false
-    → state.facts ≡ after_all s.state.facts batch → journal.file ≡ s.file → journal.end ≡ s.end + length framed → journal.format ≡ s.format → journal.generation ≡ s.generation
-    → GainsBatch s (record { state = state; file = journal.file; format = journal.format; generation = journal.generation; end = journal.end; limit = s.limit; closed = s.closed }) batch
+gained : (clients : Meaning) (s : StoreValue) (state : StateValue) (journal : JournalValue)
+    (batch : List Entry) (framed : List ℕ) → MayAdd clients s batch framed → s.closed ≡ false
+    → state.facts ≡ after_all s.state.facts batch → journal.file ≡ s.file
+    → journal.end ≡ s.end + length framed → journal.format ≡ s.format
+    → journal.generation ≡ s.generation
+    → GainsBatch s (record {
+      state = state;
+      file = journal.file;
+      format = journal.format;
+      generation = journal.generation;
+      end = journal.end;
+      limit = s.limit;
+      closed = s.closed;
+    }) batch
 gained clients s state journal batch framed may still facts file end format generation =
-    let long : length framed ≡ 5 + payload_len (written_in s) batch = framed_len s batch framed may.is_framed may.payload_is in
-    record { facts = facts; file = file; format = format; generation = generation; end = omega (arith, end, long); limit = refl; closed = still }
+    let long : length framed ≡ 5 + payload_len (written_in s) batch =
+    framed_len s batch framed may.is_framed may.payload_is in
+    record {
+      facts = facts;
+      file = file;
+      format = format;
+      generation = generation;
+      end = omega (arith, end, long);
+      limit = refl;
+      closed = still;
+    }
 
 pub take_known-requires-clause-allowed : goal.take_known-requires-clause-allowed
 take_known-requires-clause-allowed g c =
-    let clients = g.C.Clients.meaning c.args.clients.now in
-    (clients, subst (λ (v : StoreValue). Allowed clients v.state.facts c.args.batch) (sym c.self.view_is) c.requires.may.allowed)
+    let clients = g.C.Clients.meaning c.args.clients.now in (
+      clients,
+      subst (λ (v : StoreValue). Allowed clients v.state.facts c.args.batch)
+          (sym c.self.view_is) c.requires.may.allowed,
+    )
 
 pub take_known-requires-clause-numbers : goal.take_known-requires-clause-numbers
 take_known-requires-clause-numbers g c =
@@ -40,7 +64,8 @@ take_known-requires-clause-numbers g c =
             arith,
             store.numbers.records session,
             store.roomy,
-            counts_few (written_in (value_of c.self.inside)) (value_of c.self.inside).end (omega (arith, store.roomy)),
+            counts_few (written_in (value_of c.self.inside)) (value_of c.self.inside).end
+                (omega (arith, store.roomy)),
           );
     }
 
@@ -48,21 +73,34 @@ pub invariant_of-self : goal.invariant_of-self
 invariant_of-self g c =
     let clients = g.C.Clients.meaning c.args.clients.now in
     let s = value_of c.self.inside in
-    let may = subst (λ (v : StoreValue). MayAdd clients v c.args.batch c.args.framed.now) (sym c.self.view_is) c.requires.may in
-    let still : s.closed ≡ false = ap (λ (v : StoreValue). v.closed) c.self.view_is ∙ c.requires.ready.still_open in
+    let may = subst (λ (v : StoreValue). MayAdd clients v c.args.batch c.args.framed.now)
+    (sym c.self.view_is) c.requires.may in
+    let still : s.closed ≡ false = ap (λ (v : StoreValue). v.closed) c.self.view_is
+    ∙ c.requires.ready.still_open in
     grown_store c.cite_laws.ensures clients s _ c.args.batch c.args.framed.now c.self.invariant may
-    (gained clients s c.take_known.new.self c.append.new.self c.args.batch c.args.framed.now may still c.take_known.ensures.facts (ap (λ (j : JournalValue). j.file) c.in-Ok.ensures.ok) (ap (λ (j : JournalValue). j.end) c.in-Ok.ensures.ok) (ap (λ (j : JournalValue). j.format) c.in-Ok.ensures.ok) (ap (λ (j : JournalValue). j.generation) c.in-Ok.ensures.ok))
+    (gained clients s c.take_known.new.self c.append.new.self c.args.batch c.args.framed.now may
+    still c.take_known.ensures.facts (ap (λ (j : JournalValue). j.file) c.in-Ok.ensures.ok)
+    (ap (λ (j : JournalValue). j.end) c.in-Ok.ensures.ok)
+    (ap (λ (j : JournalValue). j.format) c.in-Ok.ensures.ok)
+    (ap (λ (j : JournalValue). j.generation) c.in-Ok.ensures.ok))
 
 pub returns-in-Ok-clause-extends : goal.returns-in-Ok-clause-extends
 returns-in-Ok-clause-extends g c two told j fits =
     let clients = g.C.Clients.meaning c.args.clients.now in
     let s = value_of c.self.inside in
-    let may = subst (λ (v : StoreValue). MayAdd clients v c.args.batch c.args.framed.now) (sym c.self.view_is) c.requires.may in
+    let may = subst (λ (v : StoreValue). MayAdd clients v c.args.batch c.args.framed.now)
+    (sym c.self.view_is) c.requires.may in
     let fits' = subst (λ (v : StoreValue). FitsFiles clients v j two) (sym c.self.view_is) fits in
-    let still : s.closed ≡ false = ap (λ (v : StoreValue). v.closed) c.self.view_is ∙ c.requires.ready.still_open in
-    adds_ok c.cite_laws.ensures.stand clients s _ j two c.args.batch c.args.framed.now tt (g.D.Disk.tells c.args.disk.now) (g.D.Disk.tells c.append.new.disk) fits' may told
+    let still : s.closed ≡ false = ap (λ (v : StoreValue). v.closed) c.self.view_is
+    ∙ c.requires.ready.still_open in
+    adds_ok c.cite_laws.ensures.stand clients s _ j two c.args.batch c.args.framed.now tt
+    (g.D.Disk.tells c.args.disk.now) (g.D.Disk.tells c.append.new.disk) fits' may told
     (c.in-Ok.ensures.any_moment two told) c.in-Ok.ensures.appended
-    (gained clients s c.take_known.new.self c.append.new.self c.args.batch c.args.framed.now may still c.take_known.ensures.facts (ap (λ (j : JournalValue). j.file) c.in-Ok.ensures.ok) (ap (λ (j : JournalValue). j.end) c.in-Ok.ensures.ok) (ap (λ (j : JournalValue). j.format) c.in-Ok.ensures.ok) (ap (λ (j : JournalValue). j.generation) c.in-Ok.ensures.ok))
+    (gained clients s c.take_known.new.self c.append.new.self c.args.batch c.args.framed.now may
+    still c.take_known.ensures.facts (ap (λ (j : JournalValue). j.file) c.in-Ok.ensures.ok)
+    (ap (λ (j : JournalValue). j.end) c.in-Ok.ensures.ok)
+    (ap (λ (j : JournalValue). j.format) c.in-Ok.ensures.ok)
+    (ap (λ (j : JournalValue). j.generation) c.in-Ok.ensures.ok))
 
 pub returns-in-Ok-clause-ready : goal.returns-in-Ok-clause-ready
 returns-in-Ok-clause-ready g c still =
@@ -70,30 +108,44 @@ returns-in-Ok-clause-ready g c still =
     let s = value_of c.self.inside in
     let o = g.D.Disk.tells c.args.disk.now in
     let o' = g.D.Disk.tells c.append.new.disk in
-    let may = subst (λ (v : StoreValue). MayAdd clients v c.args.batch c.args.framed.now) (sym c.self.view_is) c.requires.may in
+    let may = subst (λ (v : StoreValue). MayAdd clients v c.args.batch c.args.framed.now)
+    (sym c.self.view_is) c.requires.may in
     let gains =
-    gained clients s c.take_known.new.self c.append.new.self c.args.batch c.args.framed.now may still c.take_known.ensures.facts (ap (λ (j : JournalValue). j.file) c.in-Ok.ensures.ok)
-    (ap (λ (j : JournalValue). j.end) c.in-Ok.ensures.ok) (ap (λ (j : JournalValue). j.format) c.in-Ok.ensures.ok) (ap (λ (j : JournalValue). j.generation) c.in-Ok.ensures.ok) in
+    gained clients s c.take_known.new.self c.append.new.self c.args.batch c.args.framed.now may
+    still c.take_known.ensures.facts (ap (λ (j : JournalValue). j.file) c.in-Ok.ensures.ok)
+    (ap (λ (j : JournalValue). j.end) c.in-Ok.ensures.ok)
+    (ap (λ (j : JournalValue). j.format) c.in-Ok.ensures.ok)
+    (ap (λ (j : JournalValue). j.generation) c.in-Ok.ensures.ok) in
     record {
       still_open = still;
-      knows = c.take_known.ensures.knows clients (subst (λ (v : StoreValue). KnowsJudgements clients v.state) (sym c.self.view_is) c.requires.ready.knows);
+      knows =
+          c.take_known.ensures.knows clients
+          (subst (λ (v : StoreValue). KnowsJudgements clients v.state) (sym c.self.view_is)
+          c.requires.ready.knows);
       fits =
           adds_ready_fits clients s _ c.args.batch (Ok tt) o o' c.in-Ok.ensures.run
-          (λ two told j fits. adds_ok c.cite_laws.ensures.stand clients s _ j two c.args.batch c.args.framed.now tt o o' fits may told (c.in-Ok.ensures.any_moment two told) c.in-Ok.ensures.appended gains)
-          (subst (λ (v : StoreValue). FitsSome clients v o.files) (sym c.self.view_is) c.requires.ready.fits) still;
+          (λ two told j fits. adds_ok c.cite_laws.ensures.stand clients s _ j two c.args.batch
+          c.args.framed.now tt o o' fits may told (c.in-Ok.ensures.any_moment two told)
+          c.in-Ok.ensures.appended gains)
+          (subst (λ (v : StoreValue). FitsSome clients v o.files) (sym c.self.view_is)
+          c.requires.ready.fits) still;
     }
 
 pub returns-in-Err-clause-extends : goal.returns-in-Err-clause-extends
 returns-in-Err-clause-extends g c two told j fits =
     let clients = g.C.Clients.meaning c.args.clients.now in
     let s = value_of c.self.inside in
-    let may = subst (λ (v : StoreValue). MayAdd clients v c.args.batch c.args.framed.now) (sym c.self.view_is) c.requires.may in
+    let may = subst (λ (v : StoreValue). MayAdd clients v c.args.batch c.args.framed.now)
+    (sym c.self.view_is) c.requires.may in
     let fits' = subst (λ (v : StoreValue). FitsFiles clients v j two) (sym c.self.view_is) fits in
-    adds_err c.cite_laws.ensures.stand clients s _ j two c.args.batch c.args.framed.now fault.DiskFault (g.D.Disk.tells c.args.disk.now) (g.D.Disk.tells c.append.new.disk) fits' may
+    adds_err c.cite_laws.ensures.stand clients s _ j two c.args.batch c.args.framed.now
+    fault.DiskFault (g.D.Disk.tells c.args.disk.now) (g.D.Disk.tells c.append.new.disk) fits'
+    may
     (c.in-Err.ensures.any_moment two told) refl
 
 pub returns-in-Ok-clause-calls : goal.returns-in-Ok-clause-calls
-returns-in-Ok-clause-calls g c = record { just = c.in-Ok.ensures.calls.just; most = c.in-Ok.ensures.calls.most }
+returns-in-Ok-clause-calls g c =
+    record { just = c.in-Ok.ensures.calls.just; most = c.in-Ok.ensures.calls.most }
 
 pub returns-in-Err-clause-calls : goal.returns-in-Err-clause-calls
 returns-in-Err-clause-calls g c = record { just = tt; most = c.in-Err.ensures.calls.most }
@@ -102,16 +154,31 @@ pub append-requires-clause-fits : goal.append-requires-clause-fits
 append-requires-clause-fits g c two told =
     let clients = g.C.Clients.meaning c.args.clients.now in
     let files = (g.D.Disk.tells c.args.disk.now).files in
-    let fits = subst (λ (v : StoreValue). FitsSome clients v files) (sym c.self.view_is) c.requires.ready.fits in
+    let fits = subst (λ (v : StoreValue). FitsSome clients v files) (sym c.self.view_is)
+    c.requires.ready.fits in
     rests clients (value_of c.self.inside) files fits two told
 
 pub returns-in-Ok-clause-ok : goal.returns-in-Ok-clause-ok
 returns-in-Ok-clause-ok g c =
     let s = value_of c.self.inside in
-    let may = subst (λ (v : StoreValue). MayAdd (g.C.Clients.meaning c.args.clients.now) v c.args.batch c.args.framed.now) (sym c.self.view_is) c.requires.may in
-    let still : s.closed ≡ false = ap (λ (v : StoreValue). v.closed) c.self.view_is ∙ c.requires.ready.still_open in
-    subst (λ (v : StoreValue). GainsBatch v (value_of (record { alloc = c.self.inside.alloc; state = c.take_known.new.self; journal = c.append.new.self; limit = c.self.inside.limit; closed = c.self.inside.closed })) c.args.batch)
+    let may =
+    subst (λ (v : StoreValue).
+    MayAdd (g.C.Clients.meaning c.args.clients.now) v c.args.batch c.args.framed.now)
+    (sym c.self.view_is) c.requires.may in
+    let still : s.closed ≡ false = ap (λ (v : StoreValue). v.closed) c.self.view_is
+    ∙ c.requires.ready.still_open in
+    subst (λ (v : StoreValue).
+    GainsBatch v (value_of (record {
+      alloc = c.self.inside.alloc;
+      state = c.take_known.new.self;
+      journal = c.append.new.self;
+      limit = c.self.inside.limit;
+      closed = c.self.inside.closed;
+    })) c.args.batch)
     c.self.view_is
-    (gained (g.C.Clients.meaning c.args.clients.now) s c.take_known.new.self c.append.new.self c.args.batch c.args.framed.now may still c.take_known.ensures.facts
-    (ap (λ (j : JournalValue). j.file) c.in-Ok.ensures.ok) (ap (λ (j : JournalValue). j.end) c.in-Ok.ensures.ok) (ap (λ (j : JournalValue). j.format) c.in-Ok.ensures.ok)
+    (gained (g.C.Clients.meaning c.args.clients.now) s c.take_known.new.self c.append.new.self
+    c.args.batch c.args.framed.now may still c.take_known.ensures.facts
+    (ap (λ (j : JournalValue). j.file) c.in-Ok.ensures.ok)
+    (ap (λ (j : JournalValue). j.end) c.in-Ok.ensures.ok)
+    (ap (λ (j : JournalValue). j.format) c.in-Ok.ensures.ok)
     (ap (λ (j : JournalValue). j.generation) c.in-Ok.ensures.ok))

@@ -6,5 +6,7 @@ use Rattle.sync_store.proofs.store.Store.compact.Goals as goal
 pub returns-then-generation-eq18446744073709551615-clause-compacted : goal.returns-then-generation-eq18446744073709551615-clause-compacted
 returns-then-generation-eq18446744073709551615-clause-compacted g c still = record {
   answer = (inl (sym c.generation.ensures ∙ c.if-generation-eq18446744073709551615.true), refl);
-  leads = leads_unasked c.cite_laws.ensures.stand (g.C.Clients.meaning c.args.clients.now) c.args.self.now fault.Full (g.D.Disk.tells c.args.disk.now) c.is_closed.ensures.numbers;
+  leads =
+      leads_unasked c.cite_laws.ensures.stand (g.C.Clients.meaning c.args.clients.now)
+      c.args.self.now fault.Full (g.D.Disk.tells c.args.disk.now) c.is_closed.ensures.numbers;
 }

@@ -9,7 +9,8 @@ returns-in_err-begin-clause-any_moment g c two told =
     let o1 = g.D.Disk.tells c.look.new.disk in
     let o2 = g.D.Disk.tells c.begin.new.disk in
     let at = becomes_told SyncsBoth o0.files o1.files two told c.in_ok-found.ensures.settled in
-    init_then o0 o1 o2 two at.0 told c.in_ok-found.ensures.any_moment c.in_ok-found.ensures.run at.2 (c.in_err-begin.ensures.any_moment at.0 at.1)
+    init_then o0 o1 o2 two at.0 told c.in_ok-found.ensures.any_moment c.in_ok-found.ensures.run at.2
+    (c.in_err-begin.ensures.any_moment at.0 at.1)
 
 pub returns-clause-any_moment : goal.returns-clause-any_moment
 returns-clause-any_moment g c two told =
@@ -17,4 +18,5 @@ returns-clause-any_moment g c two told =
     let o1 = g.D.Disk.tells c.look.new.disk in
     let o2 = g.D.Disk.tells c.begin.new.disk in
     let at = becomes_told SyncsBoth o0.files o1.files two told c.in_ok-found.ensures.settled in
-    init_then o0 o1 o2 two at.0 told c.in_ok-found.ensures.any_moment c.in_ok-found.ensures.run at.2 (c.in_ok-begin.ensures.any_moment at.0 at.1)
+    init_then o0 o1 o2 two at.0 told c.in_ok-found.ensures.any_moment c.in_ok-found.ensures.run at.2
+    (c.in_ok-begin.ensures.any_moment at.0 at.1)

@@ -8,7 +8,8 @@ use Rattle.sync_store.specs.Fitting.{FitsSome}
 use Rattle.sync_store.specs.Inside.{value_of}
 use Rattle.sync_store.specs.Migrations.{HasMigrated, IsInOldFormat}
 use Rattle.sync_store.specs.Store.{StoreValue}
-use Rattle.sync_store.proofs.MigrateSteps.{Gives, gives_of, leads_failed, leads_fits, leads_memory, leads_moved, moved_to, moves_on, next_of}
+use Rattle.sync_store.proofs.MigrateSteps.{Gives, gives_of, leads_failed, leads_fits, leads_memory}
+use Rattle.sync_store.proofs.MigrateSteps.{leads_moved, moved_to, moves_on, next_of}
 use Rattle.sync_store.proofs.store.Store.move_on.Goals as goal
 
 pub returns-in-Ok-clause-migrated : goal.returns-in-Ok-clause-migrated
@@ -19,11 +20,19 @@ returns-in-Ok-clause-migrated g c =
     let o = g.D.Disk.tells c.args.disk.now in
     let o' = g.D.Disk.tells c.migrate.new.disk in
     let old = subst IsInOldFormat (sym c.self.view_is) c.requires.old in
-    let still : s.closed ≡ false = ap (λ (v : StoreValue). v.closed) c.self.view_is ∙ c.requires.ready.still_open in
-    let next = next_of s n c.file-file.result c.generation-generation.result c.end-end.result c.file-file.ensures.value c.generation-generation.ensures c.end-end.ensures.value c.in-Ok.ensures.next in
-    let gives = gives_of clients s (Ok n) o o' c.file-file.result c.generation-generation.result c.file-file.ensures.value c.generation-generation.ensures (c.in-Ok.ensures.migrates clients) in
+    let still : s.closed ≡ false = ap (λ (v : StoreValue). v.closed) c.self.view_is
+    ∙ c.requires.ready.still_open in
+    let next = next_of s n c.file-file.result c.generation-generation.result c.end-end.result
+    c.file-file.ensures.value c.generation-generation.ensures c.end-end.ensures.value
+    c.in-Ok.ensures.next in
+    let gives = gives_of clients s (Ok n) o o' c.file-file.result c.generation-generation.result
+    c.file-file.ensures.value c.generation-generation.ensures
+    (c.in-Ok.ensures.migrates clients) in
     subst (λ (v : StoreValue). HasMigrated clients v (moved_to s n) (Ok tt) o o') c.self.view_is
-    (record { answer = inr (moves_on s n old still next); leads = leads_moved clients s n o o' old next.format_is gives })
+    (record {
+      answer = inr (moves_on s n old still next);
+      leads = leads_moved clients s n o o' old next.format_is gives;
+    })
 
 pub returns-in-Ok-clause-ready : goal.returns-in-Ok-clause-ready
 returns-in-Ok-clause-ready g c still =
@@ -33,13 +42,18 @@ returns-in-Ok-clause-ready g c still =
     let o = g.D.Disk.tells c.args.disk.now in
     let o' = g.D.Disk.tells c.migrate.new.disk in
     let old = subst IsInOldFormat (sym c.self.view_is) c.requires.old in
-    let gives = gives_of clients s (Ok n) o o' c.file-file.result c.generation-generation.result c.file-file.ensures.value c.generation-generation.ensures (c.in-Ok.ensures.migrates clients) in
+    let gives = gives_of clients s (Ok n) o o' c.file-file.result c.generation-generation.result
+    c.file-file.ensures.value c.generation-generation.ensures
+    (c.in-Ok.ensures.migrates clients) in
     record {
       still_open = still;
-      knows = subst (λ (v : StoreValue). KnowsJudgements clients v.state) (sym c.self.view_is) c.requires.ready.knows;
+      knows = subst (λ (v : StoreValue). KnowsJudgements clients v.state) (sym c.self.view_is)
+          c.requires.ready.knows;
       fits =
-          leads_fits clients s (moved_to s n) o o' c.in-Ok.ensures.run (leads_moved clients s n o o' old c.in-Ok.ensures.next.format_is gives)
-          (subst (λ (v : StoreValue). FitsSome clients v o.files) (sym c.self.view_is) c.requires.ready.fits) still;
+          leads_fits clients s (moved_to s n) o o' c.in-Ok.ensures.run
+          (leads_moved clients s n o o' old c.in-Ok.ensures.next.format_is gives)
+          (subst (λ (v : StoreValue). FitsSome clients v o.files) (sym c.self.view_is)
+          c.requires.ready.fits) still;
     }
 
 pub returns-in-Err-Memory-clause-migrated : goal.returns-in-Err-Memory-clause-migrated
@@ -49,14 +63,20 @@ returns-in-Err-Memory-clause-migrated g c =
     let o = g.D.Disk.tells c.args.disk.now in
     let o' = g.D.Disk.tells c.migrate.new.disk in
     let old = subst IsInOldFormat (sym c.self.view_is) c.requires.old in
-    let gives = gives_of clients s (Err c.in-Err-Memory.field-0) o o' c.file-file.result c.generation-generation.result c.file-file.ensures.value c.generation-generation.ensures (c.in-Err-Memory.ensures.migrates clients) in
-    let own : RelatesTold (KeepsFile c.file-file.result) o.files o'.files = rw c.in-Err-Memory.field-0-is at c.in-Err-Memory.ensures.own in
+    let gives = gives_of clients s (Err c.in-Err-Memory.field-0) o o' c.file-file.result
+    c.generation-generation.result c.file-file.ensures.value c.generation-generation.ensures
+    (c.in-Err-Memory.ensures.migrates clients) in
+    let own : RelatesTold (KeepsFile c.file-file.result) o.files o'.files =
+    rw c.in-Err-Memory.field-0-is at c.in-Err-Memory.ensures.own in
     subst (λ (v : StoreValue). HasMigrated clients v v (Err fault.Memory) o o') c.self.view_is
     (record {
       answer = (old, refl);
       leads =
-          leads_memory clients s o o' old (subst (λ file. RelatesTold (KeepsFile file) o.files o'.files) c.file-file.ensures.value own)
-          (subst (λ (e : MigrationFault). Gives clients s (Err e) o o') c.in-Err-Memory.field-0-is gives);
+          leads_memory clients s o o' old
+          (subst (λ file. RelatesTold (KeepsFile file) o.files o'.files)
+          c.file-file.ensures.value own)
+          (subst (λ (e : MigrationFault). Gives clients s (Err e) o o') c.in-Err-Memory.field-0-is
+          gives);
     })
 
 pub returns-in-Err-Memory-clause-ready : goal.returns-in-Err-Memory-clause-ready
@@ -66,17 +86,25 @@ returns-in-Err-Memory-clause-ready g c still =
     let o = g.D.Disk.tells c.args.disk.now in
     let o' = g.D.Disk.tells c.migrate.new.disk in
     let old = subst IsInOldFormat (sym c.self.view_is) c.requires.old in
-    let gives = gives_of clients s (Err c.in-Err-Memory.field-0) o o' c.file-file.result c.generation-generation.result c.file-file.ensures.value c.generation-generation.ensures (c.in-Err-Memory.ensures.migrates clients) in
-    let own : RelatesTold (KeepsFile c.file-file.result) o.files o'.files = rw c.in-Err-Memory.field-0-is at c.in-Err-Memory.ensures.own in
+    let gives = gives_of clients s (Err c.in-Err-Memory.field-0) o o' c.file-file.result
+    c.generation-generation.result c.file-file.ensures.value c.generation-generation.ensures
+    (c.in-Err-Memory.ensures.migrates clients) in
+    let own : RelatesTold (KeepsFile c.file-file.result) o.files o'.files =
+    rw c.in-Err-Memory.field-0-is at c.in-Err-Memory.ensures.own in
     let leads =
-    leads_memory clients s o o' old (subst (λ file. RelatesTold (KeepsFile file) o.files o'.files) c.file-file.ensures.value own)
-    (subst (λ (e : MigrationFault). Gives clients s (Err e) o o') c.in-Err-Memory.field-0-is gives) in
+    leads_memory clients s o o' old
+    (subst (λ file. RelatesTold (KeepsFile file) o.files o'.files) c.file-file.ensures.value
+    own)
+    (subst (λ (e : MigrationFault). Gives clients s (Err e) o o') c.in-Err-Memory.field-0-is
+    gives) in
     record {
       still_open = still;
       knows = c.requires.ready.knows;
       fits =
           subst (λ (v : StoreValue). FitsSome clients v o'.files) c.self.view_is
-          (leads_fits clients s s o o' c.in-Err-Memory.ensures.run leads (subst (λ (v : StoreValue). FitsSome clients v o.files) (sym c.self.view_is) c.requires.ready.fits)
+          (leads_fits clients s s o o' c.in-Err-Memory.ensures.run leads
+          (subst (λ (v : StoreValue). FitsSome clients v o.files) (sym c.self.view_is)
+          c.requires.ready.fits)
           (ap (λ (v : StoreValue). v.closed) c.self.view_is ∙ still));
     }
 
@@ -88,9 +116,14 @@ returns-in-Err-DiskFault-clause-migrated g c =
     let o = g.D.Disk.tells c.args.disk.now in
     let o' = g.D.Disk.tells c.migrate.new.disk in
     let old = subst IsInOldFormat (sym c.self.view_is) c.requires.old in
-    let gives = gives_of clients s (Err c.in-Err-DiskFault.field-0) o o' c.file-file.result c.generation-generation.result c.file-file.ensures.value c.generation-generation.ensures (c.in-Err-DiskFault.ensures.migrates clients) in
+    let gives = gives_of clients s (Err c.in-Err-DiskFault.field-0) o o' c.file-file.result
+    c.generation-generation.result c.file-file.ensures.value c.generation-generation.ensures
+    (c.in-Err-DiskFault.ensures.migrates clients) in
     subst (λ (v : StoreValue). HasMigrated clients v new (Err fault.DiskFault) o o') c.self.view_is
     (record {
       answer = (old, refl);
-      leads = leads_failed clients s new o o' old refl (subst (λ (e : MigrationFault). Gives clients s (Err e) o o') c.in-Err-DiskFault.field-0-is gives);
+      leads =
+          leads_failed clients s new o o' old refl
+          (subst (λ (e : MigrationFault). Gives clients s (Err e) o o')
+          c.in-Err-DiskFault.field-0-is gives);
     })

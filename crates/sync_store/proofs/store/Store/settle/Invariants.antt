@@ -9,7 +9,8 @@ abbrev pub invariant-batches : goal.invariant-batches
 invariant-batches g l = record {
   ready : IsReady (g.C.Clients.meaning l.clients) l.self (g.D.Disk.tells l.disk).files;
   numbers : IsStore l.self;
-  settles : SettlesOn (g.C.Clients.meaning l.clients) l.fn.self l.self (g.D.Disk.tells l.fn.disk) (g.D.Disk.tells l.disk);
+  settles : SettlesOn (g.C.Clients.meaning l.clients) l.fn.self l.self (g.D.Disk.tells l.fn.disk)
+      (g.D.Disk.tells l.disk);
 }
 
 abbrev pub decreases-batches : goal.decreases-batches

@@ -1,4 +1,5 @@
-use Rattle.std.proofs.Common.{◌≡◌, ◌-◌, ◌^◌, ◌<◌, false, true, Ok, Err, inr, refl, sym, ap, ◌∙◌, subst}
+use Rattle.std.proofs.Common.{◌≡◌, ◌-◌, ◌^◌, ◌<◌, false, true, Ok, Err, inr, refl, sym, ap, ◌∙◌}
+use Rattle.std.proofs.Common.{subst}
 use Rattle.sync_rules.specs.Steps.{IsSettled}
 use Rattle.entry_codec.specs.declared.naming.Format.TheVariants as kind
 use Rattle.journal_state.specs.Whole.{KnowsJudgements}
@@ -9,26 +10,37 @@ use Rattle.sync_store.specs.Compactions.{StoreHasCompacted}
 use Rattle.sync_store.specs.Fitting.{FitsSome}
 use Rattle.sync_store.specs.Inside.{value_of}
 use Rattle.sync_store.specs.Store.{StoreValue, written_in}
-use Rattle.sync_store.proofs.CompactSteps.{GivesBrief, brief_fits, leads_broken, leads_full, leads_shortened, leads_wanting, short_is_two, shortened_store, shortens_at}
+use Rattle.sync_store.proofs.CompactSteps.{GivesBrief, brief_fits, leads_broken, leads_full}
+use Rattle.sync_store.proofs.CompactSteps.{leads_shortened, leads_wanting, short_is_two}
+use Rattle.sync_store.proofs.CompactSteps.{shortened_store, shortens_at}
 use Rattle.sync_store.proofs.MigrateSteps.{moved_with, settled_both}
 use Rattle.sync_store.proofs.store.Store.shorten.Goals as goal
 
 pub compact-requires-clause-format : goal.compact-requires-clause-format
-compact-requires-clause-format g c = short_is_two (value_of c.self.inside) (subst (λ (v : StoreValue). written_in v ≡ kind.Short) (sym c.self.view_is) c.requires.short)
+compact-requires-clause-format g c =
+    short_is_two (value_of c.self.inside)
+    (subst (λ (v : StoreValue). written_in v ≡ kind.Short) (sym c.self.view_is)
+    c.requires.short)
 
 pub compact-requires-clause-settled : goal.compact-requires-clause-settled
 compact-requires-clause-settled g c =
     let clients = g.C.Clients.meaning c.args.clients.now in
     let files = (g.D.Disk.tells c.args.disk.now).files in
-    settled_both clients (value_of c.self.inside) files (subst (λ (v : StoreValue). FitsSome clients v files) (sym c.self.view_is) c.requires.ready.fits)
+    settled_both clients (value_of c.self.inside) files
+    (subst (λ (v : StoreValue). FitsSome clients v files) (sym c.self.view_is)
+    c.requires.ready.fits)
 
 pub invariant_of-self : goal.invariant_of-self
 invariant_of-self g c =
-    shortened_store (g.C.Clients.meaning c.args.clients.now) (value_of c.self.inside) c.forget.new.self c.self.inside.journal c.in-Ok.journal c.self.invariant c.in-Ok.ensures.room c.forget.ensures.facts c.in-Ok.ensures.next
+    shortened_store (g.C.Clients.meaning c.args.clients.now) (value_of c.self.inside)
+    c.forget.new.self c.self.inside.journal c.in-Ok.journal c.self.invariant
+    c.in-Ok.ensures.room c.forget.ensures.facts c.in-Ok.ensures.next
 
 pub returns-in-Ok-clause-numbers : goal.returns-in-Ok-clause-numbers
 returns-in-Ok-clause-numbers g c =
-    shortened_store (g.C.Clients.meaning c.args.clients.now) (value_of c.self.inside) c.forget.new.self c.self.inside.journal c.in-Ok.journal c.self.invariant c.in-Ok.ensures.room c.forget.ensures.facts c.in-Ok.ensures.next
+    shortened_store (g.C.Clients.meaning c.args.clients.now) (value_of c.self.inside)
+    c.forget.new.self c.self.inside.journal c.in-Ok.journal c.self.invariant
+    c.in-Ok.ensures.room c.forget.ensures.facts c.in-Ok.ensures.next
 
 pub returns-in-Ok-clause-compacted : goal.returns-in-Ok-clause-compacted
 returns-in-Ok-clause-compacted g c =
@@ -39,14 +51,23 @@ returns-in-Ok-clause-compacted g c =
     let state = c.forget.new.self in
     let o = g.D.Disk.tells c.args.disk.now in
     let o' = g.D.Disk.tells c.compact.new.disk in
-    let still : s.closed ≡ false = ap (λ (v : StoreValue). v.closed) c.self.view_is ∙ c.requires.ready.still_open in
-    let settled = subst (λ (v : StoreValue). IsSettled clients v.state.facts) (sym c.self.view_is) c.requires.settled in
-    let short = short_is_two s (subst (λ (v : StoreValue). written_in v ≡ kind.Short) (sym c.self.view_is) c.requires.short) in
-    let further = subst (λ (v : StoreValue). v.generation < 2 ^ 64 - 1) (sym c.self.view_is) c.requires.generation in
-    subst (λ (v : StoreValue). StoreHasCompacted clients v (moved_with s state n) (Ok tt) o o') c.self.view_is
+    let still : s.closed ≡ false = ap (λ (v : StoreValue). v.closed) c.self.view_is
+    ∙ c.requires.ready.still_open in
+    let settled = subst (λ (v : StoreValue). IsSettled clients v.state.facts) (sym c.self.view_is)
+    c.requires.settled in
+    let short =
+    short_is_two s (subst (λ (v : StoreValue). written_in v ≡ kind.Short) (sym c.self.view_is)
+    c.requires.short) in
+    let further = subst (λ (v : StoreValue). v.generation < 2 ^ 64 - 1) (sym c.self.view_is)
+    c.requires.generation in
+    subst (λ (v : StoreValue). StoreHasCompacted clients v (moved_with s state n) (Ok tt) o o')
+    c.self.view_is
     (record {
-      answer = shortens_at clients s state m n refl refl still settled further c.in-Ok.ensures.room c.forget.ensures.facts c.forget.ensures.answers c.in-Ok.ensures.next;
-      leads = leads_shortened clients s m o o' short c.self.invariant c.cite_laws.ensures.keeps state n tt settled c.forget.ensures.facts c.in-Ok.ensures.next.format_is c.in-Ok.ensures.compacts;
+      answer = shortens_at clients s state m n refl refl still settled further c.in-Ok.ensures.room
+          c.forget.ensures.facts c.forget.ensures.answers c.in-Ok.ensures.next;
+      leads = leads_shortened clients s m o o' short c.self.invariant c.cite_laws.ensures.keeps
+          state n tt settled c.forget.ensures.facts c.in-Ok.ensures.next.format_is
+          c.in-Ok.ensures.compacts;
     })
 
 pub returns-in-Ok-clause-ready : goal.returns-in-Ok-clause-ready
@@ -58,15 +79,24 @@ returns-in-Ok-clause-ready g c open' =
     let state = c.forget.new.self in
     let o = g.D.Disk.tells c.args.disk.now in
     let o' = g.D.Disk.tells c.compact.new.disk in
-    let settled = subst (λ (v : StoreValue). IsSettled clients v.state.facts) (sym c.self.view_is) c.requires.settled in
-    let short = short_is_two s (subst (λ (v : StoreValue). written_in v ≡ kind.Short) (sym c.self.view_is) c.requires.short) in
+    let settled = subst (λ (v : StoreValue). IsSettled clients v.state.facts) (sym c.self.view_is)
+    c.requires.settled in
+    let short =
+    short_is_two s (subst (λ (v : StoreValue). written_in v ≡ kind.Short) (sym c.self.view_is)
+    c.requires.short) in
     record {
       still_open = open';
-      knows = c.forget.ensures.knows clients (subst (λ (v : StoreValue). KnowsJudgements clients v.state) (sym c.self.view_is) c.requires.ready.knows);
+      knows =
+          c.forget.ensures.knows clients
+          (subst (λ (v : StoreValue). KnowsJudgements clients v.state) (sym c.self.view_is)
+          c.requires.ready.knows);
       fits =
           brief_fits clients s (moved_with s state n) (Ok tt) o o' c.in-Ok.ensures.run
-          (leads_shortened clients s m o o' short c.self.invariant c.cite_laws.ensures.keeps state n tt settled c.forget.ensures.facts c.in-Ok.ensures.next.format_is c.in-Ok.ensures.compacts)
-          (subst (λ (v : StoreValue). FitsSome clients v o.files) (sym c.self.view_is) c.requires.ready.fits) open';
+          (leads_shortened clients s m o o' short c.self.invariant c.cite_laws.ensures.keeps state n
+          tt settled c.forget.ensures.facts c.in-Ok.ensures.next.format_is
+          c.in-Ok.ensures.compacts)
+          (subst (λ (v : StoreValue). FitsSome clients v o.files) (sym c.self.view_is)
+          c.requires.ready.fits) open';
     }
 
 pub returns-in-Err-Full-clause-compacted : goal.returns-in-Err-Full-clause-compacted
@@ -76,12 +106,17 @@ returns-in-Err-Full-clause-compacted g c =
     let m = c.self.inside.journal in
     let o = g.D.Disk.tells c.args.disk.now in
     let o' = g.D.Disk.tells c.compact.new.disk in
-    let short = short_is_two s (subst (λ (v : StoreValue). written_in v ≡ kind.Short) (sym c.self.view_is) c.requires.short) in
-    let over = subst (λ (e : CompactionFault). WeighsAccount clients s.state.facts s.limit (Err e)) c.in-Err-Full.field-0-is c.in-Err-Full.ensures.room in
+    let short =
+    short_is_two s (subst (λ (v : StoreValue). written_in v ≡ kind.Short) (sym c.self.view_is)
+    c.requires.short) in
+    let over = subst (λ (e : CompactionFault). WeighsAccount clients s.state.facts s.limit (Err e))
+    c.in-Err-Full.field-0-is c.in-Err-Full.ensures.room in
     subst (λ (v : StoreValue). StoreHasCompacted clients v v (Err fault.Full) o o') c.self.view_is
     (record {
       answer = (inr over, refl);
-      leads = leads_full clients s m o o' short c.self.invariant (subst (λ (e : CompactionFault). GivesBrief clients s m (Err e) o o') c.in-Err-Full.field-0-is c.in-Err-Full.ensures.compacts);
+      leads = leads_full clients s m o o' short c.self.invariant
+          (subst (λ (e : CompactionFault). GivesBrief clients s m (Err e) o o')
+          c.in-Err-Full.field-0-is c.in-Err-Full.ensures.compacts);
     })
 
 pub returns-in-Err-Full-clause-ready : goal.returns-in-Err-Full-clause-ready
@@ -91,14 +126,20 @@ returns-in-Err-Full-clause-ready g c open' =
     let m = c.self.inside.journal in
     let o = g.D.Disk.tells c.args.disk.now in
     let o' = g.D.Disk.tells c.compact.new.disk in
-    let short = short_is_two s (subst (λ (v : StoreValue). written_in v ≡ kind.Short) (sym c.self.view_is) c.requires.short) in
-    let leads = leads_full clients s m o o' short c.self.invariant (subst (λ (e : CompactionFault). GivesBrief clients s m (Err e) o o') c.in-Err-Full.field-0-is c.in-Err-Full.ensures.compacts) in
+    let short =
+    short_is_two s (subst (λ (v : StoreValue). written_in v ≡ kind.Short) (sym c.self.view_is)
+    c.requires.short) in
+    let leads = leads_full clients s m o o' short c.self.invariant
+    (subst (λ (e : CompactionFault). GivesBrief clients s m (Err e) o o')
+    c.in-Err-Full.field-0-is c.in-Err-Full.ensures.compacts) in
     record {
       still_open = open';
       knows = c.requires.ready.knows;
       fits =
           subst (λ (v : StoreValue). FitsSome clients v o'.files) c.self.view_is
-          (brief_fits clients s s (Err fault.Full) o o' c.in-Err-Full.ensures.run leads (subst (λ (v : StoreValue). FitsSome clients v o.files) (sym c.self.view_is) c.requires.ready.fits)
+          (brief_fits clients s s (Err fault.Full) o o' c.in-Err-Full.ensures.run leads
+          (subst (λ (v : StoreValue). FitsSome clients v o.files) (sym c.self.view_is)
+          c.requires.ready.fits)
           (ap (λ (v : StoreValue). v.closed) c.self.view_is ∙ open'));
     }
 
@@ -109,12 +150,17 @@ returns-in-Err-Memory-clause-compacted g c =
     let m = c.self.inside.journal in
     let o = g.D.Disk.tells c.args.disk.now in
     let o' = g.D.Disk.tells c.compact.new.disk in
-    let short = short_is_two s (subst (λ (v : StoreValue). written_in v ≡ kind.Short) (sym c.self.view_is) c.requires.short) in
-    let further = subst (λ (v : StoreValue). v.generation < 2 ^ 64 - 1) (sym c.self.view_is) c.requires.generation in
+    let short =
+    short_is_two s (subst (λ (v : StoreValue). written_in v ≡ kind.Short) (sym c.self.view_is)
+    c.requires.short) in
+    let further = subst (λ (v : StoreValue). v.generation < 2 ^ 64 - 1) (sym c.self.view_is)
+    c.requires.generation in
     subst (λ (v : StoreValue). StoreHasCompacted clients v v (Err fault.Memory) o o') c.self.view_is
     (record {
       answer = (further, refl);
-      leads = leads_wanting clients s m o o' short c.self.invariant (subst (λ (e : CompactionFault). GivesBrief clients s m (Err e) o o') c.in-Err-Memory.field-0-is c.in-Err-Memory.ensures.compacts);
+      leads = leads_wanting clients s m o o' short c.self.invariant
+          (subst (λ (e : CompactionFault). GivesBrief clients s m (Err e) o o')
+          c.in-Err-Memory.field-0-is c.in-Err-Memory.ensures.compacts);
     })
 
 pub returns-in-Err-Memory-clause-ready : goal.returns-in-Err-Memory-clause-ready
@@ -124,14 +170,20 @@ returns-in-Err-Memory-clause-ready g c open' =
     let m = c.self.inside.journal in
     let o = g.D.Disk.tells c.args.disk.now in
     let o' = g.D.Disk.tells c.compact.new.disk in
-    let short = short_is_two s (subst (λ (v : StoreValue). written_in v ≡ kind.Short) (sym c.self.view_is) c.requires.short) in
-    let leads = leads_wanting clients s m o o' short c.self.invariant (subst (λ (e : CompactionFault). GivesBrief clients s m (Err e) o o') c.in-Err-Memory.field-0-is c.in-Err-Memory.ensures.compacts) in
+    let short =
+    short_is_two s (subst (λ (v : StoreValue). written_in v ≡ kind.Short) (sym c.self.view_is)
+    c.requires.short) in
+    let leads = leads_wanting clients s m o o' short c.self.invariant
+    (subst (λ (e : CompactionFault). GivesBrief clients s m (Err e) o o')
+    c.in-Err-Memory.field-0-is c.in-Err-Memory.ensures.compacts) in
     record {
       still_open = open';
       knows = c.requires.ready.knows;
       fits =
           subst (λ (v : StoreValue). FitsSome clients v o'.files) c.self.view_is
-          (brief_fits clients s s (Err fault.Memory) o o' c.in-Err-Memory.ensures.run leads (subst (λ (v : StoreValue). FitsSome clients v o.files) (sym c.self.view_is) c.requires.ready.fits)
+          (brief_fits clients s s (Err fault.Memory) o o' c.in-Err-Memory.ensures.run leads
+          (subst (λ (v : StoreValue). FitsSome clients v o.files) (sym c.self.view_is)
+          c.requires.ready.fits)
           (ap (λ (v : StoreValue). v.closed) c.self.view_is ∙ open'));
     }
 
@@ -143,11 +195,18 @@ returns-in-Err-DiskFault-clause-compacted g c =
     let new : StoreValue = record s { closed = true } in
     let o = g.D.Disk.tells c.args.disk.now in
     let o' = g.D.Disk.tells c.compact.new.disk in
-    let short = short_is_two s (subst (λ (v : StoreValue). written_in v ≡ kind.Short) (sym c.self.view_is) c.requires.short) in
-    let further = subst (λ (v : StoreValue). v.generation < 2 ^ 64 - 1) (sym c.self.view_is) c.requires.generation in
-    let room = subst (λ (e : CompactionFault). WeighsAccount clients s.state.facts s.limit (Err e)) c.in-Err-DiskFault.field-0-is c.in-Err-DiskFault.ensures.room in
-    subst (λ (v : StoreValue). StoreHasCompacted clients v new (Err fault.DiskFault) o o') c.self.view_is
+    let short =
+    short_is_two s (subst (λ (v : StoreValue). written_in v ≡ kind.Short) (sym c.self.view_is)
+    c.requires.short) in
+    let further = subst (λ (v : StoreValue). v.generation < 2 ^ 64 - 1) (sym c.self.view_is)
+    c.requires.generation in
+    let room = subst (λ (e : CompactionFault). WeighsAccount clients s.state.facts s.limit (Err e))
+    c.in-Err-DiskFault.field-0-is c.in-Err-DiskFault.ensures.room in
+    subst (λ (v : StoreValue). StoreHasCompacted clients v new (Err fault.DiskFault) o o')
+    c.self.view_is
     (record {
       answer = (record { generation = further; roomy = room }, refl);
-      leads = leads_broken clients s m o o' short c.self.invariant new refl (subst (λ (e : CompactionFault). GivesBrief clients s m (Err e) o o') c.in-Err-DiskFault.field-0-is c.in-Err-DiskFault.ensures.compacts);
+      leads = leads_broken clients s m o o' short c.self.invariant new refl
+          (subst (λ (e : CompactionFault). GivesBrief clients s m (Err e) o o')
+          c.in-Err-DiskFault.field-0-is c.in-Err-DiskFault.ensures.compacts);
     })

@@ -4,9 +4,12 @@ use Rattle.sync_world.proofs.player.Player.print.Goals as goal
 
 pub returns-in-Ok : goal.returns-in-Ok
 returns-in-Ok g c =
-    prints_all c.args.self.now (string_bytes c.in_ok-text.text) c.as_str.result.now _ _ c.many_devices_stand.ensures c.in_ok-text.ensures c.as_str.ensures.value c.in-Ok.ensures.ok
+    prints_all c.args.self.now (string_bytes c.in_ok-text.text) c.as_str.result.now _ _
+    c.many_devices_stand.ensures c.in_ok-text.ensures c.as_str.ensures.value c.in-Ok.ensures.ok
 
 pub returns : goal.returns
 returns g c =
-    prints_front c.args.self.now (string_bytes c.in_ok-text.text) c.as_str.result.now _ _ c.many_devices_stand.ensures c.in_ok-text.ensures c.as_str.ensures.value c.in-Err.ensures.cause.failed
+    prints_front c.args.self.now (string_bytes c.in_ok-text.text) c.as_str.result.now _ _
+    c.many_devices_stand.ensures c.in_ok-text.ensures c.as_str.ensures.value
+    c.in-Err.ensures.cause.failed
     c.in-Err.ensures.gets.0

@@ -8,7 +8,8 @@ use Rattle.sync_world.proofs.stage.Stage.cut.Goals as goal
 pub returns-clause-links : goal.returns-clause-links
 returns-clause-links c =
     let within : c.args.link < length c.args.self.now.links.items = omega arith in
-    becomes_at link_cut c.args.link c.args.self.now.links.items c.index_mut.result.now c.cut_link.new.link c.cut_link.result within c.index_mut.ensures.value c.cut_link.ensures
+    becomes_at link_cut c.args.link c.args.self.now.links.items c.index_mut.result.now
+    c.cut_link.new.link c.cut_link.result within c.index_mut.ensures.value c.cut_link.ensures
 
 pub returns-then-link-len-clause-goes : goal.returns-then-link-len-clause-goes
 returns-then-link-len-clause-goes c = λ w s. same_leads w _ _ _ s
@@ -16,5 +17,7 @@ returns-then-link-len-clause-goes c = λ w s. same_leads w _ _ _ s
 pub returns-clause-goes : goal.returns-clause-goes
 returns-clause-goes c =
     let within : c.args.link < length c.args.self.now.links.items = omega arith in
-    let becomes = becomes_at link_cut c.args.link c.args.self.now.links.items c.index_mut.result.now c.cut_link.new.link c.cut_link.result within c.index_mut.ensures.value c.cut_link.ensures in
-    λ w s. cut_leads c.cite_laws.ensures.worlds c.args.link c.args.self.now.devices.items c.args.self.now.links.items _ c.cut_link.result becomes w s
+    let becomes = becomes_at link_cut c.args.link c.args.self.now.links.items c.index_mut.result.now
+    c.cut_link.new.link c.cut_link.result within c.index_mut.ensures.value c.cut_link.ensures in
+    λ w s. cut_leads c.cite_laws.ensures.worlds c.args.link c.args.self.now.devices.items
+    c.args.self.now.links.items _ c.cut_link.result becomes w s

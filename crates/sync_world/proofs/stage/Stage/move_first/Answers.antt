@@ -8,7 +8,9 @@ use Rattle.sync_world.proofs.stage.Stage.move_first.Goals as goal
 pub returns-clause-links : goal.returns-clause-links
 returns-clause-links c =
     let within : c.args.link < length c.args.self.now.links.items = omega arith in
-    becomes_at (link_moved c.args.how c.args.d) c.args.link c.args.self.now.links.items c.index_mut.result.now c.move_on.new.link c.move_on.result within c.index_mut.ensures.value c.move_on.ensures
+    becomes_at (link_moved c.args.how c.args.d) c.args.link c.args.self.now.links.items
+    c.index_mut.result.now c.move_on.new.link c.move_on.result within c.index_mut.ensures.value
+    c.move_on.ensures
 
 pub returns-then-link-len-clause-goes : goal.returns-then-link-len-clause-goes
 returns-then-link-len-clause-goes c = λ w s. same_leads w _ _ _ s
@@ -16,5 +18,8 @@ returns-then-link-len-clause-goes c = λ w s. same_leads w _ _ _ s
 pub returns-clause-goes : goal.returns-clause-goes
 returns-clause-goes c =
     let within : c.args.link < length c.args.self.now.links.items = omega arith in
-    let becomes = becomes_at (link_moved c.args.how c.args.d) c.args.link c.args.self.now.links.items c.index_mut.result.now c.move_on.new.link c.move_on.result within c.index_mut.ensures.value c.move_on.ensures in
-    λ w s. move_leads c.cite_laws.ensures.worlds c.args.how c.args.d c.args.link c.args.self.now.devices.items c.args.self.now.links.items _ c.move_on.result becomes w s
+    let becomes = becomes_at (link_moved c.args.how c.args.d) c.args.link
+    c.args.self.now.links.items c.index_mut.result.now c.move_on.new.link c.move_on.result
+    within c.index_mut.ensures.value c.move_on.ensures in
+    λ w s. move_leads c.cite_laws.ensures.worlds c.args.how c.args.d c.args.link
+    c.args.self.now.devices.items c.args.self.now.links.items _ c.move_on.result becomes w s

@@ -17,30 +17,44 @@ pub returns-in_err-restart-clause-goes : goal.returns-in_err-restart-clause-goes
 returns-in_err-restart-clause-goes c =
     let within : c.args.d < length c.args.self.now.devices.items = omega arith in
     let laws = c.cite_laws.ensures in
-    λ w s. leads_err _ c.in_err-restart.field-0.0 w _ _ c.from_residual.ensures.1 (fails_leads laws.records laws.grows c.args.self.now.devices.items c.args.self.now.links.items c.args.d c.index_mut-device.result.now c.restart.new.self within c.index_mut-device.ensures.value c.restart.ensures.runs c.in_err-restart.field-0.0
-    (unrefused_same c.in_err-restart.field-0.0 c.index_mut-device.result.now c.restart.new.self c.in_err-restart.ensures.unrefused) w s)
+    λ w s. leads_err _ c.in_err-restart.field-0.0 w _ _ c.from_residual.ensures.1
+    (fails_leads laws.records laws.grows c.args.self.now.devices.items
+    c.args.self.now.links.items c.args.d c.index_mut-device.result.now c.restart.new.self
+    within c.index_mut-device.ensures.value c.restart.ensures.runs
+    c.in_err-restart.field-0.0
+    (unrefused_same c.in_err-restart.field-0.0 c.index_mut-device.result.now c.restart.new.self
+    c.in_err-restart.ensures.unrefused) w s)
 
 pub returns-clause-goes : goal.returns-clause-goes
 returns-clause-goes c =
     let within : c.args.d < length c.args.self.now.devices.items = omega arith in
     let laws = c.cite_laws.ensures in
-    λ w s. gone_goes laws.records laws.grows c.args.self.now.devices.items c.args.self.now.links.items c.args.d c.index_mut-device.result.now c.restart.new.self within c.index_mut-device.ensures.value c.restart.ensures.runs
-    c.in_ok-restart.ensures.running c.in_ok-restart.ensures.links _ _ c.came.ensures.devices c.came.ensures.links w s
+    λ w s. gone_goes laws.records laws.grows c.args.self.now.devices.items
+    c.args.self.now.links.items c.args.d c.index_mut-device.result.now c.restart.new.self within
+    c.index_mut-device.ensures.value c.restart.ensures.runs
+    c.in_ok-restart.ensures.running c.in_ok-restart.ensures.links _ _ c.came.ensures.devices
+    c.came.ensures.links w s
 
 pub returns-in_err-restart-clause-refused : goal.returns-in_err-restart-clause-refused
 returns-in_err-restart-clause-refused c =
     let by : RefusedBy false c.from_residual.result = search rules in
-    by_same false _ _ (found c.args.self.now.devices.items c.args.d c.index_mut-device.result.now (omega arith) c.index_mut-device.ensures.value) by
+    by_same false _ _ (found c.args.self.now.devices.items c.args.d c.index_mut-device.result.now
+    (omega arith) c.index_mut-device.ensures.value) by
 
 pub returns-clause-refused : goal.returns-clause-refused
-returns-clause-refused c = by_same false _ _ (found c.args.self.now.devices.items c.args.d c.index_mut-device.result.now (omega arith) c.index_mut-device.ensures.value) tt
+returns-clause-refused c =
+    by_same false _ _ (found c.args.self.now.devices.items c.args.d c.index_mut-device.result.now
+    (omega arith) c.index_mut-device.ensures.value) tt
 
 pub returns-clause-does : goal.returns-clause-does
 returns-clause-does c =
     let within : c.args.d < length c.args.self.now.devices.items = omega arith in
     record {
-      does = device_does (λ (was is : DeviceValue). DeviceRestarts (Ok tt) was is) c.args.d ran.Crashed c.args.self.now.devices.items _ c.args.self.now.links.items _ c.index_mut-device.result.now c.restart.new.self
-          within c.index_mut-device.ensures.value c.in_ok-restart.ensures.restarts c.came.ensures.devices c.came.ensures.links;
+      does = device_does (λ (was is : DeviceValue). DeviceRestarts (Ok tt) was is) c.args.d
+          ran.Crashed c.args.self.now.devices.items _ c.args.self.now.links.items _
+          c.index_mut-device.result.now c.restart.new.self
+          within c.index_mut-device.ensures.value c.in_ok-restart.ensures.restarts
+          c.came.ensures.devices c.came.ensures.links;
       groups = c.came.ensures.groups;
       posts = c.came.ensures.posts;
     }

@@ -8,4 +8,5 @@ pub returns : goal.returns
 returns c =
     let laws = c.many_devices.ensures in
     subst (λ (s : Stage). IsManyDevices s.devices.items) c.self.view_is
-    (many_of laws.sound laws.seen laws.written laws.rest c.self.inside.stage c.self.invariant (subst AllLinksStand c.as_slice.ensures.value c.links_stand_on.ensures))
+    (many_of laws.sound laws.seen laws.written laws.rest c.self.inside.stage c.self.invariant
+    (subst AllLinksStand c.as_slice.ensures.value c.links_stand_on.ensures))

@@ -6,7 +6,11 @@ use Rattle.sync_ids.specs.declared.lists.TheConstants.{MAX_IDS}
 pub returns-in_ok-ids : goal.returns-in_ok-ids
 returns-in_ok-ids c =
     c.in_ok-ids.ensures
-    ∙ (ap (take MAX_IDS) c.as_slice.ensures.keys ∙ all_offered c.args.self.now.group c.args.self.now.ids.keys c.args._now c.args.contact c.if-is_first.ensures)
+    ∙ (ap (take MAX_IDS) c.as_slice.ensures.keys
+    ∙ all_offered c.args.self.now.group c.args.self.now.ids.keys c.args._now c.args.contact
+    c.if-is_first.ensures)
 
 pub returns-else-is_first : goal.returns-else-is_first
-returns-else-is_first c = c.new.ensures.items ∙ none_offered c.args.self.now.group c.args.self.now.ids.keys c.args._now c.args.contact (sym c.if-is_first.ensures)
+returns-else-is_first c =
+    c.new.ensures.items ∙ none_offered c.args.self.now.group c.args.self.now.ids.keys c.args._now
+    c.args.contact (sym c.if-is_first.ensures)

@@ -1,0 +1,60 @@
+-- What work leaves, whatever was heard: nothing falls, the store keeps its limit and its format, and
+-- behind a fault it is ready or the disk failed.
+use Rattle.std.specs.Prelude.{◌≡◌, ℕ, List, Result, Ok, Err}
+use Rattle.outside.specs.Faults.{CountRose}
+use Rattle.outside.specs.Outside.{Outside}
+use Rattle.sync_rules.specs.Clients.{Meaning}
+use Rattle.sync_rules.specs.Steps.{IsSettled}
+use Rattle.sync_store.specs.Ready.{IsReady}
+use Rattle.sync_store.specs.Store.{StoreValue}
+use Rattle.sync_node.specs.declared.fault.Fault.{Fault}
+use Rattle.sync_node.specs.declared.fault.Fault.TheVariants as fault
+use Rattle.sync_node.specs.declared.link.Link.{Link}
+use Rattle.sync_node.specs.Causes.{LinkGoes, LinksGo, sessions_of}
+use Rattle.sync_node.specs.Node.{AreAttached, MayGoOn}
+
+-- by the fault of work on a store: where memory or room was wanting the store is ready; else a call
+-- of the disk failed, and the count of its failures rose
+abbrev pub IsReadyOrRose : Meaning → StoreValue → Outside → Outside → Fault → Type 0
+IsReadyOrRose clients s o o' fault.Memory = IsReady clients s o'.files
+IsReadyOrRose clients s o o' fault.Full = IsReady clients s o'.files
+IsReadyOrRose clients s o o' fault.DiskFault = CountRose o.disk_faults o'.disk_faults
+
+-- by what work answers: it has this, or it stopped so
+abbrev pub HasOrStops : {T : Type 0} → Type 0 → Meaning → StoreValue → Outside → Outside
+    → Result T Fault → Type 0
+HasOrStops Has clients s o o' (Ok _) = Has
+HasOrStops Has clients s o o' (Err e) = IsReadyOrRose clients s o o' e
+
+pub record StoreKeeps {T : Type 0} (Has : Type 0) (clients : Meaning) (s s' : StoreValue)
+    (o o' : Outside) (result : Result T Fault) : Type 0 where
+  pub same_limit : s'.limit ≡ s.limit
+  pub same_format : s'.format ≡ s.format
+  pub answered : HasOrStops Has clients s' o o' result
+
+-- the store is ready and settled, and its sessions are those of before
+pub record StaysSettled (clients : Meaning) (s s' : StoreValue) (o' : Outside) : Type 0 where
+  pub ready : IsReady clients s' o'.files
+  pub settled : IsSettled clients s'.state.facts
+  pub same_sessions : s'.state.facts.sessions ≡ s.state.facts.sessions
+  pub same_begun : s'.state.facts.begun ≡ s.state.facts.begun
+
+-- of work on one link
+pub record LinkKeeps {T : Type 0} (clients : Meaning) (number : ℕ) (l l' : Link) (s s' : StoreValue)
+    (o o' : Outside) (result : Result T Fault) : Type 0 where
+  pub link : LinkGoes number l l' o o'
+  pub store : StoreKeeps (StaysSettled clients s s' o') clients s s' o o' result
+
+-- links that were attached are attached still, and may go on
+pub record StayAttached (clients : Meaning) (links links' : List Link) (s s' : StoreValue)
+    (o' : Outside) : Type 0 where
+  pub may : MayGoOn clients links' s' o'
+  pub attached : (first : ℕ) → AreAttached first links s.state.facts
+      → AreAttached first links' s'.state.facts
+
+-- of work on all links
+pub record LinksKeep {T : Type 0} (clients : Meaning) (links links' : List Link) (s s' : StoreValue)
+    (o o' : Outside) (result : Result T Fault) : Type 0 where
+  pub go : LinksGo links links' o o'
+  pub same_sessions : sessions_of links' ≡ sessions_of links
+  pub store : StoreKeeps (StayAttached clients links links' s s' o') clients s s' o o' result
