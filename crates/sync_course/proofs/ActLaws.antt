@@ -1,5 +1,5 @@
 -- Lists of acts: what two parts of one add up to.
-use Rattle.std.proofs.Common.{◌≡◌, ℕ, cond, nat_eq, List, [], ◌∷◌, ◌++◌, append-nil, append_assoc, refl, sym, ◌∙◌, ap, subst, inl, inr}
+use Rattle.std.proofs.Common.{◌≡◌, ℕ, List, [], ◌∷◌, ◌++◌, append_assoc, refl, sym, ◌∙◌, ap, inl, inr}
 use Rattle.outside.specs.Runs.{IsFront}
 use Rattle.sync_rules.specs.declared.entries.Entry.{Entry}
 use Rattle.sync_course.specs.Acts.{Act, Does, Send, Fail, batches_in, commit_acts, event_of, events_of, next_bytes, sends_on, sent_by}
@@ -44,10 +44,6 @@ batches_in_commits bs =
 pub commits_send : (link : ℕ) (bs : List (List Entry)) → sends_on link (commit_acts bs) ≡ []
 commits_send link [] = refl
 commits_send link (b ∷ bs) = commits_send link bs
-
-pub commits_next : (link : ℕ) (bs : List (List Entry)) → next_bytes link (commit_acts bs) ≡ []
-commits_next link [] = refl
-commits_next link (b ∷ bs) = refl
 
 -- a front of what the next act is to send, where more acts come behind
 pub next_wide : (link : ℕ) (part : List ℕ) (acts bs : List Act) → IsFront part (next_bytes link acts)

@@ -22,7 +22,7 @@ use Rattle.sync_course.specs.Links.{Link, is_going}
 use Rattle.sync_course.specs.LinkTurns.{Asks, Takes, Waits, Sends, Puts, Done, Doing, PassesItem, SendsNext, Spot, StepOf, TakesNext, heard_spot, out_batch}
 use Rattle.sync_course.specs.Turns.{Attaches, Between, Course, Ended, EndsTurn, GoesToNext, Greets, Place, RunStep, Settles, Stage, StageStep, Terms, TurnStep, Works, first_place, is_at_end, is_over, some_going, spot_of, turn_ended, with_spot}
 use Rattle.sync_course.specs.Pending.{pending_at}
-use Rattle.sync_course.proofs.RunLaws.{IsSound, first_sound, path_sound}
+use Rattle.sync_course.proofs.FreeSound.{run_counted}
 use Rattle.sync_course.specs.Quiet.{EndsQuiet, idle_answers, last_reading}
 use Rattle.sync_course.proofs.QuietLaws.{BetweenTurns, IsStillAt, path_still}
 use Rattle.sync_course.specs.Suits.{IsCounted, AreRecordsTaken, keeps_all}
@@ -174,8 +174,8 @@ course_ends_quiet go_on join clients terms sessions j events last legal course o
     let still : BetweenTurns clients terms (λ i. idle_answers i events) (λ i. last_reading i events) last =
     subst (λ (st : Stage). IsStillAt clients terms (λ i. idle_answers i events) (λ i. last_reading i events) st last) course.at_end
     (path_still clients terms (λ i. 0) (λ i. None) start last events course.path refl) in
-    let sound : IsSound clients terms.first sessions last =
-    path_sound go_on join clients terms sessions start last events course.path (first_sound clients terms.first sessions j legal course.numbered) in
+    let counted = run_counted go_on join clients terms sessions j events last legal
+    (record { numbered = course.numbered; path = course.path }) in
     let parts = and_parts (nat_lt 0 last.still) (not (some_going last.links) || nat_le terms.quiet last.still) over in
     let some : 0 < last.still = ltb-true 0 last.still parts.0 in
     record {
@@ -190,5 +190,5 @@ course_ends_quiet go_on join clients terms sessions j events last legal course o
       all_taken = λ i link at keeps.
           all_counted last.facts (terms.first + i) link keeps
           (subst (λ (its : List Item). IsCounted last.facts (terms.first + i) its link)
-          (ap (λ (st : Stage). pending_at st i) course.at_end) (sound.counted i link at));
+          (ap (λ (st : Stage). pending_at st i) course.at_end) (counted i link at));
     }

@@ -1,5 +1,5 @@
 -- A link on which a call failed stands Failed from then on, and no other link does; nothing is committed for one.
-use Rattle.std.proofs.Common.{◌≡◌, ◌⊎◌, ℕ, zero, suc, ◌+◌, ◌<◌, Bool, true, false, cond, ◌||◌, nat_eq, eq-eqb, eqb-true, List, [], ◌∷◌, ◌++◌, length, append-nil, refl, sym, ◌∙◌, ap, subst, inl, inr, arith, Option, None, Some}
+use Rattle.std.proofs.Common.{◌≡◌, ◌⊎◌, ℕ, zero, suc, ◌+◌, Bool, true, false, cond, ◌||◌, nat_eq, eq-eqb, eqb-true, List, [], ◌∷◌, ◌++◌, length, refl, sym, ◌∙◌, ap, subst, inl, inr, Some}
 use Rattle.std.specs.Prelude.{slice_get, slice_set}
 use Rattle.std.proofs.lemmas.Bool.{cases_eq, false≢true, ne_eqb, or_cases, or_left, or_right}
 use Rattle.outside.specs.Links.{Reply, got, idle, ended}
@@ -8,7 +8,6 @@ use Rattle.record_grammar.specs.declared.stream.Ending.{Ending}
 use Rattle.record_grammar.specs.declared.stream.Ending.TheVariants as ending_kind
 use Rattle.record_grammar.specs.declared.stream.Item.{Item}
 use Rattle.record_grammar.specs.declared.stream.Item.TheVariants as item
-use Rattle.sync_ids.specs.declared.records.Record.{Record}
 use Rattle.sync_rules.specs.declared.entries.Entry.{Entry}
 use Rattle.sync_rules.specs.declared.entries.Session.{Session}
 use Rattle.sync_rules.specs.Clients.{Meaning}
@@ -18,14 +17,14 @@ use Rattle.sync_course.specs.declared.ends.LinkEnd.{LinkEnd}
 use Rattle.sync_course.specs.declared.ends.LinkEnd.TheVariants as end
 use Rattle.sync_course.specs.Events.{Event, Commit, Hear, Miss, Read, Break, Pass, has_failure, is_failure}
 use Rattle.sync_course.specs.Free.{Begins, Free, FreeStep, Hold, HoldStep, Holds, IsNothingUnderWay, TakesUpOrCloses, Rests, first_free, holding, joined_by, spot_in}
-use Rattle.sync_course.specs.Links.{Link, closed_from, closes, is_beaten, is_going, is_sent_to, items_after, link_of, new_items, stands_behind, stands_ended, without_redundant}
+use Rattle.sync_course.specs.Links.{Link, closed_from, closes, is_beaten, is_going, is_sent_to, link_of, new_items, stands_behind, stands_ended, without_redundant}
 use Rattle.sync_course.specs.LinkTurns.{Asks, Takes, Waits, Sends, Puts, Done, Doing, LinkStep, PassesItem, SendsNext, Spot, StepOf, TakesNext, failed_spot, heard_spot}
 use Rattle.sync_course.specs.Paths.{Path}
 use Rattle.sync_course.specs.Story.{LinkFailed}
 use Rattle.sync_course.proofs.FreeSound.{from_cases}
 use Rattle.sync_course.proofs.LiftLaws.{get_other, get_set, get_within}
 use Rattle.sync_course.proofs.PathLaws.{path_keeps}
-use Rattle.sync_course.proofs.RunLaws.{IsClosedFrom, beaten_going, get_front, get_middle, get_push_cases, redundant_get}
+use Rattle.sync_course.proofs.RunLaws.{beaten_going, get_front, get_middle, get_push_cases, redundant_get}
 use Rattle.sync_course.proofs.ToldLaws.{has_failure-append}
 
 -- ---- one link
@@ -54,9 +53,6 @@ going_opens (it ∷ its) stands going = going
 
 not_going : {A : Type 0} → (stands : LinkEnd) → stands ≡ end.Failed → is_going stands ≡ true → A
 not_going stands failed going = absurd (false≢true (ap is_going (sym failed) ∙ going))
-
-not_sent_to : {A : Type 0} → (stands : LinkEnd) → stands ≡ end.Failed → is_sent_to stands ≡ true → A
-not_sent_to stands failed is = absurd (false≢true (ap is_sent_to (sym failed) ∙ is))
 
 ended_stands : {A : Type 0} → (e : Ending) → stands_ended e ≡ end.Failed → A
 ended_stands ending_kind.Clean is = cc

@@ -1,13 +1,12 @@
 -- What every place of a node keeps: its journal is legal, the sessions that began are those of its links, and on each link the
 -- records taken are a front of those heard.
-use Rattle.std.proofs.Common.{◌≡◌, ◌⊎◌, ℕ, zero, suc, ◌+◌, Bool, true, false, cond, nat_eq, eq-eqb, List, [], ◌∷◌, ◌++◌, length, length-append, refl, sym, ◌∙◌, ap, subst, inl, inr, arith, Option, None, Some}
+use Rattle.std.proofs.Common.{◌≡◌, ◌⊎◌, ℕ, zero, suc, ◌+◌, Bool, true, false, cond, nat_eq, eq-eqb, List, [], ◌∷◌, ◌++◌, length, length-append, refl, sym, ◌∙◌, ap, subst, inl, inr, arith, Some}
 use Rattle.std.specs.Prelude.{slice_get, slice_set}
 use Rattle.std.proofs.lemmas.Bool.{cases_eq, ne_eqb}
 use Rattle.outside.specs.Links.{Reply, got, idle, ended}
 use Rattle.record_grammar.specs.Laws.{RecordsJoin, StreamsGoOn}
 use Rattle.record_grammar.specs.declared.stream.Item.{Item}
 use Rattle.record_grammar.specs.declared.stream.Item.TheVariants as item
-use Rattle.sync_ids.specs.declared.records.Record.{Record}
 use Rattle.sync_rules.specs.declared.entries.Entry.{Entry}
 use Rattle.sync_rules.specs.declared.entries.Entry.TheVariants as entry
 use Rattle.sync_rules.specs.declared.entries.Session.{Session}
@@ -19,16 +18,19 @@ use Rattle.sync_rules.proofs.WorkLaws.{allowed_settling}
 use Rattle.sync_course.specs.declared.ends.LinkEnd.{LinkEnd}
 use Rattle.sync_course.specs.declared.ends.LinkEnd.TheVariants as end
 use Rattle.sync_course.specs.Events.{Event, Commit, Hear, Miss, Read, Break, Pass, batches_of}
-use Rattle.sync_course.specs.Free.{Begins, Free, FreeFrom, FreeStep, Hold, HoldStep, Holds, IsNothingUnderWay, IsPlain, LinkMoves, TakesUpOrCloses, Rests, TakesInHand, TurnsToSend, first_free, holding, joined_by, spot_in}
+use Rattle.sync_course.specs.Free.{Begins, Free, FreeFrom, FreeStep, Hold, HoldStep, Holds, IsNothingUnderWay, IsPlain, TakesUpOrCloses, Rests, first_free, forget, hold_at, holding, joined_by, spot_in}
 use Rattle.sync_course.specs.Links.{Link, closed_from, link_of, without_redundant}
 use Rattle.sync_course.specs.LinkTurns.{Asks, Takes, Waits, Sends, Puts, Done, Doing, LinkStep, PassesItem, SendsNext, Spot, StepOf, TakesNext, heard_spot, next_take}
 use Rattle.sync_course.specs.Paths.{Path}
-use Rattle.sync_course.specs.Pending.{pending}
+use Rattle.sync_course.specs.Pending.{pending, pending_at}
+use Rattle.sync_course.specs.Turns.{Attaches, Between, Broken, Ended, Greets, Place, RunStep, Settles, Stage, Terms, Works, first_place}
+use Rattle.sync_course.proofs.FreeLaws.{run_is_free}
 use Rattle.sync_course.specs.Suits.{IsCounted}
 use Rattle.sync_course.proofs.CountLaws.{counted_same, link_step_counted, link_step_leaves, settled_takes}
 use Rattle.sync_course.proofs.LiftLaws.{get_other, get_set, get_within}
-use Rattle.sync_course.proofs.MoveLaws.{Moves as MovesOn, link_step_moves, moves_none, moves_one}
-use Rattle.sync_course.proofs.RunLaws.{IsClosedFrom, IsOfJournal, cond_same, ended_counted, get_push_cases, journal_moves, new_counted, redundant_get, settled_begun, untaken}
+use Rattle.sync_course.proofs.MoveLaws.{Moves as MovesOn, link_step_moves, moves_none, moves_one, moves_then}
+use Rattle.sync_course.proofs.ToldLaws.{batches_of-append}
+use Rattle.sync_course.proofs.RunLaws.{IsOfJournal, cond_same, ended_counted, get_push_cases, journal_moves, new_counted, redundant_get, settled_begun, untaken}
 
 -- by an event: nothing happened, or nothing that is told of, or what is in hand made a step
 pub from_cases : (clients : Meaning) (first : ℕ) (T : Event → Type 0) (hold : Hold) (e : Event) (p q : Free) → FreeFrom clients first hold e p q
@@ -81,6 +83,21 @@ module _ (clients : Meaning) (first : ℕ) where
       (λ same. moves_none clients p.facts q.facts (ap (λ (x : Free). x.facts) same))
       (λ m. moves_none clients p.facts q.facts (moves_facts p.hold p q m))
       (λ h. hold_moves p.hold e p q h)
+
+  -- the batches of a path may follow one behind the other
+  pub free_path_moves : (p q : Free) (es : List Event) → Path (FreeStep clients first) p es q
+      → MovesOn clients (batches_of es) p.facts q.facts
+  free_path_moves p q [] path = moves_none clients p.facts q.facts (ap (λ (x : Free). x.facts) path)
+  free_path_moves p q (e ∷ es) path =
+      subst (λ (bs : List (List Entry)). MovesOn clients bs p.facts q.facts)
+      (sym (batches_of-append (e ∷ []) es))
+      (moves_then clients (batches_of (e ∷ [])) (batches_of es) p.facts path.0.facts q.facts
+      (free_moves p path.0 e path.1) (free_path_moves path.0 q es path.2))
+
+pub run_moves : (clients : Meaning) (terms : Terms) (p q : Place) (es : List Event)
+    → Path (RunStep clients terms) p es q → MovesOn clients (batches_of es) p.facts q.facts
+run_moves clients terms p q es path =
+    free_path_moves clients terms.first (forget p) (forget q) es (run_is_free clients terms p q es path)
 
 -- ---- how many sessions began
 
@@ -382,3 +399,28 @@ first_free_sound clients j legal = record {
   begun = let e : (facts j).begun ≡ (facts j).begun + 0 = omega arith in e;
   counted = λ i link at. cc;
 }
+
+-- ---- a run
+
+same_pending : (stage : Stage) (i : ℕ) → pending_in (hold_at stage) i ≡ pending_at stage i
+same_pending (Settles left) i = refl
+same_pending (Attaches left) i = refl
+same_pending (Greets s left) i = refl
+same_pending Between i = refl
+same_pending (Works n doing) i = refl
+same_pending Ended i = refl
+
+-- at each place of a run the records taken on a link are a front of those heard
+pub run_counted : StreamsGoOn → RecordsJoin → (clients : Meaning) (terms : Terms)
+    (sessions : List Session) (j : List (List Entry)) (events : List Event) (last : Place)
+    → Legal clients j → Broken clients terms sessions (facts j) events last → (i : ℕ) (link : Link)
+    → slice_get last.links i ≡ Some link
+    → IsCounted last.facts (terms.first + i) (pending_at last.stage i) link
+run_counted go_on join clients terms sessions j events last legal broken i link at =
+    let sound : IsFreeSound clients terms.first (forget last) =
+    free_path_sound go_on join clients terms.first (first_free (facts j)) (forget last) events
+    (run_is_free clients terms (first_place sessions (facts j)) last events broken.path)
+    (subst (λ (k : ℕ). IsFreeSound clients k (first_free (facts j))) (sym broken.numbered)
+    (first_free_sound clients j legal)) in
+    subst (λ (its : List Item). IsCounted last.facts (terms.first + i) its link)
+    (same_pending last.stage i) (sound.counted i link at)

@@ -1,7 +1,6 @@
 -- Each batch of a node suits it, and what a crash leaves in the middle of its acts stands.
-use Rattle.std.proofs.Common.{◌≡◌, ◌⊎◌, ℕ, zero, suc, ◌+◌, Bool, true, false, cond, nat_eq, eq-eqb, eqb-true, List, [], ◌∷◌, ◌++◌, length, length-append, append-nil, append_assoc, refl, sym, ◌∙◌, ap, subst, inl, inr, arith, Option, None, Some}
-use Rattle.std.specs.Prelude.{slice_get, slice_index_or, slice_set}
-use Rattle.std.proofs.lemmas.Bool.{cases_eq}
+use Rattle.std.proofs.Common.{◌≡◌, ℕ, zero, suc, ◌+◌, Bool, true, false, cond, nat_eq, eq-eqb, eqb-true, List, [], ◌∷◌, ◌++◌, length, length-append, append-nil, append_assoc, refl, sym, ◌∙◌, ap, subst, inl, inr, arith, Option, Some}
+use Rattle.std.specs.Prelude.{slice_get}
 use Rattle.outside.specs.Outside.{Moment}
 use Rattle.outside.specs.Runs as runs
 use Rattle.record_grammar.specs.Laws.{FrontsHaveFronts, RecordsJoin, StreamsGoOn}
@@ -13,26 +12,26 @@ use Rattle.sync_rules.specs.declared.entries.Session.{Session}
 use Rattle.sync_rules.specs.Clients.{Meaning}
 use Rattle.sync_rules.specs.Facts.{Facts, after_all, after_batches, facts}
 use Rattle.sync_rules.specs.Growth.{IsFront}
-use Rattle.sync_rules.specs.Legal.{Allowed, IsSettlingBatch, Legal}
+use Rattle.sync_rules.specs.Legal.{IsSettlingBatch, Legal}
 use Rattle.sync_rules.proofs.Continuing.{front_itself, front_then}
 use Rattle.sync_rules.proofs.StepLaws.{IsSettlingEntry, next_is_settling}
 use Rattle.sync_course.specs.Acts.{Act, AtFront, Does, Send, Fail, batches_in, events_of, next_bytes, sends_on}
 use Rattle.sync_course.specs.Events.{Event, Commit, Hear, Miss, Read, Break, Pass, batches_of}
-use Rattle.sync_course.specs.Free.{Begins, Free, FreeStep, Hold, HoldStep, Holds, IsPlain, LinkMoves, TakesUpOrCloses, Rests, first_free, holding, joined_by, spot_in}
-use Rattle.sync_course.specs.Links.{Link, link_of, without_redundant}
-use Rattle.sync_course.specs.LinkTurns.{Asks, Takes, Waits, Sends, Puts, Done, Doing, SendsNext, Spot, StepOf, TakesNext, next_take, out_batch}
-use Rattle.sync_course.specs.Owing.{ActStep, Owing, paid}
+use Rattle.sync_course.specs.Free.{Begins, Free, FreeStep, Hold, HoldStep, Holds, IsPlain, Rests, first_free, spot_in}
+use Rattle.sync_course.specs.Links.{Link}
+use Rattle.sync_course.specs.LinkTurns.{Asks, Takes, Waits, Sends, Puts, Done, Doing, SendsNext, Spot, StepOf, TakesNext}
+use Rattle.sync_course.specs.Owing.{Owing, paid}
 use Rattle.sync_course.specs.Paths.{Path}
 use Rattle.sync_course.specs.Pending.{pending}
 use Rattle.sync_course.specs.Story.{AllSuitNode, BeginsAsPlanned, FreeActs, MomentStands, SuitsNode, begun_by, heard_at}
 use Rattle.sync_course.specs.Suits.{IsCounted, SuitsCourse, heard_in}
 use Rattle.sync_course.proofs.ActLaws.{batches_in-append}
 use Rattle.sync_course.proofs.FreeSound.{IsBegunAt, IsFreeSound, added, first_free_sound, free_moves, free_sound, from_cases, link_step_begun, moves_facts, pending_in}
-use Rattle.sync_course.proofs.LiftLaws.{get_other, get_set, get_within}
+use Rattle.sync_course.proofs.HeardLaws.{bytes_of, free_path_adds}
 use Rattle.sync_course.proofs.PathLaws.{path_parts}
-use Rattle.sync_course.proofs.RunLaws.{get_middle, settled_begun}
+use Rattle.sync_course.proofs.RunLaws.{get_middle}
 use Rattle.sync_course.proofs.SendLaws.{ActsOn, HasSent, acts_sent, events_path, front_after, front_before, front_of_none, output}
-use Rattle.sync_course.proofs.SuitLaws.{closed_heard, front_same, more_heard, step_heard, takes_suits}
+use Rattle.sync_course.proofs.SuitLaws.{takes_suits}
 use Rattle.sync_course.proofs.ToldLaws.{batches_of-append}
 
 -- ---- what was heard only grows
@@ -40,62 +39,13 @@ use Rattle.sync_course.proofs.ToldLaws.{batches_of-append}
 abbrev pub FreeHeard : Free → Free → Type 0
 FreeHeard p q = (i : ℕ) → IsFront (heard_at p i) (heard_at q i)
 
-same_heard : (p q : Free) → q.links ≡ p.links → FreeHeard p q
-same_heard p q same = λ i. front_same (heard_at p i) (heard_at q i) (ap (λ (l : List Link). heard_in (slice_get l i)) same)
-
-joins_heard : (p q : Free) (new : Link) → q.links ≡ p.links ++ new ∷ [] → FreeHeard p q
-joins_heard p q new same = λ i.
-    subst (λ (l : List Link). IsFront (heard_at p i) (heard_in (slice_get l i))) (sym same)
-    (more_heard p.links new i (slice_get p.links i) refl)
-
-moves_heard : (p q : Free) → TakesUpOrCloses p.hold p q → FreeHeard p q
-moves_heard p q m =
-    elim m.1 [
-      | inl turns ↦ same_heard p q (ap (λ (x : Free). x.links) turns.leads)
-      | inr others ↦ elim others [
-        | inl sends ↦ same_heard p q (ap (λ (x : Free). x.links) sends.leads)
-        | inr closes ↦ λ i.
-            front_same (heard_at p i) (heard_at q i) (ap (λ (x : Free). heard_at x i) closes ∙ closed_heard p.links 0 p.links i)
-      ]
-    ]
-
 module _ (clients : Meaning) (first : ℕ) where
-  link_heard : (n : ℕ) (doing : Doing) (e : Event) (p q : Free) → LinkMoves clients first n doing e p q → FreeHeard p q
-  link_heard n doing e p q t = λ i.
-      let grows : IsFront t.link.heard t.spot.link.heard =
-      step_heard clients n (first + n) doing e (spot_in doing t.link t.moved p) t.spot t.steps in
-      subst (λ (x : Free). IsFront (heard_at p i) (heard_at x i)) (sym t.leads)
-      (elim (cases_eq i n) [
-        | inl same ↦
-            subst (λ (k : ℕ). IsFront (heard_at p k) (heard_in (slice_get (slice_set p.links n t.spot.link) k))) (sym same)
-            (subst (λ (o : Option Link). IsFront (heard_in o) (heard_in (slice_get (slice_set p.links n t.spot.link) n))) (sym t.there)
-            (subst (λ (o : Option Link). IsFront t.link.heard (heard_in o))
-            (sym (get_set p.links n t.spot.link (get_within p.links n t.link t.there))) grows))
-        | inr other ↦
-            front_same (heard_at p i) (heard_in (slice_get (slice_set p.links n t.spot.link) i))
-            (ap heard_in (get_other p.links n i t.spot.link other))
-      ])
-
-  hold_heard : (hold : Hold) (e : Event) (p q : Free) → HoldStep clients first hold e p q → FreeHeard p q
-  hold_heard Rests (Commit b) p q t =
-      elim t [
-        | inl adds ↦ same_heard p q (ap (λ (x : Free). x.links) adds.1)
-        | inr begins ↦ same_heard p q (ap (λ (x : Free). x.links) begins.leads)
-      ]
-  hold_heard (Begins x) Pass p q t = joins_heard p q _ (ap (λ (y : Free). y.links) t)
-  hold_heard (Begins x) (Break on) p q t = joins_heard p q _ (ap (λ (y : Free). y.links) t.1)
-  hold_heard (Holds n doing) e p q t = link_heard n doing e p q t
-  hold_heard _ _ p q t = absurd t
+  pub free_path_heard : (p q : Free) (es : List Event) → Path (FreeStep clients first) p es q → FreeHeard p q
+  free_path_heard p q es path = λ i.
+      record { more = bytes_of i es; goes_on = free_path_adds clients first es p q i path }
 
   pub free_heard : (p q : Free) (e : Event) → FreeStep clients first p e q → FreeHeard p q
-  free_heard p q e t =
-      from_cases clients first (λ (x : Event). FreeHeard p q) p.hold e p q t (λ same. same_heard p q (ap (λ (x : Free). x.links) same))
-      (λ m. moves_heard p q m) (λ h. hold_heard p.hold e p q h)
-
-  pub free_path_heard : (p q : Free) (es : List Event) → Path (FreeStep clients first) p es q → FreeHeard p q
-  free_path_heard p q [] path = same_heard p q (ap (λ (x : Free). x.links) path)
-  free_path_heard p q (e ∷ es) path = λ i.
-      front_then (heard_at p i) (heard_at path.0 i) (heard_at q i) (free_heard p path.0 e path.1 i) (free_path_heard path.0 q es path.2 i)
+  free_heard p q e step = free_path_heard p q (e ∷ []) (q, step, refl)
 
 -- ---- which sessions began
 

@@ -1,4 +1,3 @@
-pub mod Counted
 pub mod CallLaws
 pub mod EndLaws
 pub mod LiftLaws

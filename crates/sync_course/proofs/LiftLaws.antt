@@ -1,5 +1,5 @@
 -- A link's turn as a part of the run, and the steps of the run between the turns of its links.
-use Rattle.std.proofs.Common.{◌≡◌, ℕ, zero, suc, ◌+◌, ◌*◌, ◌<◌, Bool, true, false, cond, List, [], ◌∷◌, ◌++◌, length, refl, sym, ap, subst, inl, inr, arith, Option, None, Some}
+use Rattle.std.proofs.Common.{◌≡◌, ℕ, zero, suc, ◌+◌, ◌<◌, Bool, false, cond, List, [], ◌∷◌, ◌++◌, length, refl, sym, ap, subst, inl, inr, arith, Option, None, Some}
 use Rattle.std.specs.Prelude.{slice_get, slice_set}
 use Rattle.outside.specs.Outside.{Outside, MakesAtMost}
 use Rattle.outside.proofs.CallCounts.{most_none}
@@ -7,14 +7,14 @@ use Rattle.sync_rules.specs.declared.entries.Entry.{Entry}
 use Rattle.sync_rules.specs.declared.entries.Entry.TheVariants as entry
 use Rattle.sync_rules.specs.declared.entries.Session.{Session}
 use Rattle.sync_rules.specs.Clients.{Meaning}
-use Rattle.sync_rules.specs.Facts.{after_all, after_batches}
-use Rattle.sync_rules.specs.Legal.{Allowed, AllSettling}
+use Rattle.sync_rules.specs.Facts.{after_all}
+use Rattle.sync_rules.specs.Legal.{Allowed}
 use Rattle.sync_rules.specs.Steps.{IsSettled}
-use Rattle.sync_course.specs.Events.{Event, Commit, Break, Pass, commits, TellsEvents}
-use Rattle.sync_course.specs.Paths.{Path, RunsPath, BreaksPath}
+use Rattle.sync_course.specs.Events.{Event, Commit, Break, Pass, TellsEvents}
+use Rattle.sync_course.specs.Paths.{Path, RunsPath}
 use Rattle.sync_course.proofs.PathLaws.{path_maps, path_one}
 use Rattle.sync_course.proofs.ToldLaws.{told_pass}
-use Rattle.sync_course.proofs.CallLaws.{breaks_commits, runs_commits, runs_quiet}
+use Rattle.sync_course.proofs.CallLaws.{runs_commits, runs_quiet}
 use Rattle.sync_course.specs.Links.{Link}
 use Rattle.sync_course.specs.LinkTurns.{Asks, Doing, Done, LinkStep, Spot}
 use Rattle.sync_course.specs.Turns.{Attaches, Between, Ended, Greets, Place, RunStep, Settles, StageStep, Terms, TurnStep, Works, attached, is_at_end, spot_of, turn_ended, unattached, with_spot}
@@ -92,16 +92,6 @@ module _ (clients : Meaning) (terms : Terms) (n : ℕ) (place : Place) (within :
       calls = runs.calls;
     }
 
-    pub breaks_lifted : (p : Spot) (o o' : Outside) → BreaksPath (LinkStep clients n (terms.first + n)) Before After p o o'
-        → BreaksPath (RunStep clients terms) Before After (with_spot n p place) o o'
-    breaks_lifted p o o' breaks = record {
-      to = with_spot n breaks.to place;
-      next = breaks.next;
-      beyond = with_spot n breaks.beyond place;
-      goes_on = link_lifts breaks.to breaks.beyond (commits breaks.next) breaks.goes_on;
-      runs = runs_lifted p breaks.to o o' breaks.runs;
-    }
-
 -- a place at which a link has its turn is one of those that its spots give
 pub at_spot : (n : ℕ) (doing : Doing) (link : Link) (place : Place) → place.stage ≡ Works n doing → slice_get place.links n ≡ Some link
     → with_spot n (spot_of doing link place) place ≡ place
@@ -127,13 +117,6 @@ module _ (clients : Meaning) (terms : Terms) where
   stage_at : (p q : Place) (e : Event) (stage : _) → p.stage ≡ stage → StageStep clients terms stage e p q → RunStep clients terms p e q
   stage_at p q e stage is s = subst (λ d. StageStep clients terms d e p q) (sym is) s
 
-  settling_path : (sessions : List Session) (p : Place) (bs : List (List Entry)) → p.stage ≡ Settles sessions → AllSettling clients p.facts bs
-      → Path (RunStep clients terms) p (commits bs) (record p { facts = after_batches p.facts bs })
-  settling_path sessions p [] is settling = refl
-  settling_path sessions p (b ∷ bs) is settling =
-      let q : Place = record p { facts = after_all p.facts b } in
-      (q, stage_at p q (Commit b) (Settles sessions) is (settling.0, refl), settling_path sessions q bs is settling.1)
-
   -- the next link has its turn
   pub next_step : (n : ℕ) (link : Link) (p : Place) → p.stage ≡ Works n Done → slice_get p.links n ≡ Some link
       → RunStep clients terms p Pass (record p { stage = Works (suc n) Asks })
@@ -153,23 +136,9 @@ module _ (clients : Meaning) (terms : Terms) where
       let q : Place = record p { stage = Works 0 Asks; moved = false } in
       stage_at p q Pass Between between (ap (λ (b : Bool). cond b (record p { stage = Ended }) q) (sym on))
 
-  stop_step : (p : Place) → p.stage ≡ Between → is_at_end terms p ≡ true → RunStep clients terms p Pass (record p { stage = Ended })
-  stop_step p between over =
-      let q : Place = record p { stage = Ended } in
-      stage_at p q Pass Between between
-      (ap (λ (b : Bool). cond b q (record p { stage = Works 0 Asks; moved = false })) (sym over))
-
   module _ (Before After : List (List Entry) → Type 0) where
     abbrev pub Leads : Place → Place → Outside → Outside → Type 0
     Leads p q o o' = RunsPath (RunStep clients terms) Before After p q o o' []
-
-    -- a run settles its journal, at its begin
-    pub runs_begun : (sessions : List Session) (bs : List (List Entry)) (p : Place) (o o' : Outside) → p.stage ≡ Settles sessions
-        → AllSettling clients p.facts bs → o'.links ≡ o.links → MakesAtMost (4 * length bs) o o'
-        → ((j : List (List Entry)) → Before j → After (j ++ bs)) → Leads p (record p { facts = after_batches p.facts bs }) o o'
-    runs_begun sessions bs p o o' settles settling same made grows =
-        runs_commits (RunStep clients terms) Before After bs grows p (record p { facts = after_batches p.facts bs }) o o' same made
-        (settling_path sessions p bs settles settling)
 
     -- a session begins
     pub runs_attached : (s : Session) (left : List Session) (p : Place) (o o' : Outside) → p.stage ≡ Attaches (s ∷ left)
@@ -181,15 +150,6 @@ module _ (clients : Meaning) (terms : Terms) where
         let q : Place = record p { stage = Greets s left; facts = after_all p.facts b } in
         runs_commits (RunStep clients terms) Before After (b ∷ []) grows p q o o' same made
         (path_one (RunStep clients terms) p q (Commit b) (stage_at p q (Commit b) (Attaches (s ∷ left)) attaches (refl, allowed, refl)))
-
-    -- broken off there: a front of the batches stands
-    module _ (front others : List (List Entry)) (grows : (j : List (List Entry)) → Before j → After (j ++ front)) where
-      pub breaks_begun : (sessions : List Session) (bs : List (List Entry)) (p : Place) (o o' : Outside) → p.stage ≡ Settles sessions
-          → AllSettling clients p.facts bs → o'.links ≡ o.links → MakesAtMost (4 * length bs) o o' → bs ≡ front ++ others
-          → BreaksPath (RunStep clients terms) Before After p o o'
-      breaks_begun sessions bs p o o' settles settling same made parts =
-          breaks_commits (RunStep clients terms) Before After bs front others parts grows p (record p { facts = after_batches p.facts bs }) o o' same made
-          (settling_path sessions p bs settles settling)
 
     module _ (stays : (j : List (List Entry)) → Before j → After j) where
       passes : (p q : Place) (o o' : Outside) → RunStep clients terms p Pass q → TellsEvents (Pass ∷ []) o o' → MakesAtMost 0 o o' → Leads p q o o'
@@ -215,28 +175,8 @@ module _ (clients : Meaning) (terms : Terms) where
           runs_quiet (RunStep clients terms) Before After stays p (unattached s left p) (Break (length p.links)) o o' refl
           (stage_at p (unattached s left p) (Break (length p.links)) (Greets s left) greets (refl, refl)) told made
 
-      -- all sessions began
-      pub runs_all_attached : (p : Place) (o : Outside) → p.stage ≡ Attaches [] → Leads p (record p { stage = Between }) o o
-      runs_all_attached p o attaches =
-          let q : Place = record p { stage = Between } in
-          passes p q o o (stage_at p q Pass (Attaches []) attaches refl) (told_pass o o refl) (most_none 0 o)
-
       -- a turn begins
       pub runs_turn : (p : Place) (o : Outside) → p.stage ≡ Between → is_at_end terms p ≡ false
           → Leads p (record p { stage = Works 0 Asks; moved = false }) o o
       runs_turn p o between on =
           passes p (record p { stage = Works 0 Asks; moved = false }) o o (begin_step p between on) (told_pass o o refl) (most_none 0 o)
-
-      -- the turn of a link ended, and the next link has its
-      pub runs_next : (n : ℕ) (link : Link) (p : Place) (o : Outside) → p.stage ≡ Works n Done → slice_get p.links n ≡ Some link
-          → Leads p (record p { stage = Works (suc n) Asks }) o o
-      runs_next n link p o works at =
-          passes p (record p { stage = Works (suc n) Asks }) o o (next_step n link p works at) (told_pass o o refl) (most_none 0 o)
-
-      -- a turn of all links ended
-      pub runs_turn_ended : (p : Place) (o : Outside) → p.stage ≡ Works (length p.links) Asks → Leads p (turn_ended p) o o
-      runs_turn_ended p o works = passes p (turn_ended p) o o (end_step p works) (told_pass o o refl) (most_none 0 o)
-
-      -- the run ended
-      pub runs_ended : (p : Place) (o : Outside) → p.stage ≡ Between → is_at_end terms p ≡ true → Leads p (record p { stage = Ended }) o o
-      runs_ended p o between over = passes p (record p { stage = Ended }) o o (stop_step p between over) (told_pass o o refl) (most_none 0 o)

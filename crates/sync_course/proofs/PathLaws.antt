@@ -3,9 +3,6 @@ use Rattle.std.proofs.Common.{List, [], ◌∷◌, ◌++◌, append-nil, append_
 use Rattle.sync_course.specs.Paths.{Path}
 
 module _ {E P : Type 0} (step : P → E → P → Type 0) where
-  pub path_none : (p : P) → Path step p [] p
-  path_none p = refl
-
   pub path_one : (p q : P) (e : E) → step p e q → Path step p (e ∷ []) q
   path_one p q e s = (q, s, refl)
 

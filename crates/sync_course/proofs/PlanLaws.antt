@@ -12,14 +12,16 @@ use Rattle.sync_rules.specs.Facts.{Facts, after_all, facts}
 use Rattle.sync_rules.specs.Growth.{IsFront}
 use Rattle.sync_rules.specs.Legal.{IsSettlingBatch, Legal}
 use Rattle.sync_rules.proofs.Continuing.{front_itself}
-use Rattle.sync_rules.proofs.StepLaws.{IsSettlingEntry, next_is_settling}
+use Rattle.sync_rules.proofs.StepLaws.{next_is_settling}
 use Rattle.sync_course.specs.Events.{Event, Commit, Hear, Miss, Read, Break, Pass, batches_of}
-use Rattle.sync_course.specs.Free.{Free, FreeStep, IsPlain, first_free, forget}
+use Rattle.sync_course.specs.Free.{FreeStep, IsPlain, first_free, forget}
 use Rattle.sync_course.specs.Links.{Link}
 use Rattle.sync_course.specs.LinkTurns.{Asks, Takes, Waits, Sends, Puts, Done, Doing, SendsNext, Spot, StepOf, TakesNext}
 use Rattle.sync_course.specs.Paths.{Path}
 use Rattle.sync_course.specs.Story.{AllSuitNode, AllSuitPlanned, IsOfCourse, begun_by}
-use Rattle.sync_course.specs.Suits.{heard_on}
+use Rattle.sync_course.specs.Suits.{AllSuitCourse, SuitsCourse, heard_on}
+use Rattle.sync_course.proofs.SuitLaws.{settling_suits}
+use Rattle.sync_rules.specs.Lists.{In}
 use Rattle.sync_course.specs.Turns.{Attaches, Between, Broken, Ended, EndsTurn, GoesToNext, Greets, Place, RunStep, Settles, Stage, StageStep, Terms, TurnStep, Works, first_place, is_at_end, spot_of, turn_ended, with_spot}
 use Rattle.sync_course.proofs.FreeLaws.{run_is_free}
 use Rattle.sync_course.proofs.FreeSound.{IsFreeSound, first_free_sound}
@@ -228,3 +230,28 @@ run_suits go_on join fronts clients terms sessions j events last legal broken =
     (let a : terms.first ≡ (facts j).begun = broken.numbered in let e : (facts j).begun ≡ terms.first + 0 = omega (arith, a) in e) in
     all_planned clients terms.first (begun_by (batches_of events)) sessions
     (begun_front sessions (batches_of events) last.stage plans.begun) (heard_on last) (facts j) (batches_of events) suits plans.none_plain
+
+-- ---- as one of those that it was given
+
+in_get : (xs : List Session) (i : ℕ) (x : Session) → slice_get xs i ≡ Some x → In x xs
+in_get [] i x at = cc
+in_get (y ∷ ys) zero x at = let same : y ≡ x = cc in inl (sym same)
+in_get (y ∷ ys) (suc i) x at = inr (in_get ys i x at)
+
+module _ (fronts : FrontsHaveFronts) (clients : Meaning) (first : ℕ) (plans : List Session) (heard : ℕ → List ℕ) where
+  one_suits : (f : Facts) (b : List Entry) → IsOfCourse first plans heard f b → SuitsCourse clients first plans heard f b
+  one_suits f (entry.Session s ∷ rest) is = in_get plans is.link s is.planned
+  one_suits f (entry.Take s k ∷ rest) is = is
+  one_suits f (entry.Out s now what ∷ rest) is = is
+  one_suits f _ is = absurd is
+
+  pub planned_suits : (f : Facts) (bs : List (List Entry)) → AllSuitPlanned clients first plans heard f bs
+      → AllSuitCourse clients first plans heard f bs
+  planned_suits f [] suits = tt
+  planned_suits f (b ∷ bs) suits = (
+    elim suits.0 [
+      | inl settles ↦ settling_suits fronts clients first plans heard f b settles
+      | inr of_run ↦ one_suits f b of_run
+    ],
+    planned_suits (after_all f b) bs suits.1,
+  )

@@ -1,7 +1,7 @@
 -- What was sent and what is owed on a link is a front of its session's output, and all of it unless a call of the link failed.
-use Rattle.std.proofs.Common.{◌≡◌, ◌⊎◌, ℕ, zero, suc, ◌+◌, ◌<◌, Bool, true, false, cond, ◌||◌, nat_eq, eq-eqb, eqb-true, List, [], ◌∷◌, ◌++◌, length, take, drop, take-append-drop, append-nil, append_assoc, refl, sym, ◌∙◌, ap, subst, inl, inr, arith, Option, None, Some}
+use Rattle.std.proofs.Common.{◌≡◌, ℕ, zero, suc, ◌+◌, ◌<◌, Bool, true, false, cond, ◌||◌, nat_eq, eqb-true, List, [], ◌∷◌, ◌++◌, length, take, drop, take-append-drop, append-nil, append_assoc, refl, sym, ◌∙◌, ap, subst, inl, inr, arith, Option, None, Some}
 use Rattle.std.specs.Prelude.{slice_get}
-use Rattle.std.proofs.lemmas.Bool.{cases_eq, false≢true, ne_eqb}
+use Rattle.std.proofs.lemmas.Bool.{false≢true, ne_eqb}
 use Rattle.std.proofs.lemmas.Grind.{flat_map-append}
 use Rattle.outside.specs.Runs.{IsFront}
 use Rattle.record_grammar.specs.Laws.{RecordsJoin, StreamsGoOn}
@@ -13,7 +13,7 @@ use Rattle.sync_rules.specs.declared.entries.Entry.{Entry}
 use Rattle.sync_rules.specs.declared.entries.Entry.TheVariants as entry
 use Rattle.sync_rules.specs.declared.entries.Session.{Session}
 use Rattle.sync_rules.specs.Clients.{Meaning}
-use Rattle.sync_rules.specs.Facts.{Facts, after_all, after_batches, facts, session_at}
+use Rattle.sync_rules.specs.Facts.{Facts, after_batches, facts, session_at}
 use Rattle.sync_rules.specs.Growth.{output_in}
 use Rattle.sync_rules.specs.Legal.{Allowed, GoesOn, IsSettlingBatch, Legal, MayBegin}
 use Rattle.sync_rules.specs.declared.entries.Out.{Out}
@@ -22,11 +22,11 @@ use Rattle.sync_rules.proofs.Continuing.{facts-append, legal-append}
 use Rattle.sync_rules.proofs.OutputLaws.{not_begun_sent, sent_push, settling_silent, silent_adds_nothing, take_silent}
 use Rattle.sync_rules.proofs.SessionLaws.{legal_sessions}
 use Rattle.sync_course.specs.declared.ends.LinkEnd.TheVariants as end
-use Rattle.sync_course.specs.Acts.{Act, Does, Send, Fail, batches_in, event_of, events_of, next_bytes, sends_on, sent_by}
+use Rattle.sync_course.specs.Acts.{Act, Does, Send, Fail, batches_in, event_of, events_of, sends_on, sent_by}
 use Rattle.sync_course.specs.Events.{Event, Commit, Hear, Miss, Read, Break, Pass, batches_of, has_failure, is_failure}
-use Rattle.sync_course.specs.Free.{Begins, Free, FreeStep, Hold, HoldStep, Holds, IsPlain, Rests, first_free, spot_in}
+use Rattle.sync_course.specs.Free.{Free, FreeStep, Hold, HoldStep, Holds, IsPlain, Rests, first_free, spot_in}
 use Rattle.sync_course.specs.Links.{Link, is_sent_to}
-use Rattle.sync_course.specs.LinkTurns.{Asks, Takes, Waits, Sends, Puts, Done, Doing, SendsNext, Spot, StepOf, TakesNext, next_take, out_batch}
+use Rattle.sync_course.specs.LinkTurns.{Takes, Sends, Doing, SendsNext, Spot, StepOf, TakesNext, next_take, out_batch}
 use Rattle.sync_course.specs.Owing.{ActStep, Owing, adds_to, paid}
 use Rattle.sync_course.specs.Paths.{Path}
 use Rattle.sync_course.specs.Story.{AllIsSent, FreeActs, LinkFailed}

@@ -15,7 +15,7 @@ use Rattle.outside.proofs.CallCounts.{most_then}
 use Rattle.sync_rules.specs.declared.entries.Entry.{Entry}
 use Rattle.sync_course.specs.declared.TheConstants.{PIECE_LEN}
 use Rattle.sync_course.specs.Events.{Event, Commit, Hear, Miss, Read, Break, Pass, asked_event, batches_of, commits, readings_of, heard_by, heard_after, is_failure, has_failure, GrowsBy, PlansAfter, RoseIf, ChangesThrough, TellsEvents, UpcomingAfter}
-use Rattle.sync_course.specs.Paths.{RunsPath, BreaksPath}
+use Rattle.sync_course.specs.Paths.{RunsPath}
 use Rattle.sync_course.proofs.PathLaws.{path_then}
 
 -- ---- lists of events
@@ -169,16 +169,6 @@ module _ {P : Type 0} (step : P → Event → P → Type 0) (Before Between Afte
     calls =
         subst (λ (n : ℕ). MakesAtMost n o o2) (calls_add first.events second.events next)
         (most_then (4 * length (batches_of first.events)) (4 * length (next ++ batches_of second.events)) o o1 o2 first.calls second.calls);
-  }
-
-  pub breaks_then : (p q : P) (o o1 o2 : Outside) → RunsPath step Before Between p q o o1 [] → BreaksPath step Between After q o1 o2
-      → BreaksPath step Before After p o o2
-  breaks_then p q o o1 o2 first second = record {
-    to = second.to;
-    next = second.next;
-    beyond = second.beyond;
-    goes_on = second.goes_on;
-    runs = runs_then p q second.to o o1 o2 first second.runs;
   }
 
 -- ---- single calls
