@@ -20,9 +20,9 @@ invariant_of-self-in-Ok c =
     let h' = c.turn.new.host in
     let links = c.self.inside.links in
     let run = running_of c.self.inside.node n h links c.in-Some.is c.self.invariant.0 in
-    let ends = turn_done n n' h h' links run _ c.turn.ensures.node (c.in-Ok.ensures.went run.unclosed) in
+    let ends = turn_done n n' h h' links run _ c.turn.ensures.goes.node (c.in-Ok.ensures.went run.unclosed) in
     let did = ended_did n n' (host_told h) (host_told h') ends in (
-      call_running n n' h h' links links ends c.in-Ok.ensures.kept.same_first c.turn.ensures.may (c.in-Ok.ensures.answer run.unclosed) c.turn.ensures.node (call_brings n h h' links run did) (run.linked ∙ sym (same_number n n' c.in-Ok.ensures.kept)) (omega arith) run,
+      call_running n n' h h' links links ends c.in-Ok.ensures.kept.same_first c.turn.ensures.may (c.in-Ok.ensures.answers.opened run.unclosed) c.turn.ensures.goes.node (call_brings n h h' links run did) (run.linked ∙ sym (same_number n n' c.in-Ok.ensures.kept)) (omega arith) run,
       call_keeps_on c.cite_laws.ensures n h h' links run did [] c.self.invariant.1,
       c.self.invariant.2,
     )
@@ -46,7 +46,7 @@ returns-in_err-test_done-in-Ok-clause-keeps c =
     let h' = c.turn.new.host in
     let links = c.self.inside.links in
     let run = running_of c.self.inside.node n h links c.in-Some.is c.self.invariant.0 in
-    let ends = turn_done n n' h h' links run _ c.turn.ensures.node (c.in-Ok.ensures.went run.unclosed) in
+    let ends = turn_done n n' h h' links run _ c.turn.ensures.goes.node (c.in-Ok.ensures.went run.unclosed) in
     let did = ended_did n n' (host_told h) (host_told h') ends in
     keeps_seen h c.args.self.now.host (host_told h') (ap (λ (d : DeviceValue). d.host) c.self.view_is) (call_keeps_on c.cite_laws.ensures n h h' links run did)
 
@@ -58,10 +58,10 @@ returns-in_err-test_done-in-Ok-clause-runs c =
     let h' = c.turn.new.host in
     let links = c.self.inside.links in
     let run = running_of c.self.inside.node n h links c.in-Some.is c.self.invariant.0 in
-    let ends = turn_done n n' h h' links run _ c.turn.ensures.node (c.in-Ok.ensures.went run.unclosed) in
+    let ends = turn_done n n' h h' links run _ c.turn.ensures.goes.node (c.in-Ok.ensures.went run.unclosed) in
     let did = ended_did n n' (host_told h) (host_told h') ends in
     runs_by c.cite_laws.ensures _ c.args.self.now _ c.self.view_is (λ j holds. of_node c.self.inside.node n h (host_told h') c.in-Some.is (call_leaves c.cite_laws.ensures n h h' links run did) j holds)
-    (λ _. ready_still n'.store h' (c.turn.ensures.may (c.in-Ok.ensures.answer run.unclosed)).ready)
+    (λ _. ready_still n'.store h' (c.turn.ensures.may (c.in-Ok.ensures.answers.opened run.unclosed)).ready)
 
 pub returns-in_ok-test_done-in-Ok-clause-keeps : goal.returns-in_ok-test_done-in-Ok-clause-keeps
 returns-in_ok-test_done-in-Ok-clause-keeps c =
@@ -71,7 +71,7 @@ returns-in_ok-test_done-in-Ok-clause-keeps c =
     let h' = c.turn.new.host in
     let links = c.self.inside.links in
     let run = running_of c.self.inside.node n h links c.in-Some.is c.self.invariant.0 in
-    let ends = turn_done n n' h h' links run _ c.turn.ensures.node (c.in-Ok.ensures.went run.unclosed) in
+    let ends = turn_done n n' h h' links run _ c.turn.ensures.goes.node (c.in-Ok.ensures.went run.unclosed) in
     let did = ended_did n n' (host_told h) (host_told h') ends in
     keeps_seen h c.args.self.now.host (host_told h') (ap (λ (d : DeviceValue). d.host) c.self.view_is) (call_keeps_on c.cite_laws.ensures n h h' links run did)
 
@@ -83,10 +83,10 @@ returns-in_ok-test_done-in-Ok-clause-runs c =
     let h' = c.turn.new.host in
     let links = c.self.inside.links in
     let run = running_of c.self.inside.node n h links c.in-Some.is c.self.invariant.0 in
-    let ends = turn_done n n' h h' links run _ c.turn.ensures.node (c.in-Ok.ensures.went run.unclosed) in
+    let ends = turn_done n n' h h' links run _ c.turn.ensures.goes.node (c.in-Ok.ensures.went run.unclosed) in
     let did = ended_did n n' (host_told h) (host_told h') ends in
     runs_by c.cite_laws.ensures _ c.args.self.now _ c.self.view_is (λ j holds. of_node c.self.inside.node n h (host_told h') c.in-Some.is (call_leaves c.cite_laws.ensures n h h' links run did) j holds)
-    (λ _. ready_still n'.store h' (c.turn.ensures.may (c.in-Ok.ensures.answer run.unclosed)).ready)
+    (λ _. ready_still n'.store h' (c.turn.ensures.may (c.in-Ok.ensures.answers.opened run.unclosed)).ready)
 
 pub returns-in_err-fail-in-Err-clause-keeps : goal.returns-in_err-fail-in-Err-clause-keeps
 returns-in_err-fail-in-Err-clause-keeps c =
@@ -140,7 +140,7 @@ returns-in_ok-test_done-in-Ok-clause-links c =
     let h' = c.turn.new.host in
     let links = c.self.inside.links in
     let run = running_of c.self.inside.node n h links c.in-Some.is c.self.invariant.0 in
-    let ends = turn_done n n' h h' links run _ c.turn.ensures.node (c.in-Ok.ensures.went run.unclosed) in
+    let ends = turn_done n n' h h' links run _ c.turn.ensures.goes.node (c.in-Ok.ensures.went run.unclosed) in
     let did = ended_did n n' (host_told h) (host_told h') ends in
     links_seen _ c.args.self.now _ c.self.view_is
     (keeps_links n n' _ _ c.in-Some.is refl c.in-Ok.ensures.kept.same_first (same_number n n' c.in-Ok.ensures.kept) refl (call_brings n h h' links run did))
@@ -164,9 +164,9 @@ returns-in_err-fail-in-Err-clause-turns c =
     let run = running_of c.self.inside.node n h links c.in-Some.is c.self.invariant.0 in
     turns_seen _ _ c.args.self.now _ c.self.view_is
     (turn_failed _ c.in_err-fail-in-Err.field-0.0 c.in-Err.fault n n'.store h' _ _ c.from_residual-in_err-fail-in-Err.ensures.1 c.in_err-fail-in-Err.ensures.unrefused c.in-Some.is
-    c.in_err-fail-in-Err.ensures.full c.turn.ensures.limit
+    c.in_err-fail-in-Err.ensures.full c.turn.ensures.goes.same_limit
     (λ is. full_turn c.cite_laws.ensures.full n n' (host_told h) (host_told h') (told_host h) run.runs c.in-Err.fault is (c.in-Err.ensures.stopped run.unclosed))
-    (turn_breaks_off n n' (host_told h) (host_told h') c.in-Err.fault (c.in-Err.ensures.stopped run.unclosed)) c.fail.ensures.left c.turn.ensures.run.calls)
+    (turn_breaks_off n n' (host_told h) (host_told h') c.in-Err.fault (c.in-Err.ensures.stopped run.unclosed)) c.fail.ensures.left c.turn.ensures.goes.goes.calls)
 
 pub returns-in_err-test_done-in-Ok-clause-turns : goal.returns-in_err-test_done-in-Ok-clause-turns
 returns-in_err-test_done-in-Ok-clause-turns c =
@@ -178,7 +178,7 @@ returns-in_err-test_done-in-Ok-clause-turns c =
     let run = running_of c.self.inside.node n h links c.in-Some.is c.self.invariant.0 in
     turns_seen _ _ c.args.self.now _ c.self.view_is
     (turn_starved _ c.in_err-test_done-in-Ok.field-0.0 n n' _ _ _ c.from_residual.ensures.1 c.in_err-test_done-in-Ok.ensures.unrefused c.in_err-test_done-in-Ok.ensures.unfilled c.in-Some.is
-    (runs.turn_made bundle_meaning n.first n.links n'.links n.store n'.store (host_told h) (host_told h') _ (c.in-Ok.ensures.went run.unclosed)) c.turn.ensures.run.calls)
+    (runs.turn_made bundle_meaning n.first n.links n'.links n.store n'.store (host_told h) (host_told h') _ (c.in-Ok.ensures.went run.unclosed)) c.turn.ensures.goes.goes.calls)
 
 pub returns-in_ok-test_done-in-Ok-clause-turns : goal.returns-in_ok-test_done-in-Ok-clause-turns
 returns-in_ok-test_done-in-Ok-clause-turns c =
@@ -189,7 +189,7 @@ returns-in_ok-test_done-in-Ok-clause-turns c =
     let links = c.self.inside.links in
     let run = running_of c.self.inside.node n h links c.in-Some.is c.self.invariant.0 in
     turns_seen (Ok (Some c.eq.result)) _ c.args.self.now _ c.self.view_is
-    (turn_made c.eq.result _ n n' _ _ c.in-Some.is refl refl refl c.turn.ensures.run.calls c.in_ok-test_done-in-Ok.ensures.ahead c.in-Ok.ensures.kept.same_first (still_by c.in-Ok.turned c.eq.result c.eq.ensures)
+    (turn_made c.eq.result _ n n' _ _ c.in-Some.is refl refl refl c.turn.ensures.goes.goes.calls c.in_ok-test_done-in-Ok.ensures.ahead c.in-Ok.ensures.kept.same_first (still_by c.in-Ok.turned c.eq.result c.eq.ensures)
     (runs.turn_made bundle_meaning n.first n.links n'.links n.store n'.store (host_told h) (host_told h') _ (c.in-Ok.ensures.went run.unclosed)))
 
 pub returns-in_ok-fail-in-Err-clause-turns : goal.returns-in_ok-fail-in-Err-clause-turns
@@ -201,4 +201,4 @@ returns-in_ok-fail-in-Err-clause-turns c =
     let links = c.self.inside.links in
     let run = running_of c.self.inside.node n h links c.in-Some.is c.self.invariant.0 in
     turns_seen (Ok None) _ c.args.self.now _ c.self.view_is
-    (turn_broken n h' _ _ c.in-Some.is (turn_breaks_off n n' (host_told h) (host_told h') c.in-Err.fault (c.in-Err.ensures.stopped run.unclosed)) c.turn.ensures.run.calls c.in_ok-fail-in-Err.ensures.to c.in_ok-fail-in-Err.ensures.clock)
+    (turn_broken n h' _ _ c.in-Some.is (turn_breaks_off n n' (host_told h) (host_told h') c.in-Err.fault (c.in-Err.ensures.stopped run.unclosed)) c.turn.ensures.goes.goes.calls c.in_ok-fail-in-Err.ensures.to c.in_ok-fail-in-Err.ensures.clock)
