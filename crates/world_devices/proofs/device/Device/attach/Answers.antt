@@ -4,7 +4,7 @@ use Rattle.outside.specs.declared.limits.TheConstants.{LINKS}
 use Rattle.sync_node.specs.Plans.{session_of}
 use Rattle.sync_store.specs.Store.{IsStore, StoreValue}
 use Rattle.world_devices.specs.Devices.{DeviceValue}
-use Rattle.world_devices.proofs.CallLaws.{adds_link, adds_seen, begin_broke, begin_done, call_brings, call_keeps_on, call_leaves, of_node, one_longer, ready_still, ready_store, runs_by, runs_none}
+use Rattle.world_devices.proofs.CallLaws.{adds_link, adds_seen, begin_broke, begin_did, begin_done, call_brings, call_keeps_on, device_keeps, device_leaves, may_still, one_longer, ready_store, runs_by, runs_none}
 use Rattle.world_devices.proofs.CourseLaws.{beginning_breaks_off, begins_next}
 use Rattle.world_devices.proofs.FullLaws.{full_beginning}
 use Rattle.world_devices.proofs.HostLaws.{told_host}
@@ -30,118 +30,62 @@ invariant_of-self-in-Ok c =
     )
 
 pub invariant_of-self-in-Err : goal.invariant_of-self-in-Err
-invariant_of-self-in-Err c =
-    let n = c.in-Some-node.node in
-    let n' = c.attach.new.self in
-    let h = c.self.inside.host in
-    let h' = c.attach.new.host in
-    let links = c.self.inside.links in
-    let run = running_of c.self.inside.node n h links c.in-Some-node.is c.self.invariant.0 in
-    let session = session_of n.store.state.facts.begun c.args.plan.now c.args.nonce in
-    let did = begin_broke n n' h h' links run session _ (c.in-Err.ensures.stopped run.unclosed) in
-    (tt, call_keeps_on c.cite_laws.ensures n h h' links run did [] c.self.invariant.1, c.self.invariant.2)
+invariant_of-self-in-Err c = (
+  tt,
+  device_keeps c.cite_laws.ensures c.self.inside.node c.in-Some-node.node c.self.inside.host c.attach.new.host c.self.inside.links c.in-Some-node.is c.self.invariant.0
+      (λ run. begin_broke c.in-Some-node.node c.attach.new.self c.self.inside.host c.attach.new.host c.self.inside.links run (session_of c.in-Some-node.node.store.state.facts.begun c.args.plan.now c.args.nonce) _ (c.in-Err.ensures.stopped run.unclosed)) [] c.self.invariant.1,
+  c.self.invariant.2,
+)
 
 pub returns-in_err-test_done-in-Ok-clause-keeps : goal.returns-in_err-test_done-in-Ok-clause-keeps
 returns-in_err-test_done-in-Ok-clause-keeps c =
-    let n = c.in-Some-node.node in
-    let n' = c.attach.new.self in
-    let h = c.self.inside.host in
-    let h' = c.attach.new.host in
-    let links = c.self.inside.links in
-    let run = running_of c.self.inside.node n h links c.in-Some-node.is c.self.invariant.0 in
-    let session = session_of n.store.state.facts.begun c.args.plan.now c.args.nonce in
-    let ends = begin_done n n' h h' links run session refl c.attach.ensures.goes.node (c.in-Ok.ensures.went run.unclosed) in
-    let did = ended_did n n' (host_told h) (host_told h') ends in
-    keeps_seen h c.args.self.now.host (host_told h') (ap (λ (d : DeviceValue). d.host) c.self.view_is) (call_keeps_on c.cite_laws.ensures n h h' links run did)
+    keeps_seen c.self.inside.host c.args.self.now.host (host_told c.attach.new.host) (ap (λ (d : DeviceValue). d.host) c.self.view_is)
+    (device_keeps c.cite_laws.ensures c.self.inside.node c.in-Some-node.node c.self.inside.host c.attach.new.host c.self.inside.links c.in-Some-node.is c.self.invariant.0
+    (λ run. begin_did c.in-Some-node.node c.attach.new.self c.self.inside.host c.attach.new.host c.self.inside.links run (session_of c.in-Some-node.node.store.state.facts.begun c.args.plan.now c.args.nonce) refl c.attach.ensures.goes.node (c.in-Ok.ensures.went run.unclosed)))
 
 pub returns-in_err-test_done-in-Ok-clause-runs : goal.returns-in_err-test_done-in-Ok-clause-runs
 returns-in_err-test_done-in-Ok-clause-runs c =
-    let n = c.in-Some-node.node in
-    let n' = c.attach.new.self in
-    let h = c.self.inside.host in
-    let h' = c.attach.new.host in
-    let links = c.self.inside.links in
-    let run = running_of c.self.inside.node n h links c.in-Some-node.is c.self.invariant.0 in
-    let session = session_of n.store.state.facts.begun c.args.plan.now c.args.nonce in
-    let ends = begin_done n n' h h' links run session refl c.attach.ensures.goes.node (c.in-Ok.ensures.went run.unclosed) in
-    let did = ended_did n n' (host_told h) (host_told h') ends in
-    runs_by c.cite_laws.ensures _ c.args.self.now _ c.self.view_is (λ j holds. of_node c.self.inside.node n h (host_told h') c.in-Some-node.is (call_leaves c.cite_laws.ensures n h h' links run did) j holds)
-    (λ _. ready_still n'.store h' (c.attach.ensures.may (c.in-Ok.ensures.answers.opened run.unclosed)).ready)
+    runs_by c.cite_laws.ensures _ c.args.self.now _ c.self.view_is
+    (device_leaves c.cite_laws.ensures c.self.inside.node c.in-Some-node.node c.self.inside.host c.attach.new.host c.self.inside.links c.in-Some-node.is c.self.invariant.0
+    (λ run. begin_did c.in-Some-node.node c.attach.new.self c.self.inside.host c.attach.new.host c.self.inside.links run (session_of c.in-Some-node.node.store.state.facts.begun c.args.plan.now c.args.nonce) refl c.attach.ensures.goes.node (c.in-Ok.ensures.went run.unclosed)))
+    (λ _. may_still c.self.inside.node c.in-Some-node.node c.attach.new.self c.self.inside.host c.attach.new.host c.self.inside.links c.in-Some-node.is c.self.invariant.0 c.in-Ok.ensures.answers.opened c.attach.ensures.may)
 
 pub returns-in_ok-test_done-in-Ok-clause-keeps : goal.returns-in_ok-test_done-in-Ok-clause-keeps
 returns-in_ok-test_done-in-Ok-clause-keeps c =
-    let n = c.in-Some-node.node in
-    let n' = c.attach.new.self in
-    let h = c.self.inside.host in
-    let h' = c.attach.new.host in
-    let links = c.self.inside.links in
-    let run = running_of c.self.inside.node n h links c.in-Some-node.is c.self.invariant.0 in
-    let session = session_of n.store.state.facts.begun c.args.plan.now c.args.nonce in
-    let ends = begin_done n n' h h' links run session refl c.attach.ensures.goes.node (c.in-Ok.ensures.went run.unclosed) in
-    let did = ended_did n n' (host_told h) (host_told h') ends in
-    keeps_seen h c.args.self.now.host (host_told h') (ap (λ (d : DeviceValue). d.host) c.self.view_is) (call_keeps_on c.cite_laws.ensures n h h' links run did)
+    keeps_seen c.self.inside.host c.args.self.now.host (host_told c.attach.new.host) (ap (λ (d : DeviceValue). d.host) c.self.view_is)
+    (device_keeps c.cite_laws.ensures c.self.inside.node c.in-Some-node.node c.self.inside.host c.attach.new.host c.self.inside.links c.in-Some-node.is c.self.invariant.0
+    (λ run. begin_did c.in-Some-node.node c.attach.new.self c.self.inside.host c.attach.new.host c.self.inside.links run (session_of c.in-Some-node.node.store.state.facts.begun c.args.plan.now c.args.nonce) refl c.attach.ensures.goes.node (c.in-Ok.ensures.went run.unclosed)))
 
 pub returns-in_ok-test_done-in-Ok-clause-runs : goal.returns-in_ok-test_done-in-Ok-clause-runs
 returns-in_ok-test_done-in-Ok-clause-runs c =
-    let n = c.in-Some-node.node in
-    let n' = c.attach.new.self in
-    let h = c.self.inside.host in
-    let h' = c.attach.new.host in
-    let links = c.self.inside.links in
-    let run = running_of c.self.inside.node n h links c.in-Some-node.is c.self.invariant.0 in
-    let session = session_of n.store.state.facts.begun c.args.plan.now c.args.nonce in
-    let ends = begin_done n n' h h' links run session refl c.attach.ensures.goes.node (c.in-Ok.ensures.went run.unclosed) in
-    let did = ended_did n n' (host_told h) (host_told h') ends in
-    runs_by c.cite_laws.ensures _ c.args.self.now _ c.self.view_is (λ j holds. of_node c.self.inside.node n h (host_told h') c.in-Some-node.is (call_leaves c.cite_laws.ensures n h h' links run did) j holds)
-    (λ _. ready_still n'.store h' (c.attach.ensures.may (c.in-Ok.ensures.answers.opened run.unclosed)).ready)
+    runs_by c.cite_laws.ensures _ c.args.self.now _ c.self.view_is
+    (device_leaves c.cite_laws.ensures c.self.inside.node c.in-Some-node.node c.self.inside.host c.attach.new.host c.self.inside.links c.in-Some-node.is c.self.invariant.0
+    (λ run. begin_did c.in-Some-node.node c.attach.new.self c.self.inside.host c.attach.new.host c.self.inside.links run (session_of c.in-Some-node.node.store.state.facts.begun c.args.plan.now c.args.nonce) refl c.attach.ensures.goes.node (c.in-Ok.ensures.went run.unclosed)))
+    (λ _. may_still c.self.inside.node c.in-Some-node.node c.attach.new.self c.self.inside.host c.attach.new.host c.self.inside.links c.in-Some-node.is c.self.invariant.0 c.in-Ok.ensures.answers.opened c.attach.ensures.may)
 
 pub returns-in_err-fail-in-Err-clause-keeps : goal.returns-in_err-fail-in-Err-clause-keeps
 returns-in_err-fail-in-Err-clause-keeps c =
-    let n = c.in-Some-node.node in
-    let n' = c.attach.new.self in
-    let h = c.self.inside.host in
-    let h' = c.attach.new.host in
-    let links = c.self.inside.links in
-    let run = running_of c.self.inside.node n h links c.in-Some-node.is c.self.invariant.0 in
-    let session = session_of n.store.state.facts.begun c.args.plan.now c.args.nonce in
-    let did = begin_broke n n' h h' links run session _ (c.in-Err.ensures.stopped run.unclosed) in
-    keeps_seen h c.args.self.now.host (host_told c.fail.new.self.host) (ap (λ (d : DeviceValue). d.host) c.self.view_is) (λ j k. c.fail.ensures.keeps j (call_keeps_on c.cite_laws.ensures n h h' links run did j k))
+    keeps_seen c.self.inside.host c.args.self.now.host (host_told c.fail.new.self.host) (ap (λ (d : DeviceValue). d.host) c.self.view_is)
+    (λ j k. c.fail.ensures.keeps j (device_keeps c.cite_laws.ensures c.self.inside.node c.in-Some-node.node c.self.inside.host c.attach.new.host c.self.inside.links c.in-Some-node.is c.self.invariant.0
+    (λ run. begin_broke c.in-Some-node.node c.attach.new.self c.self.inside.host c.attach.new.host c.self.inside.links run (session_of c.in-Some-node.node.store.state.facts.begun c.args.plan.now c.args.nonce) _ (c.in-Err.ensures.stopped run.unclosed)) j k))
 
 pub returns-in_err-fail-in-Err-clause-runs : goal.returns-in_err-fail-in-Err-clause-runs
 returns-in_err-fail-in-Err-clause-runs c =
-    let n = c.in-Some-node.node in
-    let n' = c.attach.new.self in
-    let h = c.self.inside.host in
-    let h' = c.attach.new.host in
-    let links = c.self.inside.links in
-    let run = running_of c.self.inside.node n h links c.in-Some-node.is c.self.invariant.0 in
-    let session = session_of n.store.state.facts.begun c.args.plan.now c.args.nonce in
-    let did = begin_broke n n' h h' links run session _ (c.in-Err.ensures.stopped run.unclosed) in
-    runs_by c.cite_laws.ensures _ c.args.self.now _ c.self.view_is (λ j holds. c.fail.ensures.leaves _ j (of_node c.self.inside.node n h (host_told h') c.in-Some-node.is (call_leaves c.cite_laws.ensures n h h' links run did) j holds)) c.fail.ensures.still
+    runs_by c.cite_laws.ensures _ c.args.self.now _ c.self.view_is
+    (λ j holds. c.fail.ensures.leaves _ j (device_leaves c.cite_laws.ensures c.self.inside.node c.in-Some-node.node c.self.inside.host c.attach.new.host c.self.inside.links c.in-Some-node.is c.self.invariant.0
+    (λ run. begin_broke c.in-Some-node.node c.attach.new.self c.self.inside.host c.attach.new.host c.self.inside.links run (session_of c.in-Some-node.node.store.state.facts.begun c.args.plan.now c.args.nonce) _ (c.in-Err.ensures.stopped run.unclosed)) j holds)) c.fail.ensures.still
 
 pub returns-in_ok-fail-in-Err-clause-keeps : goal.returns-in_ok-fail-in-Err-clause-keeps
 returns-in_ok-fail-in-Err-clause-keeps c =
-    let n = c.in-Some-node.node in
-    let n' = c.attach.new.self in
-    let h = c.self.inside.host in
-    let h' = c.attach.new.host in
-    let links = c.self.inside.links in
-    let run = running_of c.self.inside.node n h links c.in-Some-node.is c.self.invariant.0 in
-    let session = session_of n.store.state.facts.begun c.args.plan.now c.args.nonce in
-    let did = begin_broke n n' h h' links run session _ (c.in-Err.ensures.stopped run.unclosed) in
-    keeps_seen h c.args.self.now.host (host_told c.fail.new.self.host) (ap (λ (d : DeviceValue). d.host) c.self.view_is) (λ j k. c.fail.ensures.keeps j (call_keeps_on c.cite_laws.ensures n h h' links run did j k))
+    keeps_seen c.self.inside.host c.args.self.now.host (host_told c.fail.new.self.host) (ap (λ (d : DeviceValue). d.host) c.self.view_is)
+    (λ j k. c.fail.ensures.keeps j (device_keeps c.cite_laws.ensures c.self.inside.node c.in-Some-node.node c.self.inside.host c.attach.new.host c.self.inside.links c.in-Some-node.is c.self.invariant.0
+    (λ run. begin_broke c.in-Some-node.node c.attach.new.self c.self.inside.host c.attach.new.host c.self.inside.links run (session_of c.in-Some-node.node.store.state.facts.begun c.args.plan.now c.args.nonce) _ (c.in-Err.ensures.stopped run.unclosed)) j k))
 
 pub returns-in_ok-fail-in-Err-clause-runs : goal.returns-in_ok-fail-in-Err-clause-runs
 returns-in_ok-fail-in-Err-clause-runs c =
-    let n = c.in-Some-node.node in
-    let n' = c.attach.new.self in
-    let h = c.self.inside.host in
-    let h' = c.attach.new.host in
-    let links = c.self.inside.links in
-    let run = running_of c.self.inside.node n h links c.in-Some-node.is c.self.invariant.0 in
-    let session = session_of n.store.state.facts.begun c.args.plan.now c.args.nonce in
-    let did = begin_broke n n' h h' links run session _ (c.in-Err.ensures.stopped run.unclosed) in
-    runs_by c.cite_laws.ensures _ c.args.self.now _ c.self.view_is (λ j holds. c.fail.ensures.leaves _ j (of_node c.self.inside.node n h (host_told h') c.in-Some-node.is (call_leaves c.cite_laws.ensures n h h' links run did) j holds)) c.fail.ensures.still
+    runs_by c.cite_laws.ensures _ c.args.self.now _ c.self.view_is
+    (λ j holds. c.fail.ensures.leaves _ j (device_leaves c.cite_laws.ensures c.self.inside.node c.in-Some-node.node c.self.inside.host c.attach.new.host c.self.inside.links c.in-Some-node.is c.self.invariant.0
+    (λ run. begin_broke c.in-Some-node.node c.attach.new.self c.self.inside.host c.attach.new.host c.self.inside.links run (session_of c.in-Some-node.node.store.state.facts.begun c.args.plan.now c.args.nonce) _ (c.in-Err.ensures.stopped run.unclosed)) j holds)) c.fail.ensures.still
 
 pub attach-requires-clause-begun : goal.attach-requires-clause-begun
 attach-requires-clause-begun c =

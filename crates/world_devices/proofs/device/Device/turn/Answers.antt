@@ -3,7 +3,7 @@ use Rattle.outside.specs.HostTold.{host_told}
 use Rattle.client_basic.specs.Bodies.{bundle_meaning}
 use Rattle.sync_node.proofs.NodeRuns as runs
 use Rattle.world_devices.specs.Devices.{DeviceValue}
-use Rattle.world_devices.proofs.CallLaws.{call_brings, call_keeps_on, call_leaves, keeps_links, links_seen, of_node, ready_still, runs_by, runs_files, same_number, turn_broke, turn_done}
+use Rattle.world_devices.proofs.CallLaws.{call_brings, call_keeps_on, device_keeps, device_leaves, keeps_links, links_seen, may_still, runs_by, runs_files, same_number, turn_broke, turn_did, turn_done}
 use Rattle.world_devices.proofs.CourseLaws.{turn_breaks_off}
 use Rattle.world_devices.proofs.FullLaws.{full_turn}
 use Rattle.world_devices.proofs.HostLaws.{told_host}
@@ -28,109 +28,62 @@ invariant_of-self-in-Ok c =
     )
 
 pub invariant_of-self-in-Err : goal.invariant_of-self-in-Err
-invariant_of-self-in-Err c =
-    let n = c.in-Some.node in
-    let n' = c.turn.new.self in
-    let h = c.self.inside.host in
-    let h' = c.turn.new.host in
-    let links = c.self.inside.links in
-    let run = running_of c.self.inside.node n h links c.in-Some.is c.self.invariant.0 in
-    let did = turn_broke n n' h h' links run _ (c.in-Err.ensures.stopped run.unclosed) in
-    (tt, call_keeps_on c.cite_laws.ensures n h h' links run did [] c.self.invariant.1, c.self.invariant.2)
+invariant_of-self-in-Err c = (
+  tt,
+  device_keeps c.cite_laws.ensures c.self.inside.node c.in-Some.node c.self.inside.host c.turn.new.host c.self.inside.links c.in-Some.is c.self.invariant.0
+      (λ run. turn_broke c.in-Some.node c.turn.new.self c.self.inside.host c.turn.new.host c.self.inside.links run _ (c.in-Err.ensures.stopped run.unclosed)) [] c.self.invariant.1,
+  c.self.invariant.2,
+)
 
 pub returns-in_err-test_done-in-Ok-clause-keeps : goal.returns-in_err-test_done-in-Ok-clause-keeps
 returns-in_err-test_done-in-Ok-clause-keeps c =
-    let n = c.in-Some.node in
-    let n' = c.turn.new.self in
-    let h = c.self.inside.host in
-    let h' = c.turn.new.host in
-    let links = c.self.inside.links in
-    let run = running_of c.self.inside.node n h links c.in-Some.is c.self.invariant.0 in
-    let ends = turn_done n n' h h' links run _ c.turn.ensures.goes.node (c.in-Ok.ensures.went run.unclosed) in
-    let did = ended_did n n' (host_told h) (host_told h') ends in
-    keeps_seen h c.args.self.now.host (host_told h') (ap (λ (d : DeviceValue). d.host) c.self.view_is) (call_keeps_on c.cite_laws.ensures n h h' links run did)
+    keeps_seen c.self.inside.host c.args.self.now.host (host_told c.turn.new.host) (ap (λ (d : DeviceValue). d.host) c.self.view_is)
+    (device_keeps c.cite_laws.ensures c.self.inside.node c.in-Some.node c.self.inside.host c.turn.new.host c.self.inside.links c.in-Some.is c.self.invariant.0
+    (λ run. turn_did c.in-Some.node c.turn.new.self c.self.inside.host c.turn.new.host c.self.inside.links run _ c.turn.ensures.goes.node (c.in-Ok.ensures.went run.unclosed)))
 
 pub returns-in_err-test_done-in-Ok-clause-runs : goal.returns-in_err-test_done-in-Ok-clause-runs
 returns-in_err-test_done-in-Ok-clause-runs c =
-    let n = c.in-Some.node in
-    let n' = c.turn.new.self in
-    let h = c.self.inside.host in
-    let h' = c.turn.new.host in
-    let links = c.self.inside.links in
-    let run = running_of c.self.inside.node n h links c.in-Some.is c.self.invariant.0 in
-    let ends = turn_done n n' h h' links run _ c.turn.ensures.goes.node (c.in-Ok.ensures.went run.unclosed) in
-    let did = ended_did n n' (host_told h) (host_told h') ends in
-    runs_by c.cite_laws.ensures _ c.args.self.now _ c.self.view_is (λ j holds. of_node c.self.inside.node n h (host_told h') c.in-Some.is (call_leaves c.cite_laws.ensures n h h' links run did) j holds)
-    (λ _. ready_still n'.store h' (c.turn.ensures.may (c.in-Ok.ensures.answers.opened run.unclosed)).ready)
+    runs_by c.cite_laws.ensures _ c.args.self.now _ c.self.view_is
+    (device_leaves c.cite_laws.ensures c.self.inside.node c.in-Some.node c.self.inside.host c.turn.new.host c.self.inside.links c.in-Some.is c.self.invariant.0
+    (λ run. turn_did c.in-Some.node c.turn.new.self c.self.inside.host c.turn.new.host c.self.inside.links run _ c.turn.ensures.goes.node (c.in-Ok.ensures.went run.unclosed)))
+    (λ _. may_still c.self.inside.node c.in-Some.node c.turn.new.self c.self.inside.host c.turn.new.host c.self.inside.links c.in-Some.is c.self.invariant.0 c.in-Ok.ensures.answers.opened c.turn.ensures.may)
 
 pub returns-in_ok-test_done-in-Ok-clause-keeps : goal.returns-in_ok-test_done-in-Ok-clause-keeps
 returns-in_ok-test_done-in-Ok-clause-keeps c =
-    let n = c.in-Some.node in
-    let n' = c.turn.new.self in
-    let h = c.self.inside.host in
-    let h' = c.turn.new.host in
-    let links = c.self.inside.links in
-    let run = running_of c.self.inside.node n h links c.in-Some.is c.self.invariant.0 in
-    let ends = turn_done n n' h h' links run _ c.turn.ensures.goes.node (c.in-Ok.ensures.went run.unclosed) in
-    let did = ended_did n n' (host_told h) (host_told h') ends in
-    keeps_seen h c.args.self.now.host (host_told h') (ap (λ (d : DeviceValue). d.host) c.self.view_is) (call_keeps_on c.cite_laws.ensures n h h' links run did)
+    keeps_seen c.self.inside.host c.args.self.now.host (host_told c.turn.new.host) (ap (λ (d : DeviceValue). d.host) c.self.view_is)
+    (device_keeps c.cite_laws.ensures c.self.inside.node c.in-Some.node c.self.inside.host c.turn.new.host c.self.inside.links c.in-Some.is c.self.invariant.0
+    (λ run. turn_did c.in-Some.node c.turn.new.self c.self.inside.host c.turn.new.host c.self.inside.links run _ c.turn.ensures.goes.node (c.in-Ok.ensures.went run.unclosed)))
 
 pub returns-in_ok-test_done-in-Ok-clause-runs : goal.returns-in_ok-test_done-in-Ok-clause-runs
 returns-in_ok-test_done-in-Ok-clause-runs c =
-    let n = c.in-Some.node in
-    let n' = c.turn.new.self in
-    let h = c.self.inside.host in
-    let h' = c.turn.new.host in
-    let links = c.self.inside.links in
-    let run = running_of c.self.inside.node n h links c.in-Some.is c.self.invariant.0 in
-    let ends = turn_done n n' h h' links run _ c.turn.ensures.goes.node (c.in-Ok.ensures.went run.unclosed) in
-    let did = ended_did n n' (host_told h) (host_told h') ends in
-    runs_by c.cite_laws.ensures _ c.args.self.now _ c.self.view_is (λ j holds. of_node c.self.inside.node n h (host_told h') c.in-Some.is (call_leaves c.cite_laws.ensures n h h' links run did) j holds)
-    (λ _. ready_still n'.store h' (c.turn.ensures.may (c.in-Ok.ensures.answers.opened run.unclosed)).ready)
+    runs_by c.cite_laws.ensures _ c.args.self.now _ c.self.view_is
+    (device_leaves c.cite_laws.ensures c.self.inside.node c.in-Some.node c.self.inside.host c.turn.new.host c.self.inside.links c.in-Some.is c.self.invariant.0
+    (λ run. turn_did c.in-Some.node c.turn.new.self c.self.inside.host c.turn.new.host c.self.inside.links run _ c.turn.ensures.goes.node (c.in-Ok.ensures.went run.unclosed)))
+    (λ _. may_still c.self.inside.node c.in-Some.node c.turn.new.self c.self.inside.host c.turn.new.host c.self.inside.links c.in-Some.is c.self.invariant.0 c.in-Ok.ensures.answers.opened c.turn.ensures.may)
 
 pub returns-in_err-fail-in-Err-clause-keeps : goal.returns-in_err-fail-in-Err-clause-keeps
 returns-in_err-fail-in-Err-clause-keeps c =
-    let n = c.in-Some.node in
-    let n' = c.turn.new.self in
-    let h = c.self.inside.host in
-    let h' = c.turn.new.host in
-    let links = c.self.inside.links in
-    let run = running_of c.self.inside.node n h links c.in-Some.is c.self.invariant.0 in
-    let did = turn_broke n n' h h' links run _ (c.in-Err.ensures.stopped run.unclosed) in
-    keeps_seen h c.args.self.now.host (host_told c.fail.new.self.host) (ap (λ (d : DeviceValue). d.host) c.self.view_is) (λ j k. c.fail.ensures.keeps j (call_keeps_on c.cite_laws.ensures n h h' links run did j k))
+    keeps_seen c.self.inside.host c.args.self.now.host (host_told c.fail.new.self.host) (ap (λ (d : DeviceValue). d.host) c.self.view_is)
+    (λ j k. c.fail.ensures.keeps j (device_keeps c.cite_laws.ensures c.self.inside.node c.in-Some.node c.self.inside.host c.turn.new.host c.self.inside.links c.in-Some.is c.self.invariant.0
+    (λ run. turn_broke c.in-Some.node c.turn.new.self c.self.inside.host c.turn.new.host c.self.inside.links run _ (c.in-Err.ensures.stopped run.unclosed)) j k))
 
 pub returns-in_err-fail-in-Err-clause-runs : goal.returns-in_err-fail-in-Err-clause-runs
 returns-in_err-fail-in-Err-clause-runs c =
-    let n = c.in-Some.node in
-    let n' = c.turn.new.self in
-    let h = c.self.inside.host in
-    let h' = c.turn.new.host in
-    let links = c.self.inside.links in
-    let run = running_of c.self.inside.node n h links c.in-Some.is c.self.invariant.0 in
-    let did = turn_broke n n' h h' links run _ (c.in-Err.ensures.stopped run.unclosed) in
-    runs_by c.cite_laws.ensures _ c.args.self.now _ c.self.view_is (λ j holds. c.fail.ensures.leaves _ j (of_node c.self.inside.node n h (host_told h') c.in-Some.is (call_leaves c.cite_laws.ensures n h h' links run did) j holds)) c.fail.ensures.still
+    runs_by c.cite_laws.ensures _ c.args.self.now _ c.self.view_is
+    (λ j holds. c.fail.ensures.leaves _ j (device_leaves c.cite_laws.ensures c.self.inside.node c.in-Some.node c.self.inside.host c.turn.new.host c.self.inside.links c.in-Some.is c.self.invariant.0
+    (λ run. turn_broke c.in-Some.node c.turn.new.self c.self.inside.host c.turn.new.host c.self.inside.links run _ (c.in-Err.ensures.stopped run.unclosed)) j holds)) c.fail.ensures.still
 
 pub returns-in_ok-fail-in-Err-clause-keeps : goal.returns-in_ok-fail-in-Err-clause-keeps
 returns-in_ok-fail-in-Err-clause-keeps c =
-    let n = c.in-Some.node in
-    let n' = c.turn.new.self in
-    let h = c.self.inside.host in
-    let h' = c.turn.new.host in
-    let links = c.self.inside.links in
-    let run = running_of c.self.inside.node n h links c.in-Some.is c.self.invariant.0 in
-    let did = turn_broke n n' h h' links run _ (c.in-Err.ensures.stopped run.unclosed) in
-    keeps_seen h c.args.self.now.host (host_told c.fail.new.self.host) (ap (λ (d : DeviceValue). d.host) c.self.view_is) (λ j k. c.fail.ensures.keeps j (call_keeps_on c.cite_laws.ensures n h h' links run did j k))
+    keeps_seen c.self.inside.host c.args.self.now.host (host_told c.fail.new.self.host) (ap (λ (d : DeviceValue). d.host) c.self.view_is)
+    (λ j k. c.fail.ensures.keeps j (device_keeps c.cite_laws.ensures c.self.inside.node c.in-Some.node c.self.inside.host c.turn.new.host c.self.inside.links c.in-Some.is c.self.invariant.0
+    (λ run. turn_broke c.in-Some.node c.turn.new.self c.self.inside.host c.turn.new.host c.self.inside.links run _ (c.in-Err.ensures.stopped run.unclosed)) j k))
 
 pub returns-in_ok-fail-in-Err-clause-runs : goal.returns-in_ok-fail-in-Err-clause-runs
 returns-in_ok-fail-in-Err-clause-runs c =
-    let n = c.in-Some.node in
-    let n' = c.turn.new.self in
-    let h = c.self.inside.host in
-    let h' = c.turn.new.host in
-    let links = c.self.inside.links in
-    let run = running_of c.self.inside.node n h links c.in-Some.is c.self.invariant.0 in
-    let did = turn_broke n n' h h' links run _ (c.in-Err.ensures.stopped run.unclosed) in
-    runs_by c.cite_laws.ensures _ c.args.self.now _ c.self.view_is (λ j holds. c.fail.ensures.leaves _ j (of_node c.self.inside.node n h (host_told h') c.in-Some.is (call_leaves c.cite_laws.ensures n h h' links run did) j holds)) c.fail.ensures.still
+    runs_by c.cite_laws.ensures _ c.args.self.now _ c.self.view_is
+    (λ j holds. c.fail.ensures.leaves _ j (device_leaves c.cite_laws.ensures c.self.inside.node c.in-Some.node c.self.inside.host c.turn.new.host c.self.inside.links c.in-Some.is c.self.invariant.0
+    (λ run. turn_broke c.in-Some.node c.turn.new.self c.self.inside.host c.turn.new.host c.self.inside.links run _ (c.in-Err.ensures.stopped run.unclosed)) j holds)) c.fail.ensures.still
 
 pub returns-in_ok-test_done-in-Ok-clause-links : goal.returns-in_ok-test_done-in-Ok-clause-links
 returns-in_ok-test_done-in-Ok-clause-links c =
