@@ -151,5 +151,3 @@ pub node_fits : (clients : Meaning) (s : StoreValue) (first : ℕ) (links : List
     → node_of s first links closed ≡ n → FitsFiles clients n.store j two → FitsFiles clients s j two
 node_fits clients s first links closed n j two is fits =
     subst (λ (m : NodeValue). FitsFiles clients m.store j two) (sym is) fits
-
--- the batch would pass the limit of a node's store

@@ -20,7 +20,6 @@ use Rattle.sync_course.specs.Acts.{commit_acts}
 use Rattle.sync_node.specs.Batches.{Added, AddingBreaks, AddingFull, CommitsAndSettles, Breaks, Committed, HasNoRoom, Settled, SettlesBy, SettlingBreaks, NodeStaysIdle}
 use Rattle.sync_node.specs.Courses.{ReadsFront}
 use Rattle.sync_node.specs.Did.{Did}
-use Rattle.sync_node.specs.Fulls.{PassesLimit}
 use Rattle.sync_node.specs.Output.{Journal}
 use Rattle.sync_node.proofs.CourseLaws.{at_most_between, commit_reads, reads_front, settle_reads, told_as}
 use Rattle.sync_node.proofs.PrimLaws.{did_batches, did_some, did_unasked}
@@ -86,10 +85,10 @@ commit_idle tells clients s s' batch e host host' ready run stays ready' same ad
     }
 
 pub commit_full : (clients : Meaning) (batch : List Entry) (s s' : StoreValue) (o o' : Outside)
-    → NodeStaysIdle clients s s' o o' → PassesLimit clients batch s s' o o'
+    → NodeStaysIdle clients s s' o o' → s.limit < needed s batch → s'.limit < needed s' batch
     → HasNoRoom clients batch s s' o o'
-commit_full clients batch s s' o o' idle over =
-    record { idle = idle; before = over.before; over = over.over }
+commit_full clients batch s s' o o' idle before over =
+    record { idle = idle; before = before; over = over }
 
 -- ---- settling
 

@@ -23,8 +23,7 @@ use Rattle.sync_store.specs.Loading.{StandsFor}
 use Rattle.sync_store.specs.Ready.{IsReady}
 use Rattle.sync_store.specs.Settling.{HasSettled}
 use Rattle.sync_store.specs.Store.{IsStore, StoreValue, written_in}
-use Rattle.sync_node.specs.Begun.{IsRunBegun, IsLeftSafe, begin_at}
-use Rattle.sync_node.specs.Joined.{IsUnused, Joined}
+use Rattle.sync_node.specs.Begun.{IsLeftSafe, IsRunBegun, IsUnused, begin_at}
 use Rattle.sync_node.specs.Node.{MayRun, new_node}
 use Rattle.sync_node.specs.Output.{Journal, heard_on, output, sent_on}
 use Rattle.sync_node.specs.Safe.{Begin, IsCoveredNow, IsEarly, Safe}
@@ -211,10 +210,6 @@ settled_begun fronts clients b s s' o o' result opened run has store begun = rec
 }
 
 -- ---- a node without links
-
-pub joined_begun : (clients : Meaning) (b : Begin) (s : StoreValue) (o : Outside)
-    → IsRunBegun clients b s o → Joined clients [] s o
-joined_begun clients b s o begun = record { each = λ link l there. cc; others = λ link past. begun.unused link }
 
 pub new_may : (clients : Meaning) (s : StoreValue) (o : Outside) → IsReady clients s o.files
     → MayRun clients (new_node s) o

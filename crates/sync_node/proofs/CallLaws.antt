@@ -1,5 +1,5 @@
 -- What the calls of a node answer and leave, of the work that they hand on.
-use Rattle.std.proofs.Common.{◌≡◌, ℕ, Bool, true, false, List, refl, sym, ap, ◌∙◌, subst, inl, Result, Ok, Err}
+use Rattle.std.proofs.Common.{◌≡◌, ℕ, Bool, true, false, List, refl, sym, ap, ◌∙◌, subst, inl, Ok, Err}
 use Rattle.outside.specs.Outside.{Outside}
 use Rattle.sync_rules.specs.declared.entries.Entry.{Entry}
 use Rattle.sync_rules.specs.Clients.{Meaning}
@@ -15,7 +15,7 @@ use Rattle.sync_node.specs.Calls.{AddCallStops, AttachStops, CallAnswers, CallGo
 use Rattle.sync_node.specs.Causes.{LinksGo, sessions_of}
 use Rattle.sync_node.specs.Faults.{fault_of}
 use Rattle.sync_node.specs.Keeps.{IsReadyOrRose}
-use Rattle.sync_node.specs.Node.{AnswersAndCloses, IsNode, KeepsSessions, NodeValue}
+use Rattle.sync_node.specs.Node.{IsNode, KeepsSessions, NodeValue}
 use Rattle.sync_node.specs.Starting.{StartKeeps, StartStops}
 use Rattle.sync_node.specs.Stays.{IsUndone}
 use Rattle.sync_node.proofs.NodeLaws.{fault_answers, node_of, stays_closed, true≢false}

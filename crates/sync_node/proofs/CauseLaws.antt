@@ -1,5 +1,5 @@
 -- Why links stand Failed: one call after another.
-use Rattle.std.proofs.Common.{◌≡◌, ◌≢◌, ◌⊎◌, ℕ, zero, suc, ◌≤◌, Bool, true, false, List, [], ◌∷◌, ◌++◌, length, set, refl, sym, ap, ◌∙◌, subst, inl, inr, arith, Some, Result, Ok, Err}
+use Rattle.std.proofs.Common.{◌≡◌, ◌≢◌, ◌⊎◌, ℕ, zero, suc, ◌≤◌, true, false, List, [], ◌∷◌, ◌++◌, length, set, refl, sym, ap, ◌∙◌, subst, inl, inr, arith, Some, Result, Ok, Err}
 use Rattle.std.specs.List.{slice_get}
 use Rattle.std.proofs.lemmas.Bool.{cases_eq, false≢true}
 use Rattle.outside.specs.declared.failed.Failed.{Failed}
@@ -13,19 +13,17 @@ use Rattle.sync_ids.specs.declared.records.Record.TheVariants as record_kind
 use Rattle.sync_course.proofs.LinkLaws.{contains_zero, zero_contained}
 use Rattle.sync_course.specs.Links.{has_zero}
 use Rattle.sync_rules.specs.declared.entries.Session.{Session}
-use Rattle.sync_store.specs.Store.{StoreValue}
 use Rattle.sync_node.specs.declared.link.Link.{Link}
 use Rattle.sync_course.specs.declared.ends.LinkEnd.{LinkEnd}
 use Rattle.sync_course.specs.declared.ends.LinkEnd.TheVariants as link_end
-use Rattle.sync_node.specs.Causes.{FailByCause, LinkGoes, LinksGo, StandsFailed, sessions_of}
+use Rattle.sync_node.specs.Causes.{LinkGoes, LinksGo, StandsFailed, sessions_of}
 use Rattle.sync_course.specs.Links.{stands_ended}
 use Rattle.sync_node.specs.Going.{LetsNothingFall}
 use Rattle.sync_node.specs.Hearing.{ClosesBy, LearnsNonce}
-use Rattle.sync_node.specs.Node.{NodeValue}
 use Rattle.sync_node.specs.Redundant.{ClosesSome}
 use Rattle.sync_node.specs.Sending.{EndsBy, SendsOn}
 use Rattle.sync_node.proofs.AttachLaws.{get_push}
-use Rattle.sync_node.proofs.NodeLaws.{get_set_other, get_set_same, node_of}
+use Rattle.sync_node.proofs.NodeLaws.{get_set_other, get_set_same}
 use Rattle.sync_node.proofs.OutLaws.{goes_send}
 use Rattle.sync_node.proofs.SafeLaws.{goes_none}
 use Rattle.sync_node.proofs.WorkLaws.{goes_then}
@@ -248,9 +246,3 @@ pub links_go_as : (links lent new kept : List Link) (o o' : Outside) → lent �
     → LinksGo lent new o o' → LinksGo links kept o o'
 links_go_as links lent new kept o o' is is_kept go =
     subst (λ (ls : List Link). LinksGo ls kept o o') is (subst (λ (ls : List Link). LinksGo lent ls o o') (sym is_kept) go)
-
-pub node_causes : (s : StoreValue) (first : ℕ) (links links' : List Link) (closed : Bool)
-    (n : NodeValue) (o o' : Outside) → node_of s first links closed ≡ n → LinksGo links links' o o'
-    → FailByCause n.links links' o o'
-node_causes s first links links' closed n o o' is go =
-    subst (λ (m : NodeValue). FailByCause m.links links' o o') is go.cause

@@ -5,31 +5,17 @@ use Rattle.std.proofs.lemmas.Bool.{cases_eq, ne_eqb}
 use Rattle.outside.specs.Outside.{Outside}
 use Rattle.sync_rules.specs.Clients.{Meaning}
 use Rattle.sync_store.specs.Store.{StoreValue}
-use Rattle.sync_course.proofs.LiftLaws.{runs_turn}
 use Rattle.sync_course.specs.Links as course_links
 use Rattle.sync_course.specs.Links.{without_redundant}
 use Rattle.sync_course.specs.LinkTurns.{Asks}
-use Rattle.sync_course.specs.Turns.{Between, Terms, Works, is_at_end, turn_ended}
+use Rattle.sync_course.specs.Turns.{Between, Works, turn_ended}
 use Rattle.sync_node.specs.declared.link.Link.{Link}
 use Rattle.sync_course.specs.declared.ends.LinkEnd.TheVariants as link_end
 use Rattle.sync_node.specs.Redundant.{ClosesSome}
-use Rattle.sync_node.specs.Courses.{AllRead, FitsWith, IsLinkRead, RunRuns, link_at, links_from, place_at}
-use Rattle.sync_node.proofs.CourseTakes.{full_sent_then}
-use Rattle.sync_node.specs.Joined.{Joined}
-use Rattle.sync_node.specs.Fulls.{FullTurn, TurnsFull}
+use Rattle.sync_node.specs.Courses.{AllRead, IsLinkRead, link_at, links_from, place_at}
 use Rattle.sync_node.proofs.CourseRuns.{heard_with}
 
 -- ---- a whole turn
-
--- a turn begins
-turn_begun : (clients : Meaning) (terms : Terms) (links : List Link) (s : StoreValue) (o : Outside)
-    (heard : ℕ → List ℕ) (moved : Bool) (still made : ℕ)
-    → is_at_end terms (place_at Between links heard moved still made s.state.facts) ≡ false
-    → RunRuns clients terms (place_at Between links heard moved still made s.state.facts)
-    (place_at (Works 0 Asks) links heard false still made s.state.facts) s s o o
-turn_begun clients terms links s o heard moved still made on =
-    runs_turn clients terms (FitsWith clients s o.files) (FitsWith clients s o.files) (λ j fit. fit)
-    (place_at Between links heard moved still made s.state.facts) o refl on
 
 -- links that are closed have read what they are to have read
 pub closed_read : (mid links' : List Link) (heard : ℕ → List ℕ) → ClosesSome mid links'
@@ -65,17 +51,6 @@ module _ (clients : Meaning) (n : ℕ) (mid links' : List Link) (s : StoreValue)
         made = suc made;
         facts = s.state.facts;
       }) (sym (exact heard))
-
-pub turn_limit : (clients : Meaning) (first : ℕ) (links : List Link) (s s' : StoreValue)
-    (o o' : Outside) → TurnsFull clients first links s s' o o'
-    → FullTurn clients first links s s' o o'
-turn_limit clients first links s s' o o' full = record {
-  fills = λ terms heard moved still made same read on.
-      full_sent_then clients terms (place_at Between links heard moved still made s.state.facts)
-      (place_at (Works 0 Asks) links heard false still made s.state.facts) (Joined clients links s o) (Joined clients links s o) s s s' o o o'
-      (turn_begun clients terms links s o heard moved still made on) (λ joined. joined)
-      (full.fills terms heard false still made same read);
-}
 
 -- ---- one call on a link
 

@@ -1,9 +1,9 @@
 -- Laws for callers: what the calls of a store come to, for a course: which batches stand behind a
 -- call, whatever it answers.
-use Rattle.std.proofs.Common.{◌≡◌, ℕ, ◌*◌, false, List, [], ◌∷◌, ◌++◌, length, append-nil, refl, sym, ◌∙◌, ap, subst, inl, inr, Option, Some, None, is_some, Result, Ok}
+use Rattle.std.proofs.Common.{◌≡◌, false, List, [], ◌∷◌, ◌++◌, append-nil, refl, sym, ◌∙◌, ap, subst, inl, inr, Option, Some, None, is_some, Result}
 use Rattle.outside.specs.Files.{Two, File, read_files}
 use Rattle.outside.specs.Links.{sent_of}
-use Rattle.outside.specs.Outside.{DiskRun, LinkCall, MakesAtMost, Outside, Moment}
+use Rattle.outside.specs.Outside.{LinkCall, MakesAtMost, Outside, Moment}
 use Rattle.outside.proofs.CallCounts.{most_link, most_none}
 use Rattle.sync_rules.specs.declared.entries.Entry.{Entry}
 use Rattle.sync_rules.specs.Clients.{Meaning}
@@ -14,7 +14,7 @@ use Rattle.sync_store.specs.Moments as store_moments
 use Rattle.sync_store.specs.Moments.{IsBetween, LeadsTo, WithAtMost, journal_with}
 use Rattle.sync_store.specs.Settling.{HasSettled}
 use Rattle.sync_store.specs.declared.fault.StoreFault.{StoreFault}
-use Rattle.sync_node.specs.Courses.{CommitsWithinCalls, AddsSome, FitsWith, ReadsFront}
+use Rattle.sync_node.specs.Courses.{FitsWith, ReadsFront}
 
 -- files that are told on one side of a call are told on the other
 pub told_as : {A : Type 0} (a b : Option A) (x : A) → is_some b ≡ is_some a → a ≡ Some x
@@ -97,15 +97,6 @@ at_most_between batch j whole at_most =
       | inr more ↦ record { front = batch ∷ []; rest = []; parts = refl; is = more }
     ]
 
-pub commit_grown : (clients : Meaning) (s s' : StoreValue) (batch : List Entry) (u : Unit {0})
-    (o o' : Outside) → is_some o'.files ≡ is_some o.files
-    → s'.closed ≡ false
-    → ((two : Two File) → o.files ≡ Some two → (j : List (List Entry)) → FitsFiles clients s j two → store_moments.RunsCommit clients batch (Ok u) s' o o' j)
-    → (j : List (List Entry)) → FitsWith clients s o.files j
-    → FitsWith clients s' o'.files (j ++ batch ∷ [])
-commit_grown clients s s' batch u o o' told still adds =
-    fits_grown clients s s' (batch ∷ []) o o' (λ j whole. WithAtMost j batch whole) told still adds
-
 pub commit_reads : (clients : Meaning) (s s' : StoreValue) (batch : List Entry)
     (result : Result (Unit {0}) StoreFault) (o o' : Outside)
     → FitsSome clients s o.files → is_some o'.files ≡ is_some o.files
@@ -127,48 +118,7 @@ settle_reads clients s s' result o o' has fits told =
 
 -- ---- the records of these
 
-pub commit_adds : (clients : Meaning) (s s' : StoreValue) (batch : List Entry) (u : Unit {0})
-    (o o' : Outside) → DiskRun o o' → MakesAtMost 4 o o' → s'.closed ≡ false
-    → ((two : Two File) → o.files ≡ Some two → (j : List (List Entry)) → FitsFiles clients s j two → store_moments.RunsCommit clients batch (Ok u) s' o o' j)
-    → CommitsWithinCalls clients (batch ∷ []) s s' o o'
-commit_adds clients s s' batch u o o' run made still adds = record {
-  same_links = run.same_links;
-  calls = made;
-  grows = commit_grown clients s s' batch u o o' run.same_told still adds;
-}
-
-pub commit_adds_some : (clients : Meaning) (s s' : StoreValue) (batch : List Entry)
-    (result : Result (Unit {0}) StoreFault) (o o' : Outside)
-    → FitsSome clients s o.files → DiskRun o o' → MakesAtMost 4 o o'
-    → ((two : Two File) → o.files ≡ Some two → (j : List (List Entry)) → FitsFiles clients s j two → store_moments.RunsCommit clients batch result s' o o' j)
-    → AddsSome clients (batch ∷ []) s o o'
-commit_adds_some clients s s' batch result o o' fits run made adds = record {
-  same_links = run.same_links;
-  calls = made;
-  stood = commit_reads clients s s' batch result o o' fits run.same_told adds;
-}
-
 -- a call on the links or the clock asks the disk nothing
 pub quiet_most : (during : Moment → Type 0) (o o' : Outside) → LinkCall during o o'
     → MakesAtMost 0 o o'
 quiet_most during o o' call = most_link 0 during o o o' (most_none 0 o) call
-
--- an object that is as it was made no call of its disk
-pub unasked_most : {H : Type 0} (tells : H → Outside) (n : ℕ) (host host' : H) → host' ≡ host
-    → MakesAtMost n (tells host) (tells host')
-unasked_most tells n host host' same =
-    subst (λ x. MakesAtMost n (tells host) (tells x)) (sym same) (most_none n (tells host))
-
--- nothing was called
-pub adds_none : (clients : Meaning) (may : List (List Entry)) (s : StoreValue) (o : Outside)
-    → AddsSome clients may s o o
-adds_none clients may s o = record {
-  same_links = refl;
-  stood = record {
-    front = [];
-    others = may;
-    parts = refl;
-    reads = λ j fit. (fit.0, fit.1, fit.2.stands_for ∙ ap journal (sym (append-nil j)));
-  };
-  calls = most_none (4 * length may) o;
-}

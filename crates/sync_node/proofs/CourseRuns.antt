@@ -6,25 +6,12 @@ use Rattle.outside.specs.Outside.{Outside}
 use Rattle.sync_rules.specs.Clients.{Meaning}
 use Rattle.sync_rules.specs.Facts.{Facts}
 use Rattle.sync_store.specs.Store.{StoreValue}
-use Rattle.sync_course.specs.Events.{Commit}
-use Rattle.sync_course.proofs.PathLaws.{path_one}
-use Rattle.sync_course.proofs.LiftLaws.{get_other, get_set, get_within, link_lifts, runs_lifted, set_same}
+use Rattle.sync_course.proofs.LiftLaws.{get_other, get_set, get_within, set_same}
 use Rattle.sync_course.specs.Links as course_links
-use Rattle.sync_course.specs.LinkTurns.{Asks, Doing, LinkStep, Spot}
-use Rattle.sync_course.specs.Turns.{Place, Terms, Works, with_spot}
+use Rattle.sync_course.specs.LinkTurns.{Doing}
+use Rattle.sync_course.specs.Turns.{Terms, Works, with_spot}
 use Rattle.sync_node.specs.declared.link.Link.{Link}
-use Rattle.sync_node.proofs.CourseTakes.{full_sent_then}
-use Rattle.sync_node.proofs.SentLaws.{stopped_sent}
-use Rattle.sync_node.specs.Fulls.{AllSentOn, LinkFull, RunFull, RunFullSent, TurnsFull}
-use Rattle.sync_node.specs.OnLinks.{HearingStopped}
-use Rattle.sync_node.specs.OnRuns.{LinksWent}
-use Rattle.sync_node.specs.declared.fault.Fault.{Fault}
-use Rattle.sync_node.specs.declared.fault.Fault.TheVariants as fault
-use Rattle.sync_node.proofs.NodeRuns.{link_full, run_went}
-use Rattle.sync_node.specs.Joined.{Joined}
-use Rattle.sync_node.specs.Node.{LinksWork}
-use Rattle.sync_node.specs.Stops.{StopsSent}
-use Rattle.sync_node.specs.Courses.{AllRead, FitsWith, IsLinkRead, link_at, links_from, place_at, spot_at}
+use Rattle.sync_node.specs.Courses.{AllRead, IsLinkRead, link_at, links_from, place_at, spot_at}
 
 -- ---- lists of links
 
@@ -103,22 +90,6 @@ pub still_else : (a b r : Bool) → a ≡ false → r ≡ a → r ≡ (a && b)
 still_else true b r is same = cc
 still_else false b r is same = same
 
--- a link's turn in the run, up to a batch that would have passed the limit
-pub full_lifted : (clients : Meaning) (terms : Terms) (n : ℕ) (place : Place)
-    → n < length place.links → (p : Spot) (s s' : StoreValue) (o o' : Outside)
-    → LinkFull clients n (terms.first + n) p s s' o o'
-    → RunFull clients terms (with_spot n p place) s s' o o'
-full_lifted clients terms n place within p s s' o o' full =
-    let lifted = link_lifts clients terms n place within full.to full.next (Commit full.batch ∷ []) (path_one (LinkStep clients n (terms.first + n)) full.to full.next (Commit full.batch) full.steps) in
-    record {
-      to = with_spot n full.to place;
-      runs = runs_lifted clients terms n place within (FitsWith clients s o.files) (FitsWith clients s' o'.files) p full.to o o' full.runs;
-      batch = full.batch;
-      next = lifted.0;
-      steps = lifted.1;
-      over = full.over;
-    }
-
 -- ---- one link in the run
 
 module _ (clients : Meaning) (first n : ℕ) (links : List Link) (l : Link) (s : StoreValue) (o : Outside) (at : slice_get links n ≡ Some l)
@@ -162,45 +133,3 @@ module _ (clients : Meaning) (first n : ℕ) (links : List Link) (l : Link) (s :
           facts = f;
         })
         (set_at 0 n links heard l' bytes ∙ ap (λ (j : ℕ). links_from 0 (slice_set links n l') (heard_with j bytes heard)) plain)
-
-    -- a batch found no room in the link's turn, and what was sent
-    pub link_limit_sent : (doing : Doing) (Given : Type 0) (s' : StoreValue) (o' : Outside)
-        → LinkFull clients n (terms.first + n) (spot_at doing l (heard n) moved s.state.facts) s s' o o'
-        → (Given → (to : course_links.Link) → AllSentOn clients terms.first (slice_set (links_from 0 links heard) n to) s' o')
-        → RunFullSent clients terms (place_at (Works n doing) links heard moved still made s.state.facts) Given s s' o o'
-    unfolding full_lifted
-    link_limit_sent doing Given s' o' full sent =
-        let place : Place = place_at (Works n doing) links heard moved still made s.state.facts in
-        let p : Spot = spot_at doing l (heard n) moved s.state.facts in
-        let within : n < length place.links = get_within (links_from 0 links heard) n (link_at l (heard n)) at_course in
-        subst (λ (x : Place). RunFullSent clients terms x Given s s' o o') (start_here doing)
-        (record {
-          full = full_lifted clients terms n place within p s s' o o' full;
-          sent = λ given. sent given full.to.link;
-        })
-
--- ---- one link more
-
-module _ (clients : Meaning) (first n : ℕ) (links0 links : List Link) (l : Link) (s0 s : StoreValue) (o0 o : Outside) (quiet : Bool)
-    (at : slice_get links n ≡ Some l) (numbered : l.session.number ≡ first + n)
-    (a : LinksWent clients first n links0 links s0 s o0 o quiet) where
-  pub turns_full : (l' : Link) (s' : StoreValue) (o' : Outside) (e : Fault) → e ≡ fault.Full
-      → HearingStopped clients n l l' s s' o o' e → LinksWork clients first links0 links s0 s o0 o
-      → StopsSent clients n [] l s s' o o' → TurnsFull clients first links0 s0 s' o0 o'
-  turns_full l' s' o' e is stopped works stops = record {
-    fills = λ terms heard moved still made same read.
-        let so = a.leads terms heard moved still made same read in
-        let from : Place = place_at (Works 0 Asks) links0 heard moved still made s0.state.facts in
-        let here : Place = place_at (Works n Asks) links so.heard' (cond quiet moved true) still made s.state.facts in
-        let p : Spot = spot_at Asks l (so.heard' n) (cond quiet moved true) s.state.facts in
-        let hearing = subst (HearingStopped clients n l l' s s' o o') is stopped in
-        let stood = hearing.stops (so.heard' n) (cond quiet moved true) (so.has_read n l at) in
-        full_sent_then clients terms from here (Joined clients links0 s0 o0) (Joined clients links s o) s0 s s' o0 o o'
-        (run_went clients terms from here s0 s o0 o so.went) works.joined
-        (link_limit_sent clients first n links l s o at numbered terms same so.heard' (cond quiet moved true) still made Asks (Joined clients links s o) s' o'
-        (link_full clients terms.first n p (link_at l' stood.0) s s' o o'
-        (stood.1 terms.first (in_terms clients first n links l s o at numbered terms same so.heard' (cond quiet moved true) still made)))
-        (λ joined to.
-        subst (λ (k : ℕ). AllSentOn clients k (slice_set (links_from 0 links so.heard') n to) s' o') (sym same)
-        (stopped_sent clients first n links l s s' o o' so.heard' works.attached at stops joined to)));
-  }

@@ -1,16 +1,12 @@
 -- A record that is taken, the next item, and a piece, as a course has them; and a batch that would
 -- pass the limit.
-use Rattle.std.proofs.Common.{◌≡◌, ℕ, Bool, true, false, cond, List, [], ◌∷◌, append-nil, refl, sym, ◌∙◌, ap, subst, arith, Option, Some, None, Err}
-use Rattle.outside.specs.Files.{Two, File}
-use Rattle.outside.specs.Outside.{DiskRun, MakesAtMost, Outside}
+use Rattle.std.proofs.Common.{◌≡◌, ◌<◌, ℕ, Bool, true, false, cond, List, [], ◌∷◌, refl, sym, ◌∙◌, ap, subst, arith, Option, Some, None, Err}
 use Rattle.sync_rules.specs.declared.entries.Entry.{Entry}
-use Rattle.sync_rules.specs.Clients.{Meaning}
 use Rattle.entry_codec.specs.Payloads.{payload_len}
 use Rattle.entry_codec.specs.Standing.{room_of}
 use Rattle.sync_store.specs.Store.{StoreValue, format_meant, written_in}
-use Rattle.sync_store.specs.Fitting.{FitsFiles}
-use Rattle.sync_store.specs.Moments as store_moments
 use Rattle.sync_store.specs.Commits as store_commits
+use Rattle.sync_store.specs.Commits.{needed}
 use Rattle.sync_store.specs.declared.fault.StoreFault.TheVariants as store_fault
 use Rattle.record_grammar.specs.declared.stream.Item.{Item}
 use Rattle.sync_ids.specs.declared.records.Record.{Record}
@@ -22,102 +18,32 @@ use Rattle.sync_node.specs.Taking.{next_take as node_take}
 use Rattle.std.proofs.lemmas.Bool.{false≢true}
 use Rattle.record_grammar.specs.declared.stream.Ending.{Ending}
 use Rattle.sync_ids.specs.declared.records.Record.TheVariants as record_kind
-use Rattle.sync_course.proofs.CallLaws.{runs_commits}
 use Rattle.sync_course.proofs.LinkLaws.{contains_zero, zero_contained}
 use Rattle.sync_course.specs.Links.{closes, has_zero, items_after, link_after, nonce_after, stands_behind}
-use Rattle.sync_course.specs.Events.{Commit, Event}
-use Rattle.sync_course.specs.Paths.{RunsPath}
 use Rattle.sync_course.specs.LinkTurns.{next_take}
 use Rattle.sync_course.specs.Reading.{IsReading}
 use Rattle.sync_node.specs.declared.link.Link.{Link}
 use Rattle.sync_course.specs.declared.ends.LinkEnd.{LinkEnd}
 use Rattle.sync_course.specs.declared.ends.LinkEnd.TheVariants as link_end
 use Rattle.sync_node.specs.Hearing.{ClosesBy, LearnsNonce, nonce_with}
-use Rattle.sync_course.proofs.ToldLaws.{runs_then}
-use Rattle.sync_course.specs.Turns.{Place, RunStep, Terms}
-use Rattle.sync_node.specs.Fulls.{AllSentOn, PassesLimit, RunFullSent, StopsFull}
-use Rattle.sync_node.specs.Courses.{FitsWith, IsTaking, RunRuns, link_at}
-use Rattle.sync_node.proofs.CourseLaws.{told_as}
+use Rattle.sync_node.specs.Courses.{IsTaking, link_at}
 
 -- ---- the limit
 
--- behind what was done
-pub full_then : {P : Type 0} (clients : Meaning) (step : P → Event → P → Type 0) (p q : P)
-    (s s1 s' : StoreValue) (o o1 o' : Outside)
-    → RunsPath step (FitsWith clients s o.files) (FitsWith clients s1 o1.files) p q o o1 []
-    → StopsFull clients step q s1 s' o1 o' → StopsFull clients step p s s' o o'
-full_then clients step p q s s1 s' o o1 o' first second = record {
-  to = second.to;
-  runs =
-      runs_then step (FitsWith clients s o.files) (FitsWith clients s1 o1.files) (FitsWith clients s' o'.files) p q second.to o o1 o' first second.runs;
-  batch = second.batch;
-  next = second.next;
-  steps = second.steps;
-  over = second.over;
-}
-
--- the same of a run, with what was sent
-pub full_sent_then : (clients : Meaning) (terms : Terms) (p q : Place) (Given Given' : Type 0) (s s1 s' : StoreValue) (o o1 o' : Outside)
-    → RunRuns clients terms p q s s1 o o1 → (Given → Given') → RunFullSent clients terms q Given' s1 s' o1 o'
-    → RunFullSent clients terms p Given s s' o o'
-unfolding full_then
-full_sent_then clients terms p q Given Given' s s1 s' o o1 o' first leads second = record {
-  full = full_then clients (RunStep clients terms) p q s s1 s' o o1 o' first second.full;
-  sent = λ given. second.sent (leads given);
-}
-
--- at the place itself
-pub full_here : {P : Type 0} (clients : Meaning) (step : P → Event → P → Type 0) (p next : P)
-    (batch : List Entry) (s s' : StoreValue) (o o' : Outside)
-    → step p (Commit batch) next → PassesLimit clients batch s s' o o'
-    → StopsFull clients step p s s' o o'
-full_here clients step p next batch s s' o o' steps over = record {
-  to = p;
-  runs =
-      runs_commits step (FitsWith clients s o.files) (FitsWith clients s' o'.files) []
-      (λ j fit. subst (λ (k : List (List Entry)). FitsWith clients s' o'.files k) (sym (append-nil j)) (over.fits j fit)) p p o o' over.same_links over.calls refl;
-  batch = batch;
-  next = next;
-  steps = steps;
-  over = over.over;
-}
-
-pub full_sent_here : (clients : Meaning) (terms : Terms) (p next : Place) (batch : List Entry) (s s' : StoreValue) (o o' : Outside)
-    → RunStep clients terms p (Commit batch) next → PassesLimit clients batch s s' o o'
-    → RunFullSent clients terms p (AllSentOn clients terms.first p.links s' o') s s' o o'
-unfolding full_here
-full_sent_here clients terms p next batch s s' o o' steps over = record {
-  full = full_here clients (RunStep clients terms) p next batch s s' o o' steps over;
-  sent = λ sent. sent;
-}
-
--- a commit that answered Full did nothing
-pub over_limit : (clients : Meaning) (s s' : StoreValue) (batch : List Entry) (o o' : Outside)
-    → DiskRun o o' → MakesAtMost 0 o o'
-    → store_commits.AnswersCommit s s' batch (Err store_fault.Full)
-    → ((two : Two File) → o.files ≡ Some two → (j : List (List Entry)) → FitsFiles clients s j two → store_moments.RunsCommit clients batch (Err store_fault.Full) s' o o' j)
-    → PassesLimit clients batch s s' o o'
-over_limit clients s s' batch o o' run made answer adds =
+-- a commit that answered Full left the store as it was, which has no room for the batch still
+pub over_limit : (s s' : StoreValue) (batch : List Entry)
+    → store_commits.AnswersCommit s s' batch (Err store_fault.Full) → s'.limit < needed s' batch
+over_limit s s' batch answer =
     let stays = answer.2 in
-    record {
-      same_links = run.same_links;
-      fits = λ j fit.
-          let two' = told_as o.files o'.files fit.0 run.same_told fit.1 in
-          let end = (adds fit.0 fit.1 j fit.2).ends (stays.closed ∙ answer.0) two'.0 two'.1 in
-          (two'.0, two'.1, subst (λ (whole : List (List Entry)). FitsFiles clients s' whole two'.0) end.1 end.2);
-      before = answer.1;
-      over =
-          omega (
-            arith,
-            answer.1,
-            stays.limit,
-            stays.end,
-            ap (λ n. payload_len (format_meant n) batch) stays.format,
-            ap (λ n. room_of (format_meant n) (after_all s'.state.facts batch)) stays.format,
-            ap (λ (f : Facts). room_of (written_in s) (after_all f batch)) stays.facts,
-          );
-      calls = made;
-    }
+    omega (
+      arith,
+      answer.1,
+      stays.limit,
+      stays.end,
+      ap (λ n. payload_len (format_meant n) batch) stays.format,
+      ap (λ n. room_of (format_meant n) (after_all s'.state.facts batch)) stays.format,
+      ap (λ (f : Facts). room_of (written_in s) (after_all f batch)) stays.facts,
+    )
 
 -- ---- the next item
 

@@ -8,18 +8,17 @@ use Rattle.outside.specs.Outside.{MakesAtMost, Outside}
 use Rattle.sync_rules.specs.Clients.{Meaning}
 use Rattle.sync_rules.specs.Facts.{Facts}
 use Rattle.sync_store.specs.Store.{StoreValue}
-use Rattle.sync_course.specs.Acts.{Act, Does, Fail, Send, batches_in, commit_acts, events_of}
+use Rattle.sync_course.specs.Acts.{Act, Does, Fail, Send, commit_acts, events_of}
 use Rattle.sync_course.specs.Events.{Break, Event, GrowsBy, Pass, PlansAfter, RoseIf, ChangesThrough, TellsEvents, UpcomingAfter, batches_of, commits, has_failure, heard_after, heard_by, is_failure, readings_of}
 use Rattle.sync_course.specs.Owing.{ActStep, Owing}
-use Rattle.sync_course.specs.Paths.{BreaksPath, CountsBatches, Path, RunsPath}
+use Rattle.sync_course.specs.Paths.{BreaksPath, Path, RunsPath}
 use Rattle.sync_course.proofs.ToldLaws.{batches_of-append, readings_of-append}
 use Rattle.sync_node.specs.declared.fault.Fault.{Fault}
 use Rattle.sync_node.specs.declared.fault.Fault.TheVariants as fault
 use Rattle.sync_node.specs.Courses.{FitsWith, HasOrWillHave, ReadsAs}
 use Rattle.sync_node.specs.Did.{Did}
-use Rattle.sync_node.specs.Fulls as fulls
 use Rattle.sync_node.specs.Output.{Journal}
-use Rattle.sync_node.specs.Went.{HasSoon, Stopped, StopsFull, Went}
+use Rattle.sync_node.specs.Went.{HasSoon, Stopped, Went}
 
 -- ---- events without some that tell of nothing
 
@@ -137,7 +136,7 @@ module _ {P : Type 0} (clients : Meaning) (facts_of : P → Facts) (first : ℕ)
   by_act p m q (Fail n bytes count) fs steps rest =
       one_more p.at m.at q (Break n) fs steps.1 rest
 
-  as_events : (p q : Owing P) (acts : List Act) → Path (ActStep facts_of first step) p acts q
+  pub as_events : (p q : Owing P) (acts : List Act) → Path (ActStep facts_of first step) p acts q
       → EventPath step p.at q.at (events_of acts)
   as_events p q [] path =
       record { events = []; path = ap (λ (x : Owing P). x.at) path; thins = thins_none }
@@ -170,17 +169,6 @@ module _ {P : Type 0} (clients : Meaning) (facts_of : P → Facts) (first : ℕ)
       → RunsPath step (FitsWith clients s o.files) (FitsWith clients s' o'.files) p.at q.at o o' []
   runs_of p q s s' o o' went =
       run_by p.at q.at went.acts s s' o o' (as_events p q went.acts went.path) went.did
-
-  pub counts_of : (p q : Owing P) (s s' : StoreValue) (o o' : Outside) (count : ℕ)
-      → (went : Went clients (ActStep facts_of first step) p q s s' o o')
-      → length (batches_in went.acts) ≡ count
-      → CountsBatches step (FitsWith clients s o.files) (FitsWith clients s' o'.files) p.at q.at o o' count
-  counts_of p q s s' o o' count went is =
-      let way : EventPath step p.at q.at (events_of went.acts) = as_events p q went.acts went.path in
-      record {
-        runs = run_by p.at q.at went.acts s s' o o' way went.did;
-        counts = ap (λ (bs : Journal). length bs) way.thins.batches ∙ is;
-      }
 
   -- ---- where they stopped
 
@@ -253,16 +241,3 @@ module _ {P : Type 0} (clients : Meaning) (facts_of : P → Facts) (first : ℕ)
         };
         stands = soon_of Has stops.to stops.stands;
       }
-
-  -- a batch was to be committed that had no room
-  pub full_of : (Has : Owing P → Type 0) (p : Owing P) (s s' : StoreValue) (o o' : Outside)
-      → StopsFull clients (ActStep facts_of first step) Has p s s' o o'
-      → fulls.StopsFull clients step p.at s s' o o'
-  full_of Has p s s' o o' stops = record {
-    to = stops.to.at;
-    runs = runs_of p stops.to s s' o o' stops.went;
-    batch = stops.batch;
-    next = stops.next.at;
-    steps = stops.steps.1;
-    over = stops.over;
-  }

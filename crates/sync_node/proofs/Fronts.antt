@@ -1,5 +1,5 @@
 -- Fronts of lists.
-use Rattle.std.proofs.Common.{◌≡◌, ℕ, zero, suc, List, [], ◌∷◌, ◌++◌, take, drop, Some, refl, sym, ap, ◌∙◌, subst, append_assoc}
+use Rattle.std.proofs.Common.{◌≡◌, ℕ, zero, suc, List, [], ◌∷◌, ◌++◌, take, drop, Some, sym, ap, ◌∙◌, subst, append_assoc}
 use Rattle.std.specs.List.{slice_get}
 use Rattle.std.proofs.lemmas.List.{take-append-drop}
 use Rattle.outside.specs.Runs.{IsFront}
@@ -19,6 +19,3 @@ slice_get_append (x ∷ xs) ys (suc k) a e = slice_get_append xs ys k a e
 pub front_get : {A : Type 0} (xs ys : List A) → IsFront xs ys → (k : ℕ) (a : A)
     → slice_get xs k ≡ Some a → slice_get ys k ≡ Some a
 front_get {A} xs ys front k a e = subst (λ (l : List A). slice_get l k ≡ Some a) (sym front.whole) (slice_get_append xs front.rest k a e)
-
-pub front_of_append : {A : Type 0} (a b : List A) → IsFront a (a ++ b)
-front_of_append a b = record { rest = b; whole = refl }

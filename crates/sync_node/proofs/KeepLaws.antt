@@ -1,5 +1,5 @@
 -- What work leaves, whatever was heard: one piece of it after another.
-use Rattle.std.proofs.Common.{◌≡◌, ℕ, ◌≤◌, List, [], ◌∷◌, refl, sym, ap, ◌∙◌, subst, arith, inl, inr, Some, Result, Ok, Err}
+use Rattle.std.proofs.Common.{◌≡◌, ℕ, ◌≤◌, List, [], refl, sym, ap, ◌∙◌, subst, arith, inl, inr, Some, Result, Ok, Err}
 use Rattle.std.specs.Prelude.{IfErr, IsErrAnd, OnOk}
 use Rattle.outside.specs.Outside.{Outside}
 use Rattle.sync_rules.specs.declared.entries.Entry.{Entry}

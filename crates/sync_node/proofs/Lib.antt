@@ -21,8 +21,6 @@ mod CourseTurns
 mod CourseRuns
 mod CourseRedundant
 mod CourseCalls
-mod CourseJoined
-mod CourseNode
 mod CourseStart
 mod Undone
 pub mod Halts

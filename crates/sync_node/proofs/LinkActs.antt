@@ -163,9 +163,6 @@ module _ (clients : Meaning) (n session : ℕ) where
   module _ (place : ℕ) (r : Record) (its : List Item) (p : Spot)
       (takes : p.doing ≡ Takes (item.One place r ∷ its))
       (allowed : Allowed clients p.facts (next_take p.facts session r)) where
-    abbrev take_batch : List Entry
-    take_batch = next_take p.facts session r
-
     abbrev take_spot : Spot
     take_spot = taken_spot place r its (next_take p.facts session r) p
 

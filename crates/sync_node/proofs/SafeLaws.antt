@@ -1,31 +1,25 @@
 -- The three kinds of step that keep a run safe: batches of the run that a store commits; calls that
 -- send nothing; and a send of what the journal has as output.
-use Rattle.std.proofs.Common.{◌≡◌, ◌⊎◌, ℕ, zero, suc, ◌+◌, ◌<◌, ◌≤◌, false, List, [], ◌∷◌, ◌++◌, map, take, length, refl, sym, ap, ◌∙◌, subst, inl, inr, arith, true, Option, Some, None, Result, is_some, slice_index_or}
+use Rattle.std.proofs.Common.{◌≡◌, ◌⊎◌, ℕ, zero, suc, ◌+◌, ◌≤◌, false, List, [], ◌∷◌, map, refl, sym, ap, ◌∙◌, subst, inl, inr, arith, true, Option, Some, None, is_some, slice_index_or}
 use Rattle.std.specs.Option.{option_map}
-use Rattle.std.proofs.lemmas.Bool.{cases_eq}
-use Rattle.outside.specs.declared.failed.Failed.{Failed}
 use Rattle.outside.specs.Files.{Two, File, read_files}
-use Rattle.outside.specs.Host.{SendsOnLink, SendsPart}
 use Rattle.outside.specs.Links.{ToldLink, Links, sent_of, with_sent}
 use Rattle.outside.specs.Outside.{Outside, Moment, DiskRun, LinkCall, QuietCall}
 use Rattle.outside.specs.Runs.{IsFront, LinksGrow, TellsAll, sent_at}
-use Rattle.outside.proofs.RunLaws.{front_bytes, front_same, front_then, grow_same, grow_send, others_send, quiet_moments, send_moments, went_out, sent_at-with_sent}
+use Rattle.outside.proofs.RunLaws.{front_bytes, front_same, grow_same, quiet_moments}
 use Rattle.outside.proofs.CallSteps.{calls_link, calls_none}
 use Rattle.record_grammar.specs.Laws.{FrontsHaveFronts}
 use Rattle.sync_rules.specs.declared.entries.Session.{Session}
 use Rattle.sync_rules.specs.Clients.{Meaning}
 use Rattle.sync_rules.specs.Facts.{facts}
 use Rattle.sync_rules.specs.Legal.{Legal}
-use Rattle.entry_codec.specs.Standing.{room_of}
-use Rattle.outside.specs.declared.limits.TheConstants.{MAX_JOURNAL}
-use Rattle.sync_store.specs.Store.{StoreValue, written_in}
-use Rattle.sync_store.specs.Fitting.{FitsFiles, FitsSome, ImagesStand}
+use Rattle.sync_store.specs.Store.{StoreValue}
+use Rattle.sync_store.specs.Fitting.{FitsFiles, FitsSome}
 use Rattle.sync_store.specs.Moments.{JournalMoment, LeadsTo}
 use Rattle.sync_node.specs.Going.{LetsNothingFall, specs_of}
 use Rattle.sync_node.specs.Output.{AreOutput, Journal, heard_on, output, sent_on}
 use Rattle.sync_node.specs.Safe.{Begin, IsCovered, IsCoveredNow, IsEarly, Safe, read_now}
 use Rattle.sync_node.specs.Suits.{SuitsRun}
-use Rattle.sync_node.proofs.Fronts.{front_taken}
 use Rattle.sync_node.proofs.SuitLaws.{Grows, HearsMore, outputs_grown, suits_grown, suits_more}
 
 -- ---- what is told before a run
@@ -97,9 +91,6 @@ told_by o o' same_files grows told =
     let links = told_both o.links.told (sym grows.same_told ∙ ap is_some told.links_are) in
     let heard = told_both o.links.heard (sym grows.same_heard ∙ ap is_some told.heard_are) in
     record { two = files.0; files_are = files.1; links = links.0; links_are = links.1; heard = heard.0; heard_are = heard.1 }
-
-pub told_before : (o o' : Outside) → LetsNothingFall o o' → TellsAll o' → TellsAll o
-told_before o o' goes told = told_by o o' goes.same_files goes.links told
 
 -- where calls on the disk alone were made
 pub told_disk : (o o' : Outside) → DiskRun o o' → TellsAll o' → TellsAll o

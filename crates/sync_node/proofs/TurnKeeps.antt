@@ -7,7 +7,7 @@ use Rattle.sync_rules.specs.Clients.{Meaning}
 use Rattle.sync_store.specs.Store.{StoreValue}
 use Rattle.sync_node.specs.declared.fault.Fault.{Fault}
 use Rattle.sync_node.specs.declared.link.Link.{Link}
-use Rattle.sync_node.specs.Keeps.{LinkKeeps, LinksKeep, StayAttached, StaysSettled}
+use Rattle.sync_node.specs.Keeps.{LinkKeeps, LinksKeep, StayAttached}
 use Rattle.sync_node.specs.Node.{MayGoOn}
 use Rattle.sync_node.specs.Redundant.{ClosesSome}
 use Rattle.sync_node.specs.Working.{HasGivenItems}

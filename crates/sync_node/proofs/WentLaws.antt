@@ -51,12 +51,6 @@ module _ {P : Type 0} (clients : Meaning) (step : P → Act → P → Type 0) wh
     did = did_then clients first.acts second.acts s s1 s2 o o1 o2 first.did second.did;
   }
 
-  -- the same place by another name
-  pub went_to : (p q r : P) (s s' : StoreValue) (o o' : Outside) → r ≡ q
-      → Went clients step p q s s' o o' → Went clients step p r s s' o o'
-  went_to p q r s s' o o' same went =
-      subst (λ (x : P). Went clients step p x s s' o o') (sym same) went
-
   module _ (Has : P → Type 0) where
     -- calls stopped behind others
     pub stopped_then : (p q : P) (s s1 s2 : StoreValue) (o o1 o2 : Outside) (e : Fault)

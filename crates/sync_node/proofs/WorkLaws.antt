@@ -1,5 +1,5 @@
 -- Work on a link: one piece of it after another, and what each call does.
-use Rattle.std.proofs.Common.{◌≡◌, ◌≢◌, ℕ, List, refl, sym, ap, ◌∙◌, subst, arith, Option, Result, Ok, Err, OnOk}
+use Rattle.std.proofs.Common.{◌≡◌, ◌≢◌, ℕ, List, sym, ap, ◌∙◌, subst, arith, Option, Result, Ok, Err, OnOk}
 use Rattle.outside.specs.declared.host.Heard.{Heard}
 use Rattle.outside.specs.Files.{Two, File}
 use Rattle.outside.specs.Host.{HearsAnswer, ReadsClock}

@@ -6,10 +6,8 @@ use Rattle.sync_rules.specs.Clients.{Meaning}
 use Rattle.sync_rules.specs.Facts.{after_all, facts}
 use Rattle.sync_rules.specs.Legal.{AllSettling}
 use Rattle.outside.specs.Outside.{MakesAtMost, Outside}
-use Rattle.sync_rules.specs.Steps.{IsSettled}
 use Rattle.sync_store.specs.Runs.{AddsBatch}
 use Rattle.sync_store.specs.Store.{StoreValue}
-use Rattle.sync_node.specs.Going.{CommitsBatches}
 use Rattle.sync_node.specs.Output.{Journal}
 
 -- one entry that adds a contact, a group or a message, or sets a level
@@ -43,11 +41,3 @@ pub record AddsWithin (clients : Meaning) (batch : List Entry) (s : StoreValue)
   pub more : Journal
   pub adds : AddsBatch clients s.state.facts batch more
   pub calls : MakesAtMost (4 * length more) o o'
-
--- the batch was committed, and the journal settled behind it
-pub record AddsSettled (clients : Meaning) (batch : List Entry) (s s' : StoreValue)
-    (o o' : Outside) : Type 0 where
-  pub more : Journal
-  pub settling : AllSettling clients (after_all s.state.facts batch) more
-  pub commits : CommitsBatches clients (batch ∷ more) s s' o o'
-  pub settled : IsSettled clients s'.state.facts

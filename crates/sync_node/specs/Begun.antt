@@ -11,7 +11,7 @@ use Rattle.outside.specs.Files.{Two, File, IsImage, read_files}
 use Rattle.outside.specs.Host.{AsksNonce, DialsLink}
 use Rattle.outside.specs.Links.{sent_of}
 use Rattle.outside.specs.Outside.{DiskRun, Moment, Outside, QuietCall}
-use Rattle.outside.specs.Runs.{IsFront, TellsAll}
+use Rattle.outside.specs.Runs.{IsFront, TellsAll, answers_at}
 use Rattle.sync_rules.specs.declared.entries.Session.{Session}
 use Rattle.sync_rules.specs.Clients.{Meaning}
 use Rattle.sync_rules.specs.Facts.{facts}
@@ -20,10 +20,8 @@ use Rattle.sync_store.specs.Loading.{StandsFor}
 use Rattle.sync_store.specs.Ready.{IsReady}
 use Rattle.sync_store.specs.Settling.{HasSettled}
 use Rattle.sync_store.specs.Store.{IsStore, StoreValue, written_in}
-use Rattle.sync_node.specs.Joined.{IsUnused, Joined}
-use Rattle.sync_node.specs.Courses.{AllRead}
-use Rattle.sync_node.specs.Node.{IsNode, MayRun, NodeValue, new_node}
-use Rattle.sync_node.specs.Output.{Journal, heard_on}
+use Rattle.sync_node.specs.Node.{MayRun, new_node}
+use Rattle.sync_node.specs.Output.{Journal, heard_on, sent_on}
 use Rattle.sync_node.specs.Safe.{Begin, IsCovered, IsEarly, Safe, read_now}
 
 -- the begin of a run over these files, which stand for this journal
@@ -35,6 +33,11 @@ begin_at two j o = record {
   journal = j;
   first = (facts j).begun;
 }
+
+-- on a link that is not attached nothing was heard and nothing was sent
+pub record IsUnused (link : ℕ) (o : Outside) : Type 0 where
+  pub nothing_sent : TellsAll o → sent_on o.links link ≡ []
+  pub nothing_heard : TellsAll o → answers_at o.links.heard link ≡ []
 
 -- A store of which a node may be made: its sessions are those of the journal that the run began
 -- with, no link was used, nothing was sent before the run, and the run is safe with no session
@@ -101,25 +104,11 @@ SettlingGoesOn H tells =
     → IsStore s'
     → IsRunBegun clients b s (tells old) → IsRunBegun clients b s' (tells new)
 
--- a node that is made of the store then is joined with its host, having no links
-abbrev pub NodesBeginJoined : (H : Type 0) → (H → Outside) → Type 0
-NodesBeginJoined H tells =
-    (clients : Meaning) (b : Begin) (s : StoreValue) (host : H) → IsRunBegun clients b s (tells host)
-    → Joined clients [] s (tells host)
-
 -- a node that is made of a store that is ready may run
 abbrev pub NodesMayRun : (H : Type 0) → (H → Outside) → Type 0
 NodesMayRun H tells =
     (clients : Meaning) (s : StoreValue) (host : H) → IsReady clients s (tells host).files
     → MayRun clients (new_node s) (tells host)
-
--- where a node and its host are joined, each of its links that is still asked has read all that the
--- host tells as heard on it
-abbrev pub JoinedHaveRead : (H : Type 0) → (H → Outside) → Type 0
-JoinedHaveRead H tells =
-    (clients : Meaning) (n : NodeValue) (host : H) → IsNode n → n.closed ≡ false
-    → Joined clients n.links n.store (tells host)
-    → TellsAll (tells host) → AllRead (heard_on (tells host).links) n.links
 
 -- ---- the end
 

@@ -1,8 +1,8 @@
 -- What a run does to a store and its disk, as a course: where the disk fits the store with a
 -- journal, and what the files stand for where a call was broken off.
-use Rattle.std.specs.Prelude.{◌≡◌, ◌⊎◌, ℕ, suc, ◌+◌, ◌*◌, Bool, true, false, cond, not, ◌&&◌, nat_eq, nat_lt, slice_get, List, [], ◌∷◌, ◌++◌, length, Option, Some}
+use Rattle.std.specs.Prelude.{◌≡◌, ◌⊎◌, ℕ, suc, ◌+◌, Bool, true, false, cond, not, ◌&&◌, nat_eq, slice_get, List, [], ◌∷◌, ◌++◌, length, Option, Some}
 use Rattle.outside.specs.Files.{Two, File, read_files}
-use Rattle.outside.specs.Outside.{Outside, MakesAtMost}
+use Rattle.outside.specs.Outside.{Outside}
 use Rattle.sync_rules.specs.declared.entries.Entry.{Entry}
 use Rattle.sync_rules.specs.declared.entries.Session.{Session}
 use Rattle.sync_rules.specs.Clients.{Meaning}
@@ -13,17 +13,16 @@ use Rattle.record_grammar.specs.declared.stream.Item.{Item}
 use Rattle.sync_rules.specs.Facts.{Facts}
 use Rattle.sync_course.specs.Links as course_links
 use Rattle.sync_course.specs.Links.{is_going, is_kept, is_sent_to}
-use Rattle.sync_course.specs.declared.TheConstants.{MAX_OUTPUTS}
 use Rattle.sync_course.specs.Reading.{HasRead, IsReading}
 use Rattle.sync_node.specs.declared.link.Link.{Link}
 use Rattle.sync_course.specs.declared.ends.LinkEnd.{LinkEnd}
 use Rattle.sync_course.specs.declared.ends.LinkEnd.TheVariants as link_end
 use Rattle.sync_node.specs.declared.node.Turned.{Turned}
 use Rattle.sync_node.specs.declared.node.Turned.TheVariants as turned
-use Rattle.sync_course.specs.LinkTurns.{Asks, Doing, Done, Sends, Spot, Waits}
-use Rattle.sync_course.specs.Events.{Break, Commit, Event, Pass, TellsEvents}
-use Rattle.sync_course.specs.Paths.{BreaksPath, CountsBatches, RunsPath}
-use Rattle.sync_course.specs.Turns.{Attaches, Between, Place, RunStep, Stage, Terms, Works, is_at_end}
+use Rattle.sync_course.specs.LinkTurns.{Doing, Done, Sends, Spot, Waits}
+use Rattle.sync_course.specs.Events.{Commit, Event}
+use Rattle.sync_course.specs.Paths.{BreaksPath, RunsPath}
+use Rattle.sync_course.specs.Turns.{Attaches, Between, Place, RunStep, Stage, Terms, is_at_end}
 
 -- the files are told, and fit the store with this journal
 abbrev pub FitsWith : Meaning → StoreValue → Option (Two File) → List (List Entry) → Type 0
@@ -40,12 +39,6 @@ abbrev pub RunRuns : Meaning → Terms → Place → Place → StoreValue → St
 RunRuns clients terms p q s s' o o' =
     RunsPath (RunStep clients terms) (FitsWith clients s o.files)
     (FitsWith clients s' o'.files) p q o o' []
-
-abbrev pub RunCounts : Meaning → Terms → Place → Place → StoreValue → StoreValue → Outside → Outside
-    → ℕ → Type 0
-RunCounts clients terms p q s s' o o' count =
-    CountsBatches (RunStep clients terms) (FitsWith clients s o.files)
-    (FitsWith clients s' o'.files) p q o o' count
 
 abbrev pub RunBreaks : Meaning → Terms → Place → StoreValue → Outside → Outside → Type 0
 RunBreaks clients terms p s o o' =
@@ -82,25 +75,6 @@ pub record ReadsFront (clients : Meaning) (may : List (List Entry)) (s : StoreVa
   pub reads : (j : List (List Entry)) → FitsWith clients s o.files j
       → ReadsAs clients o'.files (j ++ front)
 
--- ---- what the calls of a store come to
-
--- these batches were committed, by at most four calls of the disk each
-pub record CommitsWithinCalls (clients : Meaning) (more : List (List Entry)) (s s' : StoreValue)
-    (o o' : Outside) : Type 0 where
-  pub same_links : o'.links ≡ o.links
-  pub grows : (j : List (List Entry)) → FitsWith clients s o.files j
-      → FitsWith clients s' o'.files (j ++ more)
-  pub calls : MakesAtMost (4 * length more) o o'
-
--- they were to be committed, and some of them were, from the first on
-pub record AddsSome (clients : Meaning) (may : List (List Entry)) (s : StoreValue)
-    (o o' : Outside) : Type 0 where
-  pub same_links : o'.links ≡ o.links
-  pub stood : ReadsFront clients may s o o'
-  pub calls : MakesAtMost (4 * length may) o o'
-
--- ---- a record that is taken
-
 -- ---- a link of the node as one of a course
 
 -- a link on which these bytes were heard
@@ -126,8 +100,6 @@ abbrev pub IsTaking : List ℕ → List ℕ → Link → List Item → LinkEnd �
 IsTaking heard left l its link_end.Going = IsReading heard left l.reader its
 IsTaking heard left l its _ = its ≡ []
 
--- ---- a piece
-
 -- ---- hearing
 
 -- a link that is still asked has read all that was heard on it
@@ -144,8 +116,6 @@ IsReadyToSend doing l = (doing ≡ Waits) ⊎ ((doing ≡ Done) × (is_sent_to l
 abbrev pub GoesOnSending : ℕ → ℕ → Doing → Link → Type 0
 GoesOnSending now room doing l =
     ((doing ≡ Sends now room) × (is_sent_to l.end ≡ true)) ⊎ ((doing ≡ Done) × (is_sent_to l.end ≡ false))
-
--- ---- a link's turn
 
 -- ---- all links
 
@@ -209,62 +179,7 @@ pub record BreaksTurn (clients : Meaning) (first : ℕ) (links : List Link) (s :
       → is_at_end terms (place_at Between links heard moved still made s.state.facts) ≡ false
       → RunBreaks clients terms (place_at Between links heard moved still made s.state.facts) s o o'
 
--- ---- one call on the link of this number, in its turn
-
--- it was asked once; then it waits for the clock, or it is closed and its turn is done
-pub record Received (clients : Meaning) (terms : Terms) (n : ℕ) (links links' : List Link)
-    (s s' : StoreValue) (o o' : Outside) (heard : ℕ → List ℕ) (moved : Bool) (still made : ℕ)
-    (idle : Bool) : Type 0 where
-  pub heard' : ℕ → List ℕ
-  pub doing : Doing
-  pub has_read : AllRead heard' links'
-  pub ready : (l : Link) → slice_get links' n ≡ Some l → IsReadyToSend doing l
-  pub runs : RunRuns clients terms
-      (place_at (Works n Asks) links heard moved still made s.state.facts)
-      (place_at (Works n doing) links' heard' (cond idle moved true) still made s'.state.facts) s s' o o'
-
-pub record ReceivesOnce (clients : Meaning) (first n : ℕ) (links links' : List Link)
-    (s s' : StoreValue) (o o' : Outside) (idle : Bool) : Type 0 where
-  pub leads : (terms : Terms) (heard : ℕ → List ℕ) (moved : Bool) (still made : ℕ)
-      → terms.first ≡ first → AllRead heard links
-      → Received clients terms n links links' s s' o o' heard moved still made idle
-
--- the call was broken off, and the links stand so then
-pub record HaltsReceiving (clients : Meaning) (first n : ℕ) (links links' : List Link)
-    (s : StoreValue) (o o' : Outside) : Type 0 where
-  pub stops : (terms : Terms) (heard : ℕ → List ℕ) (moved : Bool) (still made : ℕ)
-      → terms.first ≡ first → AllRead heard links
-      → (heard' : ℕ → List ℕ) × RunHalts clients terms
-      (place_at (Works n Asks) links heard moved still made s.state.facts)
-      (links_from 0 links' heard') s o o'
-
--- All that is due on it at this reading was sent, and its turn is done: so many batches were
--- committed, and each of them is an output.
-pub record SendsDue (clients : Meaning) (first n now : ℕ) (links links' : List Link)
-    (s s' : StoreValue) (o o' : Outside) (outs : ℕ) : Type 0 where
-  pub has_read : (heard : ℕ → List ℕ) → AllRead heard links → AllRead heard links'
-  pub runs : (terms : Terms) (heard : ℕ → List ℕ) (moved : Bool) (still made : ℕ)
-      → terms.first ≡ first
-      → RunCounts clients terms
-      (place_at (Works n (Sends now MAX_OUTPUTS)) links heard moved still made s.state.facts)
-      (place_at (Works n Done) links' heard (cond (nat_lt 0 outs) true moved) still made s'.state.facts) s s' o o' outs
-
-pub record HaltsSending (clients : Meaning) (first n now : ℕ) (links links' : List Link)
-    (s : StoreValue) (o o' : Outside) : Type 0 where
-  pub stops : (terms : Terms) (heard : ℕ → List ℕ) (moved : Bool) (still made : ℕ)
-      → terms.first ≡ first
-      → RunHalts clients terms
-      (place_at (Works n (Sends now MAX_OUTPUTS)) links heard moved still made s.state.facts)
-      (links_from 0 links' heard) s o o'
-
 -- ---- a session that begins on the next link
-
--- All sends of a greeting are one event: they went out, or one failed, and the link is closed. The
--- disk is not asked.
-abbrev pub GreetsAsCourse : ℕ → Link → Link → Outside → Outside → Type 0
-GreetsAsCourse n l l' o o' =
-    MakesAtMost 0 o o'
-    × (((l' ≡ l) × TellsEvents (Pass ∷ []) o o') ⊎ ((l' ≡ record l { end = link_end.Failed }) × TellsEvents (Break n ∷ []) o o'))
 
 -- a place of a run that is to begin these sessions
 abbrev pub attaching_at : List Session → List course_links.Link → Bool → ℕ → ℕ → Facts → Place
@@ -276,23 +191,6 @@ attaching_at left links moved still made f = record {
   made = made;
   facts = f;
 }
-
--- Where files are told, a session began on the link of this number, behind the others, and greeted
--- there. Nothing was heard on it.
-pub record StartsAsCourse (clients : Meaning) (n : ℕ) (session : Session) (l : Link)
-    (s s' : StoreValue) (o o' : Outside) : Type 0 where
-  pub has_read : IsLinkRead [] l
-  pub runs : (two : Two File) → o.files ≡ Some two → (terms : Terms) (left : List Session)
-      (links : List course_links.Link) (moved : Bool) (still made : ℕ) → length links ≡ n
-      → RunRuns clients terms (attaching_at (session ∷ left) links moved still made s.state.facts)
-      (attaching_at left (links ++ link_at l [] ∷ []) moved still made s'.state.facts) s s' o o'
-
--- that link stands behind the others
-pub record StartsBehind (clients : Meaning) (n : ℕ) (session : Session) (links links' : List Link)
-    (s s' : StoreValue) (o o' : Outside) : Type 0 where
-  pub link : Link
-  pub starts : StartsAsCourse clients n session link s s' o o'
-  pub pushed : links' ≡ links ++ link ∷ []
 
 -- where files are told, the next session began on the link behind those of a node, on which nothing
 -- was heard

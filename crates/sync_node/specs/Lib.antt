@@ -5,7 +5,6 @@ pub mod Suits
 pub mod Safe
 pub mod Going
 pub mod Causes
-pub mod Joined
 pub mod Working
 pub mod Sending
 pub mod Hearing
@@ -17,7 +16,6 @@ pub mod Node
 pub mod Keeps
 pub mod Calls
 pub mod Stays
-pub mod Stops
 pub mod Begun
 pub mod Plans
 pub mod Cited

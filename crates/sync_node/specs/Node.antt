@@ -1,5 +1,5 @@
 -- What contracts see of a node, what its calls need, and what they do.
-use Rattle.std.specs.Prelude.{◌≡◌, ℕ, ◌+◌, ◌<◌, ◌≤◌, Bool, true, false, cond, List, [], ◌∷◌, ◌++◌, length, Option, Some, slice_get, Result, Ok, Err, refl}
+use Rattle.std.specs.Prelude.{◌≡◌, ℕ, ◌+◌, ◌<◌, ◌≤◌, Bool, true, false, cond, List, [], ◌∷◌, length, Option, Some, slice_get, Result, Ok, Err, refl}
 use Rattle.std.specs.Coded.{Coded, code_by, coded×, coded_bool, coded_list, coded_option, coded_ℕ}
 use Rattle.outside.specs.declared.limits.TheConstants.{LINKS}
 use Rattle.outside.specs.Outside.{Outside}
@@ -8,8 +8,6 @@ use Rattle.sync_rules.specs.Clients.{Meaning}
 use Rattle.sync_rules.specs.Facts.{Facts, session_at}
 use Rattle.sync_rules.specs.Steps.{IsSettled}
 use Rattle.sync_store.specs.Store.{StoreValue, store_code}
-use Rattle.outside.specs.Runs.{TellsAll}
-use Rattle.sync_store.specs.Fitting.{FitsFiles}
 use Rattle.sync_store.specs.Ready.{IsReady}
 use Rattle.sync_node.specs.declared.fault.NodeFault.{NodeFault}
 use Rattle.sync_node.specs.declared.fault.NodeFault.TheVariants as fault
@@ -20,10 +18,6 @@ use Rattle.record_stream.specs.Reading.{ReaderState}
 use Rattle.sync_course.specs.declared.ends.LinkEnd.{LinkEnd}
 use Rattle.sync_course.specs.declared.ends.LinkEnd.TheVariants as link_end
 use Rattle.sync_node.specs.Causes.{sessions_of}
-use Rattle.sync_node.specs.Going.{LetsNothingFall}
-use Rattle.sync_node.specs.Joined.{Joined}
-use Rattle.sync_node.specs.Output.{Journal}
-use Rattle.sync_node.specs.Safe.{Begin, Safe, begun_anew}
 use Rattle.sync_node.specs.Working.{HasGivenItems}
 
 -- the store, the number of sessions when the node was made, the links that are attached, and
@@ -100,22 +94,6 @@ pub record MayGoOn (clients : Meaning) (links : List Link) (s : StoreValue)
   pub settled : 0 < length links → IsSettled clients s.state.facts
   pub dialled : length links ≤ o.links.dialled
 
--- Work on links that were attached leaves them attached and joined; a run stays safe, at every
--- moment and at the end, for whatever begin.
-pub record LinksWork (clients : Meaning) (first : ℕ) (links links' : List Link) (s s' : StoreValue)
-    (o o' : Outside) : Type 0 where
-  pub goes : LetsNothingFall o o'
-  pub same_number : length links' ≡ length links
-  pub attached : AreAttached first links' s'.state.facts
-  pub joined : Joined clients links s o → Joined clients links' s' o'
-  pub safe : Joined clients links s o → (b : Begin) (plans : List Session) → first ≡ b.first
-      → Safe clients b plans s o → Safe clients b plans s' o'
-
-pub record LinksSafe (clients : Meaning) (first : ℕ) (links : List Link) (s s' : StoreValue)
-    (o o' : Outside) : Type 0 where
-  pub safe : Joined clients links s o → (b : Begin) (plans : List Session) → first ≡ b.first
-      → Safe clients b plans s o → Safe clients b plans s' o'
-
 -- ---- the node
 
 -- what every node keeps
@@ -132,42 +110,6 @@ MayRun clients n o = n.closed ≡ false → MayGoOn clients n.links n.store o
 pub record KeepsSessions (n n' : NodeValue) : Type 0 where
   pub same_first : n'.first ≡ n.first
   pub same_sessions : sessions_of n'.links ≡ sessions_of n.links
-
--- Calls on the links of a node, which was not closed, leave them joined.
-pub record KeepsJoined (clients : Meaning) (n n' : NodeValue) (o o' : Outside) : Type 0 where
-  pub goes : LetsNothingFall o o'
-  pub same_first : n'.first ≡ n.first
-  pub same_number : length n'.links ≡ length n.links
-  pub joined : Joined clients n.links n.store o → Joined clients n'.links n'.store o'
-
--- From a node whose links were joined, and from a safe run, a call leads to a safe run, whatever it
--- answers: at every moment and at the end, for whatever begin of the run.
-pub record KeepsSafe (clients : Meaning) (n n' : NodeValue) (o o' : Outside) : Type 0 where
-  pub safe : Joined clients n.links n.store o → (b : Begin) (plans : List Session)
-      → n.first ≡ b.first
-      → Safe clients b plans n.store o → Safe clients b plans n'.store o'
-
--- the same of a call that begins a session on the next link
-pub record PlansSafe (clients : Meaning) (session : Session) (n n' : NodeValue)
-    (o o' : Outside) : Type 0 where
-  pub safe : Joined clients n.links n.store o → (b : Begin) (plans : List Session)
-      → n.first ≡ b.first → length plans ≡ length n.links
-      → Safe clients b plans n.store o → Safe clients b (plans ++ session ∷ []) n'.store o'
-
--- Where a run was safe before something was added to its journal, it begins anew behind that and is
--- safe: over the journal, the files and the clock value of then, with the sessions that it had.
-pub record KeepsSafeAnew (clients : Meaning) (n n' : NodeValue) (o o' : Outside) : Type 0 where
-  pub safe : (b : Begin) (plans : List Session) → Safe clients b plans n.store o
-      → (told : TellsAll o') (whole : Journal)
-      → FitsFiles clients n'.store whole told.two
-      → Safe clients (begun_anew b told.two whole o') plans n'.store o'
-
--- a session was begun on the next link
-pub record AttachesLink (clients : Meaning) (n n' : NodeValue) (o o' : Outside) : Type 0 where
-  pub goes : LetsNothingFall o o'
-  pub same_first : n'.first ≡ n.first
-  pub one_more : length n'.links ≡ length n.links + 1
-  pub joined : Joined clients n.links n.store o → Joined clients n'.links n'.store o'
 
 -- what a call answers where an earlier call of the node failed: it does nothing
 pub record StaysClosed {T H : Type 0} (n n' : NodeValue) (host host' : H)

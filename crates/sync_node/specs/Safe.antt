@@ -23,16 +23,6 @@ pub record Begin : Type 0 where
   pub journal : Journal
   pub first : ℕ
 
--- the begin of a run that goes on from here with the sessions that it had
-abbrev pub begun_anew : Begin → Two File → Journal → Outside → Begin
-begun_anew b two j o = record {
-  files = two;
-  sent = sent_of o.links.told;
-  clock = o.clock;
-  journal = j;
-  first = b.first;
-}
-
 -- a moment that might have been before the run
 pub record IsEarly (b : Begin) (m : Moment) : Type 0 where
   pub image : IsImage b.files m.files

@@ -1,15 +1,9 @@
 -- Calls that did nothing.
-use Rattle.std.specs.Prelude.{◌≡◌, Result, Ok, Err}
-use Rattle.outside.specs.Outside.{Outside}
-use Rattle.sync_rules.specs.Clients.{Meaning}
+use Rattle.std.specs.Prelude.{◌≡◌}
 use Rattle.sync_store.specs.Commits.{KeepsStore}
 use Rattle.sync_store.specs.Store.{StoreValue}
-use Rattle.sync_store.specs.Ready.{IsReady}
 use Rattle.sync_node.specs.declared.fault.Fault.{Fault}
 use Rattle.sync_node.specs.declared.fault.Fault.TheVariants as fault
-use Rattle.sync_node.specs.declared.fault.NodeFault.{NodeFault}
-use Rattle.sync_node.specs.declared.fault.NodeFault.TheVariants as node
-use Rattle.sync_node.specs.Node.{NodeValue}
 
 -- the store is as before in all that contracts ask of it, and the host is the same
 pub record IsUndone {H : Type 0} (s s' : StoreValue) (host host' : H) : Type 0 where

@@ -1,22 +1,16 @@
 -- What taking a record does, and what is left of a piece then.
-use Rattle.std.specs.Prelude.{◌≡◌, ℕ, ◌+◌, ◌<◌, Bool, true, false, List, [], ◌∷◌, length, Some, slice_get}
+use Rattle.std.specs.Prelude.{◌≡◌, ℕ, ◌+◌, ◌<◌, Bool, true, false, List, [], length, Some}
 use Rattle.outside.specs.Outside.{Outside}
-use Rattle.outside.specs.Runs.{TellsAll}
 use Rattle.sync_ids.specs.declared.records.Record.{Record}
-use Rattle.record_grammar.specs.Stream.{records}
 use Rattle.session_core.specs.Taking.{take_of}
 use Rattle.sync_rules.specs.declared.entries.Entry.{Entry}
 use Rattle.sync_rules.specs.declared.entries.Session.{Session}
 use Rattle.sync_rules.specs.Clients.{Meaning}
-use Rattle.sync_rules.specs.Facts.{Facts, after_all, session_at, takes_of}
-use Rattle.sync_rules.specs.Legal.{Allowed, AllSettling}
+use Rattle.sync_rules.specs.Facts.{Facts, session_at, takes_of}
 use Rattle.sync_rules.specs.Steps.{IsSettled}
 use Rattle.sync_store.specs.Store.{StoreValue}
 use Rattle.sync_store.specs.Ready.{IsReady}
 use Rattle.sync_node.specs.declared.link.Link.{Link}
-use Rattle.sync_node.specs.Going.{CommitsBatches}
-use Rattle.sync_node.specs.Output.{Journal, heard_on}
-use Rattle.sync_node.specs.Safe.{Begin, Safe}
 use Rattle.sync_node.specs.Working.{HasGivenItems}
 
 -- a store in which a session may take a record

@@ -21,10 +21,10 @@ use sync_rules::{Batch, Clients, Entry, Session};
 use sync_store::Store;
 
 /// Begins a session on the next link, and puts the link behind the others. It takes the buffer of
-/// the link's reader, and room for the link, before anything else. `went`: the session stands in the
-/// journal, and the link greeted, or its greeting failed and it is closed. `stopped`: nothing was
-/// done for want of memory or of room; or a call of the disk failed in the commit, and nothing was
-/// sent.
+/// the link's reader, and room for the link, before anything else. `went`: the session stands in
+/// the journal, and the link greeted, or its greeting failed and it is closed. `stopped`: nothing
+/// was done for want of memory or of room; or a call of the disk failed in the commit, and nothing
+/// was sent.
 pub(crate) fn attach_on<H: Host, C: Clients>(
     alloc: Global,
     store: &mut Store,

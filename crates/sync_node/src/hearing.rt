@@ -22,9 +22,9 @@ use sync_rules::{Clients, Session};
 use sync_store::Store;
 
 /// Hears once on a link that is still asked, and takes what came. Answers whether nothing came for
-/// now. `went`: each record that came was taken, with the settling behind it, and the link waits for
-/// the clock or is closed. `stopped`: some records were taken, and then memory was wanting, or the
-/// next one would pass the limit, or a call of the disk failed in the next batch.
+/// now. `went`: each record that came was taken, with the settling behind it, and the link waits
+/// for the clock or is closed. `stopped`: some records were taken, and then memory was wanting, or
+/// the next one would pass the limit, or a call of the disk failed in the next batch.
 pub(crate) fn receive_on<H: Host, C: Clients>(
     alloc: Global,
     store: &mut Store,

@@ -1,8 +1,8 @@
 //! How a run of sessions begins and ends, for whoever makes a node and runs it. Each function's
 //! clauses are the laws, over the values of one host; none does anything.
-ghost use Rattle.sync_node.specs.Begun.{DialsGoOn, HangUpsStaySafe, JoinedHaveRead};
+ghost use Rattle.sync_node.specs.Begun.{DialsGoOn, HangUpsStaySafe};
 ghost use Rattle.sync_node.specs.Begun.{LoadsBegin, LoadsLeave};
-ghost use Rattle.sync_node.specs.Begun.{NodesBeginJoined, NodesMayRun, NoncesGoOn, PlansWiden};
+ghost use Rattle.sync_node.specs.Begun.{NodesMayRun, NoncesGoOn, PlansWiden};
 ghost use Rattle.sync_node.specs.Begun.{SafeRunsLeave, SettlingGoesOn};
 
 use crate::told::cite_laws;
@@ -11,24 +11,17 @@ use outside::Host;
 /// Begin: a store that was loaded before any link was dialled begins a run that is safe with no
 /// session planned, by the files and the clock before the load; a load that failed leaves what
 /// might have been left before it. Dials, nonces and settling go on with the begin, whatever they
-/// answer. A node that is then made is joined with its host, and may run where its store is ready.
+/// answer. A node that is then made may run where its store is ready.
 pub fn runs_begin<H: Host>()
     ensures failed { LoadsLeave H H.tells }
     ensures loaded { LoadsBegin H H.tells }
     ensures dialled { DialsGoOn H H.tells }
     ensures asked { NoncesGoOn H H.tells }
     ensures settled { SettlingGoesOn H H.tells }
-    ensures joined { NodesBeginJoined H H.tells }
     ensures may { NodesMayRun H H.tells }
 {
     cite_laws();
 }
-
-/// Read: where a node and its host are joined, each link that is still asked has read all that was
-/// heard on it, so that what its calls say of a course is said of the bytes that the host tells.
-pub fn joined_links_have_read<H: Host>()
-    ensures { JoinedHaveRead H H.tells }
-{}
 
 /// End: a run that is safe, wherever it was broken off, leaves files that stand for a journal which
 /// suits it and has all that was sent, now and at each moment since it began, unless a moment is

@@ -1,5 +1,5 @@
 //! What is due on a link is committed and sent.
-ghost use Rattle.std.specs.Prelude.{◌≡◌, ◌≢◌, ◌∷◌, ◌<◌, [], IfErr, IfOk, OnOk};
+ghost use Rattle.std.specs.Prelude.{◌≢◌, ◌∷◌, ◌<◌, [], IfErr, IfOk, OnOk};
 ghost use Rattle.sync_rules.specs.Legal.{Allowed};
 ghost use Rattle.sync_rules.specs.declared.entries.Entry.TheVariants as entry;
 ghost use Rattle.sync_node.specs.Ends.{MaySend};
@@ -21,8 +21,8 @@ use sync_store::Store;
 /// Commits and sends what is due on the link at this time, at most `MAX_OUTPUTS` outputs, and
 /// answers how many. A failed send closes the link. `went`: so many outputs were committed, each of
 /// them was sent behind its commit, and the link's turn is done. `stopped`: some of them were, and
-/// then memory was wanting; or the next one would pass the limit; or a call of the disk failed in its
-/// commit.
+/// then memory was wanting; or the next one would pass the limit; or a call of the disk failed in
+/// its commit.
 pub(crate) fn send_all<H: Host, C: Clients>(
     alloc: Global,
     store: &mut Store,
@@ -54,7 +54,8 @@ pub(crate) fn send_all<H: Host, C: Clients>(
 
 // Commits an output, and then sends it. It is spelled first, so that nothing may fail between the
 // two. `went`: it stands in the journal, and then it was sent, or the send failed and the link is
-// closed. `stopped`: nothing was sent, and nothing committed but what a failed call of the disk left.
+// closed. `stopped`: nothing was sent, and nothing committed but what a failed call of the disk
+// left.
 fn put_out<H: Host, C: Clients>(
     alloc: Global,
     store: &mut Store,

@@ -37,10 +37,10 @@ pub(crate) fn cite_laws()
     rests_give_nothing();
 }
 
-/// Commits a batch, one of a run, with the id of the one message that it brings where the caller has
-/// it. `went`: the batch stands behind the journal, and nothing else was done. `stopped`: for want of
-/// memory or of room nothing was done; where a call of the disk failed, a crash may leave the batch or
-/// not, and what reads now is one of the two.
+/// Commits a batch, one of a run, with the id of the one message that it brings where the caller
+/// has it. `went`: the batch stands behind the journal, and nothing else was done. `stopped`: for
+/// want of memory or of room nothing was done; where a call of the disk failed, a crash may leave
+/// the batch or not, and what reads now is one of the two.
 pub(crate) fn commit<H: Host, C: Clients>(
     store: &mut Store,
     host: &mut H,
@@ -70,8 +70,8 @@ pub(crate) fn commit<H: Host, C: Clients>(
 }
 
 /// Settles the journal. `went`: settling batches were committed, and nothing is left to be settled.
-/// `stopped`: for want of memory some of them were; where a call of the disk failed, a crash may leave
-/// more of them. It is never Full, since the journal keeps room for its settling.
+/// `stopped`: for want of memory some of them were; where a call of the disk failed, a crash may
+/// leave more of them. It is never Full, since the journal keeps room for its settling.
 pub(crate) fn settle<H: Host, C: Clients>(
     store: &mut Store,
     host: &mut H,
@@ -92,10 +92,10 @@ pub(crate) fn settle<H: Host, C: Clients>(
 }
 
 /// Commits a batch that adds a contact, a group, a level or a message, and settles. Nothing is
-/// sent. `went`: the batch stands behind the journal and settling behind it, and nothing is left to be
-/// settled. `stopped`: for want of memory nothing was done, or some settling is left; for want of room
-/// nothing was done; where a call of the disk failed, a crash may leave each front of what was to be
-/// committed. `leads`: at each moment the files stand for such a journal.
+/// sent. `went`: the batch stands behind the journal and settling behind it, and nothing is left to
+/// be settled. `stopped`: for want of memory nothing was done, or some settling is left; for want
+/// of room nothing was done; where a call of the disk failed, a crash may leave each front of what
+/// was to be committed. `leads`: at each moment the files stand for such a journal.
 pub(crate) fn add_settled<H: Host, C: Clients>(
     store: &mut Store,
     host: &mut H,

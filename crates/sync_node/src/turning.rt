@@ -62,8 +62,8 @@ fn turn_each<H: Host, C: Clients>(
     requires attached { AreSome links.old store.old.state.facts }
     requires whole { length buffer.old ≡ PIECE_LEN }
     ensures went { (first : ℕ) → AreAttached first links.old store.old.state.facts
-        → IfOk result (LinksWent (C.meaning clients.now) first (length links.old) links.old links.new store.old
-        store.new (H.tells host.old) (H.tells host.new)) }
+        → IfOk result (LinksWent (C.meaning clients.now) first (length links.old) links.old
+        links.new store.old store.new (H.tells host.old) (H.tells host.new)) }
     ensures stopped { (first : ℕ) → AreAttached first links.old store.old.state.facts
         → IfErr result (LinksStopped (C.meaning clients.now) first links.old links.new store.old
         store.new (H.tells host.old) (H.tells host.new)) }
@@ -80,8 +80,8 @@ fn turn_each<H: Host, C: Clients>(
 }
 
 // Hears on a link that is still asked, and then sends what is due on one that is not closed.
-// Answers whether the link was still: nothing came for now, and no output was committed. Where it is
-// stopped, it was in one of the two.
+// Answers whether the link was still: nothing came for now, and no output was committed. Where it
+// is stopped, it was in one of the two.
 fn turn_link<H: Host, C: Clients>(
     alloc: Global,
     store: &mut Store,

@@ -1,14 +1,18 @@
 -- A device stays one behind each call of its node.
-use Rattle.std.proofs.Common.{◌≡◌, ℕ, ◌+◌, ◌≤◌, Bool, true, false, [], length}
+use Rattle.std.proofs.Common.{◌≡◌, ℕ, suc, ◌+◌, ◌≤◌, Bool, true, false, List, [], ◌∷◌, length}
 use Rattle.std.proofs.Common.{Result, Ok, Err, refl, sym, ap, ◌∙◌, arith}
 use Rattle.std.specs.Prelude.{OnOk, is_err}
+use Rattle.std.proofs.lemmas.List.{length-append}
 use Rattle.outside.specs.declared.limits.TheConstants.{LINKS}
 use Rattle.outside.specs.Links.{Links}
 use Rattle.outside.specs.Outside.{DiskRun, Outside}
 use Rattle.sync_rules.specs.Clients.{Meaning}
 use Rattle.sync_node.specs.declared.fault.NodeFault.{NodeFault}
 use Rattle.sync_node.specs.declared.fault.NodeFault.TheVariants as fault
-use Rattle.sync_node.specs.Node.{AnswersAndCloses, AttachesLink, KeepsJoined, MayRun, NodeValue}
+use Rattle.sync_node.specs.declared.link.Link.{Link}
+use Rattle.sync_node.specs.Calls.{CallAnswers, CallGoes}
+use Rattle.sync_node.specs.Causes.{PushesOne, sessions_of}
+use Rattle.sync_node.specs.Node.{AnswersAndCloses, KeepsSessions, MayRun, NodeValue}
 use Rattle.sync_node.specs.Node.{StaysClosed}
 use Rattle.sync_store.specs.Ready.{IsReady}
 use Rattle.sync_store.specs.Store.{StoreValue}
@@ -73,58 +77,61 @@ called clients n n' host host' o o' links more closed result device stays answer
           on_called clients n n' o o' links more closed result device on (answer on) may grows
     ] refl
 
-kept : {T : Type 0} (clients : Meaning) (n n' : NodeValue) (o o' : Outside)
-    (result : Result T NodeFault)
-    → OnOk result (KeepsJoined clients n n' o o')
-    → OnOk result (Grows 0 n n' o o')
-kept clients n n' o o' (Ok x) keeps = record {
-  longer = omega (arith, keeps.same_number);
-  dialled = keeps.goes.links.dialled;
-}
-kept clients n n' o o' (Err f) keeps = tt
+-- as many links as before, by their sessions
+counts : (links : List Link) → length (sessions_of links) ≡ length links
+counts [] = refl
+counts (l ∷ ls) = ap suc (counts ls)
 
-attached : {T : Type 0} (clients : Meaning) (n n' : NodeValue) (o o' : Outside)
-    (result : Result T NodeFault)
-    → OnOk result (AttachesLink clients n n' o o')
-    → OnOk result (Grows 1 n n' o o')
-attached clients n n' o o' (Ok x) attaches = record {
-  longer = attaches.one_more;
-  dialled = attaches.goes.links.dialled;
+pub same_number : (n n' : NodeValue) → KeepsSessions n n' → length n'.links ≡ length n.links
+same_number n n' kept =
+    sym (counts n'.links) ∙ (ap (λ ss. length ss) kept.same_sessions ∙ counts n.links)
+
+kept : {T : Type 0} (n n' : NodeValue) (o o' : Outside) (result : Result T NodeFault)
+    → CallGoes n n' o o' → length n'.links ≡ length n.links → OnOk result (Grows 0 n n' o o')
+kept n n' o o' (Ok x) goes same =
+    record { longer = omega (arith, same); dialled = goes.goes.links.dialled }
+kept n n' o o' (Err f) goes same = tt
+
+attached : {T : Type 0} (n n' : NodeValue) (o o' : Outside) (result : Result T NodeFault)
+    → CallGoes n n' o o' → PushesOne result n.links n'.links → OnOk result (Grows 1 n n' o o')
+attached n n' o o' (Ok x) goes pushes = record {
+  longer = ap (λ (ls : List Link). length ls) pushes.1 ∙ length-append n.links (pushes.0 ∷ []);
+  dialled = goes.goes.links.dialled;
 }
-attached clients n n' o o' (Err f) attaches = tt
+attached n n' o o' (Err f) goes pushes = tt
 
 -- a device before, and what a call of its node says, give a device again
 pub device_kept : {T H : Type 0} (clients : Meaning) (n n' : NodeValue) (host host' : H)
     (o o' : Outside) (links : ℕ) (closed failed : Bool) (result : Result T NodeFault)
     → IsTestNode clients n o links closed
-    → (n.closed ≡ true → StaysClosed n n' host host' result)
-    → (n.closed ≡ false → AnswersAndCloses result n')
+    → CallAnswers n n' host host' result
     → MayRun clients n' o'
-    → OnOk result (KeepsJoined clients n n' o o')
+    → CallGoes n n' o o'
+    → length n'.links ≡ length n.links
     → failed ≡ is_err result
     → IsTestNode clients n' o' links failed
-device_kept clients n n' host host' o o' links closed failed result device stays answer may keeps
+device_kept clients n n' host host' o o' links closed failed result device answers may goes long
     is =
     let same : links + 0 ≡ links = omega arith in
     rw (is, ← same)
-    (called clients n n' host host' o o' links 0 closed result device stays answer may
-    (kept clients n n' o o' result keeps))
+    (called clients n n' host host' o o' links 0 closed result device answers.closed
+    answers.opened may (kept n n' o o' result goes long))
 
 -- the same of a call that begins a session on the next link
 pub device_attached : {T H : Type 0} (clients : Meaning) (n n' : NodeValue) (host host' : H)
     (o o' : Outside) (links : ℕ) (closed failed : Bool) (result : Result T NodeFault)
     → IsTestNode clients n o links closed
-    → (n.closed ≡ true → StaysClosed n n' host host' result)
-    → (n.closed ≡ false → AnswersAndCloses result n')
+    → CallAnswers n n' host host' result
     → MayRun clients n' o'
-    → OnOk result (AttachesLink clients n n' o o')
+    → CallGoes n n' o o'
+    → PushesOne result n.links n'.links
     → failed ≡ is_err result
     → IsTestNode clients n' o' (links + 1) failed
-device_attached clients n n' host host' o o' links closed failed result device stays answer may
-    attaches is =
+device_attached clients n n' host host' o o' links closed failed result device answers may goes
+    pushes is =
     rw is
-    (called clients n n' host host' o o' links 1 closed result device stays answer may
-    (attached clients n n' o o' result attaches))
+    (called clients n n' host host' o o' links 1 closed result device answers.closed
+    answers.opened may (attached n n' o o' result goes pushes))
 
 -- a node that was made over a store which was loaded once all links were dialled
 pub device_begun : (clients : Meaning) (n : NodeValue) (s : StoreValue) (first : ℕ)

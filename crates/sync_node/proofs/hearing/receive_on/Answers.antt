@@ -61,23 +61,23 @@ returns-in-Failed-clause-went g c =
     hear_failed _ _ _ _ _ _ c.recv.new.buf (c.recv.auto.buf ∙ c.requires.whole) c.requires.asked c.in-Failed.ensures.call c.in-Failed.ensures.links c.in-Failed.ensures.answer
 
 pub returns-in_err-take_piece-in-Got-clause-keeps : goal.returns-in_err-take_piece-in-Got-clause-keeps
-returns-in_err-take_piece-in-Got-clause-keeps g c = 
+returns-in_err-take_piece-in-Got-clause-keeps g c =
     work_was _ _ _ _ _ _ _ _ _ c.in_err-take_piece-in-Got.field-0.0 c.from_residual.ensures.1
     (work_then _ _ _ _ _ _ _ _ _ _ _ _ _ (work_link _ _ _ _ _ _ _ true (link_kept _ _ _ _ _ (goes_heard _ _ _ _ _ c.recv.ensures.call c.recv.ensures.links) refl refl) c.recv.ensures.call.same_files c.requires.able.able) c.in_err-take_piece-in-Got.ensures.keeps)
 
 pub returns-in_ok-take_piece-in-Got-clause-keeps : goal.returns-in_ok-take_piece-in-Got-clause-keeps
-returns-in_ok-take_piece-in-Got-clause-keeps g c = 
+returns-in_ok-take_piece-in-Got-clause-keeps g c =
     work_ok _ _ _ _ _ _ _ _ _ false
     (work_then _ _ _ _ _ _ _ _ _ _ _ _ _ (work_link _ _ _ _ _ _ _ true (link_kept _ _ _ _ _ (goes_heard _ _ _ _ _ c.recv.ensures.call c.recv.ensures.links) refl refl) c.recv.ensures.call.same_files c.requires.able.able) c.in_ok-take_piece-in-Got.ensures.keeps)
 
 pub returns-in-Idle-clause-keeps : goal.returns-in-Idle-clause-keeps
-returns-in-Idle-clause-keeps g c = 
+returns-in-Idle-clause-keeps g c =
     work_link _ _ _ _ _ _ _ true (link_kept _ _ _ _ _ (goes_heard _ _ _ _ _ c.recv.ensures.call c.recv.ensures.links) refl refl) c.recv.ensures.call.same_files c.requires.able.able
 
 pub returns-in-End-clause-keeps : goal.returns-in-End-clause-keeps
-returns-in-End-clause-keeps g c = 
+returns-in-End-clause-keeps g c =
     work_link _ _ _ _ _ _ _ false (link_unfailed _ _ _ _ _ (goes_heard _ _ _ _ _ c.recv.ensures.call c.recv.ensures.links) refl (λ failed. ended_unfailed _ (sym c.ended-link.ensures ∙ failed))) c.recv.ensures.call.same_files c.requires.able.able
 
 pub returns-in-Failed-clause-keeps : goal.returns-in-Failed-clause-keeps
-returns-in-Failed-clause-keeps g c = 
+returns-in-Failed-clause-keeps g c =
     work_link _ _ _ _ _ _ _ false (link_failed _ _ _ _ _ (goes_heard _ _ _ _ _ c.recv.ensures.call c.recv.ensures.links) refl c.in-Failed.ensures.answer) c.recv.ensures.call.same_files c.requires.able.able

@@ -64,7 +64,7 @@ returns-in-Bad-clause-went g c =
     (rw c.in-Bad.is at c.in_ok-place.ensures.stream) left.0 left.1 left.2
 
 pub returns-in_err-place-clause-keeps : goal.returns-in_err-place-clause-keeps
-returns-in_err-place-clause-keeps g c = 
+returns-in_err-place-clause-keeps g c =
     work_memory _ _ _ _ _ _ _ c.from_residual.ensures.1 (link_kept _ _ _ _ _ (goes_none _) refl refl)
     c.requires.able.ready
 
@@ -87,5 +87,5 @@ pub returns-in-More-clause-keeps : goal.returns-in-More-clause-keeps
 returns-in-More-clause-keeps g c = work_none _ _ _ _ _ _ false (link_kept _ _ _ _ _ (goes_none _) refl refl) c.requires.able
 
 pub returns-in-Bad-clause-keeps : goal.returns-in-Bad-clause-keeps
-returns-in-Bad-clause-keeps g c = 
+returns-in-Bad-clause-keeps g c =
     work_none _ _ _ _ _ _ false (link_unfailed _ _ _ _ _ (goes_none _) refl (λ failed. cc)) c.requires.able

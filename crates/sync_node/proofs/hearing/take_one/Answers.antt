@@ -78,7 +78,7 @@ pub returns-in_err-commit-clause-goes : goal.returns-in_err-commit-clause-goes
 returns-in_err-commit-clause-goes g c = commit_goes _ c.in_ok-known.known.0 _ _ _ _ c.in_err-commit.field-0.0 c.in_err-commit.ensures.stopped
 
 pub returns-clause-goes : goal.returns-clause-goes
-returns-clause-goes g c = 
+returns-clause-goes g c =
     goes_then _ _ _ c.in_ok-commit.ensures.went.did.goes
     (settle_goes _ _ _ _ _ c.settle.result c.settle.ensures.went c.settle.ensures.stopped)
 
@@ -86,12 +86,12 @@ pub returns-in_err-known-clause-keeps : goal.returns-in_err-known-clause-keeps
 returns-in_err-known-clause-keeps g c = store_memory _ _ _ _ _ _ c.from_residual.ensures.1 c.requires.able.ready
 
 pub returns-in_err-commit-clause-keeps : goal.returns-in_err-commit-clause-keeps
-returns-in_err-commit-clause-keeps g c = 
+returns-in_err-commit-clause-keeps g c =
     store_was _ _ _ _ _ _ _ _ c.in_err-commit.field-0.0 c.from_residual-in_err-commit.ensures.1
     (commit_keeps (Unit {0}) _ c.in_ok-known.known.0 _ _ _ _ c.in_err-commit.field-0.0 c.in_err-commit.ensures.stopped)
 
 pub returns-clause-keeps : goal.returns-clause-keeps
-returns-clause-keeps g c = 
+returns-clause-keeps g c =
     let allowed = take_allowed _ _ c.takes-taken.result c.args.rec _ _ c.in_ok-known.known.0 c.requires.able c.records_are_within.ensures (takes_told c.args.store.now.state _ _ _ c.state.ensures c.takes-taken.ensures) c.in_ok-known.ensures.batch in
     take_keeps _ c.args.session.now c.args.rec _ _ _ _ _ _ c.in_ok-known.known.0 _
     (take_is c.args.store.now.state.facts c.args.session.now c.takes-taken.result c.args.rec c.in_ok-known.known.0 (takes_told c.args.store.now.state _ _ _ c.state.ensures c.takes-taken.ensures) c.in_ok-known.ensures.batch)

@@ -21,12 +21,12 @@ items-preserved g c = record {
 }
 
 pub returns-then-not-branch-clause-keeps : goal.returns-then-not-branch-clause-keeps
-returns-then-not-branch-clause-keeps g c = 
+returns-then-not-branch-clause-keeps g c =
     work_ok _ _ _ _ _ _ _ _ _ tt
     (work_then _ _ _ _ _ _ _ _ _ _ _ tt _ c.items.invariant.keeps c.in_ok-take_next.ensures.keeps)
 
 pub returns-in_err-take_next-clause-keeps : goal.returns-in_err-take_next-clause-keeps
-returns-in_err-take_next-clause-keeps g c = 
+returns-in_err-take_next-clause-keeps g c =
     work_was _ _ _ _ _ _ _ _ _ c.in_err-take_next.field-0.0 c.from_residual.ensures.1
     (work_then _ _ _ _ _ _ _ _ _ _ _ tt _ c.items.invariant.keeps c.in_err-take_next.ensures.keeps)
 

@@ -1,4 +1,4 @@
-use Rattle.sync_node.proofs.BeginLaws.{dial_begun, joined_begun, left_early, loaded_begins, new_may, nonce_begun, settled_begun}
+use Rattle.sync_node.proofs.BeginLaws.{dial_begun, left_early, loaded_begins, new_may, nonce_begun, settled_begun}
 use Rattle.sync_node.proofs.laws.runs_begin.Goals as goal
 
 pub returns-clause-failed : goal.returns-clause-failed
@@ -20,9 +20,6 @@ returns-clause-asked g c clients b s old new =
 pub returns-clause-settled : goal.returns-clause-settled
 returns-clause-settled g c clients b s s' old new =
     settled_begun c.cite_laws.ensures.fronts clients b s s' (g.H.Disk.tells old) (g.H.Disk.tells new)
-
-pub returns-clause-joined : goal.returns-clause-joined
-returns-clause-joined g c clients b s host = joined_begun clients b s (g.H.Disk.tells host)
 
 pub returns-clause-may : goal.returns-clause-may
 returns-clause-may g c clients s host = new_may clients s (g.H.Disk.tells host)

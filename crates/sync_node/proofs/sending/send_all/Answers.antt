@@ -18,7 +18,7 @@ outs-init g c = record {
 }
 
 pub put_out-requires-clause-able : goal.put_out-requires-clause-able
-put_out-requires-clause-able g c = 
+put_out-requires-clause-able g c =
     may_kept _ _ _ _ _ _ _ _ tt c.requires.able c.outs.invariant.keeps c.outs.invariant.waits
 
 pub returns-in_default-clause-waits : goal.returns-in_default-clause-waits
@@ -72,11 +72,11 @@ outs-preserved g c = record {
 }
 
 pub returns-in_err-out-clause-keeps : goal.returns-in_err-out-clause-keeps
-returns-in_err-out-clause-keeps g c = 
+returns-in_err-out-clause-keeps g c =
     work_halts _ _ _ _ _ _ _ _ tt _ c.from_residual.ensures.1 c.outs.invariant.keeps
 
 pub returns-in_err-put_out-clause-keeps : goal.returns-in_err-put_out-clause-keeps
-returns-in_err-put_out-clause-keeps g c = 
+returns-in_err-put_out-clause-keeps g c =
     work_was _ _ _ _ _ _ _ _ _ c.in_err-put_out.field-0.0 c.from_residual-in_err-put_out.ensures.1
     (work_then _ _ _ _ _ _ _ _ _ _ _ tt _ c.outs.invariant.keeps c.in_err-put_out.ensures.keeps)
 

@@ -1,7 +1,6 @@
-use Rattle.std.proofs.Common.{Err, ap, ◌∙◌}
+use Rattle.std.proofs.Common.{Err, ap}
 use Rattle.sync_store.specs.declared.fault.StoreFault.TheVariants as store_fault
 use Rattle.sync_node.proofs.BatchLaws.{commit_breaks, commit_did, commit_full, commit_idle}
-use Rattle.sync_node.proofs.CourseLaws.{unasked_most}
 use Rattle.sync_node.proofs.CourseTakes.{over_limit}
 use Rattle.sync_node.proofs.told.commit.Goals as goal
 
@@ -47,6 +46,4 @@ returns-in-Err-Full-clause-stopped g c =
     (commit_idle g.H.Disk.tells _ _ _ c.args.batch store_fault.Full _ _ c.requires.ready
     c.in-Err-Full.ensures.run answer.2 c.in-Err-Full.ensures.ready unasked
     (c.in-Err-Full.ensures.extends c.requires.ready.still_open))
-    (over_limit _ _ _ c.args.batch _ _ c.in-Err-Full.ensures.run
-    (unasked_most g.H.Disk.tells 0 _ _ unasked) answer
-    (c.in-Err-Full.ensures.extends c.requires.ready.still_open))
+    answer.1 (over_limit _ _ c.args.batch answer)

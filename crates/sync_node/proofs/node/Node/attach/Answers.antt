@@ -116,5 +116,7 @@ returns-in-Err-clause-stopped g c = λ opened.
 
 pub returns-in-Err-clause-stops : goal.returns-in-Err-clause-stops
 returns-in-Err-clause-stops g c = λ opened.
-    stops_attach (Unit {0}) (g.C.Clients.meaning c.args.clients.now) c.self.inside.store c.attach_on.new.store c.self.inside.first c.self.inside.links.items _ c.self.inside.closed _ _ _ _ _ _ c.in-Err.fault _
+    stops_attach (Unit {0}) (g.C.Clients.meaning c.args.clients.now) c.self.inside.store c.attach_on.new.store c.self.inside.first c.self.inside.links.items _ c.self.inside.closed _ _
+    c.args.host.now c.attach_on.new.host (g.H.Disk.tells c.args.host.now) (g.H.Disk.tells c.attach_on.new.host)
+    c.in-Err.fault _
     c.self.view_is c.close.ensures.fault c.in-Err.ensures.stops

@@ -1,4 +1,4 @@
-use Rattle.std.proofs.Common.{Bool, ◌<◌, List, ℕ, arith, refl, ap, sym, subst, ◌∙◌, length, Some}
+use Rattle.std.proofs.Common.{Bool, true, ◌<◌, List, ℕ, arith, refl, ap, sym, subst, ◌∙◌, length, Some}
 use Rattle.std.specs.List.{slice_get}
 use Rattle.std.proofs.lemmas.Option.{slice_get-get_or}
 use Rattle.sync_node.specs.Node.{IsNode, NodeValue}
@@ -59,8 +59,7 @@ receive_on-requires-clause-whole g c = ap (λ (b : List ℕ). length b) c.as_mut
 pub invariant_of-self : goal.invariant_of-self
 invariant_of-self g c =
     let within : c.args.link < length c.self.inside.links.items = omega (arith, c.requires.attached, ap (λ (n : NodeValue). length n.links) c.self.view_is) in
-    let here = slice_get-get_or c.self.inside.links.items c.args.link c.index_mut.result.now within ∙ ap Some (sym c.index_mut.ensures.value) in
-    (
+    let here = slice_get-get_or c.self.inside.links.items c.args.link c.index_mut.result.now within ∙ ap Some (sym c.index_mut.ensures.value) in (
       kept_long c.self.inside.buffer.len _ c.self.inside.buffer.items c.receive_on.new.buffer c.self.invariant.0 (omega (arith, c.as_mut_slice.ensures.len, ap (λ (b : List ℕ). length b) c.as_mut_slice.ensures.value))
           (omega (arith, c.receive_on.auto.buffer, ap (λ (b : List ℕ). length b) c.as_mut_slice.ensures.value)),
       is_node _ _ _ _ (omega (arith, c.self.invariant.1.few, length_set c.self.inside.links.items c.args.link c.receive_on.new.link)) (all_attached _ c.self.inside.first c.args.link c.self.inside.links.items _ c.receive_on.new.link _ _ _ _ _ (c.self.invariant.1.attached c.if-self.false) here c.in-Ok.ensures.keeps c.in-Ok.ensures.waits),
@@ -135,4 +134,5 @@ returns-in-Err-clause-kept g c =
 
 pub returns-in-Err-clause-stops : goal.returns-in-Err-clause-stops
 returns-in-Err-clause-stops g c = λ opened.
-    stops_call Bool _ _ c.self.inside.first _ _ _ _ c.in-Err.fault _ c.close.ensures.fault c.in-Err.ensures.keeps.store.answered
+    stops_call Bool (g.C.Clients.meaning c.args.clients.now) c.receive_on.new.store c.self.inside.first c.self.inside.links.items true
+    (g.H.Disk.tells c.args.host.now) (g.H.Disk.tells c.receive_on.new.host) c.in-Err.fault _ c.close.ensures.fault c.in-Err.ensures.keeps.store.answered

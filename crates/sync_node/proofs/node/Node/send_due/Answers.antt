@@ -1,4 +1,4 @@
-use Rattle.std.proofs.Common.{Bool, ◌<◌, List, ℕ, arith, refl, ap, sym, subst, ◌∙◌, length, Some}
+use Rattle.std.proofs.Common.{true, ◌<◌, ℕ, arith, refl, ap, sym, subst, ◌∙◌, length, Some}
 use Rattle.std.specs.List.{slice_get}
 use Rattle.std.proofs.lemmas.Option.{slice_get-get_or}
 use Rattle.sync_node.specs.Node.{IsNode, NodeValue}
@@ -49,8 +49,7 @@ send_all-requires g c =
 pub invariant_of-self : goal.invariant_of-self
 invariant_of-self g c =
     let within : c.args.link < length c.self.inside.links.items = omega (arith, c.requires.attached, ap (λ (n : NodeValue). length n.links) c.self.view_is) in
-    let here = slice_get-get_or c.self.inside.links.items c.args.link c.index_mut.result.now within ∙ ap Some (sym c.index_mut.ensures.value) in
-    (
+    let here = slice_get-get_or c.self.inside.links.items c.args.link c.index_mut.result.now within ∙ ap Some (sym c.index_mut.ensures.value) in (
       c.self.invariant.0,
       is_node _ _ _ _ (omega (arith, c.self.invariant.1.few, length_set c.self.inside.links.items c.args.link c.send_all.new.link)) (all_attached _ c.self.inside.first c.args.link c.self.inside.links.items _ c.send_all.new.link _ _ _ _ _ (c.self.invariant.1.attached c.if-self.false) here c.in-Ok.ensures.keeps c.in-Ok.ensures.waits),
     )
@@ -123,4 +122,5 @@ returns-in-Err-clause-kept g c =
 
 pub returns-in-Err-clause-stops : goal.returns-in-Err-clause-stops
 returns-in-Err-clause-stops g c = λ opened.
-    stops_call ℕ _ _ c.self.inside.first _ _ _ _ c.in-Err.fault _ c.close.ensures.fault c.in-Err.ensures.keeps.store.answered
+    stops_call ℕ (g.C.Clients.meaning c.args.clients.now) c.send_all.new.store c.self.inside.first c.self.inside.links.items true
+    (g.H.Disk.tells c.args.host.now) (g.H.Disk.tells c.send_all.new.host) c.in-Err.fault _ c.close.ensures.fault c.in-Err.ensures.keeps.store.answered

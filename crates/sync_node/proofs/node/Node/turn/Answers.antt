@@ -1,4 +1,4 @@
-use Rattle.std.proofs.Common.{List, ℕ, arith, refl, ap, subst, ◌∙◌, length}
+use Rattle.std.proofs.Common.{true, List, ℕ, arith, refl, ap, subst, ◌∙◌, length}
 use Rattle.sync_node.specs.declared.link.Link.{Link}
 use Rattle.sync_node.specs.declared.node.Turned.{Turned}
 use Rattle.sync_node.specs.Node.{IsNode, NodeValue}
@@ -53,15 +53,21 @@ turn_all-requires-clause-whole g c = ap (λ (b : List ℕ). length b) c.as_mut_s
 pub invariant_of-self : goal.invariant_of-self
 invariant_of-self g c = (
   kept_long c.self.inside.buffer.len _ c.self.inside.buffer.items c.turn_all.new.buffer c.self.invariant.0
-          (omega (arith, c.as_mut_slice-2.ensures.len, ap (λ (b : List ℕ). length b) c.as_mut_slice-2.ensures.value))
-          (omega (arith, c.turn_all.auto.buffer, ap (λ (b : List ℕ). length b) c.as_mut_slice-2.ensures.value)),
+      (omega (arith, c.as_mut_slice-2.ensures.len, ap (λ (b : List ℕ). length b) c.as_mut_slice-2.ensures.value))
+      (omega (arith, c.turn_all.auto.buffer, ap (λ (b : List ℕ). length b) c.as_mut_slice-2.ensures.value)),
   is_node _ _ _ _
-      (omega (arith, c.self.invariant.1.few, ap (λ (ls : List Link). length ls) (kept_same c.self.inside.links.len c.self.inside.links.items c.turn_all.new.links
-    (omega (arith, c.as_mut_slice.ensures.len, ap (λ (ls : List Link). length ls) c.as_mut_slice.ensures.value))
-    (omega (arith, c.turn_all.auto.links, ap (λ (ls : List Link). length ls) c.as_mut_slice.ensures.value))), c.turn_all.auto.links, ap (λ (ls : List Link). length ls) c.as_mut_slice.ensures.value))
+      (omega (
+        arith,
+        c.self.invariant.1.few,
+        ap (λ (ls : List Link). length ls) (kept_same c.self.inside.links.len c.self.inside.links.items c.turn_all.new.links
+            (omega (arith, c.as_mut_slice.ensures.len, ap (λ (ls : List Link). length ls) c.as_mut_slice.ensures.value))
+            (omega (arith, c.turn_all.auto.links, ap (λ (ls : List Link). length ls) c.as_mut_slice.ensures.value))),
+        c.turn_all.auto.links,
+        ap (λ (ls : List Link). length ls) c.as_mut_slice.ensures.value,
+      ))
       (links_kept c.self.inside.first _ _ _ (kept_same c.self.inside.links.len c.self.inside.links.items c.turn_all.new.links
-    (omega (arith, c.as_mut_slice.ensures.len, ap (λ (ls : List Link). length ls) c.as_mut_slice.ensures.value))
-    (omega (arith, c.turn_all.auto.links, ap (λ (ls : List Link). length ls) c.as_mut_slice.ensures.value)))
+      (omega (arith, c.as_mut_slice.ensures.len, ap (λ (ls : List Link). length ls) c.as_mut_slice.ensures.value))
+      (omega (arith, c.turn_all.auto.links, ap (λ (ls : List Link). length ls) c.as_mut_slice.ensures.value)))
       (c.in-Ok-true.ensures.keeps.store.answered.attached c.self.inside.first (attached_as c.self.inside.first _ _ _ c.as_mut_slice.ensures.value (c.self.invariant.1.attached c.if-self.false)))),
 )
 
@@ -88,15 +94,21 @@ returns-in-Ok-true-clause-went g c = λ opened.
 pub invariant_of-self-in-Ok-false : goal.invariant_of-self-in-Ok-false
 invariant_of-self-in-Ok-false g c = (
   kept_long c.self.inside.buffer.len _ c.self.inside.buffer.items c.turn_all.new.buffer c.self.invariant.0
-          (omega (arith, c.as_mut_slice-2.ensures.len, ap (λ (b : List ℕ). length b) c.as_mut_slice-2.ensures.value))
-          (omega (arith, c.turn_all.auto.buffer, ap (λ (b : List ℕ). length b) c.as_mut_slice-2.ensures.value)),
+      (omega (arith, c.as_mut_slice-2.ensures.len, ap (λ (b : List ℕ). length b) c.as_mut_slice-2.ensures.value))
+      (omega (arith, c.turn_all.auto.buffer, ap (λ (b : List ℕ). length b) c.as_mut_slice-2.ensures.value)),
   is_node _ _ _ _
-      (omega (arith, c.self.invariant.1.few, ap (λ (ls : List Link). length ls) (kept_same c.self.inside.links.len c.self.inside.links.items c.turn_all.new.links
-    (omega (arith, c.as_mut_slice.ensures.len, ap (λ (ls : List Link). length ls) c.as_mut_slice.ensures.value))
-    (omega (arith, c.turn_all.auto.links, ap (λ (ls : List Link). length ls) c.as_mut_slice.ensures.value))), c.turn_all.auto.links, ap (λ (ls : List Link). length ls) c.as_mut_slice.ensures.value))
+      (omega (
+        arith,
+        c.self.invariant.1.few,
+        ap (λ (ls : List Link). length ls) (kept_same c.self.inside.links.len c.self.inside.links.items c.turn_all.new.links
+            (omega (arith, c.as_mut_slice.ensures.len, ap (λ (ls : List Link). length ls) c.as_mut_slice.ensures.value))
+            (omega (arith, c.turn_all.auto.links, ap (λ (ls : List Link). length ls) c.as_mut_slice.ensures.value))),
+        c.turn_all.auto.links,
+        ap (λ (ls : List Link). length ls) c.as_mut_slice.ensures.value,
+      ))
       (links_kept c.self.inside.first _ _ _ (kept_same c.self.inside.links.len c.self.inside.links.items c.turn_all.new.links
-    (omega (arith, c.as_mut_slice.ensures.len, ap (λ (ls : List Link). length ls) c.as_mut_slice.ensures.value))
-    (omega (arith, c.turn_all.auto.links, ap (λ (ls : List Link). length ls) c.as_mut_slice.ensures.value)))
+      (omega (arith, c.as_mut_slice.ensures.len, ap (λ (ls : List Link). length ls) c.as_mut_slice.ensures.value))
+      (omega (arith, c.turn_all.auto.links, ap (λ (ls : List Link). length ls) c.as_mut_slice.ensures.value)))
       (c.in-Ok-false.ensures.keeps.store.answered.attached c.self.inside.first (attached_as c.self.inside.first _ _ _ c.as_mut_slice.ensures.value (c.self.invariant.1.attached c.if-self.false)))),
 )
 
@@ -155,7 +167,8 @@ returns-in-Err-clause-stopped g c = λ opened.
 
 pub returns-in-Err-clause-stops : goal.returns-in-Err-clause-stops
 returns-in-Err-clause-stops g c = λ opened.
-    stops_call Turned _ _ c.self.inside.first _ _ _ _ c.in-Err.fault _ c.close.ensures.fault c.in-Err.ensures.keeps.store.answered
+    stops_call Turned (g.C.Clients.meaning c.args.clients.now) c.turn_all.new.store c.self.inside.first c.self.inside.links.items true
+    (g.H.Disk.tells c.args.host.now) (g.H.Disk.tells c.turn_all.new.host) c.in-Err.fault _ c.close.ensures.fault c.in-Err.ensures.keeps.store.answered
 
 pub returns-in-Ok-true-clause-goes : goal.returns-in-Ok-true-clause-goes
 returns-in-Ok-true-clause-goes g c =
