@@ -20,6 +20,7 @@ use Rattle.sync_course.specs.Acts.{batches_in, commit_acts}
 use Rattle.sync_course.proofs.ActLaws.{batches_in_commits}
 use Rattle.sync_node.specs.Adding.{AddsAtMost, AddsOne, AddsWithin}
 use Rattle.sync_node.specs.Batches.{AddStops, Added}
+use Rattle.sync_node.specs.Calls.{AddCallStops}
 use Rattle.sync_node.specs.OnRuns.{ByFault}
 use Rattle.sync_node.specs.declared.fault.NodeFault.{NodeFault}
 use Rattle.sync_node.specs.declared.fault.NodeFault.TheVariants as node_fault
@@ -127,6 +128,12 @@ pub adding_over : (batch : List Entry) (s s' : StoreValue) (o o' : Outside) (x :
 adding_over batch s s' o o' x is stopped =
     let full = subst (λ (y : NodeFault). ByFault (AddStops bundle_meaning batch s s' o o') y) is stopped in
     full.before
+
+-- and then its host is as before
+pub add_undone : (n n' : NodeValue) (h h' : MemHostValue) (o o' : Outside) (x : NodeFault) → x ≡ node_fault.Full → AddCallStops {T = Unit {0}} bundle_meaning n n' h h' o o' (Err x) → h' ≡ h
+add_undone n n' h h' o o' x is stops =
+    let full = subst (λ (y : NodeFault). AddCallStops {T = Unit {0}} bundle_meaning n n' h h' o o' (Err y)) is stops in
+    full.undone.same_host
 
 -- adding came so far as that
 as_many : (count k : ℕ) (o o' : Outside) → k ≡ count → MakesAtMost (4 * k) o o' → MakesAtMost (4 * count) o o'

@@ -46,7 +46,7 @@ use Rattle.sync_rules.specs.declared.entries.Entry.{Entry}
 use Rattle.sync_node.specs.Adding.{IsPlain}
 use Rattle.sync_node.specs.Batches.{AddStops, Added}
 use Rattle.sync_node.specs.Causes.{sessions_of}
-use Rattle.sync_node.specs.Node.{IsNode, KeepsSessions, NodeValue}
+use Rattle.sync_node.specs.Node.{IsNode, KeepsSessions, MayRun, NodeValue}
 use Rattle.sync_node.specs.OnRuns.{BeginStopped, BeginWent, ByFault, RoundStopped, RoundWent}
 use Rattle.sync_node.specs.declared.fault.NodeFault.{NodeFault}
 use Rattle.sync_node.specs.declared.link.Link.{Link}
@@ -58,7 +58,7 @@ use Rattle.std.specs.declared.alloc.AllocError.{AllocError}
 use Rattle.world_devices.specs.Brought.{IsSilent, brought_on, bytes_of, planned_bytes}
 use Rattle.world_devices.specs.Linking.{AddsLink, KeepsLinks, LinksStand, PlansMore, first_of, number_of}
 use Rattle.world_devices.specs.Cited.{DeviceLaws}
-use Rattle.world_devices.specs.Devices.{DeviceValue, IsReadyStore, IsRunning, MayAddEntry, links_made}
+use Rattle.world_devices.specs.Devices.{DeviceValue, IsReadyStore, IsRunning, MayAddEntry, MayBeRunning, links_made}
 use Rattle.world_devices.specs.Keeping.{Journal, KeepsOn, TellsSame}
 use Rattle.world_devices.specs.Running.{DeviceRuns, GoOnHearing, HoldsAfterCrash, IsStill, LeavesOn, MayLeave, ReadsAsJournal, is_session_of, records_for}
 use Rattle.world_devices.specs.Running as running
@@ -66,8 +66,8 @@ use Rattle.world_devices.proofs.BroughtLaws.{plans_bring, told_brings, told_hear
 use Rattle.sync_course.proofs.HeardLaws.{bytes_by, bytes_of as event_bytes}
 use Rattle.world_devices.proofs.HostLaws.{crash_images, files_anew, silent_linked, silent_on, told_host}
 use Rattle.world_devices.proofs.LeaveLaws.{comes_still, leave_held, leave_same, leave_settling, still_fits}
-use Rattle.world_devices.proofs.RunLaws.{CallDid, CallEnds, add_ends, add_stopped, all_sent_on, begin_ends, begin_stopped, call_keeps, call_takes, place_adds, turn_ends, turn_stopped}
-use Rattle.world_devices.proofs.RunningLaws.{BringsAll, journal_of, open_of, silent_past}
+use Rattle.world_devices.proofs.RunLaws.{CallDid, CallEnds, add_ends, add_stopped, all_sent_on, begin_ends, begin_stopped, call_keeps, call_takes, ended_did, place_adds, turn_ends, turn_stopped}
+use Rattle.world_devices.proofs.RunningLaws.{BringsAll, journal_of, open_of, running_of, silent_past}
 
 -- ---- calls that leave the files
 
@@ -158,6 +158,18 @@ was_brought fronts n h h' links run did session link r on inside =
 
 -- ---- what calls of a node did
 
+-- an entry that may be added is none of a session
+plain_of : (maybe : Option NodeValue) (n : NodeValue) (e : Entry) → maybe ≡ Some n → MayAddEntry maybe e → IsPlain (e ∷ [])
+plain_of maybe n e is may = (subst (λ (x : Option NodeValue). MayAddEntry x e) is may).plain
+
+plain_batch : (batch : List Entry) (e : Entry) → batch ≡ e ∷ [] → IsPlain (e ∷ []) → IsPlain batch
+plain_batch batch e is plain = subst (λ (b : List Entry). IsPlain b) (sym is) plain
+
+-- it may follow the journal of a node that is open
+allowed_of : (maybe : Option NodeValue) (n : NodeValue) (e : Entry) (batch : List Entry) → maybe ≡ Some n → MayAddEntry maybe e → n.closed ≡ false → batch ≡ e ∷ [] → Allowed bundle_meaning n.store.state.facts batch
+allowed_of maybe n e batch is may unclosed single =
+    subst (λ (b : List Entry). Allowed bundle_meaning n.store.state.facts b) (sym single) ((subst (λ (x : Option NodeValue). MayAddEntry x e) is may).allowed unclosed)
+
 sessions_long : (links : List Link) → length (sessions_of links) ≡ length links
 sessions_long [] = refl
 sessions_long (l ∷ links) = ap suc (sessions_long links)
@@ -173,6 +185,9 @@ module _ (n n' : NodeValue) (h h' : MemHostValue) (links : ℕ) (run : IsRunning
   turn_done quiet is_node w =
       turn_ends n n' (host_told h) (host_told h') (told_host h) (silent_past n h links run) run.runs quiet (omega (arith, is_node.few, run.dialled)) w
 
+  pub turn_did : (quiet : Bool) → IsNode n' → RoundWent bundle_meaning n.first n.links n'.links n.store n'.store (host_told h) (host_told h') quiet → CallDid n (host_told h) (host_told h')
+  turn_did quiet is_node w = ended_did n n' (host_told h) (host_told h') (turn_done quiet is_node w)
+
   pub turn_broke : (x : NodeFault) → ByFault (RoundStopped bundle_meaning n.first n.links n'.links n.store n'.store (host_told h) (host_told h')) x → CallDid n (host_told h) (host_told h')
   turn_broke x stopped = turn_stopped n n' (host_told h) (host_told h') (told_host h) (silent_past n h links run) run.runs x stopped
 
@@ -182,17 +197,30 @@ module _ (n n' : NodeValue) (h h' : MemHostValue) (links : ℕ) (run : IsRunning
       begin_ends n n' (host_told h) (host_told h') (told_host h) (silent_past n h links run) run.runs session (number ∙ (run.attached.attached run.unclosed).begun)
       (omega (arith, is_node.few, run.dialled)) w
 
+  pub begin_did : (session : Session) → session.number ≡ n.store.state.facts.begun → IsNode n' → BeginWent bundle_meaning session n.links n'.links n.store n'.store (host_told h) (host_told h')
+      → CallDid n (host_told h) (host_told h')
+  begin_did session number is_node w = ended_did n n' (host_told h) (host_told h') (begin_done session number is_node w)
+
   pub begin_broke : (session : Session) (x : NodeFault) → ByFault (BeginStopped bundle_meaning session n.links n'.links n.store n'.store (host_told h) (host_told h')) x → CallDid n (host_told h) (host_told h')
   begin_broke session x stopped = begin_stopped n n' (host_told h) (host_told h') (told_host h) (silent_past n h links run) run.runs session x stopped
 
-  pub add_done : (batch : List Entry) → IsPlain batch → Allowed bundle_meaning n.store.state.facts batch → n'.links ≡ n.links → Added bundle_meaning batch n.store n'.store (host_told h) (host_told h')
-      → CallEnds n n' (host_told h) (host_told h')
-  add_done batch plain allowed same added =
-      add_ends n n' (host_told h) (host_told h') batch plain allowed (told_host h) (silent_past n h links run) run.runs (omega (arith, run.attached.few, run.dialled)) same added
+  -- an entry that may be added, as a batch of its own
+  module _ (maybe : Option NodeValue) (e : Entry) (batch : List Entry) (is : maybe ≡ Some n) (may : MayAddEntry maybe e) (single : batch ≡ e ∷ []) where
+    abbrev plain : IsPlain batch
+    plain = plain_batch batch e single (plain_of maybe n e is may)
 
-  pub add_broke : (batch : List Entry) → IsPlain batch → Allowed bundle_meaning n.store.state.facts batch → (x : NodeFault)
-      → ByFault (AddStops bundle_meaning batch n.store n'.store (host_told h) (host_told h')) x → CallDid n (host_told h) (host_told h')
-  add_broke batch plain allowed x stopped = add_stopped n n' (host_told h) (host_told h') batch plain allowed x stopped
+    abbrev allowed : Allowed bundle_meaning n.store.state.facts batch
+    allowed = allowed_of maybe n e batch is may run.unclosed single
+
+    pub add_done : n'.links ≡ n.links → Added bundle_meaning batch n.store n'.store (host_told h) (host_told h') → CallEnds n n' (host_told h) (host_told h')
+    add_done same added =
+        add_ends n n' (host_told h) (host_told h') batch plain allowed (told_host h) (silent_past n h links run) run.runs (omega (arith, run.attached.few, run.dialled)) same added
+
+    pub add_did : n'.links ≡ n.links → Added bundle_meaning batch n.store n'.store (host_told h) (host_told h') → CallDid n (host_told h) (host_told h')
+    add_did same added = ended_did n n' (host_told h) (host_told h') (add_done same added)
+
+    pub add_broke : (x : NodeFault) → ByFault (AddStops bundle_meaning batch n.store n'.store (host_told h) (host_told h')) x → CallDid n (host_told h) (host_told h')
+    add_broke x stopped = add_stopped n n' (host_told h) (host_told h') batch plain allowed x stopped
 
 -- ---- what calls may leave
 
@@ -204,16 +232,32 @@ pub call_leaves : DeviceLaws → (n : NodeValue) (h h' : MemHostValue) (links : 
 call_leaves laws n h h' links run did j holds =
     call_takes laws.moments n (host_told h) (host_told h') (told_host h) run.runs did (running.records_of (Some n) h) j (was_brought laws.fronts n h h' links run did) (leave_held (running.records_of (Some n) h) j h holds)
 
+-- a disk that fits a store is still
+pub ready_still : (s : StoreValue) (h : MemHostValue) → IsReady bundle_meaning s (host_told h).files → IsStill h
+ready_still s h ready = let has = journal_of s h ready in still_fits s has.whole h (told_host h).two (told_host h).files_are has.fits
+
+-- of a device that runs, by what a call of its node did
+module _ (laws : DeviceLaws) (maybe : Option NodeValue) (n : NodeValue) (h h' : MemHostValue) (links : ℕ) (is : maybe ≡ Some n)
+    (runs : MayBeRunning maybe h links) (did : IsRunning n h links → CallDid n (host_told h) (host_told h')) where
+  pub device_keeps : KeepsOn (host_told h) (host_told h')
+  device_keeps = let run = running_of maybe n h links is runs in call_keeps_on laws n h h' links run (did run)
+
+  pub device_leaves : (j : Journal) → HoldsAfterCrash j h → MayLeave (running.records_of maybe h) j (host_told h')
+  device_leaves j holds =
+      let run = running_of maybe n h links is runs in
+      subst (λ (x : Option NodeValue). MayLeave (running.records_of x h) j (host_told h')) (sym is) (call_leaves laws n h h' links run (did run) j holds)
+
+-- and the disk is still behind a call that ended
+pub may_still : (maybe : Option NodeValue) (n n' : NodeValue) (h h' : MemHostValue) (links : ℕ) → maybe ≡ Some n → MayBeRunning maybe h links
+    → (n.closed ≡ false → n'.closed ≡ false) → MayRun bundle_meaning n' (host_told h') → IsStill h'
+may_still maybe n n' h h' links is runs opened may = ready_still n'.store h' (may (opened (running_of maybe n h links is runs).unclosed)).ready
+
 pub settle_leaves : (s s' : StoreValue) (result : Result (Unit {0}) StoreFault) (h h' : MemHostValue) → IsReady bundle_meaning s (host_told h).files
     → HasSettled bundle_meaning s s' result (host_told h) (host_told h') → LeavesOn (host_told h) (host_told h')
 settle_leaves s s' result h h' ready settled =
     let has = journal_of s h ready in
     leave_settling settled.more has.whole s s' (host_told h) (host_told h') (told_host h).two (told_host h).files_are has.fits settled.comes.settling
     (settled.comes.leads (told_host h).two (told_host h).files_are has.whole has.fits)
-
--- a disk that fits a store is still
-pub ready_still : (s : StoreValue) (h : MemHostValue) → IsReady bundle_meaning s (host_told h).files → IsStill h
-ready_still s h ready = let has = journal_of s h ready in still_fits s has.whole h (told_host h).two (told_host h).files_are has.fits
 
 -- of a device that is another one by name
 pub runs_by : DeviceLaws → (d old new : DeviceValue) → d ≡ old → ((j : Journal) → HoldsAfterCrash j d.host → MayLeave (records_for d) j (host_told new.host)) → (is_some new.node ≡ true → IsStill new.host) → DeviceRuns old new
@@ -260,20 +304,6 @@ keeps_links n n' old new was is first number links brings = record {
 
 pub links_seen : (d old new : DeviceValue) → d ≡ old → KeepsLinks d new → KeepsLinks old new
 links_seen d old new is keeps = subst (λ (x : DeviceValue). KeepsLinks x new) is keeps
-
--- of a device whose node is this one
-pub of_node : (maybe : Option NodeValue) (n : NodeValue) (h : MemHostValue) (o : Outside) → maybe ≡ Some n → ((j : Journal) → HoldsAfterCrash j h → MayLeave (running.records_of (Some n) h) j o)
-    → (j : Journal) → HoldsAfterCrash j h → MayLeave (running.records_of maybe h) j o
-of_node maybe n h o is leaves j holds = subst (λ (x : Option NodeValue). MayLeave (running.records_of x h) j o) (sym is) (leaves j holds)
-
--- an entry that may be added is none of a session
-pub plain_of : (maybe : Option NodeValue) (n : NodeValue) (e : Entry) → maybe ≡ Some n → MayAddEntry maybe e → IsPlain (e ∷ [])
-plain_of maybe n e is may = (subst (λ (x : Option NodeValue). MayAddEntry x e) is may).plain
-
--- it may follow the journal of a node that is open
-pub allowed_of : (maybe : Option NodeValue) (n : NodeValue) (e : Entry) (batch : List Entry) → maybe ≡ Some n → MayAddEntry maybe e → n.closed ≡ false → batch ≡ e ∷ [] → Allowed bundle_meaning n.store.state.facts batch
-allowed_of maybe n e batch is may unclosed single =
-    subst (λ (b : List Entry). Allowed bundle_meaning n.store.state.facts b) (sym single) ((subst (λ (x : Option NodeValue). MayAddEntry x e) is may).allowed unclosed)
 
 -- ---- a session that began
 
@@ -337,9 +367,6 @@ adds_link plan nonce n n' h h' links old new run ready same_first one_more bring
 -- the store that is ready is the node's
 pub ready_store : (maybe : Option NodeValue) (n : NodeValue) (s : StoreValue) → maybe ≡ Some n → IsReadyStore maybe s → s ≡ n.store
 ready_store maybe n s is ready = (subst (λ (x : Option NodeValue). IsReadyStore x s) is ready).0
-
-pub plain_batch : (batch : List Entry) (e : Entry) → batch ≡ e ∷ [] → IsPlain (e ∷ []) → IsPlain batch
-plain_batch batch e is plain = subst (λ (b : List Entry). IsPlain b) (sym is) plain
 
 -- ---- what is planned
 

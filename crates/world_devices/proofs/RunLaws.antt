@@ -34,7 +34,7 @@ use Rattle.sync_course.specs.Paths.{Path}
 use Rattle.sync_course.specs.Story.{AllSuitNode, FreeActs, LinkFailed, begun_by, heard_at}
 use Rattle.sync_course.specs.Suits.{heard_in}
 use Rattle.sync_course.specs.Turns.{Attaches, Between, Place, Terms}
-use Rattle.sync_course.proofs.ActLaws.{batches_in-append, batches_in_commits, commit_acts-append, sends_on-append}
+use Rattle.sync_course.proofs.ActLaws.{batches_in-append, commit_acts-append, sends_on-append}
 use Rattle.sync_course.specs.declared.ends.LinkEnd.TheVariants as link_end
 use Rattle.sync_course.proofs.FailLaws.{FailsJust, path_fails}
 use Rattle.sync_course.proofs.FreeLaws.{run_acts_are_free}
@@ -533,15 +533,9 @@ module _ (n n' : NodeValue) (o o' : Outside) (batch : List Entry) (plain : IsPla
   pub add_ends : TellsAll o → ((link : ℕ) → length n.links ≤ link → heard_on o.links link ≡ []) → IsRunSoFar n o → length n.links ≤ o.links.dialled → n'.links ≡ n.links
       → Added bundle_meaning batch n.store n'.store o o' → CallEnds n n' o o'
   add_ends told silent run few links added =
-      let so_far : Journal = run.begin ++ batches_in run.acts in
-      let fit = added.by.did.fits so_far run.fits in
-      let facts_are : n'.store.state.facts ≡ after_batches n.store.state.facts added.by.more =
-      sym fit.2.facts_are ∙ facts-append so_far (batches_in (commit_acts added.by.more))
-      ∙ ap (λ (f : Facts). after_batches f (batches_in (commit_acts added.by.more))) run.fits.2.facts_are
-      ∙ ap (after_batches n.store.state.facts) (batches_in_commits added.by.more) in
       ends_at n o o' told silent n' (heard_on o.links) (commit_acts added.by.more) (omega (arith, few, ap length links))
       (subst (λ (ls : List Link). Path (NodeSteps n.first) (paid (node_place n o)) (commit_acts added.by.more)
       (paid (record { hold = Rests; links = links_from 0 ls (heard_on o.links); facts = n'.store.state.facts }))) (sym links)
       (subst (λ (f : Facts). Path (NodeSteps n.first) (paid (node_place n o)) (commit_acts added.by.more) (paid (resting (node_place n o).links f)))
-      (sym facts_are) (so_added added.by.more added.by.adds)))
+      (sym added.by.facts) (so_added added.by.more added.by.adds)))
       (subst (λ (ls : List Link). AllRead (heard_on o.links) ls) (sym links) run.has_read) added.by.did

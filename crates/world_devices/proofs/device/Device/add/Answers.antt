@@ -1,9 +1,8 @@
-use Rattle.std.proofs.Common.{Err, [], ap, arith, length, refl, sym, ◌∙◌}
+use Rattle.std.proofs.Common.{[], ap, arith, length, refl, sym, ◌∙◌}
 use Rattle.outside.specs.HostTold.{host_told}
-use Rattle.sync_node.specs.declared.fault.NodeFault.{NodeFault}
 use Rattle.world_devices.specs.Devices.{DeviceValue}
-use Rattle.world_devices.proofs.AddLaws.{adding_over, adds_crashed, adds_done, adds_within}
-use Rattle.world_devices.proofs.CallLaws.{add_broke, add_done, allowed_of, call_brings, call_keeps_on, call_leaves, keeps_links, links_seen, of_node, plain_batch, plain_of, ready_still, runs_by, runs_files, runs_none}
+use Rattle.world_devices.proofs.AddLaws.{add_undone, adding_over, adds_crashed, adds_done, adds_within}
+use Rattle.world_devices.proofs.CallLaws.{add_broke, add_did, add_done, call_brings, call_keeps_on, device_keeps, device_leaves, keeps_links, links_seen, may_still, runs_by, runs_files, runs_none}
 use Rattle.world_devices.proofs.GivingUpLaws.{adding_failed, adding_starved}
 use Rattle.world_devices.proofs.HostLaws.{brings_linked}
 use Rattle.world_devices.proofs.RunLaws.{ended_did}
@@ -19,156 +18,70 @@ invariant_of-self-in-Ok c =
     let links = c.self.inside.links in
     let run = running_of c.self.inside.node n h links c.in-Some.is c.self.invariant.0 in
     let was = sym (ap (λ (d : DeviceValue). d.node) c.self.view_is) ∙ c.in-Some.is in
-    let batch = c.in_ok-batch.batch in
-    let plain = plain_batch batch c.args.entry c.in_ok-batch.ensures (plain_of c.args.self.now.node n c.args.entry was c.requires) in
-    let allowed = allowed_of c.args.self.now.node n c.args.entry batch was c.requires run.unclosed c.in_ok-batch.ensures in
-    let ends = add_done n n' h h' links run batch plain allowed c.add.ensures.links c.in-Ok.ensures.went in
+    let ends = add_done n n' h h' links run c.args.self.now.node c.args.entry c.in_ok-batch.batch was c.requires c.in_ok-batch.ensures c.add.ensures.links c.in-Ok.ensures.went in
     let did = ended_did n n' (host_told h) (host_told h') ends in (
-      call_running n n' h h' links links ends c.add.ensures.first c.add.ensures.may (c.in-Ok.ensures.answer run.unclosed) c.add.ensures.node (call_brings n h h' links run did) (run.linked ∙ sym (ap length c.add.ensures.links)) (omega arith) run,
+      call_running n n' h h' links links ends c.add.ensures.goes.same_first c.add.ensures.may (c.in-Ok.ensures.answers.opened run.unclosed) c.add.ensures.goes.node (call_brings n h h' links run did) (run.linked ∙ sym (ap length c.add.ensures.links)) (omega arith) run,
       call_keeps_on c.cite_laws.ensures n h h' links run did [] c.self.invariant.1,
       c.self.invariant.2,
     )
 
 pub invariant_of-self-in-Err : goal.invariant_of-self-in-Err
-invariant_of-self-in-Err c =
-    let n = c.in-Some.node in
-    let n' = c.add.new.self in
-    let h = c.self.inside.host in
-    let h' = c.add.new.host in
-    let links = c.self.inside.links in
-    let run = running_of c.self.inside.node n h links c.in-Some.is c.self.invariant.0 in
-    let was = sym (ap (λ (d : DeviceValue). d.node) c.self.view_is) ∙ c.in-Some.is in
-    let batch = c.in_ok-batch.batch in
-    let plain = plain_batch batch c.args.entry c.in_ok-batch.ensures (plain_of c.args.self.now.node n c.args.entry was c.requires) in
-    let allowed = allowed_of c.args.self.now.node n c.args.entry batch was c.requires run.unclosed c.in_ok-batch.ensures in
-    let did = add_broke n n' h h' links run batch plain allowed _ (c.in-Err.ensures.stopped run.unclosed) in
-    (tt, call_keeps_on c.cite_laws.ensures n h h' links run did [] c.self.invariant.1, c.self.invariant.2)
+invariant_of-self-in-Err c = (
+  tt,
+  device_keeps c.cite_laws.ensures c.self.inside.node c.in-Some.node c.self.inside.host c.add.new.host c.self.inside.links c.in-Some.is c.self.invariant.0
+      (λ run. add_broke c.in-Some.node c.add.new.self c.self.inside.host c.add.new.host c.self.inside.links run c.args.self.now.node c.args.entry c.in_ok-batch.batch (sym (ap (λ (d : DeviceValue). d.node) c.self.view_is) ∙ c.in-Some.is) c.requires c.in_ok-batch.ensures _ (c.in-Err.ensures.stopped run.unclosed)) [] c.self.invariant.1,
+  c.self.invariant.2,
+)
 
 pub returns-in_err-test_done-in-Ok-clause-keeps : goal.returns-in_err-test_done-in-Ok-clause-keeps
 returns-in_err-test_done-in-Ok-clause-keeps c =
-    let n = c.in-Some.node in
-    let n' = c.add.new.self in
-    let h = c.self.inside.host in
-    let h' = c.add.new.host in
-    let links = c.self.inside.links in
-    let run = running_of c.self.inside.node n h links c.in-Some.is c.self.invariant.0 in
-    let was = sym (ap (λ (d : DeviceValue). d.node) c.self.view_is) ∙ c.in-Some.is in
-    let batch = c.in_ok-batch.batch in
-    let plain = plain_batch batch c.args.entry c.in_ok-batch.ensures (plain_of c.args.self.now.node n c.args.entry was c.requires) in
-    let allowed = allowed_of c.args.self.now.node n c.args.entry batch was c.requires run.unclosed c.in_ok-batch.ensures in
-    let ends = add_done n n' h h' links run batch plain allowed c.add.ensures.links c.in-Ok.ensures.went in
-    let did = ended_did n n' (host_told h) (host_told h') ends in
-    keeps_seen h c.args.self.now.host (host_told h') (ap (λ (d : DeviceValue). d.host) c.self.view_is) (call_keeps_on c.cite_laws.ensures n h h' links run did)
+    keeps_seen c.self.inside.host c.args.self.now.host (host_told c.add.new.host) (ap (λ (d : DeviceValue). d.host) c.self.view_is)
+    (device_keeps c.cite_laws.ensures c.self.inside.node c.in-Some.node c.self.inside.host c.add.new.host c.self.inside.links c.in-Some.is c.self.invariant.0
+    (λ run. add_did c.in-Some.node c.add.new.self c.self.inside.host c.add.new.host c.self.inside.links run c.args.self.now.node c.args.entry c.in_ok-batch.batch (sym (ap (λ (d : DeviceValue). d.node) c.self.view_is) ∙ c.in-Some.is) c.requires c.in_ok-batch.ensures c.add.ensures.links c.in-Ok.ensures.went))
 
 pub returns-in_err-test_done-in-Ok-clause-runs : goal.returns-in_err-test_done-in-Ok-clause-runs
 returns-in_err-test_done-in-Ok-clause-runs c =
-    let n = c.in-Some.node in
-    let n' = c.add.new.self in
-    let h = c.self.inside.host in
-    let h' = c.add.new.host in
-    let links = c.self.inside.links in
-    let run = running_of c.self.inside.node n h links c.in-Some.is c.self.invariant.0 in
-    let was = sym (ap (λ (d : DeviceValue). d.node) c.self.view_is) ∙ c.in-Some.is in
-    let batch = c.in_ok-batch.batch in
-    let plain = plain_batch batch c.args.entry c.in_ok-batch.ensures (plain_of c.args.self.now.node n c.args.entry was c.requires) in
-    let allowed = allowed_of c.args.self.now.node n c.args.entry batch was c.requires run.unclosed c.in_ok-batch.ensures in
-    let ends = add_done n n' h h' links run batch plain allowed c.add.ensures.links c.in-Ok.ensures.went in
-    let did = ended_did n n' (host_told h) (host_told h') ends in
-    runs_by c.cite_laws.ensures _ c.args.self.now _ c.self.view_is (λ j holds. of_node c.self.inside.node n h (host_told h') c.in-Some.is (call_leaves c.cite_laws.ensures n h h' links run did) j holds)
-    (λ _. ready_still n'.store h' (c.add.ensures.may (c.in-Ok.ensures.answer run.unclosed)).ready)
+    runs_by c.cite_laws.ensures _ c.args.self.now _ c.self.view_is
+    (device_leaves c.cite_laws.ensures c.self.inside.node c.in-Some.node c.self.inside.host c.add.new.host c.self.inside.links c.in-Some.is c.self.invariant.0
+    (λ run. add_did c.in-Some.node c.add.new.self c.self.inside.host c.add.new.host c.self.inside.links run c.args.self.now.node c.args.entry c.in_ok-batch.batch (sym (ap (λ (d : DeviceValue). d.node) c.self.view_is) ∙ c.in-Some.is) c.requires c.in_ok-batch.ensures c.add.ensures.links c.in-Ok.ensures.went))
+    (λ _. may_still c.self.inside.node c.in-Some.node c.add.new.self c.self.inside.host c.add.new.host c.self.inside.links c.in-Some.is c.self.invariant.0 c.in-Ok.ensures.answers.opened c.add.ensures.may)
 
 pub returns-in_ok-test_done-in-Ok-clause-keeps : goal.returns-in_ok-test_done-in-Ok-clause-keeps
 returns-in_ok-test_done-in-Ok-clause-keeps c =
-    let n = c.in-Some.node in
-    let n' = c.add.new.self in
-    let h = c.self.inside.host in
-    let h' = c.add.new.host in
-    let links = c.self.inside.links in
-    let run = running_of c.self.inside.node n h links c.in-Some.is c.self.invariant.0 in
-    let was = sym (ap (λ (d : DeviceValue). d.node) c.self.view_is) ∙ c.in-Some.is in
-    let batch = c.in_ok-batch.batch in
-    let plain = plain_batch batch c.args.entry c.in_ok-batch.ensures (plain_of c.args.self.now.node n c.args.entry was c.requires) in
-    let allowed = allowed_of c.args.self.now.node n c.args.entry batch was c.requires run.unclosed c.in_ok-batch.ensures in
-    let ends = add_done n n' h h' links run batch plain allowed c.add.ensures.links c.in-Ok.ensures.went in
-    let did = ended_did n n' (host_told h) (host_told h') ends in
-    keeps_seen h c.args.self.now.host (host_told h') (ap (λ (d : DeviceValue). d.host) c.self.view_is) (call_keeps_on c.cite_laws.ensures n h h' links run did)
+    keeps_seen c.self.inside.host c.args.self.now.host (host_told c.add.new.host) (ap (λ (d : DeviceValue). d.host) c.self.view_is)
+    (device_keeps c.cite_laws.ensures c.self.inside.node c.in-Some.node c.self.inside.host c.add.new.host c.self.inside.links c.in-Some.is c.self.invariant.0
+    (λ run. add_did c.in-Some.node c.add.new.self c.self.inside.host c.add.new.host c.self.inside.links run c.args.self.now.node c.args.entry c.in_ok-batch.batch (sym (ap (λ (d : DeviceValue). d.node) c.self.view_is) ∙ c.in-Some.is) c.requires c.in_ok-batch.ensures c.add.ensures.links c.in-Ok.ensures.went))
 
 pub returns-in_ok-test_done-in-Ok-clause-runs : goal.returns-in_ok-test_done-in-Ok-clause-runs
 returns-in_ok-test_done-in-Ok-clause-runs c =
-    let n = c.in-Some.node in
-    let n' = c.add.new.self in
-    let h = c.self.inside.host in
-    let h' = c.add.new.host in
-    let links = c.self.inside.links in
-    let run = running_of c.self.inside.node n h links c.in-Some.is c.self.invariant.0 in
-    let was = sym (ap (λ (d : DeviceValue). d.node) c.self.view_is) ∙ c.in-Some.is in
-    let batch = c.in_ok-batch.batch in
-    let plain = plain_batch batch c.args.entry c.in_ok-batch.ensures (plain_of c.args.self.now.node n c.args.entry was c.requires) in
-    let allowed = allowed_of c.args.self.now.node n c.args.entry batch was c.requires run.unclosed c.in_ok-batch.ensures in
-    let ends = add_done n n' h h' links run batch plain allowed c.add.ensures.links c.in-Ok.ensures.went in
-    let did = ended_did n n' (host_told h) (host_told h') ends in
-    runs_by c.cite_laws.ensures _ c.args.self.now _ c.self.view_is (λ j holds. of_node c.self.inside.node n h (host_told h') c.in-Some.is (call_leaves c.cite_laws.ensures n h h' links run did) j holds)
-    (λ _. ready_still n'.store h' (c.add.ensures.may (c.in-Ok.ensures.answer run.unclosed)).ready)
+    runs_by c.cite_laws.ensures _ c.args.self.now _ c.self.view_is
+    (device_leaves c.cite_laws.ensures c.self.inside.node c.in-Some.node c.self.inside.host c.add.new.host c.self.inside.links c.in-Some.is c.self.invariant.0
+    (λ run. add_did c.in-Some.node c.add.new.self c.self.inside.host c.add.new.host c.self.inside.links run c.args.self.now.node c.args.entry c.in_ok-batch.batch (sym (ap (λ (d : DeviceValue). d.node) c.self.view_is) ∙ c.in-Some.is) c.requires c.in_ok-batch.ensures c.add.ensures.links c.in-Ok.ensures.went))
+    (λ _. may_still c.self.inside.node c.in-Some.node c.add.new.self c.self.inside.host c.add.new.host c.self.inside.links c.in-Some.is c.self.invariant.0 c.in-Ok.ensures.answers.opened c.add.ensures.may)
 
 pub returns-in_err-fail-in-Err-clause-keeps : goal.returns-in_err-fail-in-Err-clause-keeps
 returns-in_err-fail-in-Err-clause-keeps c =
-    let n = c.in-Some.node in
-    let n' = c.add.new.self in
-    let h = c.self.inside.host in
-    let h' = c.add.new.host in
-    let links = c.self.inside.links in
-    let run = running_of c.self.inside.node n h links c.in-Some.is c.self.invariant.0 in
-    let was = sym (ap (λ (d : DeviceValue). d.node) c.self.view_is) ∙ c.in-Some.is in
-    let batch = c.in_ok-batch.batch in
-    let plain = plain_batch batch c.args.entry c.in_ok-batch.ensures (plain_of c.args.self.now.node n c.args.entry was c.requires) in
-    let allowed = allowed_of c.args.self.now.node n c.args.entry batch was c.requires run.unclosed c.in_ok-batch.ensures in
-    let did = add_broke n n' h h' links run batch plain allowed _ (c.in-Err.ensures.stopped run.unclosed) in
-    keeps_seen h c.args.self.now.host (host_told c.fail.new.self.host) (ap (λ (d : DeviceValue). d.host) c.self.view_is) (λ j k. c.fail.ensures.keeps j (call_keeps_on c.cite_laws.ensures n h h' links run did j k))
+    keeps_seen c.self.inside.host c.args.self.now.host (host_told c.fail.new.self.host) (ap (λ (d : DeviceValue). d.host) c.self.view_is)
+    (λ j k. c.fail.ensures.keeps j (device_keeps c.cite_laws.ensures c.self.inside.node c.in-Some.node c.self.inside.host c.add.new.host c.self.inside.links c.in-Some.is c.self.invariant.0
+    (λ run. add_broke c.in-Some.node c.add.new.self c.self.inside.host c.add.new.host c.self.inside.links run c.args.self.now.node c.args.entry c.in_ok-batch.batch (sym (ap (λ (d : DeviceValue). d.node) c.self.view_is) ∙ c.in-Some.is) c.requires c.in_ok-batch.ensures _ (c.in-Err.ensures.stopped run.unclosed)) j k))
 
 pub returns-in_err-fail-in-Err-clause-runs : goal.returns-in_err-fail-in-Err-clause-runs
 returns-in_err-fail-in-Err-clause-runs c =
-    let n = c.in-Some.node in
-    let n' = c.add.new.self in
-    let h = c.self.inside.host in
-    let h' = c.add.new.host in
-    let links = c.self.inside.links in
-    let run = running_of c.self.inside.node n h links c.in-Some.is c.self.invariant.0 in
-    let was = sym (ap (λ (d : DeviceValue). d.node) c.self.view_is) ∙ c.in-Some.is in
-    let batch = c.in_ok-batch.batch in
-    let plain = plain_batch batch c.args.entry c.in_ok-batch.ensures (plain_of c.args.self.now.node n c.args.entry was c.requires) in
-    let allowed = allowed_of c.args.self.now.node n c.args.entry batch was c.requires run.unclosed c.in_ok-batch.ensures in
-    let did = add_broke n n' h h' links run batch plain allowed _ (c.in-Err.ensures.stopped run.unclosed) in
-    runs_by c.cite_laws.ensures _ c.args.self.now _ c.self.view_is (λ j holds. c.fail.ensures.leaves _ j (of_node c.self.inside.node n h (host_told h') c.in-Some.is (call_leaves c.cite_laws.ensures n h h' links run did) j holds)) c.fail.ensures.still
+    runs_by c.cite_laws.ensures _ c.args.self.now _ c.self.view_is
+    (λ j holds. c.fail.ensures.leaves _ j (device_leaves c.cite_laws.ensures c.self.inside.node c.in-Some.node c.self.inside.host c.add.new.host c.self.inside.links c.in-Some.is c.self.invariant.0
+    (λ run. add_broke c.in-Some.node c.add.new.self c.self.inside.host c.add.new.host c.self.inside.links run c.args.self.now.node c.args.entry c.in_ok-batch.batch (sym (ap (λ (d : DeviceValue). d.node) c.self.view_is) ∙ c.in-Some.is) c.requires c.in_ok-batch.ensures _ (c.in-Err.ensures.stopped run.unclosed)) j holds)) c.fail.ensures.still
 
 pub returns-in_ok-fail-in-Err-clause-keeps : goal.returns-in_ok-fail-in-Err-clause-keeps
 returns-in_ok-fail-in-Err-clause-keeps c =
-    let n = c.in-Some.node in
-    let n' = c.add.new.self in
-    let h = c.self.inside.host in
-    let h' = c.add.new.host in
-    let links = c.self.inside.links in
-    let run = running_of c.self.inside.node n h links c.in-Some.is c.self.invariant.0 in
-    let was = sym (ap (λ (d : DeviceValue). d.node) c.self.view_is) ∙ c.in-Some.is in
-    let batch = c.in_ok-batch.batch in
-    let plain = plain_batch batch c.args.entry c.in_ok-batch.ensures (plain_of c.args.self.now.node n c.args.entry was c.requires) in
-    let allowed = allowed_of c.args.self.now.node n c.args.entry batch was c.requires run.unclosed c.in_ok-batch.ensures in
-    let did = add_broke n n' h h' links run batch plain allowed _ (c.in-Err.ensures.stopped run.unclosed) in
-    keeps_seen h c.args.self.now.host (host_told c.fail.new.self.host) (ap (λ (d : DeviceValue). d.host) c.self.view_is) (λ j k. c.fail.ensures.keeps j (call_keeps_on c.cite_laws.ensures n h h' links run did j k))
+    keeps_seen c.self.inside.host c.args.self.now.host (host_told c.fail.new.self.host) (ap (λ (d : DeviceValue). d.host) c.self.view_is)
+    (λ j k. c.fail.ensures.keeps j (device_keeps c.cite_laws.ensures c.self.inside.node c.in-Some.node c.self.inside.host c.add.new.host c.self.inside.links c.in-Some.is c.self.invariant.0
+    (λ run. add_broke c.in-Some.node c.add.new.self c.self.inside.host c.add.new.host c.self.inside.links run c.args.self.now.node c.args.entry c.in_ok-batch.batch (sym (ap (λ (d : DeviceValue). d.node) c.self.view_is) ∙ c.in-Some.is) c.requires c.in_ok-batch.ensures _ (c.in-Err.ensures.stopped run.unclosed)) j k))
 
 pub returns-in_ok-fail-in-Err-clause-runs : goal.returns-in_ok-fail-in-Err-clause-runs
 returns-in_ok-fail-in-Err-clause-runs c =
-    let n = c.in-Some.node in
-    let n' = c.add.new.self in
-    let h = c.self.inside.host in
-    let h' = c.add.new.host in
-    let links = c.self.inside.links in
-    let run = running_of c.self.inside.node n h links c.in-Some.is c.self.invariant.0 in
-    let was = sym (ap (λ (d : DeviceValue). d.node) c.self.view_is) ∙ c.in-Some.is in
-    let batch = c.in_ok-batch.batch in
-    let plain = plain_batch batch c.args.entry c.in_ok-batch.ensures (plain_of c.args.self.now.node n c.args.entry was c.requires) in
-    let allowed = allowed_of c.args.self.now.node n c.args.entry batch was c.requires run.unclosed c.in_ok-batch.ensures in
-    let did = add_broke n n' h h' links run batch plain allowed _ (c.in-Err.ensures.stopped run.unclosed) in
-    runs_by c.cite_laws.ensures _ c.args.self.now _ c.self.view_is (λ j holds. c.fail.ensures.leaves _ j (of_node c.self.inside.node n h (host_told h') c.in-Some.is (call_leaves c.cite_laws.ensures n h h' links run did) j holds)) c.fail.ensures.still
+    runs_by c.cite_laws.ensures _ c.args.self.now _ c.self.view_is
+    (λ j holds. c.fail.ensures.leaves _ j (device_leaves c.cite_laws.ensures c.self.inside.node c.in-Some.node c.self.inside.host c.add.new.host c.self.inside.links c.in-Some.is c.self.invariant.0
+    (λ run. add_broke c.in-Some.node c.add.new.self c.self.inside.host c.add.new.host c.self.inside.links run c.args.self.now.node c.args.entry c.in_ok-batch.batch (sym (ap (λ (d : DeviceValue). d.node) c.self.view_is) ∙ c.in-Some.is) c.requires c.in_ok-batch.ensures _ (c.in-Err.ensures.stopped run.unclosed)) j holds)) c.fail.ensures.still
 
 pub returns-in_err-batch-clause-runs : goal.returns-in_err-batch-clause-runs
 returns-in_err-batch-clause-runs c = runs_none c.args.self.now
@@ -185,7 +98,7 @@ returns-in_ok-test_done-in-Ok-clause-links c =
     let links = c.self.inside.links in
     let run = running_of c.self.inside.node n h links c.in-Some.is c.self.invariant.0 in
     links_seen _ c.args.self.now _ c.self.view_is
-    (keeps_links n n' _ _ c.in-Some.is refl c.add.ensures.first (ap length c.add.ensures.links) refl (λ link. brings_linked h h' link c.in-Ok.ensures.added.commits.same_links))
+    (keeps_links n n' _ _ c.in-Some.is refl c.add.ensures.goes.same_first (ap length c.add.ensures.links) refl (λ link. brings_linked h h' link c.in-Ok.ensures.went.same_links))
 
 pub returns-in_ok-test_done-in-Ok-clause-adds : goal.returns-in_ok-test_done-in-Ok-clause-adds
 returns-in_ok-test_done-in-Ok-clause-adds c =
@@ -196,7 +109,7 @@ returns-in_ok-test_done-in-Ok-clause-adds c =
     let links = c.self.inside.links in
     let run = running_of c.self.inside.node n h links c.in-Some.is c.self.invariant.0 in
     adds_done c.args.entry c.in_ok-batch.batch n n' h h' links _ c.args.self.now _ c.self.view_is c.in_ok-batch.ensures run c.in-Ok.ensures.went
-    c.in-Ok.ensures.added.commits.same_links refl refl c.in-Some.is refl c.add.ensures.links refl refl c.add.ensures.run.calls c.in_ok-test_done-in-Ok.ensures.ahead
+    c.in-Ok.ensures.went.same_links refl refl c.in-Some.is refl c.add.ensures.links refl refl c.add.ensures.goes.goes.calls c.in_ok-test_done-in-Ok.ensures.ahead
 
 pub returns-in_ok-fail-in-Err-clause-adds : goal.returns-in_ok-fail-in-Err-clause-adds
 returns-in_ok-fail-in-Err-clause-adds c =
@@ -206,7 +119,7 @@ returns-in_ok-fail-in-Err-clause-adds c =
     let h' = c.add.new.host in
     let links = c.self.inside.links in
     let run = running_of c.self.inside.node n h links c.in-Some.is c.self.invariant.0 in
-    adds_crashed c.args.entry c.in_ok-batch.batch n n' h h' links _ c.args.self.now c.fail.new.self c.self.view_is c.in_ok-batch.ensures (c.add.ensures.leads run.unclosed) run refl c.add.ensures.run.calls
+    adds_crashed c.args.entry c.in_ok-batch.batch n n' h h' links _ c.args.self.now c.fail.new.self c.self.view_is c.in_ok-batch.ensures (c.add.ensures.leads run.unclosed) run refl c.add.ensures.goes.goes.calls
     c.in_ok-fail-in-Err.ensures.to c.fail.ensures.clock c.in-Some.is
     (adds_within c.in_ok-batch.batch n.store n'.store (host_told h) (host_told h') c.in-Err.fault (c.in-Err.ensures.stopped run.unclosed))
 
@@ -221,11 +134,11 @@ returns-in_err-fail-in-Err-clause-adds c =
     adding_failed c.args.entry c.in_ok-batch.batch _ c.in_err-fail-in-Err.field-0.0 c.in-Err.fault n n' h h' links _ c.args.self.now c.fail.new.self c.self.view_is
     c.from_residual-in_err-fail-in-Err.ensures.1 c.in_err-fail-in-Err.ensures.unrefused c.in_err-fail-in-Err.ensures.full
     (λ is. adding_over c.in_ok-batch.batch n.store n'.store (host_told h) (host_told h') c.in-Err.fault is (c.in-Err.ensures.stopped run.unclosed))
-    (λ is. (c.in-Err.ensures.undone (ap (λ (x : NodeFault). Err x) is)).same_host)
-    c.in_ok-batch.ensures c.in-Some.is refl (c.add.ensures.leads run.unclosed) run c.fail.ensures.left c.add.ensures.run.calls
+    (λ is. add_undone n n' h h' (host_told h) (host_told h') c.in-Err.fault is (c.in-Err.ensures.stops run.unclosed))
+    c.in_ok-batch.ensures c.in-Some.is refl (c.add.ensures.leads run.unclosed) run c.fail.ensures.left c.add.ensures.goes.goes.calls
 
 pub returns-in_err-test_done-in-Ok-clause-adds : goal.returns-in_err-test_done-in-Ok-clause-adds
 returns-in_err-test_done-in-Ok-clause-adds c =
     let run = (running_of c.self.inside.node c.in-Some.node c.self.inside.host c.self.inside.links c.in-Some.is c.self.invariant.0) in
     adding_starved c.args.entry c.in_ok-batch.batch _ c.in_err-test_done-in-Ok.field-0.0 c.in-Some.node c.add.new.self c.self.inside.host c.self.inside.links _ c.args.self.now _ c.self.view_is
-    c.from_residual-in_err-test_done-in-Ok.ensures.1 c.in_err-test_done-in-Ok.ensures.unrefused c.in_err-test_done-in-Ok.ensures.unfilled c.in_ok-batch.ensures refl (c.add.ensures.leads run.unclosed) run c.add.ensures.run.calls
+    c.from_residual-in_err-test_done-in-Ok.ensures.1 c.in_err-test_done-in-Ok.ensures.unrefused c.in_err-test_done-in-Ok.ensures.unfilled c.in_ok-batch.ensures refl (c.add.ensures.leads run.unclosed) run c.add.ensures.goes.goes.calls

@@ -4,7 +4,7 @@ use Rattle.outside.specs.declared.limits.TheConstants.{LINKS}
 use Rattle.sync_node.specs.Plans.{session_of}
 use Rattle.sync_store.specs.Store.{IsStore, StoreValue}
 use Rattle.world_devices.specs.Devices.{DeviceValue}
-use Rattle.world_devices.proofs.CallLaws.{adds_link, adds_seen, begin_broke, begin_done, call_brings, call_keeps_on, call_leaves, of_node, one_longer, ready_still, ready_store, runs_by, runs_none}
+use Rattle.world_devices.proofs.CallLaws.{adds_link, adds_seen, begin_broke, begin_did, begin_done, call_brings, call_keeps_on, device_keeps, device_leaves, may_still, one_longer, ready_store, runs_by, runs_none}
 use Rattle.world_devices.proofs.CourseLaws.{beginning_breaks_off, begins_next}
 use Rattle.world_devices.proofs.FullLaws.{full_beginning}
 use Rattle.world_devices.proofs.HostLaws.{told_host}
@@ -22,126 +22,70 @@ invariant_of-self-in-Ok c =
     let links = c.self.inside.links in
     let run = running_of c.self.inside.node n h links c.in-Some-node.is c.self.invariant.0 in
     let session = session_of n.store.state.facts.begun c.args.plan.now c.args.nonce in
-    let ends = begin_done n n' h h' links run session refl c.attach.ensures.node (c.in-Ok.ensures.went run.unclosed) in
+    let ends = begin_done n n' h h' links run session refl c.attach.ensures.goes.node (c.in-Ok.ensures.went run.unclosed) in
     let did = ended_did n n' (host_told h) (host_told h') ends in (
-      call_running n n' h h' links (links + 1) ends c.attach.ensures.first c.attach.ensures.may (c.in-Ok.ensures.answer run.unclosed) c.attach.ensures.node (call_brings n h h' links run did) (omega (arith, run.linked, one_longer n.links n'.links c.in-Ok.ensures.links)) (omega arith) run,
+      call_running n n' h h' links (links + 1) ends c.attach.ensures.goes.same_first c.attach.ensures.may (c.in-Ok.ensures.answers.opened run.unclosed) c.attach.ensures.goes.node (call_brings n h h' links run did) (omega (arith, run.linked, one_longer n.links n'.links c.in-Ok.ensures.links)) (omega arith) run,
       call_keeps_on c.cite_laws.ensures n h h' links run did [] c.self.invariant.1,
       omega (arith, c.if-self-ge-LINKS.false),
     )
 
 pub invariant_of-self-in-Err : goal.invariant_of-self-in-Err
-invariant_of-self-in-Err c =
-    let n = c.in-Some-node.node in
-    let n' = c.attach.new.self in
-    let h = c.self.inside.host in
-    let h' = c.attach.new.host in
-    let links = c.self.inside.links in
-    let run = running_of c.self.inside.node n h links c.in-Some-node.is c.self.invariant.0 in
-    let session = session_of n.store.state.facts.begun c.args.plan.now c.args.nonce in
-    let did = begin_broke n n' h h' links run session _ (c.in-Err.ensures.stopped run.unclosed) in
-    (tt, call_keeps_on c.cite_laws.ensures n h h' links run did [] c.self.invariant.1, c.self.invariant.2)
+invariant_of-self-in-Err c = (
+  tt,
+  device_keeps c.cite_laws.ensures c.self.inside.node c.in-Some-node.node c.self.inside.host c.attach.new.host c.self.inside.links c.in-Some-node.is c.self.invariant.0
+      (λ run. begin_broke c.in-Some-node.node c.attach.new.self c.self.inside.host c.attach.new.host c.self.inside.links run (session_of c.in-Some-node.node.store.state.facts.begun c.args.plan.now c.args.nonce) _ (c.in-Err.ensures.stopped run.unclosed)) [] c.self.invariant.1,
+  c.self.invariant.2,
+)
 
 pub returns-in_err-test_done-in-Ok-clause-keeps : goal.returns-in_err-test_done-in-Ok-clause-keeps
 returns-in_err-test_done-in-Ok-clause-keeps c =
-    let n = c.in-Some-node.node in
-    let n' = c.attach.new.self in
-    let h = c.self.inside.host in
-    let h' = c.attach.new.host in
-    let links = c.self.inside.links in
-    let run = running_of c.self.inside.node n h links c.in-Some-node.is c.self.invariant.0 in
-    let session = session_of n.store.state.facts.begun c.args.plan.now c.args.nonce in
-    let ends = begin_done n n' h h' links run session refl c.attach.ensures.node (c.in-Ok.ensures.went run.unclosed) in
-    let did = ended_did n n' (host_told h) (host_told h') ends in
-    keeps_seen h c.args.self.now.host (host_told h') (ap (λ (d : DeviceValue). d.host) c.self.view_is) (call_keeps_on c.cite_laws.ensures n h h' links run did)
+    keeps_seen c.self.inside.host c.args.self.now.host (host_told c.attach.new.host) (ap (λ (d : DeviceValue). d.host) c.self.view_is)
+    (device_keeps c.cite_laws.ensures c.self.inside.node c.in-Some-node.node c.self.inside.host c.attach.new.host c.self.inside.links c.in-Some-node.is c.self.invariant.0
+    (λ run. begin_did c.in-Some-node.node c.attach.new.self c.self.inside.host c.attach.new.host c.self.inside.links run (session_of c.in-Some-node.node.store.state.facts.begun c.args.plan.now c.args.nonce) refl c.attach.ensures.goes.node (c.in-Ok.ensures.went run.unclosed)))
 
 pub returns-in_err-test_done-in-Ok-clause-runs : goal.returns-in_err-test_done-in-Ok-clause-runs
 returns-in_err-test_done-in-Ok-clause-runs c =
-    let n = c.in-Some-node.node in
-    let n' = c.attach.new.self in
-    let h = c.self.inside.host in
-    let h' = c.attach.new.host in
-    let links = c.self.inside.links in
-    let run = running_of c.self.inside.node n h links c.in-Some-node.is c.self.invariant.0 in
-    let session = session_of n.store.state.facts.begun c.args.plan.now c.args.nonce in
-    let ends = begin_done n n' h h' links run session refl c.attach.ensures.node (c.in-Ok.ensures.went run.unclosed) in
-    let did = ended_did n n' (host_told h) (host_told h') ends in
-    runs_by c.cite_laws.ensures _ c.args.self.now _ c.self.view_is (λ j holds. of_node c.self.inside.node n h (host_told h') c.in-Some-node.is (call_leaves c.cite_laws.ensures n h h' links run did) j holds)
-    (λ _. ready_still n'.store h' (c.attach.ensures.may (c.in-Ok.ensures.answer run.unclosed)).ready)
+    runs_by c.cite_laws.ensures _ c.args.self.now _ c.self.view_is
+    (device_leaves c.cite_laws.ensures c.self.inside.node c.in-Some-node.node c.self.inside.host c.attach.new.host c.self.inside.links c.in-Some-node.is c.self.invariant.0
+    (λ run. begin_did c.in-Some-node.node c.attach.new.self c.self.inside.host c.attach.new.host c.self.inside.links run (session_of c.in-Some-node.node.store.state.facts.begun c.args.plan.now c.args.nonce) refl c.attach.ensures.goes.node (c.in-Ok.ensures.went run.unclosed)))
+    (λ _. may_still c.self.inside.node c.in-Some-node.node c.attach.new.self c.self.inside.host c.attach.new.host c.self.inside.links c.in-Some-node.is c.self.invariant.0 c.in-Ok.ensures.answers.opened c.attach.ensures.may)
 
 pub returns-in_ok-test_done-in-Ok-clause-keeps : goal.returns-in_ok-test_done-in-Ok-clause-keeps
 returns-in_ok-test_done-in-Ok-clause-keeps c =
-    let n = c.in-Some-node.node in
-    let n' = c.attach.new.self in
-    let h = c.self.inside.host in
-    let h' = c.attach.new.host in
-    let links = c.self.inside.links in
-    let run = running_of c.self.inside.node n h links c.in-Some-node.is c.self.invariant.0 in
-    let session = session_of n.store.state.facts.begun c.args.plan.now c.args.nonce in
-    let ends = begin_done n n' h h' links run session refl c.attach.ensures.node (c.in-Ok.ensures.went run.unclosed) in
-    let did = ended_did n n' (host_told h) (host_told h') ends in
-    keeps_seen h c.args.self.now.host (host_told h') (ap (λ (d : DeviceValue). d.host) c.self.view_is) (call_keeps_on c.cite_laws.ensures n h h' links run did)
+    keeps_seen c.self.inside.host c.args.self.now.host (host_told c.attach.new.host) (ap (λ (d : DeviceValue). d.host) c.self.view_is)
+    (device_keeps c.cite_laws.ensures c.self.inside.node c.in-Some-node.node c.self.inside.host c.attach.new.host c.self.inside.links c.in-Some-node.is c.self.invariant.0
+    (λ run. begin_did c.in-Some-node.node c.attach.new.self c.self.inside.host c.attach.new.host c.self.inside.links run (session_of c.in-Some-node.node.store.state.facts.begun c.args.plan.now c.args.nonce) refl c.attach.ensures.goes.node (c.in-Ok.ensures.went run.unclosed)))
 
 pub returns-in_ok-test_done-in-Ok-clause-runs : goal.returns-in_ok-test_done-in-Ok-clause-runs
 returns-in_ok-test_done-in-Ok-clause-runs c =
-    let n = c.in-Some-node.node in
-    let n' = c.attach.new.self in
-    let h = c.self.inside.host in
-    let h' = c.attach.new.host in
-    let links = c.self.inside.links in
-    let run = running_of c.self.inside.node n h links c.in-Some-node.is c.self.invariant.0 in
-    let session = session_of n.store.state.facts.begun c.args.plan.now c.args.nonce in
-    let ends = begin_done n n' h h' links run session refl c.attach.ensures.node (c.in-Ok.ensures.went run.unclosed) in
-    let did = ended_did n n' (host_told h) (host_told h') ends in
-    runs_by c.cite_laws.ensures _ c.args.self.now _ c.self.view_is (λ j holds. of_node c.self.inside.node n h (host_told h') c.in-Some-node.is (call_leaves c.cite_laws.ensures n h h' links run did) j holds)
-    (λ _. ready_still n'.store h' (c.attach.ensures.may (c.in-Ok.ensures.answer run.unclosed)).ready)
+    runs_by c.cite_laws.ensures _ c.args.self.now _ c.self.view_is
+    (device_leaves c.cite_laws.ensures c.self.inside.node c.in-Some-node.node c.self.inside.host c.attach.new.host c.self.inside.links c.in-Some-node.is c.self.invariant.0
+    (λ run. begin_did c.in-Some-node.node c.attach.new.self c.self.inside.host c.attach.new.host c.self.inside.links run (session_of c.in-Some-node.node.store.state.facts.begun c.args.plan.now c.args.nonce) refl c.attach.ensures.goes.node (c.in-Ok.ensures.went run.unclosed)))
+    (λ _. may_still c.self.inside.node c.in-Some-node.node c.attach.new.self c.self.inside.host c.attach.new.host c.self.inside.links c.in-Some-node.is c.self.invariant.0 c.in-Ok.ensures.answers.opened c.attach.ensures.may)
 
 pub returns-in_err-fail-in-Err-clause-keeps : goal.returns-in_err-fail-in-Err-clause-keeps
 returns-in_err-fail-in-Err-clause-keeps c =
-    let n = c.in-Some-node.node in
-    let n' = c.attach.new.self in
-    let h = c.self.inside.host in
-    let h' = c.attach.new.host in
-    let links = c.self.inside.links in
-    let run = running_of c.self.inside.node n h links c.in-Some-node.is c.self.invariant.0 in
-    let session = session_of n.store.state.facts.begun c.args.plan.now c.args.nonce in
-    let did = begin_broke n n' h h' links run session _ (c.in-Err.ensures.stopped run.unclosed) in
-    keeps_seen h c.args.self.now.host (host_told c.fail.new.self.host) (ap (λ (d : DeviceValue). d.host) c.self.view_is) (λ j k. c.fail.ensures.keeps j (call_keeps_on c.cite_laws.ensures n h h' links run did j k))
+    keeps_seen c.self.inside.host c.args.self.now.host (host_told c.fail.new.self.host) (ap (λ (d : DeviceValue). d.host) c.self.view_is)
+    (λ j k. c.fail.ensures.keeps j (device_keeps c.cite_laws.ensures c.self.inside.node c.in-Some-node.node c.self.inside.host c.attach.new.host c.self.inside.links c.in-Some-node.is c.self.invariant.0
+    (λ run. begin_broke c.in-Some-node.node c.attach.new.self c.self.inside.host c.attach.new.host c.self.inside.links run (session_of c.in-Some-node.node.store.state.facts.begun c.args.plan.now c.args.nonce) _ (c.in-Err.ensures.stopped run.unclosed)) j k))
 
 pub returns-in_err-fail-in-Err-clause-runs : goal.returns-in_err-fail-in-Err-clause-runs
 returns-in_err-fail-in-Err-clause-runs c =
-    let n = c.in-Some-node.node in
-    let n' = c.attach.new.self in
-    let h = c.self.inside.host in
-    let h' = c.attach.new.host in
-    let links = c.self.inside.links in
-    let run = running_of c.self.inside.node n h links c.in-Some-node.is c.self.invariant.0 in
-    let session = session_of n.store.state.facts.begun c.args.plan.now c.args.nonce in
-    let did = begin_broke n n' h h' links run session _ (c.in-Err.ensures.stopped run.unclosed) in
-    runs_by c.cite_laws.ensures _ c.args.self.now _ c.self.view_is (λ j holds. c.fail.ensures.leaves _ j (of_node c.self.inside.node n h (host_told h') c.in-Some-node.is (call_leaves c.cite_laws.ensures n h h' links run did) j holds)) c.fail.ensures.still
+    runs_by c.cite_laws.ensures _ c.args.self.now _ c.self.view_is
+    (λ j holds. c.fail.ensures.leaves _ j (device_leaves c.cite_laws.ensures c.self.inside.node c.in-Some-node.node c.self.inside.host c.attach.new.host c.self.inside.links c.in-Some-node.is c.self.invariant.0
+    (λ run. begin_broke c.in-Some-node.node c.attach.new.self c.self.inside.host c.attach.new.host c.self.inside.links run (session_of c.in-Some-node.node.store.state.facts.begun c.args.plan.now c.args.nonce) _ (c.in-Err.ensures.stopped run.unclosed)) j holds)) c.fail.ensures.still
 
 pub returns-in_ok-fail-in-Err-clause-keeps : goal.returns-in_ok-fail-in-Err-clause-keeps
 returns-in_ok-fail-in-Err-clause-keeps c =
-    let n = c.in-Some-node.node in
-    let n' = c.attach.new.self in
-    let h = c.self.inside.host in
-    let h' = c.attach.new.host in
-    let links = c.self.inside.links in
-    let run = running_of c.self.inside.node n h links c.in-Some-node.is c.self.invariant.0 in
-    let session = session_of n.store.state.facts.begun c.args.plan.now c.args.nonce in
-    let did = begin_broke n n' h h' links run session _ (c.in-Err.ensures.stopped run.unclosed) in
-    keeps_seen h c.args.self.now.host (host_told c.fail.new.self.host) (ap (λ (d : DeviceValue). d.host) c.self.view_is) (λ j k. c.fail.ensures.keeps j (call_keeps_on c.cite_laws.ensures n h h' links run did j k))
+    keeps_seen c.self.inside.host c.args.self.now.host (host_told c.fail.new.self.host) (ap (λ (d : DeviceValue). d.host) c.self.view_is)
+    (λ j k. c.fail.ensures.keeps j (device_keeps c.cite_laws.ensures c.self.inside.node c.in-Some-node.node c.self.inside.host c.attach.new.host c.self.inside.links c.in-Some-node.is c.self.invariant.0
+    (λ run. begin_broke c.in-Some-node.node c.attach.new.self c.self.inside.host c.attach.new.host c.self.inside.links run (session_of c.in-Some-node.node.store.state.facts.begun c.args.plan.now c.args.nonce) _ (c.in-Err.ensures.stopped run.unclosed)) j k))
 
 pub returns-in_ok-fail-in-Err-clause-runs : goal.returns-in_ok-fail-in-Err-clause-runs
 returns-in_ok-fail-in-Err-clause-runs c =
-    let n = c.in-Some-node.node in
-    let n' = c.attach.new.self in
-    let h = c.self.inside.host in
-    let h' = c.attach.new.host in
-    let links = c.self.inside.links in
-    let run = running_of c.self.inside.node n h links c.in-Some-node.is c.self.invariant.0 in
-    let session = session_of n.store.state.facts.begun c.args.plan.now c.args.nonce in
-    let did = begin_broke n n' h h' links run session _ (c.in-Err.ensures.stopped run.unclosed) in
-    runs_by c.cite_laws.ensures _ c.args.self.now _ c.self.view_is (λ j holds. c.fail.ensures.leaves _ j (of_node c.self.inside.node n h (host_told h') c.in-Some-node.is (call_leaves c.cite_laws.ensures n h h' links run did) j holds)) c.fail.ensures.still
+    runs_by c.cite_laws.ensures _ c.args.self.now _ c.self.view_is
+    (λ j holds. c.fail.ensures.leaves _ j (device_leaves c.cite_laws.ensures c.self.inside.node c.in-Some-node.node c.self.inside.host c.attach.new.host c.self.inside.links c.in-Some-node.is c.self.invariant.0
+    (λ run. begin_broke c.in-Some-node.node c.attach.new.self c.self.inside.host c.attach.new.host c.self.inside.links run (session_of c.in-Some-node.node.store.state.facts.begun c.args.plan.now c.args.nonce) _ (c.in-Err.ensures.stopped run.unclosed)) j holds)) c.fail.ensures.still
 
 pub attach-requires-clause-begun : goal.attach-requires-clause-begun
 attach-requires-clause-begun c =
@@ -165,14 +109,14 @@ returns-in_ok-test_done-in-Ok-clause-links c =
     let links = c.self.inside.links in
     let run = running_of c.self.inside.node n h links c.in-Some-node.is c.self.invariant.0 in
     let session = session_of n.store.state.facts.begun c.args.plan.now c.args.nonce in
-    let ends = begin_done n n' h h' links run session refl c.attach.ensures.node (c.in-Ok.ensures.went run.unclosed) in
+    let ends = begin_done n n' h h' links run session refl c.attach.ensures.goes.node (c.in-Ok.ensures.went run.unclosed) in
     let did = ended_did n n' (host_told h) (host_told h') ends in
     let was = sym (ap (λ (d : DeviceValue). d.node) c.self.view_is) ∙ c.in-Some-node.is in
     let own = ready_store c.args.self.now.node c.in-Some-node.node c.in-Some.store.now was c.in-Some.ensures in
     let number = c.sessions-session.ensures ∙ ap (λ (s : StoreValue). s.state.facts.begun) own in
     adds_seen c.args.plan.now.contact _ _ c.args.self.now _ number
-    (adds_link c.args.plan.now c.args.nonce n n' h h' links c.args.self.now _ run (c.attach.ensures.may (c.in-Ok.ensures.answer run.unclosed)).ready
-    c.attach.ensures.first (one_longer n.links n'.links c.in-Ok.ensures.links) (call_brings n h h' links run did) c.in-Ok.ensures.facts
+    (adds_link c.args.plan.now c.args.nonce n n' h h' links c.args.self.now _ run (c.attach.ensures.may (c.in-Ok.ensures.answers.opened run.unclosed)).ready
+    c.attach.ensures.goes.same_first (one_longer n.links n'.links c.in-Ok.ensures.links) (call_brings n h h' links run did) (c.in-Ok.ensures.went run.unclosed).facts
     was refl (sym (ap (λ (d : DeviceValue). d.host) c.self.view_is)) refl (sym (ap (λ (d : DeviceValue). d.links) c.self.view_is)) refl)
 
 pub returns-in_ok-fail-in-Err-clause-running : goal.returns-in_ok-fail-in-Err-clause-running
@@ -192,9 +136,9 @@ returns-in_err-fail-in-Err-clause-attaches c =
     let session = session_of n.store.state.facts.begun c.args.plan.now c.args.nonce in
     attaches_seen c.args.plan.now c.args.nonce _ _ c.args.self.now _ c.self.view_is
     (beginning_failed c.args.plan.now c.args.nonce _ c.in_err-fail-in-Err.field-0.0 c.in-Err.fault n n'.store h' _ _ c.from_residual-in_err-fail-in-Err.ensures.1
-    c.in_err-fail-in-Err.ensures.unrefused c.in-Some-node.is c.in_err-fail-in-Err.ensures.full c.attach.ensures.limit
+    c.in_err-fail-in-Err.ensures.unrefused c.in-Some-node.is c.in_err-fail-in-Err.ensures.full c.attach.ensures.goes.same_limit
     (λ is. full_beginning c.cite_laws.ensures.full session n n' (host_told h) (host_told h') (told_host h) run.runs c.in-Err.fault is (c.in-Err.ensures.stopped run.unclosed))
-    (beginning_breaks_off session n n' (host_told h) (host_told h') c.in-Err.fault (c.in-Err.ensures.stopped run.unclosed)) c.fail.ensures.left c.attach.ensures.run.calls)
+    (beginning_breaks_off session n n' (host_told h) (host_told h') c.in-Err.fault (c.in-Err.ensures.stopped run.unclosed)) c.fail.ensures.left c.attach.ensures.goes.goes.calls)
 
 pub returns-in_err-test_done-in-Ok-clause-attaches : goal.returns-in_err-test_done-in-Ok-clause-attaches
 returns-in_err-test_done-in-Ok-clause-attaches c =
@@ -210,8 +154,8 @@ returns-in_err-test_done-in-Ok-clause-attaches c =
     let number = c.sessions-session.ensures ∙ ap (λ (s : StoreValue). s.state.facts.begun) own in
     attaches_seen c.args.plan.now c.args.nonce _ _ c.args.self.now _ c.self.view_is
     (beginning_starved c.args.plan.now c.args.nonce _ c.in_err-test_done-in-Ok.field-0.0 c.sessions-session.result n n' _ _ c.from_residual.ensures.1
-    c.in_err-test_done-in-Ok.ensures.unrefused c.in_err-test_done-in-Ok.ensures.unfilled c.in-Some-node.is refl number c.attach.ensures.first
-    (begins_next session n n' (host_told h) (host_told h') (run.attached.attached run.unclosed).begun (c.in-Ok.ensures.went run.unclosed)) c.in-Ok.ensures.facts)
+    c.in_err-test_done-in-Ok.ensures.unrefused c.in_err-test_done-in-Ok.ensures.unfilled c.in-Some-node.is refl number c.attach.ensures.goes.same_first
+    (begins_next session n n' (host_told h) (host_told h') (run.attached.attached run.unclosed).begun (c.in-Ok.ensures.went run.unclosed)) (c.in-Ok.ensures.went run.unclosed).facts)
 
 pub returns-in_ok-test_done-in-Ok-clause-attaches : goal.returns-in_ok-test_done-in-Ok-clause-attaches
 returns-in_ok-test_done-in-Ok-clause-attaches c =
@@ -226,8 +170,8 @@ returns-in_ok-test_done-in-Ok-clause-attaches c =
     let own = ready_store c.args.self.now.node c.in-Some-node.node c.in-Some.store.now was c.in-Some.ensures in
     let number = c.sessions-session.ensures ∙ ap (λ (s : StoreValue). s.state.facts.begun) own in
     attaches_seen c.args.plan.now c.args.nonce (Ok (Some c.sessions-session.result)) _ c.args.self.now _ c.self.view_is
-    (session_begun c.args.plan.now c.args.nonce _ n n' _ _ c.in-Some-node.is refl refl refl c.attach.ensures.run.calls c.in_ok-test_done-in-Ok.ensures.ahead number c.attach.ensures.first
-    (begins_next session n n' (host_told h) (host_told h') (run.attached.attached run.unclosed).begun (c.in-Ok.ensures.went run.unclosed)) c.in-Ok.ensures.facts)
+    (session_begun c.args.plan.now c.args.nonce _ n n' _ _ c.in-Some-node.is refl refl refl c.attach.ensures.goes.goes.calls c.in_ok-test_done-in-Ok.ensures.ahead number c.attach.ensures.goes.same_first
+    (begins_next session n n' (host_told h) (host_told h') (run.attached.attached run.unclosed).begun (c.in-Ok.ensures.went run.unclosed)) (c.in-Ok.ensures.went run.unclosed).facts)
 
 pub returns-in_ok-fail-in-Err-clause-attaches : goal.returns-in_ok-fail-in-Err-clause-attaches
 returns-in_ok-fail-in-Err-clause-attaches c =
@@ -239,7 +183,7 @@ returns-in_ok-fail-in-Err-clause-attaches c =
     let run = running_of c.self.inside.node n h links c.in-Some-node.is c.self.invariant.0 in
     let session = session_of n.store.state.facts.begun c.args.plan.now c.args.nonce in
     attaches_seen c.args.plan.now c.args.nonce (Ok None) _ c.args.self.now _ c.self.view_is
-    (beginning_broken c.args.plan.now c.args.nonce n h' _ _ c.in-Some-node.is (beginning_breaks_off session n n' (host_told h) (host_told h') c.in-Err.fault (c.in-Err.ensures.stopped run.unclosed)) c.attach.ensures.run.calls
+    (beginning_broken c.args.plan.now c.args.nonce n h' _ _ c.in-Some-node.is (beginning_breaks_off session n n' (host_told h) (host_told h') c.in-Err.fault (c.in-Err.ensures.stopped run.unclosed)) c.attach.ensures.goes.goes.calls
     c.in_ok-fail-in-Err.ensures.to c.in_ok-fail-in-Err.ensures.clock)
 
 pub returns-in_err-fail-in-Err-clause-refused : goal.returns-in_err-fail-in-Err-clause-refused
