@@ -9,7 +9,8 @@ use Rattle.outside.specs.MemHost.{MemHostValue, upcoming_of}
 use Rattle.client_basic.specs.Bodies.{bundle_meaning}
 use Rattle.entry_codec.specs.Standing.{stands, journal}
 use Rattle.sync_rules.specs.declared.entries.Entry.{Entry}
-use Rattle.sync_rules.specs.Facts.{Facts, after_all, facts}
+use Rattle.sync_rules.specs.declared.entries.Entry.TheVariants as entry
+use Rattle.sync_rules.specs.Facts.{Facts, after_all, after_batches, facts}
 use Rattle.sync_rules.specs.Legal.{AllSettling}
 use Rattle.sync_rules.specs.Steps.{IsSettled}
 use Rattle.sync_store.specs.Commits.{needed}
@@ -29,7 +30,8 @@ use Rattle.sync_node.specs.Node.{NodeValue}
 use Rattle.world_devices.specs.Devices.{DeviceValue, HostGoesOn, IsAnew, IsRunning}
 use Rattle.world_devices.specs.Doing.{DeviceAddsEntry, BreaksOff, CameAdding, HasEntryAdded, HasAtMost, HoldsAtMost, IsAhead, KeepsOwn, KeepsRest, OfNode, StopsIn}
 use Rattle.world_devices.specs.Keeping.{Journal}
-use Rattle.world_devices.specs.Linking.{WhenDone}
+use Rattle.world_devices.specs.Cited.{SettlingLeaves}
+use Rattle.world_devices.specs.Linking.{IsBare, WhenDone}
 use Rattle.world_devices.specs.Running.{HoldsAfterCrash}
 use Rattle.world_devices.specs.declared.stop.Ran.{Ran}
 use Rattle.world_devices.specs.declared.stop.Ran.TheVariants as ran
@@ -103,6 +105,21 @@ adds_done e batch n n' h h' linked d old new seen is run added same its its' was
         told = ap told_links its' ∙ same ∙ sym (ap told_links its);
       },
     )
+
+-- settling leaves all but what is judged: after a contact was added there is one more
+pub bare_added : SettlingLeaves → (contacts number : ℕ) (e : Entry) (batch : List Entry) (s s' : StoreValue) (o o' : Outside) → batch ≡ e ∷ [] → e ≡ entry.Contact number
+    → Added bundle_meaning batch s s' o o' → IsBare contacts s → IsBare (contacts + 1) s'
+bare_added laws contacts number e batch s s' o o' single is added bare =
+    let one = has_one batch added.by.more s.state.facts added.by.adds added.some in
+    let contact : batch ≡ entry.Contact number ∷ [] = single ∙ ap (λ (x : Entry). x ∷ []) is in
+    let facts_are : s'.state.facts ≡ after_batches (after_all s.state.facts batch) one.0 = added.by.facts ∙ ap (after_batches s.state.facts) one.1 in
+    let kept = laws bundle_meaning (after_all s.state.facts batch) one.0 one.2 in
+    record {
+      empty = ap (λ (f : Facts). f.held) facts_are ∙ (kept.held ∙ (ap (λ (b : List Entry). (after_all s.state.facts b).held) contact ∙ bare.empty));
+      counted =
+          ap (λ (f : Facts). f.contacts) facts_are
+          ∙ (kept.contacts ∙ (ap (λ (b : List Entry). (after_all s.state.facts b).contacts) contact ∙ ap (λ (k : ℕ). k + 1) bare.counted));
+    }
 
 -- ---- the disk stopped
 

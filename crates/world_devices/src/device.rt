@@ -144,6 +144,7 @@ impl Device {
         ensures { DeviceLinksStand self.now }
     {
         cite_laws();
+        let _links = self.links;
     }
 
     // Its store where it runs; its journal is settled, as it is between any two calls.

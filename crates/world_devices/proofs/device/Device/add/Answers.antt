@@ -1,7 +1,9 @@
-use Rattle.std.proofs.Common.{[], ap, arith, length, refl, sym, ◌∙◌}
+use Rattle.std.proofs.Common.{[], ap, arith, length, refl, sym, subst, ◌∙◌, Option}
 use Rattle.outside.specs.HostTold.{host_told}
+use Rattle.sync_node.specs.Node.{NodeValue}
 use Rattle.world_devices.specs.Devices.{DeviceValue}
-use Rattle.world_devices.proofs.AddLaws.{add_undone, adding_over, adds_crashed, adds_done, adds_within}
+use Rattle.world_devices.specs.Linking.{IsBareIn}
+use Rattle.world_devices.proofs.AddLaws.{add_undone, adding_over, adds_crashed, adds_done, adds_within, bare_added}
 use Rattle.world_devices.proofs.CallLaws.{add_broke, add_did, add_done, call_brings, call_keeps_on, device_keeps, device_leaves, keeps_links, links_seen, may_still, runs_by, runs_files, runs_none}
 use Rattle.world_devices.proofs.GivingUpLaws.{adding_failed, adding_starved}
 use Rattle.world_devices.proofs.HostLaws.{brings_linked}
@@ -142,3 +144,9 @@ returns-in_err-test_done-in-Ok-clause-adds c =
     let run = (running_of c.self.inside.node c.in-Some.node c.self.inside.host c.self.inside.links c.in-Some.is c.self.invariant.0) in
     adding_starved c.args.entry c.in_ok-batch.batch _ c.in_err-test_done-in-Ok.field-0.0 c.in-Some.node c.add.new.self c.self.inside.host c.self.inside.links _ c.args.self.now _ c.self.view_is
     c.from_residual-in_err-test_done-in-Ok.ensures.1 c.in_err-test_done-in-Ok.ensures.unrefused c.in_err-test_done-in-Ok.ensures.unfilled c.in_ok-batch.ensures refl (c.add.ensures.leads run.unclosed) run c.add.ensures.goes.goes.calls
+
+pub returns-in_ok-test_done-in-Ok-clause-bare : goal.returns-in_ok-test_done-in-Ok-clause-bare
+returns-in_ok-test_done-in-Ok-clause-bare c = λ contacts number is bare.
+    let was = sym (ap (λ (d : DeviceValue). d.node) c.self.view_is) ∙ c.in-Some.is in
+    bare_added c.cite_laws.ensures.settling contacts number c.args.entry c.in_ok-batch.batch c.in-Some.node.store c.add.new.self.store (host_told c.self.inside.host) (host_told c.add.new.host)
+    c.in_ok-batch.ensures is c.in-Ok.ensures.went (subst (λ (x : Option NodeValue). IsBareIn contacts x) was bare)
