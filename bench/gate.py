@@ -2,8 +2,7 @@
 """Runs the gate, or part of it, and prints what each crate cost it, as a table of docs/COSTS.md.
 
     bench/gate.py                         the gate, `rt ci`
-    bench/gate.py rt ci --anew            all of it anew, whatever an earlier run proved
-    bench/gate.py rt ci bramble_hash      one crate and those below it
+    bench/gate.py rt ci --anew            all of it anew, with a kit that keeps what an earlier run proved
     bench/gate.py --watch SEEN            each `rt ci` and `rt must-fail` of this machine, in whatever clone, until this is
                                           interrupted: it keeps in the file SEEN what they used, and adds to what stands there
     bench/gate.py --of SEEN LOG..         the table of what was kept so, with the functions that these logs tell of
