@@ -67,15 +67,12 @@ most_of (entry.Arrive s m) = 32815
 most_of (entry.Judged id) = 33
 most_of (entry.Deliver id) = 33
 most_of (entry.Invalid id) = 33
-most_of (entry.Again s id) = 37
-most_of (entry.Offered s id) = 37
-most_of (entry.Seen s id) = 37
-most_of (entry.Asked s id) = 37
 most_of (entry.Out s now what) = MAX_SPELLING
 most_of (entry.Brief n) = 5
 most_of (entry.Kept from m) = 32813
 most_of (entry.Tried t) = 44
 most_of (entry.Want contact id) = 34
+most_of _ = 37
 
 pub length_within : (e : Entry) → IsEntry e → (2 ≤ length (spelling e)) × (length (spelling e) ≤ most_of e)
 unfolding spelling
@@ -89,36 +86,15 @@ length_within (entry.Arrive s m) is = (omega (arith, length_message m is.1), ome
 length_within (entry.Judged id) is = (omega (arith, is), omega (arith, is))
 length_within (entry.Deliver id) is = (omega (arith, is), omega (arith, is))
 length_within (entry.Invalid id) is = (omega (arith, is), omega (arith, is))
-length_within (entry.Again s id) is = (omega (arith, is.1), omega (arith, is.1))
-length_within (entry.Offered s id) is = (omega (arith, is.1), omega (arith, is.1))
-length_within (entry.Seen s id) is = (omega (arith, is.1), omega (arith, is.1))
-length_within (entry.Asked s id) is = (omega (arith, is.1), omega (arith, is.1))
 length_within (entry.Out s now what) is = (omega arith, omega (arith, out_short what is.2))
 length_within (entry.Brief n) is = (omega arith, omega arith)
 length_within (entry.Kept from m) is = let len = length_kept from m is.1 in (omega (arith, len), omega (arith, len, is.1.short_body))
 length_within (entry.Tried t) is = let len = length_tried t is.whole_id in (omega (arith, len), omega (arith, len))
-length_within (entry.Want contact id) is = (omega (arith, is.1), omega (arith, is.1))
+length_within _ is = (omega (arith, is.1), omega (arith, is.1))
 
 most_below : (e : Entry) → most_of e ≤ MAX_SPELLING
 most_below (entry.Contact c) = omega arith
-most_below (entry.Group def) = omega arith
-most_below (entry.Level c g l) = omega arith
-most_below (entry.Session s) = omega arith
-most_below (entry.Take s k) = omega arith
-most_below (entry.Author m) = omega arith
-most_below (entry.Arrive s m) = omega arith
-most_below (entry.Judged id) = omega arith
-most_below (entry.Deliver id) = omega arith
-most_below (entry.Invalid id) = omega arith
-most_below (entry.Again s id) = omega arith
-most_below (entry.Offered s id) = omega arith
-most_below (entry.Seen s id) = omega arith
-most_below (entry.Asked s id) = omega arith
-most_below (entry.Out s now what) = omega arith
-most_below (entry.Brief n) = omega arith
-most_below (entry.Kept from m) = omega arith
-most_below (entry.Tried t) = omega arith
-most_below (entry.Want contact id) = omega arith
+most_below _ = omega arith
 
 pub short : (e : Entry) → IsEntry e → (2 ≤ length (spelling e)) × (length (spelling e) ≤ MAX_SPELLING)
 short e is = let within = length_within e is in (within.0, omega (arith, within.1, most_below e))
@@ -133,25 +109,15 @@ out_whole (out.Offers ids) is = is.whole
 out_whole (out.Send id) is = is
 
 pub ids_whole : (e : Entry) → IsEntry e → EntryNames IsId e
-ids_whole (entry.Contact c) is = tt
-ids_whole (entry.Group def) is = tt
-ids_whole (entry.Level c g l) is = tt
-ids_whole (entry.Session s) is = tt
-ids_whole (entry.Take s k) is = tt
-ids_whole (entry.Author m) is = tt
-ids_whole (entry.Arrive s m) is = tt
 ids_whole (entry.Judged id) is = is
 ids_whole (entry.Deliver id) is = is
 ids_whole (entry.Invalid id) is = is
 ids_whole (entry.Again s id) is = is.1
-ids_whole (entry.Offered s id) is = tt
 ids_whole (entry.Seen s id) is = is.1
 ids_whole (entry.Asked s id) is = is.1
 ids_whole (entry.Out s now what) is = out_whole what is.2
-ids_whole (entry.Brief n) is = tt
-ids_whole (entry.Kept from m) is = tt
 ids_whole (entry.Tried t) is = is.whole_id
-ids_whole (entry.Want contact id) is = tt
+ids_whole _ is = tt
 
 short_ids : (names ids : List (List ℕ)) → length (flat_map (held_bytes format.Short names) ids) ≡ 4 * length ids
 short_ids names [] = refl
@@ -167,47 +133,21 @@ saved_out names (out.Send id) is = omega (arith, is)
 -- a number has 28 bytes less than an id
 pub saved : (names : List (List ℕ)) (e : Entry) → EntryNames IsId e → length (spelling_in format.Short names e) + 28 * named_count e ≡ length (spelling e)
 unfolding spelling spelling_in
-saved names (entry.Contact c) is = omega arith
-saved names (entry.Group def) is = omega arith
-saved names (entry.Level c g l) is = omega arith
-saved names (entry.Session s) is = omega arith
-saved names (entry.Take s k) is = omega arith
-saved names (entry.Author m) is = omega arith
-saved names (entry.Arrive s m) is = omega arith
 saved names (entry.Judged id) is = omega (arith, is)
 saved names (entry.Deliver id) is = omega (arith, is)
 saved names (entry.Invalid id) is = omega (arith, is)
 saved names (entry.Again s id) is = omega (arith, is)
-saved names (entry.Offered s id) is = omega arith
 saved names (entry.Seen s id) is = omega (arith, is)
 saved names (entry.Asked s id) is = omega (arith, is)
 saved names (entry.Out s now what) is = omega (arith, saved_out names what is)
-saved names (entry.Brief n) is = omega arith
-saved names (entry.Kept from m) is = omega arith
 saved names (entry.Tried t) is = omega (arith, is, length-append t.id (row_bytes t))
-saved names (entry.Want contact id) is = omega arith
+saved names _ is = omega arith
 
 pub short_some : (names : List (List ℕ)) (e : Entry) → 2 ≤ length (spelling_in format.Short names e)
 unfolding spelling_in
-short_some names (entry.Contact c) = omega arith
-short_some names (entry.Group def) = omega arith
-short_some names (entry.Level c g l) = omega arith
-short_some names (entry.Session s) = omega arith
-short_some names (entry.Take s k) = omega arith
 short_some names (entry.Author m) = omega (arith, length-append m.group (to_be_bytes w64 m.timestamp ++ counted m.body))
-short_some names (entry.Arrive s m) = omega arith
-short_some names (entry.Judged id) = omega arith
-short_some names (entry.Deliver id) = omega arith
-short_some names (entry.Invalid id) = omega arith
-short_some names (entry.Again s id) = omega arith
-short_some names (entry.Offered s id) = omega arith
-short_some names (entry.Seen s id) = omega arith
-short_some names (entry.Asked s id) = omega arith
-short_some names (entry.Out s now what) = omega arith
-short_some names (entry.Brief n) = omega arith
 short_some names (entry.Kept from m) = omega (arith, length-append (origin_bytes from) (message_bytes m), length_origin from)
-short_some names (entry.Tried t) = omega arith
-short_some names (entry.Want contact id) = omega arith
+short_some names _ = omega arith
 
 -- how long a spelling is does not depend on the names
 same_out : (names : List (List ℕ)) (o : Out) → length (out_bytes (held_bytes format.Short names) o) ≡ length (out_bytes (held_bytes format.Short []) o)
@@ -218,25 +158,8 @@ same_out names (out.Send id) = refl
 
 pub same_short : (names : List (List ℕ)) (e : Entry) → length (spelling_in format.Short names e) ≡ length (spelling_in format.Short [] e)
 unfolding spelling_in
-same_short names (entry.Contact c) = refl
-same_short names (entry.Group def) = refl
-same_short names (entry.Level c g l) = refl
-same_short names (entry.Session s) = refl
-same_short names (entry.Take s k) = refl
-same_short names (entry.Author m) = refl
-same_short names (entry.Arrive s m) = refl
-same_short names (entry.Judged id) = refl
-same_short names (entry.Deliver id) = refl
-same_short names (entry.Invalid id) = refl
-same_short names (entry.Again s id) = refl
-same_short names (entry.Offered s id) = refl
-same_short names (entry.Seen s id) = refl
-same_short names (entry.Asked s id) = refl
 same_short names (entry.Out s now what) = omega (arith, same_out names what)
-same_short names (entry.Brief n) = refl
-same_short names (entry.Kept from m) = refl
-same_short names (entry.Tried t) = refl
-same_short names (entry.Want contact id) = refl
+same_short names _ = refl
 
 -- a spelling has two bytes or more
 pub spelled_some : (f : Format) (names : List (List ℕ)) (e : Entry) → IsEntry e → 2 ≤ length (spelling_in f names e)

@@ -29,46 +29,14 @@ adds_all (e ∷ es) = adds e + adds_all es
 
 -- the counts of messages and of listed sessions after an entry
 held_after : (f : Facts) (e : Entry) → length (after f e).held ≤ length f.held + adds e
-held_after f (entry.Contact c) = omega arith
-held_after f (entry.Group def) = omega arith
-held_after f (entry.Level c g l) = omega arith
-held_after f (entry.Session s) = omega arith
-held_after f (entry.Take s k) = omega arith
 held_after f (entry.Author m) = omega (arith, length-append f.held (authored m ∷ []))
 held_after f (entry.Arrive s m) = omega (arith, length-append f.held (arrived (contact_of f.sessions s) m ∷ []))
-held_after f (entry.Judged id) = omega arith
-held_after f (entry.Deliver id) = omega arith
-held_after f (entry.Invalid id) = omega arith
-held_after f (entry.Again s id) = omega arith
-held_after f (entry.Offered s id) = omega arith
-held_after f (entry.Seen s id) = omega arith
-held_after f (entry.Asked s id) = omega arith
-held_after f (entry.Out s now what) = omega arith
-held_after f (entry.Brief n) = omega arith
 held_after f (entry.Kept from m) = omega (arith, length-append f.held (kept_as from m ∷ []))
-held_after f (entry.Tried t) = omega arith
-held_after f (entry.Want contact id) = omega arith
+held_after f _ = omega arith
 
 listed_after : (f : Facts) (e : Entry) → length (after f e).sessions ≤ length f.sessions + adds e
-listed_after f (entry.Contact c) = omega arith
-listed_after f (entry.Group def) = omega arith
-listed_after f (entry.Level c g l) = omega arith
 listed_after f (entry.Session s) = omega (arith, length-append f.sessions (s ∷ []))
-listed_after f (entry.Take s k) = omega arith
-listed_after f (entry.Author m) = omega arith
-listed_after f (entry.Arrive s m) = omega arith
-listed_after f (entry.Judged id) = omega arith
-listed_after f (entry.Deliver id) = omega arith
-listed_after f (entry.Invalid id) = omega arith
-listed_after f (entry.Again s id) = omega arith
-listed_after f (entry.Offered s id) = omega arith
-listed_after f (entry.Seen s id) = omega arith
-listed_after f (entry.Asked s id) = omega arith
-listed_after f (entry.Out s now what) = omega arith
-listed_after f (entry.Brief n) = omega arith
-listed_after f (entry.Kept from m) = omega arith
-listed_after f (entry.Tried t) = omega arith
-listed_after f (entry.Want contact id) = omega arith
+listed_after f _ = omega arith
 
 held_after_all : (f : Facts) (es : List Entry) → length (after_all f es).held ≤ length f.held + adds_all es
 held_after_all f [] = omega arith
@@ -117,24 +85,7 @@ taken_adds f s c (record_kind.Priority nonce) = omega arith
 
 few : (e : Entry) → adds e ≤ 1
 few (entry.Contact c) = omega arith
-few (entry.Group def) = omega arith
-few (entry.Level c g l) = omega arith
-few (entry.Session s) = omega arith
-few (entry.Take s k) = omega arith
-few (entry.Author m) = omega arith
-few (entry.Arrive s m) = omega arith
-few (entry.Judged id) = omega arith
-few (entry.Deliver id) = omega arith
-few (entry.Invalid id) = omega arith
-few (entry.Again s id) = omega arith
-few (entry.Offered s id) = omega arith
-few (entry.Seen s id) = omega arith
-few (entry.Asked s id) = omega arith
-few (entry.Out s now what) = omega arith
-few (entry.Brief n) = omega arith
-few (entry.Kept from m) = omega arith
-few (entry.Tried t) = omega arith
-few (entry.Want contact id) = omega arith
+few _ = omega arith
 
 alone : (e : Entry) (rest : List Entry) → rest ≡ [] → adds_all (e ∷ rest) ≤ 1
 alone e rest none = subst (λ (es : List Entry). adds_all (e ∷ es) ≤ 1) (sym none) (omega (arith, few e))

@@ -280,22 +280,5 @@ out_free (out.Offers ids) = all_free ids
 out_free (out.Send id) = tt
 
 pub entry_free : (e : Entry) → EntryNames (λ id. Unit {0}) e
-entry_free (entry.Judged id) = tt
-entry_free (entry.Deliver id) = tt
-entry_free (entry.Invalid id) = tt
-entry_free (entry.Again s id) = tt
-entry_free (entry.Seen s id) = tt
-entry_free (entry.Asked s id) = tt
 entry_free (entry.Out s now what) = out_free what
-entry_free (entry.Tried t) = tt
-entry_free (entry.Contact c) = tt
-entry_free (entry.Group def) = tt
-entry_free (entry.Level c g l) = tt
-entry_free (entry.Session s) = tt
-entry_free (entry.Take s k) = tt
-entry_free (entry.Author m) = tt
-entry_free (entry.Arrive s m) = tt
-entry_free (entry.Offered s id) = tt
-entry_free (entry.Brief n) = tt
-entry_free (entry.Kept from m) = tt
-entry_free (entry.Want contact id) = tt
+entry_free _ = tt

@@ -47,25 +47,8 @@ more_takes takes s session = go (session == s) refl where
       omega (arith, now)
 
 takes_one : (f : Facts) (e : Entry) (session : ℕ) → takes_of (after f e).takes session ≤ takes_of f.takes session + takes_in e
-takes_one f (entry.Contact c) session = omega arith
-takes_one f (entry.Group def) session = omega arith
-takes_one f (entry.Level c g l) session = omega arith
-takes_one f (entry.Session s) session = omega arith
 takes_one f (entry.Take s k) session = more_takes f.takes s session
-takes_one f (entry.Author m) session = omega arith
-takes_one f (entry.Arrive s m) session = omega arith
-takes_one f (entry.Judged id) session = omega arith
-takes_one f (entry.Deliver id) session = omega arith
-takes_one f (entry.Invalid id) session = omega arith
-takes_one f (entry.Again s id) session = omega arith
-takes_one f (entry.Offered s id) session = omega arith
-takes_one f (entry.Seen s id) session = omega arith
-takes_one f (entry.Asked s id) session = omega arith
-takes_one f (entry.Out s now what) session = omega arith
-takes_one f (entry.Brief n) session = omega arith
-takes_one f (entry.Kept from m) session = omega arith
-takes_one f (entry.Tried t) session = omega arith
-takes_one f (entry.Want contact id) session = omega arith
+takes_one f _ session = omega arith
 
 takes_more : (f : Facts) (es : List Entry) (session : ℕ) → takes_of (after_all f es).takes session ≤ takes_of f.takes session + takes_all es
 takes_more f [] session = omega arith

@@ -66,25 +66,10 @@ shared_is clients p sound knows =
 
 -- the next step fits
 step_fits : (f : Facts) (e : Entry) → IsStepOf f e → MayTakeEntry f e
-step_fits f (entry.Contact c) is = absurd is
-step_fits f (entry.Group def) is = absurd is
-step_fits f (entry.Level c g l) is = absurd is
-step_fits f (entry.Session s) is = absurd is
-step_fits f (entry.Take s k) is = absurd is
-step_fits f (entry.Author m) is = absurd is
-step_fits f (entry.Arrive s m) is = absurd is
 step_fits f (entry.Judged id) is = is
 step_fits f (entry.Deliver id) is = is
 step_fits f (entry.Invalid id) is = is
-step_fits f (entry.Again s id) is = absurd is
-step_fits f (entry.Offered s id) is = absurd is
-step_fits f (entry.Seen s id) is = absurd is
-step_fits f (entry.Asked s id) is = absurd is
-step_fits f (entry.Out s now what) is = absurd is
-step_fits f (entry.Brief n) is = absurd is
-step_fits f (entry.Kept from m) is = absurd is
-step_fits f (entry.Tried t) is = absurd is
-step_fits f (entry.Want contact id) is = absurd is
+step_fits f _ is = absurd is
 
 next_fits : (clients : Meaning) (f : Facts) (e : Entry) (o : Option Entry) → next clients f ≡ o → is_some_of same_entry o e ≡ true → MayTakeEntry f e
 next_fits clients f e None is go = absurd (false≢true go)
@@ -92,25 +77,9 @@ next_fits clients f e (Some x) is go = step_fits f e (next_is_step clients f e (
 
 -- a row or a wanted id that suits fits
 rows_fit : (f : Facts) (e : Entry) → suits_rows f e ≡ true → MayTakeEntry f e
-rows_fit f (entry.Contact c) go = absurd (false≢true go)
-rows_fit f (entry.Group def) go = absurd (false≢true go)
-rows_fit f (entry.Level c g l) go = absurd (false≢true go)
-rows_fit f (entry.Session s) go = absurd (false≢true go)
-rows_fit f (entry.Take s k) go = absurd (false≢true go)
-rows_fit f (entry.Author m) go = absurd (false≢true go)
-rows_fit f (entry.Arrive s m) go = absurd (false≢true go)
-rows_fit f (entry.Judged id) go = absurd (false≢true go)
-rows_fit f (entry.Deliver id) go = absurd (false≢true go)
-rows_fit f (entry.Invalid id) go = absurd (false≢true go)
-rows_fit f (entry.Again s id) go = absurd (false≢true go)
-rows_fit f (entry.Offered s id) go = absurd (false≢true go)
-rows_fit f (entry.Seen s id) go = absurd (false≢true go)
-rows_fit f (entry.Asked s id) go = absurd (false≢true go)
-rows_fit f (entry.Out s now what) go = absurd (false≢true go)
-rows_fit f (entry.Brief n) go = absurd (false≢true go)
-rows_fit f (entry.Kept from m) go = absurd (false≢true go)
 rows_fit f (entry.Tried t) go = (and_parts (is_held f.held t.id) _ (and_parts (nat_lt t.contact f.contacts) _ go).1).0
 rows_fit f (entry.Want contact id) go = tt
+rows_fit f _ go = absurd (false≢true go)
 
 pub goes_fits : (clients : Meaning) (rows : Bool) (f : Facts) (e : Entry) → goes clients rows f e ≡ true → MayTakeEntry f e
 goes_fits clients true f e go = rows_fit f e go
@@ -132,24 +101,19 @@ out_fits f contact (out.Send id) names = names
 
 meeting_fits : (clients : Meaning) (f : Facts) (e : Entry) → IsConsistent f → MeetsNoStep clients f e → MayTakeEntry f e
 meeting_fits clients f (entry.Contact c) fit m = (m.1, m.2)
-meeting_fits clients f (entry.Group def) fit m = tt
 meeting_fits clients f (entry.Level c g l) fit m = (m.1, m.2)
-meeting_fits clients f (entry.Session s) fit m = tt
-meeting_fits clients f (entry.Take s k) fit m = tt
 meeting_fits clients f (entry.Author x) fit m = record { known_group = m.1.known_group; new = m.1.new }
 meeting_fits clients f (entry.Arrive s x) fit m = record { known_group = m.1.known_group; new = m.1.new }
 meeting_fits clients f (entry.Judged id) fit m = next_is_step clients f (entry.Judged id) m
 meeting_fits clients f (entry.Deliver id) fit m = next_is_step clients f (entry.Deliver id) m
 meeting_fits clients f (entry.Invalid id) fit m = next_is_step clients f (entry.Invalid id) m
 meeting_fits clients f (entry.Again s id) fit m = m.1.held
-meeting_fits clients f (entry.Offered s id) fit m = tt
 meeting_fits clients f (entry.Seen s id) fit m = m.1.held
 meeting_fits clients f (entry.Asked s id) fit m = m.1.held
 meeting_fits clients f (entry.Out s now what) fit m = out_fits f (contact_in (session_at f.sessions s)) what (due_names_distinct f fit.held fit.wanted clients (session_at f.sessions s) now what m.1)
-meeting_fits clients f (entry.Brief n) fit m = tt
 meeting_fits clients f (entry.Kept from x) fit m = record { known_group = m.2.known_group; new = m.2.new }
 meeting_fits clients f (entry.Tried t) fit m = m.2.held
-meeting_fits clients f (entry.Want contact id) fit m = tt
+meeting_fits clients f _ fit m = tt
 
 all_meeting_fit : (clients : Meaning) (f : Facts) (es : List Entry) → SoundFacts clients f → IsConsistent f → AllMeet clients f es → AllFit f es
 all_meeting_fit clients f [] sound fit meet = tt

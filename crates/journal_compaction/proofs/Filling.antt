@@ -33,24 +33,7 @@ written-append names (b ∷ bs) cs =
 pub some_spelled : (names : List (List ℕ)) (e : Entry) → 1 ≤ length (spelling_in kind.Short names e)
 unfolding spelling_in
 some_spelled names (entry.Contact c) = omega arith
-some_spelled names (entry.Group def) = omega arith
-some_spelled names (entry.Level c g l) = omega arith
-some_spelled names (entry.Session s) = omega arith
-some_spelled names (entry.Take s k) = omega arith
-some_spelled names (entry.Author m) = omega arith
-some_spelled names (entry.Arrive s m) = omega arith
-some_spelled names (entry.Judged id) = omega arith
-some_spelled names (entry.Deliver id) = omega arith
-some_spelled names (entry.Invalid id) = omega arith
-some_spelled names (entry.Again s id) = omega arith
-some_spelled names (entry.Offered s id) = omega arith
-some_spelled names (entry.Seen s id) = omega arith
-some_spelled names (entry.Asked s id) = omega arith
-some_spelled names (entry.Out s now what) = omega arith
-some_spelled names (entry.Brief n) = omega arith
-some_spelled names (entry.Kept from m) = omega arith
-some_spelled names (entry.Tried t) = omega arith
-some_spelled names (entry.Want c id) = omega arith
+some_spelled names _ = omega arith
 
 pub closed_some : (page : List ℕ) → 1 ≤ length page → closed_page page ≡ page ∷ []
 closed_some [] some = absurd (omega (arith, some))

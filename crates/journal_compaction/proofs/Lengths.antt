@@ -122,11 +122,6 @@ long_item f (item.Want c n) is =
 
 pub short_item : (f : Facts) (i : Item) → is_alone i ≡ false → IsEntry (entry_of f i)
     → length (bytes_of f i) ≤ 34
-short_item f item.Brief joined is = cc
-short_item f (item.Contact c) joined is = cc
-short_item f (item.Group n) joined is = cc
-short_item f (item.Level c n) joined is = cc
-short_item f (item.Kept n) joined is = cc
 short_item f (item.Judged n) joined is = (step_short (names_of f) (id_at f n)).0
 short_item f (item.Deliver n) joined is = (step_short (names_of f) (id_at f n)).1
 short_item f (item.Invalid n) joined is = (step_short (names_of f) (id_at f n)).2
@@ -134,6 +129,7 @@ short_item f (item.Row c n) joined is =
     tried_short (names_of f) (tried_of c (id_at f n) (row_at f.rows c (id_at f n)))
 short_item f (item.Want c n) joined is =
     want_item (names_of f) c (slice_get (wanted_from f.wanted c) n) is
+short_item f _ joined is = cc
 
 -- ---- the space of a payload
 

@@ -43,24 +43,12 @@ told_alone f (item.Kept n) is told =
 told_alone f (item.Judged n) is told = refl
 told_alone f (item.Deliver n) is told = refl
 told_alone f (item.Invalid n) is told = refl
-told_alone f item.Brief is told = cc
-told_alone f (item.Contact c) is told = cc
-told_alone f (item.Group n) is told = cc
-told_alone f (item.Level c n) is told = cc
-told_alone f (item.Row c n) is told = cc
-told_alone f (item.Want c n) is told = cc
+told_alone f _ is told = cc
 
 peer_alone : (f : Facts) (i : Item) → is_peer i ≡ true → never_alone (entry_of f i) ≡ is_alone i
 peer_alone f (item.Row c n) peer = refl
 peer_alone f (item.Want c n) peer = refl
-peer_alone f item.Brief peer = cc
-peer_alone f (item.Contact c) peer = cc
-peer_alone f (item.Group n) peer = cc
-peer_alone f (item.Level c n) peer = cc
-peer_alone f (item.Kept n) peer = cc
-peer_alone f (item.Judged n) peer = cc
-peer_alone f (item.Deliver n) peer = cc
-peer_alone f (item.Invalid n) peer = cc
+peer_alone f _ peer = cc
 
 told_suit : (f : Facts) (items : List Item) → AllByRecursion (IsItem f) items
     → AllByRecursion (λ i. is_told i ≡ true) items

@@ -90,17 +90,7 @@ module _ (ids more : List Id) where
       18 ∷ t.contact
       ∷ (b ++ (flags_byte t.seen t.owed t.asked ∷ t.tries ∷ to_be_bytes w64 t.expiry)))
       (held_front t.id named)
-  spelled_front (entry.Contact c) named = refl
-  spelled_front (entry.Group def) named = refl
-  spelled_front (entry.Level c g l) named = refl
-  spelled_front (entry.Session s) named = refl
-  spelled_front (entry.Take s k) named = refl
-  spelled_front (entry.Author m) named = refl
-  spelled_front (entry.Arrive s m) named = refl
-  spelled_front (entry.Offered s id) named = refl
-  spelled_front (entry.Brief n) named = refl
-  spelled_front (entry.Kept from m) named = refl
-  spelled_front (entry.Want c id) named = refl
+  spelled_front _ named = refl
 
   spellings_front : (es : List Entry) → AllByRecursion (EntryNames (Among ids more)) es
       → spellings kind.Short (ids ++ more) es ≡ spellings kind.Short ids es

@@ -13,26 +13,11 @@ use Rattle.entry_codec.proofs.LawProofs.{not_longer}
 use Rattle.journal_migration.specs.Copying.{brought_by, counted_to, one_brought}
 
 one_held : (f : Facts) (e : Entry) → length (after f e).held ≡ length f.held + one_brought e
-one_held f (entry.Contact c) = omega arith
-one_held f (entry.Group def) = omega arith
-one_held f (entry.Level c g l) = omega arith
-one_held f (entry.Session s) = omega arith
-one_held f (entry.Take s k) = omega arith
 one_held f (entry.Author m) = omega (arith, length-append f.held (authored m ∷ []))
 one_held f (entry.Arrive s m) =
     omega (arith, length-append f.held (arrived (contact_of f.sessions s) m ∷ []))
-one_held f (entry.Judged id) = omega arith
-one_held f (entry.Deliver id) = omega arith
-one_held f (entry.Invalid id) = omega arith
-one_held f (entry.Again s id) = omega arith
-one_held f (entry.Offered s id) = omega arith
-one_held f (entry.Seen s id) = omega arith
-one_held f (entry.Asked s id) = omega arith
-one_held f (entry.Out s now what) = omega arith
-one_held f (entry.Brief n) = omega arith
 one_held f (entry.Kept from m) = omega (arith, length-append f.held (kept_as from m ∷ []))
-one_held f (entry.Tried t) = omega arith
-one_held f (entry.Want contact id) = omega arith
+one_held f _ = omega arith
 
 pub all_held : (f : Facts) (es : List Entry)
     → length (after_all f es).held ≡ length f.held + brought_by es

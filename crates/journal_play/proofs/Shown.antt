@@ -37,12 +37,8 @@ shown_taking story m true false = shown_holding story m
 shown_taking story m false known = refl
 
 pub taken_shown : (story : Story) (r : Record) → shown_of (taking story r) ≡ taking_in (shown_of story) r
-taken_shown story (record_kind.Ack ids) = refl
 taken_shown story (record_kind.Message m) = shown_taking story m (same_id m.group story.group) (is_some (number_of story.nodes (message_id_of m)))
-taken_shown story (record_kind.Offer ids) = refl
-taken_shown story (record_kind.Request ids) = refl
-taken_shown story (record_kind.Versions versions) = refl
-taken_shown story (record_kind.Priority nonce) = refl
+taken_shown story _ = refl
 
 at_end : (ms : List MessageValue) (m : MessageValue) → slice_get (ms ++ m ∷ []) (length (map head_of ms)) ≡ Some m
 at_end [] m = refl
@@ -55,12 +51,8 @@ fresh_taking story m true false = at_end story.messages m
 fresh_taking story m false known = tt
 
 pub taken_fresh : (story : Story) (r : Record) → IsFresh (fresh_in (shown_of story) r) (taking story r)
-taken_fresh story (record_kind.Ack ids) = tt
 taken_fresh story (record_kind.Message m) = fresh_taking story m (same_id m.group story.group) (is_some (number_of story.nodes (message_id_of m)))
-taken_fresh story (record_kind.Offer ids) = tt
-taken_fresh story (record_kind.Request ids) = tt
-taken_fresh story (record_kind.Versions versions) = tt
-taken_fresh story (record_kind.Priority nonce) = tt
+taken_fresh story _ = tt
 
 -- ---- one step
 

@@ -38,12 +38,8 @@ taking_message play m =
     cond (same_id m.group play.group) (cond (is_some (number_of play.nodes (message_id_of m))) play (holding play m)) play
 
 abbrev pub taking : Story → Record → Story
-taking play (record_kind.Ack ids) = play
 taking play (record_kind.Message m) = taking_message play m
-taking play (record_kind.Offer ids) = play
-taking play (record_kind.Request ids) = play
-taking play (record_kind.Versions versions) = play
-taking play (record_kind.Priority nonce) = play
+taking play _ = play
 
 -- the message of that number is judged
 abbrev pub judging : Meaning → ℕ → MessageValue → Story → Story
@@ -98,12 +94,8 @@ taking_one play m =
     cond (same_id m.group play.group) (cond (is_some (number_of play.nodes (message_id_of m))) play (with_head (head_of m) play)) play
 
 abbrev pub taking_in : Played → Record → Played
-taking_in play (record_kind.Ack ids) = play
 taking_in play (record_kind.Message m) = taking_one play m
-taking_in play (record_kind.Offer ids) = play
-taking_in play (record_kind.Request ids) = play
-taking_in play (record_kind.Versions versions) = play
-taking_in play (record_kind.Priority nonce) = play
+taking_in play _ = play
 
 -- the message that is held then, with its number
 abbrev pub fresh_one : Played → MessageValue → Option Fresh
@@ -112,12 +104,8 @@ fresh_one play m =
     (cond (is_some (number_of play.nodes (message_id_of m))) None (Some (record { number = length play.heads; message = m }))) None
 
 abbrev pub fresh_in : Played → Record → Option Fresh
-fresh_in play (record_kind.Ack ids) = None
 fresh_in play (record_kind.Message m) = fresh_one play m
-fresh_in play (record_kind.Offer ids) = None
-fresh_in play (record_kind.Request ids) = None
-fresh_in play (record_kind.Versions versions) = None
-fresh_in play (record_kind.Priority nonce) = None
+fresh_in play _ = None
 
 -- a message that was just held stands at its number
 abbrev pub IsFresh : Option Fresh → Story → Type 0

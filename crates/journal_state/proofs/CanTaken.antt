@@ -369,25 +369,14 @@ send_noted f x (out.Offers ids) h = h
 send_noted f x (out.Send id) h = h
 
 kind_noted : (s : StateValue) (x : Start) (e : Entry) → CanTakeKind s e → CanTakeKind (begun_so s x) e
-kind_noted s x (entry.Contact c) k = k
-kind_noted s x (entry.Group def) k = k
-kind_noted s x (entry.Level c g l) k = k
-kind_noted s x (entry.Session y) k = k
-kind_noted s x (entry.Take n j) k = k
 kind_noted s x (entry.Author m) k = hold_noted s.facts x m k
 kind_noted s x (entry.Arrive n m) k = (hold_noted s.facts x m k.0, k.1, k.2)
-kind_noted s x (entry.Judged id) k = k
-kind_noted s x (entry.Deliver id) k = k
-kind_noted s x (entry.Invalid id) k = k
 kind_noted s x (entry.Again n id) k = mark_noted s x n id k
-kind_noted s x (entry.Offered n id) k = k
 kind_noted s x (entry.Seen n id) k = mark_noted s x n id k
 kind_noted s x (entry.Asked n id) k = mark_noted s x n id k
 kind_noted s x (entry.Out n now what) k = (rows_noted s x n k.0, send_noted s.facts x what k.1)
-kind_noted s x (entry.Brief n) k = k
 kind_noted s x (entry.Kept from m) k = hold_noted s.facts x m k
-kind_noted s x (entry.Tried t) k = k
-kind_noted s x (entry.Want contact id) k = k
+kind_noted s x _ k = k
 
 -- what an entry needs is there as before
 pub can_noted : (s : StateValue) (e : Entry) → CanTake s e → CanTake (noted s e) e

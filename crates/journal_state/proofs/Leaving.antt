@@ -66,12 +66,6 @@ is_quiet (entry.Invalid id) = false
 is_quiet _ = true
 
 quiet_left : (f : Facts) (e : Entry) → is_quiet e ≡ true → left_of (after f e) ≡ left_of f
-quiet_left f (entry.Author m) q = absurd (false≢true q)
-quiet_left f (entry.Arrive s m) q = absurd (false≢true q)
-quiet_left f (entry.Kept from m) q = absurd (false≢true q)
-quiet_left f (entry.Judged id) q = absurd (false≢true q)
-quiet_left f (entry.Deliver id) q = absurd (false≢true q)
-quiet_left f (entry.Invalid id) q = absurd (false≢true q)
 quiet_left f (entry.Contact c) q = left_is (after f (entry.Contact c)) ∙ sym (left_is f)
 quiet_left f (entry.Group def) q = left_is (after f (entry.Group def)) ∙ sym (left_is f)
 quiet_left f (entry.Level c g l) q = left_is (after f (entry.Level c g l)) ∙ sym (left_is f)
@@ -85,6 +79,7 @@ quiet_left f (entry.Out s now what) q = left_is (after f (entry.Out s now what))
 quiet_left f (entry.Brief n) q = left_is (after f (entry.Brief n)) ∙ sym (left_is f)
 quiet_left f (entry.Tried t) q = left_is (after f (entry.Tried t)) ∙ sym (left_is f)
 quiet_left f (entry.Want contact id) q = left_is (after f (entry.Want contact id)) ∙ sym (left_is f)
+quiet_left f _ q = absurd (false≢true q)
 
 brings_not : (e : Entry) → is_quiet e ≡ true → brings_one e ≡ false
 brings_not (entry.Author m) q = absurd (false≢true q)

@@ -79,9 +79,6 @@ CanTakeKind s (entry.Take n k) = takes_of s.facts.takes n < 2 ^ 64 - 1
 CanTakeKind s (entry.Author m) = CanHold s.facts m
 CanTakeKind s (entry.Arrive n m) =
     CanHold s.facts m × (is_some (session_at s.facts.sessions n) ≡ true) × (length s.facts.held + 1 ≤ rows_room s.room (contact_of s.facts.sessions n))
-CanTakeKind s (entry.Judged id) = ⊥
-CanTakeKind s (entry.Deliver id) = ⊥
-CanTakeKind s (entry.Invalid id) = ⊥
 CanTakeKind s (entry.Again n id) = CanMark s n id
 CanTakeKind s (entry.Offered n id) =
     (is_some (session_at s.facts.sessions n) ≡ true) × (1 ≤ wants_room s.room (contact_of s.facts.sessions n))
@@ -91,8 +88,7 @@ CanTakeKind s (entry.Asked n id) = CanMark s n id
 CanTakeKind s (entry.Out n now what) = HasRowsOfSession s n × CanSend s.facts what
 CanTakeKind s (entry.Brief n) = s.facts.begun ≡ 0
 CanTakeKind s (entry.Kept from m) = CanHold s.facts m
-CanTakeKind s (entry.Tried t) = ⊥
-CanTakeKind s (entry.Want contact id) = ⊥
+CanTakeKind s _ = ⊥
 
 pub record CanTake (s : StateValue) (e : Entry) : Type 0 where
   pub room : 1 ≤ s.room.entries

@@ -250,11 +250,7 @@ module _ (contact : ℕ) (s : Facts) (all : List Record) (own : HaveOwnIds s all
       by : (x : Record) → r ≡ x → held_at (held_by f contact x) id ≡ Some h
           → (held_at s.held id ≡ Some h) ⊎ CameIn contact s (done ++ r ∷ []) id h.message
       by (record_kind.Message m) is at = by_message m is (arrives f contact m) refl at
-      by (record_kind.Ack ids) is at = before at
-      by (record_kind.Offer ids) is at = before at
-      by (record_kind.Request ids) is at = before at
-      by (record_kind.Versions versions) is at = before at
-      by (record_kind.Priority nonce) is at = before at
+      by _ is at = before at
 
     kept_one : (a : Bool) (x : Held) (id : Id) (h : Held) → held_at f.held id ≡ Some h → held_at
         (cond a (f.held ++ x ∷ []) f.held) id ≡ Some h
@@ -264,11 +260,7 @@ module _ (contact : ℕ) (s : Facts) (all : List Record) (own : HaveOwnIds s all
     kept_more : (r : Record) (id : Id) (h : Held) → held_at f.held id ≡ Some h → held_at (held_by f contact r) id
         ≡ Some h
     kept_more (record_kind.Message m) id h e = kept_one (arrives f contact m) (arrived contact m) id h e
-    kept_more (record_kind.Ack ids) id h e = e
-    kept_more (record_kind.Offer ids) id h e = e
-    kept_more (record_kind.Request ids) id h e = e
-    kept_more (record_kind.Versions versions) id h e = e
-    kept_more (record_kind.Priority nonce) id h e = e
+    kept_more _ id h e = e
 
     still_held : (r : Record) (id : Id) → is_held f.held id ≡ true → is_held (held_by f contact r) id ≡ true
     still_held r id h = by (held_at f.held id) refl h where

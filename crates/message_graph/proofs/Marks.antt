@@ -1,11 +1,11 @@
 -- The set of those nodes that have a step: what a change leaves, and its first one.
-use Rattle.std.proofs.Common.{◌≡◌, ℕ, zero, suc, ◌+◌, ◌-◌, ◌<◌, ◌≤◌, Bool, true, false, cond, List, [], ◌∷◌, ◌++◌, length, map, get_or, is_some, replicate, Option, None, Some, refl, sym, ap, ◌∙◌, set, arith, length-append, append_assoc}
+use Rattle.std.proofs.Common.{◌≡◌, ℕ, zero, suc, ◌+◌, ◌-◌, ◌<◌, ◌≤◌, Bool, true, false, ◌||◌, cond, List, [], ◌∷◌, ◌++◌, length, map, get_or, is_some, replicate, Option, None, Some, refl, sym, ap, ◌∙◌, set, arith, length-append, append_assoc}
 use Rattle.std.proofs.lemmas.List.{length-map, length-set, map-set, map-append, set-append_left, set-append_right, length-replicate, replicate-append-replicate}
 use Rattle.std.proofs.lemmas.Bool.{true≢false}
 use Rattle.std.specs.List.{position_from}
 use Rattle.due_tree.specs.Sets.{next_set}
 use Rattle.message_graph.specs.declared.states.Waiting.{Waiting}
-use Rattle.message_graph.specs.Waits.{has_step, Marked, but_last}
+use Rattle.message_graph.specs.Waits.{has_step, AreClear, Marked, but_last}
 
 none_set : (places i : ℕ) → position_from (λ is_in. is_in) i (replicate places false) ≡ None
 none_set zero i = refl
@@ -137,3 +137,26 @@ some_before waits (Some first) e some = sym (first_before waits 0 first (sym e))
 pub none_there : (waits : List Waiting) → (1 ≤ length waits → ⊥) → position_from has_step 0 waits ≡ None
 none_there [] short = refl
 none_there (wait ∷ waits) short = absurd (short (omega arith))
+
+-- an empty set has no first place
+pub none_clear : (ready : List Bool) → AreClear ready → next_set 0 ready ≡ None
+none_clear ready h = ap (position_from (λ is_in. is_in) 0) h ∙ none_set (length ready) 0
+
+pub clear-set : (ready : List Bool) (place : ℕ) (v : Bool) → AreClear ready → v ≡ false → AreClear (set ready place v)
+clear-set ready place v h is =
+    (λ i. set (h i) place (is i)) ∙ stays (length ready) place ∙ ap (λ k. replicate k false) (sym (length-set ready place v))
+  where
+    stays : (places k : ℕ) → set (replicate places false) k false ≡ replicate places false
+    stays zero k = refl
+    stays (suc places) zero = refl
+    stays (suc places) (suc k) = ap (λ ps. false ∷ ps) (stays places k)
+
+pub clear-reserve : (ready : List Bool) (more : ℕ) → AreClear ready → AreClear (ready ++ replicate more false)
+clear-reserve ready more h =
+    ap (λ r. r ++ replicate more false) h ∙ replicate-append-replicate (length ready) more false
+    ∙ ap (λ k. replicate k false) (sym (length-append ready (replicate more false) ∙ ap (λ k. length ready + k) (length-replicate more false)))
+
+-- neither of two is
+pub neither : (a b : Bool) → (a || b) ≡ false → (a ≡ false) × (b ≡ false)
+neither true b h = absurd (true≢false h)
+neither false b h = (refl, h)

@@ -109,6 +109,10 @@ group_in rests number = slice_index_or (map (λ rest. rest.group) rests) number 
 abbrev pub Marked : List Bool → List Waiting → Type 0
 Marked places waits = places ≡ map has_step waits ++ replicate (length places - length waits) false
 
+-- the places of an empty set
+abbrev pub AreClear : List Bool → Type 0
+AreClear places = places ≡ replicate (length places) false
+
 -- all but the last
 abbrev pub but_last : List Waiting → List Waiting
 but_last [] = []

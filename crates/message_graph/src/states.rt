@@ -1,9 +1,11 @@
 //! What each node waits for, and the set of those that have a step.
-ghost use Rattle.std.specs.Prelude.{◌≡◌, ◌+◌, ◌-◌, ◌<◌, ◌≤◌, ◌++◌, ◌∷◌, [], IfOk, OnOk, OnErr};
+ghost use Rattle.std.specs.Prelude.{◌≡◌, ◌+◌, ◌-◌, ◌<◌, ◌≤◌, ◌++◌, ◌∷◌, [], false, IfOk, OnOk};
+ghost use Rattle.std.specs.Prelude.{OnErr};
 ghost use Rattle.std.specs.Prelude.{length, slice_set, slice_get};
 ghost use Rattle.std.specs.List.{position_from};
 ghost use Rattle.message_graph.specs.Waits.{has_step, told, missing_after, from_missing};
-ghost use Rattle.message_graph.specs.Waits.{Marked, but_last};
+ghost use Rattle.message_graph.specs.Waits.{AreClear, Marked, but_last};
+ghost use Rattle.due_tree.specs.Sets.{next_set};
 
 use due_tree::Bits;
 use std::alloc::{AllocError, Global};
@@ -30,16 +32,17 @@ pub(crate) enum News {
 
 /// What the nodes wait for, by number, and the set of those that have a step. The last node is not
 /// in the set: where each node ends before the next one comes, as mostly in a load, the set stays
-/// empty.
+/// empty. It is not searched while no node was in it.
 #[derive(Drop)]
 pub(crate) struct States {
     waits: Vec<Waiting>,
     ready: Bits,
+    is_used: bool,
 }
 
 impl Model for States {
-    ghost use Rattle.std.specs.Prelude.{◌-◌, ◌≤◌, length, vec_capacity};
-    ghost use Rattle.message_graph.specs.Waits.{NodeWaits, Marked, but_last};
+    ghost use Rattle.std.specs.Prelude.{◌≡◌, ◌-◌, ◌≤◌, false, length, vec_capacity};
+    ghost use Rattle.message_graph.specs.Waits.{NodeWaits, AreClear, Marked, but_last};
 
     ghost Value = { NodeWaits };
 
@@ -49,7 +52,7 @@ impl Model for States {
     } };
 
     ghost invariant = { λ s. Marked s.ready (but_last s.waits.items)
-        × (length s.ready ≤ vec_capacity s.waits) };
+        × (length s.ready ≤ vec_capacity s.waits) × (s.is_used ≡ false → AreClear s.ready) };
 }
 
 /// Whether a node that waits for this has a step.
@@ -63,15 +66,30 @@ fn has_step(waiting: Waiting) -> bool
     }
 }
 
-/// Puts the last node into the set, where it has a step.
-fn mark_last(ready: &mut Bits, waits: &[Waiting])
+/// The first of a set, which is empty where it is not used.
+fn first_in(ready: &Bits, is_used: bool) -> Option<usize>
+    requires { is_used ≡ false → AreClear ready.now }
+    ensures { result ≡ next_set 0 ready.now }
+{
+    if !is_used {
+        return None;
+    }
+    ready.next(0)
+}
+
+/// Puts the last node into the set, where it has a step; answers whether it has.
+fn mark_last(ready: &mut Bits, waits: &[Waiting]) -> bool
     requires { length waits.now ≤ length ready.old }
     ensures marked { Marked ready.old (but_last waits.now) → Marked ready.new waits.now }
     ensures len { length ready.new ≡ length ready.old }
+    ensures clear { result ≡ false → AreClear ready.old → AreClear ready.new }
 {
-    if let Some(last) = waits.len().checked_sub(1) {
-        ready.put(last, has_step(waits[last]));
-    }
+    let Some(last) = waits.len().checked_sub(1) else {
+        return false;
+    };
+    let is_ready = has_step(waits[last]);
+    ready.put(last, is_ready);
+    is_ready
 }
 
 /// What a node of the group waits for, after news of one that it waits for.
@@ -101,6 +119,7 @@ impl States {
         Ok(States {
             waits: Vec::new(alloc),
             ready,
+            is_used: false,
         })
     }
 
@@ -128,7 +147,8 @@ impl States {
         ensures waits { self.new.waits ≡ self.old.waits ++ Waiting.Unjudged ∷ [] }
         ensures room { self.new.room + 1 ≡ self.old.room }
     {
-        mark_last(&mut self.ready, &self.waits);
+        let is_ready = mark_last(&mut self.ready, &self.waits);
+        self.is_used |= is_ready;
         self.waits.push(Waiting::Unjudged).unwrap();
     }
 
@@ -147,7 +167,9 @@ impl States {
     {
         self.waits[number] = waiting;
         if self.waits.len() - number > 1 {
-            self.ready.put(number, has_step(waiting));
+            let is_ready = has_step(waiting);
+            self.ready.put(number, is_ready);
+            self.is_used |= is_ready;
         }
     }
 
@@ -155,7 +177,7 @@ impl States {
     pub(crate) fn first(&self) -> Option<usize>
         ensures { result ≡ position_from has_step 0 self.now.waits }
     {
-        let before = self.ready.next(0);
+        let before = first_in(&self.ready, self.is_used);
         if before.is_some() {
             return before;
         }

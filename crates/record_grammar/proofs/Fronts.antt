@@ -41,17 +41,12 @@ front_header (v ∷ t ∷ h ∷ l ∷ b) right whole = rw right refl
 
 -- the third point decides for the whole payload or for a bad time
 pub payload_cases : (k : Kind) (t : ℕ) (p : List ℕ) → (decided_payload k t p ≡ front.Whole t (length p)) ⊎ (decided_payload k t p ≡ front.Bad reason.BadTimestamp)
-payload_cases kind.Ack t p = inl refl
 payload_cases kind.Message t p =
     elim (nat_lt (timestamp_in p) (2 ^ 63)) as (λ b. ((if b then front.Whole t (length p) else front.Bad reason.BadTimestamp) ≡ front.Whole t (length p)) ⊎ ((if b then front.Whole t (length p) else front.Bad reason.BadTimestamp) ≡ front.Bad reason.BadTimestamp)) [
       | true ↦ inl refl
       | false ↦ inr refl
     ]
-payload_cases kind.Offer t p = inl refl
-payload_cases kind.Request t p = inl refl
-payload_cases kind.Versions t p = inl refl
-payload_cases kind.Priority t p = inl refl
-payload_cases kind.Other t p = inl refl
+payload_cases _ t p = inl refl
 
 -- a length that passes is at most the greatest
 pub refused_long : (k : Kind) (len : ℕ) → refused_length k len ≡ None → len ≤ 49152

@@ -20,12 +20,7 @@ use Rattle.record_grammar.proofs.Complete.{found_stays}
 
 payload_used : (k : Kind) (t : ℕ) (p : List ℕ) → used_of (found_payload k t p) ≡ 4 + length p
 payload_used kind.Ack t p = refl
-payload_used kind.Message t p = refl
-payload_used kind.Offer t p = refl
-payload_used kind.Request t p = refl
-payload_used kind.Versions t p = refl
-payload_used kind.Priority t p = refl
-payload_used kind.Other t p = refl
+payload_used _ t p = refl
 
 -- an item takes at least its header, and no more than is there
 pub item_used : (b : List ℕ) (place : ℕ) (i : Item) → item_of place (found_in b) ≡ Some i → (4 ≤ used_of (found_in b)) × (used_of (found_in b) ≤ length b)
@@ -181,12 +176,7 @@ ending_bad place (x ∷ b) why is some e = sym ((rest_ends place (x ∷ b) is).1
 
 payload_inside : (place : ℕ) (x : ℕ) (b : List ℕ) (k : Kind) (t : ℕ) (p : List ℕ) → ending_for place (x ∷ b) (found_payload k t p) ≡ ending_kind.Inside place
 payload_inside place x b kind.Ack t p = refl
-payload_inside place x b kind.Message t p = refl
-payload_inside place x b kind.Offer t p = refl
-payload_inside place x b kind.Request t p = refl
-payload_inside place x b kind.Versions t p = refl
-payload_inside place x b kind.Priority t p = refl
-payload_inside place x b kind.Other t p = refl
+payload_inside place x b _ t p = refl
 
 pub ending_inside : (place : ℕ) (b : List ℕ) (f : Front) → IsRest b → 0 < length b → f ≡ front_in b → ((why : Reason) → f ≡ front.Bad why → ⊥) → ending_kind.Inside place ≡ ending place b
 unfolding found_in

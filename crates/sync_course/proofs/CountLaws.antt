@@ -83,22 +83,14 @@ counted_ends f session its link other same keeps c = record {
 }
 
 pub going_keeps : (stands : LinkEnd) → is_going stands ≡ true → keeps_all stands ≡ true
-going_keeps end.Going is = refl
-going_keeps end.Clean is = refl
-going_keeps end.Redundant is = refl
-going_keeps (end.Inside place) is = refl
-going_keeps (end.Bad place why) is = refl
 going_keeps (end.NoVersion place) is = cc
 going_keeps end.Failed is = cc
+going_keeps _ is = refl
 
 behind_keeps : (stands : LinkEnd) (e : Ending) → keeps_all (stands_behind stands e) ≡ true → keeps_all stands ≡ true
-behind_keeps end.Going e is = refl
-behind_keeps end.Clean e is = refl
-behind_keeps end.Redundant e is = refl
-behind_keeps (end.Inside place) e is = refl
-behind_keeps (end.Bad place why) e is = refl
 behind_keeps (end.NoVersion place) e is = is
 behind_keeps end.Failed e is = is
+behind_keeps _ e is = refl
 
 module _ (go_on : StreamsGoOn) (join : RecordsJoin) where
   -- bytes came

@@ -27,12 +27,8 @@ module _ (clients : Meaning) (terms : Terms) where
 
   by_link : (n : ℕ) (doing : Doing) (e : Event) (p q : Free) → HoldStep clients terms.first (Holds n doing) e p q
       → FreeFrom clients terms.first (Holds n doing) e p q
-  by_link n doing (Commit b) p q s = s
-  by_link n doing (Hear on reply) p q s = s
-  by_link n doing (Miss on) p q s = s
-  by_link n doing (Read on now) p q s = s
-  by_link n doing (Break on) p q s = s
   by_link n doing Pass p q s = inr (inr s)
+  by_link n doing _ p q s = s
 
   ends_free : (n : ℕ) (doing : Doing) (e : Event) (p q : Place) → EndsTurn doing e p q
       → FreeFrom clients terms.first (Holds n doing) e (forget p) (forget q)

@@ -35,16 +35,12 @@ use Rattle.sync_course.proofs.RunLaws.{IsOfJournal, cond_same, ended_counted, ge
 -- by an event: nothing happened, or nothing that is told of, or what is in hand made a step
 pub from_cases : (clients : Meaning) (first : ℕ) (T : Event → Type 0) (hold : Hold) (e : Event) (p q : Free) → FreeFrom clients first hold e p q
     → (q ≡ p → T Pass) → (TakesUpOrCloses hold p q → T Pass) → (HoldStep clients first hold e p q → T e) → T e
-from_cases clients first T hold (Commit b) p q s stays quiet holds = holds s
-from_cases clients first T hold (Hear on reply) p q s stays quiet holds = holds s
-from_cases clients first T hold (Miss on) p q s stays quiet holds = holds s
-from_cases clients first T hold (Read on now) p q s stays quiet holds = holds s
-from_cases clients first T hold (Break on) p q s stays quiet holds = holds s
 from_cases clients first T hold Pass p q s stays quiet holds =
     elim s [
       | inl same ↦ stays same
       | inr others ↦ elim others [ inl m ↦ quiet m | inr h ↦ holds h ]
     ]
+from_cases clients first T hold _ p q s stays quiet holds = holds s
 
 -- nothing that is told of leaves the facts
 pub moves_facts : (hold : Hold) (p q : Free) → TakesUpOrCloses hold p q → q.facts ≡ p.facts
@@ -404,11 +400,7 @@ first_free_sound clients j legal = record {
 
 same_pending : (stage : Stage) (i : ℕ) → pending_in (hold_at stage) i ≡ pending_at stage i
 same_pending (Settles left) i = refl
-same_pending (Attaches left) i = refl
-same_pending (Greets s left) i = refl
-same_pending Between i = refl
-same_pending (Works n doing) i = refl
-same_pending Ended i = refl
+same_pending _ i = refl
 
 -- at each place of a run the records taken on a link are a front of those heard
 pub run_counted : StreamsGoOn → RecordsJoin → (clients : Meaning) (terms : Terms)

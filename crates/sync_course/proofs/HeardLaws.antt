@@ -186,15 +186,11 @@ length_changed zero f (x ∷ h) = refl
 length_changed (suc n) f (x ∷ h) = ap suc (length_changed n f h)
 
 length_heard : (e : Event) (h : List HeardOn) → length (heard_by e h) ≡ length h
-length_heard (Commit b) h = refl
 length_heard (Hear n reply) h = length_changed n (hear_reply PIECE_LEN reply) h
 length_heard (Miss n) h = length_changed n hear_failure h
-length_heard (Read n now) h = refl
-length_heard (Break n) h = refl
-length_heard Pass h = refl
+length_heard _ h = refl
 
 event_tells : (e : Event) (h : List HeardOn) (i : ℕ) → i < length h → at_of (heard_by e h) i ≡ at_of h i ++ bytes_by i e
-event_tells (Commit b) h i within = sym (append-nil (at_of h i))
 event_tells (Hear n reply) h i within =
     elim (cases_eq i n) [
       | inl same ↦
@@ -215,9 +211,7 @@ event_tells (Miss n) h i within =
           ∙ sym (append-nil (at_of h i))
       | inr apart ↦ ap (λ (x : HeardOn). heard_bytes x.answers) (changed_at_other n hear_failure h i nothing_heard apart) ∙ sym (append-nil (at_of h i))
     ]
-event_tells (Read n now) h i within = sym (append-nil (at_of h i))
-event_tells (Break n) h i within = sym (append-nil (at_of h i))
-event_tells Pass h i within = sym (append-nil (at_of h i))
+event_tells _ h i within = sym (append-nil (at_of h i))
 
 pub events_tell : (es : List Event) (h : List HeardOn) (i : ℕ) → i < length h → at_of (heard_after es h) i ≡ at_of h i ++ bytes_of i es
 events_tell [] h i within = sym (append-nil (at_of h i))

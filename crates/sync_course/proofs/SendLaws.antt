@@ -77,11 +77,7 @@ event_adds : (clients : Meaning) (first : ℕ) (j : List (List Entry)) (e : Even
     → GoesOn clients (facts j) (batches_of (e ∷ []))
     → output (j ++ batches_of (e ∷ [])) (first + link) ≡ output j (first + link) ++ adds_to (facts j) first e link
 event_adds clients first j (Commit b) link legal goes = commit_adds clients j b (first + link) legal goes.0
-event_adds clients first j (Hear on reply) link legal goes = none_added first j link
-event_adds clients first j (Miss on) link legal goes = none_added first j link
-event_adds clients first j (Read on now) link legal goes = none_added first j link
-event_adds clients first j (Break on) link legal goes = none_added first j link
-event_adds clients first j Pass link legal goes = none_added first j link
+event_adds clients first j _ link legal goes = none_added first j link
 
 -- ---- nothing is committed for a link that failed
 
@@ -166,11 +162,7 @@ module _ (clients : Meaning) (first : ℕ) where
       → LinkFailed p.links i → adds_to p.facts first e i ≡ []
   event_spares (Commit b) p q i t s o f =
       ap (λ (rs : List Record). spelled rs) (hold_adds p.hold b p q i t s.begun o f)
-  event_spares (Hear on reply) p q i t s o f = refl
-  event_spares (Miss on) p q i t s o f = refl
-  event_spares (Read on now) p q i t s o f = refl
-  event_spares (Break on) p q i t s o f = refl
-  event_spares Pass p q i t s o f = refl
+  event_spares _ p q i t s o f = refl
 
 -- ---- acts
 

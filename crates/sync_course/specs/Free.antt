@@ -126,12 +126,9 @@ FreeStep clients first p e q = FreeFrom clients first p.hold e p q
 
 -- what a run has in hand at a stage
 abbrev pub hold_at : Stage → Hold
-hold_at (Settles left) = Rests
-hold_at (Attaches left) = Rests
 hold_at (Greets s left) = Begins s
-hold_at Between = Rests
 hold_at (Works n doing) = Holds n doing
-hold_at Ended = Rests
+hold_at _ = Rests
 
 -- a place of a run, but for the order
 abbrev pub forget : Place → Free

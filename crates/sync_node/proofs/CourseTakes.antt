@@ -66,13 +66,9 @@ versions_end place versions old new false is closes_by =
 
 end_same : (place : ℕ) (r : Record) (old new : LinkEnd) → ClosesBy place r old new
     → cond (closes r) (link_end.NoVersion place) old ≡ new
-end_same place (record_kind.Ack ids) old new c = sym c
-end_same place (record_kind.Message m) old new c = sym c
-end_same place (record_kind.Offer ids) old new c = sym c
-end_same place (record_kind.Request ids) old new c = sym c
 end_same place (record_kind.Versions versions) old new c =
     versions_end place versions old new (has_zero versions) refl c
-end_same place (record_kind.Priority nonce) old new c = sym c
+end_same place _ old new c = sym c
 
 -- what a record says of its link
 pub learned : (place : ℕ) (r : Record) (l l' : Link) (heard : List ℕ) → LearnsNonce place r l l'
@@ -99,18 +95,10 @@ pub to_come : (place : ℕ) (r : Record) (others : List Item) (heard left : List
     → old.end ≡ link_end.Going
     → ClosesBy place r old.end new.end → IsReading heard left new.reader others
     → IsTaking heard left new (items_after r others) new.end
-to_come place (record_kind.Ack ids) others heard left old new going c reading =
-    subst (IsTaking heard left new others) (sym (c ∙ going)) reading
-to_come place (record_kind.Message m) others heard left old new going c reading =
-    subst (IsTaking heard left new others) (sym (c ∙ going)) reading
-to_come place (record_kind.Offer ids) others heard left old new going c reading =
-    subst (IsTaking heard left new others) (sym (c ∙ going)) reading
-to_come place (record_kind.Request ids) others heard left old new going c reading =
-    subst (IsTaking heard left new others) (sym (c ∙ going)) reading
-to_come place (record_kind.Priority nonce) others heard left old new going c reading =
-    subst (IsTaking heard left new others) (sym (c ∙ going)) reading
 to_come place (record_kind.Versions versions) others heard left old new going c reading =
     closed_none place versions others heard left old new (has_zero versions) refl going c reading
+to_come place _ others heard left old new going c reading =
+    subst (IsTaking heard left new others) (sym (c ∙ going)) reading
 
 -- a link as a course has it, whatever its reader
 pub same_at : (l l' : Link) → l'.session ≡ l.session → l'.end ≡ l.end → l'.nonce ≡ l.nonce
@@ -127,21 +115,11 @@ same_at l l' same_session same_end same_nonce heard = λ i. record {
 pub not_taking : (heard left : List ℕ) (l : Link) (its : List Item) (e : LinkEnd)
     → (e ≡ link_end.Going → ⊥) → IsTaking heard left l its e → its ≡ []
 not_taking heard left l its link_end.Going closed t = absurd (closed refl)
-not_taking heard left l its link_end.Clean closed t = t
-not_taking heard left l its link_end.Redundant closed t = t
-not_taking heard left l its (link_end.Inside place) closed t = t
-not_taking heard left l its (link_end.Bad place why) closed t = t
-not_taking heard left l its (link_end.NoVersion place) closed t = t
-not_taking heard left l its link_end.Failed closed t = t
+not_taking heard left l its _ closed t = t
 
 pub closed_behind : (e : LinkEnd) (x : Ending) → (e ≡ link_end.Going → ⊥) → stands_behind e x ≡ e
 closed_behind link_end.Going x closed = absurd (closed refl)
-closed_behind link_end.Clean x closed = refl
-closed_behind link_end.Redundant x closed = refl
-closed_behind (link_end.Inside place) x closed = refl
-closed_behind (link_end.Bad place why) x closed = refl
-closed_behind (link_end.NoVersion place) x closed = refl
-closed_behind link_end.Failed x closed = refl
+closed_behind _ x closed = refl
 
 -- the batch of a record by its session, as a course names it
 pub take_named : (f : Facts) (session : Session) (r : Record) (batch : List Entry)

@@ -31,32 +31,19 @@ going_end e going = ap (λ x. is_going x) going
 
 pub not_going_end : (e : LinkEnd) → (e ≡ link_end.Going → ⊥) → is_going e ≡ false
 not_going_end link_end.Going closed = absurd (closed refl)
-not_going_end link_end.Clean closed = refl
-not_going_end link_end.Redundant closed = refl
-not_going_end (link_end.Inside place) closed = refl
-not_going_end (link_end.Bad place why) closed = refl
-not_going_end (link_end.NoVersion place) closed = refl
-not_going_end link_end.Failed closed = refl
+not_going_end _ closed = refl
 
 -- ---- sending
 
 pub may_end : (e : LinkEnd) → MaySend e → is_sent_to e ≡ true
 may_end link_end.Going may = refl
 may_end link_end.Clean may = refl
-may_end link_end.Redundant may = absurd may
-may_end (link_end.Inside place) may = absurd may
-may_end (link_end.Bad place why) may = absurd may
-may_end (link_end.NoVersion place) may = absurd may
-may_end link_end.Failed may = absurd may
+may_end _ may = absurd may
 
 pub may_not_end : (e : LinkEnd) → (MaySend e → ⊥) → is_sent_to e ≡ false
 may_not_end link_end.Going may = absurd (may tt)
 may_not_end link_end.Clean may = absurd (may tt)
-may_not_end link_end.Redundant may = refl
-may_not_end (link_end.Inside place) may = refl
-may_not_end (link_end.Bad place why) may = refl
-may_not_end (link_end.NoVersion place) may = refl
-may_not_end link_end.Failed may = refl
+may_not_end _ may = refl
 
 -- ---- a list of outputs
 

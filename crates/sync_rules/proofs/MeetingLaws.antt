@@ -288,19 +288,15 @@ allowed_meets clients f (entry.Take s k ∷ rest) a = (
       (sym (goes_with_take f.start s k)) (meets_record clients f s a.1.known_session a.0 (after f (entry.Take s k)).takes a.1.read)),
 )
 allowed_meets clients f (entry.Author m ∷ rest) a = meets_alone clients f (entry.Author m) rest a.0 (a.1, a.2)
-allowed_meets clients f (entry.Arrive s m ∷ rest) a = absurd a
 allowed_meets clients f (entry.Judged id ∷ rest) a = all_settling_meets clients f (entry.Judged id ∷ rest) a.2
 allowed_meets clients f (entry.Deliver id ∷ rest) a = all_settling_meets clients f (entry.Deliver id ∷ rest) a.2
 allowed_meets clients f (entry.Invalid id ∷ rest) a = all_settling_meets clients f (entry.Invalid id ∷ rest) a.2
-allowed_meets clients f (entry.Again s id ∷ rest) a = absurd a
-allowed_meets clients f (entry.Offered s id ∷ rest) a = absurd a
-allowed_meets clients f (entry.Seen s id ∷ rest) a = absurd a
-allowed_meets clients f (entry.Asked s id ∷ rest) a = absurd a
 allowed_meets clients f (entry.Out s now what ∷ rest) a = meets_alone clients f (entry.Out s now what) rest a.0 (a.1, a.2)
 allowed_meets clients f (entry.Brief n ∷ rest) a = meets_alone clients f (entry.Brief n) rest a.0 a.1
 allowed_meets clients f (entry.Kept from m ∷ rest) a = meets_alone clients f (entry.Kept from m) rest a.0 (a.1, a.2, a.3)
 allowed_meets clients f (entry.Tried t ∷ rest) a = rows_meet clients f (entry.Tried t ∷ rest) a.settled a.opening a.suits
 allowed_meets clients f (entry.Want contact id ∷ rest) a = rows_meet clients f (entry.Want contact id ∷ rest) a.settled a.opening a.suits
+allowed_meets clients f _ a = absurd a
 
 -- ---- journals
 

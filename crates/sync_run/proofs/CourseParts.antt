@@ -211,12 +211,7 @@ attached_all clients links i nodes s0 s o0 o past so =
 
 going_same : (e : LinkEnd) → course_links.is_going e ≡ is_going e
 going_same link_end.Going = refl
-going_same link_end.Clean = refl
-going_same link_end.Redundant = refl
-going_same (link_end.Inside place) = refl
-going_same (link_end.Bad place why) = refl
-going_same (link_end.NoVersion place) = refl
-going_same link_end.Failed = refl
+going_same _ = refl
 
 some_asked : (k : ℕ) (links : List Link) (heard : ℕ → List ℕ) → some_going (links_from k links heard) ≡ nat_lt 0 (asked_among links)
 some_asked k [] heard = refl

@@ -51,12 +51,7 @@ behind_going heard (ending_kind.Bad place why) is = is
 
 behind_stands : (stands : LinkEnd) (heard : List ℕ) → StandsByHeard stands heard → StandsByHeard (stands_behind stands (ending 0 heard)) heard
 behind_stands end.Going heard s = behind_going heard (ending 0 heard) refl
-behind_stands end.Clean heard s = s
-behind_stands end.Redundant heard s = s
-behind_stands (end.Inside place) heard s = s
-behind_stands (end.Bad place why) heard s = s
-behind_stands (end.NoVersion place) heard s = s
-behind_stands end.Failed heard s = s
+behind_stands _ heard s = s
 
 -- ---- the steps of a link
 
@@ -71,12 +66,7 @@ reply_by ended p going by = no_items (heard_spot ended p).link (ended_stands p.l
 
 going_is : (stands : LinkEnd) → is_going stands ≡ true → end.Going ≡ stands
 going_is end.Going is = refl
-going_is end.Clean is = cc
-going_is end.Redundant is = cc
-going_is (end.Inside place) is = cc
-going_is (end.Bad place why) is = cc
-going_is (end.NoVersion place) is = cc
-going_is end.Failed is = cc
+going_is _ is = cc
 
 taken_by : (place : ℕ) (r : Record) (its : List Item) (link : Link) → IsByHeard (item.One place r ∷ its) link → IsByHeard (items_after r its) (link_after place r link)
 taken_by place r its link by =

@@ -141,11 +141,7 @@ course_told clients terms sessions f events last old new course made hears i lin
 -- at each stage no more links stand than there are sessions
 links_few : (sessions : List Session) (stage : Stage) (n : ℕ) → HasLinks sessions stage n → n ≤ length sessions
 links_few sessions (Settles left) n has = let none : n ≡ 0 = has.1 in omega (arith, none)
-links_few sessions (Attaches left) n has = omega (arith, has)
-links_few sessions (Greets s left) n has = omega (arith, has)
-links_few sessions Between n has = omega (arith, has)
-links_few sessions (Works k doing) n has = omega (arith, has)
-links_few sessions Ended n has = omega (arith, has)
+links_few sessions _ n has = omega (arith, has)
 
 within_or_past : (i n : ℕ) → (i < n) ⊎ (n ≤ i)
 within_or_past i zero = inr (omega arith)

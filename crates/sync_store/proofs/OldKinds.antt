@@ -115,13 +115,8 @@ alone e rest none old = (old, subst AreOld (sym none) tt)
 pub allowed_old : (clients : Meaning) (f : Facts) (batch : List Entry) → Allowed clients f batch
     → is_account_kind batch ≡ false → AllByRecursion IsOld batch
 allowed_old clients f [] is plain = absurd is
-allowed_old clients f (entry.Contact c ∷ rest) is plain = alone (entry.Contact c) rest is.0 tt
-allowed_old clients f (entry.Group def ∷ rest) is plain = alone (entry.Group def) rest is.0 tt
-allowed_old clients f (entry.Level c g l ∷ rest) is plain = alone (entry.Level c g l) rest is.0 tt
-allowed_old clients f (entry.Session s ∷ rest) is plain = alone (entry.Session s) rest is.0 tt
 allowed_old clients f (entry.Take s k ∷ rest) is plain =
     (tt, subst AreOld (sym is.1.taken_so) (taken_old f s (contact_of f.sessions s) is.1.read))
-allowed_old clients f (entry.Author m ∷ rest) is plain = alone (entry.Author m) rest is.0 tt
 allowed_old clients f (entry.Arrive s m ∷ rest) is plain = absurd is
 allowed_old clients f (entry.Judged id ∷ rest) is plain =
     settling_old clients f (entry.Judged id ∷ rest) is.2
@@ -133,9 +128,8 @@ allowed_old clients f (entry.Again s id ∷ rest) is plain = absurd is
 allowed_old clients f (entry.Offered s id ∷ rest) is plain = absurd is
 allowed_old clients f (entry.Seen s id ∷ rest) is plain = absurd is
 allowed_old clients f (entry.Asked s id ∷ rest) is plain = absurd is
-allowed_old clients f (entry.Out s now what ∷ rest) is plain =
-    alone (entry.Out s now what) rest is.0 tt
 allowed_old clients f (entry.Brief n ∷ rest) is plain = cc
 allowed_old clients f (entry.Kept from m ∷ rest) is plain = cc
 allowed_old clients f (entry.Tried t ∷ rest) is plain = cc
 allowed_old clients f (entry.Want contact id ∷ rest) is plain = cc
+allowed_old clients f (e ∷ rest) is plain = alone e rest is.0 tt

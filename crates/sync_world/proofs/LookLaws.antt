@@ -48,12 +48,7 @@ payload_len : (k : Kind) (type_byte : ℕ) (payload : List ℕ) (t len : ℕ)
     → decided_payload k type_byte payload ≡ front.Whole t len → len ≡ length payload
 payload_len kind.Message type_byte payload t len is =
     by_time (nat_lt (timestamp_in payload) (2 ^ 63)) type_byte (length payload) t len is
-payload_len kind.Ack type_byte payload t len is = cc
-payload_len kind.Offer type_byte payload t len is = cc
-payload_len kind.Request type_byte payload t len is = cc
-payload_len kind.Versions type_byte payload t len is = cc
-payload_len kind.Priority type_byte payload t len is = cc
-payload_len kind.Other type_byte payload t len is = cc
+payload_len _ type_byte payload t len is = cc
 
 header_len : (o : Option Reason) (b : Bool) (k : Kind) (type_byte : ℕ) (payload : List ℕ)
     (t len : ℕ)
@@ -95,12 +90,7 @@ front_fits (version ∷ rest) t len is = version_fits (version == 0) rest t len 
 found_len : (k : Kind) (type_byte : ℕ) (payload : List ℕ) (r : Record) (n : ℕ)
     → found_payload k type_byte payload ≡ found.One r n → n ≡ 4 + length payload
 found_len kind.Ack type_byte payload r n is = cc
-found_len kind.Message type_byte payload r n is = cc
-found_len kind.Offer type_byte payload r n is = cc
-found_len kind.Request type_byte payload r n is = cc
-found_len kind.Versions type_byte payload r n is = cc
-found_len kind.Priority type_byte payload r n is = cc
-found_len kind.Other type_byte payload r n is = cc
+found_len _ type_byte payload r n is = cc
 
 len_found : (f : Front) (bytes : List ℕ) (r : Record) (n : ℕ)
     → ((t len : ℕ) → f ≡ front.Whole t len → 4 + len ≤ length bytes)
@@ -179,25 +169,13 @@ nonce_brings None is = tt
 nonce_brings (Some nonce) is = is
 
 entry_brings : (e : Entry) → IsEntry e → BringsWithin e
-entry_brings (entry.Contact c) is = tt
-entry_brings (entry.Group def) is = tt
-entry_brings (entry.Level c g l) is = tt
 entry_brings (entry.Session s) is = nonce_brings s.nonce is.whole_nonce
-entry_brings (entry.Take s k) is = tt
 entry_brings (entry.Author m) is = is
 entry_brings (entry.Arrive s m) is = is.1
-entry_brings (entry.Judged id) is = tt
-entry_brings (entry.Deliver id) is = tt
-entry_brings (entry.Invalid id) is = tt
-entry_brings (entry.Again s id) is = tt
 entry_brings (entry.Offered s id) is = is.1
-entry_brings (entry.Seen s id) is = tt
-entry_brings (entry.Asked s id) is = tt
-entry_brings (entry.Out s now what) is = tt
-entry_brings (entry.Brief n) is = tt
 entry_brings (entry.Kept from m) is = is.1
-entry_brings (entry.Tried t) is = tt
 entry_brings (entry.Want contact id) is = is.1
+entry_brings _ is = tt
 
 batch_brings : (batch rest : List Entry) → AllByRecursion IsEntry batch
     → AllByRecursion BringsWithin rest → AllByRecursion BringsWithin (batch ++ rest)

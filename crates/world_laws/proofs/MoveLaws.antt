@@ -77,10 +77,7 @@ sends_on d j Swap s r = record {
 sends_back : (d : ℕ) (j : Journal) (move : Move) (s r : End)
     → WayRuns d j (record { sender = r; receiver = s }) (record { sender = other_after move (receiver_after move s.flight r); receiver = sender_after move s })
 sends_back d j Cut s r = record { sender = refl; receiver = refl; session = inl refl; flight = λ x inside. absurd inside; given = λ x inside. inl inside }
-sends_back d j Carry s r = record { sender = refl; receiver = refl; session = inl refl; flight = λ x inside. inl inside; given = λ x inside. inl inside }
-sends_back d j Lose s r = record { sender = refl; receiver = refl; session = inl refl; flight = λ x inside. inl inside; given = λ x inside. inl inside }
-sends_back d j Repeat s r = record { sender = refl; receiver = refl; session = inl refl; flight = λ x inside. inl inside; given = λ x inside. inl inside }
-sends_back d j Swap s r = record { sender = refl; receiver = refl; session = inl refl; flight = λ x inside. inl inside; given = λ x inside. inl inside }
+sends_back d j _ s r = record { sender = refl; receiver = refl; session = inl refl; flight = λ x inside. inl inside; given = λ x inside. inl inside }
 
 way_moves : (d : ℕ) (j : Journal) (move : Move) (near side : Bool) (l : WorldLink) → WayRuns d j (way_of side l) (way_of side (link_after move near l))
 way_moves d j move true true l = sends_on d j move l.near l.far
