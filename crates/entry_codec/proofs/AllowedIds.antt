@@ -248,17 +248,13 @@ names_held clients f (entry.Session s ∷ rest) is = alone f (entry.Session s) r
 names_held clients f (entry.Take s k ∷ rest) is =
     (tt, subst (λ (es : List Entry). NameHeld f.held es) (sym is.1.taken_so) (taken_named f s (contact_of f.sessions s) is.1.read))
 names_held clients f (entry.Author m ∷ rest) is = alone f (entry.Author m) rest is.0 tt
-names_held clients f (entry.Arrive s m ∷ rest) is = absurd is
 names_held clients f (entry.Judged id ∷ rest) is = settling_named clients f (entry.Judged id ∷ rest) is.2
 names_held clients f (entry.Deliver id ∷ rest) is = settling_named clients f (entry.Deliver id ∷ rest) is.2
 names_held clients f (entry.Invalid id ∷ rest) is = settling_named clients f (entry.Invalid id ∷ rest) is.2
-names_held clients f (entry.Again s id ∷ rest) is = absurd is
-names_held clients f (entry.Offered s id ∷ rest) is = absurd is
-names_held clients f (entry.Seen s id ∷ rest) is = absurd is
-names_held clients f (entry.Asked s id ∷ rest) is = absurd is
 names_held clients f (entry.Out s now what ∷ rest) is =
     alone f (entry.Out s now what) rest is.0 (out_named clients f (session_at f.sessions s) now what is.2)
 names_held clients f (entry.Brief n ∷ rest) is = alone f (entry.Brief n) rest is.0 tt
 names_held clients f (entry.Kept from m ∷ rest) is = alone f (entry.Kept from m) rest is.0 tt
 names_held clients f (entry.Tried t ∷ rest) is = rows_named f (entry.Tried t ∷ rest) is.suits
 names_held clients f (entry.Want contact id ∷ rest) is = rows_named f (entry.Want contact id ∷ rest) is.suits
+names_held clients f _ is = absurd is

@@ -103,19 +103,15 @@ batch_adds clients f (entry.Take s k ∷ rest) is =
     let others = subst (λ (es : List Entry). adds_all es ≤ 1) (sym is.1.taken_so) (taken_adds f s (contact_of f.sessions s) is.1.read) in
     omega (arith, others)
 batch_adds clients f (entry.Author m ∷ rest) is = alone (entry.Author m) rest is.0
-batch_adds clients f (entry.Arrive s m ∷ rest) is = absurd is
 batch_adds clients f (entry.Judged id ∷ rest) is = none_added (entry.Judged id ∷ rest) (settling_all AddsNone of_steps clients f (entry.Judged id ∷ rest) is.2)
 batch_adds clients f (entry.Deliver id ∷ rest) is = none_added (entry.Deliver id ∷ rest) (settling_all AddsNone of_steps clients f (entry.Deliver id ∷ rest) is.2)
 batch_adds clients f (entry.Invalid id ∷ rest) is = none_added (entry.Invalid id ∷ rest) (settling_all AddsNone of_steps clients f (entry.Invalid id ∷ rest) is.2)
-batch_adds clients f (entry.Again s id ∷ rest) is = absurd is
-batch_adds clients f (entry.Offered s id ∷ rest) is = absurd is
-batch_adds clients f (entry.Seen s id ∷ rest) is = absurd is
-batch_adds clients f (entry.Asked s id ∷ rest) is = absurd is
 batch_adds clients f (entry.Out s now what ∷ rest) is = alone (entry.Out s now what) rest is.0
 batch_adds clients f (entry.Brief n ∷ rest) is = alone (entry.Brief n) rest is.0
 batch_adds clients f (entry.Kept from m ∷ rest) is = alone (entry.Kept from m) rest is.0
 batch_adds clients f (entry.Tried t ∷ rest) is = rows_add f (entry.Tried t ∷ rest) is.suits
 batch_adds clients f (entry.Want contact id ∷ rest) is = rows_add f (entry.Want contact id ∷ rest) is.suits
+batch_adds clients f _ is = absurd is
 
 pub one_more : (clients : Meaning) (f : Facts) (batch : List Entry) → Allowed clients f batch
     → (length (after_all f batch).held ≤ length f.held + 1) × (length (after_all f batch).sessions ≤ length f.sessions + 1)

@@ -168,19 +168,15 @@ batch_short clients f (entry.Take s k ∷ rest) is all =
     let others : length (spellings rest) ≤ 56832 = subst P (sym is.1.taken_so) (taken_short f s (contact_of f.sessions s) is.1.read is.1.within) all.1 in
     omega (arith, payload_cons (entry.Take s k) rest, (length_within (entry.Take s k) all.0).1, others)
 batch_short clients f (entry.Author m ∷ rest) is all = omega (arith, alone (entry.Author m) rest is.0 all)
-batch_short clients f (entry.Arrive s m ∷ rest) is all = absurd is
 batch_short clients f (entry.Judged id ∷ rest) is all = omega (arith, is.1, settling_short clients f (entry.Judged id ∷ rest) is.2 all)
 batch_short clients f (entry.Deliver id ∷ rest) is all = omega (arith, is.1, settling_short clients f (entry.Deliver id ∷ rest) is.2 all)
 batch_short clients f (entry.Invalid id ∷ rest) is all = omega (arith, is.1, settling_short clients f (entry.Invalid id ∷ rest) is.2 all)
-batch_short clients f (entry.Again s id ∷ rest) is all = absurd is
-batch_short clients f (entry.Offered s id ∷ rest) is all = absurd is
-batch_short clients f (entry.Seen s id ∷ rest) is all = absurd is
-batch_short clients f (entry.Asked s id ∷ rest) is all = absurd is
 batch_short clients f (entry.Out s now what ∷ rest) is all = omega (arith, alone (entry.Out s now what) rest is.0 all)
 batch_short clients f (entry.Brief n ∷ rest) is all = omega (arith, alone (entry.Brief n) rest is.0 all)
 batch_short clients f (entry.Kept from m ∷ rest) is all = omega (arith, alone (entry.Kept from m) rest is.0 all)
 batch_short clients f (entry.Tried t ∷ rest) is all = omega (arith, is.few, rows_short f (entry.Tried t ∷ rest) is.suits all)
 batch_short clients f (entry.Want contact id ∷ rest) is all = omega (arith, is.few, rows_short f (entry.Want contact id ∷ rest) is.suits all)
+batch_short clients f _ is all = absurd is
 
 first_len : (batch : List Entry) → payload_len format.Whole batch ≡ length (spellings batch)
 unfolding spelling spelling_in

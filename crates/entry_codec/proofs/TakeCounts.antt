@@ -107,19 +107,15 @@ batch_takes clients f (entry.Take s k ∷ rest) is =
     let others = subst (λ (es : List Entry). AllByRecursion TakesNone es) (sym is.1.taken_so) (taken_takes f s (contact_of f.sessions s) is.1.read) in
     omega (arith, none_taken rest others)
 batch_takes clients f (entry.Author m ∷ rest) is = alone (entry.Author m) rest is.0 (omega arith)
-batch_takes clients f (entry.Arrive s m ∷ rest) is = absurd is
 batch_takes clients f (entry.Judged id ∷ rest) is = settles clients f (entry.Judged id) rest (settling_all TakesNone of_steps clients f (entry.Judged id ∷ rest) is.2)
 batch_takes clients f (entry.Deliver id ∷ rest) is = settles clients f (entry.Deliver id) rest (settling_all TakesNone of_steps clients f (entry.Deliver id ∷ rest) is.2)
 batch_takes clients f (entry.Invalid id ∷ rest) is = settles clients f (entry.Invalid id) rest (settling_all TakesNone of_steps clients f (entry.Invalid id ∷ rest) is.2)
-batch_takes clients f (entry.Again s id ∷ rest) is = absurd is
-batch_takes clients f (entry.Offered s id ∷ rest) is = absurd is
-batch_takes clients f (entry.Seen s id ∷ rest) is = absurd is
-batch_takes clients f (entry.Asked s id ∷ rest) is = absurd is
 batch_takes clients f (entry.Out s now what ∷ rest) is = alone (entry.Out s now what) rest is.0 (omega arith)
 batch_takes clients f (entry.Brief n ∷ rest) is = alone (entry.Brief n) rest is.0 (omega arith)
 batch_takes clients f (entry.Kept from m ∷ rest) is = alone (entry.Kept from m) rest is.0 (omega arith)
 batch_takes clients f (entry.Tried t ∷ rest) is = rows_take f (entry.Tried t ∷ rest) is.suits
 batch_takes clients f (entry.Want contact id ∷ rest) is = rows_take f (entry.Want contact id ∷ rest) is.suits
+batch_takes clients f _ is = absurd is
 
 pub one_take : (clients : Meaning) (f : Facts) (batch : List Entry) (session : ℕ) → Allowed clients f batch
     → takes_of (after_all f batch).takes session ≤ takes_of f.takes session + 1

@@ -59,16 +59,12 @@ batch_has clients f (entry.Session s ∷ rest) is = alone (entry.Session s) rest
 batch_has clients f (entry.Take s k ∷ rest) is =
     (tt, subst (λ (es : List Entry). AllMayBeWritten es) (sym is.1.taken_so) (taken_have f s (contact_of f.sessions s) is.1.read))
 batch_has clients f (entry.Author m ∷ rest) is = alone (entry.Author m) rest is.0 tt
-batch_has clients f (entry.Arrive s m ∷ rest) is = absurd is
 batch_has clients f (entry.Judged id ∷ rest) is = settling_all MayBeWritten of_steps clients f (entry.Judged id ∷ rest) is.2
 batch_has clients f (entry.Deliver id ∷ rest) is = settling_all MayBeWritten of_steps clients f (entry.Deliver id ∷ rest) is.2
 batch_has clients f (entry.Invalid id ∷ rest) is = settling_all MayBeWritten of_steps clients f (entry.Invalid id ∷ rest) is.2
-batch_has clients f (entry.Again s id ∷ rest) is = absurd is
-batch_has clients f (entry.Offered s id ∷ rest) is = absurd is
-batch_has clients f (entry.Seen s id ∷ rest) is = absurd is
-batch_has clients f (entry.Asked s id ∷ rest) is = absurd is
 batch_has clients f (entry.Out s now what ∷ rest) is = alone (entry.Out s now what) rest is.0 tt
 batch_has clients f (entry.Brief n ∷ rest) is = alone (entry.Brief n) rest is.0 tt
 batch_has clients f (entry.Kept from m ∷ rest) is = alone (entry.Kept from m) rest is.0 tt
 batch_has clients f (entry.Tried t ∷ rest) is = rows_have f (entry.Tried t ∷ rest) is.suits
 batch_has clients f (entry.Want contact id ∷ rest) is = rows_have f (entry.Want contact id ∷ rest) is.suits
+batch_has clients f _ is = absurd is

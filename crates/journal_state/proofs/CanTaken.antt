@@ -326,14 +326,9 @@ can_batch clients s (entry.Take n k ∷ rest) a kind plain r few apart fresh =
 can_batch clients s (entry.Author m ∷ rest) a kind plain r few apart fresh =
     alone s (entry.Author m) rest a.0 (room_first s (entry.Author m) rest r)
     (record { known = a.2.known_group; new = no_held (held_at s.facts.held (message_id_of m)) a.2.new; few = few.held })
-can_batch clients s (entry.Arrive n m ∷ rest) a kind plain r few apart fresh = absurd a
 can_batch clients s (entry.Judged id ∷ rest) a kind plain r few apart fresh = absurd (false≢true (sym kind))
 can_batch clients s (entry.Deliver id ∷ rest) a kind plain r few apart fresh = absurd (false≢true (sym kind))
 can_batch clients s (entry.Invalid id ∷ rest) a kind plain r few apart fresh = absurd (false≢true (sym kind))
-can_batch clients s (entry.Again n id ∷ rest) a kind plain r few apart fresh = absurd a
-can_batch clients s (entry.Offered n id ∷ rest) a kind plain r few apart fresh = absurd a
-can_batch clients s (entry.Seen n id ∷ rest) a kind plain r few apart fresh = absurd a
-can_batch clients s (entry.Asked n id ∷ rest) a kind plain r few apart fresh = absurd a
 can_batch clients s (entry.Out n now what ∷ rest) a kind plain r few apart fresh =
     let known = is_there (session_at s.facts.sessions n) clients s.facts now what a.2 in
     let room : HasContactRoom s (length (entry.Out n now what ∷ rest)) (contact_of s.facts.sessions n) = some_contact s (session_at s.facts.sessions n) (length (entry.Out n now what ∷ rest)) known r.contact in
@@ -347,6 +342,7 @@ can_batch clients s (entry.Kept from m ∷ rest) a kind plain r few apart fresh 
     (record { known = a.3.known_group; new = no_held (held_at s.facts.held (message_id_of m)) a.3.new; few = few.held })
 can_batch clients s (entry.Tried t ∷ rest) a kind plain r few apart fresh = absurd (false≢true (sym plain))
 can_batch clients s (entry.Want contact id ∷ rest) a kind plain r few apart fresh = absurd (false≢true (sym plain))
+can_batch clients s _ a kind plain r few apart fresh = absurd a
 
 -- ---- it is noted how the journal began
 

@@ -197,11 +197,6 @@ left_after_batch clients f (entry.Author m ∷ rest) a kind plain j =
     (brought_left f (after f (entry.Author m)) (authored m) refl refl refl refl
     (j (message_id_of m) (not_held (held_at f.held (message_id_of m)) a.2.new)))
 left_after_batch clients f (entry.Out s now what ∷ rest) a kind plain j = alone_left f (entry.Out s now what) rest a.0 refl
-left_after_batch clients f (entry.Arrive s m ∷ rest) a kind plain j = absurd a
-left_after_batch clients f (entry.Again s id ∷ rest) a kind plain j = absurd a
-left_after_batch clients f (entry.Offered s id ∷ rest) a kind plain j = absurd a
-left_after_batch clients f (entry.Seen s id ∷ rest) a kind plain j = absurd a
-left_after_batch clients f (entry.Asked s id ∷ rest) a kind plain j = absurd a
 left_after_batch clients f (entry.Judged id ∷ rest) a kind plain j = absurd (false≢true (sym kind))
 left_after_batch clients f (entry.Deliver id ∷ rest) a kind plain j = absurd (false≢true (sym kind))
 left_after_batch clients f (entry.Invalid id ∷ rest) a kind plain j = absurd (false≢true (sym kind))
@@ -209,6 +204,7 @@ left_after_batch clients f (entry.Brief n ∷ rest) a kind plain j = absurd (fal
 left_after_batch clients f (entry.Kept from m ∷ rest) a kind plain j = absurd (false≢true (sym plain))
 left_after_batch clients f (entry.Tried t ∷ rest) a kind plain j = absurd (false≢true (sym plain))
 left_after_batch clients f (entry.Want contact id ∷ rest) a kind plain j = absurd (false≢true (sym plain))
+left_after_batch clients f _ a kind plain j = absurd a
 
 -- ---- of a state, only held messages are judged
 

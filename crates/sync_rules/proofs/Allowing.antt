@@ -242,14 +242,9 @@ allows_decides all clients f (entry.Level c g l ∷ rest) =
 allows_decides all clients f (entry.Session s ∷ rest) = alone_decides clients f rest (may_begin f s) (begin_decides f s)
 allows_decides all clients f (entry.Take s k ∷ rest) = both_decide (is_settled clients f) (may_take f s k rest) (settled_decides clients f) (take_decides all f s k rest)
 allows_decides all clients f (entry.Author m ∷ rest) = alone_decides clients f rest (may_author clients f m) (author_decides clients f m)
-allows_decides all clients f (entry.Arrive s m ∷ rest) = never
 allows_decides all clients f (entry.Judged id ∷ rest) = settling_decides clients f (entry.Judged id) rest
 allows_decides all clients f (entry.Deliver id ∷ rest) = settling_decides clients f (entry.Deliver id) rest
 allows_decides all clients f (entry.Invalid id ∷ rest) = settling_decides clients f (entry.Invalid id) rest
-allows_decides all clients f (entry.Again s id ∷ rest) = never
-allows_decides all clients f (entry.Offered s id ∷ rest) = never
-allows_decides all clients f (entry.Seen s id ∷ rest) = never
-allows_decides all clients f (entry.Asked s id ∷ rest) = never
 allows_decides all clients f (entry.Out s now what ∷ rest) =
     alone_decides clients f rest (is_due clients f (session_at f.sessions s) now what) (due_decides clients f (session_at f.sessions s) now what)
 allows_decides all clients f (entry.Brief n ∷ rest) =
@@ -258,3 +253,4 @@ allows_decides all clients f (entry.Kept from m ∷ rest) =
     alone_two clients f rest (is_opening f.start) (may_keep clients f from m) (opening_decides f.start) (keep_decides clients f from m)
 allows_decides all clients f (entry.Tried t ∷ rest) = rows_decides clients f (entry.Tried t) rest
 allows_decides all clients f (entry.Want contact id ∷ rest) = rows_decides clients f (entry.Want contact id) rest
+allows_decides all clients f _ = never

@@ -235,22 +235,7 @@ held_after_one clients f (entry.Arrive t m) met s h =
 held_after_one clients f (entry.Kept from m) met s h =
     held_more f (after f (entry.Kept from m)) (kept_as from m) (continues_after f (entry.Kept from m)) refl met.2.new
     (record { named = refl; is_id = refl; known_group = met.2.known_group; known_origin = kept_origin clients f from m met.2.kept_from }) h
-held_after_one clients f (entry.Contact c) met s h = held_same f (after f (entry.Contact c)) (continues_after f (entry.Contact c)) refl h
-held_after_one clients f (entry.Group def) met s h = held_same f (after f (entry.Group def)) (continues_after f (entry.Group def)) refl h
-held_after_one clients f (entry.Level c g l) met s h = held_same f (after f (entry.Level c g l)) (continues_after f (entry.Level c g l)) refl h
-held_after_one clients f (entry.Session x) met s h = held_same f (after f (entry.Session x)) (continues_after f (entry.Session x)) refl h
-held_after_one clients f (entry.Take t k) met s h = held_same f (after f (entry.Take t k)) (continues_after f (entry.Take t k)) refl h
-held_after_one clients f (entry.Judged id) met s h = held_same f (after f (entry.Judged id)) (continues_after f (entry.Judged id)) refl h
-held_after_one clients f (entry.Deliver id) met s h = held_same f (after f (entry.Deliver id)) (continues_after f (entry.Deliver id)) refl h
-held_after_one clients f (entry.Invalid id) met s h = held_same f (after f (entry.Invalid id)) (continues_after f (entry.Invalid id)) refl h
-held_after_one clients f (entry.Again t id) met s h = held_same f (after f (entry.Again t id)) (continues_after f (entry.Again t id)) refl h
-held_after_one clients f (entry.Offered t id) met s h = held_same f (after f (entry.Offered t id)) (continues_after f (entry.Offered t id)) refl h
-held_after_one clients f (entry.Seen t id) met s h = held_same f (after f (entry.Seen t id)) (continues_after f (entry.Seen t id)) refl h
-held_after_one clients f (entry.Asked t id) met s h = held_same f (after f (entry.Asked t id)) (continues_after f (entry.Asked t id)) refl h
-held_after_one clients f (entry.Out t now what) met s h = held_same f (after f (entry.Out t now what)) (continues_after f (entry.Out t now what)) refl h
-held_after_one clients f (entry.Brief n) met s h = held_same f (after f (entry.Brief n)) (continues_after f (entry.Brief n)) refl h
-held_after_one clients f (entry.Tried t) met s h = held_same f (after f (entry.Tried t)) (continues_after f (entry.Tried t)) refl h
-held_after_one clients f (entry.Want c id) met s h = held_same f (after f (entry.Want c id)) (continues_after f (entry.Want c id)) refl h
+held_after_one clients f it met s h = held_same f (after f it) (continues_after f it) refl h
 
 -- ---- pairs
 
@@ -303,24 +288,8 @@ pub levels_after_one : (clients : Meaning) (f : Facts) (e : Entry) → MeetsNoSt
 levels_after_one clients f (entry.Level c x l) m has =
     let g : Facts = after f (entry.Level c x l) in
     level_put g f.levels c x l m.1 m.2 (levels_there f g f.levels (continues_after f (entry.Level c x l)) has)
-levels_after_one clients f (entry.Contact c) m has = levels_there f (after f (entry.Contact c)) f.levels (continues_after f (entry.Contact c)) has
-levels_after_one clients f (entry.Group def) m has = levels_there f (after f (entry.Group def)) f.levels (continues_after f (entry.Group def)) has
-levels_after_one clients f (entry.Session x) m has = levels_there f (after f (entry.Session x)) f.levels (continues_after f (entry.Session x)) has
-levels_after_one clients f (entry.Take t k) m has = levels_there f (after f (entry.Take t k)) f.levels (continues_after f (entry.Take t k)) has
-levels_after_one clients f (entry.Author x) m has = levels_there f (after f (entry.Author x)) f.levels (continues_after f (entry.Author x)) has
-levels_after_one clients f (entry.Arrive t x) m has = levels_there f (after f (entry.Arrive t x)) f.levels (continues_after f (entry.Arrive t x)) has
-levels_after_one clients f (entry.Judged id) m has = levels_there f (after f (entry.Judged id)) f.levels (continues_after f (entry.Judged id)) has
-levels_after_one clients f (entry.Deliver id) m has = levels_there f (after f (entry.Deliver id)) f.levels (continues_after f (entry.Deliver id)) has
-levels_after_one clients f (entry.Invalid id) m has = levels_there f (after f (entry.Invalid id)) f.levels (continues_after f (entry.Invalid id)) has
-levels_after_one clients f (entry.Again t id) m has = levels_there f (after f (entry.Again t id)) f.levels (continues_after f (entry.Again t id)) has
-levels_after_one clients f (entry.Offered t id) m has = levels_there f (after f (entry.Offered t id)) f.levels (continues_after f (entry.Offered t id)) has
-levels_after_one clients f (entry.Seen t id) m has = levels_there f (after f (entry.Seen t id)) f.levels (continues_after f (entry.Seen t id)) has
-levels_after_one clients f (entry.Asked t id) m has = levels_there f (after f (entry.Asked t id)) f.levels (continues_after f (entry.Asked t id)) has
-levels_after_one clients f (entry.Out t now what) m has = levels_there f (after f (entry.Out t now what)) f.levels (continues_after f (entry.Out t now what)) has
-levels_after_one clients f (entry.Brief n) m has = levels_there f (after f (entry.Brief n)) f.levels (continues_after f (entry.Brief n)) has
-levels_after_one clients f (entry.Kept from x) m has = levels_there f (after f (entry.Kept from x)) f.levels (continues_after f (entry.Kept from x)) has
-levels_after_one clients f (entry.Tried t) m has = levels_there f (after f (entry.Tried t)) f.levels (continues_after f (entry.Tried t)) has
-levels_after_one clients f (entry.Want c id) m has = levels_there f (after f (entry.Want c id)) f.levels (continues_after f (entry.Want c id)) has
+levels_after_one clients f it m has =
+    levels_there f (after f it) f.levels (continues_after f it) has
 
 -- ---- rows
 
@@ -433,22 +402,11 @@ rows_after_one clients f (entry.Out t now what) sound met s has =
     rows_after_output f t now what
     (session_contact_known f s t (session_at f.sessions t) refl (due_session_known clients f (session_at f.sessions t) now what met.1))
     (out_named clients f sound (session_at f.sessions t) now what met.1) has
-rows_after_one clients f (entry.Contact c) sound met s has = rows_there f (after f (entry.Contact c)) f.rows (continues_after f (entry.Contact c)) has
-rows_after_one clients f (entry.Group def) sound met s has = rows_there f (after f (entry.Group def)) f.rows (continues_after f (entry.Group def)) has
-rows_after_one clients f (entry.Level c g l) sound met s has = rows_there f (after f (entry.Level c g l)) f.rows (continues_after f (entry.Level c g l)) has
-rows_after_one clients f (entry.Session x) sound met s has = rows_there f (after f (entry.Session x)) f.rows (continues_after f (entry.Session x)) has
-rows_after_one clients f (entry.Take t k) sound met s has = rows_there f (after f (entry.Take t k)) f.rows (continues_after f (entry.Take t k)) has
-rows_after_one clients f (entry.Author m) sound met s has = rows_there f (after f (entry.Author m)) f.rows (continues_after f (entry.Author m)) has
-rows_after_one clients f (entry.Judged id) sound met s has = rows_there f (after f (entry.Judged id)) f.rows (continues_after f (entry.Judged id)) has
-rows_after_one clients f (entry.Deliver id) sound met s has = rows_there f (after f (entry.Deliver id)) f.rows (continues_after f (entry.Deliver id)) has
-rows_after_one clients f (entry.Invalid id) sound met s has = rows_there f (after f (entry.Invalid id)) f.rows (continues_after f (entry.Invalid id)) has
-rows_after_one clients f (entry.Offered t id) sound met s has = rows_there f (after f (entry.Offered t id)) f.rows (continues_after f (entry.Offered t id)) has
-rows_after_one clients f (entry.Brief n) sound met s has = rows_there f (after f (entry.Brief n)) f.rows (continues_after f (entry.Brief n)) has
-rows_after_one clients f (entry.Kept from m) sound met s has = rows_there f (after f (entry.Kept from m)) f.rows (continues_after f (entry.Kept from m)) has
-rows_after_one clients f (entry.Want c id) sound met s has = rows_there f (after f (entry.Want c id)) f.rows (continues_after f (entry.Want c id)) has
 rows_after_one clients f (entry.Tried t) sound met s has =
     row_change (after f (entry.Tried t)) f.rows t.contact t.id (row_tried t) (λ r few. omega arith) met.2.known_contact met.2.held
     (rows_there f (after f (entry.Tried t)) f.rows (continues_after f (entry.Tried t)) has)
+rows_after_one clients f it sound met s has =
+    rows_there f (after f it) f.rows (continues_after f it) has
 
 -- ---- wanted ids
 
@@ -608,18 +566,7 @@ wanted_after_one clients f (entry.Want c id) met s h =
 wanted_after_one clients f (entry.Out t now what) met s h =
     wanted_after_output f t now what
     (session_contact_known f s t (session_at f.sessions t) refl (due_session_known clients f (session_at f.sessions t) now what met.1)) h
-wanted_after_one clients f (entry.Group def) met s h = same_wanted f (entry.Group def) refl refl h
-wanted_after_one clients f (entry.Level c g l) met s h = same_wanted f (entry.Level c g l) refl refl h
-wanted_after_one clients f (entry.Session x) met s h = same_wanted f (entry.Session x) refl refl h
-wanted_after_one clients f (entry.Take t k) met s h = same_wanted f (entry.Take t k) refl refl h
-wanted_after_one clients f (entry.Judged id) met s h = same_wanted f (entry.Judged id) refl refl h
-wanted_after_one clients f (entry.Deliver id) met s h = same_wanted f (entry.Deliver id) refl refl h
-wanted_after_one clients f (entry.Invalid id) met s h = same_wanted f (entry.Invalid id) refl refl h
-wanted_after_one clients f (entry.Again t id) met s h = same_wanted f (entry.Again t id) refl refl h
-wanted_after_one clients f (entry.Seen t id) met s h = same_wanted f (entry.Seen t id) refl refl h
-wanted_after_one clients f (entry.Asked t id) met s h = same_wanted f (entry.Asked t id) refl refl h
-wanted_after_one clients f (entry.Brief n) met s h = same_wanted f (entry.Brief n) refl refl h
-wanted_after_one clients f (entry.Tried t) met s h = same_wanted f (entry.Tried t) refl refl h
+wanted_after_one clients f it met s h = same_wanted f it refl refl h
 
 -- ---- ends
 
@@ -696,22 +643,8 @@ pub ends_after_one : (clients : Meaning) (f : Facts) (e : Entry) → MeetsNoStep
 ends_after_one clients f (entry.Judged id) met h = ends_judged clients f id (next_is_step clients f (entry.Judged id) met) h
 ends_after_one clients f (entry.Deliver id) met h = ends_delivered clients f id (delivery clients f id met) h
 ends_after_one clients f (entry.Invalid id) met h = ends_refused clients f id (refusal clients f id met) h
-ends_after_one clients f (entry.Contact c) met h = ends_there f (after f (entry.Contact c)) (continues_after f (entry.Contact c)) refl refl refl h
-ends_after_one clients f (entry.Group def) met h = ends_there f (after f (entry.Group def)) (continues_after f (entry.Group def)) refl refl refl h
-ends_after_one clients f (entry.Level c g l) met h = ends_there f (after f (entry.Level c g l)) (continues_after f (entry.Level c g l)) refl refl refl h
-ends_after_one clients f (entry.Session x) met h = ends_there f (after f (entry.Session x)) (continues_after f (entry.Session x)) refl refl refl h
-ends_after_one clients f (entry.Take t k) met h = ends_there f (after f (entry.Take t k)) (continues_after f (entry.Take t k)) refl refl refl h
-ends_after_one clients f (entry.Author m) met h = ends_there f (after f (entry.Author m)) (continues_after f (entry.Author m)) refl refl refl h
-ends_after_one clients f (entry.Arrive t m) met h = ends_there f (after f (entry.Arrive t m)) (continues_after f (entry.Arrive t m)) refl refl refl h
-ends_after_one clients f (entry.Again t id) met h = ends_there f (after f (entry.Again t id)) (continues_after f (entry.Again t id)) refl refl refl h
-ends_after_one clients f (entry.Offered t id) met h = ends_there f (after f (entry.Offered t id)) (continues_after f (entry.Offered t id)) refl refl refl h
-ends_after_one clients f (entry.Seen t id) met h = ends_there f (after f (entry.Seen t id)) (continues_after f (entry.Seen t id)) refl refl refl h
-ends_after_one clients f (entry.Asked t id) met h = ends_there f (after f (entry.Asked t id)) (continues_after f (entry.Asked t id)) refl refl refl h
-ends_after_one clients f (entry.Out t now what) met h = ends_there f (after f (entry.Out t now what)) (continues_after f (entry.Out t now what)) refl refl refl h
-ends_after_one clients f (entry.Brief n) met h = ends_there f (after f (entry.Brief n)) (continues_after f (entry.Brief n)) refl refl refl h
-ends_after_one clients f (entry.Kept from m) met h = ends_there f (after f (entry.Kept from m)) (continues_after f (entry.Kept from m)) refl refl refl h
-ends_after_one clients f (entry.Tried t) met h = ends_there f (after f (entry.Tried t)) (continues_after f (entry.Tried t)) refl refl refl h
-ends_after_one clients f (entry.Want c id) met h = ends_there f (after f (entry.Want c id)) (continues_after f (entry.Want c id)) refl refl refl h
+ends_after_one clients f it met h =
+    ends_there f (after f it) (continues_after f it) refl refl refl h
 
 -- ---- all of it
 

@@ -221,25 +221,10 @@ module _ (clients : Meaning) (f : Facts) (session : ℕ) (known : is_some (sessi
 -- ---- settling
 
 settling_meets : (clients : Meaning) (f : Facts) (e : Entry) → next clients f ≡ Some e → MeetsNoStep clients f e
-settling_meets clients f (entry.Contact c) n = absurd (next_is_settling clients f (entry.Contact c) n)
-settling_meets clients f (entry.Group def) n = absurd (next_is_settling clients f (entry.Group def) n)
-settling_meets clients f (entry.Level c g l) n = absurd (next_is_settling clients f (entry.Level c g l) n)
-settling_meets clients f (entry.Session s) n = absurd (next_is_settling clients f (entry.Session s) n)
-settling_meets clients f (entry.Take s k) n = absurd (next_is_settling clients f (entry.Take s k) n)
-settling_meets clients f (entry.Author m) n = absurd (next_is_settling clients f (entry.Author m) n)
-settling_meets clients f (entry.Arrive s m) n = absurd (next_is_settling clients f (entry.Arrive s m) n)
 settling_meets clients f (entry.Judged id) n = n
 settling_meets clients f (entry.Deliver id) n = n
 settling_meets clients f (entry.Invalid id) n = n
-settling_meets clients f (entry.Again s id) n = absurd (next_is_settling clients f (entry.Again s id) n)
-settling_meets clients f (entry.Offered s id) n = absurd (next_is_settling clients f (entry.Offered s id) n)
-settling_meets clients f (entry.Seen s id) n = absurd (next_is_settling clients f (entry.Seen s id) n)
-settling_meets clients f (entry.Asked s id) n = absurd (next_is_settling clients f (entry.Asked s id) n)
-settling_meets clients f (entry.Out s now what) n = absurd (next_is_settling clients f (entry.Out s now what) n)
-settling_meets clients f (entry.Brief k) n = absurd (next_is_settling clients f (entry.Brief k) n)
-settling_meets clients f (entry.Kept from m) n = absurd (next_is_settling clients f (entry.Kept from m) n)
-settling_meets clients f (entry.Tried t) n = absurd (next_is_settling clients f (entry.Tried t) n)
-settling_meets clients f (entry.Want c id) n = absurd (next_is_settling clients f (entry.Want c id) n)
+settling_meets clients f it n = absurd (next_is_settling clients f it n)
 
 pub all_settling_meets : (clients : Meaning) (f : Facts) (es : List Entry) → IsSettling clients f es → AllMeet clients f es
 all_settling_meets clients f [] s = tt

@@ -162,14 +162,9 @@ allowed_names_held clients f s (entry.Session x ∷ rest) a = alone_held f (entr
 allowed_names_held clients f s (entry.Take n k ∷ rest) a =
     ap (λ (es : List Entry). list_all (are_held f.held) es) a.1.taken_so ∙ record_held f n a.1.read
 allowed_names_held clients f s (entry.Author m ∷ rest) a = alone_held f (entry.Author m) rest a.0 refl
-allowed_names_held clients f s (entry.Arrive n m ∷ rest) a = absurd a
 allowed_names_held clients f s (entry.Judged id ∷ rest) a = settling_held clients f (entry.Judged id ∷ rest) a.2
 allowed_names_held clients f s (entry.Deliver id ∷ rest) a = settling_held clients f (entry.Deliver id ∷ rest) a.2
 allowed_names_held clients f s (entry.Invalid id ∷ rest) a = settling_held clients f (entry.Invalid id ∷ rest) a.2
-allowed_names_held clients f s (entry.Again n id ∷ rest) a = absurd a
-allowed_names_held clients f s (entry.Offered n id ∷ rest) a = absurd a
-allowed_names_held clients f s (entry.Seen n id ∷ rest) a = absurd a
-allowed_names_held clients f s (entry.Asked n id ∷ rest) a = absurd a
 allowed_names_held clients f s (entry.Out n now what ∷ rest) a =
     alone_held f (entry.Out n now what) rest a.0
     (out_held f (contact_in (session_at f.sessions n)) what (out_named clients f s (session_at f.sessions n) now what a.2))
@@ -177,6 +172,7 @@ allowed_names_held clients f s (entry.Brief n ∷ rest) a = alone_held f (entry.
 allowed_names_held clients f s (entry.Kept from m ∷ rest) a = alone_held f (entry.Kept from m) rest a.0 refl
 allowed_names_held clients f s (entry.Tried t ∷ rest) a = rows_held f (entry.Tried t ∷ rest) a.suits
 allowed_names_held clients f s (entry.Want contact id ∷ rest) a = rows_held f (entry.Want contact id ∷ rest) a.suits
+allowed_names_held clients f s _ a = absurd a
 
 pub legal_names_held : (clients : Meaning) (j : List (List Entry)) (b : List Entry) → Legal clients j → Allowed clients (facts j) b → NamesHeld (facts j) b
 legal_names_held clients j b l a = allowed_names_held clients (facts j) (legal_sound clients j l) b a

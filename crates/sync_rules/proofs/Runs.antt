@@ -137,20 +137,16 @@ allowed_fits clients f (entry.Take s k ∷ rest) a =
     (tt, subst (AllFit clients (after f (entry.Take s k))) (sym a.1.taken_so) (fits_taken clients f s k a.1.read a.1.known_session))
 allowed_fits clients f (entry.Author m ∷ rest) a =
     fits_alone clients f (entry.Author m) rest a.0 (record { known = a.2.known_group; new = a.2.new })
-allowed_fits clients f (entry.Arrive s m ∷ rest) a = absurd a
 allowed_fits clients f (entry.Judged id ∷ rest) a = fits_settling clients f (entry.Judged id ∷ rest) a.2
 allowed_fits clients f (entry.Deliver id ∷ rest) a = fits_settling clients f (entry.Deliver id ∷ rest) a.2
 allowed_fits clients f (entry.Invalid id ∷ rest) a = fits_settling clients f (entry.Invalid id ∷ rest) a.2
-allowed_fits clients f (entry.Again s id ∷ rest) a = absurd a
-allowed_fits clients f (entry.Offered s id ∷ rest) a = absurd a
-allowed_fits clients f (entry.Seen s id ∷ rest) a = absurd a
-allowed_fits clients f (entry.Asked s id ∷ rest) a = absurd a
 allowed_fits clients f (entry.Out s now what ∷ rest) a = fits_alone clients f (entry.Out s now what) rest a.0 a.2
 allowed_fits clients f (entry.Brief n ∷ rest) a = fits_alone clients f (entry.Brief n) rest a.0 tt
 allowed_fits clients f (entry.Kept from m ∷ rest) a =
     fits_alone clients f (entry.Kept from m) rest a.0 (record { known = a.3.known_group; new = a.3.new })
 allowed_fits clients f (entry.Tried t ∷ rest) a = fits_rows clients f (entry.Tried t ∷ rest) a.suits
 allowed_fits clients f (entry.Want contact id ∷ rest) a = fits_rows clients f (entry.Want contact id ∷ rest) a.suits
+allowed_fits clients f _ a = absurd a
 
 pub goes_on_fits : (clients : Meaning) (f : Facts) (bs : List (List Entry)) → GoesOn clients f bs → AllFit clients f (entries_of bs)
 goes_on_fits clients f [] g = tt

@@ -173,22 +173,8 @@ sessions_after_one clients f (entry.Contact c) m h = record {
 }
 sessions_after_one clients f (entry.Session x) m h = begins f x m.1 h
 sessions_after_one clients f (entry.Take s k) m h = takes_known f s k m.1 h
-sessions_after_one clients f (entry.Group def) m h = same_sessions f (after f (entry.Group def)) refl refl refl refl h
-sessions_after_one clients f (entry.Level c g l) m h = same_sessions f (after f (entry.Level c g l)) refl refl refl refl h
-sessions_after_one clients f (entry.Author x) m h = same_sessions f (after f (entry.Author x)) refl refl refl refl h
-sessions_after_one clients f (entry.Arrive s x) m h = same_sessions f (after f (entry.Arrive s x)) refl refl refl refl h
-sessions_after_one clients f (entry.Judged id) m h = same_sessions f (after f (entry.Judged id)) refl refl refl refl h
-sessions_after_one clients f (entry.Deliver id) m h = same_sessions f (after f (entry.Deliver id)) refl refl refl refl h
-sessions_after_one clients f (entry.Invalid id) m h = same_sessions f (after f (entry.Invalid id)) refl refl refl refl h
-sessions_after_one clients f (entry.Again s id) m h = same_sessions f (after f (entry.Again s id)) refl refl refl refl h
-sessions_after_one clients f (entry.Offered s id) m h = same_sessions f (after f (entry.Offered s id)) refl refl refl refl h
-sessions_after_one clients f (entry.Seen s id) m h = same_sessions f (after f (entry.Seen s id)) refl refl refl refl h
-sessions_after_one clients f (entry.Asked s id) m h = same_sessions f (after f (entry.Asked s id)) refl refl refl refl h
-sessions_after_one clients f (entry.Out s now what) m h = same_sessions f (after f (entry.Out s now what)) refl refl refl refl h
 sessions_after_one clients f (entry.Brief n) m h = more_begun f n h
-sessions_after_one clients f (entry.Kept from x) m h = same_sessions f (after f (entry.Kept from x)) refl refl refl refl h
-sessions_after_one clients f (entry.Tried t) m h = same_sessions f (after f (entry.Tried t)) refl refl refl refl h
-sessions_after_one clients f (entry.Want c id) m h = same_sessions f (after f (entry.Want c id)) refl refl refl refl h
+sessions_after_one clients f it m h = same_sessions f (after f it) refl refl refl refl h
 
 pub sessions_of_nothing : HasSessions nothing
 sessions_of_nothing = record {

@@ -146,14 +146,9 @@ Allowed clients f (entry.Level c g l ∷ rest) =
 Allowed clients f (entry.Session s ∷ rest) = (rest ≡ []) × IsSettled clients f × MayBegin f s
 Allowed clients f (entry.Take s k ∷ rest) = IsSettled clients f × MayTake f s k rest
 Allowed clients f (entry.Author m ∷ rest) = (rest ≡ []) × IsSettled clients f × MayAuthor clients f m
-Allowed clients f (entry.Arrive s m ∷ rest) = ⊥
 Allowed clients f (entry.Judged id ∷ rest) = IsSettlingBatch clients f (entry.Judged id ∷ rest)
 Allowed clients f (entry.Deliver id ∷ rest) = IsSettlingBatch clients f (entry.Deliver id ∷ rest)
 Allowed clients f (entry.Invalid id ∷ rest) = IsSettlingBatch clients f (entry.Invalid id ∷ rest)
-Allowed clients f (entry.Again s id ∷ rest) = ⊥
-Allowed clients f (entry.Offered s id ∷ rest) = ⊥
-Allowed clients f (entry.Seen s id ∷ rest) = ⊥
-Allowed clients f (entry.Asked s id ∷ rest) = ⊥
 Allowed clients f (entry.Out s now what ∷ rest) =
     (rest ≡ []) × IsSettled clients f × IsDue clients f (session_at f.sessions s) now what
 Allowed clients f (entry.Brief n ∷ rest) = (rest ≡ []) × (f.start ≡ start.Empty)
@@ -161,6 +156,7 @@ Allowed clients f (entry.Kept from m ∷ rest) =
     (rest ≡ []) × IsSettled clients f × (f.start ≡ start.Opening) × MayKeep clients f from m
 Allowed clients f (entry.Tried t ∷ rest) = IsRowsBatch clients f (entry.Tried t ∷ rest)
 Allowed clients f (entry.Want contact id ∷ rest) = IsRowsBatch clients f (entry.Want contact id ∷ rest)
+Allowed clients f _ = ⊥
 
 -- batches of which each is allowed after those before it
 abbrev pub GoesOn : Meaning → Facts → List (List Entry) → Type 0

@@ -132,19 +132,15 @@ batch_says heard clients f (entry.Session s ∷ rest) closed a h = says_alone he
 batch_says heard clients f (entry.Take s k ∷ rest) closed a h =
     (tt, subst (AllByRecursion (SaysHeard heard)) (sym h.2) (record_says heard f s h.0 h.1))
 batch_says heard clients f (entry.Author m ∷ rest) closed a h = says_alone heard (entry.Author m) rest a.0 tt
-batch_says heard clients f (entry.Arrive s m ∷ rest) closed a h = absurd a
 batch_says heard clients f (entry.Judged id ∷ rest) closed a h = settling_says heard clients f (entry.Judged id ∷ rest) a.2
 batch_says heard clients f (entry.Deliver id ∷ rest) closed a h = settling_says heard clients f (entry.Deliver id ∷ rest) a.2
 batch_says heard clients f (entry.Invalid id ∷ rest) closed a h = settling_says heard clients f (entry.Invalid id ∷ rest) a.2
-batch_says heard clients f (entry.Again s id ∷ rest) closed a h = absurd a
-batch_says heard clients f (entry.Offered s id ∷ rest) closed a h = absurd a
-batch_says heard clients f (entry.Seen s id ∷ rest) closed a h = absurd a
-batch_says heard clients f (entry.Asked s id ∷ rest) closed a h = absurd a
 batch_says heard clients f (entry.Out s now what ∷ rest) closed a h = says_alone heard (entry.Out s now what) rest a.0 tt
 batch_says heard clients f (entry.Brief n ∷ rest) closed a h = says_alone heard (entry.Brief n) rest a.0 tt
 batch_says heard clients f (entry.Kept from m ∷ rest) closed a h = absurd (not_opening f closed a.2)
 batch_says heard clients f (entry.Tried t ∷ rest) closed a h = absurd (not_opening f closed a.opening)
 batch_says heard clients f (entry.Want contact id ∷ rest) closed a h = absurd (not_opening f closed a.opening)
+batch_says heard clients f _ closed a h = absurd a
 
 pub batches_say : (heard : ℕ → List Record) (clients : Meaning) (f : Facts) (bs : List (List Entry)) → is_opening f.start ≡ false → HasNoBrief bs
     → GoesOn clients f bs → AllHeard heard f bs → AllByRecursion (SaysHeard heard) (entries_of bs)

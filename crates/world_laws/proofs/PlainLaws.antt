@@ -57,19 +57,15 @@ batch_plain clients f (entry.Session s ∷ rest) a plain = plain_alone (entry.Se
 batch_plain clients f (entry.Take s k ∷ rest) a plain =
     ap (list_all is_no_brief) a.1.taken_so ∙ all_of_record is_no_brief s (taken_plain s) f a.1.read
 batch_plain clients f (entry.Author m ∷ rest) a plain = plain_alone (entry.Author m) rest refl a.0
-batch_plain clients f (entry.Arrive s m ∷ rest) a plain = absurd a
 batch_plain clients f (entry.Judged id ∷ rest) a plain = settling_plain clients f (entry.Judged id ∷ rest) a.2
 batch_plain clients f (entry.Deliver id ∷ rest) a plain = settling_plain clients f (entry.Deliver id ∷ rest) a.2
 batch_plain clients f (entry.Invalid id ∷ rest) a plain = settling_plain clients f (entry.Invalid id ∷ rest) a.2
-batch_plain clients f (entry.Again s id ∷ rest) a plain = absurd a
-batch_plain clients f (entry.Offered s id ∷ rest) a plain = absurd a
-batch_plain clients f (entry.Seen s id ∷ rest) a plain = absurd a
-batch_plain clients f (entry.Asked s id ∷ rest) a plain = absurd a
 batch_plain clients f (entry.Out s now what ∷ rest) a plain = plain_alone (entry.Out s now what) rest refl a.0
 batch_plain clients f (entry.Brief n ∷ rest) a plain = absurd (false≢true plain)
 batch_plain clients f (entry.Kept from m ∷ rest) a plain = plain_alone (entry.Kept from m) rest refl a.0
 batch_plain clients f (entry.Tried t ∷ rest) a plain = rows_plain f (entry.Tried t ∷ rest) a.suits
 batch_plain clients f (entry.Want contact id ∷ rest) a plain = rows_plain f (entry.Want contact id ∷ rest) a.suits
+batch_plain clients f _ a plain = absurd a
 
 -- ---- the entries of a journal
 
