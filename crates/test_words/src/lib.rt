@@ -4,6 +4,8 @@
 #[cfg(test)]
 mod checks;
 #[cfg(test)]
+mod lines;
+#[cfg(test)]
 mod mailboxes;
 #[cfg(test)]
 mod sharing;
