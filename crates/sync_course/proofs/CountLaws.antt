@@ -1,7 +1,7 @@
 -- The records taken on a session are a front of those heard on its link.
-use Rattle.std.proofs.Common.{◌≡◌, ℕ, zero, suc, ◌+◌, Bool, true, false, cond, nat_eq, List, [], ◌∷◌, ◌++◌, length, drop, eq-eqb, length-append, append-nil, append_assoc, refl, sym, ◌∙◌, ap, subst, inl, inr}
+use Rattle.std.proofs.Common.{◌≡◌, ℕ, ◌+◌, Bool, true, false, cond, nat_eq, List, [], ◌∷◌, ◌++◌, length, drop, eq-eqb, length-append, append-nil, append_assoc, refl, sym, ◌∙◌, ap}
 use Rattle.std.proofs.lemmas.Bool.{ne_eqb}
-use Rattle.outside.specs.Links.{Reply, got, idle, ended}
+use Rattle.outside.specs.Links.{ended}
 use Rattle.record_grammar.specs.Laws.{RecordsJoin, StreamsGoOn}
 use Rattle.record_grammar.specs.Stream.{ending, items, records, records_of, rest, rest_place}
 use Rattle.record_grammar.specs.declared.stream.Ending.{Ending}
@@ -17,9 +17,10 @@ use Rattle.sync_rules.specs.Sessions.{taken}
 use Rattle.sync_rules.proofs.StepKinds.{settling_only, takes_one}
 use Rattle.sync_course.specs.declared.ends.LinkEnd.{LinkEnd}
 use Rattle.sync_course.specs.declared.ends.LinkEnd.TheVariants as end
-use Rattle.sync_course.specs.Events.{Event, Commit, Hear, Miss, Read, Break, Pass}
+use Rattle.sync_course.specs.Events.{Event}
 use Rattle.sync_course.specs.Links.{Link, closes, is_going, items_after, link_after, new_items, stands_behind}
-use Rattle.sync_course.specs.LinkTurns.{Asks, Takes, Waits, Sends, Puts, Doing, LinkStep, PassesItem, SendsNext, SettlesOn, Spot, StepOf, TakesNext, heard_spot, next_take}
+use Rattle.sync_course.specs.LinkTurns.{Doing, LinkStep, Spot, all_taken_spot, failed_spot, heard_spot, next_take, out_batch}
+use Rattle.sync_course.proofs.LinkSteps.{link_by_cases}
 use Rattle.sync_course.specs.Suits.{IsCounted, keeps_all}
 use Rattle.sync_course.specs.Pending.{pending}
 
@@ -45,7 +46,7 @@ new_items_are heard bytes its parts = ap (drop (length (items 0 heard))) parts �
 eqb_itself : (n : ℕ) → nat_eq n n ≡ true
 eqb_itself n = eq-eqb n n refl
 
-takes_other : (clients : Meaning) (f : Facts) (session m : ℕ) (r : Record) → Allowed clients f (next_take f session r) → (m ≡ session → ⊥)
+pub takes_other : (clients : Meaning) (f : Facts) (session m : ℕ) (r : Record) → Allowed clients f (next_take f session r) → (m ≡ session → ⊥)
     → takes_of (after_all f (next_take f session r)).takes m ≡ takes_of f.takes m
 takes_other clients f session m r allowed other =
     let one : TakesOne f (after_all f (next_take f session r)) session = takes_one clients f session (takes_of f.takes session) (taken f session r) allowed in
@@ -112,12 +113,6 @@ module _ (go_on : StreamsGoOn) (join : RecordsJoin) where
         whole = λ k. refl;
       }
 
-  counted_reply : (f : Facts) (session : ℕ) (reply : Reply) (p : Spot) → keeps_all p.link.stands ≡ true → IsCounted p.facts session [] p.link
-      → IsCounted (heard_spot reply p).facts session (pending (heard_spot reply p).doing) (heard_spot reply p).link
-  counted_reply f session (got bytes) p keeps c = counted_got p.facts session p.link bytes keeps c
-  counted_reply f session idle p keeps c = c
-  counted_reply f session ended p keeps c = counted_ends p.facts session [] p.link (heard_spot ended p).link refl (λ k. keeps) c
-
   -- a record is taken
   counted_taken : (f g : Facts) (session place : ℕ) (r : Record) (its : List Item) (link : Link)
       → takes_of g.takes session ≡ takes_of f.takes session + 1 → IsCounted f session (item.One place r ∷ its) link
@@ -156,127 +151,40 @@ module _ (go_on : StreamsGoOn) (join : RecordsJoin) where
     whole = c.whole;
   }
 
-  abbrev Counts : ℕ → Spot → Type 0
-  Counts session p = IsCounted p.facts session (pending p.doing) p.link
-
-  counts_at : (session : ℕ) (p q : Spot) → p ≡ q → Counts session q → Counts session p
-  counts_at session p q same c = subst (Counts session) (sym same) c
-
-  settles_counted : (clients : Meaning) (session : ℕ) (its : List Item) (b : List Entry) (p q : Spot) → p.doing ≡ Takes its
-      → SettlesOn clients b p q → Counts session p → Counts session q
-  settles_counted clients session its b p q is s c =
-      counts_at session q (record p { facts = after_all p.facts b }) s.1
-      (counted_same p.facts (after_all p.facts b) session (pending p.doing) p.link (settled_takes clients p.facts b session s.0) c)
-
-  takes_counted : (clients : Meaning) (session : ℕ) (its : List Item) (b : List Entry) (p q : Spot) → TakesNext clients session its b p q
-      → IsCounted p.facts session its p.link → Counts session q
-  takes_counted clients session [] b p q s c = absurd s
-  takes_counted clients session (item.Skipped place type_byte len ∷ its) b p q s c = absurd s
-  takes_counted clients session (item.One place r ∷ its) b p q s c =
-      let allowed : Allowed clients p.facts (next_take p.facts session r) = subst (Allowed clients p.facts) s.0 s.1 in
-      let one : takes_of (after_all p.facts b).takes session ≡ takes_of p.facts.takes session + 1 =
-      ap (λ (x : List Entry). takes_of (after_all p.facts x).takes session) s.0 ∙ takes_here clients p.facts session r allowed in
-      counts_at session q _ s.2 (counted_taken p.facts (after_all p.facts b) session place r its p.link one c)
-
-  passes_counted : (session : ℕ) (its : List Item) (p q : Spot) → PassesItem its p q → IsCounted p.facts session its p.link → Counts session q
-  passes_counted session [] p q s c =
-      counts_at session q _ s
-      (counted_ends p.facts session [] p.link (record p.link { stands = stands_behind p.link.stands (ending 0 p.link.heard) }) refl
-      (behind_keeps p.link.stands (ending 0 p.link.heard)) c)
-  passes_counted session (item.One place r ∷ its) p q s c = absurd s
-  passes_counted session (item.Skipped place type_byte len ∷ its) p q s c =
-      counts_at session q _ s (counted_skipped p.facts session place type_byte len its p.link c)
-
-  sends_counted : (clients : Meaning) (session now room : ℕ) (b : List Entry) (p q : Spot) → SendsNext clients session now room b p q
-      → IsCounted p.facts session [] p.link → Counts session q
-  sends_counted clients session now zero b p q s c = absurd s
-  sends_counted clients session now (suc room) b p q s c =
-      counts_at session q _ s.leads
-      (counted_same p.facts (after_all p.facts b) session [] p.link (ap (λ (x : List Entry). takes_of (after_all p.facts x).takes session) s.is) c)
-
-  step_counted : (clients : Meaning) (n session : ℕ) (doing : Doing) (e : Event) (p q : Spot) → p.doing ≡ doing
-      → StepOf clients n session doing e p q → Counts session p → Counts session q
-  step_counted clients n session Asks (Hear on reply) p q is s c =
-      let c : IsCounted p.facts session [] p.link = subst (λ d. IsCounted p.facts session (pending d) p.link) is c in
-      counts_at session q _ s.2 (counted_reply p.facts session reply p (going_keeps p.link.stands s.1) c)
-  step_counted clients n session Asks (Miss on) p q is s c =
-      let c : IsCounted p.facts session [] p.link = subst (λ d. IsCounted p.facts session (pending d) p.link) is c in
-      counts_at session q _ s.2 (counted_ends p.facts session [] p.link (record p.link { stands = end.Failed }) refl (λ k. cc) c)
-  step_counted clients n session Asks Pass p q is s c =
-      counts_at session q _ s.1 (subst (λ d. IsCounted p.facts session (pending d) p.link) is c)
-  step_counted clients n session (Takes its) (Commit b) p q is s c =
-      elim s [
-        | inl settles ↦ settles_counted clients session its b p q is settles c
-        | inr takes ↦ takes_counted clients session its b p q takes (subst (λ d. IsCounted p.facts session (pending d) p.link) is c)
-      ]
-  step_counted clients n session (Takes its) Pass p q is s c =
-      passes_counted session its p q s.1 (subst (λ d. IsCounted p.facts session (pending d) p.link) is c)
-  step_counted clients n session Waits (Read on now) p q is s c =
-      counts_at session q _ s.2 (subst (λ d. IsCounted p.facts session (pending d) p.link) is c)
-  step_counted clients n session Waits Pass p q is s c =
-      counts_at session q _ s.1 (subst (λ d. IsCounted p.facts session (pending d) p.link) is c)
-  step_counted clients n session (Sends now room) (Commit b) p q is s c =
-      sends_counted clients session now room b p q s (subst (λ d. IsCounted p.facts session (pending d) p.link) is c)
-  step_counted clients n session (Sends now room) Pass p q is s c =
-      counts_at session q _ s.1 (subst (λ d. IsCounted p.facts session (pending d) p.link) is c)
-  step_counted clients n session (Puts now room) Pass p q is s c =
-      counts_at session q _ s (subst (λ d. IsCounted p.facts session (pending d) p.link) is c)
-  step_counted clients n session (Puts now room) (Break on) p q is s c =
-      let c : IsCounted p.facts session [] p.link = subst (λ d. IsCounted p.facts session (pending d) p.link) is c in
-      counts_at session q _ s.1 (counted_ends p.facts session [] p.link (record p.link { stands = end.Failed }) refl (λ k. cc) c)
-  step_counted clients n session _ _ p q is s c = absurd s
-
-  pub link_step_counted : (clients : Meaning) (n session : ℕ) (p q : Spot) (e : Event) → LinkStep clients n session p e q
-      → IsCounted p.facts session (pending p.doing) p.link → IsCounted q.facts session (pending q.doing) q.link
-  link_step_counted clients n session p q e s c = step_counted clients n session p.doing e p q refl s c
-
--- ---- the other sessions
-takes_leave : (clients : Meaning) (session m : ℕ) (its : List Item) (b : List Entry) (p q : Spot) → (m ≡ session → ⊥) → TakesNext clients session its b p q
-    → takes_of q.facts.takes m ≡ takes_of p.facts.takes m
-takes_leave clients session m [] b p q other s = absurd s
-takes_leave clients session m (item.Skipped place type_byte len ∷ its) b p q other s = absurd s
-takes_leave clients session m (item.One place r ∷ its) b p q other s =
-    let allowed : Allowed clients p.facts (next_take p.facts session r) = subst (Allowed clients p.facts) s.0 s.1 in
-    ap (λ (x : Spot). takes_of x.facts.takes m) s.2
-    ∙ ap (λ (x : List Entry). takes_of (after_all p.facts x).takes m) s.0
-    ∙ takes_other clients p.facts session m r allowed other
-
-sends_leave : (clients : Meaning) (session m now room : ℕ) (b : List Entry) (p q : Spot) → SendsNext clients session now room b p q
-    → takes_of q.facts.takes m ≡ takes_of p.facts.takes m
-sends_leave clients session m now zero b p q s = absurd s
-sends_leave clients session m now (suc room) b p q s =
-    ap (λ (x : Spot). takes_of x.facts.takes m) s.leads ∙ ap (λ (x : List Entry). takes_of (after_all p.facts x).takes m) s.is
-
-reply_leaves : (reply : Reply) (p : Spot) → (heard_spot reply p).facts ≡ p.facts
-reply_leaves (got bytes) p = refl
-reply_leaves idle p = refl
-reply_leaves ended p = refl
-
-passes_leave : (its : List Item) (p q : Spot) → PassesItem its p q → q.facts ≡ p.facts
-passes_leave [] p q s = ap (λ (x : Spot). x.facts) s
-passes_leave (item.One place r ∷ its) p q s = absurd s
-passes_leave (item.Skipped place type_byte len ∷ its) p q s = ap (λ (x : Spot). x.facts) s
-
-step_leaves : (clients : Meaning) (n session m : ℕ) (doing : Doing) (e : Event) (p q : Spot) → (m ≡ session → ⊥)
-    → StepOf clients n session doing e p q → takes_of q.facts.takes m ≡ takes_of p.facts.takes m
-step_leaves clients n session m Asks (Hear on reply) p q other s =
-    ap (λ (x : Spot). takes_of x.facts.takes m) s.2 ∙ ap (λ (f : Facts). takes_of f.takes m) (reply_leaves reply p)
-step_leaves clients n session m Asks (Miss on) p q other s = ap (λ (x : Spot). takes_of x.facts.takes m) s.2
-step_leaves clients n session m Asks Pass p q other s = ap (λ (x : Spot). takes_of x.facts.takes m) s.1
-step_leaves clients n session m (Takes its) (Commit b) p q other s =
-    elim s [
-      | inl settles ↦ ap (λ (x : Spot). takes_of x.facts.takes m) settles.1 ∙ settled_takes clients p.facts b m settles.0
-      | inr takes ↦ takes_leave clients session m its b p q other takes
-    ]
-step_leaves clients n session m (Takes its) Pass p q other s = ap (λ (f : Facts). takes_of f.takes m) (passes_leave its p q s.1)
-step_leaves clients n session m Waits (Read on now) p q other s = ap (λ (x : Spot). takes_of x.facts.takes m) s.2
-step_leaves clients n session m Waits Pass p q other s = ap (λ (x : Spot). takes_of x.facts.takes m) s.1
-step_leaves clients n session m (Sends now room) (Commit b) p q other s = sends_leave clients session m now room b p q s
-step_leaves clients n session m (Sends now room) Pass p q other s = ap (λ (x : Spot). takes_of x.facts.takes m) s.1
-step_leaves clients n session m (Puts now room) Pass p q other s = ap (λ (x : Spot). takes_of x.facts.takes m) s
-step_leaves clients n session m (Puts now room) (Break on) p q other s = ap (λ (x : Spot). takes_of x.facts.takes m) s.1
-step_leaves clients n session m _ _ p q other s = absurd s
-
-pub link_step_leaves : (clients : Meaning) (n session m : ℕ) (p q : Spot) (e : Event) → (m ≡ session → ⊥) → LinkStep clients n session p e q
-    → takes_of q.facts.takes m ≡ takes_of p.facts.takes m
-link_step_leaves clients n session m p q e other s = step_leaves clients n session m p.doing e p q other s
+  pub link_step_counted : (clients : Meaning) (n session : ℕ) (p q : Spot) (e : Event)
+      → LinkStep clients n session p e q → IsCounted p.facts session (pending p.doing) p.link
+      → IsCounted q.facts session (pending q.doing) q.link
+  link_step_counted clients n session p q e s =
+      link_by_cases clients n session p
+      (λ (doing : Doing) (x : Event) (r : Spot). IsCounted p.facts session (pending doing) p.link
+      → IsCounted r.facts session (pending r.doing) r.link) (record {
+        hears = λ bytes going c.
+            counted_got p.facts session p.link bytes (going_keeps p.link.stands going) c;
+        idles = λ going c. c;
+        ends = λ going c.
+            counted_ends p.facts session [] p.link (heard_spot ended p).link refl
+            (λ k. going_keeps p.link.stands going) c;
+        misses = λ going c.
+            counted_ends p.facts session [] p.link (failed_spot p).link refl (λ k. cc) c;
+        unasked = λ is c. c;
+        settles = λ its b settling c.
+            counted_same p.facts (after_all p.facts b) session its p.link
+            (settled_takes clients p.facts b session settling) c;
+        takes = λ place r its allowed c.
+            counted_taken p.facts (after_all p.facts (next_take p.facts session r)) session place r its
+            p.link (takes_here clients p.facts session r allowed) c;
+        skips = λ place type_byte len its c.
+            counted_skipped p.facts session place type_byte len its p.link c;
+        all_taken = λ settled c.
+            counted_ends p.facts session [] p.link (all_taken_spot p).link refl
+            (behind_keeps p.link.stands (ending 0 p.link.heard)) c;
+        reads = λ now is_open c. c;
+        closed = λ is c. c;
+        puts = λ now room what is_due allowed c.
+            counted_same p.facts (after_all p.facts (out_batch session now what)) session [] p.link refl
+            c;
+        enough = λ now room is c. c;
+        put = λ now room c. c;
+        breaks = λ now room c.
+            counted_ends p.facts session [] p.link (failed_spot p).link refl (λ k. cc) c;
+      }) q e s

@@ -3,7 +3,7 @@ use Rattle.std.proofs.Common.{◌≡◌, ℕ, suc, Bool, true, false, cond, List
 use Rattle.std.specs.Prelude.{slice_get}
 use Rattle.sync_rules.specs.Clients.{Meaning}
 use Rattle.sync_course.specs.Acts.{Act}
-use Rattle.sync_course.specs.Events.{Event, Commit, Hear, Miss, Read, Break, Pass}
+use Rattle.sync_course.specs.Events.{Event, Commit, Break, Pass}
 use Rattle.sync_course.specs.Free.{Free, FreeFrom, FreeStep, HoldStep, Holds, Rests, forget, hold_at, owing_free}
 use Rattle.sync_course.specs.Links.{Link}
 use Rattle.sync_course.specs.LinkTurns.{Asks, Done, Doing}

@@ -2,10 +2,12 @@ pub mod CallLaws
 pub mod EndLaws
 pub mod LiftLaws
 pub mod LinkLaws
+pub mod LinkSteps
 pub mod MoveLaws
 pub mod PathLaws
 pub mod ActLaws
 pub mod FreeLaws
+pub mod FreeSteps
 pub mod FreeSound
 pub mod FailLaws
 pub mod QuietLaws

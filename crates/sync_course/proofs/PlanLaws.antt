@@ -2,8 +2,6 @@
 use Rattle.std.proofs.Common.{◌≡◌, ℕ, zero, suc, ◌+◌, Bool, true, false, cond, List, [], ◌∷◌, ◌++◌, append-nil, append_assoc, refl, sym, ◌∙◌, ap, subst, inl, inr, arith, Option, None, Some}
 use Rattle.std.specs.Prelude.{slice_get}
 use Rattle.record_grammar.specs.Laws.{FrontsHaveFronts, RecordsJoin, StreamsGoOn}
-use Rattle.record_grammar.specs.declared.stream.Item.{Item}
-use Rattle.record_grammar.specs.declared.stream.Item.TheVariants as item
 use Rattle.sync_rules.specs.declared.entries.Entry.{Entry}
 use Rattle.sync_rules.specs.declared.entries.Entry.TheVariants as entry
 use Rattle.sync_rules.specs.declared.entries.Session.{Session}
@@ -13,10 +11,10 @@ use Rattle.sync_rules.specs.Growth.{IsFront}
 use Rattle.sync_rules.specs.Legal.{IsSettlingBatch, Legal}
 use Rattle.sync_rules.proofs.Continuing.{front_itself}
 use Rattle.sync_rules.proofs.StepLaws.{next_is_settling}
-use Rattle.sync_course.specs.Events.{Event, Commit, Hear, Miss, Read, Break, Pass, batches_of}
+use Rattle.sync_course.specs.Events.{Event, Commit, Break, Pass, batches_of}
 use Rattle.sync_course.specs.Free.{FreeStep, IsPlain, first_free, forget}
 use Rattle.sync_course.specs.Links.{Link}
-use Rattle.sync_course.specs.LinkTurns.{Asks, Takes, Waits, Sends, Puts, Done, Doing, SendsNext, Spot, StepOf, TakesNext}
+use Rattle.sync_course.specs.LinkTurns.{Asks, Done, Doing, LinkStep, Spot}
 use Rattle.sync_course.specs.Paths.{Path}
 use Rattle.sync_course.specs.Story.{AllSuitNode, AllSuitPlanned, IsOfCourse, begun_by}
 use Rattle.sync_course.specs.Suits.{AllSuitCourse, SuitsCourse, heard_on}
@@ -25,7 +23,8 @@ use Rattle.sync_rules.specs.Lists.{In}
 use Rattle.sync_course.specs.Turns.{Attaches, Between, Broken, Ended, EndsTurn, GoesToNext, Greets, Place, RunStep, Settles, Stage, StageStep, Terms, TurnStep, Works, first_place, is_at_end, spot_of, turn_ended, with_spot}
 use Rattle.sync_course.proofs.FreeLaws.{run_is_free}
 use Rattle.sync_course.proofs.FreeSound.{IsFreeSound, first_free_sound}
-use Rattle.sync_course.proofs.FreeSuits.{begun_by-append, free_path_suits, link_begins, settling_begins}
+use Rattle.sync_course.proofs.FreeSuits.{begun_by-append, free_path_suits, settling_begins}
+use Rattle.sync_course.proofs.LinkSteps.{link_by_cases}
 use Rattle.sync_course.proofs.PathLaws.{path_keeps}
 use Rattle.sync_course.proofs.RunLaws.{get_front}
 use Rattle.sync_course.proofs.ToldLaws.{batches_of-append}
@@ -47,34 +46,39 @@ settling_not_plain clients f (entry.Level c g l ∷ []) s is = absurd (next_is_s
 settling_not_plain clients f (entry.Author m ∷ []) s is = absurd (next_is_settling clients f (entry.Author m) s.2.0)
 settling_not_plain clients f _ s is = absurd is
 
-takes_not_plain : (clients : Meaning) (session : ℕ) (its : List Item) (b : List Entry) (p q : Spot) → TakesNext clients session its b p q
-    → IsPlain b → ⊥
-takes_not_plain clients session [] b p q s = absurd s
-takes_not_plain clients session (item.Skipped place type_byte len ∷ its) b p q s = absurd s
-takes_not_plain clients session (item.One place r ∷ its) b p q s = λ is. subst IsPlain s.0 is
+-- what a link adds is no plain entry, and no session begins by it
+pub record AddsOfLink (bs : List (List Entry)) : Type 0 where
+  pub none_plain : NonePlain bs
+  pub none_begins : begun_by bs ≡ []
 
-sends_not_plain : (clients : Meaning) (session now room : ℕ) (b : List Entry) (p q : Spot) → SendsNext clients session now room b p q
-    → IsPlain b → ⊥
-sends_not_plain clients session now zero b p q s = absurd s
-sends_not_plain clients session now (suc room) b p q s = λ is. subst IsPlain s.is is
-
-link_not_plain : (clients : Meaning) (n session : ℕ) (doing : Doing) (e : Event) (p q : Spot) → StepOf clients n session doing e p q
-    → NonePlain (batches_of (e ∷ []))
-link_not_plain clients n session (Takes its) (Commit b) p q s =
-    elim s [
-      | inl settles ↦ (settling_not_plain clients p.facts b settles.0, tt)
-      | inr takes ↦ (takes_not_plain clients session its b p q takes, tt)
-    ]
-link_not_plain clients n session (Sends now room) (Commit b) p q s = (sends_not_plain clients session now room b p q s, tt)
-link_not_plain clients n session Asks (Commit b) p q s = absurd s
-link_not_plain clients n session Waits (Commit b) p q s = absurd s
-link_not_plain clients n session (Puts now room) (Commit b) p q s = absurd s
-link_not_plain clients n session Done (Commit b) p q s = absurd s
-link_not_plain clients n session doing (Hear on reply) p q s = tt
-link_not_plain clients n session doing (Miss on) p q s = tt
-link_not_plain clients n session doing (Read on now) p q s = tt
-link_not_plain clients n session doing (Break on) p q s = tt
-link_not_plain clients n session doing Pass p q s = tt
+link_adds : (clients : Meaning) (n session : ℕ) (p q : Spot) (e : Event)
+    → LinkStep clients n session p e q → AddsOfLink (batches_of (e ∷ []))
+link_adds clients n session p q e s =
+    let nothing : AddsOfLink [] = record { none_plain = tt; none_begins = refl } in
+    link_by_cases clients n session p
+    (λ (doing : Doing) (x : Event) (r : Spot). AddsOfLink (batches_of (x ∷ []))) (record {
+      hears = λ bytes going. nothing;
+      idles = λ going. nothing;
+      ends = λ going. nothing;
+      misses = λ going. nothing;
+      unasked = λ is. nothing;
+      settles = λ its b settling. record {
+        none_plain = (settling_not_plain clients p.facts b settling, tt);
+        none_begins = settling_begins clients p.facts b settling;
+      };
+      takes = λ place r its allowed. record { none_plain = (λ plain. plain, tt); none_begins = refl };
+      skips = λ place type_byte len its. nothing;
+      all_taken = λ settled. nothing;
+      reads = λ now is_open. nothing;
+      closed = λ is. nothing;
+      puts = λ now room what is_due allowed. record {
+        none_plain = (λ plain. plain, tt);
+        none_begins = refl;
+      };
+      enough = λ now room is. nothing;
+      put = λ now room. nothing;
+      breaks = λ now room. nothing;
+    }) q e s
 
 -- ---- the sessions that began are the first of those given
 
@@ -122,9 +126,9 @@ module _ (clients : Meaning) (terms : Terms) (sessions : List Session) where
   turn_plans done n doing (Some link) e p q t b =
       elim t [
         | inl works ↦
-            plans_same done e (with_spot n works.spot p) q works.leads
-            (link_not_plain clients n (terms.first + n) doing e (spot_of doing link p) works.spot works.steps)
-            (link_begins clients n (terms.first + n) doing e (spot_of doing link p) works.spot works.steps) b
+            let adds =
+            link_adds clients n (terms.first + n) (spot_of doing link p) works.spot e works.steps in
+            plans_same done e (with_spot n works.spot p) q works.leads adds.none_plain adds.none_begins b
         | inr next ↦ goes doing e next
       ]
     where
@@ -250,7 +254,7 @@ module _ (fronts : FrontsHaveFronts) (clients : Meaning) (first : ℕ) (plans : 
   planned_suits f [] suits = tt
   planned_suits f (b ∷ bs) suits = (
     elim suits.0 [
-      | inl settles ↦ settling_suits fronts clients first plans heard f b settles
+      | inl settles ↦ settling_suits clients first plans heard f b settles
       | inr of_run ↦ one_suits f b of_run
     ],
     planned_suits (after_all f b) bs suits.1,

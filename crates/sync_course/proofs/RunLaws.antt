@@ -1,5 +1,5 @@
 -- What laws of each place cite: items of lists, links that were closed as redundant, and the facts of a legal journal.
-use Rattle.std.proofs.Common.{◌≡◌, ◌⊎◌, ℕ, zero, suc, ◌+◌, ◌<◌, Bool, true, false, cond, ◌&&◌, nat_eq, List, [], ◌∷◌, ◌++◌, length, refl, sym, ◌∙◌, ap, subst, inl, inr, arith, Option, None, Some}
+use Rattle.std.proofs.Common.{◌≡◌, ◌⊎◌, ℕ, zero, suc, ◌<◌, Bool, true, false, cond, ◌&&◌, nat_eq, List, [], ◌∷◌, ◌++◌, length, refl, sym, ◌∙◌, ap, subst, inl, inr, arith, Option, None, Some}
 use Rattle.std.specs.Prelude.{nat_lt, slice_get}
 use Rattle.std.proofs.lemmas.Bool.{and_parts, or_cases}
 use Rattle.record_grammar.specs.Stream.{items, parsed, records_of}
@@ -15,7 +15,7 @@ use Rattle.sync_rules.proofs.StepKinds.{settling_only}
 use Rattle.sync_course.specs.declared.ends.LinkEnd.{LinkEnd}
 use Rattle.sync_course.specs.declared.ends.LinkEnd.TheVariants as end
 use Rattle.sync_course.specs.Links.{Link, beats, closed_from, is_beaten, is_going, is_kept, link_of, without_redundant}
-use Rattle.sync_course.proofs.CountLaws.{counted_ends, going_keeps}
+use Rattle.sync_course.proofs.CountLaws.{going_keeps}
 use Rattle.sync_course.proofs.MoveLaws.{Moves}
 use Rattle.sync_course.specs.Suits.{IsCounted, keeps_all}
 
@@ -112,14 +112,7 @@ pub new_counted : (f : Facts) (session : ℕ) (x : Session) (stands : LinkEnd) �
 unfolding items parsed records_of
 new_counted f session x stands none = record { done = []; dropped = []; parts = refl; count = none; whole = λ k. refl }
 
-ended_keeps : (b : Bool) (stands : LinkEnd) → (b ≡ true → is_going stands ≡ true) → keeps_all (cond b end.Redundant stands) ≡ true
+pub ended_keeps : (b : Bool) (stands : LinkEnd) → (b ≡ true → is_going stands ≡ true) → keeps_all (cond b end.Redundant stands) ≡ true
     → keeps_all stands ≡ true
 ended_keeps true stands going k = going_keeps stands (going refl)
 ended_keeps false stands going k = k
-
-pub ended_counted : (f : Facts) (session : ℕ) (links : List Link) (i : ℕ) (link : Link) → (c : IsClosedFrom i links link) → IsCounted f session [] c.was
-    → IsCounted f session [] link
-ended_counted f session links i link c counted =
-    subst (IsCounted f session []) (sym c.is)
-    (counted_ends f session [] c.was (record c.was { stands = cond c.beaten end.Redundant c.was.stands }) refl
-    (ended_keeps c.beaten c.was.stands c.going) counted)

@@ -1,5 +1,5 @@
 -- What is told of events one behind the other, and of the events of single calls.
-use Rattle.std.proofs.Common.{◌≡◌, ◌⊎◌, ℕ, ◌+◌, ◌*◌, ◌≤◌, le_of_eq, le_refl, Bool, true, false, ◌||◌, nat_eq, eqb-true, List, [], ◌∷◌, ◌++◌, length, length-append, take, append-nil, append_assoc, refl, sym, ◌∙◌, ap, subst, inl, inr, arith, Option, None, Some, Ok, Err}
+use Rattle.std.proofs.Common.{◌≡◌, ◌⊎◌, ℕ, ◌≤◌, le_of_eq, le_refl, Bool, true, false, ◌||◌, nat_eq, eqb-true, List, [], ◌∷◌, ◌++◌, length, take, append-nil, append_assoc, refl, sym, ◌∙◌, ap, subst, inl, inr, arith, Option, None, Some, Ok, Err}
 use Rattle.std.specs.Option.{option_map}
 use Rattle.std.proofs.lemmas.Bool.{cases_eq}
 use Rattle.outside.specs.declared.failed.Failed.{Failed}
@@ -10,13 +10,10 @@ use Rattle.outside.specs.Host.{GrowsReadings, HearsAnswer, IsAnswerCaused, Reads
 use Rattle.outside.specs.Disk.{RelatesTold}
 use Rattle.outside.specs.Links.{HeardOn, Links, Planned, changed_at, got, idle, ended, hear_reply}
 use Rattle.outside.specs.Planned.{AnswersAsPlanned, UsesPlan, UsesReading}
-use Rattle.outside.specs.Outside.{Outside, MakesAtMost}
-use Rattle.outside.proofs.CallCounts.{most_then}
+use Rattle.outside.specs.Outside.{Outside}
 use Rattle.sync_rules.specs.declared.entries.Entry.{Entry}
 use Rattle.sync_course.specs.declared.TheConstants.{PIECE_LEN}
 use Rattle.sync_course.specs.Events.{Event, Commit, Hear, Miss, Read, Break, Pass, asked_event, batches_of, commits, readings_of, heard_by, heard_after, is_failure, has_failure, GrowsBy, PlansAfter, RoseIf, ChangesThrough, TellsEvents, UpcomingAfter}
-use Rattle.sync_course.specs.Paths.{RunsPath}
-use Rattle.sync_course.proofs.PathLaws.{path_then}
 
 -- ---- lists of events
 
@@ -140,36 +137,6 @@ told_then es fs o o1 o2 first second = record {
   planned = left_then PlansAfter es fs o.links.planned o1.links.planned o2.links.planned first.planned second.planned;
   upcoming = left_then UpcomingAfter es fs o.links.upcoming o1.links.upcoming o2.links.upcoming first.upcoming second.upcoming;
 }
-
--- ---- what calls did, one behind the other
-
--- the calls of the batches of two lists of events, and of some that were next
-pub calls_add : (es fs : List Event) (next : List (List Entry))
-    → 4 * length (batches_of es) + 4 * length (next ++ batches_of fs) ≡ 4 * length (next ++ batches_of (es ++ fs))
-calls_add es fs next =
-    let both : length (batches_of (es ++ fs)) ≡ length (batches_of es) + length (batches_of fs) =
-    ap (λ (l : List (List Entry)). length l) (batches_of-append es fs) ∙ length-append (batches_of es) (batches_of fs) in
-    let first : length (next ++ batches_of fs) ≡ length next + length (batches_of fs) = length-append next (batches_of fs) in
-    let all : length (next ++ batches_of (es ++ fs)) ≡ length next + length (batches_of (es ++ fs)) =
-    length-append next (batches_of (es ++ fs)) in
-    omega (arith, both, first, all)
-
-module _ {P : Type 0} (step : P → Event → P → Type 0) (Before Between After : List (List Entry) → Type 0) where
-  unfoldable pub runs_then : (p q r : P) (o o1 o2 : Outside) {next : List (List Entry)} → RunsPath step Before Between p q o o1 []
-      → RunsPath step Between After q r o1 o2 next → RunsPath step Before After p r o o2 next
-  runs_then p q r o o1 o2 {next} first second = record {
-    events = first.events ++ second.events;
-    path = path_then step p q r first.events second.events first.path second.path;
-    told = told_then first.events second.events o o1 o2 first.told second.told;
-    journal = λ j before.
-        subst After
-        (append_assoc j (batches_of first.events) (batches_of second.events)
-        ∙ ap (λ (l : List (List Entry)). j ++ l) (sym (batches_of-append first.events second.events)))
-        (second.journal (j ++ batches_of first.events) (first.journal j before));
-    calls =
-        subst (λ (n : ℕ). MakesAtMost n o o2) (calls_add first.events second.events next)
-        (most_then (4 * length (batches_of first.events)) (4 * length (next ++ batches_of second.events)) o o1 o2 first.calls second.calls);
-  }
 
 -- ---- single calls
 
@@ -324,29 +291,3 @@ told_broken link bytes why o o' sends = record {
   planned = left_same PlansAfter (Break link) (λ x. refl) o.links.planned o'.links.planned sends.same_planned;
   upcoming = left_same UpcomingAfter (Break link) (λ x. refl) o.links.upcoming o'.links.upcoming sends.same_upcoming;
 }
-
--- nothing that is told of, before what is told
-pub told_behind_pass : (es : List Event) (o o' : Outside) → TellsEvents (Pass ∷ es) o o' → TellsEvents es o o'
-told_behind_pass es o o' told = record {
-  heard = told.heard;
-  readings = told.readings;
-  faults = told.faults;
-  planned =
-      becomes_map (ChangesThrough PlansAfter (Pass ∷ es)) (ChangesThrough PlansAfter es) (λ x y t. subst (λ z. ChangesThrough PlansAfter es z y) t.1 t.2) o.links.planned
-      o'.links.planned told.planned;
-  upcoming =
-      becomes_map (ChangesThrough UpcomingAfter (Pass ∷ es)) (ChangesThrough UpcomingAfter es) (λ x y t. subst (λ z. ChangesThrough UpcomingAfter es z y) t.1 t.2)
-      o.links.upcoming o'.links.upcoming told.upcoming;
-}
-
--- two sends of a greeting, told as one event: both went out, or the second one failed
-pub told_greeted : (link : ℕ) (first second : List ℕ) (o mid o' : Outside) → SendsOnLink link first (Ok tt) o.links mid.links
-    → SendsOnLink link second (Ok tt) mid.links o'.links → TellsEvents (Pass ∷ []) o o'
-told_greeted link first second o mid o' one two =
-    told_behind_pass (Pass ∷ []) o o' (told_then (Pass ∷ []) (Pass ∷ []) o mid o' (told_sent link first o mid one) (told_sent link second mid o' two))
-
-pub told_ungreeted : (link : ℕ) (first second : List ℕ) (why : Failed) (o mid o' : Outside) → SendsOnLink link first (Ok tt) o.links mid.links
-    → SendsOnLink link second (Err why) mid.links o'.links → TellsEvents (Break link ∷ []) o o'
-told_ungreeted link first second why o mid o' one two =
-    told_behind_pass (Break link ∷ []) o o'
-    (told_then (Pass ∷ []) (Break link ∷ []) o mid o' (told_sent link first o mid one) (told_broken link second why mid o' two))
