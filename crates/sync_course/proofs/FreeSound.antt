@@ -44,7 +44,7 @@ module _ (clients : Meaning) (first : ℕ) where
         adds = λ b rests plain allowed. moves_one clients b p.facts _ allowed refl;
         begins = λ x rests allowed. moves_one clients _ p.facts _ allowed refl;
         takes = λ n place r its link holds at allowed. moves_one clients _ p.facts _ allowed refl;
-        puts = λ n now room what link holds at allowed. moves_one clients _ p.facts _ allowed refl;
+        puts = λ n now room what link holds at is_due allowed. moves_one clients _ p.facts _ allowed refl;
       }) q e t
 
   -- the batches of a path may follow one behind the other
@@ -76,7 +76,7 @@ none_begin clients first p q e t =
       begins = λ x rests allowed busy. absurd (busy rests);
       takes = λ n place r its link holds at allowed busy.
           (takes_one clients p.facts (first + n) _ _ allowed).begun;
-      puts = λ n now room what link holds at allowed busy. refl;
+      puts = λ n now room what link holds at is_due allowed busy. refl;
     }) q e t
 
 -- ---- every place

@@ -10,8 +10,8 @@ use Rattle.sync_rules.specs.declared.entries.Entry.TheVariants as entry
 use Rattle.sync_rules.specs.declared.entries.Out.{Out}
 use Rattle.sync_rules.specs.declared.entries.Session.{Session}
 use Rattle.sync_rules.specs.Clients.{Meaning}
-use Rattle.sync_rules.specs.Facts.{Facts, after_all, takes_of}
-use Rattle.sync_rules.specs.Legal.{Allowed, IsSettlingBatch}
+use Rattle.sync_rules.specs.Facts.{Facts, after_all, session_at, takes_of}
+use Rattle.sync_rules.specs.Legal.{Allowed, IsDue, IsSettlingBatch}
 use Rattle.sync_course.specs.declared.ends.LinkEnd.{LinkEnd}
 use Rattle.sync_course.specs.declared.ends.LinkEnd.TheVariants as end
 use Rattle.sync_course.specs.Events.{Event, Commit, Break, Pass, batches_of}
@@ -44,6 +44,7 @@ module _ (clients : Meaning) (first : ℕ) (p : Free) (T : Event → Facts → T
         (after_all p.facts (next_take p.facts (first + n) r))
     pub puts : (n now room : ℕ) (what : Out) (link : Link) → p.hold ≡ Holds n (Sends now (suc room))
         → slice_get p.links n ≡ Some link
+        → IsDue clients p.facts (session_at p.facts.sessions (first + n)) now what
         → Allowed clients p.facts (out_batch (first + n) now what)
         → T (Commit (out_batch (first + n) now what))
         (after_all p.facts (out_batch (first + n) now what))
@@ -70,7 +71,7 @@ module _ (clients : Meaning) (first : ℕ) (p : Free) (T : Event → Facts → T
           reads = λ now is_open holds. cases.none _ refl;
           closed = λ is holds. cases.none _ refl;
           puts = λ now room what is_due allowed holds.
-              cases.puts n now room what t.link holds t.there allowed;
+              cases.puts n now room what t.link holds t.there is_due allowed;
           enough = λ now room is holds. cases.none _ refl;
           put = λ now room holds. cases.none _ refl;
           breaks = λ now room holds. cases.none _ refl;
@@ -163,7 +164,7 @@ takes_stay clients first p q e i t others =
           (apart first n i
           (λ same. others (item.One place r ∷ its)
           (subst (λ (k : ℕ). p.hold ≡ Holds k (Takes (item.One place r ∷ its))) same holds)));
-      puts = λ n now room what link holds at allowed. refl;
+      puts = λ n now room what link holds at is_due allowed. refl;
     }) q e t
 
 -- ---- what a step leaves of the link of a number

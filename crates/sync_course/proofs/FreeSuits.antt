@@ -95,7 +95,7 @@ free_begins clients first p q e t =
           none_begins (next_take p.facts (first + n) r ∷ []) p.facts
           (after_all p.facts (next_take p.facts (first + n) r)) refl
           (takes_one clients p.facts (first + n) _ _ allowed).begun;
-      puts = λ n now room what link holds at allowed.
+      puts = λ n now room what link holds at is_due allowed.
           none_begins (out_batch (first + n) now what ∷ []) p.facts
           (after_all p.facts (out_batch (first + n) now what)) refl refl;
     }) q e t
@@ -152,7 +152,7 @@ module _ (fronts : FrontsHaveFronts) (clients : Meaning) (first : ℕ) (plans : 
               so = refl;
             } in
             (inr (inr takes_so), tt);
-        puts = λ n now room what link holds at allowed planned. (inr (inr (n, refl)), tt);
+        puts = λ n now room what link holds at is_due allowed planned. (inr (inr (n, refl)), tt);
       }) q e t
 
   suit_then : (f : Facts) (bs cs : List (List Entry)) → AllSuitNode clients first plans heard f bs

@@ -23,3 +23,5 @@ pub mod KeptLaws
 pub mod OutLaws
 pub mod ReadingLaws
 pub mod RunLaws
+pub mod RunSteps
+pub mod PlaceLaws

@@ -1,5 +1,5 @@
 -- The batches of a run suit it as planned: its k-th session is the k-th of those it was given, and no plain entry is among them.
-use Rattle.std.proofs.Common.{◌≡◌, ℕ, zero, suc, ◌+◌, Bool, true, false, cond, List, [], ◌∷◌, ◌++◌, append-nil, append_assoc, refl, sym, ◌∙◌, ap, subst, inl, inr, arith, Option, None, Some}
+use Rattle.std.proofs.Common.{◌≡◌, ℕ, zero, suc, ◌+◌, false, List, [], ◌∷◌, ◌++◌, length, append-nil, append_assoc, refl, sym, ◌∙◌, ap, subst, inl, inr, arith, Some}
 use Rattle.std.specs.Prelude.{slice_get}
 use Rattle.record_grammar.specs.Laws.{FrontsHaveFronts, RecordsJoin, StreamsGoOn}
 use Rattle.sync_rules.specs.declared.entries.Entry.{Entry}
@@ -13,18 +13,18 @@ use Rattle.sync_rules.proofs.Continuing.{front_itself}
 use Rattle.sync_rules.proofs.StepLaws.{next_is_settling}
 use Rattle.sync_course.specs.Events.{Event, Commit, Break, Pass, batches_of}
 use Rattle.sync_course.specs.Free.{FreeStep, IsPlain, first_free, forget}
-use Rattle.sync_course.specs.Links.{Link}
-use Rattle.sync_course.specs.LinkTurns.{Asks, Done, Doing, LinkStep, Spot}
+use Rattle.sync_course.specs.LinkTurns.{Asks, Doing, LinkStep, Spot}
 use Rattle.sync_course.specs.Paths.{Path}
 use Rattle.sync_course.specs.Story.{AllSuitNode, AllSuitPlanned, IsOfCourse, begun_by}
 use Rattle.sync_course.specs.Suits.{AllSuitCourse, SuitsCourse, heard_on}
 use Rattle.sync_course.proofs.SuitLaws.{settling_suits}
 use Rattle.sync_rules.specs.Lists.{In}
-use Rattle.sync_course.specs.Turns.{Attaches, Between, Broken, Ended, EndsTurn, GoesToNext, Greets, Place, RunStep, Settles, Stage, StageStep, Terms, TurnStep, Works, first_place, is_at_end, spot_of, turn_ended, with_spot}
+use Rattle.sync_course.specs.Turns.{Attaches, Between, Broken, Ended, Greets, Place, RunStep, Settles, Stage, Terms, Works, attached, first_place, spot_of, turn_ended, unattached, with_spot}
 use Rattle.sync_course.proofs.FreeLaws.{run_is_free}
 use Rattle.sync_course.proofs.FreeSound.{IsFreeSound, first_free_sound}
 use Rattle.sync_course.proofs.FreeSuits.{begun_by-append, free_path_suits, settling_begins}
 use Rattle.sync_course.proofs.LinkSteps.{link_by_cases}
+use Rattle.sync_course.proofs.RunSteps.{run_by_cases, staged}
 use Rattle.sync_course.proofs.PathLaws.{path_keeps}
 use Rattle.sync_course.proofs.RunLaws.{get_front}
 use Rattle.sync_course.proofs.ToldLaws.{batches_of-append}
@@ -95,75 +95,51 @@ module _ (clients : Meaning) (terms : Terms) (sessions : List Session) where
     pub begun : BegunFirst sessions (done ++ batches_of (e ∷ [])) q.stage
 
   -- no session began
-  plans_same : (done : List (List Entry)) (e : Event) (p q : Place) → q ≡ p → NonePlain (batches_of (e ∷ [])) → begun_by (batches_of (e ∷ [])) ≡ []
-      → BegunFirst sessions done p.stage → StepPlans done e q
-  plans_same done e p q same plain none begun =
+  plans_same : (done : List (List Entry)) (e : Event) (p : Place) → NonePlain (batches_of (e ∷ []))
+      → begun_by (batches_of (e ∷ [])) ≡ [] → BegunFirst sessions done p.stage → StepPlans done e p
+  plans_same done e p plain none begun =
       let list : begun_by (done ++ batches_of (e ∷ [])) ≡ begun_by done =
       begun_by-append done (batches_of (e ∷ []))
       ∙ ap (λ (l : List Session). begun_by done ++ l) none
       ∙ append-nil (begun_by done) in
-      record {
-        none_plain = plain;
-        begun = subst (λ (x : Place). BegunFirst sessions (done ++ batches_of (e ∷ [])) x.stage) (sym same) (moved p.stage list begun);
-      }
+      record { none_plain = plain; begun = moved p.stage list begun }
     where
       moved : (stage : Stage) → begun_by (done ++ batches_of (e ∷ [])) ≡ begun_by done → BegunFirst sessions done stage
           → BegunFirst sessions (done ++ batches_of (e ∷ [])) stage
       moved (Settles left) list b = b ∙ ap (λ (l : List Session). l ++ left) (sym list)
       moved (Attaches left) list b = b ∙ ap (λ (l : List Session). l ++ left) (sym list)
       moved (Greets s left) list b = b ∙ ap (λ (l : List Session). l ++ left) (sym list)
-      moved Between list b = subst (λ (l : List Session). IsFront l sessions) (sym list) b
-      moved (Works n doing) list b = subst (λ (l : List Session). IsFront l sessions) (sym list) b
-      moved Ended list b = subst (λ (l : List Session). IsFront l sessions) (sym list) b
+      moved _ list b = subst (λ (l : List Session). IsFront l sessions) (sym list) b
 
-  turn_plans : (done : List (List Entry)) (n : ℕ) (doing : Doing) (o : Option Link) (e : Event) (p q : Place)
-      → TurnStep clients terms n doing o e p q → IsFront (begun_by done) sessions → StepPlans done e q
-  turn_plans done n doing None e p q t b = ends doing e t
-    where
-      ends : (d : Doing) (e : Event) → EndsTurn d e p q → StepPlans done e q
-      ends Asks Pass t = plans_same done Pass (turn_ended p) q t tt refl b
-      ends _ _ t = absurd t
-  turn_plans done n doing (Some link) e p q t b =
-      elim t [
-        | inl works ↦
-            let adds =
-            link_adds clients n (terms.first + n) (spot_of doing link p) works.spot e works.steps in
-            plans_same done e (with_spot n works.spot p) q works.leads adds.none_plain adds.none_begins b
-        | inr next ↦ goes doing e next
-      ]
-    where
-      goes : (d : Doing) (e : Event) → GoesToNext n d e p q → StepPlans done e q
-      goes Done Pass t = plans_same done Pass (record p { stage = Works (suc n) Asks }) q t tt refl b
-      goes _ _ t = absurd t
-
-  between_plans : (done : List (List Entry)) (p q : Place) (t : Bool)
-      → q ≡ cond t (record p { stage = Ended }) (record p { stage = Works 0 Asks; moved = false }) → IsFront (begun_by done) sessions
-      → StepPlans done Pass q
-  between_plans done p q true is b = plans_same done Pass (record p { stage = Ended }) q is tt refl b
-  between_plans done p q false is b = plans_same done Pass (record p { stage = Works 0 Asks; moved = false }) q is tt refl b
-
-  stage_plans : (done : List (List Entry)) (stage : Stage) (e : Event) (p q : Place) → p.stage ≡ stage → StageStep clients terms stage e p q
-      → BegunFirst sessions done stage → StepPlans done e q
-  stage_plans done (Settles left) (Commit b) p q is t begun =
-      plans_same done (Commit b) (record p { facts = after_all p.facts b }) q t.1 (settling_not_plain clients p.facts b t.0, tt)
-      (settling_begins clients p.facts b t.0) (subst (BegunFirst sessions done) (sym is) begun)
-  stage_plans done (Settles left) Pass p q is t begun = plans_same done Pass (record p { stage = Attaches left }) q t.1 tt refl begun
-  stage_plans done (Attaches (x ∷ left)) (Commit b) p q is t begun = record {
-    none_plain = (λ plain. subst IsPlain t.0 plain, tt);
-    begun =
-        subst (λ (y : Place). BegunFirst sessions (done ++ b ∷ []) y.stage) (sym t.2)
-        (begun
-        ∙ sym (append_assoc (begun_by done) (x ∷ []) left)
-        ∙ ap (λ (l : List Session). l ++ left)
-        (sym (ap (λ (y : List Entry). begun_by (done ++ y ∷ [])) t.0 ∙ begun_by-append done ((entry.Session x ∷ []) ∷ []))));
-  }
-  stage_plans done (Attaches []) Pass p q is t begun =
-      plans_same done Pass (record p { stage = Between }) q t tt refl (record { more = []; goes_on = begun })
-  stage_plans done (Greets x left) Pass p q is t begun = plans_same done Pass _ q t tt refl begun
-  stage_plans done (Greets x left) (Break on) p q is t begun = plans_same done (Break on) _ q t.1 tt refl begun
-  stage_plans done Between Pass p q is t begun = between_plans done p q (is_at_end terms p) t begun
-  stage_plans done (Works n doing) e p q is t begun = turn_plans done n doing (slice_get p.links n) e p q t begun
-  stage_plans done _ _ p q is t begun = absurd t
+  step_plans : (done : List (List Entry)) (p q : Place) (e : Event) → RunStep clients terms p e q
+      → BegunFirst sessions done p.stage → StepPlans done e q
+  step_plans done p q e t =
+      run_by_cases clients terms p
+      (λ (stage : Stage) (x : Event) (r : Place). BegunFirst sessions done stage → StepPlans done x r) (record {
+        settles = λ left b settling begun.
+            plans_same done (Commit b) (record (staged (Settles left) p) { facts = after_all p.facts b })
+            (settling_not_plain clients p.facts b settling, tt) (settling_begins clients p.facts b settling) begun;
+        settled = λ left settled begun. plans_same done Pass (staged (Attaches left) p) tt refl begun;
+        begins = λ x left allowed begun. record {
+          none_plain = (λ plain. plain, tt);
+          begun =
+              begun
+              ∙ sym (append_assoc (begun_by done) (x ∷ []) left)
+              ∙ ap (λ (l : List Session). l ++ left) (sym (begun_by-append done ((entry.Session x ∷ []) ∷ [])));
+        };
+        greets = λ x left begun. plans_same done Pass (attached x left p) tt refl begun;
+        breaks = λ x left begun. plans_same done (Break (length p.links)) (unattached x left p) tt refl begun;
+        all_begun = λ begun.
+            plans_same done Pass (staged Between p) tt refl (record { more = []; goes_on = begun });
+        ends = λ over begun. plans_same done Pass (staged Ended p) tt refl begun;
+        turns = λ on begun.
+            plans_same done Pass (record (staged (Works 0 Asks) p) { moved = false }) tt refl begun;
+        works = λ n doing link x spot at steps begun.
+            let adds = link_adds clients n (terms.first + n) (spot_of doing link p) spot x steps in
+            plans_same done x (with_spot n spot p) adds.none_plain adds.none_begins begun;
+        goes_on = λ n link at begun. plans_same done Pass (staged (Works (suc n) Asks) p) tt refl begun;
+        turn_ends = λ n none begun. plans_same done Pass (turn_ended p) tt refl begun;
+      }) q e t
 
   -- what every place of a run keeps
   pub record KeepsPlans (before : List Event) (p : Place) : Type 0 where
@@ -173,7 +149,7 @@ module _ (clients : Meaning) (terms : Terms) (sessions : List Session) where
   plans_step : (before : List Event) (p q : Place) (e : Event) → KeepsPlans before p → RunStep clients terms p e q
       → KeepsPlans (before ++ e ∷ []) q
   plans_step before p q e k t =
-      let s = stage_plans (batches_of before) p.stage e p q refl t k.begun in
+      let s = step_plans (batches_of before) p q e t k.begun in
       let parts : batches_of (before ++ e ∷ []) ≡ batches_of before ++ batches_of (e ∷ []) = batches_of-append before (e ∷ []) in
       record {
         none_plain =
@@ -191,9 +167,7 @@ begun_front : (sessions : List Session) (done : List (List Entry)) (stage : Stag
 begun_front sessions done (Settles left) b = record { more = left; goes_on = b }
 begun_front sessions done (Attaches left) b = record { more = left; goes_on = b }
 begun_front sessions done (Greets s left) b = record { more = left; goes_on = b }
-begun_front sessions done Between b = b
-begun_front sessions done (Works n doing) b = b
-begun_front sessions done Ended b = b
+begun_front sessions done _ b = b
 
 -- ---- as planned
 

@@ -131,7 +131,7 @@ event_spares clients first e p q i t s o f =
       takes = λ n place r its link holds at allowed.
           silent_adds_nothing p.facts (first + i) (next_take p.facts (first + n) r)
           (take_silent clients p.facts (first + n) _ _ allowed);
-      puts = λ n now room what link holds at allowed.
+      puts = λ n now room what link holds at is_due allowed.
           let is_open : is_sent_to link.stands ≡ true =
           subst (λ (h : Hold). HoldsOpen h p.links) holds o link at in
           out_adds p.facts (first + n) (first + i) now what
