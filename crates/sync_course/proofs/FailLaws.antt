@@ -14,13 +14,13 @@ use Rattle.sync_course.specs.declared.TheConstants.{MAX_OUTPUTS}
 use Rattle.sync_course.specs.declared.ends.LinkEnd.{LinkEnd}
 use Rattle.sync_course.specs.declared.ends.LinkEnd.TheVariants as end
 use Rattle.sync_course.specs.Events.{Event, Commit, Hear, Miss, Read, Break, Pass, has_failure, is_failure}
-use Rattle.sync_course.specs.Free.{Begins, Free, FreeStep, Hold, HoldStep, Holds, IsNothingUnderWay, TakesUpOrCloses, Rests, first_free, spot_in}
+use Rattle.sync_course.specs.Free.{Begins, Free, FreeStep, Hold, Holds, IsNothingUnderWay, Rests, first_free, spot_in}
 use Rattle.sync_course.specs.Links.{Link, closes, is_going, is_sent_to, new_items, stands_behind, stands_ended}
 use Rattle.sync_course.specs.LinkTurns.{Asks, Takes, Waits, Sends, Puts, Done, Doing, LinkStep, Spot, out_batch}
 use Rattle.sync_course.specs.Paths.{Path}
 use Rattle.sync_course.specs.Story.{LinkFailed}
 use Rattle.sync_course.proofs.FreeSound.{get_same}
-use Rattle.sync_course.proofs.FreeSteps.{Closed, Joined, Kept, LinkGoes, Stepped, free_link, from_cases}
+use Rattle.sync_course.proofs.FreeSteps.{Closed, Joined, Kept, LinkGoes, Stepped, free_by_cases, free_link}
 use Rattle.sync_course.proofs.LinkSteps.{Spares, link_by_cases}
 use Rattle.sync_course.proofs.LiftLaws.{get_past, get_set, get_within}
 use Rattle.sync_course.proofs.PathLaws.{path_keeps}
@@ -217,38 +217,26 @@ module _ (clients : Meaning) (first : ℕ) where
   abbrev Opens : Free → Type 0
   Opens p = HoldsOpen p.hold p.links
 
-  moves_open : (p q : Free) → TakesUpOrCloses p.hold p q → Opens q
-  moves_open p q m =
-      elim m.1 [
-        | inl turns ↦ subst Opens (sym turns.leads) (idle_opens turns.hold p.links turns.idle)
-        | inr others ↦ elim others [
-          | inl sends ↦
-              subst Opens (sym sends.leads)
-              (λ link there.
-              subst (λ (l : Link). is_sent_to l.stands ≡ true) (get_same sends.there there) sends.is_open)
-          | inr closes ↦ subst Opens (sym closes) tt
-        ]
-      ]
-
-  hold_opens : (hold : Hold) (e : Event) (p q : Free) → p.hold ≡ hold → HoldStep clients first hold e p q
-      → HoldsOpen hold p.links → Opens q
-  hold_opens Rests (Commit b) p q is t o =
-      elim t [
-        | inl adds ↦
-            subst Opens (sym adds.1) (subst (λ (h : Hold). HoldsOpen h p.links) (sym is) tt)
-        | inr begins ↦ subst Opens (sym begins.leads) tt
-      ]
-  hold_opens (Begins x) Pass p q is t o = subst Opens (sym t) tt
-  hold_opens (Begins x) (Break on) p q is t o = subst Opens (sym t.1) tt
-  hold_opens (Holds n doing) e p q is t o =
-      let fails =
-      link_step_fails clients n (first + n) (spot_in doing t.link t.moved p) t.spot e t.steps
-      (o t.link t.there) in
-      subst Opens (sym t.leads)
-      (λ other there.
-      subst (λ (l : Link). DoesOpen t.spot.doing l.stands)
-      (get_same (get_set p.links n t.spot.link (get_within p.links n t.link t.there)) there) fails.opens)
-  hold_opens _ _ p q is t o = absurd t
+  -- the link that is in hand is open behind a step
+  stays_open : (p q : Free) (e : Event) → FreeStep clients first p e q → Opens p → Opens q
+  stays_open p q e t o =
+      free_by_cases clients first p (λ (x : Event) (r : Free). Opens r) (record {
+        stays = o;
+        turns = λ hold calm then. idle_opens hold p.links then;
+        sends = λ n now link calm there is_open other at.
+            subst (λ (l : Link). is_sent_to l.stands ≡ true) (get_same there at) is_open;
+        closes = λ calm. tt;
+        adds = λ b rests adds. subst (λ (h : Hold). HoldsOpen h p.links) (sym rests) tt;
+        begins = λ x rests allowed. tt;
+        greets = λ x begins. tt;
+        breaks = λ x begins. tt;
+        works = λ n doing link moved x spot holds there steps other at.
+            let opens : DoesOpen doing link.stands =
+            subst (λ (h : Hold). HoldsOpen h p.links) holds o link there in
+            subst (λ (l : Link). DoesOpen spot.doing l.stands)
+            (get_same (get_set p.links n spot.link (get_within p.links n link there)) at)
+            (link_step_fails clients n (first + n) (spot_in doing link moved p) spot x steps opens).opens;
+      }) q e t
 
   pub free_fails : (p q : Free) (e : Event) → FreeStep clients first p e q → HoldsOpen p.hold p.links
       → StepFailsAll e p q
@@ -269,10 +257,7 @@ module _ (clients : Meaning) (first : ℕ) where
                 | inr is ↦ inr is
               ];
         };
-        opens =
-            from_cases clients first (λ (x : Event). Opens q) p.hold e p q t
-            (λ same. subst Opens (sym same) o) (λ m. moves_open p q m)
-            (λ h. hold_opens p.hold e p q refl h o);
+        opens = stays_open p q e t o;
       }
 
   -- just the links on which a call failed stand Failed, and the link in hand is open

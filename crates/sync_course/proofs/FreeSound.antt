@@ -13,8 +13,8 @@ use Rattle.sync_rules.proofs.StepKinds.{takes_one}
 use Rattle.sync_rules.proofs.WorkLaws.{allowed_settling}
 use Rattle.sync_course.specs.declared.ends.LinkEnd.{LinkEnd}
 use Rattle.sync_course.specs.declared.ends.LinkEnd.TheVariants as end
-use Rattle.sync_course.specs.Events.{Event, Commit, Break, Pass, batches_of}
-use Rattle.sync_course.specs.Free.{Begins, Free, FreeStep, Hold, HoldStep, Holds, IsNothingUnderWay, TakesUpOrCloses, Rests, first_free, forget, hold_at, joined_by, spot_in}
+use Rattle.sync_course.specs.Events.{Event, batches_of}
+use Rattle.sync_course.specs.Free.{Begins, Free, FreeStep, Hold, Holds, IsNothingUnderWay, Rests, first_free, forget, hold_at, joined_by, spot_in}
 use Rattle.sync_course.specs.Links.{Link, closed_from, link_of, without_redundant}
 use Rattle.sync_course.specs.LinkTurns.{Doing}
 use Rattle.sync_course.specs.Paths.{Path}
@@ -23,10 +23,9 @@ use Rattle.sync_course.specs.Turns.{Broken, Place, RunStep, Settles, Stage, Term
 use Rattle.sync_course.proofs.FreeLaws.{run_is_free}
 use Rattle.sync_course.specs.Suits.{IsCounted, keeps_all}
 use Rattle.sync_course.proofs.CountLaws.{counted_ends, counted_same, link_step_counted}
-use Rattle.sync_course.proofs.FreeSteps.{Closed, Joined, Kept, LinkGoes, Stepped, free_batches, free_link, from_cases, pending_in, plain_adds}
-use Rattle.sync_course.proofs.MoveLaws.{Moves as MovesOn, moves_none, moves_one, moves_then}
+use Rattle.sync_course.proofs.FreeSteps.{Closed, Joined, Kept, LinkGoes, Stepped, free_batches, free_by_cases, free_link, pending_in, plain_adds}
 use Rattle.sync_course.proofs.ToldLaws.{batches_of-append}
-use Rattle.sync_course.proofs.RunLaws.{IsOfJournal, ended_keeps, journal_moves, new_counted, settled_begun, untaken}
+use Rattle.sync_course.proofs.RunLaws.{IsOfJournal, Moves as MovesOn, moves_none, moves_one, moves_then, ended_keeps, journal_moves, new_counted, settled_begun, untaken}
 
 -- ---- the journal
 
@@ -122,21 +121,6 @@ module _ (clients : Meaning) (first : ℕ) where
   abbrev Begun : Free → Type 0
   Begun p = IsBegunAt first p.hold (length p.links) p.facts
 
-  moves_begun : (p q : Free) → TakesUpOrCloses p.hold p q → Begun p → Begun q
-  moves_begun p q m s =
-      let was : p.facts.begun ≡ first + length p.links =
-      idle_begun first (length p.links) p.facts p.hold m.0 s in
-      elim m.1 [
-        | inl turns ↦
-            subst Begun (sym turns.leads)
-            (begun_idle first (length p.links) p.facts turns.hold turns.idle was)
-        | inr others ↦ elim others [
-          | inl sends ↦ subst Begun (sym sends.leads) was
-          | inr closes ↦
-              subst Begun (sym closes) (was ∙ ap (λ (k : ℕ). first + k) (sym (redundant_length p.links)))
-        ]
-      ]
-
   joins_begun : (p : Free) (x : Session) (stands : LinkEnd) → IsBegunAt first (Begins x) (length p.links) p.facts
       → Begun (joined_by x stands p)
   joins_begun p x stands s =
@@ -145,45 +129,38 @@ module _ (clients : Meaning) (first : ℕ) where
       length-append p.links (link_of x stands ∷ []) in
       omega (arith, begun, more)
 
-  hold_begun : (hold : Hold) (e : Event) (p q : Free) → p.hold ≡ hold → FreeStep clients first p e q
-      → HoldStep clients first hold e p q → IsOfJournal clients p.facts
-      → IsBegunAt first hold (length p.links) p.facts → Begun q
-  hold_begun Rests (Commit b) p q is step t journal s =
-      let was : p.facts.begun ≡ first + length p.links = s in
-      elim t [
-        | inl adds ↦
-            subst Begun (sym adds.1)
-            (subst (λ (h : Hold). IsBegunAt first h (length p.links) (after_all p.facts b)) (sym is)
-            ((elim adds.0 [
-              | inl settles ↦ settled_begun clients p.facts b settles
-              | inr plain ↦ (plain_adds p.facts b plain.0).begun
-            ]) ∙ was))
-        | inr begins ↦
-            subst Begun (sym begins.leads)
-            (subst (λ (c : List Entry). IsBegunAt first (Begins begins.session) (length p.links) (after_all p.facts c))
-            (sym begins.is)
-            (omega (arith, was), subst (λ (n : ℕ). takes_of p.facts.takes n ≡ 0) was (untaken clients p.facts journal)))
-      ]
-  hold_begun (Begins x) Pass p q is step t journal s =
-      subst Begun (sym t) (joins_begun p x end.Going s)
-  hold_begun (Begins x) (Break on) p q is step t journal s =
-      subst Begun (sym t.1) (joins_begun p x end.Failed s)
-  hold_begun (Holds n doing) e p q is step t journal s =
-      let same : q.facts.begun ≡ p.facts.begun =
-      none_begin clients first p q e step
-      (λ rests. let both : Holds n doing ≡ Rests = sym is ∙ rests in cc) in
-      subst Begun (sym t.leads)
-      (ap (λ (x : Free). x.facts.begun) (sym t.leads)
-      ∙ same
-      ∙ s
-      ∙ ap (λ (k : ℕ). first + k) (sym (set_length p.links n t.spot.link)))
-  hold_begun _ _ p q is step t journal s = absurd t
-
   free_begun : (p q : Free) (e : Event) → FreeStep clients first p e q → IsOfJournal clients p.facts
       → Begun p → Begun q
   free_begun p q e t journal s =
-      from_cases clients first (λ (x : Event). Begun q) p.hold e p q t (λ same. subst Begun (sym same) s)
-      (λ m. moves_begun p q m s) (λ h. hold_begun p.hold e p q refl t h journal s)
+      let links : ℕ = length p.links in
+      let calmly : IsNothingUnderWay p.hold → p.facts.begun ≡ first + links =
+      λ calm. idle_begun first links p.facts p.hold calm s in
+      let held : (hold : Hold) → p.hold ≡ hold → IsBegunAt first hold links p.facts =
+      λ hold is. subst (λ (h : Hold). IsBegunAt first h links p.facts) is s in
+      free_by_cases clients first p
+      (λ (x : Event) (r : Free). ((p.hold ≡ Rests → ⊥) → r.facts.begun ≡ p.facts.begun) → Begun r) (record {
+        stays = λ same. s;
+        turns = λ hold calm then same. begun_idle first links p.facts hold then (calmly calm);
+        sends = λ n now link calm there is_open same. calmly calm;
+        closes = λ calm same.
+            calmly calm ∙ ap (λ (k : ℕ). first + k) (sym (redundant_length p.links));
+        adds = λ b rests adds same.
+            subst (λ (h : Hold). IsBegunAt first h links (after_all p.facts b)) (sym rests)
+            ((elim adds [
+              | inl settles ↦ settled_begun clients p.facts b settles
+              | inr plain ↦ (plain_adds p.facts b plain.0).begun
+            ]) ∙ held Rests rests);
+        begins = λ x rests allowed same.
+            let was : p.facts.begun ≡ first + links = held Rests rests in
+            (omega (arith, was),
+            subst (λ (n : ℕ). takes_of p.facts.takes n ≡ 0) was (untaken clients p.facts journal));
+        greets = λ x begins same. joins_begun p x end.Going (held (Begins x) begins);
+        breaks = λ x begins same. joins_begun p x end.Failed (held (Begins x) begins);
+        works = λ n doing link moved x spot holds there steps same.
+            same (λ rests. let both : Holds n doing ≡ Rests = sym holds ∙ rests in cc)
+            ∙ held (Holds n doing) holds
+            ∙ ap (λ (k : ℕ). first + k) (sym (set_length p.links n spot.link));
+      }) q e t (none_begin clients first p q e t)
 
 module _ (go_on : StreamsGoOn) (join : RecordsJoin) (clients : Meaning) (first : ℕ) where
   abbrev Sound : Free → Type 0

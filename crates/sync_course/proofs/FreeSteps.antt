@@ -1,4 +1,4 @@
--- The steps of a node, case by case: what each adds to the journal, and what it leaves of the link of a number.
+-- The steps of a node, case by case; what each adds to the journal, and what it leaves of the link of a number.
 use Rattle.std.proofs.Common.{◌≡◌, ◌⊎◌, ℕ, zero, suc, ◌+◌, Bool, true, false, cond, nat_eq, List, [], ◌∷◌, ◌++◌, length, refl, sym, ◌∙◌, ap, subst, inl, inr, arith, Option, None, Some}
 use Rattle.std.specs.Prelude.{slice_get}
 use Rattle.std.proofs.lemmas.Bool.{cases_eq, ne_eqb}
@@ -12,11 +12,12 @@ use Rattle.sync_rules.specs.declared.entries.Session.{Session}
 use Rattle.sync_rules.specs.Clients.{Meaning}
 use Rattle.sync_rules.specs.Facts.{Facts, after_all, session_at, takes_of}
 use Rattle.sync_rules.specs.Legal.{Allowed, IsDue, IsSettlingBatch}
+use Rattle.sync_course.specs.declared.TheConstants.{MAX_OUTPUTS}
 use Rattle.sync_course.specs.declared.ends.LinkEnd.{LinkEnd}
 use Rattle.sync_course.specs.declared.ends.LinkEnd.TheVariants as end
 use Rattle.sync_course.specs.Events.{Event, Commit, Break, Pass, batches_of}
-use Rattle.sync_course.specs.Free.{Begins, Free, FreeFrom, FreeStep, Hold, HoldStep, Holds, IsNothingUnderWay, IsPlain, LinkMoves, Rests, TakesUpOrCloses, holding, joined_by, spot_in}
-use Rattle.sync_course.specs.Links.{Link, closed_from, is_beaten, is_going, link_of, without_redundant}
+use Rattle.sync_course.specs.Free.{Begins, Free, FreeFrom, FreeStep, Hold, HoldStep, Holds, IsNothingUnderWay, IsPlain, Rests, TakesUpOrCloses, holding, joined_by, spot_in}
+use Rattle.sync_course.specs.Links.{Link, closed_from, is_beaten, is_going, is_sent_to, link_of, without_redundant}
 use Rattle.sync_course.specs.LinkTurns.{Asks, Takes, Waits, Sends, Done, Doing, LinkStep, Spot, next_take, out_batch}
 use Rattle.sync_course.specs.Pending.{pending}
 use Rattle.sync_course.specs.Redundant.{closed_as}
@@ -24,6 +25,78 @@ use Rattle.sync_course.proofs.CountLaws.{settled_takes, takes_other}
 use Rattle.sync_course.proofs.LiftLaws.{get_other, get_set, get_within}
 use Rattle.sync_course.proofs.LinkSteps.{Spares, link_by_cases, link_spares}
 use Rattle.sync_course.proofs.RunLaws.{beaten_going, cond_same, get_middle}
+
+-- ---- the steps
+
+module _ (clients : Meaning) (first : ℕ) (p : Free) (T : Event → Free → Type 0) where
+  -- a property of the event and the place behind it, for each step of a node
+  pub record FreeCases : Type 0 where
+    pub stays : T Pass p
+    pub turns : (hold : Hold) → IsNothingUnderWay p.hold → IsNothingUnderWay hold
+        → T Pass (record p { hold = hold })
+    pub sends : (n now : ℕ) (link : Link) → IsNothingUnderWay p.hold → slice_get p.links n ≡ Some link
+        → is_sent_to link.stands ≡ true → T Pass (record p { hold = Holds n (Sends now MAX_OUTPUTS) })
+    pub closes : IsNothingUnderWay p.hold
+        → T Pass (record p { hold = Rests; links = without_redundant p.links })
+    pub adds : (b : List Entry) → p.hold ≡ Rests
+        → IsSettlingBatch clients p.facts b ⊎ (IsPlain b × Allowed clients p.facts b)
+        → T (Commit b) (record p { facts = after_all p.facts b })
+    pub begins : (x : Session) → p.hold ≡ Rests → Allowed clients p.facts (entry.Session x ∷ [])
+        → T (Commit (entry.Session x ∷ []))
+        (record p { hold = Begins x; facts = after_all p.facts (entry.Session x ∷ []) })
+    pub greets : (x : Session) → p.hold ≡ Begins x → T Pass (joined_by x end.Going p)
+    pub breaks : (x : Session) → p.hold ≡ Begins x
+        → T (Break (length p.links)) (joined_by x end.Failed p)
+    pub works : (n : ℕ) (doing : Doing) (link : Link) (moved : Bool) (e : Event) (spot : Spot)
+        → p.hold ≡ Holds n doing → slice_get p.links n ≡ Some link
+        → LinkStep clients n (first + n) (spot_in doing link moved p) e spot → T e (holding n spot p)
+
+  module _ (cases : FreeCases) where
+    to : (e : Event) (q r : Free) → q ≡ r → T e r → T e q
+    to e q r same t = subst (T e) (sym same) t
+
+    by_move : (q : Free) → TakesUpOrCloses p.hold p q → T Pass q
+    by_move q m =
+        elim m.1 [
+          | inl turns ↦ to Pass q _ turns.leads (cases.turns turns.hold m.0 turns.idle)
+          | inr others ↦ elim others [
+            | inl sends ↦
+                to Pass q _ sends.leads
+                (cases.sends sends.number sends.now sends.link m.0 sends.there sends.is_open)
+            | inr closes ↦ to Pass q _ closes (cases.closes m.0)
+          ]
+        ]
+
+    by_hold : (hold : Hold) (e : Event) (q : Free) → p.hold ≡ hold
+        → HoldStep clients first hold e p q → T e q
+    by_hold Rests (Commit b) q is t =
+        elim t [
+          | inl adds ↦ to (Commit b) q _ adds.1 (cases.adds b is adds.0)
+          | inr begins ↦
+              to (Commit b) q _ begins.leads
+              (subst (λ (c : List Entry). T (Commit c)
+              (record p { hold = Begins begins.session; facts = after_all p.facts c })) (sym begins.is)
+              (cases.begins begins.session is
+              (subst (Allowed clients p.facts) begins.is begins.allowed)))
+        ]
+    by_hold (Begins x) Pass q is t = to Pass q (joined_by x end.Going p) t (cases.greets x is)
+    by_hold (Begins x) (Break on) q is t =
+        to (Break on) q (joined_by x end.Failed p) t.1
+        (subst (λ (k : ℕ). T (Break k) (joined_by x end.Failed p)) (sym t.0) (cases.breaks x is))
+    by_hold (Holds n doing) e q is t =
+        to e q (holding n t.spot p) t.leads (cases.works n doing t.link t.moved e t.spot is t.there t.steps)
+    by_hold _ _ q is t = absurd t
+
+    by_event : (e : Event) (q : Free) → FreeFrom clients first p.hold e p q → T e q
+    by_event Pass q t =
+        elim t [
+          | inl same ↦ to Pass q p same cases.stays
+          | inr others ↦ elim others [ inl m ↦ by_move q m | inr h ↦ by_hold p.hold Pass q refl h ]
+        ]
+    by_event e q t = by_hold p.hold e q refl t
+
+    pub free_by_cases : (q : Free) (e : Event) → FreeStep clients first p e q → T e q
+    free_by_cases q e t = by_event e q t
 
 -- ---- what a step adds to the journal
 
@@ -50,14 +123,11 @@ module _ (clients : Meaning) (first : ℕ) (p : Free) (T : Event → Facts → T
         (after_all p.facts (out_batch (first + n) now what))
 
   module _ (cases : BatchCases) where
-    to : (e : Event) (f g : Facts) → g ≡ f → T e f → T e g
-    to e f g same t = subst (T e) (sym same) t
-
-    by_link : (n : ℕ) (doing : Doing) (e : Event) (q : Free) → p.hold ≡ Holds n doing
-        → LinkMoves clients first n doing e p q → T e q.facts
-    by_link n doing e q holds t =
-        to e t.spot.facts q.facts (ap (λ (x : Free). x.facts) t.leads)
-        (link_by_cases clients n (first + n) (spot_in doing t.link t.moved p)
+    by_link : (n : ℕ) (doing : Doing) (link : Link) (moved : Bool) (e : Event) (spot : Spot)
+        → p.hold ≡ Holds n doing → slice_get p.links n ≡ Some link
+        → LinkStep clients n (first + n) (spot_in doing link moved p) e spot → T e spot.facts
+    by_link n doing link moved e spot holds there steps =
+        link_by_cases clients n (first + n) (spot_in doing link moved p)
         (λ (d : Doing) (x : Event) (r : Spot). p.hold ≡ Holds n d → T x r.facts) (record {
           hears = λ bytes going holds. cases.none _ refl;
           idles = λ going holds. cases.none _ refl;
@@ -65,72 +135,36 @@ module _ (clients : Meaning) (first : ℕ) (p : Free) (T : Event → Facts → T
           misses = λ going holds. cases.none _ refl;
           unasked = λ going holds. cases.none _ refl;
           settles = λ its b settling holds. cases.settles b settling;
-          takes = λ place r its allowed holds. cases.takes n place r its t.link holds t.there allowed;
+          takes = λ place r its allowed holds. cases.takes n place r its link holds there allowed;
           skips = λ place type_byte len its holds. cases.none _ refl;
           all_taken = λ settled holds. cases.none _ refl;
           reads = λ now is_open holds. cases.none _ refl;
           closed = λ is holds. cases.none _ refl;
           puts = λ now room what is_due allowed holds.
-              cases.puts n now room what t.link holds t.there is_due allowed;
+              cases.puts n now room what link holds there is_due allowed;
           enough = λ now room is holds. cases.none _ refl;
           put = λ now room holds. cases.none _ refl;
           breaks = λ now room holds. cases.none _ refl;
-        }) t.spot e t.steps holds)
+        }) spot e steps holds
 
-    by_hold : (hold : Hold) (e : Event) (q : Free) → p.hold ≡ hold
-        → HoldStep clients first hold e p q → T e q.facts
-    by_hold Rests (Commit b) q is t =
-        elim t [
-          | inl adds ↦
-              to (Commit b) (after_all p.facts b) q.facts (ap (λ (x : Free). x.facts) adds.1)
-              (elim adds.0 [
+    pub free_batches : (q : Free) (e : Event) → FreeStep clients first p e q → T e q.facts
+    free_batches q e t =
+        free_by_cases clients first p (λ (x : Event) (r : Free). T x r.facts) (record {
+          stays = cases.none Pass refl;
+          turns = λ hold calm then. cases.none Pass refl;
+          sends = λ n now link calm there is_open. cases.none Pass refl;
+          closes = λ calm. cases.none Pass refl;
+          adds = λ b rests adds.
+              elim adds [
                 | inl settles ↦ cases.settles b settles
-                | inr plain ↦ cases.adds b is plain.0 plain.1
-              ])
-          | inr begins ↦
-              to (Commit b) (after_all p.facts b) q.facts (ap (λ (x : Free). x.facts) begins.leads)
-              (subst (λ (x : List Entry). T (Commit x) (after_all p.facts x)) (sym begins.is)
-              (cases.begins begins.session is
-              (subst (Allowed clients p.facts) begins.is begins.allowed)))
-        ]
-    by_hold (Begins x) Pass q is t =
-        to Pass p.facts q.facts (ap (λ (y : Free). y.facts) t) (cases.none Pass refl)
-    by_hold (Begins x) (Break on) q is t =
-        to (Break on) p.facts q.facts (ap (λ (y : Free). y.facts) t.1) (cases.none (Break on) refl)
-    by_hold (Holds n doing) e q is t = by_link n doing e q is t
-    by_hold _ _ q is t = absurd t
-
--- by an event: nothing happened, or nothing that is told of, or what is in hand made a step
-pub from_cases : (clients : Meaning) (first : ℕ) (T : Event → Type 0) (hold : Hold) (e : Event)
-    (p q : Free) → FreeFrom clients first hold e p q → (q ≡ p → T Pass)
-    → (TakesUpOrCloses hold p q → T Pass) → (HoldStep clients first hold e p q → T e) → T e
-from_cases clients first T hold Pass p q s stays quiet holds =
-    elim s [
-      | inl same ↦ stays same
-      | inr others ↦ elim others [ inl m ↦ quiet m | inr h ↦ holds h ]
-    ]
-from_cases clients first T hold _ p q s stays quiet holds = holds s
-
--- nothing that is told of leaves the facts
-moves_facts : (hold : Hold) (p q : Free) → TakesUpOrCloses hold p q → q.facts ≡ p.facts
-moves_facts hold p q m =
-    elim m.1 [
-      | inl turns ↦ ap (λ (x : Free). x.facts) turns.leads
-      | inr others ↦ elim others [
-        | inl sends ↦ ap (λ (x : Free). x.facts) sends.leads
-        | inr closes ↦ ap (λ (x : Free). x.facts) closes
-      ]
-    ]
-
-pub free_batches : (clients : Meaning) (first : ℕ) (p : Free) (T : Event → Facts → Type 0)
-    → BatchCases clients first p T → (q : Free) (e : Event) → FreeStep clients first p e q → T e q.facts
-free_batches clients first p T cases q e t =
-    from_cases clients first (λ (x : Event). T x q.facts) p.hold e p q t
-    (λ same.
-    to clients first p T cases Pass p.facts q.facts (ap (λ (x : Free). x.facts) same)
-    (cases.none Pass refl))
-    (λ m. to clients first p T cases Pass p.facts q.facts (moves_facts p.hold p q m) (cases.none Pass refl))
-    (λ h. by_hold clients first p T cases p.hold e q refl h)
+                | inr plain ↦ cases.adds b rests plain.0 plain.1
+              ];
+          begins = λ x rests allowed. cases.begins x rests allowed;
+          greets = λ x begins. cases.none Pass refl;
+          breaks = λ x begins. cases.none _ refl;
+          works = λ n doing link moved x spot holds there steps.
+              by_link n doing link moved x spot holds there steps;
+        }) q e t
 
 -- settling or a plain entry leaves the number of the sessions, and what was taken
 pub record OnlyAdds (f later : Facts) : Type 0 where
@@ -260,9 +294,6 @@ module _ (clients : Meaning) (first : ℕ) where
   abbrev Goes : Event → Free → Free → ℕ → Type 0
   Goes e p q i = LinkGoes clients first e p q i
 
-  goes_to : (e : Event) (p q r : Free) (i : ℕ) → q ≡ r → Goes e p r i → Goes e p q i
-  goes_to e p q r i same g = subst (λ (x : Free). Goes e p x i) (sym same) g
-
   links_stay : (e : Event) (p r : Free) (i : ℕ) → r.links ≡ p.links → Spares i e
       → pending_in r.hold i ≡ pending_in p.hold i
       → takes_of r.facts.takes (first + i) ≡ takes_of p.facts.takes (first + i) → Goes e p r i
@@ -302,22 +333,6 @@ module _ (clients : Meaning) (first : ℕ) where
             facts = refl;
           })
 
-  moves_go : (p q : Free) (i : ℕ) → TakesUpOrCloses p.hold p q → Goes Pass p q i
-  moves_go p q i m =
-      elim m.1 [
-        | inl turns ↦
-            goes_to Pass p q _ i turns.leads
-            (links_stay Pass p (record p { hold = turns.hold }) i refl tt
-            (idle_pends turns.hold i turns.idle ∙ sym (idle_pends p.hold i m.0)) refl)
-        | inr others ↦ elim others [
-          | inl sends ↦
-              goes_to Pass p q _ i sends.leads
-              (links_stay Pass p (record p { hold = Holds sends.number (Sends sends.now _) }) i refl tt
-              (cond_same (nat_eq sends.number i) [] ∙ sym (idle_pends p.hold i m.0)) refl)
-          | inr closes ↦ goes_to Pass p q _ i closes (closes_go p i m.0)
-        ]
-      ]
-
   joins_go : (e : Event) (p : Free) (x : Session) (stands : LinkEnd) (i : ℕ) → p.hold ≡ Begins x
       → ((i ≡ length p.links → ⊥) → Spares i e)
       → (i ≡ length p.links
@@ -347,73 +362,70 @@ module _ (clients : Meaning) (first : ℕ) where
             })
       ]
 
-  works_go : (n : ℕ) (doing : Doing) (e : Event) (p q : Free) (i : ℕ) → p.hold ≡ Holds n doing
-      → FreeStep clients first p e q → (t : LinkMoves clients first n doing e p q) → Goes e p q i
-  works_go n doing e p q i is step t =
+  works_go : (n : ℕ) (doing : Doing) (link : Link) (moved : Bool) (e : Event) (spot : Spot) (p : Free)
+      (i : ℕ) → p.hold ≡ Holds n doing → slice_get p.links n ≡ Some link
+      → LinkStep clients n (first + n) (spot_in doing link moved p) e spot
+      → ((i ≡ n → ⊥) → takes_of spot.facts.takes (first + i) ≡ takes_of p.facts.takes (first + i))
+      → Goes e p (holding n spot p) i
+  works_go n doing link moved e spot p i is there steps takes =
       elim (cases_eq i n) [
         | inl same ↦
-            goes_to e p q (holding n t.spot p) i t.leads
-            (subst (λ (k : ℕ). Goes e p (holding n t.spot p) k) (sym same)
+            subst (λ (k : ℕ). Goes e p (holding n spot p) k) (sym same)
             (Stepped (record {
               doing = doing;
-              link = t.link;
-              moved = t.moved;
-              spot = t.spot;
-              at = t.there;
-              now = get_set p.links n t.spot.link (get_within p.links n t.link t.there);
+              link = link;
+              moved = moved;
+              spot = spot;
+              at = there;
+              now = get_set p.links n spot.link (get_within p.links n link there);
               held = is;
               holds = refl;
-              steps = t.steps;
+              steps = steps;
               facts = refl;
-            })))
+            }))
         | inr other ↦
             let apart : nat_eq n i ≡ false = ne_eqb n i (λ same. other (sym same)) in
-            let hold : q.hold ≡ Holds n t.spot.doing = ap (λ (x : Free). x.hold) t.leads in
             Kept (record {
-              same =
-                  ap (λ (x : Free). slice_get x.links i) t.leads
-                  ∙ get_other p.links n i t.spot.link other;
+              same = get_other p.links n i spot.link other;
               spares =
-                  link_spares clients n (first + n) i (spot_in doing t.link t.moved p) t.spot e other t.steps;
+                  link_spares clients n (first + n) i (spot_in doing link moved p) spot e other steps;
               pends =
-                  ap (λ (h : Hold). pending_in h i) hold
-                  ∙ ap (λ (b : Bool). cond b (pending t.spot.doing) []) apart
+                  ap (λ (b : Bool). cond b (pending spot.doing) []) apart
                   ∙ sym (ap (λ (b : Bool). cond b (pending doing) []) apart)
                   ∙ sym (ap (λ (h : Hold). pending_in h i) is);
-              takes =
-                  takes_stay clients first p q e i step
-                  (λ its holds.
-                  let both : Holds n doing ≡ Holds i (Takes its) = sym is ∙ holds in
-                  other (let at : n ≡ i = cc in sym at));
+              takes = takes other;
             })
       ]
 
-  hold_goes : (hold : Hold) (e : Event) (p q : Free) (i : ℕ) → p.hold ≡ hold
-      → FreeStep clients first p e q → HoldStep clients first hold e p q → Goes e p q i
-  hold_goes Rests (Commit b) p q i is step t =
-      let takes : takes_of q.facts.takes (first + i) ≡ takes_of p.facts.takes (first + i) =
-      takes_stay clients first p q (Commit b) i step
-      (λ its holds. let both : Rests ≡ Holds i (Takes its) = sym is ∙ holds in cc) in
-      elim t [
-        | inl adds ↦
-            links_stay (Commit b) p q i (ap (λ (x : Free). x.links) adds.1) tt
-            (ap (λ (x : Free). pending_in x.hold i) adds.1) takes
-        | inr begins ↦
-            links_stay (Commit b) p q i (ap (λ (x : Free). x.links) begins.leads) tt
-            (ap (λ (x : Free). pending_in x.hold i) begins.leads
-            ∙ sym (ap (λ (h : Hold). pending_in h i) is)) takes
-      ]
-  hold_goes (Begins x) Pass p q i is step t =
-      goes_to Pass p q _ i t (joins_go Pass p x end.Going i is (λ other. tt) (λ same. inl (refl, refl)))
-  hold_goes (Begins x) (Break on) p q i is step t =
-      goes_to (Break on) p q _ i t.1
-      (joins_go (Break on) p x end.Failed i is (λ other same. other (sym same ∙ t.0))
-      (λ same. inr (ap (λ (k : ℕ). Break k) (t.0 ∙ sym same), refl)))
-  hold_goes (Holds n doing) e p q i is step t = works_go n doing e p q i is step t
-  hold_goes _ _ p q i is step t = absurd t
-
   pub free_link : (p q : Free) (e : Event) (i : ℕ) → FreeStep clients first p e q → Goes e p q i
   free_link p q e i t =
-      from_cases clients first (λ (x : Event). Goes x p q i) p.hold e p q t
-      (λ same. goes_to Pass p q p i same (links_stay Pass p p i refl tt refl refl))
-      (λ m. moves_go p q i m) (λ h. hold_goes p.hold e p q i refl t h)
+      free_by_cases clients first p
+      (λ (x : Event) (r : Free). (((its : List Item) → p.hold ≡ Holds i (Takes its) → ⊥)
+      → takes_of r.facts.takes (first + i) ≡ takes_of p.facts.takes (first + i)) → Goes x p r i) (record {
+        stays = λ takes. links_stay Pass p p i refl tt refl refl;
+        turns = λ hold calm then takes.
+            links_stay Pass p (record p { hold = hold }) i refl tt
+            (idle_pends hold i then ∙ sym (idle_pends p.hold i calm)) refl;
+        sends = λ n now link calm there is_open takes.
+            links_stay Pass p (record p { hold = Holds n (Sends now MAX_OUTPUTS) }) i refl tt
+            (cond_same (nat_eq n i) [] ∙ sym (idle_pends p.hold i calm)) refl;
+        closes = λ calm takes. closes_go p i calm;
+        adds = λ b rests adds takes.
+            links_stay (Commit b) p (record p { facts = after_all p.facts b }) i refl tt refl
+            (takes (λ its holds. let both : Rests ≡ Holds i (Takes its) = sym rests ∙ holds in cc));
+        begins = λ x rests allowed takes.
+            links_stay _ p
+            (record p { hold = Begins x; facts = after_all p.facts (entry.Session x ∷ []) }) i refl tt
+            (sym (ap (λ (h : Hold). pending_in h i) rests)) refl;
+        greets = λ x begins takes.
+            joins_go Pass p x end.Going i begins (λ other. tt) (λ same. inl (refl, refl));
+        breaks = λ x begins takes.
+            joins_go (Break (length p.links)) p x end.Failed i begins (λ other same. other (sym same))
+            (λ same. inr (ap (λ (k : ℕ). Break k) (sym same), refl));
+        works = λ n doing link moved x spot holds there steps takes.
+            works_go n doing link moved x spot p i holds there steps
+            (λ other. takes
+            (λ its held.
+            let both : Holds n doing ≡ Holds i (Takes its) = sym holds ∙ held in
+            other (let at : n ≡ i = cc in sym at)));
+      }) q e t (takes_stay clients first p q e i t)

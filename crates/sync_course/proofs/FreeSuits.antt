@@ -31,10 +31,11 @@ use Rattle.sync_course.proofs.FreeSound.{IsBegunAt, IsFreeSound, first_free_soun
 use Rattle.sync_course.proofs.FreeSteps.{free_batches, pending_in, plain_adds}
 use Rattle.sync_course.proofs.HeardLaws.{bytes_of, free_path_adds}
 use Rattle.sync_course.proofs.PathLaws.{path_parts}
-use Rattle.sync_course.proofs.RunLaws.{get_middle, settled_begun}
+use Rattle.sync_course.proofs.RunLaws.{get_middle, settled_begun, get_front}
 use Rattle.sync_course.proofs.SendLaws.{ActsOn, HasSent, acts_sent, events_path, front_after, front_before, front_of_none, output}
-use Rattle.sync_course.proofs.SuitLaws.{next_stands}
 use Rattle.sync_course.proofs.ToldLaws.{batches_of-append}
+use Rattle.record_grammar.specs.Stream.{records, records_of}
+use Rattle.sync_ids.specs.declared.records.Record.{Record}
 
 -- ---- what was heard only grows
 
@@ -110,6 +111,23 @@ begun_by-append (b ∷ bs) cs = one b (begun_by-append bs cs)
     one _ is = is
 
 -- ---- each batch suits
+
+-- the record that is next on a session stands at its number among all that are heard on its link
+pub next_stands : FrontsHaveFronts → (heard : ℕ → List ℕ) (f : Facts) (session place n : ℕ) (r : Record)
+    (its : List Item) (link : Link) → IsFront link.heard (heard n)
+    → IsCounted f session (item.One place r ∷ its) link
+    → slice_get (records (heard n)) (takes_of f.takes session) ≡ Some r
+unfolding records_of
+next_stands fronts heard f session place n r its link front c =
+    let later : List Record = (fronts link.heard front.more).0 in
+    let behind : List Record = records_of its ++ c.dropped in
+    let whole : records (heard n) ≡ (c.done ++ r ∷ behind) ++ later =
+    ap records front.goes_on
+    ∙ (fronts link.heard front.more).1
+    ∙ ap (λ (l : List Record). l ++ later) c.parts in
+    subst (λ (l : List Record). slice_get l (takes_of f.takes session) ≡ Some r) (sym whole)
+    (subst (λ (k : ℕ). slice_get ((c.done ++ r ∷ behind) ++ later) k ≡ Some r) (sym c.count)
+    (get_front (c.done ++ r ∷ behind) later (length c.done) r (get_middle c.done behind r)))
 
 module _ (fronts : FrontsHaveFronts) (clients : Meaning) (first : ℕ) (plans : List Session) (heard : ℕ → List ℕ) where
   pub free_suits : (e : Event) (p q : Free) → FreeStep clients first p e q

@@ -3,7 +3,6 @@ pub mod EndLaws
 pub mod LiftLaws
 pub mod LinkLaws
 pub mod LinkSteps
-pub mod MoveLaws
 pub mod PathLaws
 pub mod ActLaws
 pub mod FreeLaws
@@ -15,12 +14,10 @@ pub mod SendLaws
 pub mod FreeSuits
 pub mod HeardLaws
 pub mod PlanLaws
-pub mod SuitLaws
 pub mod ToldLaws
 pub mod CountLaws
 pub mod IdleLaws
 pub mod KeptLaws
-pub mod OutLaws
 pub mod ReadingLaws
 pub mod RunLaws
 pub mod RunSteps

@@ -13,8 +13,8 @@ use Rattle.sync_course.proofs.PathLaws.{path_maps}
 use Rattle.sync_course.proofs.ToldLaws.{told_pass}
 use Rattle.sync_course.proofs.CallLaws.{runs_quiet}
 use Rattle.sync_course.specs.Links.{Link}
-use Rattle.sync_course.specs.LinkTurns.{Asks, Doing, Done, LinkStep, Spot}
-use Rattle.sync_course.specs.Turns.{Attaches, Between, Ended, Place, RunStep, Settles, StageStep, Terms, TurnStep, Works, is_at_end, spot_of, turn_ended, with_spot}
+use Rattle.sync_course.specs.LinkTurns.{Asks, Done, LinkStep, Spot}
+use Rattle.sync_course.specs.Turns.{Attaches, Between, Ended, Place, RunStep, Settles, StageStep, Terms, TurnStep, Works, is_at_end, turn_ended, with_spot}
 
 -- ---- one item of a list
 
@@ -76,19 +76,6 @@ module _ (clients : Meaning) (terms : Terms) (n : ℕ) (place : Place) (within :
       → Path (RunStep clients terms) (with_spot n p place) es (with_spot n q place)
   link_lifts p q es path =
       path_maps (LinkStep clients n (terms.first + n)) (RunStep clients terms) (λ (s : Spot). with_spot n s place) lifted_step p q es path
-
--- a place at which a link has its turn is one of those that its spots give
-pub at_spot : (n : ℕ) (doing : Doing) (link : Link) (place : Place) → place.stage ≡ Works n doing → slice_get place.links n ≡ Some link
-    → with_spot n (spot_of doing link place) place ≡ place
-at_spot n doing link place works at =
-    λ i. record {
-      stage = sym works i;
-      links = set_same place.links n link at i;
-      moved = place.moved;
-      still = place.still;
-      made = place.made;
-      facts = place.facts;
-    }
 
 -- a link's turn leaves the other links
 pub others_keep : (n i : ℕ) (spot : Spot) (place : Place) → (i ≡ n → ⊥)

@@ -135,21 +135,13 @@ Spares i _ = Unit {0}
 -- a step of a link is of no call of another one
 pub link_spares : (clients : Meaning) (n session i : ℕ) (p q : Spot) (e : Event) → (i ≡ n → ⊥)
     → LinkStep clients n session p e q → Spares i e
-link_spares clients n session i p q e other s =
-    link_by_cases clients n session p (λ (doing : Doing) (x : Event) (r : Spot). Spares i x) (record {
-      hears = λ bytes going same. other (sym same);
-      idles = λ going same. other (sym same);
-      ends = λ going same. other (sym same);
-      misses = λ going same. other (sym same);
-      unasked = λ going. tt;
-      settles = λ its b settling. tt;
-      takes = λ place r its allowed. tt;
-      skips = λ place type_byte len its. tt;
-      all_taken = λ settled. tt;
-      reads = λ now is_open same. other (sym same);
-      closed = λ is. tt;
-      puts = λ now room what is_due allowed. tt;
-      enough = λ now room is. tt;
-      put = λ now room. tt;
-      breaks = λ now room same. other (sym same);
-    }) q e s
+link_spares clients n session i p q e other s = by_doing p.doing e s
+  where
+    by_doing : (doing : Doing) (e : Event) → StepOf clients n session doing e p q → Spares i e
+    by_doing Asks (Hear on reply) s = λ same. other (sym same ∙ s.0)
+    by_doing Asks (Miss on) s = λ same. other (sym same ∙ s.0)
+    by_doing Waits (Read on now) s = λ same. other (sym same ∙ s.0)
+    by_doing (Puts now room) (Break on) s = λ same. other (sym same ∙ s.0)
+    by_doing _ (Commit b) s = tt
+    by_doing _ Pass s = tt
+    by_doing _ _ s = absurd s

@@ -10,20 +10,19 @@ use Rattle.sync_rules.specs.Facts.{Facts, after_all, facts}
 use Rattle.sync_rules.specs.Growth.{IsFront}
 use Rattle.sync_rules.specs.Legal.{IsSettlingBatch, Legal}
 use Rattle.sync_rules.proofs.Continuing.{front_itself}
-use Rattle.sync_rules.proofs.StepLaws.{next_is_settling}
+use Rattle.sync_rules.proofs.StepLaws.{next_is_settling, IsSettlingEntry}
 use Rattle.sync_course.specs.Events.{Event, Commit, Break, Pass, batches_of}
-use Rattle.sync_course.specs.Free.{FreeStep, IsPlain, first_free, forget}
-use Rattle.sync_course.specs.LinkTurns.{Asks, Doing, LinkStep, Spot}
+use Rattle.sync_course.specs.Free.{Free, FreeStep, IsPlain, Rests, first_free, forget, hold_at}
+use Rattle.sync_course.specs.LinkTurns.{Asks}
 use Rattle.sync_course.specs.Paths.{Path}
 use Rattle.sync_course.specs.Story.{AllSuitNode, AllSuitPlanned, IsOfCourse, begun_by}
 use Rattle.sync_course.specs.Suits.{AllSuitCourse, SuitsCourse, heard_on}
-use Rattle.sync_course.proofs.SuitLaws.{settling_suits}
 use Rattle.sync_rules.specs.Lists.{In}
-use Rattle.sync_course.specs.Turns.{Attaches, Between, Broken, Ended, Greets, Place, RunStep, Settles, Stage, Terms, Works, attached, first_place, spot_of, turn_ended, unattached, with_spot}
-use Rattle.sync_course.proofs.FreeLaws.{run_is_free}
+use Rattle.sync_course.specs.Turns.{Attaches, Between, Broken, Ended, Greets, Place, RunStep, Settles, Stage, Terms, Works, attached, first_place, turn_ended, unattached, with_spot}
+use Rattle.sync_course.proofs.FreeLaws.{run_is_free, step_is_free}
 use Rattle.sync_course.proofs.FreeSound.{IsFreeSound, first_free_sound}
 use Rattle.sync_course.proofs.FreeSuits.{begun_by-append, free_path_suits, settling_begins}
-use Rattle.sync_course.proofs.LinkSteps.{link_by_cases}
+use Rattle.sync_course.proofs.FreeSteps.{free_batches}
 use Rattle.sync_course.proofs.RunSteps.{run_by_cases, staged}
 use Rattle.sync_course.proofs.PathLaws.{path_keeps}
 use Rattle.sync_course.proofs.RunLaws.{get_front}
@@ -51,34 +50,28 @@ pub record AddsOfLink (bs : List (List Entry)) : Type 0 where
   pub none_plain : NonePlain bs
   pub none_begins : begun_by bs ≡ []
 
-link_adds : (clients : Meaning) (n session : ℕ) (p q : Spot) (e : Event)
-    → LinkStep clients n session p e q → AddsOfLink (batches_of (e ∷ []))
-link_adds clients n session p q e s =
-    let nothing : AddsOfLink [] = record { none_plain = tt; none_begins = refl } in
-    link_by_cases clients n session p
-    (λ (doing : Doing) (x : Event) (r : Spot). AddsOfLink (batches_of (x ∷ []))) (record {
-      hears = λ bytes going. nothing;
-      idles = λ going. nothing;
-      ends = λ going. nothing;
-      misses = λ going. nothing;
-      unasked = λ is. nothing;
-      settles = λ its b settling. record {
+link_adds : (clients : Meaning) (first : ℕ) (p q : Free) (e : Event) → FreeStep clients first p e q
+    → (p.hold ≡ Rests → ⊥) → AddsOfLink (batches_of (e ∷ []))
+link_adds clients first p q e t =
+    free_batches clients first p
+    (λ (x : Event) (g : Facts). (p.hold ≡ Rests → ⊥) → AddsOfLink (batches_of (x ∷ []))) (record {
+      none = λ x none busy.
+          subst AddsOfLink (sym none) (record { none_plain = tt; none_begins = refl });
+      settles = λ b settling busy. record {
         none_plain = (settling_not_plain clients p.facts b settling, tt);
         none_begins = settling_begins clients p.facts b settling;
       };
-      takes = λ place r its allowed. record { none_plain = (λ plain. plain, tt); none_begins = refl };
-      skips = λ place type_byte len its. nothing;
-      all_taken = λ settled. nothing;
-      reads = λ now is_open. nothing;
-      closed = λ is. nothing;
-      puts = λ now room what is_due allowed. record {
+      adds = λ b rests plain allowed busy. absurd (busy rests);
+      begins = λ x rests allowed busy. absurd (busy rests);
+      takes = λ n place r its link holds at allowed busy. record {
         none_plain = (λ plain. plain, tt);
         none_begins = refl;
       };
-      enough = λ now room is. nothing;
-      put = λ now room. nothing;
-      breaks = λ now room. nothing;
-    }) q e s
+      puts = λ n now room what link holds at is_due allowed busy. record {
+        none_plain = (λ plain. plain, tt);
+        none_begins = refl;
+      };
+    }) q e t
 
 -- ---- the sessions that began are the first of those given
 
@@ -115,31 +108,34 @@ module _ (clients : Meaning) (terms : Terms) (sessions : List Session) where
       → BegunFirst sessions done p.stage → StepPlans done e q
   step_plans done p q e t =
       run_by_cases clients terms p
-      (λ (stage : Stage) (x : Event) (r : Place). BegunFirst sessions done stage → StepPlans done x r) (record {
-        settles = λ left b settling begun.
+      (λ (stage : Stage) (x : Event) (r : Place).
+      ((hold_at stage ≡ Rests → ⊥) → AddsOfLink (batches_of (x ∷ [])))
+      → BegunFirst sessions done stage → StepPlans done x r) (record {
+        settles = λ left b settling link begun.
             plans_same done (Commit b) (record (staged (Settles left) p) { facts = after_all p.facts b })
             (settling_not_plain clients p.facts b settling, tt) (settling_begins clients p.facts b settling) begun;
-        settled = λ left settled begun. plans_same done Pass (staged (Attaches left) p) tt refl begun;
-        begins = λ x left allowed begun. record {
+        settled = λ left settled link begun. plans_same done Pass (staged (Attaches left) p) tt refl begun;
+        begins = λ x left allowed link begun. record {
           none_plain = (λ plain. plain, tt);
           begun =
               begun
               ∙ sym (append_assoc (begun_by done) (x ∷ []) left)
               ∙ ap (λ (l : List Session). l ++ left) (sym (begun_by-append done ((entry.Session x ∷ []) ∷ [])));
         };
-        greets = λ x left begun. plans_same done Pass (attached x left p) tt refl begun;
-        breaks = λ x left begun. plans_same done (Break (length p.links)) (unattached x left p) tt refl begun;
-        all_begun = λ begun.
+        greets = λ x left link begun. plans_same done Pass (attached x left p) tt refl begun;
+        breaks = λ x left link begun. plans_same done (Break (length p.links)) (unattached x left p) tt refl begun;
+        all_begun = λ link begun.
             plans_same done Pass (staged Between p) tt refl (record { more = []; goes_on = begun });
-        ends = λ over begun. plans_same done Pass (staged Ended p) tt refl begun;
-        turns = λ on begun.
+        ends = λ over link begun. plans_same done Pass (staged Ended p) tt refl begun;
+        turns = λ on link begun.
             plans_same done Pass (record (staged (Works 0 Asks) p) { moved = false }) tt refl begun;
-        works = λ n doing link x spot at steps begun.
-            let adds = link_adds clients n (terms.first + n) (spot_of doing link p) spot x steps in
+        works = λ n doing link x spot at steps adds begun.
+            let adds = adds (λ holds. cc) in
             plans_same done x (with_spot n spot p) adds.none_plain adds.none_begins begun;
-        goes_on = λ n link at begun. plans_same done Pass (staged (Works (suc n) Asks) p) tt refl begun;
-        turn_ends = λ n none begun. plans_same done Pass (turn_ended p) tt refl begun;
+        goes_on = λ n link at adds begun. plans_same done Pass (staged (Works (suc n) Asks) p) tt refl begun;
+        turn_ends = λ n none link begun. plans_same done Pass (turn_ended p) tt refl begun;
       }) q e t
+      (link_adds clients terms.first (forget p) (forget q) e (step_is_free clients terms p q e t))
 
   -- what every place of a run keeps
   pub record KeepsPlans (before : List Event) (p : Place) : Type 0 where
@@ -210,6 +206,18 @@ run_suits go_on join fronts clients terms sessions j events last legal broken =
     (begun_front sessions (batches_of events) last.stage plans.begun) (heard_on last) (facts j) (batches_of events) suits plans.none_plain
 
 -- ---- as one of those that it was given
+
+module _ (clients : Meaning) (first : ℕ) (sessions : List Session) (heard : ℕ → List ℕ) where
+  settling_entry_suits : (f : Facts) (e : Entry) (es : List Entry) → IsSettlingEntry e → IsSettlingBatch clients f (e ∷ es)
+      → SuitsCourse clients first sessions heard f (e ∷ es)
+  settling_entry_suits f (entry.Judged id) es k s = s
+  settling_entry_suits f (entry.Deliver id) es k s = s
+  settling_entry_suits f (entry.Invalid id) es k s = s
+  settling_entry_suits f _ es k s = absurd k
+
+  pub settling_suits : (f : Facts) (b : List Entry) → IsSettlingBatch clients f b → SuitsCourse clients first sessions heard f b
+  settling_suits f [] s = absurd (omega arith)
+  settling_suits f (e ∷ es) s = settling_entry_suits f e es (next_is_settling clients f e s.2.0) s
 
 in_get : (xs : List Session) (i : ℕ) (x : Session) → slice_get xs i ≡ Some x → In x xs
 in_get [] i x at = cc

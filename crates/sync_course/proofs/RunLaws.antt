@@ -9,14 +9,14 @@ use Rattle.sync_rules.specs.Clients.{Meaning}
 use Rattle.sync_rules.specs.Consistency.{HasSessions}
 use Rattle.sync_rules.proofs.Continuing.{legal-append, facts-append}
 use Rattle.sync_rules.specs.Facts.{Facts, after_all, after_batches, facts, session_at, takes_of}
-use Rattle.sync_rules.specs.Legal.{GoesOn, IsSettlingBatch, Legal}
+use Rattle.sync_rules.specs.Legal.{Allowed, GoesOn, IsSettlingBatch, Legal}
 use Rattle.sync_rules.proofs.SessionLaws.{legal_sessions}
+use Rattle.sync_rules.proofs.Settling.{after_batches-append, goes_on_both}
 use Rattle.sync_rules.proofs.StepKinds.{settling_only}
 use Rattle.sync_course.specs.declared.ends.LinkEnd.{LinkEnd}
 use Rattle.sync_course.specs.declared.ends.LinkEnd.TheVariants as end
 use Rattle.sync_course.specs.Links.{Link, beats, closed_from, is_beaten, is_going, is_kept, link_of, without_redundant}
 use Rattle.sync_course.proofs.CountLaws.{going_keeps}
-use Rattle.sync_course.proofs.MoveLaws.{Moves}
 use Rattle.sync_course.specs.Suits.{IsCounted, keeps_all}
 
 -- ---- lists
@@ -72,6 +72,28 @@ closed_get all k (b ∷ links) (suc i) link at =
 
 pub redundant_get : (links : List Link) (i : ℕ) (link : Link) → slice_get (without_redundant links) i ≡ Some link → IsClosedFrom i links link
 redundant_get links i link at = closed_get links 0 links i link at
+
+-- ---- the journal
+
+-- these batches may follow, and those are the facts behind them
+pub record Moves (clients : Meaning) (batches : List (List Entry)) (old new : Facts) : Type 0 where
+  pub goes_on : GoesOn clients old batches
+  pub facts : new ≡ after_batches old batches
+
+pub moves_none : (clients : Meaning) (old new : Facts) → new ≡ old → Moves clients [] old new
+moves_none clients old new same = record { goes_on = tt; facts = same }
+
+pub moves_one : (clients : Meaning) (b : List Entry) (old new : Facts) → Allowed clients old b → new ≡ after_all old b → Moves clients (b ∷ []) old new
+moves_one clients b old new allowed same = record { goes_on = (allowed, tt); facts = same }
+
+pub moves_then : (clients : Meaning) (bs cs : List (List Entry)) (f g h : Facts) → Moves clients bs f g → Moves clients cs g h → Moves clients (bs ++ cs) f h
+moves_then clients bs cs f g h first second = record {
+  goes_on =
+      goes_on_both clients f bs cs first.goes_on
+      (subst (λ (x : Facts). GoesOn clients x cs) first.facts second.goes_on);
+  facts =
+      second.facts ∙ ap (λ (x : Facts). after_batches x cs) first.facts ∙ sym (after_batches-append f bs cs);
+}
 
 -- the facts are those of a legal journal
 pub record IsOfJournal (clients : Meaning) (f : Facts) : Type 0 where
