@@ -1,16 +1,109 @@
--- Each step of a run is one of the machine without the order of a run.
-use Rattle.std.proofs.Common.{◌≡◌, ℕ, suc, false, List, [], refl, inl, inr}
+-- The steps of a run, case by case, what a property of them owes in each; and that each is one of the machine without the order.
+use Rattle.std.proofs.Common.{◌≡◌, ℕ, suc, false, List, [], refl, inl, inr, ◌+◌, Bool, true, cond, ◌∷◌, length, sym, subst, Option, None, Some}
 use Rattle.sync_rules.specs.Clients.{Meaning}
 use Rattle.sync_course.specs.Acts.{Act}
-use Rattle.sync_course.specs.Events.{Event, Pass}
+use Rattle.sync_course.specs.Events.{Event, Pass, Commit, Break}
 use Rattle.sync_course.specs.Free.{Free, FreeFrom, FreeStep, HoldStep, Holds, IsNothingUnderWay, forget, hold_at, owing_free}
-use Rattle.sync_course.specs.LinkTurns.{Asks, Done, Doing}
+use Rattle.sync_course.specs.LinkTurns.{Asks, Done, Doing, LinkStep, Spot}
 use Rattle.sync_course.specs.Owing.{ActStep, Owing}
 use Rattle.sync_course.specs.Paths.{Path}
-use Rattle.sync_course.specs.Turns.{Attaches, Between, Ended, Place, RunStep, Settles, Stage, Terms, Works, with_spot}
+use Rattle.sync_course.specs.Turns.{Attaches, Between, Ended, Place, RunStep, Settles, Stage, Terms, Works, with_spot, EndsTurn, GoesToNext, Greets, StageStep, TurnStep, attached, is_at_end, spot_of, turn_ended, unattached}
 use Rattle.sync_course.proofs.ActLaws.{acts_map}
 use Rattle.sync_course.proofs.PathLaws.{path_maps}
-use Rattle.sync_course.proofs.RunSteps.{run_by_cases, staged}
+use Rattle.std.specs.Prelude.{slice_get}
+use Rattle.sync_rules.specs.declared.entries.Entry.{Entry}
+use Rattle.sync_rules.specs.declared.entries.Entry.TheVariants as entry
+use Rattle.sync_rules.specs.declared.entries.Session.{Session}
+use Rattle.sync_rules.specs.Facts.{after_all}
+use Rattle.sync_rules.specs.Legal.{Allowed, IsSettlingBatch}
+use Rattle.sync_rules.specs.Steps.{IsSettled}
+use Rattle.sync_course.specs.Links.{Link}
+
+-- a place of this stage
+abbrev pub staged : Stage → Place → Place
+staged stage p = record p { stage = stage }
+
+module _ (clients : Meaning) (terms : Terms) (p : Place) (T : Stage → Event → Place → Type 0) where
+  -- a property of the stage, the event, and the place behind it, for each step of a run
+  pub record RunCases : Type 0 where
+    pub settles : (left : List Session) (b : List Entry) → IsSettlingBatch clients p.facts b
+        → T (Settles left) (Commit b) (record (staged (Settles left) p) { facts = after_all p.facts b })
+    pub settled : (left : List Session) → IsSettled clients p.facts
+        → T (Settles left) Pass (staged (Attaches left) p)
+    pub begins : (x : Session) (left : List Session) → Allowed clients p.facts (entry.Session x ∷ [])
+        → T (Attaches (x ∷ left)) (Commit (entry.Session x ∷ []))
+        (record (staged (Greets x left) p) { facts = after_all p.facts (entry.Session x ∷ []) })
+    pub greets : (x : Session) (left : List Session) → T (Greets x left) Pass (attached x left p)
+    pub breaks : (x : Session) (left : List Session)
+        → T (Greets x left) (Break (length p.links)) (unattached x left p)
+    pub all_begun : T (Attaches []) Pass (staged Between p)
+    pub ends : is_at_end terms p ≡ true → T Between Pass (staged Ended p)
+    pub turns : is_at_end terms p ≡ false
+        → T Between Pass (record (staged (Works 0 Asks) p) { moved = false })
+    pub works : (n : ℕ) (doing : Doing) (link : Link) (e : Event) (spot : Spot)
+        → slice_get p.links n ≡ Some link
+        → LinkStep clients n (terms.first + n) (spot_of doing link p) e spot
+        → T (Works n doing) e (with_spot n spot p)
+    pub goes_on : (n : ℕ) (link : Link) → slice_get p.links n ≡ Some link
+        → T (Works n Done) Pass (staged (Works (suc n) Asks) p)
+    pub turn_ends : (n : ℕ) → slice_get p.links n ≡ None → T (Works n Asks) Pass (turn_ended p)
+
+  module _ (cases : RunCases) where
+    to : (stage : Stage) (e : Event) (q r : Place) → q ≡ r → T stage e r → T stage e q
+    to stage e q r same t = subst (T stage e) (sym same) t
+
+    by_end : (n : ℕ) (doing : Doing) (e : Event) (q : Place) → slice_get p.links n ≡ None
+        → EndsTurn doing e (staged (Works n doing) p) q → T (Works n doing) e q
+    by_end n Asks Pass q none t = to (Works n Asks) Pass q (turn_ended p) t (cases.turn_ends n none)
+    by_end n _ _ q none t = absurd t
+
+    by_next : (n : ℕ) (doing : Doing) (link : Link) (e : Event) (q : Place)
+        → slice_get p.links n ≡ Some link → GoesToNext n doing e (staged (Works n doing) p) q
+        → T (Works n doing) e q
+    by_next n Done link Pass q at t =
+        to (Works n Done) Pass q (staged (Works (suc n) Asks) p) t (cases.goes_on n link at)
+    by_next n _ link _ q at t = absurd t
+
+    by_turn : (n : ℕ) (doing : Doing) (o : Option Link) (e : Event) (q : Place) → slice_get p.links n ≡ o
+        → TurnStep clients terms n doing o e (staged (Works n doing) p) q → T (Works n doing) e q
+    by_turn n doing None e q at t = by_end n doing e q at t
+    by_turn n doing (Some link) e q at t =
+        elim t [
+          | inl works ↦
+              to (Works n doing) e q (with_spot n works.spot p) works.leads
+              (cases.works n doing link e works.spot at works.steps)
+          | inr next ↦ by_next n doing link e q at next
+        ]
+
+    by_end_test : (q : Place) (t : Bool) → is_at_end terms p ≡ t
+        → q ≡ cond t (staged Ended p) (record (staged (Works 0 Asks) p) { moved = false })
+        → T Between Pass q
+    by_end_test q true over same = to Between Pass q (staged Ended p) same (cases.ends over)
+    by_end_test q false on same = to Between Pass q _ same (cases.turns on)
+
+    by_stage : (stage : Stage) (e : Event) (q : Place)
+        → StageStep clients terms stage e (staged stage p) q → T stage e q
+    by_stage (Settles left) (Commit b) q t =
+        to (Settles left) (Commit b) q _ t.1 (cases.settles left b t.0)
+    by_stage (Settles left) Pass q t =
+        to (Settles left) Pass q (staged (Attaches left) p) t.1 (cases.settled left t.0)
+    by_stage (Attaches (x ∷ left)) (Commit b) q t =
+        to (Attaches (x ∷ left)) (Commit b) q _ t.2
+        (subst (λ (c : List Entry). T (Attaches (x ∷ left)) (Commit c)
+        (record (staged (Greets x left) p) { facts = after_all p.facts c })) (sym t.0)
+        (cases.begins x left (subst (Allowed clients p.facts) t.0 t.1)))
+    by_stage (Attaches []) Pass q t = to (Attaches []) Pass q (staged Between p) t cases.all_begun
+    by_stage (Greets x left) Pass q t =
+        to (Greets x left) Pass q (attached x left p) t (cases.greets x left)
+    by_stage (Greets x left) (Break on) q t =
+        subst (λ (k : ℕ). T (Greets x left) (Break k) q) (sym t.0)
+        (to (Greets x left) (Break (length p.links)) q (unattached x left p) t.1 (cases.breaks x left))
+    by_stage Between Pass q t = by_end_test q (is_at_end terms p) refl t
+    by_stage (Works n doing) e q t = by_turn n doing (slice_get p.links n) e q refl t
+    by_stage _ _ q t = absurd t
+
+    pub run_by_cases : (q : Place) (e : Event) → RunStep clients terms p e q → T p.stage e q
+    run_by_cases q e t = by_stage p.stage e q t
 
 module _ (clients : Meaning) (terms : Terms) where
   -- nothing that is told of: this is taken in hand next

@@ -22,10 +22,9 @@ use Rattle.sync_course.specs.Pending.{pending, pending_at}
 use Rattle.sync_course.specs.Turns.{Broken, Place, RunStep, Settles, Stage, Terms, first_place}
 use Rattle.sync_course.proofs.FreeLaws.{run_is_free}
 use Rattle.sync_course.specs.Suits.{IsCounted, keeps_all}
-use Rattle.sync_course.proofs.CountLaws.{counted_ends, counted_same, link_step_counted}
+use Rattle.sync_course.proofs.RunLaws.{counted_ends, counted_same, link_step_counted, IsOfJournal, Moves as MovesOn, moves_none, moves_one, moves_then, ended_keeps, journal_moves, new_counted, settled_begun, untaken}
 use Rattle.sync_course.proofs.FreeSteps.{Closed, Joined, Kept, LinkGoes, Stepped, free_batches, free_by_cases, free_link, pending_in, plain_adds}
 use Rattle.sync_course.proofs.ToldLaws.{batches_of-append}
-use Rattle.sync_course.proofs.RunLaws.{IsOfJournal, Moves as MovesOn, moves_none, moves_one, moves_then, ended_keeps, journal_moves, new_counted, settled_begun, untaken}
 
 -- ---- the journal
 

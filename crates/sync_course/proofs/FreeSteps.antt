@@ -21,10 +21,9 @@ use Rattle.sync_course.specs.Links.{Link, closed_from, is_beaten, is_going, is_s
 use Rattle.sync_course.specs.LinkTurns.{Asks, Takes, Waits, Sends, Done, Doing, LinkStep, Spot, next_take, out_batch}
 use Rattle.sync_course.specs.Pending.{pending}
 use Rattle.sync_course.specs.Redundant.{closed_as}
-use Rattle.sync_course.proofs.CountLaws.{settled_takes, takes_other}
+use Rattle.sync_course.proofs.RunLaws.{settled_takes, takes_other, beaten_going, cond_same, get_middle}
 use Rattle.sync_course.proofs.LiftLaws.{get_other, get_set, get_within}
 use Rattle.sync_course.proofs.LinkSteps.{Spares, link_by_cases, link_spares}
-use Rattle.sync_course.proofs.RunLaws.{beaten_going, cond_same, get_middle}
 
 -- ---- the steps
 

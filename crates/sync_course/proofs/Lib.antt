@@ -1,5 +1,4 @@
 pub mod CallLaws
-pub mod EndLaws
 pub mod LiftLaws
 pub mod LinkLaws
 pub mod LinkSteps
@@ -15,10 +14,8 @@ pub mod FreeSuits
 pub mod HeardLaws
 pub mod PlanLaws
 pub mod ToldLaws
-pub mod CountLaws
 pub mod IdleLaws
 pub mod KeptLaws
 pub mod ReadingLaws
 pub mod RunLaws
-pub mod RunSteps
 pub mod PlaceLaws

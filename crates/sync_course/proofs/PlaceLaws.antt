@@ -11,13 +11,12 @@ use Rattle.sync_course.specs.Paths.{Path}
 use Rattle.sync_course.specs.Quiet.{reading_after, reading_by, last_reading}
 use Rattle.sync_course.specs.Turns.{Place, RunStep, Settles, Stage, Terms, Works, spot_of, Greets}
 use Rattle.sync_course.proofs.LinkSteps.{link_by_cases}
-use Rattle.sync_course.proofs.RunSteps.{run_by_cases}
+use Rattle.sync_course.proofs.FreeLaws.{run_by_cases, step_is_free}
 use Rattle.sync_rules.specs.declared.entries.Out.{Out}
 use Rattle.sync_rules.specs.Legal.{IsDue, IsSettlingBatch}
 use Rattle.sync_rules.proofs.StepLaws.{next_is_settling}
 use Rattle.sync_course.proofs.PathLaws.{path_parts}
 use Rattle.sync_course.specs.Free.{Holds, IsPlain, forget, hold_at}
-use Rattle.sync_course.proofs.FreeLaws.{step_is_free}
 use Rattle.sync_course.proofs.FreeSteps.{free_batches}
 use Rattle.sync_course.specs.DueOutputs.{IsDueAt, OutIsDue}
 

@@ -19,11 +19,10 @@ use Rattle.sync_course.specs.Story.{AllSuitNode, AllSuitPlanned, IsOfCourse, beg
 use Rattle.sync_course.specs.Suits.{AllSuitCourse, SuitsCourse, heard_on}
 use Rattle.sync_rules.specs.Lists.{In}
 use Rattle.sync_course.specs.Turns.{Attaches, Between, Broken, Ended, Greets, Place, RunStep, Settles, Stage, Terms, Works, attached, first_place, turn_ended, unattached, with_spot}
-use Rattle.sync_course.proofs.FreeLaws.{run_is_free, step_is_free}
+use Rattle.sync_course.proofs.FreeLaws.{run_is_free, step_is_free, run_by_cases, staged}
 use Rattle.sync_course.proofs.FreeSound.{IsFreeSound, first_free_sound}
 use Rattle.sync_course.proofs.FreeSuits.{begun_by-append, free_path_suits, settling_begins}
 use Rattle.sync_course.proofs.FreeSteps.{free_batches}
-use Rattle.sync_course.proofs.RunSteps.{run_by_cases, staged}
 use Rattle.sync_course.proofs.PathLaws.{path_keeps}
 use Rattle.sync_course.proofs.RunLaws.{get_front}
 use Rattle.sync_course.proofs.ToldLaws.{batches_of-append}
