@@ -1,6 +1,7 @@
 -- A link on which a call failed stands Failed from then on, and no other link does; nothing is committed for one.
 use Rattle.std.proofs.Common.{◌≡◌, ◌⊎◌, ℕ, ◌+◌, Bool, true, false, cond, ◌||◌, nat_eq, eq-eqb, List, [], ◌∷◌, ◌++◌, refl, sym, ◌∙◌, ap, subst, inl, inr, Option, None, Some}
 use Rattle.std.specs.Prelude.{slice_get}
+use Rattle.std.proofs.Math.Bool.{or-false}
 use Rattle.std.proofs.lemmas.Bool.{ne_eqb, or_cases, or_left, or_right}
 use Rattle.outside.specs.Links.{got, idle, ended}
 use Rattle.record_grammar.specs.Stream.{ending}
@@ -49,10 +50,6 @@ pub record StepFails (n : ℕ) (e : Event) (old new : LinkEnd) (doing : Doing) :
   pub failed : is_failed new ≡ (is_failed old || is_failure n e)
   pub opens : DoesOpen doing new
 
-or_none : (b : Bool) → (b || false) ≡ b
-or_none true = refl
-or_none false = refl
-
 going_opens : (its : List Item) (stands : LinkEnd) → is_going stands ≡ true → TakesOpen its stands
 going_opens [] stands going = tt
 going_opens (it ∷ its) stands going = going
@@ -78,7 +75,7 @@ module _ (n : ℕ) (old : LinkEnd) where
       → is_failed new ≡ is_failed old → DoesOpen doing new → StepFails n e old new doing
   well e doing new none same opens = record {
     failed =
-        same ∙ sym (or_none (is_failed old)) ∙ ap (λ (b : Bool). is_failed old || b) (sym none);
+        same ∙ sym (or-false (is_failed old)) ∙ ap (λ (b : Bool). is_failed old || b) (sym none);
     opens = opens;
   }
 
@@ -187,7 +184,7 @@ module _ (clients : Meaning) (first : ℕ) where
       → failed_at q.links i ≡ (failed_at p.links i || is_failure i e)
   spared_same e p q i spares same =
       same
-      ∙ sym (or_none (failed_at p.links i))
+      ∙ sym (or-false (failed_at p.links i))
       ∙ ap (λ (b : Bool). failed_at p.links i || b) (sym (spared_well i e spares))
 
   -- a link stands Failed behind a step where it did before it, or a call of it failed
@@ -268,7 +265,7 @@ module _ (clients : Meaning) (first : ℕ) where
 
   pub push_failure : (i : ℕ) (before : List Event) (e : Event) → has_failure i (before ++ e ∷ []) ≡ (has_failure i before || is_failure i e)
   push_failure i before e =
-      has_failure-append i before (e ∷ []) ∙ ap (λ (b : Bool). has_failure i before || b) (or_none (is_failure i e))
+      has_failure-append i before (e ∷ []) ∙ ap (λ (b : Bool). has_failure i before || b) (or-false (is_failure i e))
 
   pub fails_step : (before : List Event) (p q : Free) (e : Event) → FailsJust before p → FreeStep clients first p e q
       → FailsJust (before ++ e ∷ []) q

@@ -11,6 +11,7 @@ use Rattle.sync_rules.specs.declared.entries.Out.{Out}
 use Rattle.sync_rules.specs.declared.entries.Session.{Session}
 use Rattle.sync_rules.specs.Clients.{Meaning}
 use Rattle.sync_rules.specs.Facts.{Facts, after_all, session_at, takes_of}
+use Rattle.sync_rules.specs.Growth.{output_in}
 use Rattle.sync_rules.specs.Legal.{Allowed, IsDue, IsSettlingBatch}
 use Rattle.sync_course.specs.declared.TheConstants.{MAX_OUTPUTS}
 use Rattle.sync_course.specs.declared.ends.LinkEnd.{LinkEnd}
@@ -21,6 +22,7 @@ use Rattle.sync_course.specs.Links.{Link, closed_from, is_beaten, is_going, is_s
 use Rattle.sync_course.specs.LinkTurns.{Asks, Takes, Waits, Sends, Done, Doing, LinkStep, Spot, next_take, out_batch}
 use Rattle.sync_course.specs.Pending.{pending}
 use Rattle.sync_course.specs.Redundant.{closed_as}
+use Rattle.sync_course.specs.Story.{begun_by}
 use Rattle.sync_course.proofs.RunLaws.{settled_takes, takes_other, beaten_going, cond_same, get_middle}
 use Rattle.sync_course.proofs.LiftLaws.{get_other, get_set, get_within}
 use Rattle.sync_course.proofs.LinkSteps.{Spares, link_by_cases, link_spares}
@@ -165,16 +167,22 @@ module _ (clients : Meaning) (first : ℕ) (p : Free) (T : Event → Facts → T
               by_link n doing link moved x spot holds there steps;
         }) q e t
 
--- settling or a plain entry leaves the number of the sessions, and what was taken
-pub record OnlyAdds (f later : Facts) : Type 0 where
-  pub begun : later.begun ≡ f.begun
-  pub takes : (m : ℕ) → takes_of later.takes m ≡ takes_of f.takes m
+-- a plain entry leaves the number of the sessions, what was taken, and the output of each session
+pub record OnlyAdds (f : Facts) (b : List Entry) : Type 0 where
+  pub begun : (after_all f b).begun ≡ f.begun
+  pub begins : begun_by (b ∷ []) ≡ []
+  pub takes : (m : ℕ) → takes_of (after_all f b).takes m ≡ takes_of f.takes m
+  pub puts : (session : ℕ) → output_in f session b ≡ []
 
-pub plain_adds : (f : Facts) (b : List Entry) → IsPlain b → OnlyAdds f (after_all f b)
-plain_adds f (entry.Contact c ∷ []) is = record { begun = refl; takes = λ m. refl }
-plain_adds f (entry.Group def ∷ []) is = record { begun = refl; takes = λ m. refl }
-plain_adds f (entry.Level c g l ∷ []) is = record { begun = refl; takes = λ m. refl }
-plain_adds f (entry.Author m ∷ []) is = record { begun = refl; takes = λ m. refl }
+pub plain_adds : (f : Facts) (b : List Entry) → IsPlain b → OnlyAdds f b
+plain_adds f (entry.Contact c ∷ []) is =
+    record { begun = refl; begins = refl; takes = λ m. refl; puts = λ session. refl }
+plain_adds f (entry.Group def ∷ []) is =
+    record { begun = refl; begins = refl; takes = λ m. refl; puts = λ session. refl }
+plain_adds f (entry.Level c g l ∷ []) is =
+    record { begun = refl; begins = refl; takes = λ m. refl; puts = λ session. refl }
+plain_adds f (entry.Author m ∷ []) is =
+    record { begun = refl; begins = refl; takes = λ m. refl; puts = λ session. refl }
 plain_adds f _ is = absurd is
 
 apart : (first n i : ℕ) → (n ≡ i → ⊥) → first + i ≡ first + n → ⊥

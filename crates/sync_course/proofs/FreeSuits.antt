@@ -3,6 +3,7 @@ use Rattle.std.proofs.Common.{◌≡◌, ℕ, ◌+◌, Bool, true, false, cond, 
 use Rattle.std.specs.Prelude.{slice_get}
 use Rattle.outside.specs.Outside.{Moment}
 use Rattle.outside.specs.Runs as runs
+use Rattle.outside.proofs.RunLaws as runs_laws
 use Rattle.record_grammar.specs.Laws.{FrontsHaveFronts, RecordsJoin, StreamsGoOn}
 use Rattle.record_grammar.specs.declared.stream.Item.{Item}
 use Rattle.record_grammar.specs.declared.stream.Item.TheVariants as item
@@ -19,7 +20,7 @@ use Rattle.sync_rules.proofs.Continuing.{front_itself, front_then}
 use Rattle.sync_rules.proofs.StepLaws.{IsSettlingEntry, next_is_settling}
 use Rattle.sync_course.specs.Acts.{Act, AtFront, Does, Send, Fail, batches_in, events_of, next_bytes, sends_on}
 use Rattle.sync_course.specs.Events.{Event, Commit, batches_of}
-use Rattle.sync_course.specs.Free.{Free, FreeStep, Hold, IsPlain, first_free}
+use Rattle.sync_course.specs.Free.{Free, FreeStep, Hold, first_free}
 use Rattle.sync_course.specs.Links.{Link}
 use Rattle.sync_course.specs.LinkTurns.{next_take, out_batch}
 use Rattle.sync_course.specs.Owing.{Owing, paid}
@@ -32,7 +33,7 @@ use Rattle.sync_course.proofs.FreeSteps.{free_batches, pending_in, plain_adds}
 use Rattle.sync_course.proofs.HeardLaws.{bytes_of, free_path_adds}
 use Rattle.sync_course.proofs.PathLaws.{path_parts}
 use Rattle.sync_course.proofs.RunLaws.{get_middle, settled_begun, get_front}
-use Rattle.sync_course.proofs.SendLaws.{ActsOn, HasSent, acts_sent, events_path, front_after, front_before, front_of_none, output}
+use Rattle.sync_course.proofs.SendLaws.{ActsOn, HasSent, acts_sent, events_path, front_before, front_of_none, output}
 use Rattle.sync_course.proofs.ToldLaws.{batches_of-append}
 use Rattle.record_grammar.specs.Stream.{records, records_of}
 use Rattle.sync_ids.specs.declared.records.Record.{Record}
@@ -62,13 +63,6 @@ settling_begins clients f (e ∷ es) s = none e es (next_is_settling clients f e
     none (entry.Invalid id) es k = refl
     none _ es k = absurd k
 
-plain_begins : (b : List Entry) → IsPlain b → begun_by (b ∷ []) ≡ []
-plain_begins (entry.Contact c ∷ []) is = refl
-plain_begins (entry.Group def ∷ []) is = refl
-plain_begins (entry.Level c g l ∷ []) is = refl
-plain_begins (entry.Author m ∷ []) is = refl
-plain_begins _ is = absurd is
-
 -- the number of sessions grows by those that begin
 abbrev pub BegunGrows : Event → Free → Free → Type 0
 BegunGrows e p q = q.facts.begun ≡ p.facts.begun + length (begun_by (batches_of (e ∷ [])))
@@ -90,7 +84,7 @@ free_begins clients first p q e t =
           none_begins (b ∷ []) p.facts (after_all p.facts b) (settling_begins clients p.facts b settling)
           (settled_begun clients p.facts b settling);
       adds = λ b rests plain allowed.
-          none_begins (b ∷ []) p.facts (after_all p.facts b) (plain_begins b plain) (plain_adds p.facts b plain).begun;
+          none_begins (b ∷ []) p.facts (after_all p.facts b) (plain_adds p.facts b plain).begins (plain_adds p.facts b plain).begun;
       begins = λ x rests allowed. refl;
       takes = λ n place r its link holds at allowed.
           none_begins (next_take p.facts (first + n) r ∷ []) p.facts
@@ -278,10 +272,10 @@ moment_stands go_on join fronts clients j acts to m legal path front =
           (subst (AllSuitNode clients first (begun_by (batches_in acts)) (heard_at to.at) (facts j)) batches whole);
       has_sent = λ link.
           subst (λ (l : List ℕ). runs.IsFront l (output (j ++ batches_in front.before) (first + link))) (sym (front.has_sent link))
-          (front_after (sends_on link front.before ++ front.part link) (sends_on link front.before ++ mid.owed link)
+          (runs_laws.front_then (sends_on link front.before ++ front.part link) (sends_on link front.before ++ mid.owed link)
           (output (j ++ batches_in front.before) (first + link))
           (front_before (front.part link) (mid.owed link) (sends_on link front.before)
-          (front_after (front.part link) (next_bytes link front.behind) (mid.owed link) (front.begun link)
+          (runs_laws.front_then (front.part link) (next_bytes link front.behind) (mid.owed link) (front.begun link)
           (next_owed clients first front.behind mid to link parts.2)))
           (sent.front link));
     }

@@ -1,5 +1,6 @@
 -- A link's turn as a part of the run, and the steps of the run between the turns of its links.
 use Rattle.std.proofs.Common.{◌≡◌, ℕ, zero, suc, ◌+◌, ◌<◌, Bool, false, cond, List, [], ◌∷◌, length, refl, sym, ap, subst, inl, inr, arith, Option, None, Some}
+use Rattle.std.proofs.lemmas.Option.{slice_get_within}
 use Rattle.std.specs.Prelude.{slice_get, slice_set}
 use Rattle.outside.specs.Outside.{Outside}
 use Rattle.outside.proofs.CallCounts.{most_none}
@@ -42,9 +43,7 @@ module _ {A : Type 0} where
   set_same (y ∷ xs) (suc n) x at = ap (λ (l : List A). y ∷ l) (set_same xs n x at)
 
   pub get_within : (xs : List A) (n : ℕ) (x : A) → slice_get xs n ≡ Some x → n < length xs
-  get_within [] n x at = cc
-  get_within (y ∷ xs) zero x at = omega arith
-  get_within (y ∷ xs) (suc n) x at = let rest : n < length xs = get_within xs n x at in omega (arith, rest)
+  get_within xs n x at = slice_get_within xs n x at
 
   pub get_past : (xs : List A) → slice_get xs (length xs) ≡ None
   get_past [] = refl

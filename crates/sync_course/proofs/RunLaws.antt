@@ -2,6 +2,7 @@
 -- legal journal.
 use Rattle.std.proofs.Common.{◌≡◌, ◌⊎◌, ℕ, zero, suc, ◌<◌, Bool, true, false, cond, ◌&&◌, nat_eq, List, [], ◌∷◌, ◌++◌, length, refl, sym, ◌∙◌, ap, subst, inl, inr, arith, Option, None, Some, ◌+◌, drop, eq-eqb, length-append, append-nil, append_assoc}
 use Rattle.std.specs.Prelude.{nat_lt, slice_get}
+use Rattle.std.proofs.Math.Seq.{drop-append_seam}
 use Rattle.std.proofs.lemmas.Bool.{and_parts, or_cases, ne_eqb}
 use Rattle.record_grammar.specs.Stream.{items, parsed, records_of, ending, records, rest, rest_place}
 use Rattle.sync_rules.specs.declared.entries.Entry.{Entry}
@@ -32,9 +33,6 @@ use Rattle.sync_course.proofs.LinkSteps.{link_by_cases}
 use Rattle.sync_course.specs.Pending.{pending}
 
 -- ---- lists
-drop_front : {A : Type 0} (xs ys : List A) → drop (length xs) (xs ++ ys) ≡ ys
-drop_front [] ys = refl
-drop_front (x ∷ xs) ys = drop_front xs ys
 
 -- the items of all are those of what was heard before and the new ones
 pub new_items_follow : StreamsGoOn → (heard bytes : List ℕ) → items 0 (heard ++ bytes) ≡ items 0 heard ++ new_items heard bytes
@@ -42,17 +40,14 @@ new_items_follow go_on heard bytes =
     let behind : List Item = items (rest_place 0 heard) (rest 0 heard ++ bytes) in
     let parts : items 0 (heard ++ bytes) ≡ items 0 heard ++ behind = (go_on 0 heard).begins bytes in
     let new : new_items heard bytes ≡ behind =
-    ap (drop (length (items 0 heard))) parts ∙ drop_front (items 0 heard) behind in
+    ap (drop (length (items 0 heard))) parts ∙ drop-append_seam (items 0 heard) behind in
     parts ∙ ap (λ (l : List Item). items 0 heard ++ l) (sym new)
 
 -- whatever follows those of before are the new ones
 pub new_items_are : (heard bytes : List ℕ) (its : List Item) → items 0 (heard ++ bytes) ≡ items 0 heard ++ its → new_items heard bytes ≡ its
-new_items_are heard bytes its parts = ap (drop (length (items 0 heard))) parts ∙ drop_front (items 0 heard) its
+new_items_are heard bytes its parts = ap (drop (length (items 0 heard))) parts ∙ drop-append_seam (items 0 heard) its
 
 -- ---- takes
-eqb_itself : (n : ℕ) → nat_eq n n ≡ true
-eqb_itself n = eq-eqb n n refl
-
 pub takes_other : (clients : Meaning) (f : Facts) (session m : ℕ) (r : Record) → Allowed clients f (next_take f session r) → (m ≡ session → ⊥)
     → takes_of (after_all f (next_take f session r)).takes m ≡ takes_of f.takes m
 takes_other clients f session m r allowed other =
@@ -63,7 +58,7 @@ takes_here : (clients : Meaning) (f : Facts) (session : ℕ) (r : Record) → Al
     → takes_of (after_all f (next_take f session r)).takes session ≡ takes_of f.takes session + 1
 takes_here clients f session r allowed =
     let one : TakesOne f (after_all f (next_take f session r)) session = takes_one clients f session (takes_of f.takes session) (taken f session r) allowed in
-    one.takes session ∙ ap (λ (b : Bool). cond b (takes_of f.takes session + 1) (takes_of f.takes session)) (eqb_itself session)
+    one.takes session ∙ ap (λ (b : Bool). cond b (takes_of f.takes session + 1) (takes_of f.takes session)) (eq-eqb session session refl)
 
 pub settled_takes : (clients : Meaning) (f : Facts) (b : List Entry) (m : ℕ) → IsSettlingBatch clients f b → takes_of (after_all f b).takes m ≡ takes_of f.takes m
 settled_takes clients f b m settling = ap (λ t. takes_of t m) (settling_only clients f b settling.2).takes

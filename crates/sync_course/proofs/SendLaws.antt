@@ -4,6 +4,7 @@ use Rattle.std.specs.Prelude.{slice_get}
 use Rattle.std.proofs.lemmas.Bool.{false≢true, ne_eqb}
 use Rattle.std.proofs.lemmas.Grind.{flat_map-append}
 use Rattle.outside.specs.Runs.{IsFront}
+use Rattle.outside.proofs.RunLaws.{front_same, front_then}
 use Rattle.record_grammar.specs.Laws.{RecordsJoin, StreamsGoOn}
 use Rattle.record_grammar.specs.Spelling.{spelled, spelling}
 use Rattle.sync_ids.specs.declared.records.Record.{Record}
@@ -22,7 +23,7 @@ use Rattle.sync_rules.proofs.SessionLaws.{legal_sessions}
 use Rattle.sync_course.specs.declared.ends.LinkEnd.TheVariants as end
 use Rattle.sync_course.specs.Acts.{Act, Does, Send, Fail, batches_in, event_of, events_of, sends_on, sent_by}
 use Rattle.sync_course.specs.Events.{Event, Commit, batches_of, has_failure, is_failure}
-use Rattle.sync_course.specs.Free.{Free, FreeStep, Hold, IsPlain, first_free}
+use Rattle.sync_course.specs.Free.{Free, FreeStep, Hold, first_free}
 use Rattle.sync_course.specs.Links.{Link, is_sent_to}
 use Rattle.sync_course.specs.LinkTurns.{next_take, out_batch}
 use Rattle.sync_course.specs.Owing.{ActStep, Owing, adds_to, paid}
@@ -31,26 +32,17 @@ use Rattle.sync_course.specs.Story.{AllIsSent, FreeActs, LinkFailed}
 use Rattle.sync_course.proofs.ActLaws.{batches_in-append, events_of-append, sends_on-append}
 use Rattle.sync_course.proofs.FailLaws.{FailsJust, HoldsOpen, fails_step, first_fails, path_fails, push_failure}
 use Rattle.sync_course.proofs.FreeSound.{IsBegunAt, IsFreeSound, first_free_sound, free_moves, free_path_sound, free_sound, get_same}
-use Rattle.sync_course.proofs.FreeSteps.{free_batches}
+use Rattle.sync_course.proofs.FreeSteps.{free_batches, plain_adds}
 use Rattle.sync_course.proofs.LiftLaws.{get_within}
 use Rattle.sync_course.proofs.PathLaws.{path_keeps}
 
 -- ---- fronts
-
-pub front_itself : (xs : List ℕ) → IsFront xs xs
-front_itself xs = record { rest = []; whole = sym (append-nil xs) }
 
 pub front_of_none : (xs : List ℕ) → IsFront [] xs
 front_of_none xs = record { rest = xs; whole = refl }
 
 pub front_before : (xs ys zs : List ℕ) → IsFront xs ys → IsFront (zs ++ xs) (zs ++ ys)
 front_before xs ys zs f = record { rest = f.rest; whole = ap (λ (l : List ℕ). zs ++ l) f.whole ∙ sym (append_assoc zs xs f.rest) }
-
-pub front_after : (xs ys zs : List ℕ) → IsFront xs ys → IsFront ys zs → IsFront xs zs
-front_after xs ys zs f g = record {
-  rest = f.rest ++ g.rest;
-  whole = g.whole ∙ ap (λ (l : List ℕ). l ++ g.rest) f.whole ∙ append_assoc xs f.rest g.rest;
-}
 
 front_take : (n : ℕ) (xs : List ℕ) → IsFront (take n xs) xs
 front_take n xs = record { rest = drop n xs; whole = sym (take-append-drop n xs) }
@@ -83,13 +75,6 @@ event_adds clients first j _ link legal goes = none_added first j link
 settling_adds : (clients : Meaning) (f : Facts) (b : List Entry) (session : ℕ) → IsSettlingBatch clients f b → output_in f session b ≡ []
 settling_adds clients f b session s = silent_adds_nothing f session b (settling_silent clients f b s.2)
 
-plain_adds : (f : Facts) (b : List Entry) (session : ℕ) → IsPlain b → output_in f session b ≡ []
-plain_adds f (entry.Contact c ∷ []) session is = refl
-plain_adds f (entry.Group def ∷ []) session is = refl
-plain_adds f (entry.Level c g l ∷ []) session is = refl
-plain_adds f (entry.Author m ∷ []) session is = refl
-plain_adds f _ session is = absurd is
-
 -- the session that begins is no other
 begins_adds : (f : Facts) (x : Session) (session : ℕ) → (x.number ≡ session → ⊥) → output_in f session (entry.Session x ∷ []) ≡ []
 begins_adds f x session other =
@@ -117,7 +102,7 @@ event_spares clients first e p q i t s o f =
     (λ (x : Event) (g : Facts). records_by p.facts (first + i) x ≡ []) (record {
       none = λ x none. none_by p.facts (first + i) x none;
       settles = λ b settling. settling_adds clients p.facts b (first + i) settling;
-      adds = λ b rests plain allowed. plain_adds p.facts b (first + i) plain;
+      adds = λ b rests plain allowed. (plain_adds p.facts b plain).puts (first + i);
       begins = λ x rests allowed.
           let may : MayBegin p.facts x = allowed.2 in
           let within : i < length p.links = get_within p.links i f.link f.there in
@@ -196,14 +181,14 @@ module _ (clients : Meaning) (first : ℕ) where
       elim (is_failure i (event_of a)) as (λ t. is_failure i (event_of a) ≡ t → IsFront (sent_by i a ++ q.owed i) (p.owed i ++ adds_to p.at.facts first (event_of a) i)) [
         | true ↦ λ is. failed a s is
         | false ↦ λ is.
-            subst (λ (l : List ℕ). IsFront (sent_by i a ++ q.owed i) l) (act_whole a p q i s is) (front_itself (sent_by i a ++ q.owed i))
+            front_same _ _ (sym (act_whole a p q i s is))
       ] refl
     where
       failed : (a : Act) → ActsOn p a q → is_failure i (event_of a) ≡ true
           → IsFront (sent_by i a ++ q.owed i) (p.owed i ++ adds_to p.at.facts first (event_of a) i)
       failed (Does e) s is =
-          subst (λ (l : List ℕ). IsFront (q.owed i) l) (s.2 i ∙ ap (λ (l : List ℕ). l ++ adds_to p.at.facts first e i) (sym (s.0 i)))
-          (front_itself (q.owed i))
+          front_same _ _
+          (ap (λ (l : List ℕ). l ++ adds_to p.at.facts first e i) (s.0 i) ∙ sym (s.2 i))
       failed (Send n bytes) s is = cc
       failed (Fail n bytes count) s is =
           let there : IsFront bytes (p.owed i) = subst (λ (k : ℕ). IsFront bytes (p.owed k)) (eqb-true n i is) s.0 in
@@ -213,7 +198,7 @@ module _ (clients : Meaning) (first : ℕ) where
           ∙ append-nil (take count bytes) in
           subst (λ (l : List ℕ). IsFront l (p.owed i ++ [])) (sym went)
           (subst (λ (l : List ℕ). IsFront (take count bytes) l) (sym (append-nil (p.owed i)))
-          (front_after (take count bytes) bytes (p.owed i) (front_take count bytes) there))
+          (front_then (take count bytes) bytes (p.owed i) (front_take count bytes) there))
 
 -- behind acts from a journal on: the journal, the place, and what was sent and is owed
 pub record HasSent (clients : Meaning) (first : ℕ) (j : List (List Entry)) (acts : List Act) (p : Owing Free) : Type 0 where
@@ -268,8 +253,7 @@ module _ (go_on : StreamsGoOn) (join : RecordsJoin) (clients : Meaning) (first :
             subst (λ (l : List ℕ). IsFront l (output (j ++ batches_in (acts ++ a ∷ [])) (first + i))) owed
             (subst (λ (l : List ℕ). IsFront (sends_on i acts ++ p.owed i) l) out (k.front i))
         | false ↦ λ well.
-            subst (λ (l : List ℕ). IsFront (sends_on i acts ++ (p.owed i ++ adds_to p.at.facts first e i)) l) (was_whole i well)
-            (front_itself (sends_on i acts ++ (p.owed i ++ adds_to p.at.facts first e i)))
+            front_same _ _ (sym (was_whole i well))
       ] in
       record {
         legal = subst (Legal clients) (sym is) (legal-append clients old new k.legal goes);
@@ -281,7 +265,7 @@ module _ (go_on : StreamsGoOn) (join : RecordsJoin) (clients : Meaning) (first :
             (fails_step clients first (events_of acts) p.at q.at e k.fails step);
         front = λ i.
             subst (λ (l : List ℕ). IsFront l (output (j ++ batches_in (acts ++ a ∷ [])) (first + i))) (sym (sends i))
-            (front_after (sends_on i acts ++ (sent_by i a ++ q.owed i))
+            (front_then (sends_on i acts ++ (sent_by i a ++ q.owed i))
             (sends_on i acts ++ (p.owed i ++ adds_to p.at.facts first e i)) (output (j ++ batches_in (acts ++ a ∷ [])) (first + i))
             (front_before (sent_by i a ++ q.owed i) (p.owed i ++ adds_to p.at.facts first e i) (sends_on i acts) (act_front clients first a p q i s))
             (was_front i (has_failure i (events_of acts)) refl));

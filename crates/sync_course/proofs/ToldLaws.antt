@@ -1,6 +1,7 @@
 -- What is told of events one behind the other, and of the events of single calls.
 use Rattle.std.proofs.Common.{◌≡◌, ◌⊎◌, ℕ, ◌≤◌, le_of_eq, Bool, true, false, ◌||◌, nat_eq, eqb-true, List, [], ◌∷◌, ◌++◌, length, take, append-nil, append_assoc, refl, sym, ◌∙◌, ap, subst, inl, inr, arith, Option, None, Some, Ok, Err}
 use Rattle.std.specs.Option.{option_map}
+use Rattle.std.proofs.Math.Bool.{or_assoc}
 use Rattle.std.proofs.lemmas.Bool.{cases_eq}
 use Rattle.outside.specs.declared.failed.Failed.{Failed}
 use Rattle.outside.specs.declared.host.Heard.{Heard}
@@ -32,15 +33,11 @@ heard_after-append : (es fs : List Event) (heard : List HeardOn) → heard_after
 heard_after-append [] fs heard = refl
 heard_after-append (e ∷ es) fs heard = heard_after-append es fs (heard_by e heard)
 
-or_append : (a b c : Bool) → (a || (b || c)) ≡ ((a || b) || c)
-or_append true b c = refl
-or_append false b c = refl
-
 pub has_failure-append : (link : ℕ) (es fs : List Event) → has_failure link (es ++ fs) ≡ (has_failure link es || has_failure link fs)
 has_failure-append link [] fs = refl
 has_failure-append link (e ∷ es) fs =
     ap (λ (b : Bool). is_failure link e || b) (has_failure-append link es fs)
-    ∙ or_append (is_failure link e) (has_failure link es) (has_failure link fs)
+    ∙ sym (or_assoc (is_failure link e) (has_failure link es) (has_failure link fs))
 
 -- ---- what is told grows
 
