@@ -9,8 +9,6 @@ use Rattle.sync_rules.specs.declared.entries.Session.{Session}
 use Rattle.sync_rules.specs.Clients.{Meaning}
 use Rattle.sync_rules.specs.Facts.{Facts, after_all, facts, takes_of}
 use Rattle.sync_rules.specs.Legal.{Legal}
-use Rattle.sync_rules.proofs.StepKinds.{takes_one}
-use Rattle.sync_rules.proofs.WorkLaws.{allowed_settling}
 use Rattle.sync_course.specs.declared.ends.LinkEnd.{LinkEnd}
 use Rattle.sync_course.specs.declared.ends.LinkEnd.TheVariants as end
 use Rattle.sync_course.specs.Events.{Event, batches_of}
@@ -22,29 +20,13 @@ use Rattle.sync_course.specs.Pending.{pending, pending_at}
 use Rattle.sync_course.specs.Turns.{Broken, Place, RunStep, Settles, Stage, Terms, first_place}
 use Rattle.sync_course.proofs.FreeLaws.{run_is_free}
 use Rattle.sync_course.specs.Suits.{IsCounted, keeps_all}
-use Rattle.sync_course.proofs.RunLaws.{counted_ends, counted_same, link_step_counted, IsOfJournal, Moves as MovesOn, moves_none, moves_one, moves_then, ended_keeps, journal_moves, new_counted, settled_begun, untaken}
-use Rattle.sync_course.proofs.FreeSteps.{Closed, Joined, Kept, LinkGoes, Stepped, free_batches, free_by_cases, free_link, pending_in, plain_adds}
+use Rattle.sync_course.proofs.RunLaws.{counted_ends, counted_same, link_step_counted, IsOfJournal, Moves as MovesOn, moves_none, moves_then, ended_keeps, journal_moves, new_counted, settled_begun, untaken}
+use Rattle.sync_course.proofs.FreeSteps.{step_adds, Closed, Joined, Kept, LinkGoes, Stepped, free_by_cases, free_link, pending_in, plain_adds}
 use Rattle.sync_course.proofs.ToldLaws.{batches_of-append}
 
 -- ---- the journal
 
 module _ (clients : Meaning) (first : ℕ) where
-  pub free_moves : (p q : Free) (e : Event) → FreeStep clients first p e q
-      → MovesOn clients (batches_of (e ∷ [])) p.facts q.facts
-  free_moves p q e t =
-      free_batches clients first p
-      (λ (x : Event) (g : Facts). MovesOn clients (batches_of (x ∷ [])) p.facts g) (record {
-        none = λ x none.
-            subst (λ (bs : List (List Entry)). MovesOn clients bs p.facts p.facts) (sym none)
-            (moves_none clients p.facts p.facts refl);
-        settles = λ b settling.
-            moves_one clients b p.facts _ (allowed_settling clients p.facts b settling) refl;
-        adds = λ b rests plain allowed. moves_one clients b p.facts _ allowed refl;
-        begins = λ x rests allowed. moves_one clients _ p.facts _ allowed refl;
-        takes = λ n place r its link holds at allowed. moves_one clients _ p.facts _ allowed refl;
-        puts = λ n now room what link holds at is_due allowed. moves_one clients _ p.facts _ allowed refl;
-      }) q e t
-
   -- the batches of a path may follow one behind the other
   pub free_path_moves : (p q : Free) (es : List Event) → Path (FreeStep clients first) p es q
       → MovesOn clients (batches_of es) p.facts q.facts
@@ -53,29 +35,12 @@ module _ (clients : Meaning) (first : ℕ) where
       subst (λ (bs : List (List Entry)). MovesOn clients bs p.facts q.facts)
       (sym (batches_of-append (e ∷ []) es))
       (moves_then clients (batches_of (e ∷ [])) (batches_of es) p.facts path.0.facts q.facts
-      (free_moves p path.0 e path.1) (free_path_moves path.0 q es path.2))
+      (step_adds clients first p path.0 e path.1).moves (free_path_moves path.0 q es path.2))
 
 pub run_moves : (clients : Meaning) (terms : Terms) (p q : Place) (es : List Event)
     → Path (RunStep clients terms) p es q → MovesOn clients (batches_of es) p.facts q.facts
 run_moves clients terms p q es path =
     free_path_moves clients terms.first (forget p) (forget q) es (run_is_free clients terms p q es path)
-
--- ---- how many sessions began
-
--- a session begins only where nothing is in hand
-pub none_begin : (clients : Meaning) (first : ℕ) (p q : Free) (e : Event)
-    → FreeStep clients first p e q → (p.hold ≡ Rests → ⊥) → q.facts.begun ≡ p.facts.begun
-none_begin clients first p q e t =
-    free_batches clients first p
-    (λ (x : Event) (g : Facts). (p.hold ≡ Rests → ⊥) → g.begun ≡ p.facts.begun) (record {
-      none = λ x none busy. refl;
-      settles = λ b settling busy. settled_begun clients p.facts b settling;
-      adds = λ b rests plain allowed busy. (plain_adds p.facts b plain).begun;
-      begins = λ x rests allowed busy. absurd (busy rests);
-      takes = λ n place r its link holds at allowed busy.
-          (takes_one clients p.facts (first + n) _ _ allowed).begun;
-      puts = λ n now room what link holds at is_due allowed busy. refl;
-    }) q e t
 
 -- ---- every place
 
@@ -159,7 +124,7 @@ module _ (clients : Meaning) (first : ℕ) where
             same (λ rests. let both : Holds n doing ≡ Rests = sym holds ∙ rests in cc)
             ∙ held (Holds n doing) holds
             ∙ ap (λ (k : ℕ). first + k) (sym (set_length p.links n spot.link));
-      }) q e t (none_begin clients first p q e t)
+      }) q e t (step_adds clients first p q e t).stays
 
 module _ (go_on : StreamsGoOn) (join : RecordsJoin) (clients : Meaning) (first : ℕ) where
   abbrev Sound : Free → Type 0
@@ -208,7 +173,7 @@ module _ (go_on : StreamsGoOn) (join : RecordsJoin) (clients : Meaning) (first :
   pub free_sound : (p q : Free) (e : Event) → FreeStep clients first p e q → Sound p → Sound q
   free_sound p q e t s = record {
     of_journal =
-        journal_moves clients (batches_of (e ∷ [])) p.facts q.facts (free_moves clients first p q e t)
+        journal_moves clients (batches_of (e ∷ [])) p.facts q.facts (step_adds clients first p q e t).moves
         s.of_journal;
     begun = free_begun clients first p q e t s.of_journal s.begun;
     counted = λ i link at. link_counted e p q i link s at (free_link clients first p q e i t);

@@ -12,6 +12,9 @@ use Rattle.sync_rules.specs.declared.entries.Session.{Session}
 use Rattle.sync_rules.specs.Clients.{Meaning}
 use Rattle.sync_rules.specs.Facts.{Facts, after_all, session_at, takes_of}
 use Rattle.sync_rules.specs.Growth.{output_in}
+use Rattle.sync_rules.proofs.StepKinds.{takes_one}
+use Rattle.sync_rules.proofs.StepLaws.{IsSettlingEntry, next_is_settling}
+use Rattle.sync_rules.proofs.WorkLaws.{allowed_settling}
 use Rattle.sync_rules.specs.Legal.{Allowed, IsDue, IsSettlingBatch}
 use Rattle.sync_course.specs.declared.TheConstants.{MAX_OUTPUTS}
 use Rattle.sync_course.specs.declared.ends.LinkEnd.{LinkEnd}
@@ -23,7 +26,7 @@ use Rattle.sync_course.specs.LinkTurns.{Asks, Takes, Waits, Sends, Done, Doing, 
 use Rattle.sync_course.specs.Pending.{pending}
 use Rattle.sync_course.specs.Redundant.{closed_as}
 use Rattle.sync_course.specs.Story.{begun_by}
-use Rattle.sync_course.proofs.RunLaws.{settled_takes, takes_other, beaten_going, cond_same, get_middle}
+use Rattle.sync_course.proofs.RunLaws.{settled_takes, takes_other, beaten_going, cond_same, get_middle, Moves, moves_none, moves_one, settled_begun}
 use Rattle.sync_course.proofs.LiftLaws.{get_other, get_set, get_within}
 use Rattle.sync_course.proofs.LinkSteps.{Spares, link_by_cases, link_spares}
 
@@ -189,24 +192,105 @@ apart : (first n i : ℕ) → (n ≡ i → ⊥) → first + i ≡ first + n → 
 apart first n i other same =
     other (let s : first + i ≡ first + n = same in let e : n ≡ i = omega (arith, s) in e)
 
--- what was taken on a link stays, unless it is the one that takes
-takes_stay : (clients : Meaning) (first : ℕ) (p q : Free) (e : Event) (i : ℕ)
-    → FreeStep clients first p e q → ((its : List Item) → p.hold ≡ Holds i (Takes its) → ⊥)
-    → takes_of q.facts.takes (first + i) ≡ takes_of p.facts.takes (first + i)
-takes_stay clients first p q e i t others =
-    free_batches clients first p
-    (λ (x : Event) (g : Facts). takes_of g.takes (first + i) ≡ takes_of p.facts.takes (first + i)) (record {
-      none = λ x none. refl;
-      settles = λ b settling. settled_takes clients p.facts b (first + i) settling;
-      adds = λ b rests plain allowed. (plain_adds p.facts b plain).takes (first + i);
-      begins = λ x rests allowed. refl;
-      takes = λ n place r its link holds at allowed.
-          takes_other clients p.facts (first + n) (first + i) r allowed
-          (apart first n i
-          (λ same. others (item.One place r ∷ its)
-          (subst (λ (k : ℕ). p.hold ≡ Holds k (Takes (item.One place r ∷ its))) same holds)));
-      puts = λ n now room what link holds at is_due allowed. refl;
-    }) q e t
+-- no session begins by settling, and no plain entry is among it
+pub record OnlySettles (b : List Entry) : Type 0 where
+  pub begins : begun_by (b ∷ []) ≡ []
+  pub plain : IsPlain b → ⊥
+
+pub settling_adds : (clients : Meaning) (f : Facts) (b : List Entry) → IsSettlingBatch clients f b
+    → OnlySettles b
+settling_adds clients f [] s = absurd (omega arith)
+settling_adds clients f (e ∷ es) s = by_entry e es (next_is_settling clients f e s.2.0)
+  where
+    by_entry : (e : Entry) (es : List Entry) → IsSettlingEntry e → OnlySettles (e ∷ es)
+    by_entry (entry.Judged id) es k = record { begins = refl; plain = λ plain. plain }
+    by_entry (entry.Deliver id) es k = record { begins = refl; plain = λ plain. plain }
+    by_entry (entry.Invalid id) es k = record { begins = refl; plain = λ plain. plain }
+    by_entry _ es k = absurd k
+
+-- What a step adds: its batch may follow; sessions begin by it, and no link that is in hand begins one or adds a plain entry; what was
+-- taken on a link stays, unless it is the one that takes.
+pub record StepAdds (clients : Meaning) (first : ℕ) (p : Free) (e : Event) (g : Facts) : Type 0 where
+  pub moves : Moves clients (batches_of (e ∷ [])) p.facts g
+  pub begun : g.begun ≡ p.facts.begun + length (begun_by (batches_of (e ∷ [])))
+  pub begins : (p.hold ≡ Rests → ⊥) → begun_by (batches_of (e ∷ [])) ≡ []
+  pub stays : (p.hold ≡ Rests → ⊥) → g.begun ≡ p.facts.begun
+  pub plain : (p.hold ≡ Rests → ⊥) → (b : List Entry) → e ≡ Commit b → IsPlain b → ⊥
+  pub takes : (i : ℕ) → ((its : List Item) → p.hold ≡ Holds i (Takes its) → ⊥)
+      → takes_of g.takes (first + i) ≡ takes_of p.facts.takes (first + i)
+
+none_begins : (bs : List (List Entry)) (f g : Facts) → begun_by bs ≡ [] → g.begun ≡ f.begun
+    → g.begun ≡ f.begun + length (begun_by bs)
+none_begins bs f g none same =
+    let more : length (begun_by bs) ≡ 0 = ap (λ (l : List Session). length l) none in
+    let is : g.begun ≡ f.begun = same in
+    omega (arith, more, is)
+
+module _ (clients : Meaning) (first : ℕ) (p : Free) where
+  -- a batch by which no session begins
+  adds_none : (b : List Entry) → Allowed clients p.facts b → begun_by (b ∷ []) ≡ []
+      → (after_all p.facts b).begun ≡ p.facts.begun → ((p.hold ≡ Rests → ⊥) → IsPlain b → ⊥)
+      → ((i : ℕ) → ((its : List Item) → p.hold ≡ Holds i (Takes its) → ⊥)
+      → takes_of (after_all p.facts b).takes (first + i) ≡ takes_of p.facts.takes (first + i))
+      → StepAdds clients first p (Commit b) (after_all p.facts b)
+  adds_none b allowed begins begun plain takes = record {
+    moves = moves_one clients b p.facts (after_all p.facts b) allowed refl;
+    begun = none_begins (b ∷ []) p.facts (after_all p.facts b) begins begun;
+    begins = λ busy. begins;
+    stays = λ busy. begun;
+    plain = λ busy c is c_plain.
+        let same : b ≡ c = cc in
+        plain busy (subst IsPlain (sym same) c_plain);
+    takes = takes;
+  }
+
+  adds_nothing : (e : Event) → batches_of (e ∷ []) ≡ [] → StepAdds clients first p e p.facts
+  adds_nothing e none = record {
+    moves =
+        subst (λ (bs : List (List Entry)). Moves clients bs p.facts p.facts) (sym none)
+        (moves_none clients p.facts p.facts refl);
+    begun = none_begins (batches_of (e ∷ [])) p.facts p.facts (ap begun_by none) refl;
+    begins = λ busy. ap begun_by none;
+    stays = λ busy. refl;
+    plain = λ busy b is plain.
+        let some : b ∷ [] ≡ [] = sym (ap (λ (x : Event). batches_of (x ∷ [])) is) ∙ none in
+        cc;
+    takes = λ i others. refl;
+  }
+
+  pub step_adds : (q : Free) (e : Event) → FreeStep clients first p e q → StepAdds clients first p e q.facts
+  step_adds q e t =
+      free_batches clients first p (λ (x : Event) (g : Facts). StepAdds clients first p x g) (record {
+        none = adds_nothing;
+        settles = λ b settling.
+            let only = settling_adds clients p.facts b settling in
+            adds_none b (allowed_settling clients p.facts b settling) only.begins
+            (settled_begun clients p.facts b settling) (λ busy. only.plain)
+            (λ i others. settled_takes clients p.facts b (first + i) settling);
+        adds = λ b rests plain allowed.
+            let only = plain_adds p.facts b plain in
+            adds_none b allowed only.begins only.begun (λ busy. absurd (busy rests))
+            (λ i others. only.takes (first + i));
+        begins = λ x rests allowed. record {
+          moves = moves_one clients (entry.Session x ∷ []) p.facts _ allowed refl;
+          begun = refl;
+          begins = λ busy. absurd (busy rests);
+          stays = λ busy. absurd (busy rests);
+          plain = λ busy. absurd (busy rests);
+          takes = λ i others. refl;
+        };
+        takes = λ n place r its link holds at allowed.
+            adds_none (next_take p.facts (first + n) r) allowed refl
+            (takes_one clients p.facts (first + n) _ _ allowed).begun (λ busy plain. plain)
+            (λ i others.
+            takes_other clients p.facts (first + n) (first + i) r allowed
+            (apart first n i
+            (λ same. others (item.One place r ∷ its)
+            (subst (λ (k : ℕ). p.hold ≡ Holds k (Takes (item.One place r ∷ its))) same holds))));
+        puts = λ n now room what link holds at is_due allowed.
+            adds_none (out_batch (first + n) now what) allowed refl refl (λ busy plain. plain)
+            (λ i others. refl);
+      }) q e t
 
 -- ---- what a step leaves of the link of a number
 
@@ -435,4 +519,4 @@ module _ (clients : Meaning) (first : ℕ) where
             (λ its held.
             let both : Holds n doing ≡ Holds i (Takes its) = sym holds ∙ held in
             other (let at : n ≡ i = cc in sym at)));
-      }) q e t (takes_stay clients first p q e i t)
+      }) q e t ((step_adds clients first p q e t).takes i)

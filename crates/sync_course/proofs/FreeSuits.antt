@@ -13,26 +13,23 @@ use Rattle.sync_rules.specs.declared.entries.Session.{Session}
 use Rattle.sync_rules.specs.Clients.{Meaning}
 use Rattle.sync_rules.specs.Facts.{Facts, after_all, after_batches, facts, takes_of}
 use Rattle.sync_rules.specs.Sessions.{taken}
-use Rattle.sync_rules.proofs.StepKinds.{takes_one}
 use Rattle.sync_rules.specs.Growth.{IsFront}
-use Rattle.sync_rules.specs.Legal.{IsSettlingBatch, Legal}
+use Rattle.sync_rules.specs.Legal.{Legal}
 use Rattle.sync_rules.proofs.Continuing.{front_itself, front_then}
-use Rattle.sync_rules.proofs.StepLaws.{IsSettlingEntry, next_is_settling}
 use Rattle.sync_course.specs.Acts.{Act, AtFront, Does, Send, Fail, batches_in, events_of, next_bytes, sends_on}
 use Rattle.sync_course.specs.Events.{Event, Commit, batches_of}
 use Rattle.sync_course.specs.Free.{Free, FreeStep, Hold, first_free}
 use Rattle.sync_course.specs.Links.{Link}
-use Rattle.sync_course.specs.LinkTurns.{next_take, out_batch}
 use Rattle.sync_course.specs.Owing.{Owing, paid}
 use Rattle.sync_course.specs.Paths.{Path}
 use Rattle.sync_course.specs.Story.{AllSuitNode, BeginsAsPlanned, FreeActs, MomentStands, begun_by, heard_at}
 use Rattle.sync_course.specs.Suits.{IsCounted, TakesHeard, heard_in}
 use Rattle.sync_course.proofs.ActLaws.{batches_in-append}
-use Rattle.sync_course.proofs.FreeSound.{IsBegunAt, IsFreeSound, first_free_sound, free_moves, free_sound}
-use Rattle.sync_course.proofs.FreeSteps.{free_batches, pending_in, plain_adds}
+use Rattle.sync_course.proofs.FreeSound.{IsBegunAt, IsFreeSound, first_free_sound, free_sound}
+use Rattle.sync_course.proofs.FreeSteps.{step_adds, free_batches, pending_in}
 use Rattle.sync_course.proofs.HeardLaws.{bytes_of, free_path_adds}
 use Rattle.sync_course.proofs.PathLaws.{path_parts}
-use Rattle.sync_course.proofs.RunLaws.{get_middle, settled_begun, get_front}
+use Rattle.sync_course.proofs.RunLaws.{get_middle, get_front}
 use Rattle.sync_course.proofs.SendLaws.{ActsOn, HasSent, acts_sent, events_path, front_before, front_of_none, output}
 use Rattle.sync_course.proofs.ToldLaws.{batches_of-append}
 use Rattle.record_grammar.specs.Stream.{records, records_of}
@@ -52,48 +49,6 @@ module _ (clients : Meaning) (first : ℕ) where
   free_heard p q e step = free_path_heard p q (e ∷ []) (q, step, refl)
 
 -- ---- which sessions began
-
-pub settling_begins : (clients : Meaning) (f : Facts) (b : List Entry) → IsSettlingBatch clients f b → begun_by (b ∷ []) ≡ []
-settling_begins clients f [] s = absurd (omega arith)
-settling_begins clients f (e ∷ es) s = none e es (next_is_settling clients f e s.2.0)
-  where
-    none : (e : Entry) (es : List Entry) → IsSettlingEntry e → begun_by ((e ∷ es) ∷ []) ≡ []
-    none (entry.Judged id) es k = refl
-    none (entry.Deliver id) es k = refl
-    none (entry.Invalid id) es k = refl
-    none _ es k = absurd k
-
--- the number of sessions grows by those that begin
-abbrev pub BegunGrows : Event → Free → Free → Type 0
-BegunGrows e p q = q.facts.begun ≡ p.facts.begun + length (begun_by (batches_of (e ∷ [])))
-
-none_begins : (bs : List (List Entry)) (f g : Facts) → begun_by bs ≡ [] → g.begun ≡ f.begun
-    → g.begun ≡ f.begun + length (begun_by bs)
-none_begins bs f g none same =
-    let more : length (begun_by bs) ≡ 0 = ap (λ (l : List Session). length l) none in
-    let is : g.begun ≡ f.begun = same in
-    omega (arith, more, is)
-
-pub free_begins : (clients : Meaning) (first : ℕ) (p q : Free) (e : Event)
-    → FreeStep clients first p e q → BegunGrows e p q
-free_begins clients first p q e t =
-    free_batches clients first p
-    (λ (x : Event) (g : Facts). g.begun ≡ p.facts.begun + length (begun_by (batches_of (x ∷ [])))) (record {
-      none = λ x none. none_begins (batches_of (x ∷ [])) p.facts p.facts (ap begun_by none) refl;
-      settles = λ b settling.
-          none_begins (b ∷ []) p.facts (after_all p.facts b) (settling_begins clients p.facts b settling)
-          (settled_begun clients p.facts b settling);
-      adds = λ b rests plain allowed.
-          none_begins (b ∷ []) p.facts (after_all p.facts b) (plain_adds p.facts b plain).begins (plain_adds p.facts b plain).begun;
-      begins = λ x rests allowed. refl;
-      takes = λ n place r its link holds at allowed.
-          none_begins (next_take p.facts (first + n) r ∷ []) p.facts
-          (after_all p.facts (next_take p.facts (first + n) r)) refl
-          (takes_one clients p.facts (first + n) _ _ allowed).begun;
-      puts = λ n now room what link holds at is_due allowed.
-          none_begins (out_batch (first + n) now what ∷ []) p.facts
-          (after_all p.facts (out_batch (first + n) now what)) refl refl;
-    }) q e t
 
 -- sessions of batches one behind the other
 pub begun_by-append : (bs cs : List (List Entry)) → begun_by (bs ++ cs) ≡ begun_by bs ++ begun_by cs
@@ -204,7 +159,7 @@ module _ (go_on : StreamsGoOn) (join : RecordsJoin) (fronts : FrontsHaveFronts) 
       ap (λ (y : Event). begun_by (done ++ batches_of (y ∷ es))) is ∙ begun_by-append done ((entry.Session x ∷ []) ∷ later) in
       subst (λ (l : List Session). slice_get l (length p.links) ≡ Some x) (sym list)
       (subst (λ (k : ℕ). slice_get (begun_by done ++ x ∷ begun_by later) k ≡ Some x) number (get_middle (begun_by done) (begun_by later) x)) in
-      let grown : next.facts.begun ≡ p.facts.begun + length (begun_by new) = free_begins clients first p next e path.1 in
+      let grown : next.facts.begun ≡ p.facts.begun + length (begun_by new) = (step_adds clients first p next e path.1).begun in
       let counts : next.facts.begun ≡ first + length (begun_by (done ++ new)) =
       let a : p.facts.begun ≡ first + length (begun_by done) = count in
       let b : length (begun_by (done ++ new)) ≡ length (begun_by done) + length (begun_by new) =
@@ -215,7 +170,7 @@ module _ (go_on : StreamsGoOn) (join : RecordsJoin) (fronts : FrontsHaveFronts) 
       let same_plans : begun_by ((done ++ new) ++ later) ≡ plans =
       ap begun_by (append_assoc done new later ∙ ap (λ (l : List (List Entry)). done ++ l) (sym parts)) in
       let behind : AllSuitNode clients first plans heard (after_batches p.facts new) later =
-      subst (λ (f : Facts). AllSuitNode clients first plans heard f later) (free_moves clients first p next e path.1).facts
+      subst (λ (f : Facts). AllSuitNode clients first plans heard f later) (step_adds clients first p next e path.1).moves.facts
       (subst (λ (l : List Session). AllSuitNode clients first l heard next.facts later) same_plans rest) in
       subst (AllSuitNode clients first plans heard p.facts) (sym parts)
       (suit_then fronts clients first plans heard p.facts new later

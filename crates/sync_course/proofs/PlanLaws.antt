@@ -12,7 +12,7 @@ use Rattle.sync_rules.specs.Legal.{IsSettlingBatch, Legal}
 use Rattle.sync_rules.proofs.Continuing.{front_itself}
 use Rattle.sync_rules.proofs.StepLaws.{next_is_settling, IsSettlingEntry}
 use Rattle.sync_course.specs.Events.{Event, Commit, Break, Pass, batches_of}
-use Rattle.sync_course.specs.Free.{Free, FreeStep, IsPlain, Rests, first_free, forget, hold_at}
+use Rattle.sync_course.specs.Free.{FreeStep, IsPlain, Rests, first_free, forget, hold_at}
 use Rattle.sync_course.specs.LinkTurns.{Asks}
 use Rattle.sync_course.specs.Paths.{Path}
 use Rattle.sync_course.specs.Story.{AllSuitNode, AllSuitPlanned, IsOfCourse, begun_by}
@@ -21,8 +21,8 @@ use Rattle.sync_rules.specs.Lists.{In}
 use Rattle.sync_course.specs.Turns.{Attaches, Between, Broken, Ended, Greets, Place, RunStep, Settles, Stage, Terms, Works, attached, first_place, turn_ended, unattached, with_spot}
 use Rattle.sync_course.proofs.FreeLaws.{run_is_free, step_is_free, run_by_cases, staged}
 use Rattle.sync_course.proofs.FreeSound.{IsFreeSound, first_free_sound}
-use Rattle.sync_course.proofs.FreeSuits.{begun_by-append, free_path_suits, settling_begins}
-use Rattle.sync_course.proofs.FreeSteps.{free_batches}
+use Rattle.sync_course.proofs.FreeSuits.{begun_by-append, free_path_suits}
+use Rattle.sync_course.proofs.FreeSteps.{settling_adds, step_adds}
 use Rattle.sync_course.proofs.PathLaws.{path_keeps}
 use Rattle.sync_course.proofs.RunLaws.{get_front}
 use Rattle.sync_course.proofs.ToldLaws.{batches_of-append}
@@ -37,40 +37,15 @@ none_plain_then : (bs cs : List (List Entry)) → NonePlain bs → NonePlain cs 
 none_plain_then [] cs a b = b
 none_plain_then (x ∷ bs) cs a b = (a.0, none_plain_then bs cs a.1 b)
 
-settling_not_plain : (clients : Meaning) (f : Facts) (b : List Entry) → IsSettlingBatch clients f b → IsPlain b → ⊥
-settling_not_plain clients f (entry.Contact c ∷ []) s is = absurd (next_is_settling clients f (entry.Contact c) s.2.0)
-settling_not_plain clients f (entry.Group def ∷ []) s is = absurd (next_is_settling clients f (entry.Group def) s.2.0)
-settling_not_plain clients f (entry.Level c g l ∷ []) s is = absurd (next_is_settling clients f (entry.Level c g l) s.2.0)
-settling_not_plain clients f (entry.Author m ∷ []) s is = absurd (next_is_settling clients f (entry.Author m) s.2.0)
-settling_not_plain clients f _ s is = absurd is
+none_plain_by : (e : Event) → ((b : List Entry) → e ≡ Commit b → IsPlain b → ⊥)
+    → NonePlain (batches_of (e ∷ []))
+none_plain_by (Commit b) never = (never b refl, tt)
+none_plain_by _ never = tt
 
 -- what a link adds is no plain entry, and no session begins by it
-pub record AddsOfLink (bs : List (List Entry)) : Type 0 where
-  pub none_plain : NonePlain bs
-  pub none_begins : begun_by bs ≡ []
-
-link_adds : (clients : Meaning) (first : ℕ) (p q : Free) (e : Event) → FreeStep clients first p e q
-    → (p.hold ≡ Rests → ⊥) → AddsOfLink (batches_of (e ∷ []))
-link_adds clients first p q e t =
-    free_batches clients first p
-    (λ (x : Event) (g : Facts). (p.hold ≡ Rests → ⊥) → AddsOfLink (batches_of (x ∷ []))) (record {
-      none = λ x none busy.
-          subst AddsOfLink (sym none) (record { none_plain = tt; none_begins = refl });
-      settles = λ b settling busy. record {
-        none_plain = (settling_not_plain clients p.facts b settling, tt);
-        none_begins = settling_begins clients p.facts b settling;
-      };
-      adds = λ b rests plain allowed busy. absurd (busy rests);
-      begins = λ x rests allowed busy. absurd (busy rests);
-      takes = λ n place r its link holds at allowed busy. record {
-        none_plain = (λ plain. plain, tt);
-        none_begins = refl;
-      };
-      puts = λ n now room what link holds at is_due allowed busy. record {
-        none_plain = (λ plain. plain, tt);
-        none_begins = refl;
-      };
-    }) q e t
+pub record AddsOfLink (e : Event) : Type 0 where
+  pub none_plain : NonePlain (batches_of (e ∷ []))
+  pub none_begins : begun_by (batches_of (e ∷ [])) ≡ []
 
 -- ---- the sessions that began are the first of those given
 
@@ -108,11 +83,12 @@ module _ (clients : Meaning) (terms : Terms) (sessions : List Session) where
   step_plans done p q e t =
       run_by_cases clients terms p
       (λ (stage : Stage) (x : Event) (r : Place).
-      ((hold_at stage ≡ Rests → ⊥) → AddsOfLink (batches_of (x ∷ [])))
+      ((hold_at stage ≡ Rests → ⊥) → AddsOfLink x)
       → BegunFirst sessions done stage → StepPlans done x r) (record {
         settles = λ left b settling link begun.
+            let only = settling_adds clients p.facts b settling in
             plans_same done (Commit b) (record (staged (Settles left) p) { facts = after_all p.facts b })
-            (settling_not_plain clients p.facts b settling, tt) (settling_begins clients p.facts b settling) begun;
+            (only.plain, tt) only.begins begun;
         settled = λ left settled link begun. plans_same done Pass (staged (Attaches left) p) tt refl begun;
         begins = λ x left allowed link begun. record {
           none_plain = (λ plain. plain, tt);
@@ -134,7 +110,9 @@ module _ (clients : Meaning) (terms : Terms) (sessions : List Session) where
         goes_on = λ n link at adds begun. plans_same done Pass (staged (Works (suc n) Asks) p) tt refl begun;
         turn_ends = λ n none link begun. plans_same done Pass (turn_ended p) tt refl begun;
       }) q e t
-      (link_adds clients terms.first (forget p) (forget q) e (step_is_free clients terms p q e t))
+      (λ busy.
+      let adds = step_adds clients terms.first (forget p) (forget q) e (step_is_free clients terms p q e t) in
+      record { none_plain = none_plain_by e (adds.plain busy); none_begins = adds.begins busy })
 
   -- what every place of a run keeps
   pub record KeepsPlans (before : List Event) (p : Place) : Type 0 where

@@ -31,8 +31,8 @@ use Rattle.sync_course.specs.Paths.{Path}
 use Rattle.sync_course.specs.Story.{AllIsSent, FreeActs, LinkFailed}
 use Rattle.sync_course.proofs.ActLaws.{batches_in-append, events_of-append, sends_on-append}
 use Rattle.sync_course.proofs.FailLaws.{FailsJust, HoldsOpen, fails_step, first_fails, path_fails, push_failure}
-use Rattle.sync_course.proofs.FreeSound.{IsBegunAt, IsFreeSound, first_free_sound, free_moves, free_path_sound, free_sound, get_same}
-use Rattle.sync_course.proofs.FreeSteps.{free_batches, plain_adds}
+use Rattle.sync_course.proofs.FreeSound.{IsBegunAt, IsFreeSound, first_free_sound, free_path_sound, free_sound, get_same}
+use Rattle.sync_course.proofs.FreeSteps.{step_adds, free_batches, plain_adds}
 use Rattle.sync_course.proofs.LiftLaws.{get_within}
 use Rattle.sync_course.proofs.PathLaws.{path_keeps}
 
@@ -72,8 +72,8 @@ event_adds clients first j _ link legal goes = none_added first j link
 
 -- ---- nothing is committed for a link that failed
 
-settling_adds : (clients : Meaning) (f : Facts) (b : List Entry) (session : ℕ) → IsSettlingBatch clients f b → output_in f session b ≡ []
-settling_adds clients f b session s = silent_adds_nothing f session b (settling_silent clients f b s.2)
+settling_silent_adds : (clients : Meaning) (f : Facts) (b : List Entry) (session : ℕ) → IsSettlingBatch clients f b → output_in f session b ≡ []
+settling_silent_adds clients f b session s = silent_adds_nothing f session b (settling_silent clients f b s.2)
 
 -- the session that begins is no other
 begins_adds : (f : Facts) (x : Session) (session : ℕ) → (x.number ≡ session → ⊥) → output_in f session (entry.Session x ∷ []) ≡ []
@@ -101,7 +101,7 @@ event_spares clients first e p q i t s o f =
     free_batches clients first p
     (λ (x : Event) (g : Facts). records_by p.facts (first + i) x ≡ []) (record {
       none = λ x none. none_by p.facts (first + i) x none;
-      settles = λ b settling. settling_adds clients p.facts b (first + i) settling;
+      settles = λ b settling. settling_silent_adds clients p.facts b (first + i) settling;
       adds = λ b rests plain allowed. (plain_adds p.facts b plain).puts (first + i);
       begins = λ x rests allowed.
           let may : MayBegin p.facts x = allowed.2 in
@@ -218,7 +218,7 @@ module _ (go_on : StreamsGoOn) (join : RecordsJoin) (clients : Meaning) (first :
       let old : List (List Entry) = j ++ batches_in acts in
       let new : List (List Entry) = batches_of (e ∷ []) in
       let step : FreeStep clients first p.at e q.at = under clients first a p q s in
-      let m = free_moves clients first p.at q.at e step in
+      let m = (step_adds clients first p.at q.at e step).moves in
       let goes : GoesOn clients (facts old) new = subst (λ (f : Facts). GoesOn clients f new) (sym k.same) m.goes_on in
       let is : j ++ batches_in (acts ++ a ∷ []) ≡ old ++ new =
       ap (λ (l : List (List Entry)). j ++ l) (batches_in-append acts (a ∷ [])) ∙ sym (append_assoc j (batches_in acts) new) in
