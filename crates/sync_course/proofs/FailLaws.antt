@@ -1,5 +1,8 @@
--- A link on which a call failed stands Failed from then on, and no other link does; nothing is committed for one.
-use Rattle.std.proofs.Common.{◌≡◌, ◌⊎◌, ℕ, ◌+◌, Bool, true, false, cond, ◌||◌, nat_eq, eq-eqb, List, [], ◌∷◌, ◌++◌, refl, sym, ◌∙◌, ap, subst, inl, inr, Option, None, Some}
+-- A link on which a call failed stands Failed from then on, and no other link does; nothing is
+-- committed for one.
+use Rattle.std.proofs.Common.{◌≡◌, ◌⊎◌, ℕ, ◌+◌, Bool, true, false, cond, ◌||◌, nat_eq, eq-eqb, List}
+use Rattle.std.proofs.Common.{[], ◌∷◌, ◌++◌, refl, sym, ◌∙◌, ap, subst, inl, inr, Option, None}
+use Rattle.std.proofs.Common.{Some}
 use Rattle.std.specs.Prelude.{slice_get}
 use Rattle.std.proofs.Math.Bool.{or-false}
 use Rattle.std.proofs.lemmas.Bool.{ne_eqb, or_cases, or_left, or_right}
@@ -14,14 +17,19 @@ use Rattle.sync_rules.specs.Facts.{Facts}
 use Rattle.sync_course.specs.declared.TheConstants.{MAX_OUTPUTS}
 use Rattle.sync_course.specs.declared.ends.LinkEnd.{LinkEnd}
 use Rattle.sync_course.specs.declared.ends.LinkEnd.TheVariants as end
-use Rattle.sync_course.specs.Events.{Event, Commit, Hear, Miss, Read, Break, Pass, has_failure, is_failure}
-use Rattle.sync_course.specs.Free.{Begins, Free, FreeStep, Hold, Holds, IsNothingUnderWay, Rests, first_free, spot_in}
-use Rattle.sync_course.specs.Links.{Link, closes, is_going, is_sent_to, new_items, stands_behind, stands_ended}
-use Rattle.sync_course.specs.LinkTurns.{Asks, Takes, Waits, Sends, Puts, Done, Doing, LinkStep, Spot, out_batch}
+use Rattle.sync_course.specs.Events.{Event, Commit, Hear, Miss, Read, Break, Pass, has_failure}
+use Rattle.sync_course.specs.Events.{is_failure}
+use Rattle.sync_course.specs.Free.{Begins, Free, FreeStep, Hold, Holds, IsNothingUnderWay, Rests}
+use Rattle.sync_course.specs.Free.{first_free, spot_in}
+use Rattle.sync_course.specs.Links.{Link, closes, is_going, is_sent_to, new_items, stands_behind}
+use Rattle.sync_course.specs.Links.{stands_ended}
+use Rattle.sync_course.specs.LinkTurns.{Asks, Takes, Waits, Sends, Puts, Done, Doing, LinkStep}
+use Rattle.sync_course.specs.LinkTurns.{Spot, out_batch}
 use Rattle.sync_course.specs.Paths.{Path}
 use Rattle.sync_course.specs.Story.{LinkFailed}
 use Rattle.sync_course.proofs.FreeSound.{get_same}
-use Rattle.sync_course.proofs.FreeSteps.{Closed, Joined, Kept, LinkGoes, Stepped, free_by_cases, free_link}
+use Rattle.sync_course.proofs.FreeSteps.{Closed, Joined, Kept, LinkGoes, Stepped, free_by_cases}
+use Rattle.sync_course.proofs.FreeSteps.{free_link}
 use Rattle.sync_course.proofs.LinkSteps.{Spares, link_by_cases}
 use Rattle.sync_course.proofs.LiftLaws.{get_past, get_set, get_within}
 use Rattle.sync_course.proofs.PathLaws.{path_keeps}
@@ -44,8 +52,8 @@ abbrev pub is_failed : LinkEnd → Bool
 is_failed end.Failed = true
 is_failed _ = false
 
--- an event of the link of this number, how it stands before and behind it, and what it does then: it stands Failed where it did or a
--- call of it failed
+-- an event of the link of this number, how it stands before and behind it, and what it does then:
+-- it stands Failed where it did or a call of it failed
 pub record StepFails (n : ℕ) (e : Event) (old new : LinkEnd) (doing : Doing) : Type 0 where
   pub failed : is_failed new ≡ (is_failed old || is_failure n e)
   pub opens : DoesOpen doing new
@@ -63,7 +71,8 @@ ended_well ending_kind.Clean = refl
 ended_well (ending_kind.Inside place) = refl
 ended_well (ending_kind.Bad place why) = refl
 
-behind_same : (stands : LinkEnd) (e : Ending) → is_failed (stands_behind stands e) ≡ is_failed stands
+behind_same : (stands : LinkEnd) (e : Ending)
+    → is_failed (stands_behind stands e) ≡ is_failed stands
 behind_same end.Going ending_kind.Clean = refl
 behind_same end.Going (ending_kind.Inside place) = refl
 behind_same end.Going (ending_kind.Bad place why) = refl
@@ -84,10 +93,12 @@ module _ (n : ℕ) (old : LinkEnd) where
   fails e is = record { failed = sym (or_right (is_failed old) (is_failure n e) is); opens = tt }
 
   taken : (place : ℕ) (its : List Item) (b : List Entry) (closing : Bool) → is_going old ≡ true
-      → StepFails n (Commit b) old (cond closing (end.NoVersion place) old) (Takes (cond closing [] its))
+      → StepFails n (Commit b) old (cond closing (end.NoVersion place) old)
+      (Takes (cond closing [] its))
   taken place its b true going =
       well (Commit b) (Takes []) (end.NoVersion place) refl (sym (going_well old going)) tt
-  taken place its b false going = well (Commit b) (Takes its) old refl refl (going_opens its old going)
+  taken place its b false going =
+      well (Commit b) (Takes its) old refl refl (going_opens its old going)
 
 pub link_step_fails : (clients : Meaning) (n session : ℕ) (p q : Spot) (e : Event)
     → LinkStep clients n session p e q → DoesOpen p.doing p.link.stands
@@ -114,7 +125,8 @@ link_step_fails clients n session p q e s =
       all_taken = λ settled o.
           well n old Pass Waits (stands_behind old (ending 0 p.link.heard)) refl
           (behind_same old (ending 0 p.link.heard)) tt;
-      reads = λ now is_open o. well n old (Read n now) (Sends now MAX_OUTPUTS) old refl refl is_open;
+      reads =
+          λ now is_open o. well n old (Read n now) (Sends now MAX_OUTPUTS) old refl refl is_open;
       closed = λ is o. well n old Pass Done old refl refl tt;
       puts = λ now room what is_due allowed o.
           well n old (Commit (out_batch session now what)) (Puts now room) old refl refl o;
@@ -133,7 +145,8 @@ pub record LinksFail (e : Event) (old new : List Link) : Type 0 where
 
 -- the link in hand
 abbrev pub HoldsOpen : Hold → List Link → Type 0
-HoldsOpen (Holds n doing) links = (link : Link) → slice_get links n ≡ Some link → DoesOpen doing link.stands
+HoldsOpen (Holds n doing) links =
+    (link : Link) → slice_get links n ≡ Some link → DoesOpen doing link.stands
 HoldsOpen _ links = Unit {0}
 
 idle_opens : (hold : Hold) (links : List Link) → IsNothingUnderWay hold → HoldsOpen hold links
@@ -180,7 +193,8 @@ closed_same true stands going = sym (going_well stands (going refl))
 closed_same false stands going = refl
 
 module _ (clients : Meaning) (first : ℕ) where
-  spared_same : (e : Event) (p q : Free) (i : ℕ) → Spares i e → failed_at q.links i ≡ failed_at p.links i
+  spared_same : (e : Event) (p q : Free) (i : ℕ) → Spares i e
+      → failed_at q.links i ≡ failed_at p.links i
       → failed_at q.links i ≡ (failed_at p.links i || is_failure i e)
   spared_same e p q i spares same =
       same
@@ -188,7 +202,8 @@ module _ (clients : Meaning) (first : ℕ) where
       ∙ ap (λ (b : Bool). failed_at p.links i || b) (sym (spared_well i e spares))
 
   -- a link stands Failed behind a step where it did before it, or a call of it failed
-  goes_fail : (e : Event) (p q : Free) (i : ℕ) → LinkGoes clients first e p q i → HoldsOpen p.hold p.links
+  goes_fail : (e : Event) (p q : Free) (i : ℕ) → LinkGoes clients first e p q i
+      → HoldsOpen p.hold p.links
       → failed_at q.links i ≡ (failed_at p.links i || is_failure i e)
   goes_fail e p q i (Kept k) o = spared_same e p q i k.spares (ap is_failed_in k.same)
   goes_fail e p q i (Closed c) o =
@@ -209,7 +224,8 @@ module _ (clients : Meaning) (first : ℕ) where
       let fails =
       link_step_fails clients i (first + i) (spot_in t.doing t.link t.moved p) t.spot e t.steps
       (subst (λ (h : Hold). HoldsOpen h p.links) t.held o t.link t.at) in
-      ap is_failed_in t.now ∙ fails.failed ∙ ap (λ (x : Option Link). is_failed_in x || is_failure i e) (sym t.at)
+      ap is_failed_in t.now ∙ fails.failed
+      ∙ ap (λ (x : Option Link). is_failed_in x || is_failure i e) (sym t.at)
 
   abbrev Opens : Free → Type 0
   Opens p = HoldsOpen p.hold p.links
@@ -232,10 +248,12 @@ module _ (clients : Meaning) (first : ℕ) where
             subst (λ (h : Hold). HoldsOpen h p.links) holds o link there in
             subst (λ (l : Link). DoesOpen spot.doing l.stands)
             (get_same (get_set p.links n spot.link (get_within p.links n link there)) at)
-            (link_step_fails clients n (first + n) (spot_in doing link moved p) spot x steps opens).opens;
+            (link_step_fails clients n (first + n) (spot_in doing link moved p) spot x steps
+            opens).opens;
       }) q e t
 
-  pub free_fails : (p q : Free) (e : Event) → FreeStep clients first p e q → HoldsOpen p.hold p.links
+  pub free_fails : (p q : Free) (e : Event) → FreeStep clients first p e q
+      → HoldsOpen p.hold p.links
       → StepFailsAll e p q
   free_fails p q e t o =
       let so : (i : ℕ) → failed_at q.links i ≡ (failed_at p.links i || is_failure i e) =
@@ -263,17 +281,21 @@ module _ (clients : Meaning) (first : ℕ) where
     pub cause : (i : ℕ) → LinkFailed p.links i → has_failure i before ≡ true
     pub opens : HoldsOpen p.hold p.links
 
-  pub push_failure : (i : ℕ) (before : List Event) (e : Event) → has_failure i (before ++ e ∷ []) ≡ (has_failure i before || is_failure i e)
+  pub push_failure : (i : ℕ) (before : List Event) (e : Event) → has_failure i
+      (before ++ e ∷ []) ≡ (has_failure i before || is_failure i e)
   push_failure i before e =
-      has_failure-append i before (e ∷ []) ∙ ap (λ (b : Bool). has_failure i before || b) (or-false (is_failure i e))
+      has_failure-append i before (e ∷ [])
+      ∙ ap (λ (b : Bool). has_failure i before || b) (or-false (is_failure i e))
 
-  pub fails_step : (before : List Event) (p q : Free) (e : Event) → FailsJust before p → FreeStep clients first p e q
+  pub fails_step : (before : List Event) (p q : Free) (e : Event) → FailsJust before p
+      → FreeStep clients first p e q
       → FailsJust (before ++ e ∷ []) q
   fails_step before p q e k t =
       let fails = free_fails p q e t k.opens in
       record {
         stays = λ i is.
-            elim (or_cases (has_failure i before) (is_failure i e) (sym (push_failure i before e) ∙ is)) [
+            elim (or_cases (has_failure i before) (is_failure i e) (sym (push_failure i before e)
+            ∙ is)) [
               | inl old ↦ fails.by.stays i (k.stays i old)
               | inr new ↦ fails.by.fails i new
             ];
@@ -287,10 +309,14 @@ module _ (clients : Meaning) (first : ℕ) where
       }
 
   pub first_fails : (f : Facts) → FailsJust [] (first_free f)
-  first_fails f = record { stays = λ i is. cc; cause = λ i failed. none i failed.link failed.there; opens = tt }
+  first_fails f =
+      record { stays = λ i is. cc; cause = λ i failed. none i failed.link failed.there; opens = tt }
     where
       none : {A : Type 0} → (i : ℕ) (link : Link) → slice_get (first_free f).links i ≡ Some link → A
       none i link at = cc
 
-  pub path_fails : (f : Facts) (q : Free) (es : List Event) → Path (FreeStep clients first) (first_free f) es q → FailsJust es q
-  path_fails f q es path = path_keeps (FreeStep clients first) FailsJust fails_step [] es (first_free f) q (first_fails f) path
+  pub path_fails : (f : Facts) (q : Free) (es : List Event) → Path (FreeStep clients first)
+      (first_free f) es q → FailsJust es q
+  path_fails f q es path =
+      path_keeps (FreeStep clients first) FailsJust fails_step [] es (first_free f) q
+      (first_fails f) path

@@ -1,13 +1,18 @@
--- The steps of a run, case by case, what a property of them owes in each; and that each is one of the machine without the order.
-use Rattle.std.proofs.Common.{◌≡◌, ℕ, suc, false, List, [], refl, inl, inr, ◌+◌, Bool, true, cond, ◌∷◌, length, sym, subst, Option, None, Some}
+-- The steps of a run, case by case, what a property of them owes in each; and that each is one of
+-- the machine without the order.
+use Rattle.std.proofs.Common.{◌≡◌, ℕ, suc, false, List, [], refl, inl, inr, ◌+◌, Bool, true, cond}
+use Rattle.std.proofs.Common.{◌∷◌, length, sym, subst, Option, None, Some}
 use Rattle.sync_rules.specs.Clients.{Meaning}
 use Rattle.sync_course.specs.Acts.{Act}
 use Rattle.sync_course.specs.Events.{Event, Pass, Commit, Break}
-use Rattle.sync_course.specs.Free.{Free, FreeFrom, FreeStep, HoldStep, Holds, IsNothingUnderWay, forget, hold_at, owing_free}
+use Rattle.sync_course.specs.Free.{Free, FreeFrom, FreeStep, HoldStep, Holds, IsNothingUnderWay}
+use Rattle.sync_course.specs.Free.{forget, hold_at, owing_free}
 use Rattle.sync_course.specs.LinkTurns.{Asks, Done, Doing, LinkStep, Spot}
 use Rattle.sync_course.specs.Owing.{ActStep, Owing}
 use Rattle.sync_course.specs.Paths.{Path}
-use Rattle.sync_course.specs.Turns.{Attaches, Between, Ended, Place, RunStep, Settles, Stage, Terms, Works, with_spot, EndsTurn, GoesToNext, Greets, StageStep, TurnStep, attached, is_at_end, spot_of, turn_ended, unattached}
+use Rattle.sync_course.specs.Turns.{Attaches, Between, Ended, Place, RunStep, Settles, Stage, Terms}
+use Rattle.sync_course.specs.Turns.{Works, with_spot, EndsTurn, GoesToNext, Greets, StageStep}
+use Rattle.sync_course.specs.Turns.{TurnStep, attached, is_at_end, spot_of, turn_ended, unattached}
 use Rattle.sync_course.proofs.ActLaws.{acts_map}
 use Rattle.sync_course.proofs.PathLaws.{path_maps}
 use Rattle.std.specs.Prelude.{slice_get}
@@ -27,10 +32,13 @@ module _ (clients : Meaning) (terms : Terms) (p : Place) (T : Stage → Event �
   -- a property of the stage, the event, and the place behind it, for each step of a run
   pub record RunCases : Type 0 where
     pub settles : (left : List Session) (b : List Entry) → IsSettlingBatch clients p.facts b
-        → T (Settles left) (Commit b) (record (staged (Settles left) p) { facts = after_all p.facts b })
+        → T (Settles left) (Commit b) (record (staged (Settles left) p) {
+          facts = after_all p.facts b;
+        })
     pub settled : (left : List Session) → IsSettled clients p.facts
         → T (Settles left) Pass (staged (Attaches left) p)
-    pub begins : (x : Session) (left : List Session) → Allowed clients p.facts (entry.Session x ∷ [])
+    pub begins : (x : Session) (left : List Session) → Allowed clients p.facts
+        (entry.Session x ∷ [])
         → T (Attaches (x ∷ left)) (Commit (entry.Session x ∷ []))
         (record (staged (Greets x left) p) { facts = after_all p.facts (entry.Session x ∷ []) })
     pub greets : (x : Session) (left : List Session) → T (Greets x left) Pass (attached x left p)
@@ -64,7 +72,8 @@ module _ (clients : Meaning) (terms : Terms) (p : Place) (T : Stage → Event �
         to (Works n Done) Pass q (staged (Works (suc n) Asks) p) t (cases.goes_on n link at)
     by_next n _ link _ q at t = absurd t
 
-    by_turn : (n : ℕ) (doing : Doing) (o : Option Link) (e : Event) (q : Place) → slice_get p.links n ≡ o
+    by_turn : (n : ℕ) (doing : Doing) (o : Option Link) (e : Event) (q : Place)
+        → slice_get p.links n ≡ o
         → TurnStep clients terms n doing o e (staged (Works n doing) p) q → T (Works n doing) e q
     by_turn n doing None e q at t = by_end n doing e q at t
     by_turn n doing (Some link) e q at t =
@@ -97,7 +106,8 @@ module _ (clients : Meaning) (terms : Terms) (p : Place) (T : Stage → Event �
         to (Greets x left) Pass q (attached x left p) t (cases.greets x left)
     by_stage (Greets x left) (Break on) q t =
         subst (λ (k : ℕ). T (Greets x left) (Break k) q) (sym t.0)
-        (to (Greets x left) (Break (length p.links)) q (unattached x left p) t.1 (cases.breaks x left))
+        (to (Greets x left) (Break (length p.links)) q (unattached x left p) t.1
+        (cases.breaks x left))
     by_stage Between Pass q t = by_end_test q (is_at_end terms p) refl t
     by_stage (Works n doing) e q t = by_turn n doing (slice_get p.links n) e q refl t
     by_stage _ _ q t = absurd t
@@ -108,12 +118,14 @@ module _ (clients : Meaning) (terms : Terms) (p : Place) (T : Stage → Event �
 module _ (clients : Meaning) (terms : Terms) where
   -- nothing that is told of: this is taken in hand next
   takes_up : (p q : Place) (stage : Stage) → IsNothingUnderWay (hold_at stage)
-      → IsNothingUnderWay (hold_at q.stage) → forget q ≡ record (forget p) { hold = hold_at q.stage }
+      → IsNothingUnderWay (hold_at q.stage)
+      → forget q ≡ record (forget p) { hold = hold_at q.stage }
       → FreeFrom clients terms.first (hold_at stage) Pass (forget p) (forget q)
   takes_up p q stage calm then leads =
       inr (inl (calm, inl (record { hold = hold_at q.stage; idle = then; leads = leads })))
 
-  by_link : (n : ℕ) (doing : Doing) (e : Event) (p q : Free) → HoldStep clients terms.first (Holds n doing) e p q
+  by_link : (n : ℕ) (doing : Doing) (e : Event) (p q : Free) → HoldStep clients terms.first
+      (Holds n doing) e p q
       → FreeFrom clients terms.first (Holds n doing) e p q
   by_link n doing Pass p q s = inr (inr s)
   by_link n doing _ p q s = s
@@ -123,19 +135,23 @@ module _ (clients : Meaning) (terms : Terms) where
   step_is_free p q e t =
       run_by_cases clients terms p
       (λ (stage : Stage) (x : Event) (r : Place).
-      FreeFrom clients terms.first (hold_at stage) x (record (forget p) { hold = hold_at stage }) (forget r)) (record {
+      FreeFrom clients terms.first (hold_at stage) x (record (forget p) { hold = hold_at stage })
+      (forget r)) (record {
         settles = λ left b settling. inl (inl settling, refl);
         settled = λ left settled.
             takes_up (staged (Settles left) p) (staged (Attaches left) p) (Settles left) tt tt refl;
-        begins = λ x left allowed. inr (record { session = x; is = refl; allowed = allowed; leads = refl });
+        begins = λ x left allowed.
+            inr (record { session = x; is = refl; allowed = allowed; leads = refl });
         greets = λ x left. inr (inr refl);
         breaks = λ x left. (refl, refl);
         all_begun = takes_up (staged (Attaches []) p) (staged Between p) (Attaches []) tt tt refl;
         ends = λ over. takes_up (staged Between p) (staged Ended p) Between tt tt refl;
         turns = λ on.
-            takes_up (staged Between p) (record (staged (Works 0 Asks) p) { moved = false }) Between tt tt refl;
+            takes_up (staged Between p) (record (staged (Works 0 Asks) p) { moved = false }) Between
+            tt tt refl;
         works = λ n doing link x spot at steps.
-            by_link n doing x (record (forget p) { hold = Holds n doing }) (forget (with_spot n spot p)) (record {
+            by_link n doing x (record (forget p) { hold = Holds n doing })
+            (forget (with_spot n spot p)) (record {
               link = link;
               there = at;
               moved = p.moved;
@@ -144,17 +160,22 @@ module _ (clients : Meaning) (terms : Terms) where
               leads = refl;
             });
         goes_on = λ n link at.
-            takes_up (staged (Works n Done) p) (staged (Works (suc n) Asks) p) (Works n Done) tt tt refl;
+            takes_up (staged (Works n Done) p) (staged (Works (suc n) Asks) p) (Works n Done) tt tt
+            refl;
         turn_ends = λ n none. inr (inl (tt, inr (inr refl)));
       }) q e t
 
   pub run_is_free : (p q : Place) (es : List Event) → Path (RunStep clients terms) p es q
       → Path (FreeStep clients terms.first) (forget p) es (forget q)
-  run_is_free p q es path = path_maps (RunStep clients terms) (FreeStep clients terms.first) forget step_is_free p q es path
+  run_is_free p q es path =
+      path_maps (RunStep clients terms) (FreeStep clients terms.first) forget step_is_free p q es
+      path
 
   pub run_acts_are_free : (p q : Owing Place) (acts : List Act)
       → Path (ActStep (λ (x : Place). x.facts) terms.first (RunStep clients terms)) p acts q
-      → Path (ActStep (λ (x : Free). x.facts) terms.first (FreeStep clients terms.first)) (owing_free p) acts (owing_free q)
+      → Path (ActStep (λ (x : Free). x.facts) terms.first (FreeStep clients terms.first))
+      (owing_free p) acts (owing_free q)
   run_acts_are_free p q acts path =
-      acts_map (λ (x : Place). x.facts) (λ (x : Free). x.facts) terms.first (RunStep clients terms) (FreeStep clients terms.first) forget
+      acts_map (λ (x : Place). x.facts) (λ (x : Free). x.facts) terms.first (RunStep clients terms)
+      (FreeStep clients terms.first) forget
       (λ x. refl) step_is_free p q acts path

@@ -1,5 +1,8 @@
--- The steps of a node, case by case; what each adds to the journal, and what it leaves of the link of a number.
-use Rattle.std.proofs.Common.{◌≡◌, ◌⊎◌, ℕ, zero, suc, ◌+◌, Bool, true, false, cond, nat_eq, List, [], ◌∷◌, ◌++◌, length, refl, sym, ◌∙◌, ap, subst, inl, inr, arith, Option, None, Some}
+-- The steps of a node, case by case; what each adds to the journal, and what it leaves of the link
+-- of a number.
+use Rattle.std.proofs.Common.{◌≡◌, ◌⊎◌, ℕ, zero, suc, ◌+◌, Bool, true, false, cond, nat_eq, List}
+use Rattle.std.proofs.Common.{[], ◌∷◌, ◌++◌, length, refl, sym, ◌∙◌, ap, subst, inl, inr, arith}
+use Rattle.std.proofs.Common.{Option, None, Some}
 use Rattle.std.specs.Prelude.{slice_get}
 use Rattle.std.proofs.lemmas.Bool.{cases_eq, ne_eqb}
 use Rattle.record_grammar.specs.declared.stream.Item.{Item}
@@ -20,13 +23,18 @@ use Rattle.sync_course.specs.declared.TheConstants.{MAX_OUTPUTS}
 use Rattle.sync_course.specs.declared.ends.LinkEnd.{LinkEnd}
 use Rattle.sync_course.specs.declared.ends.LinkEnd.TheVariants as end
 use Rattle.sync_course.specs.Events.{Event, Commit, Break, Pass, batches_of}
-use Rattle.sync_course.specs.Free.{Begins, Free, FreeFrom, FreeStep, Hold, HoldStep, Holds, IsNothingUnderWay, IsPlain, Rests, TakesUpOrCloses, holding, joined_by, spot_in}
-use Rattle.sync_course.specs.Links.{Link, closed_from, is_beaten, is_going, is_sent_to, link_of, without_redundant}
-use Rattle.sync_course.specs.LinkTurns.{Asks, Takes, Waits, Sends, Done, Doing, LinkStep, Spot, next_take, out_batch}
+use Rattle.sync_course.specs.Free.{Begins, Free, FreeFrom, FreeStep, Hold, HoldStep, Holds}
+use Rattle.sync_course.specs.Free.{IsNothingUnderWay, IsPlain, Rests, TakesUpOrCloses, holding}
+use Rattle.sync_course.specs.Free.{joined_by, spot_in}
+use Rattle.sync_course.specs.Links.{Link, closed_from, is_beaten, is_going, is_sent_to, link_of}
+use Rattle.sync_course.specs.Links.{without_redundant}
+use Rattle.sync_course.specs.LinkTurns.{Asks, Takes, Waits, Sends, Done, Doing, LinkStep, Spot}
+use Rattle.sync_course.specs.LinkTurns.{next_take, out_batch}
 use Rattle.sync_course.specs.Pending.{pending}
 use Rattle.sync_course.specs.Redundant.{closed_as}
 use Rattle.sync_course.specs.Story.{begun_by}
-use Rattle.sync_course.proofs.RunLaws.{settled_takes, takes_other, beaten_going, cond_same, get_middle, Moves, moves_none, moves_one, settled_begun}
+use Rattle.sync_course.proofs.RunLaws.{settled_takes, takes_other, beaten_going, cond_same}
+use Rattle.sync_course.proofs.RunLaws.{get_middle, Moves, moves_none, moves_one, settled_begun}
 use Rattle.sync_course.proofs.LiftLaws.{get_other, get_set, get_within}
 use Rattle.sync_course.proofs.LinkSteps.{Spares, link_by_cases, link_spares}
 
@@ -38,8 +46,10 @@ module _ (clients : Meaning) (first : ℕ) (p : Free) (T : Event → Free → Ty
     pub stays : T Pass p
     pub turns : (hold : Hold) → IsNothingUnderWay p.hold → IsNothingUnderWay hold
         → T Pass (record p { hold = hold })
-    pub sends : (n now : ℕ) (link : Link) → IsNothingUnderWay p.hold → slice_get p.links n ≡ Some link
-        → is_sent_to link.stands ≡ true → T Pass (record p { hold = Holds n (Sends now MAX_OUTPUTS) })
+    pub sends : (n now : ℕ) (link : Link) → IsNothingUnderWay p.hold
+        → slice_get p.links n ≡ Some link
+        → is_sent_to link.stands ≡ true
+        → T Pass (record p { hold = Holds n (Sends now MAX_OUTPUTS) })
     pub closes : IsNothingUnderWay p.hold
         → T Pass (record p { hold = Rests; links = without_redundant p.links })
     pub adds : (b : List Entry) → p.hold ≡ Rests
@@ -53,7 +63,8 @@ module _ (clients : Meaning) (first : ℕ) (p : Free) (T : Event → Free → Ty
         → T (Break (length p.links)) (joined_by x end.Failed p)
     pub works : (n : ℕ) (doing : Doing) (link : Link) (moved : Bool) (e : Event) (spot : Spot)
         → p.hold ≡ Holds n doing → slice_get p.links n ≡ Some link
-        → LinkStep clients n (first + n) (spot_in doing link moved p) e spot → T e (holding n spot p)
+        → LinkStep clients n (first + n) (spot_in doing link moved p) e spot
+        → T e (holding n spot p)
 
   module _ (cases : FreeCases) where
     to : (e : Event) (q r : Free) → q ≡ r → T e r → T e q
@@ -79,7 +90,8 @@ module _ (clients : Meaning) (first : ℕ) (p : Free) (T : Event → Free → Ty
           | inr begins ↦
               to (Commit b) q _ begins.leads
               (subst (λ (c : List Entry). T (Commit c)
-              (record p { hold = Begins begins.session; facts = after_all p.facts c })) (sym begins.is)
+              (record p { hold = Begins begins.session; facts = after_all p.facts c }))
+              (sym begins.is)
               (cases.begins begins.session is
               (subst (Allowed clients p.facts) begins.is begins.allowed)))
         ]
@@ -88,7 +100,8 @@ module _ (clients : Meaning) (first : ℕ) (p : Free) (T : Event → Free → Ty
         to (Break on) q (joined_by x end.Failed p) t.1
         (subst (λ (k : ℕ). T (Break k) (joined_by x end.Failed p)) (sym t.0) (cases.breaks x is))
     by_hold (Holds n doing) e q is t =
-        to e q (holding n t.spot p) t.leads (cases.works n doing t.link t.moved e t.spot is t.there t.steps)
+        to e q (holding n t.spot p) t.leads
+        (cases.works n doing t.link t.moved e t.spot is t.there t.steps)
     by_hold _ _ q is t = absurd t
 
     by_event : (e : Event) (q : Free) → FreeFrom clients first p.hold e p q → T e q
@@ -208,9 +221,10 @@ settling_adds clients f (e ∷ es) s = by_entry e es (next_is_settling clients f
     by_entry (entry.Invalid id) es k = record { begins = refl; plain = λ plain. plain }
     by_entry _ es k = absurd k
 
--- What a step adds: its batch may follow; sessions begin by it, and no link that is in hand begins one or adds a plain entry; what was
--- taken on a link stays, unless it is the one that takes.
-pub record StepAdds (clients : Meaning) (first : ℕ) (p : Free) (e : Event) (g : Facts) : Type 0 where
+-- What a step adds: its batch may follow; sessions begin by it, and no link that is in hand begins
+-- one or adds a plain entry; what was taken on a link stays, unless it is the one that takes.
+pub record StepAdds (clients : Meaning) (first : ℕ) (p : Free) (e : Event)
+    (g : Facts) : Type 0 where
   pub moves : Moves clients (batches_of (e ∷ [])) p.facts g
   pub begun : g.begun ≡ p.facts.begun + length (begun_by (batches_of (e ∷ [])))
   pub begins : (p.hold ≡ Rests → ⊥) → begun_by (batches_of (e ∷ [])) ≡ []
@@ -258,9 +272,11 @@ module _ (clients : Meaning) (first : ℕ) (p : Free) where
     takes = λ i others. refl;
   }
 
-  pub step_adds : (q : Free) (e : Event) → FreeStep clients first p e q → StepAdds clients first p e q.facts
+  pub step_adds : (q : Free) (e : Event) → FreeStep clients first p e q
+      → StepAdds clients first p e q.facts
   step_adds q e t =
-      free_batches clients first p (λ (x : Event) (g : Facts). StepAdds clients first p x g) (record {
+      free_batches clients first p (λ (x : Event) (g : Facts). StepAdds clients first p x g)
+      (record {
         none = adds_nothing;
         settles = λ b settling.
             let only = settling_adds clients p.facts b settling in
@@ -312,7 +328,8 @@ pub record IsClosed (e : Event) (p q : Free) (i : ℕ) : Type 0 where
   pub at : slice_get p.links i ≡ Some was
   pub beaten : Bool
   pub going : beaten ≡ true → is_going was.stands ≡ true
-  pub now : slice_get q.links i ≡ Some (record was { stands = cond beaten end.Redundant was.stands })
+  pub now : slice_get q.links i ≡ Some
+      (record was { stands = cond beaten end.Redundant was.stands })
   pub spares : Spares i e
   pub pends : pending_in q.hold i ≡ pending_in p.hold i
   pub facts : q.facts ≡ p.facts
@@ -438,7 +455,8 @@ module _ (clients : Meaning) (first : ℕ) where
               is_next = same;
               begins = is;
               now =
-                  subst (λ (k : ℕ). slice_get (p.links ++ link_of x stands ∷ []) k ≡ Some (link_of x stands))
+                  subst (λ (k : ℕ). slice_get (p.links ++ link_of x stands ∷ []) k
+                  ≡ Some (link_of x stands))
                   (sym same) (get_middle p.links [] (link_of x stands));
               pends = refl;
               facts = refl;
@@ -453,7 +471,8 @@ module _ (clients : Meaning) (first : ℕ) where
             })
       ]
 
-  works_go : (n : ℕ) (doing : Doing) (link : Link) (moved : Bool) (e : Event) (spot : Spot) (p : Free)
+  works_go : (n : ℕ) (doing : Doing) (link : Link) (moved : Bool) (e : Event) (spot : Spot)
+      (p : Free)
       (i : ℕ) → p.hold ≡ Holds n doing → slice_get p.links n ≡ Some link
       → LinkStep clients n (first + n) (spot_in doing link moved p) e spot
       → ((i ≡ n → ⊥) → takes_of spot.facts.takes (first + i) ≡ takes_of p.facts.takes (first + i))
@@ -479,7 +498,8 @@ module _ (clients : Meaning) (first : ℕ) where
             Kept (record {
               same = get_other p.links n i spot.link other;
               spares =
-                  link_spares clients n (first + n) i (spot_in doing link moved p) spot e other steps;
+                  link_spares clients n (first + n) i (spot_in doing link moved p) spot e other
+                  steps;
               pends =
                   ap (λ (b : Bool). cond b (pending spot.doing) []) apart
                   ∙ sym (ap (λ (b : Bool). cond b (pending doing) []) apart)
@@ -492,7 +512,8 @@ module _ (clients : Meaning) (first : ℕ) where
   free_link p q e i t =
       free_by_cases clients first p
       (λ (x : Event) (r : Free). (((its : List Item) → p.hold ≡ Holds i (Takes its) → ⊥)
-      → takes_of r.facts.takes (first + i) ≡ takes_of p.facts.takes (first + i)) → Goes x p r i) (record {
+      → takes_of r.facts.takes (first + i) ≡ takes_of p.facts.takes (first + i))
+      → Goes x p r i) (record {
         stays = λ takes. links_stay Pass p p i refl tt refl refl;
         turns = λ hold calm then takes.
             links_stay Pass p (record p { hold = hold }) i refl tt
@@ -506,12 +527,14 @@ module _ (clients : Meaning) (first : ℕ) where
             (takes (λ its holds. let both : Rests ≡ Holds i (Takes its) = sym rests ∙ holds in cc));
         begins = λ x rests allowed takes.
             links_stay _ p
-            (record p { hold = Begins x; facts = after_all p.facts (entry.Session x ∷ []) }) i refl tt
+            (record p { hold = Begins x; facts = after_all p.facts (entry.Session x ∷ []) }) i refl
+            tt
             (sym (ap (λ (h : Hold). pending_in h i) rests)) refl;
         greets = λ x begins takes.
             joins_go Pass p x end.Going i begins (λ other. tt) (λ same. inl (refl, refl));
         breaks = λ x begins takes.
-            joins_go (Break (length p.links)) p x end.Failed i begins (λ other same. other (sym same))
+            joins_go (Break (length p.links)) p x end.Failed i begins (λ other same.
+            other (sym same))
             (λ same. inr (ap (λ (k : ℕ). Break k) (sym same), refl));
         works = λ n doing link moved x spot holds there steps takes.
             works_go n doing link moved x spot p i holds there steps

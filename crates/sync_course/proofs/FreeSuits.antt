@@ -62,7 +62,8 @@ begun_by-append (b ∷ bs) cs = one b (begun_by-append bs cs)
 -- ---- each batch suits
 
 -- the record that is next on a session stands at its number among all that are heard on its link
-pub next_stands : FrontsHaveFronts → (heard : ℕ → List ℕ) (f : Facts) (session place n : ℕ) (r : Record)
+pub next_stands : FrontsHaveFronts → (heard : ℕ → List ℕ) (f : Facts) (session place n : ℕ)
+    (r : Record)
     (its : List Item) (link : Link) → IsFront link.heard (heard n)
     → IsCounted f session (item.One place r ∷ its) link
     → slice_get (records (heard n)) (takes_of f.takes session) ≡ Some r
@@ -89,7 +90,8 @@ module _ (fronts : FrontsHaveFronts) (clients : Meaning) (first : ℕ) (plans : 
       (λ (x : Event) (g : Facts). ((s : Session) → x ≡ Commit (entry.Session s ∷ [])
       → p.facts.begun ≡ first + length p.links → slice_get plans (length p.links) ≡ Some s)
       → AllSuitNode clients first plans heard p.facts (batches_of (x ∷ []))) (record {
-        none = λ x none planned. subst (AllSuitNode clients first plans heard p.facts) (sym none) tt;
+        none =
+            λ x none planned. subst (AllSuitNode clients first plans heard p.facts) (sym none) tt;
         settles = λ b settling planned. (inr (inl settling), tt);
         adds = λ b rests plain allowed planned. (inl plain, tt);
         begins = λ x rests allowed planned.
@@ -106,7 +108,8 @@ module _ (fronts : FrontsHaveFronts) (clients : Meaning) (first : ℕ) (plans : 
             let pends : pending_in p.hold n ≡ item.One place r ∷ its =
             ap (λ (h : Hold). pending_in h n) holds
             ∙ ap (λ (b : Bool). cond b (item.One place r ∷ its) []) itself in
-            let takes_so : TakesHeard first heard p.facts (first + n) (takes_of p.facts.takes (first + n))
+            let takes_so : TakesHeard first heard p.facts (first + n)
+            (takes_of p.facts.takes (first + n))
             (taken p.facts (first + n) r) = record {
               link = n;
               on = refl;
@@ -159,7 +162,8 @@ module _ (go_on : StreamsGoOn) (join : RecordsJoin) (fronts : FrontsHaveFronts) 
       ap (λ (y : Event). begun_by (done ++ batches_of (y ∷ es))) is ∙ begun_by-append done ((entry.Session x ∷ []) ∷ later) in
       subst (λ (l : List Session). slice_get l (length p.links) ≡ Some x) (sym list)
       (subst (λ (k : ℕ). slice_get (begun_by done ++ x ∷ begun_by later) k ≡ Some x) number (get_middle (begun_by done) (begun_by later) x)) in
-      let grown : next.facts.begun ≡ p.facts.begun + length (begun_by new) = (step_adds clients first p next e path.1).begun in
+      let grown : next.facts.begun ≡ p.facts.begun + length (begun_by new) =
+      (step_adds clients first p next e path.1).begun in
       let counts : next.facts.begun ≡ first + length (begun_by (done ++ new)) =
       let a : p.facts.begun ≡ first + length (begun_by done) = count in
       let b : length (begun_by (done ++ new)) ≡ length (begun_by done) + length (begun_by new) =
@@ -170,7 +174,8 @@ module _ (go_on : StreamsGoOn) (join : RecordsJoin) (fronts : FrontsHaveFronts) 
       let same_plans : begun_by ((done ++ new) ++ later) ≡ plans =
       ap begun_by (append_assoc done new later ∙ ap (λ (l : List (List Entry)). done ++ l) (sym parts)) in
       let behind : AllSuitNode clients first plans heard (after_batches p.facts new) later =
-      subst (λ (f : Facts). AllSuitNode clients first plans heard f later) (step_adds clients first p next e path.1).moves.facts
+      subst (λ (f : Facts). AllSuitNode clients first plans heard f later)
+      (step_adds clients first p next e path.1).moves.facts
       (subst (λ (l : List Session). AllSuitNode clients first l heard next.facts later) same_plans rest) in
       subst (AllSuitNode clients first plans heard p.facts) (sym parts)
       (suit_then fronts clients first plans heard p.facts new later
@@ -227,10 +232,12 @@ moment_stands go_on join fronts clients j acts to m legal path front =
           (subst (AllSuitNode clients first (begun_by (batches_in acts)) (heard_at to.at) (facts j)) batches whole);
       has_sent = λ link.
           subst (λ (l : List ℕ). runs.IsFront l (output (j ++ batches_in front.before) (first + link))) (sym (front.has_sent link))
-          (runs_laws.front_then (sends_on link front.before ++ front.part link) (sends_on link front.before ++ mid.owed link)
+          (runs_laws.front_then (sends_on link front.before ++ front.part link)
+          (sends_on link front.before ++ mid.owed link)
           (output (j ++ batches_in front.before) (first + link))
           (front_before (front.part link) (mid.owed link) (sends_on link front.before)
-          (runs_laws.front_then (front.part link) (next_bytes link front.behind) (mid.owed link) (front.begun link)
+          (runs_laws.front_then (front.part link) (next_bytes link front.behind) (mid.owed link)
+          (front.begun link)
           (next_owed clients first front.behind mid to link parts.2)))
           (sent.front link));
     }

@@ -51,7 +51,8 @@ link_adds clients n session p q e s =
     ≡ p.link.heard ++ bytes_by n (Hear n reply) =
     λ reply. ap (λ (l : List ℕ). p.link.heard ++ l) (sym (here n (reply_bytes reply))) in
     link_by_cases clients n session p
-    (λ (doing : Doing) (x : Event) (r : Spot). r.link.heard ≡ p.link.heard ++ bytes_by n x) (record {
+    (λ (doing : Doing) (x : Event) (r : Spot). r.link.heard ≡ p.link.heard ++ bytes_by n x)
+    (record {
       hears = λ bytes going. replied (got bytes);
       idles = λ going. none ∙ replied idle;
       ends = λ going. none ∙ replied ended;
@@ -139,7 +140,8 @@ event_tells (Hear n reply) h i within =
       | inr apart ↦
           ap (λ (x : HeardOn). heard_bytes x.answers) (changed_at_other n (hear_reply PIECE_LEN reply) h i nothing_heard apart)
           ∙ sym (append-nil (at_of h i))
-          ∙ ap (λ (l : List ℕ). at_of h i ++ l) (sym (spared_bytes i (Hear n reply) (λ same. apart (sym same))))
+          ∙ ap (λ (l : List ℕ). at_of h i ++ l)
+          (sym (spared_bytes i (Hear n reply) (λ same. apart (sym same))))
     ]
 event_tells (Miss n) h i within =
     elim (cases_eq i n) [

@@ -111,7 +111,8 @@ module _ (clients : Meaning) (terms : Terms) where
   pub runs_settled_begun : (Before After : List (List Entry) → Type 0)
       → ((j : List (List Entry)) → Before j → After j) → (sessions : List Session) (p : Place)
       (o : Outside) → p.stage ≡ Settles sessions → IsSettled clients p.facts
-      → RunsPath (RunStep clients terms) Before After p (record p { stage = Attaches sessions }) o o []
+      → RunsPath (RunStep clients terms) Before After p (record p { stage = Attaches sessions }) o o
+      []
   runs_settled_begun Before After stays sessions p o settles settled =
       let q : Place = record p { stage = Attaches sessions } in
       runs_quiet (RunStep clients terms) Before After stays p q Pass o o refl

@@ -1,5 +1,6 @@
 -- The steps of a link, case by case: what a property of them owes in each.
-use Rattle.std.proofs.Common.{◌≡◌, ℕ, zero, suc, true, false, List, [], ◌∷◌, ◌∙◌, sym, ap, subst, inl, inr}
+use Rattle.std.proofs.Common.{◌≡◌, ℕ, zero, suc, true, false, List, [], ◌∷◌, ◌∙◌, sym, ap, subst}
+use Rattle.std.proofs.Common.{inl, inr}
 use Rattle.outside.specs.Links.{got, idle, ended}
 use Rattle.record_grammar.specs.declared.stream.Item.{Item}
 use Rattle.record_grammar.specs.declared.stream.Item.TheVariants as item
@@ -13,7 +14,10 @@ use Rattle.sync_rules.specs.Steps.{IsSettled}
 use Rattle.sync_course.specs.declared.TheConstants.{MAX_OUTPUTS}
 use Rattle.sync_course.specs.Events.{Event, Commit, Hear, Miss, Read, Break, Pass}
 use Rattle.sync_course.specs.Links.{is_going, is_sent_to}
-use Rattle.sync_course.specs.LinkTurns.{Asks, Takes, Waits, Sends, Puts, Done, Doing, IsEnough, LinkStep, PassesItem, SendsNext, Spot, StepOf, TakesNext, all_taken_spot, failed_spot, heard_spot, next_take, out_batch, out_spot, taken_spot}
+use Rattle.sync_course.specs.LinkTurns.{Asks, Takes, Waits, Sends, Puts, Done, Doing, IsEnough}
+use Rattle.sync_course.specs.LinkTurns.{LinkStep, PassesItem, SendsNext, Spot, StepOf, TakesNext}
+use Rattle.sync_course.specs.LinkTurns.{all_taken_spot, failed_spot, heard_spot, next_take}
+use Rattle.sync_course.specs.LinkTurns.{out_batch, out_spot, taken_spot}
 
 -- a spot at which the link does this
 abbrev pub does : Doing → Spot → Spot
@@ -59,7 +63,8 @@ module _ (clients : Meaning) (n session : ℕ) (p : Spot) (T : Doing → Event �
     on_it doing on e q r here same t =
         subst (λ (k : ℕ). T doing (e k) q) (sym here) (to doing (e n) q r same t)
 
-    by_batch : (doing : Doing) (b c : List Entry) (q : Spot) (r : List Entry → Spot) → b ≡ c → q ≡ r b
+    by_batch : (doing : Doing) (b c : List Entry) (q : Spot) (r : List Entry → Spot) → b ≡ c
+        → q ≡ r b
         → T doing (Commit c) (r c) → T doing (Commit b) q
     by_batch doing b c q r is same t =
         subst (λ (x : List Entry). T doing (Commit x) q) (sym is)
@@ -91,7 +96,8 @@ module _ (clients : Meaning) (n session : ℕ) (p : Spot) (T : Doing → Event �
         (λ (x : List Entry). out_spot now room x p) s.is s.leads
         (cases.puts now room s.what s.is_due (subst (Allowed clients p.facts) s.is s.allowed))
 
-    by_case : (doing : Doing) (e : Event) (q : Spot) → StepOf clients n session doing e (does doing p) q
+    by_case : (doing : Doing) (e : Event) (q : Spot) → StepOf clients n session doing e
+        (does doing p) q
         → T doing e q
     by_case Asks (Hear on (got bytes)) q s =
         on_it Asks on (λ k. Hear k (got bytes)) q (heard_spot (got bytes) p) s.0 s.2
@@ -110,7 +116,8 @@ module _ (clients : Meaning) (n session : ℕ) (p : Spot) (T : Doing → Event �
         ]
     by_case (Takes its) Pass q s = by_pass its q s.0 s.1
     by_case Waits (Read on now) q s =
-        on_it Waits on (λ k. Read k now) q (does (Sends now MAX_OUTPUTS) p) s.0 s.2 (cases.reads now s.1)
+        on_it Waits on (λ k. Read k now) q (does (Sends now MAX_OUTPUTS) p) s.0 s.2
+        (cases.reads now s.1)
     by_case Waits Pass q s = to Waits Pass q (does Done p) s.1 (cases.closed s.0)
     by_case (Sends now room) (Commit b) q s = by_send now room b q s
     by_case (Sends now room) Pass q s =

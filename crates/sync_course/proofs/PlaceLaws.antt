@@ -1,5 +1,7 @@
--- What each place of a run keeps: where the journal is settled, and at which reading a link sends. So each output is due at its place.
-use Rattle.std.proofs.Common.{◌≡◌, ℕ, ◌+◌, Bool, cond, eq-eqb, List, [], ◌∷◌, refl, sym, ap, subst, Option, Some, suc, ◌++◌, ◌∙◌, None}
+-- What each place of a run keeps: where the journal is settled, and at which reading a link sends.
+-- So each output is due at its place.
+use Rattle.std.proofs.Common.{◌≡◌, ℕ, ◌+◌, Bool, cond, eq-eqb, List, [], ◌∷◌, refl, sym, ap, subst}
+use Rattle.std.proofs.Common.{Option, Some, suc, ◌++◌, ◌∙◌, None}
 use Rattle.sync_rules.specs.declared.entries.Entry.TheVariants as entry
 use Rattle.sync_rules.specs.Clients.{Meaning}
 use Rattle.sync_rules.specs.Facts.{Facts, session_at}
@@ -56,7 +58,8 @@ link_keeps clients n session reading p q e s =
       takes = λ place r its allowed k. (tt, tt);
       skips = λ place type_byte len its k. (tt, tt);
       all_taken = λ settled k. (settled, tt);
-      reads = λ now is_open k. (k.0, ap (λ (b : Bool). cond b (Some now) reading) (eq-eqb n n refl));
+      reads =
+          λ now is_open k. (k.0, ap (λ (b : Bool). cond b (Some now) reading) (eq-eqb n n refl));
       closed = λ is k. (k.0, tt);
       puts = λ now room what is_due allowed k.
           (settled_stays clients p.facts (out_batch session now what) refl k.0, k.1);
@@ -82,7 +85,8 @@ module _ (clients : Meaning) (terms : Terms) where
         ends = λ over k. k;
         turns = λ on k. (k, tt);
         works = λ n doing link x spot at steps k.
-            link_keeps clients n (terms.first + n) (readings n) (spot_of doing link p) spot x steps k;
+            link_keeps clients n (terms.first + n) (readings n) (spot_of doing link p) spot x steps
+            k;
         goes_on = λ n link at k. (k.0, tt);
         turn_ends = λ n none k. k.0;
       }) q e t
@@ -148,9 +152,13 @@ step_out clients terms readings p q session now what t k =
                 in_hand clients readings p.stage p.facts n (Sends at (suc room)) holds k
                 ∙ ap (λ (t : ℕ). Some t) same_time;
             is_due =
-                subst (λ (s : ℕ). IsDue clients p.facts (session_at p.facts.sessions s) now what) same_session
-                (subst (λ (t : ℕ). IsDue clients p.facts (session_at p.facts.sessions (terms.first + n)) t what) same_time
-                (subst (IsDue clients p.facts (session_at p.facts.sessions (terms.first + n)) at) same_out is_due));
+                subst (λ (s : ℕ). IsDue clients p.facts (session_at p.facts.sessions s) now what)
+                same_session
+                (subst (λ (t : ℕ).
+                IsDue clients p.facts (session_at p.facts.sessions (terms.first + n)) t what)
+                same_time
+                (subst (IsDue clients p.facts (session_at p.facts.sessions (terms.first + n)) at)
+                same_out is_due));
           };
     }) (forget q) (Commit (out_batch session now what))
     (step_is_free clients terms p q (Commit (out_batch session now what)) t) refl
@@ -161,11 +169,13 @@ pub out_is_due : (clients : Meaning) (terms : Terms) (from to : Place) (before b
     → OutIsDue clients terms from before session now what
 out_is_due clients terms from to before behind session now what start path =
     let parts =
-    path_parts (RunStep clients terms) from to before (Commit (out_batch session now what) ∷ behind) path in
+    path_parts (RunStep clients terms) from to before (Commit (out_batch session now what) ∷ behind)
+    path in
     record {
       at = parts.0;
       leads = parts.1;
       is_due =
-          step_out clients terms (λ i. last_reading i before) parts.0 parts.2.0 session now what parts.2.1
+          step_out clients terms (λ i. last_reading i before) parts.0 parts.2.0 session now what
+          parts.2.1
           (path_stays clients terms (λ i. None) from parts.0 before parts.1 start);
     }

@@ -140,15 +140,18 @@ told_beside : (es : List Event) (o mid o' : Outside) → o'.links ≡ mid.links 
 told_beside es o mid o' same told = record {
   heard = ap (λ (l : Links). l.heard) same ∙ told.heard;
   readings =
-      subst (λ (l : Links). GrowsBy (readings_of es) o.links.readings l.readings) (sym same) told.readings;
+      subst (λ (l : Links). GrowsBy (readings_of es) o.links.readings l.readings) (sym same)
+      told.readings;
   faults = λ link.
-      subst (λ (l : Links). RoseIf (has_failure link es) (o.links.faults link) (l.faults link)) (sym same)
+      subst (λ (l : Links). RoseIf (has_failure link es) (o.links.faults link) (l.faults link))
+      (sym same)
       (told.faults link);
   planned =
       subst (λ (l : Links). RelatesTold (ChangesThrough PlansAfter es) o.links.planned l.planned)
       (sym same) told.planned;
   upcoming =
-      subst (λ (l : Links). RelatesTold (ChangesThrough UpcomingAfter es) o.links.upcoming l.upcoming)
+      subst (λ (l : Links).
+      RelatesTold (ChangesThrough UpcomingAfter es) o.links.upcoming l.upcoming)
       (sym same) told.upcoming;
 }
 
@@ -201,7 +204,9 @@ told_reply : (link : ℕ) (given : Heard) (reply : Reply) (buf : List ℕ) (o o'
     → ((x y : ℕ → List Planned) → AnswersAsPlanned link given buf x y
     → UsesPlan link (length buf) (Some reply) x y) → TellsEvents (Hear link reply ∷ []) o o'
 told_reply link given reply buf o o' whole hears heard uses = record {
-  heard = heard ∙ ap (λ (room : ℕ). option_map (changed_at link (hear_reply room reply)) o.links.heard) whole;
+  heard =
+      heard ∙ ap (λ (room : ℕ). option_map (changed_at link (hear_reply room reply)) o.links.heard)
+      whole;
   readings =
       subst (λ (r : Option (List ℕ)). GrowsBy [] o.links.readings r) (sym hears.same_readings)
       (grows_none o.links.readings);
@@ -220,7 +225,8 @@ pub told_asked : (link : ℕ) (given : Heard) (buf : List ℕ) (o o' : Outside) 
     → HearsAnswer link given buf o.links o'.links → IsAnswerCaused given (length buf) (o.links.faults link) (o'.links.faults link)
     → TellsEvents (asked_event link given buf ∷ []) o o'
 told_asked link (answer.Got n) buf o o' whole hears caused =
-    told_reply link (answer.Got n) (got (take n buf)) buf o o' whole hears hears.heard (λ x y used. used)
+    told_reply link (answer.Got n) (got (take n buf)) buf o o' whole hears hears.heard (λ x y used.
+    used)
 told_asked link answer.Idle buf o o' whole hears caused =
     told_reply link answer.Idle idle buf o o' whole hears hears.heard (λ x y used. used)
 told_asked link answer.End buf o o' whole hears caused =
