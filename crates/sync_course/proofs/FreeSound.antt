@@ -85,7 +85,8 @@ module _ (clients : Meaning) (first : ℕ) where
   abbrev Begun : Free → Type 0
   Begun p = IsBegunAt first p.hold (length p.links) p.facts
 
-  joins_begun : (p : Free) (x : Session) (stands : LinkEnd) → IsBegunAt first (Begins x) (length p.links) p.facts
+  joins_begun : (p : Free) (x : Session) (stands : LinkEnd)
+      → IsBegunAt first (Begins x) (length p.links) p.facts
       → Begun (joined_by x stands p)
   joins_begun p x stands s =
       let begun : p.facts.begun ≡ suc (first + length p.links) = s.0 in
@@ -102,7 +103,8 @@ module _ (clients : Meaning) (first : ℕ) where
       let held : (hold : Hold) → p.hold ≡ hold → IsBegunAt first hold links p.facts =
       λ hold is. subst (λ (h : Hold). IsBegunAt first h links p.facts) is s in
       free_by_cases clients first p
-      (λ (x : Event) (r : Free). ((p.hold ≡ Rests → ⊥) → r.facts.begun ≡ p.facts.begun) → Begun r) (record {
+      (λ (x : Event) (r : Free). ((p.hold ≡ Rests → ⊥) → r.facts.begun ≡ p.facts.begun)
+      → Begun r) (record {
         stays = λ same. s;
         turns = λ hold calm then same. begun_idle first links p.facts hold then (calmly calm);
         sends = λ n now link calm there is_open same. calmly calm;
@@ -131,7 +133,8 @@ module _ (go_on : StreamsGoOn) (join : RecordsJoin) (clients : Meaning) (first :
   Sound p = IsFreeSound clients first p
 
   -- what was taken on a link is still a front of what was heard on it
-  link_counted : (e : Event) (p q : Free) (i : ℕ) (link : Link) → Sound p → slice_get q.links i ≡ Some link
+  link_counted : (e : Event) (p q : Free) (i : ℕ) (link : Link) → Sound p
+      → slice_get q.links i ≡ Some link
       → LinkGoes clients first e p q i → IsCounted q.facts (first + i) (pending_in q.hold i) link
   link_counted e p q i link s at (Kept k) =
       subst (λ (its : List Item). IsCounted q.facts (first + i) its link) (sym k.pends)
@@ -147,7 +150,8 @@ module _ (go_on : StreamsGoOn) (join : RecordsJoin) (clients : Meaning) (first :
       (sym (ap (λ (l : Link). keeps_all l.stands) (get_same at c.now)) ∙ keeps))
       (s.counted i c.was c.at)))
   link_counted e p q i link s at (Joined j) =
-      let begun : (p.facts.begun ≡ suc (first + length p.links)) × (takes_of p.facts.takes (first + length p.links) ≡ 0) =
+      let begun : (p.facts.begun ≡ suc (first + length p.links))
+      × (takes_of p.facts.takes (first + length p.links) ≡ 0) =
       subst (λ (h : Hold). IsBegunAt first h (length p.links) p.facts) j.begins s.begun in
       let none : takes_of q.facts.takes (first + i) ≡ 0 =
       ap (λ (f : Facts). takes_of f.takes (first + i)) j.facts
@@ -163,17 +167,20 @@ module _ (go_on : StreamsGoOn) (join : RecordsJoin) (clients : Meaning) (first :
       subst (λ (its : List Item). IsCounted p.facts (first + i) its t.link)
       (ap (λ (h : Hold). pending_in h i) t.held ∙ itself t.doing) (s.counted i t.link t.at) in
       let behind : IsCounted t.spot.facts (first + i) (pending t.spot.doing) t.spot.link =
-      link_step_counted go_on join clients i (first + i) (spot_in t.doing t.link t.moved p) t.spot e t.steps before in
+      link_step_counted go_on join clients i (first + i) (spot_in t.doing t.link t.moved p)
+      t.spot e t.steps before in
       subst (λ (its : List Item). IsCounted q.facts (first + i) its link)
       (sym (ap (λ (h : Hold). pending_in h i) t.holds ∙ itself t.spot.doing))
       (subst (λ (f : Facts). IsCounted f (first + i) (pending t.spot.doing) link) (sym t.facts)
-      (subst (λ (l : Link). IsCounted t.spot.facts (first + i) (pending t.spot.doing) l) (sym (get_same at t.now))
+      (subst (λ (l : Link). IsCounted t.spot.facts (first + i) (pending t.spot.doing) l)
+      (sym (get_same at t.now))
       behind))
 
   pub free_sound : (p q : Free) (e : Event) → FreeStep clients first p e q → Sound p → Sound q
   free_sound p q e t s = record {
     of_journal =
-        journal_moves clients (batches_of (e ∷ [])) p.facts q.facts (step_adds clients first p q e t).moves
+        journal_moves clients (batches_of (e ∷ [])) p.facts q.facts
+        (step_adds clients first p q e t).moves
         s.of_journal;
     begun = free_begun clients first p q e t s.of_journal s.begun;
     counted = λ i link at. link_counted e p q i link s at (free_link clients first p q e i t);

@@ -142,7 +142,8 @@ module _ (clients : Meaning) (terms : Terms) (s : Session) (now : ℕ) (f : Fact
       let last : nat_le terms.quiet terms.quiet ≡ true =
       le-leb terms.quiet terms.quiet (omega arith) in
       ends_after terms.quiet true (omega arith) enough
-      (ap (λ (x : Bool). x && nat_le terms.quiet terms.quiet) (lt-ltb 0 terms.quiet some) ∙ last) refl
+      (ap (λ (x : Bool). x && nat_le terms.quiet terms.quiet) (lt-ltb 0 terms.quiet some)
+      ∙ last) refl
 
   -- fewer turns than were to be quiet: it is unfinished
   pub ends_unfinished : 0 < terms.turns → terms.turns < terms.quiet

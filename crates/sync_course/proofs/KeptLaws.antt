@@ -135,7 +135,8 @@ module _ {A : Type 0} (over : A → A → Bool) where
   under_one (x ∷ xs) a b (inr later) is =
       or_right (over x b) (is_under xs b) (under_one xs a b later is)
 
-  -- of one and those of a list, one that none of the list is over: it is that one, or it is in the list and over it
+  -- of one and those of a list, one that none of the list is over: it is that one, or it is in the
+  -- list and over it
   pub record Best (xs : List A) (b : A) : Type 0 where
     pub best : A
     pub is : (best ≡ b) ⊎ (In best xs × (over best b ≡ true))
@@ -205,11 +206,13 @@ at_number j (x ∷ links) n a (inr later) =
 
 -- a link that is beaten is beaten by one that is not
 kept_in : (links : List Link) (k : ℕ) (b : Link) → is_beaten 0 links k b ≡ true
-    → (a : ℕ × Link) × In a (numbered 0 links) × (beats a.0 a.1 k b ≡ true) × (is_beaten 0 links a.0 a.1 ≡ false)
+    → (a : ℕ × Link) × In a (numbered 0 links) × (beats a.0 a.1 k b ≡ true)
+    × (is_beaten 0 links a.0 a.1 ≡ false)
 kept_in links k b beaten =
     let r =
     best_of over_by (λ a is. not_itself a.0 a.1 is)
-    (λ a c d first second. beats_then a.0 a.1 c.0 c.1 d.0 d.1 first second) (numbered 0 links) (k, b) in
+    (λ a c d first second. beats_then a.0 a.1 c.0 c.1 d.0 d.1 first second)
+    (numbered 0 links) (k, b) in
     let free : is_beaten 0 links r.best.0 r.best.1 ≡ false =
     beaten_numbered 0 links r.best.0 r.best.1 ∙ r.free in
     elim r.is [
@@ -269,7 +272,8 @@ was_in all j (suc m) (x ∷ links) n now (inr later) =
     let r = was_in all (suc j) m links n now later in (r.0, inr r.1, r.2)
 
 -- a link that is not beaten stands there as it was
-stays_in : (all : List Link) (j m : ℕ) (links : List Link) (n : ℕ) (a : Link) → In (n, a) (numbered j links)
+stays_in : (all : List Link) (j m : ℕ) (links : List Link) (n : ℕ) (a : Link)
+    → In (n, a) (numbered j links)
     → is_beaten 0 all n a ≡ false → In (n, a) (numbered j (closed_upto all j m links))
 stays_in all j zero links n a there free = there
 stays_in all j (suc m) [] n a there free = absurd there
@@ -308,7 +312,8 @@ same_beaten links m k b = both_so (is_beaten 0 (closed_upto links 0 m links) k b
               closed_beats (is_beaten 0 links r.0.0 w.0) r.0.0 w.0 k b
               (subst (λ (y : Link). beats r.0.0 y k b ≡ true) closed r.2)
         ] in
-        beaten_numbered 0 links k b ∙ under_one over_by (numbered 0 links) (r.0.0, w.0) (k, b) w.1 beats_it
+        beaten_numbered 0 links k b
+        ∙ under_one over_by (numbered 0 links) (r.0.0, w.0) (k, b) w.1 beats_it
 
     back : is_beaten 0 links k b ≡ true → is_beaten 0 (closed_upto links 0 m links) k b ≡ true
     back is =

@@ -87,18 +87,22 @@ module _ (clients : Meaning) (terms : Terms) (sessions : List Session) where
       → BegunFirst sessions done stage → StepPlans done x r) (record {
         settles = λ left b settling link begun.
             let only = settling_adds clients p.facts b settling in
-            plans_same done (Commit b) (record (staged (Settles left) p) { facts = after_all p.facts b })
+            plans_same done (Commit b)
+            (record (staged (Settles left) p) { facts = after_all p.facts b })
             (only.plain, tt) only.begins begun;
-        settled = λ left settled link begun. plans_same done Pass (staged (Attaches left) p) tt refl begun;
+        settled = λ left settled link begun.
+            plans_same done Pass (staged (Attaches left) p) tt refl begun;
         begins = λ x left allowed link begun. record {
           none_plain = (λ plain. plain, tt);
           begun =
               begun
               ∙ sym (append_assoc (begun_by done) (x ∷ []) left)
-              ∙ ap (λ (l : List Session). l ++ left) (sym (begun_by-append done ((entry.Session x ∷ []) ∷ [])));
+              ∙ ap (λ (l : List Session). l ++ left)
+              (sym (begun_by-append done ((entry.Session x ∷ []) ∷ [])));
         };
         greets = λ x left link begun. plans_same done Pass (attached x left p) tt refl begun;
-        breaks = λ x left link begun. plans_same done (Break (length p.links)) (unattached x left p) tt refl begun;
+        breaks = λ x left link begun.
+            plans_same done (Break (length p.links)) (unattached x left p) tt refl begun;
         all_begun = λ link begun.
             plans_same done Pass (staged Between p) tt refl (record { more = []; goes_on = begun });
         ends = λ over link begun. plans_same done Pass (staged Ended p) tt refl begun;
@@ -107,11 +111,13 @@ module _ (clients : Meaning) (terms : Terms) (sessions : List Session) where
         works = λ n doing link x spot at steps adds begun.
             let adds = adds (λ holds. cc) in
             plans_same done x (with_spot n spot p) adds.none_plain adds.none_begins begun;
-        goes_on = λ n link at adds begun. plans_same done Pass (staged (Works (suc n) Asks) p) tt refl begun;
+        goes_on = λ n link at adds begun.
+            plans_same done Pass (staged (Works (suc n) Asks) p) tt refl begun;
         turn_ends = λ n none link begun. plans_same done Pass (turn_ended p) tt refl begun;
       }) q e t
       (λ busy.
-      let adds = step_adds clients terms.first (forget p) (forget q) e (step_is_free clients terms p q e t) in
+      let adds = step_adds clients terms.first (forget p) (forget q) e
+      (step_is_free clients terms p q e t) in
       record { none_plain = none_plain_by e (adds.plain busy); none_begins = adds.begins busy })
 
   -- what every place of a run keeps

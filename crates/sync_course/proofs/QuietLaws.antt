@@ -1,5 +1,5 @@
--- What the last still turns of a run had, Idle answers alone and nothing due at the readings made in them; and how a run stands that
--- is over.
+-- What the last still turns of a run had, Idle answers alone and nothing due at the readings made
+-- in them; and how a run stands that is over.
 use Rattle.std.proofs.Common.{◌≡◌, ℕ, zero, suc, ◌+◌, ◌<◌, ◌≤◌, Bool, true, false, cond, nat_eq, eq-eqb, List, [], ◌∷◌, length, refl, sym, ◌∙◌, ap, subst, inl, inr, arith, Option, None, Some, not, ◌||◌, nat_le, ◌++◌, append-nil}
 use Rattle.std.specs.Prelude.{slice_get, nat_lt}
 use Rattle.std.proofs.lemmas.Bool.{cases_eq, false≢true, ne_eqb, and_parts, leb-true, ltb-true, or_left, or_right}
@@ -63,7 +63,8 @@ pub record StillStep (clients : Meaning) (session still idles : ℕ) (reading : 
 moved : {A : Type 0} → true ≡ false → A
 moved is = absurd (false≢true (sym is))
 
-still_step : (clients : Meaning) (n session still idles : ℕ) (reading : Option ℕ) (p q : Spot) (e : Event)
+still_step : (clients : Meaning) (n session still idles : ℕ)
+    (reading : Option ℕ) (p q : Spot) (e : Event)
     → LinkStep clients n session p e q → q.moved ≡ false
     → (p.moved ≡ false → IsStill clients p.facts session still idles reading p.doing p.link)
     → StillStep clients session still (idles_by n idles e) (reading_by n reading e) p q
@@ -329,7 +330,8 @@ pub course_ends_quiet : StreamsGoOn → RecordsJoin → (clients : Meaning) (ter
 course_ends_quiet go_on join clients terms sessions j events last legal course over =
     let start : Place = first_place sessions (facts j) in
     let settled : IsSettled clients last.facts =
-    subst (λ (st : Stage). PlaceKeeps clients (λ i. last_reading i events) st last.facts) course.at_end
+    subst (λ (st : Stage). PlaceKeeps clients (λ i. last_reading i events) st last.facts)
+    course.at_end
     (path_stays clients terms (λ i. None) start last events course.path tt) in
     let still : BetweenTurns clients terms (λ i. idle_answers i events) (λ i. last_reading i events) last =
     subst (λ (st : Stage). IsStillAt clients terms (λ i. idle_answers i events) (λ i. last_reading i events) st last) course.at_end

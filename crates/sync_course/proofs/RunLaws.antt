@@ -1,5 +1,5 @@
--- What laws of each place cite: items of lists, links that were closed as redundant, the records that were taken, and the facts of a
--- legal journal.
+-- What laws of each place cite: items of lists, links that were closed as redundant, the records
+-- that were taken, and the facts of a legal journal.
 use Rattle.std.proofs.Common.{◌≡◌, ◌⊎◌, ℕ, zero, suc, ◌<◌, Bool, true, false, cond, ◌&&◌, nat_eq, List, [], ◌∷◌, ◌++◌, length, refl, sym, ◌∙◌, ap, subst, inl, inr, arith, Option, None, Some, ◌+◌, drop, eq-eqb, length-append, append-nil, append_assoc}
 use Rattle.std.specs.Prelude.{nat_lt, slice_get}
 use Rattle.std.proofs.Math.Seq.{drop-append_seam}
@@ -45,10 +45,12 @@ new_items_follow go_on heard bytes =
 
 -- whatever follows those of before are the new ones
 pub new_items_are : (heard bytes : List ℕ) (its : List Item) → items 0 (heard ++ bytes) ≡ items 0 heard ++ its → new_items heard bytes ≡ its
-new_items_are heard bytes its parts = ap (drop (length (items 0 heard))) parts ∙ drop-append_seam (items 0 heard) its
+new_items_are heard bytes its parts =
+    ap (drop (length (items 0 heard))) parts ∙ drop-append_seam (items 0 heard) its
 
 -- ---- takes
-pub takes_other : (clients : Meaning) (f : Facts) (session m : ℕ) (r : Record) → Allowed clients f (next_take f session r) → (m ≡ session → ⊥)
+pub takes_other : (clients : Meaning) (f : Facts) (session m : ℕ) (r : Record)
+    → Allowed clients f (next_take f session r) → (m ≡ session → ⊥)
     → takes_of (after_all f (next_take f session r)).takes m ≡ takes_of f.takes m
 takes_other clients f session m r allowed other =
     let one : TakesOne f (after_all f (next_take f session r)) session = takes_one clients f session (takes_of f.takes session) (taken f session r) allowed in
@@ -58,7 +60,9 @@ takes_here : (clients : Meaning) (f : Facts) (session : ℕ) (r : Record) → Al
     → takes_of (after_all f (next_take f session r)).takes session ≡ takes_of f.takes session + 1
 takes_here clients f session r allowed =
     let one : TakesOne f (after_all f (next_take f session r)) session = takes_one clients f session (takes_of f.takes session) (taken f session r) allowed in
-    one.takes session ∙ ap (λ (b : Bool). cond b (takes_of f.takes session + 1) (takes_of f.takes session)) (eq-eqb session session refl)
+    one.takes session
+    ∙ ap (λ (b : Bool). cond b (takes_of f.takes session + 1) (takes_of f.takes session))
+    (eq-eqb session session refl)
 
 pub settled_takes : (clients : Meaning) (f : Facts) (b : List Entry) (m : ℕ) → IsSettlingBatch clients f b → takes_of (after_all f b).takes m ≡ takes_of f.takes m
 settled_takes clients f b m settling = ap (λ t. takes_of t m) (settling_only clients f b settling.2).takes
@@ -173,7 +177,8 @@ module _ (go_on : StreamsGoOn) (join : RecordsJoin) where
             counted_same p.facts (after_all p.facts b) session its p.link
             (settled_takes clients p.facts b session settling) c;
         takes = λ place r its allowed c.
-            counted_taken p.facts (after_all p.facts (next_take p.facts session r)) session place r its
+            counted_taken p.facts (after_all p.facts (next_take p.facts session r))
+            session place r its
             p.link (takes_here clients p.facts session r allowed) c;
         skips = λ place type_byte len its c.
             counted_skipped p.facts session place type_byte len its p.link c;
@@ -183,7 +188,8 @@ module _ (go_on : StreamsGoOn) (join : RecordsJoin) where
         reads = λ now is_open c. c;
         closed = λ is c. c;
         puts = λ now room what is_due allowed c.
-            counted_same p.facts (after_all p.facts (out_batch session now what)) session [] p.link refl
+            counted_same p.facts (after_all p.facts (out_batch session now what))
+            session [] p.link refl
             c;
         enough = λ now room is c. c;
         put = λ now room c. c;
@@ -303,7 +309,8 @@ pub new_counted : (f : Facts) (session : ℕ) (x : Session) (stands : LinkEnd) �
 unfolding items parsed records_of
 new_counted f session x stands none = record { done = []; dropped = []; parts = refl; count = none; whole = λ k. refl }
 
-pub ended_keeps : (b : Bool) (stands : LinkEnd) → (b ≡ true → is_going stands ≡ true) → keeps_all (cond b end.Redundant stands) ≡ true
+pub ended_keeps : (b : Bool) (stands : LinkEnd) → (b ≡ true → is_going stands ≡ true)
+    → keeps_all (cond b end.Redundant stands) ≡ true
     → keeps_all stands ≡ true
 ended_keeps true stands going k = going_keeps stands (going refl)
 ended_keeps false stands going k = k

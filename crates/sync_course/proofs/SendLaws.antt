@@ -72,8 +72,10 @@ event_adds clients first j _ link legal goes = none_added first j link
 
 -- ---- nothing is committed for a link that failed
 
-settling_silent_adds : (clients : Meaning) (f : Facts) (b : List Entry) (session : ℕ) → IsSettlingBatch clients f b → output_in f session b ≡ []
-settling_silent_adds clients f b session s = silent_adds_nothing f session b (settling_silent clients f b s.2)
+settling_puts : (clients : Meaning) (f : Facts) (b : List Entry) (session : ℕ)
+    → IsSettlingBatch clients f b → output_in f session b ≡ []
+settling_puts clients f b session s =
+    silent_adds_nothing f session b (settling_silent clients f b s.2)
 
 -- the session that begins is no other
 begins_adds : (f : Facts) (x : Session) (session : ℕ) → (x.number ≡ session → ⊥) → output_in f session (entry.Session x ∷ []) ≡ []
@@ -89,7 +91,8 @@ abbrev pub records_by : Facts → ℕ → Event → List Record
 records_by f session (Commit b) = output_in f session b
 records_by f session _ = []
 
-none_by : (f : Facts) (session : ℕ) (e : Event) → batches_of (e ∷ []) ≡ [] → records_by f session e ≡ []
+none_by : (f : Facts) (session : ℕ) (e : Event)
+    → batches_of (e ∷ []) ≡ [] → records_by f session e ≡ []
 none_by f session (Commit b) none = cc
 none_by f session _ none = refl
 
@@ -101,7 +104,7 @@ event_spares clients first e p q i t s o f =
     free_batches clients first p
     (λ (x : Event) (g : Facts). records_by p.facts (first + i) x ≡ []) (record {
       none = λ x none. none_by p.facts (first + i) x none;
-      settles = λ b settling. settling_silent_adds clients p.facts b (first + i) settling;
+      settles = λ b settling. settling_puts clients p.facts b (first + i) settling;
       adds = λ b rests plain allowed. (plain_adds p.facts b plain).puts (first + i);
       begins = λ x rests allowed.
           let may : MayBegin p.facts x = allowed.2 in
@@ -244,7 +247,8 @@ module _ (go_on : StreamsGoOn) (join : RecordsJoin) (clients : Meaning) (first :
         | true ↦ λ failed.
             let none : adds_to p.at.facts first e i ≡ [] =
             none_owed p.at.facts first i e
-            (event_spares clients first e p.at q.at i step k.sound k.fails.opens (k.fails.stays i failed)) in
+            (event_spares clients first e p.at q.at i step k.sound k.fails.opens
+            (k.fails.stays i failed)) in
             let owed : sends_on i acts ++ p.owed i ≡ sends_on i acts ++ (p.owed i ++ adds_to p.at.facts first e i) =
             ap (λ (l : List ℕ). sends_on i acts ++ l)
             (sym (append-nil (p.owed i)) ∙ ap (λ (l : List ℕ). p.owed i ++ l) (sym none)) in
@@ -333,4 +337,5 @@ pub failed_spared : StreamsGoOn → RecordsJoin → (clients : Meaning) (j : Lis
 failed_spared go_on join clients j es p q b link legal path step failed =
     let fails = path_fails clients (facts j).begun (facts j) p es path in
     let sound = free_path_sound go_on join clients (facts j).begun (first_free (facts j)) p es path (first_free_sound clients j legal) in
-    event_spares clients (facts j).begun (Commit b) p q link step sound fails.opens (fails.stays link failed)
+    event_spares clients (facts j).begun (Commit b) p q link step sound fails.opens
+    (fails.stays link failed)
