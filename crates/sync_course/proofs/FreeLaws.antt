@@ -5,8 +5,8 @@ use Rattle.std.proofs.Common.{◌∷◌, length, sym, subst, Option, None, Some}
 use Rattle.sync_rules.specs.Clients.{Meaning}
 use Rattle.sync_course.specs.Acts.{Act}
 use Rattle.sync_course.specs.Events.{Event, Pass, Commit, Break}
-use Rattle.sync_course.specs.Free.{Free, FreeFrom, FreeStep, HoldStep, Holds, IsNothingUnderWay}
-use Rattle.sync_course.specs.Free.{forget, hold_at, owing_free}
+use Rattle.sync_course.specs.Free.{Free, FreeFrom, FreeStep, HoldStep, Holds, IsNothingUnderWay, Hold, Rests}
+use Rattle.sync_course.specs.Free.{forget, hold_at, owing_free, Hold, Rests, Holds}
 use Rattle.sync_course.specs.LinkTurns.{Asks, Done, Doing, LinkStep, Spot}
 use Rattle.sync_course.specs.Owing.{ActStep, Owing}
 use Rattle.sync_course.specs.Paths.{Path}
@@ -117,12 +117,10 @@ module _ (clients : Meaning) (terms : Terms) (p : Place) (T : Stage → Event �
 
 module _ (clients : Meaning) (terms : Terms) where
   -- nothing that is told of: this is taken in hand next
-  takes_up : (p q : Place) (stage : Stage) → IsNothingUnderWay (hold_at stage)
-      → IsNothingUnderWay (hold_at q.stage)
-      → forget q ≡ record (forget p) { hold = hold_at q.stage }
-      → FreeFrom clients terms.first (hold_at stage) Pass (forget p) (forget q)
-  takes_up p q stage calm then leads =
-      inr (inl (calm, inl (record { hold = hold_at q.stage; idle = then; leads = leads })))
+  takes_up : (hold next : Hold) (p : Free) → IsNothingUnderWay hold → IsNothingUnderWay next
+      → FreeFrom clients terms.first hold Pass (record p { hold = hold }) (record p { hold = next })
+  takes_up hold next p calm then =
+      inr (inl (calm, inl (record { hold = next; idle = then; leads = refl })))
 
   by_link : (n : ℕ) (doing : Doing) (e : Event) (p q : Free) → HoldStep clients terms.first
       (Holds n doing) e p q
@@ -138,17 +136,14 @@ module _ (clients : Meaning) (terms : Terms) where
       FreeFrom clients terms.first (hold_at stage) x (record (forget p) { hold = hold_at stage })
       (forget r)) (record {
         settles = λ left b settling. inl (inl settling, refl);
-        settled = λ left settled.
-            takes_up (staged (Settles left) p) (staged (Attaches left) p) (Settles left) tt tt refl;
+        settled = λ left settled. takes_up Rests Rests (forget p) tt tt;
         begins = λ x left allowed.
             inr (record { session = x; is = refl; allowed = allowed; leads = refl });
         greets = λ x left. inr (inr refl);
         breaks = λ x left. (refl, refl);
-        all_begun = takes_up (staged (Attaches []) p) (staged Between p) (Attaches []) tt tt refl;
-        ends = λ over. takes_up (staged Between p) (staged Ended p) Between tt tt refl;
-        turns = λ on.
-            takes_up (staged Between p) (record (staged (Works 0 Asks) p) { moved = false }) Between
-            tt tt refl;
+        all_begun = takes_up Rests Rests (forget p) tt tt;
+        ends = λ over. takes_up Rests Rests (forget p) tt tt;
+        turns = λ on. takes_up Rests (Holds 0 Asks) (forget p) tt tt;
         works = λ n doing link x spot at steps.
             by_link n doing x (record (forget p) { hold = Holds n doing })
             (forget (with_spot n spot p)) (record {
@@ -159,9 +154,7 @@ module _ (clients : Meaning) (terms : Terms) where
               steps = steps;
               leads = refl;
             });
-        goes_on = λ n link at.
-            takes_up (staged (Works n Done) p) (staged (Works (suc n) Asks) p) (Works n Done) tt tt
-            refl;
+        goes_on = λ n link at. takes_up (Holds n Done) (Holds (suc n) Asks) (forget p) tt tt;
         turn_ends = λ n none. inr (inl (tt, inr (inr refl)));
       }) q e t
 

@@ -117,9 +117,10 @@ module _ (clients : Meaning) (first : ℕ) where
               | inr plain ↦ (plain_adds p.facts b plain.0).begun
             ]) ∙ held Rests rests);
         begins = λ x rests allowed same.
-            let was : p.facts.begun ≡ first + links = held Rests rests in
-            (omega (arith, was),
-            subst (λ (n : ℕ). takes_of p.facts.takes n ≡ 0) was (untaken clients p.facts journal));
+            let was : p.facts.begun ≡ first + links = held Rests rests in (
+              omega (arith, was),
+              subst (λ (n : ℕ). takes_of p.facts.takes n ≡ 0) was (untaken clients p.facts journal),
+            );
         greets = λ x begins same. joins_begun p x end.Going (held (Begins x) begins);
         breaks = λ x begins same. joins_begun p x end.Failed (held (Begins x) begins);
         works = λ n doing link moved x spot holds there steps same.

@@ -1,10 +1,11 @@
 -- What each place of a run keeps: where the journal is settled, and at which reading a link sends.
 -- So each output is due at its place.
 use Rattle.std.proofs.Common.{◌≡◌, ℕ, ◌+◌, Bool, cond, eq-eqb, List, [], ◌∷◌, refl, sym, ap, subst}
-use Rattle.std.proofs.Common.{Option, Some, suc, ◌++◌, ◌∙◌, None}
+use Rattle.std.proofs.Common.{Option, Some, suc, ◌++◌, None}
 use Rattle.sync_rules.specs.declared.entries.Entry.TheVariants as entry
+use Rattle.sync_rules.specs.declared.entries.Entry.{Entry}
 use Rattle.sync_rules.specs.Clients.{Meaning}
-use Rattle.sync_rules.specs.Facts.{Facts, session_at}
+use Rattle.sync_rules.specs.Facts.{Facts}
 use Rattle.sync_rules.specs.Steps.{IsSettled}
 use Rattle.sync_rules.proofs.StepKinds.{settled_stays}
 use Rattle.sync_course.specs.Events.{Event, Commit, batches_of}
@@ -15,7 +16,7 @@ use Rattle.sync_course.specs.Turns.{Place, RunStep, Settles, Stage, Terms, Works
 use Rattle.sync_course.proofs.LinkSteps.{link_by_cases}
 use Rattle.sync_course.proofs.FreeLaws.{run_by_cases, step_is_free}
 use Rattle.sync_rules.specs.declared.entries.Out.{Out}
-use Rattle.sync_rules.specs.Legal.{IsDue, IsSettlingBatch}
+use Rattle.sync_rules.specs.Legal.{IsSettlingBatch}
 use Rattle.sync_rules.proofs.StepLaws.{next_is_settling}
 use Rattle.sync_course.proofs.PathLaws.{path_parts}
 use Rattle.sync_course.specs.Free.{Holds, IsPlain, forget, hold_at}
@@ -114,54 +115,45 @@ in_hand clients readings (Works m does) f n doing is k =
 in_hand clients readings (Greets x left) f n doing is k = cc
 in_hand clients readings _ f n doing is k = cc
 
-not_settling : {A : Type 0} → (clients : Meaning) (f : Facts) (session now : ℕ) (what : Out)
-    → IsSettlingBatch clients f (out_batch session now what) → A
-not_settling clients f session now what s =
-    absurd (next_is_settling clients f (entry.Out session now what) s.2.0)
+-- the output that an event commits, if it commits one, is due
+abbrev pub OutDue : Meaning → ℕ → (ℕ → Option ℕ) → Facts → Event → Type 0
+OutDue clients first readings f (Commit (entry.Out session now what ∷ rest)) =
+    IsDueAt clients first readings f session now what
+OutDue clients first readings f _ = Unit {0}
 
--- the batch of a step that is an output is due
-step_out : (clients : Meaning) (terms : Terms) (readings : ℕ → Option ℕ) (p q : Place)
-    (session now : ℕ) (what : Out) → RunStep clients terms p (Commit (out_batch session now what)) q
-    → PlaceKeeps clients readings p.stage p.facts
-    → IsDueAt clients terms.first readings p.facts session now what
-step_out clients terms readings p q session now what t k =
+module _ (clients : Meaning) (first : ℕ) (readings : ℕ → Option ℕ) (f : Facts) where
+  none_due : (e : Event) → batches_of (e ∷ []) ≡ [] → OutDue clients first readings f e
+  none_due (Commit b) none = cc
+  none_due _ none = tt
+
+  settling_due : (b : List Entry) → IsSettlingBatch clients f b
+      → OutDue clients first readings f (Commit b)
+  settling_due (entry.Out session now what ∷ rest) settling =
+      absurd (next_is_settling clients f (entry.Out session now what) settling.2.0)
+  settling_due _ settling = tt
+
+  plain_due : (b : List Entry) → IsPlain b → OutDue clients first readings f (Commit b)
+  plain_due (entry.Out session now what ∷ rest) plain = absurd plain
+  plain_due _ plain = tt
+
+step_out : (clients : Meaning) (terms : Terms) (readings : ℕ → Option ℕ) (p q : Place) (e : Event)
+    → RunStep clients terms p e q → PlaceKeeps clients readings p.stage p.facts
+    → OutDue clients terms.first readings p.facts e
+step_out clients terms readings p q e t k =
     free_batches clients terms.first (forget p)
-    (λ (x : Event) (g : Facts). x ≡ Commit (out_batch session now what)
-    → IsDueAt clients terms.first readings p.facts session now what) (record {
-      none = λ x none is.
-          let some : out_batch session now what ∷ [] ≡ [] =
-          sym (ap (λ (y : Event). batches_of (y ∷ [])) is) ∙ none in
-          cc;
-      settles = λ b settling is.
-          let same : b ≡ out_batch session now what = cc in
-          not_settling clients p.facts session now what
-          (subst (IsSettlingBatch clients p.facts) same settling);
-      adds = λ b rests plain allowed is.
-          let same : b ≡ out_batch session now what = cc in
-          absurd (subst IsPlain same plain);
-      begins = λ x rests allowed is. cc;
-      takes = λ n place r its link holds at allowed is. cc;
-      puts = λ n at room out link holds there is_due allowed is.
-          let same_session : terms.first + n ≡ session = cc in
-          let same_time : at ≡ now = cc in
-          let same_out : out ≡ what = cc in
-          record {
-            link = n;
-            on = sym same_session;
-            read =
-                in_hand clients readings p.stage p.facts n (Sends at (suc room)) holds k
-                ∙ ap (λ (t : ℕ). Some t) same_time;
-            is_due =
-                subst (λ (s : ℕ). IsDue clients p.facts (session_at p.facts.sessions s) now what)
-                same_session
-                (subst (λ (t : ℕ).
-                IsDue clients p.facts (session_at p.facts.sessions (terms.first + n)) t what)
-                same_time
-                (subst (IsDue clients p.facts (session_at p.facts.sessions (terms.first + n)) at)
-                same_out is_due));
-          };
-    }) (forget q) (Commit (out_batch session now what))
-    (step_is_free clients terms p q (Commit (out_batch session now what)) t) refl
+    (λ (x : Event) (g : Facts). OutDue clients terms.first readings p.facts x) (record {
+      none = λ x none. none_due clients terms.first readings p.facts x none;
+      settles = λ b settling. settling_due clients terms.first readings p.facts b settling;
+      adds = λ b rests plain allowed. plain_due clients terms.first readings p.facts b plain;
+      begins = λ x rests allowed. tt;
+      takes = λ n place r its link holds at allowed. tt;
+      puts = λ n now room what link holds at is_due allowed. record {
+        link = n;
+        on = refl;
+        read = in_hand clients readings p.stage p.facts n (Sends now (suc room)) holds k;
+        is_due = is_due;
+      };
+    }) (forget q) e (step_is_free clients terms p q e t)
 
 pub out_is_due : (clients : Meaning) (terms : Terms) (from to : Place) (before behind : List Event)
     (session now : ℕ) (what : Out) → PlaceKeeps clients (λ i. None) from.stage from.facts
@@ -175,7 +167,7 @@ out_is_due clients terms from to before behind session now what start path =
       at = parts.0;
       leads = parts.1;
       is_due =
-          step_out clients terms (λ i. last_reading i before) parts.0 parts.2.0 session now what
-          parts.2.1
+          step_out clients terms (λ i. last_reading i before) parts.0 parts.2.0
+          (Commit (out_batch session now what)) parts.2.1
           (path_stays clients terms (λ i. None) from parts.0 before parts.1 start);
     }

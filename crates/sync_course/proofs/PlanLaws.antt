@@ -78,6 +78,10 @@ module _ (clients : Meaning) (terms : Terms) (sessions : List Session) where
       moved (Greets s left) list b = b ∙ ap (λ (l : List Session). l ++ left) (sym list)
       moved _ list b = subst (λ (l : List Session). IsFront l sessions) (sym list) b
 
+  passes_plan : (done : List (List Entry)) (p : Place) → BegunFirst sessions done p.stage
+      → StepPlans done Pass p
+  passes_plan done p begun = plans_same done Pass p tt refl begun
+
   step_plans : (done : List (List Entry)) (p q : Place) (e : Event) → RunStep clients terms p e q
       → BegunFirst sessions done p.stage → StepPlans done e q
   step_plans done p q e t =
@@ -90,8 +94,7 @@ module _ (clients : Meaning) (terms : Terms) (sessions : List Session) where
             plans_same done (Commit b)
             (record (staged (Settles left) p) { facts = after_all p.facts b })
             (only.plain, tt) only.begins begun;
-        settled = λ left settled link begun.
-            plans_same done Pass (staged (Attaches left) p) tt refl begun;
+        settled = λ left settled link begun. passes_plan done (staged (Attaches left) p) begun;
         begins = λ x left allowed link begun. record {
           none_plain = (λ plain. plain, tt);
           begun =
@@ -100,20 +103,19 @@ module _ (clients : Meaning) (terms : Terms) (sessions : List Session) where
               ∙ ap (λ (l : List Session). l ++ left)
               (sym (begun_by-append done ((entry.Session x ∷ []) ∷ [])));
         };
-        greets = λ x left link begun. plans_same done Pass (attached x left p) tt refl begun;
+        greets = λ x left link begun. passes_plan done (attached x left p) begun;
         breaks = λ x left link begun.
             plans_same done (Break (length p.links)) (unattached x left p) tt refl begun;
         all_begun = λ link begun.
-            plans_same done Pass (staged Between p) tt refl (record { more = []; goes_on = begun });
-        ends = λ over link begun. plans_same done Pass (staged Ended p) tt refl begun;
+            passes_plan done (staged Between p) (record { more = []; goes_on = begun });
+        ends = λ over link begun. passes_plan done (staged Ended p) begun;
         turns = λ on link begun.
-            plans_same done Pass (record (staged (Works 0 Asks) p) { moved = false }) tt refl begun;
+            passes_plan done (record (staged (Works 0 Asks) p) { moved = false }) begun;
         works = λ n doing link x spot at steps adds begun.
             let adds = adds (λ holds. cc) in
             plans_same done x (with_spot n spot p) adds.none_plain adds.none_begins begun;
-        goes_on = λ n link at adds begun.
-            plans_same done Pass (staged (Works (suc n) Asks) p) tt refl begun;
-        turn_ends = λ n none link begun. plans_same done Pass (turn_ended p) tt refl begun;
+        goes_on = λ n link at adds begun. passes_plan done (staged (Works (suc n) Asks) p) begun;
+        turn_ends = λ n none link begun. passes_plan done (turn_ended p) begun;
       }) q e t
       (λ busy.
       let adds = step_adds clients terms.first (forget p) (forget q) e
