@@ -1,6 +1,7 @@
 -- The bytes heard on each link of a node grow by those of the answers that its events have; and so do those that are told.
 use Rattle.std.proofs.Common.{◌≡◌, ℕ, zero, suc, ◌+◌, ◌<◌, ◌≤◌, Bool, cond, nat_eq, eq-eqb, List, [], ◌∷◌, ◌++◌, length, append-nil, append_assoc, refl, sym, ◌∙◌, ap, subst, inl, inr, arith, Option}
 use Rattle.std.specs.Prelude.{slice_get, slice_index_or}
+use Rattle.std.proofs.lemmas.List.{get_or_past}
 use Rattle.std.proofs.lemmas.Bool.{cases_eq, ne_eqb}
 use Rattle.std.proofs.lemmas.Grind.{flat_map-append}
 use Rattle.outside.specs.Links.{Answered, HeardOn, Reply, changed_at, ended, got, hear_failure, hear_reply, idle, nothing_heard}
@@ -164,12 +165,8 @@ length_after : (es : List Event) (h : List HeardOn) → length (heard_after es h
 length_after [] h = refl
 length_after (e ∷ es) h = length_after es (heard_by e h) ∙ length_heard e h
 
-none_past : {A : Type 0} (xs : List A) (i : ℕ) (x : A) → length xs ≤ i → slice_index_or xs i x ≡ x
-none_past [] i x past = refl
-none_past (y ∷ xs) zero x past = absurd (omega (arith, past))
-none_past (y ∷ xs) (suc i) x past = none_past xs i x (omega (arith, past))
-
 -- of a link that is not told of nothing is heard
 pub none_tell : (es : List Event) (h : List HeardOn) (i : ℕ) → length h ≤ i → at_of (heard_after es h) i ≡ []
 none_tell es h i past =
-    ap (λ (x : HeardOn). heard_bytes x.answers) (none_past (heard_after es h) i nothing_heard (omega (arith, past, length_after es h)))
+    ap (λ (x : HeardOn). heard_bytes x.answers)
+    (get_or_past (heard_after es h) i nothing_heard (omega (arith, past, length_after es h)))

@@ -166,13 +166,11 @@ get_none [] n none = omega arith
 get_none (x ∷ xs) zero none = cc
 get_none (x ∷ xs) (suc n) none = let rest : length xs ≤ n = get_none xs n none in omega (arith, rest)
 
-closed_going : (b : Bool) (stands : LinkEnd) → is_going (cond b end.Redundant stands) ≡ true → is_going stands ≡ true
-closed_going true stands is = cc
-closed_going false stands is = is
-
-closed_sent : (b : Bool) (stands : LinkEnd) → is_sent_to (cond b end.Redundant stands) ≡ true → is_sent_to stands ≡ true
-closed_sent true stands is = cc
-closed_sent false stands is = is
+-- what no redundant link is, a link was that it is where redundant ones were closed
+closed_so : (test : LinkEnd → Bool) → test end.Redundant ≡ false → (b : Bool) (stands : LinkEnd)
+    → test (cond b end.Redundant stands) ≡ true → test stands ≡ true
+closed_so test none true stands is = absurd (false≢true (sym none ∙ is))
+closed_so test none false stands is = is
 
 module _ (clients : Meaning) (terms : Terms) where
   still_first : (idles : ℕ → ℕ) (readings : ℕ → Option ℕ) (p : Place) → p.still ≡ 0
@@ -225,10 +223,14 @@ module _ (clients : Meaning) (terms : Terms) where
       record {
         idle = λ i link at going.
             let c = redundant_get p.links i link at in
-            (had i link c).idle (closed_going c.beaten c.was.stands (sym (ap (λ (l : Link). is_going l.stands) c.is) ∙ going));
+            (had i link c).idle
+            (closed_so is_going refl c.beaten c.was.stands
+            (sym (ap (λ (l : Link). is_going l.stands) c.is) ∙ going));
         quiet = λ some i link at sent.
             let c = redundant_get p.links i link at in
-            (had i link c).quiet (closed_sent c.beaten c.was.stands (sym (ap (λ (l : Link). is_sent_to l.stands) c.is) ∙ sent));
+            (had i link c).quiet
+            (closed_so is_sent_to refl c.beaten c.was.stands
+            (sym (ap (λ (l : Link). is_sent_to l.stands) c.is) ∙ sent));
       }
 
   had_same : (f g : Facts) (session still idles more : ℕ) (reading now : Option ℕ) (link : Link) → g ≡ f → more ≡ idles → now ≡ reading
