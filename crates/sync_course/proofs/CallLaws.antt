@@ -1,17 +1,15 @@
 -- What each call of a link's turn does, as a step of the course: one law for each, for any journal before and after.
 use Rattle.std.proofs.Common.{◌≡◌, ℕ, ◌+◌, ◌*◌, true, List, [], ◌∷◌, ◌++◌, length, length-append, append-nil, refl, sym, ◌∙◌, ap, subst, arith}
-use Rattle.outside.specs.declared.failed.Failed.{Failed}
 use Rattle.outside.specs.declared.host.Heard.{Heard}
 use Rattle.outside.specs.declared.host.Heard.TheVariants as answer
 use Rattle.outside.specs.Outside.{Outside, MakesAtMost}
 use Rattle.sync_rules.specs.declared.entries.Entry.{Entry}
 use Rattle.sync_rules.specs.Clients.{Meaning}
-use Rattle.sync_course.specs.Events.{Event, asked_event, batches_of, commits, TellsEvents}
-use Rattle.sync_course.specs.Paths.{Path, RunsPath}
+use Rattle.sync_course.specs.Events.{Event, asked_event, batches_of, TellsEvents}
+use Rattle.sync_course.specs.Paths.{RunsPath}
 use Rattle.sync_course.proofs.PathLaws.{path_one}
 use Rattle.sync_course.specs.Links.{is_going}
 use Rattle.sync_course.specs.LinkTurns.{Asks, Spot, LinkStep, StepOf, answered_spot}
-use Rattle.sync_course.proofs.ToldLaws.{batches_of_commits, told_commits}
 
 -- one event that commits nothing
 module _ {P : Type 0} (step : P → Event → P → Type 0) (Before After : List (List Entry) → Type 0) (stays : (j : List (List Entry)) → Before j → After j) where
@@ -24,19 +22,6 @@ module _ {P : Type 0} (step : P → Event → P → Type 0) (Before After : List
     journal = λ j before.
         subst After (sym (append-nil j) ∙ ap (λ (l : List (List Entry)). j ++ l) (sym none)) (stays j before);
     calls = subst (λ (l : List (List Entry)). MakesAtMost (4 * length l) o o') (sym none) made;
-  }
-
--- some batches that were committed, while the links stay as they are; some others may have been next
-module _ {P : Type 0} (step : P → Event → P → Type 0) (Before After : List (List Entry) → Type 0) (bs : List (List Entry))
-    (grows : (j : List (List Entry)) → Before j → After (j ++ bs)) where
-  unfoldable pub runs_commits : (p q : P) (o o' : Outside) {next : List (List Entry)} → o'.links ≡ o.links
-      → MakesAtMost (4 * length (next ++ bs)) o o' → Path step p (commits bs) q → RunsPath step Before After p q o o' next
-  runs_commits p q o o' {next} same made path = record {
-    events = commits bs;
-    path = path;
-    told = told_commits bs o o' same;
-    journal = λ j before. subst After (ap (λ (l : List (List Entry)). j ++ l) (sym (batches_of_commits bs))) (grows j before);
-    calls = subst (λ (l : List (List Entry)). MakesAtMost (4 * length (next ++ l)) o o') (sym (batches_of_commits bs)) made;
   }
 
 -- the batches of a front, and the others
@@ -65,4 +50,3 @@ module _ (clients : Meaning) (n session : ℕ) where
   asked_commits answer.Idle buf = refl
   asked_commits answer.End buf = refl
   asked_commits answer.Failed buf = refl
-  -- ---- it takes

@@ -1,29 +1,24 @@
 -- The bytes heard on each link of a node grow by those of the answers that its events have; and so do those that are told.
 use Rattle.std.proofs.Common.{◌≡◌, ℕ, zero, suc, ◌+◌, ◌<◌, ◌≤◌, Bool, cond, nat_eq, eq-eqb, List, [], ◌∷◌, ◌++◌, length, append-nil, append_assoc, refl, sym, ◌∙◌, ap, subst, inl, inr, arith, Option}
-use Rattle.std.specs.Prelude.{slice_get, slice_index_or, slice_set}
+use Rattle.std.specs.Prelude.{slice_get, slice_index_or}
+use Rattle.std.proofs.lemmas.List.{get_or_past}
 use Rattle.std.proofs.lemmas.Bool.{cases_eq, ne_eqb}
 use Rattle.std.proofs.lemmas.Grind.{flat_map-append}
 use Rattle.outside.specs.Links.{Answered, HeardOn, Reply, changed_at, ended, got, hear_failure, hear_reply, idle, nothing_heard}
 use Rattle.outside.specs.Runs.{heard_bytes, reply_bytes}
 use Rattle.outside.proofs.RunLaws.{changed_at_other, changed_at_same}
-use Rattle.record_grammar.specs.declared.stream.Item.{Item}
-use Rattle.record_grammar.specs.declared.stream.Item.TheVariants as item
-use Rattle.sync_rules.specs.declared.entries.Entry.{Entry}
-use Rattle.sync_rules.specs.declared.entries.Session.{Session}
 use Rattle.sync_rules.specs.Clients.{Meaning}
-use Rattle.sync_course.specs.declared.ends.LinkEnd.{LinkEnd}
-use Rattle.sync_course.specs.declared.ends.LinkEnd.TheVariants as end
 use Rattle.sync_course.specs.declared.TheConstants.{PIECE_LEN}
-use Rattle.sync_course.specs.Events.{Break, Commit, Event, Hear, Miss, Pass, Read, heard_after, heard_by}
-use Rattle.sync_course.specs.Free.{Begins, Free, FreeStep, Hold, HoldStep, Holds, LinkMoves, Rests, TakesUpOrCloses, spot_in}
-use Rattle.sync_course.specs.Links.{Link, link_of}
-use Rattle.sync_course.specs.LinkTurns.{Asks, PassesItem, Puts, SendsNext, Sends, Spot, StepOf, Takes, TakesNext, Waits, heard_spot, Doing}
+use Rattle.sync_course.specs.Events.{Event, Hear, Miss, heard_after, heard_by}
+use Rattle.sync_course.specs.Free.{Free, FreeStep, spot_in}
+use Rattle.sync_course.specs.Links.{Link}
+use Rattle.sync_course.specs.LinkTurns.{Doing, LinkStep, Spot}
 use Rattle.sync_course.specs.Paths.{Path}
 use Rattle.sync_course.specs.Story.{heard_at}
 use Rattle.sync_course.specs.Suits.{heard_in}
-use Rattle.sync_course.proofs.FreeSound.{from_cases}
-use Rattle.sync_course.proofs.LiftLaws.{get_other, get_set, get_within}
-use Rattle.sync_course.proofs.SuitLaws.{closed_heard}
+use Rattle.sync_course.proofs.FreeSteps.{Closed, Joined, Kept, LinkGoes, Stepped, free_link}
+use Rattle.sync_course.proofs.LinkSteps.{Spares, link_by_cases}
+use Rattle.sync_course.proofs.LiftLaws.{get_past}
 
 -- the bytes that an event brings on a link, and those of several
 abbrev pub bytes_by : ℕ → Event → List ℕ
@@ -34,131 +29,76 @@ abbrev pub bytes_of : ℕ → List Event → List ℕ
 bytes_of i [] = []
 bytes_of i (e ∷ es) = bytes_by i e ++ bytes_of i es
 
--- ---- the steps of a link
+-- ---- the steps
 
 none_more : (a b : List ℕ) → a ≡ b → a ≡ b ++ []
 none_more a b same = same ∙ sym (append-nil b)
 
-reply_adds : (reply : Reply) (p : Spot) → (heard_spot reply p).link.heard ≡ p.link.heard ++ reply_bytes reply
-reply_adds (got bytes) p = refl
-reply_adds idle p = sym (append-nil p.link.heard)
-reply_adds ended p = sym (append-nil p.link.heard)
-
 here : (n : ℕ) (x : List ℕ) → cond (nat_eq n n) x [] ≡ x
 here n x = ap (λ (b : Bool). cond b x []) (eq-eqb n n refl)
 
-takes_add : (clients : Meaning) (session : ℕ) (its : List Item) (b : List Entry) (p q : Spot) → TakesNext clients session its b p q → q.link.heard ≡ p.link.heard
-takes_add clients session [] b p q s = absurd s
-takes_add clients session (item.Skipped place type_byte len ∷ its) b p q s = absurd s
-takes_add clients session (item.One place r ∷ its) b p q s = ap (λ (x : Spot). x.link.heard) s.2
-
-passes_add : (its : List Item) (p q : Spot) → PassesItem its p q → q.link.heard ≡ p.link.heard
-passes_add [] p q s = ap (λ (x : Spot). x.link.heard) s
-passes_add (item.One place r ∷ its) p q s = absurd s
-passes_add (item.Skipped place type_byte len ∷ its) p q s = ap (λ (x : Spot). x.link.heard) s
-
-sends_add : (clients : Meaning) (session now room : ℕ) (b : List Entry) (p q : Spot) → SendsNext clients session now room b p q → q.link.heard ≡ p.link.heard
-sends_add clients session now zero b p q s = absurd s
-sends_add clients session now (suc room) b p q s = ap (λ (x : Spot). x.link.heard) s.leads
+-- on another link an event brings nothing
+spared_bytes : (i : ℕ) (e : Event) → Spares i e → bytes_by i e ≡ []
+spared_bytes i (Hear on reply) apart =
+    ap (λ (b : Bool). cond b (reply_bytes reply) []) (ne_eqb on i apart)
+spared_bytes i _ spares = refl
 
 -- on its own link a step adds what its event brings
-step_adds : (clients : Meaning) (n session : ℕ) (doing : Doing) (e : Event) (p q : Spot) → StepOf clients n session doing e p q → q.link.heard ≡ p.link.heard ++ bytes_by n e
-step_adds clients n session Asks (Hear on reply) p q s =
-    ap (λ (x : Spot). x.link.heard) s.2 ∙ reply_adds reply p
-    ∙ ap (λ (l : List ℕ). p.link.heard ++ l) (sym (here n (reply_bytes reply)) ∙ ap (λ (k : ℕ). cond (nat_eq k n) (reply_bytes reply) []) (sym s.0))
-step_adds clients n session Asks (Miss on) p q s = none_more q.link.heard p.link.heard (ap (λ (x : Spot). x.link.heard) s.2)
-step_adds clients n session Asks Pass p q s = none_more q.link.heard p.link.heard (ap (λ (x : Spot). x.link.heard) s.1)
-step_adds clients n session (Takes its) (Commit b) p q s =
-    elim s [
-      | inl settles ↦ none_more q.link.heard p.link.heard (ap (λ (x : Spot). x.link.heard) settles.1)
-      | inr takes ↦ none_more q.link.heard p.link.heard (takes_add clients session its b p q takes)
-    ]
-step_adds clients n session (Takes its) Pass p q s = none_more q.link.heard p.link.heard (passes_add its p q s.1)
-step_adds clients n session Waits (Read on now) p q s = none_more q.link.heard p.link.heard (ap (λ (x : Spot). x.link.heard) s.2)
-step_adds clients n session Waits Pass p q s = none_more q.link.heard p.link.heard (ap (λ (x : Spot). x.link.heard) s.1)
-step_adds clients n session (Sends now room) (Commit b) p q s = none_more q.link.heard p.link.heard (sends_add clients session now room b p q s)
-step_adds clients n session (Sends now room) Pass p q s = none_more q.link.heard p.link.heard (ap (λ (x : Spot). x.link.heard) s.1)
-step_adds clients n session (Puts now room) Pass p q s = none_more q.link.heard p.link.heard (ap (λ (x : Spot). x.link.heard) s)
-step_adds clients n session (Puts now room) (Break on) p q s = none_more q.link.heard p.link.heard (ap (λ (x : Spot). x.link.heard) s.1)
-step_adds clients n session _ _ p q s = absurd s
-
--- on another link its event brings nothing
-brings_none : (i on n : ℕ) (x : List ℕ) → on ≡ n → (i ≡ n → ⊥) → cond (nat_eq on i) x [] ≡ []
-brings_none i on n x is other = ap (λ (b : Bool). cond b x []) (ne_eqb on i (λ same. other (sym same ∙ is)))
-
-step_apart : (clients : Meaning) (n session i : ℕ) (doing : Doing) (e : Event) (p q : Spot) → (i ≡ n → ⊥) → StepOf clients n session doing e p q → bytes_by i e ≡ []
-step_apart clients n session i Asks (Hear on reply) p q other s = brings_none i on n (reply_bytes reply) s.0 other
-step_apart clients n session i Asks (Miss on) p q other s = refl
-step_apart clients n session i Asks Pass p q other s = refl
-step_apart clients n session i (Takes its) (Commit b) p q other s = refl
-step_apart clients n session i (Takes its) Pass p q other s = refl
-step_apart clients n session i Waits (Read on now) p q other s = refl
-step_apart clients n session i Waits Pass p q other s = refl
-step_apart clients n session i (Sends now room) (Commit b) p q other s = refl
-step_apart clients n session i (Sends now room) Pass p q other s = refl
-step_apart clients n session i (Puts now room) Pass p q other s = refl
-step_apart clients n session i (Puts now room) (Break on) p q other s = refl
-step_apart clients n session i _ _ p q other s = absurd s
-
--- ---- the steps of a node
-
-attached_hears : (links : List Link) (s : Session) (stands : LinkEnd) (i : ℕ) → heard_in (slice_get (links ++ link_of s stands ∷ []) i) ≡ heard_in (slice_get links i)
-attached_hears [] s stands zero = refl
-attached_hears [] s stands (suc i) = refl
-attached_hears (x ∷ links) s stands zero = refl
-attached_hears (x ∷ links) s stands (suc i) = attached_hears links s stands i
-
--- each step adds on each link what its event brings
-abbrev FreeAdds : Event → Free → Free → Type 0
-FreeAdds e p q = (i : ℕ) → heard_at q i ≡ heard_at p i ++ bytes_by i e
-
-adds_none : (p q : Free) → ((i : ℕ) → heard_at q i ≡ heard_at p i) → (i : ℕ) → heard_at q i ≡ heard_at p i ++ []
-adds_none p q same i = none_more (heard_at q i) (heard_at p i) (same i)
-
-same_adds : (p q : Free) → q.links ≡ p.links → (i : ℕ) → heard_at q i ≡ heard_at p i ++ []
-same_adds p q same = adds_none p q (λ i. ap (λ (l : List Link). heard_in (slice_get l i)) same)
-
-moves_adds : (p q : Free) → TakesUpOrCloses p.hold p q → FreeAdds Pass p q
-moves_adds p q m =
-    elim m.1 [
-      | inl turns ↦ same_adds p q (ap (λ (x : Free). x.links) turns.leads)
-      | inr others ↦ elim others [
-        | inl sends ↦ same_adds p q (ap (λ (x : Free). x.links) sends.leads)
-        | inr closes ↦ adds_none p q (λ i. ap (λ (x : Free). heard_at x i) closes ∙ closed_heard p.links 0 p.links i)
-      ]
-    ]
+link_adds : (clients : Meaning) (n session : ℕ) (p q : Spot) (e : Event)
+    → LinkStep clients n session p e q → q.link.heard ≡ p.link.heard ++ bytes_by n e
+link_adds clients n session p q e s =
+    let none : p.link.heard ≡ p.link.heard ++ [] = sym (append-nil p.link.heard) in
+    let replied : (reply : Reply) → p.link.heard ++ reply_bytes reply
+    ≡ p.link.heard ++ bytes_by n (Hear n reply) =
+    λ reply. ap (λ (l : List ℕ). p.link.heard ++ l) (sym (here n (reply_bytes reply))) in
+    link_by_cases clients n session p
+    (λ (doing : Doing) (x : Event) (r : Spot). r.link.heard ≡ p.link.heard ++ bytes_by n x)
+    (record {
+      hears = λ bytes going. replied (got bytes);
+      idles = λ going. none ∙ replied idle;
+      ends = λ going. none ∙ replied ended;
+      misses = λ going. none;
+      unasked = λ is. none;
+      settles = λ its b settling. none;
+      takes = λ place r its allowed. none;
+      skips = λ place type_byte len its. none;
+      all_taken = λ settled. none;
+      reads = λ now is_open. none;
+      closed = λ is. none;
+      puts = λ now room what is_due allowed. none;
+      enough = λ now room is. none;
+      put = λ now room. none;
+      breaks = λ now room. none;
+    }) q e s
 
 module _ (clients : Meaning) (first : ℕ) where
-  link_adds : (n : ℕ) (doing : Doing) (e : Event) (p q : Free) → LinkMoves clients first n doing e p q → FreeAdds e p q
-  link_adds n doing e p q t = λ i.
-      ap (λ (x : Free). heard_at x i) t.leads
-      ∙ elim (cases_eq i n) [
-        | inl same ↦
-            subst (λ (k : ℕ). heard_in (slice_get (slice_set p.links n t.spot.link) k) ≡ heard_in (slice_get p.links k) ++ bytes_by k e) (sym same)
-            (ap heard_in (get_set p.links n t.spot.link (get_within p.links n t.link t.there))
-            ∙ step_adds clients n (first + n) doing e (spot_in doing t.link t.moved p) t.spot t.steps
-            ∙ ap (λ (o : Option Link). heard_in o ++ bytes_by n e) (sym t.there))
-        | inr apart ↦
-            ap heard_in (get_other p.links n i t.spot.link apart)
-            ∙ sym (append-nil (heard_in (slice_get p.links i)))
-            ∙ ap (λ (l : List ℕ). heard_in (slice_get p.links i) ++ l) (sym (step_apart clients n (first + n) i doing e (spot_in doing t.link t.moved p) t.spot apart t.steps))
-      ]
+  -- each step adds on each link what its event brings
+  stays_heard : (e : Event) (p q : Free) (i : ℕ) → Spares i e → heard_at q i ≡ heard_at p i
+      → heard_at q i ≡ heard_at p i ++ bytes_by i e
+  stays_heard e p q i spares same =
+      none_more (heard_at q i) (heard_at p i) same
+      ∙ ap (λ (l : List ℕ). heard_at p i ++ l) (sym (spared_bytes i e spares))
 
-  hold_adds : (hold : Hold) (e : Event) (p q : Free) → HoldStep clients first hold e p q → FreeAdds e p q
-  hold_adds Rests (Commit b) p q t =
-      elim t [
-        | inl adds ↦ same_adds p q (ap (λ (x : Free). x.links) adds.1)
-        | inr begins ↦ same_adds p q (ap (λ (x : Free). x.links) begins.leads)
-      ]
-  hold_adds (Begins x) Pass p q t = adds_none p q (λ i. ap (λ (y : Free). heard_at y i) t ∙ attached_hears p.links x end.Going i)
-  hold_adds (Begins x) (Break on) p q t = adds_none p q (λ i. ap (λ (y : Free). heard_at y i) t.1 ∙ attached_hears p.links x end.Failed i)
-  hold_adds (Holds n doing) e p q t = link_adds n doing e p q t
-  hold_adds _ _ p q t = absurd t
+  goes_add : (e : Event) (p q : Free) (i : ℕ) → LinkGoes clients first e p q i
+      → heard_at q i ≡ heard_at p i ++ bytes_by i e
+  goes_add e p q i (Kept k) = stays_heard e p q i k.spares (ap heard_in k.same)
+  goes_add e p q i (Closed c) =
+      stays_heard e p q i c.spares (ap heard_in c.now ∙ sym (ap heard_in c.at))
+  goes_add e p q i (Joined j) =
+      let none : heard_at p i ≡ [] =
+      ap heard_in (ap (slice_get p.links) j.is_next ∙ get_past p.links) in
+      let nothing : bytes_by i e ≡ [] =
+      elim j.way [ inl passes ↦ ap (bytes_by i) passes.0 | inr broke ↦ ap (bytes_by i) broke.0 ] in
+      none_more (heard_at q i) (heard_at p i) (ap heard_in j.now ∙ sym none)
+      ∙ ap (λ (l : List ℕ). heard_at p i ++ l) (sym nothing)
+  goes_add e p q i (Stepped t) =
+      ap heard_in t.now
+      ∙ link_adds clients i (first + i) (spot_in t.doing t.link t.moved p) t.spot e t.steps
+      ∙ ap (λ (o : Option Link). heard_in o ++ bytes_by i e) (sym t.at)
 
-  free_adds : (p q : Free) (e : Event) → FreeStep clients first p e q → FreeAdds e p q
-  free_adds p q e t =
-      from_cases clients first (λ (x : Event). FreeAdds x p q) p.hold e p q t (λ same. same_adds p q (ap (λ (x : Free). x.links) same))
-      (λ m. moves_adds p q m) (λ h. hold_adds p.hold e p q h)
+  free_adds : (p q : Free) (e : Event) → FreeStep clients first p e q → (i : ℕ)
+      → heard_at q i ≡ heard_at p i ++ bytes_by i e
+  free_adds p q e t i = goes_add e p q i (free_link clients first p q e i t)
 
   -- so does a path
   pub free_path_adds : (es : List Event) (p q : Free) (i : ℕ) → Path (FreeStep clients first) p es q → heard_at q i ≡ heard_at p i ++ bytes_of i es
@@ -201,7 +141,8 @@ event_tells (Hear n reply) h i within =
       | inr apart ↦
           ap (λ (x : HeardOn). heard_bytes x.answers) (changed_at_other n (hear_reply PIECE_LEN reply) h i nothing_heard apart)
           ∙ sym (append-nil (at_of h i))
-          ∙ ap (λ (l : List ℕ). at_of h i ++ l) (sym (brings_none i n n (reply_bytes reply) refl apart))
+          ∙ ap (λ (l : List ℕ). at_of h i ++ l)
+          (sym (spared_bytes i (Hear n reply) (λ same. apart (sym same))))
     ]
 event_tells (Miss n) h i within =
     elim (cases_eq i n) [
@@ -224,12 +165,8 @@ length_after : (es : List Event) (h : List HeardOn) → length (heard_after es h
 length_after [] h = refl
 length_after (e ∷ es) h = length_after es (heard_by e h) ∙ length_heard e h
 
-none_past : {A : Type 0} (xs : List A) (i : ℕ) (x : A) → length xs ≤ i → slice_index_or xs i x ≡ x
-none_past [] i x past = refl
-none_past (y ∷ xs) zero x past = absurd (omega (arith, past))
-none_past (y ∷ xs) (suc i) x past = none_past xs i x (omega (arith, past))
-
 -- of a link that is not told of nothing is heard
 pub none_tell : (es : List Event) (h : List HeardOn) (i : ℕ) → length h ≤ i → at_of (heard_after es h) i ≡ []
 none_tell es h i past =
-    ap (λ (x : HeardOn). heard_bytes x.answers) (none_past (heard_after es h) i nothing_heard (omega (arith, past, length_after es h)))
+    ap (λ (x : HeardOn). heard_bytes x.answers)
+    (get_or_past (heard_after es h) i nothing_heard (omega (arith, past, length_after es h)))

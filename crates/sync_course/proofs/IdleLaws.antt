@@ -2,6 +2,7 @@
 -- the turns that it may make where these are fewer.
 use Rattle.std.proofs.Common.{◌≡◌, ℕ, zero, suc, ◌+◌, ◌<◌, ◌≤◌, Bool, true, false, cond, ◌&&◌, ◌||◌, nat_le, List, [], ◌∷◌, ◌++◌, refl, sym, ◌∙◌, ap, inl, inr, arith}
 use Rattle.std.specs.Prelude.{nat_lt}
+use Rattle.std.proofs.Math.Bool.{and-false}
 use Rattle.std.proofs.lemmas.Bool.{le-leb, lt-leb, lt-ltb}
 use Rattle.sync_rules.specs.declared.entries.Entry.TheVariants as entry
 use Rattle.sync_rules.specs.declared.entries.Session.{Session}
@@ -11,7 +12,7 @@ use Rattle.sync_rules.specs.Legal.{Allowed}
 use Rattle.sync_rules.specs.Steps.{IsSettled}
 use Rattle.sync_course.specs.declared.TheConstants.{MAX_OUTPUTS}
 use Rattle.sync_course.specs.declared.ends.LinkEnd.TheVariants as end
-use Rattle.sync_course.specs.Closing.{Closing, closing}
+use Rattle.sync_course.specs.Closing.{closing}
 use Rattle.sync_course.specs.Events.{Pass}
 use Rattle.sync_course.specs.Links.{Link, beats, link_of, without_redundant}
 use Rattle.sync_course.specs.LinkTurns.{Asks, Done, IsNothingDue, Sends, Spot, Waits}
@@ -20,10 +21,6 @@ use Rattle.sync_course.proofs.PathLaws.{path_then}
 use Rattle.sync_course.proofs.KeptLaws.{not_itself}
 use Rattle.sync_course.specs.Turns.{Attaches, Between, Course, Ended, Greets, Place, RunStep, Terms, Works, attached, first_place, is_at_end, is_over, turn_ended, with_spot}
 use Rattle.sync_course.specs.Idle.{greeting, idle_turn, idle_turns, idle_run, idle_place, idle_end}
-
--- the closing of a run whose one link is still asked
-closed : Bool → Closing
-closed over = record { over = over; ends = end.Going ∷ [] }
 
 beats_itself : (i : ℕ) (a : Link) (b : Bool) → beats i a i a ≡ b → b ≡ false
 beats_itself i a true is = not_itself i a is
@@ -122,46 +119,38 @@ module _ (clients : Meaning) (terms : Terms) (s : Session) (now : ℕ) (f : Fact
   -- not over and with turns left
   goes_on_at : (k : ℕ) → k < terms.quiet → k < terms.turns → is_at_end terms (idle_place s k began) ≡ false
   goes_on_at k quiet turns =
-      let a : nat_le terms.quiet k ≡ false = lt-leb terms.quiet k quiet in
-      let b : nat_le terms.turns k ≡ false = lt-leb terms.turns k turns in
-      ap (λ (x : Bool). (nat_lt 0 k && x) || nat_le terms.turns k) a ∙ ap (λ (x : Bool). (nat_lt 0 k && false) || x) b ∙ never (nat_lt 0 k)
-    where
-      never : (x : Bool) → ((x && false) || false) ≡ false
-      never true = refl
-      never false = refl
+      ap (λ (x : Bool). (nat_lt 0 k && x) || nat_le terms.turns k) (lt-leb terms.quiet k quiet)
+      ∙ ap (λ (x : Bool). (nat_lt 0 k && false) || x) (lt-leb terms.turns k turns)
+      ∙ ap (λ (x : Bool). x || false) (and-false (nat_lt 0 k))
+
+  -- after so many turns it ends, over or with no turn left
+  ends_after : (n : ℕ) (over : Bool) → n ≤ terms.quiet → n ≤ terms.turns
+      → is_over terms.quiet (idle_place s n began) ≡ over → (over || nat_le terms.turns n) ≡ true
+      → Course clients terms (s ∷ []) f (idle_run s now n) (idle_end s n began)
+      × (closing terms.quiet (idle_end s n began) ≡ record { over = over; ends = end.Going ∷ [] })
+  ends_after n over quiet turns is ended = (
+    idle_course n (λ k less. goes_on_at k (omega (arith, less, quiet)) (omega (arith, less, turns)))
+        (ap (λ (x : Bool). x || nat_le terms.turns n) is ∙ ended),
+    ap (λ (x : Bool). record { over = x; ends = end.Going ∷ [] }) is,
+  )
 
   -- as many turns as were to be quiet: the link is quiet
   pub ends_quiet : 0 < terms.quiet → terms.quiet ≤ terms.turns
       → Course clients terms (s ∷ []) f (idle_run s now terms.quiet) (idle_end s terms.quiet began)
       × (closing terms.quiet (idle_end s terms.quiet began) ≡ record { over = true; ends = end.Going ∷ [] })
-  unfolding closed
   ends_quiet some enough =
-      let a : nat_lt 0 terms.quiet ≡ true = lt-ltb 0 terms.quiet some in
-      let b : nat_le terms.quiet terms.quiet ≡ true = le-leb terms.quiet terms.quiet (omega arith) in
-      let over : is_over terms.quiet (idle_place s terms.quiet began) ≡ true =
-      ap (λ (x : Bool). x && nat_le terms.quiet terms.quiet) a ∙ b in (
-        idle_course terms.quiet
-            (λ k less. goes_on_at k less (omega (arith, less, enough)))
-            (ap (λ (x : Bool). x || nat_le terms.turns terms.quiet) over),
-        ap closed over,
-      )
+      let last : nat_le terms.quiet terms.quiet ≡ true =
+      le-leb terms.quiet terms.quiet (omega arith) in
+      ends_after terms.quiet true (omega arith) enough
+      (ap (λ (x : Bool). x && nat_le terms.quiet terms.quiet) (lt-ltb 0 terms.quiet some)
+      ∙ last) refl
 
   -- fewer turns than were to be quiet: it is unfinished
   pub ends_unfinished : 0 < terms.turns → terms.turns < terms.quiet
       → Course clients terms (s ∷ []) f (idle_run s now terms.turns) (idle_end s terms.turns began)
       × (closing terms.quiet (idle_end s terms.turns began) ≡ record { over = false; ends = end.Going ∷ [] })
-  unfolding closed
   ends_unfinished some fewer =
-      let a : nat_le terms.quiet terms.turns ≡ false = lt-leb terms.quiet terms.turns fewer in
-      let b : nat_le terms.turns terms.turns ≡ true = le-leb terms.turns terms.turns (omega arith) in
-      let not_over : is_over terms.quiet (idle_place s terms.turns began) ≡ false =
-      ap (λ (x : Bool). nat_lt 0 terms.turns && x) a ∙ none (nat_lt 0 terms.turns) in (
-        idle_course terms.turns
-            (λ k less. goes_on_at k (omega (arith, less, fewer)) less)
-            (ap (λ (x : Bool). x || nat_le terms.turns terms.turns) not_over ∙ b),
-        ap closed not_over,
-      )
-    where
-      none : (x : Bool) → (x && false) ≡ false
-      none true = refl
-      none false = refl
+      ends_after terms.turns false (omega (arith, fewer)) (omega arith)
+      (ap (λ (x : Bool). nat_lt 0 terms.turns && x) (lt-leb terms.quiet terms.turns fewer)
+      ∙ and-false (nat_lt 0 terms.turns))
+      (le-leb terms.turns terms.turns (omega arith))

@@ -7,6 +7,7 @@ use Rattle.std.specs.Prelude.{nat_lt, slice_get, slice_set}
 use Rattle.std.specs.declared.cmp.Ordering.{Ordering}
 use Rattle.std.specs.declared.cmp.Ordering.TheVariants as ordering
 use Rattle.std.proofs.lemmas.Bool.{and_from, and_parts, false≢true, lt-ltb, ltb-true, or_cases, or_left, or_right}
+use Rattle.sync_rules.specs.Lists.{In}
 use Rattle.sync_course.specs.declared.ends.LinkEnd.TheVariants as end
 use Rattle.sync_course.specs.Links.{Link, beats, closed_from, is_beaten, is_before, is_going, is_kept}
 use Rattle.sync_course.specs.Redundant.{KeptRather, closed_as, closed_upto}
@@ -104,104 +105,137 @@ not_itself i a is =
     absurd (false≢true (sym (not_kept a.nonce) ∙ ap (λ (b : Bool). is_kept a.nonce a.nonce b) (sym none) ∙ (beats_parts i a i a is).kept))
 
 -- ---- the one that is kept
--- a link of a list, whose first has the number j
-abbrev pub At : ℕ → List Link → ℕ → Link → Type 0
-At j links i a = (n : ℕ) × (i ≡ j + n) × (slice_get links n ≡ Some a)
-
--- of a link and those of a list, one that none of the list beats: it is that link, or it is in the list and beats it
-pub record Best (j : ℕ) (links : List Link) (k : ℕ) (b : Link) : Type 0 where
-  pub number : ℕ
-  pub link : Link
-  pub is : ((number ≡ k) × (link ≡ b)) ⊎ (At j links number link × (beats number link k b ≡ true))
-  pub unbeaten : is_beaten j links number link ≡ false
-
-at_later : (j : ℕ) (c : Link) (links : List Link) (i : ℕ) (a : Link) → At (suc j) links i a → At j (c ∷ links) i a
-at_later j c links i a at = let e : i ≡ suc j + at.0 = at.1 in (suc at.0, omega (arith, e), at.2)
 
 or_false : (a b : Bool) → a ≡ false → b ≡ false → (a || b) ≡ false
 or_false true b e f = cc
 or_false false b e f = f
 
-best : (j : ℕ) (links : List Link) (k : ℕ) (b : Link) → Best j links k b
-best j [] k b = record { number = k; link = b; is = inl (refl, refl); unbeaten = refl }
-best j (c ∷ links) k b =
-    elim (beats j c k b) as (λ t. beats j c k b ≡ t → Best j (c ∷ links) k b) [
-      | true ↦ λ t. better t (best (suc j) links j c)
-      | false ↦ λ t. same t (best (suc j) links k b)
-    ] refl
-  where
-    not_beaten_by : (m : ℕ) (a : Link) (t : Bool) → beats j c m a ≡ t → (beats j c m a ≡ true → ⊥) → beats j c m a ≡ false
-    not_beaten_by m a true e never = absurd (never e)
-    not_beaten_by m a false e never = e
+never : (t : Bool) → (t ≡ true → ⊥) → t ≡ false
+never true absent = absurd (absent refl)
+never false absent = refl
 
-    better : beats j c k b ≡ true → Best (suc j) links j c → Best j (c ∷ links) k b
-    better t r =
-        elim r.is [
-          | inl here ↦ record {
-            number = j;
-            link = c;
-            is = inr ((0, omega arith, refl), t);
-            unbeaten =
-                or_false (beats j c j c) (is_beaten (suc j) links j c)
-                (not_beaten_by j c (beats j c j c) refl (λ x. not_itself j c x))
-                (subst (λ (m : ℕ). is_beaten (suc j) links m c ≡ false) here.0
-                (subst (λ (l : Link). is_beaten (suc j) links r.number l ≡ false) here.1 r.unbeaten));
-          }
-          | inr there ↦ record {
-            number = r.number;
-            link = r.link;
-            is = inr (at_later j c links r.number r.link there.0, beats_then r.number r.link j c k b there.1 t);
-            unbeaten =
-                or_false (beats j c r.number r.link) (is_beaten (suc j) links r.number r.link)
-                (not_beaten_by r.number r.link (beats j c r.number r.link) refl
-                (λ x. not_itself j c (beats_then j c r.number r.link j c x there.1)))
-                r.unbeaten;
-          }
-        ]
+module _ {A : Type 0} (over : A → A → Bool) where
+  -- one of a list is over this one
+  abbrev pub is_under : List A → A → Bool
+  is_under [] b = false
+  is_under (a ∷ xs) b = over a b || is_under xs b
 
-    same : beats j c k b ≡ false → Best (suc j) links k b → Best j (c ∷ links) k b
-    same t r =
-        elim r.is [
-          | inl here ↦ record {
-            number = r.number;
-            link = r.link;
-            is = inl here;
-            unbeaten =
-                or_false (beats j c r.number r.link) (is_beaten (suc j) links r.number r.link)
-                (subst (λ (m : ℕ). beats j c m r.link ≡ false) (sym here.0) (subst (λ (l : Link). beats j c k l ≡ false) (sym here.1) t))
-                r.unbeaten;
-          }
-          | inr there ↦ record {
-            number = r.number;
-            link = r.link;
-            is = inr (at_later j c links r.number r.link there.0, there.1);
-            unbeaten =
-                or_false (beats j c r.number r.link) (is_beaten (suc j) links r.number r.link)
-                (not_beaten_by r.number r.link (beats j c r.number r.link) refl
-                (λ x. false≢true (sym t ∙ beats_then j c r.number r.link k b x there.1)))
-                r.unbeaten;
-          }
-        ]
+  one_over : (xs : List A) (b : A) → is_under xs b ≡ true → (a : A) × In a xs × (over a b ≡ true)
+  one_over [] b is = cc
+  one_over (a ∷ xs) b is =
+      elim (or_cases (over a b) (is_under xs b) is) [
+        | inl here ↦ (a, inl refl, here)
+        | inr later ↦ let r = one_over xs b later in (r.0, inr r.1, r.2)
+      ]
+
+  under_one : (xs : List A) (a b : A) → In a xs → over a b ≡ true → is_under xs b ≡ true
+  under_one [] a b there is = absurd there
+  under_one (x ∷ xs) a b (inl same) is =
+      or_left (over x b) (is_under xs b) (subst (λ (y : A). over y b ≡ true) same is)
+  under_one (x ∷ xs) a b (inr later) is =
+      or_right (over x b) (is_under xs b) (under_one xs a b later is)
+
+  -- of one and those of a list, one that none of the list is over: it is that one, or it is in the
+  -- list and over it
+  pub record Best (xs : List A) (b : A) : Type 0 where
+    pub best : A
+    pub is : (best ≡ b) ⊎ (In best xs × (over best b ≡ true))
+    pub free : is_under xs best ≡ false
+
+  module _ (itself : (a : A) → over a a ≡ true → ⊥)
+      (then : (a b c : A) → over a b ≡ true → over b c ≡ true → over a c ≡ true) where
+    best_with : (c : A) (xs : List A) (b : A) (t : Bool) → over c b ≡ t → Best xs c → Best xs b
+        → Best (c ∷ xs) b
+    best_with c xs b true t r other = record {
+      best = r.best;
+      is =
+          inr (elim r.is [
+            | inl same ↦ (inl same, subst (λ (x : A). over x b ≡ true) (sym same) t)
+            | inr there ↦ (inr there.0, then r.best c b there.1 t)
+          ]);
+      free =
+          or_false (over c r.best) (is_under xs r.best)
+          (never (over c r.best)
+          (λ x. elim r.is [
+            | inl same ↦ itself c (subst (λ (y : A). over c y ≡ true) same x)
+            | inr there ↦ itself c (then c r.best c x there.1)
+          ]))
+          r.free;
+    }
+    best_with c xs b false t other r = record {
+      best = r.best;
+      is = elim r.is [ inl same ↦ inl same | inr there ↦ inr (inr there.0, there.1) ];
+      free =
+          or_false (over c r.best) (is_under xs r.best)
+          (never (over c r.best)
+          (λ x. false≢true (sym t ∙ elim r.is [
+            | inl same ↦ subst (λ (y : A). over c y ≡ true) same x
+            | inr there ↦ then c r.best b x there.1
+          ])))
+          r.free;
+    }
+
+    best_of : (xs : List A) (b : A) → Best xs b
+    best_of [] b = record { best = b; is = inl refl; free = refl }
+    best_of (c ∷ xs) b = best_with c xs b (over c b) refl (best_of xs c) (best_of xs b)
+
+-- the links of a list with their numbers, whose first has the number j
+abbrev pub numbered : ℕ → List Link → List (ℕ × Link)
+numbered j [] = []
+numbered j (a ∷ links) = (j, a) ∷ numbered (suc j) links
+
+abbrev pub over_by : ℕ × Link → ℕ × Link → Bool
+over_by x y = beats x.0 x.1 y.0 y.1
+
+beaten_numbered : (j : ℕ) (links : List Link) (k : ℕ) (b : Link)
+    → is_beaten j links k b ≡ is_under over_by (numbered j links) (k, b)
+beaten_numbered j [] k b = refl
+beaten_numbered j (a ∷ links) k b =
+    ap (λ (t : Bool). beats j a k b || t) (beaten_numbered (suc j) links k b)
+
+at_number : (j : ℕ) (links : List Link) (n : ℕ) (a : Link) → In (n, a) (numbered j links)
+    → (m : ℕ) × (n ≡ j + m) × (slice_get links m ≡ Some a)
+at_number j [] n a there = absurd there
+at_number j (x ∷ links) n a (inl same) =
+    let here : n ≡ j = ap (λ (y : ℕ × Link). y.0) same in
+    (0, omega (arith, here), ap (λ (y : ℕ × Link). Some y.1) (sym same))
+at_number j (x ∷ links) n a (inr later) =
+    let r = at_number (suc j) links n a later in
+    let number : n ≡ suc j + r.0 = r.1 in
+    (suc r.0, omega (arith, number), r.2)
+
+-- a link that is beaten is beaten by one that is not
+kept_in : (links : List Link) (k : ℕ) (b : Link) → is_beaten 0 links k b ≡ true
+    → (a : ℕ × Link) × In a (numbered 0 links) × (beats a.0 a.1 k b ≡ true)
+    × (is_beaten 0 links a.0 a.1 ≡ false)
+kept_in links k b beaten =
+    let r =
+    best_of over_by (λ a is. not_itself a.0 a.1 is)
+    (λ a c d first second. beats_then a.0 a.1 c.0 c.1 d.0 d.1 first second)
+    (numbered 0 links) (k, b) in
+    let free : is_beaten 0 links r.best.0 r.best.1 ≡ false =
+    beaten_numbered 0 links r.best.0 r.best.1 ∙ r.free in
+    elim r.is [
+      | inl same ↦
+          absurd (false≢true (sym free
+          ∙ ap (λ (y : ℕ × Link). is_beaten 0 links y.0 y.1) same
+          ∙ beaten))
+      | inr there ↦ (r.best, there.0, there.1, free)
+    ]
 
 pub kept_rather : (links : List Link) (k : ℕ) (b : Link) → is_beaten 0 links k b ≡ true → KeptRather links k b
 kept_rather links k b beaten =
-    let r = best 0 links k b in
-    elim r.is [
-      | inl here ↦
-          let never : is_beaten 0 links k b ≡ false =
-          subst (λ (m : ℕ). is_beaten 0 links m b ≡ false) here.0
-          (subst (λ (l : Link). is_beaten 0 links r.number l ≡ false) here.1 r.unbeaten) in
-          absurd (false≢true (sym never ∙ beaten))
-      | inr there ↦
-          let same : r.number ≡ there.0.0 = let e : r.number ≡ 0 + there.0.0 = there.0.1 in omega (arith, e) in
-          record {
-            number = r.number;
-            link = r.link;
-            at = subst (λ (n : ℕ). slice_get links n ≡ Some r.link) (sym same) there.0.2;
-            beats_it = there.1;
-            unbeaten = r.unbeaten;
-          }
-    ]
+    let r = kept_in links k b beaten in
+    let at = at_number 0 links r.0.0 r.0.1 r.1 in
+    let number : r.0.0 ≡ 0 + at.0 = at.1 in
+    let same : at.0 ≡ r.0.0 = omega (arith, number) in
+    record {
+      number = r.0.0;
+      link = r.0.1;
+      at = subst (λ (n : ℕ). slice_get links n ≡ Some r.0.1) same at.2;
+      beats_it = r.2;
+      unbeaten = r.3;
+    }
 
 pub closed_whole : (all : List Link) (k : ℕ) (links : List Link) → closed_upto all k (length links) links ≡ closed_from all k links
 closed_whole all k [] = refl
@@ -221,77 +255,35 @@ closed_more all k (suc m) (x ∷ links) b at =
     ap (λ (l : List Link). closed_as all k x ∷ l)
     (closed_more all (suc k) m links b at ∙ ap (λ (n : ℕ). slice_set (closed_upto all (suc k) m links) m (closed_as all n b)) later)
 
--- what beats a link, among those of a list
-pub record BeatenBy (j : ℕ) (links : List Link) (k : ℕ) (b : Link) : Type 0 where
-  pub place : ℕ
-  pub link : Link
-  pub at : slice_get links place ≡ Some link
-  pub beats_it : beats (j + place) link k b ≡ true
-
-beaten_by : (j : ℕ) (links : List Link) (k : ℕ) (b : Link) → is_beaten j links k b ≡ true → BeatenBy j links k b
-beaten_by j [] k b is = cc
-beaten_by j (a ∷ links) k b is =
-    elim (or_cases (beats j a k b) (is_beaten (suc j) links k b) is) [
-      | inl here ↦
-          let same : j ≡ j + 0 = omega arith in
-          record { place = 0; link = a; at = refl; beats_it = subst (λ (n : ℕ). beats n a k b ≡ true) same here }
-      | inr later ↦
-          let r = beaten_by (suc j) links k b later in
-          let same : suc j + r.place ≡ j + suc r.place = omega arith in
-          record { place = suc r.place; link = r.link; at = r.at; beats_it = subst (λ (n : ℕ). beats n r.link k b ≡ true) same r.beats_it }
-    ]
-
-beaten_from : (j : ℕ) (links : List Link) (k : ℕ) (b : Link) (place : ℕ) (a : Link) → slice_get links place ≡ Some a
-    → beats (j + place) a k b ≡ true → is_beaten j links k b ≡ true
-beaten_from j [] k b place a at is = cc
-beaten_from j (x ∷ links) k b zero a at is =
-    let same : x ≡ a = cc in
-    let here : j + 0 ≡ j = omega arith in
-    or_left (beats j x k b) (is_beaten (suc j) links k b)
-    (subst (λ (n : ℕ). beats n x k b ≡ true) here (subst (λ (y : Link). beats (j + 0) y k b ≡ true) (sym same) is))
-beaten_from j (x ∷ links) k b (suc place) a at is =
-    let later : j + suc place ≡ suc j + place = omega arith in
-    or_right (beats j x k b) (is_beaten (suc j) links k b)
-    (beaten_from (suc j) links k b place a at (subst (λ (n : ℕ). beats n a k b ≡ true) later is))
-
 -- a link of the list in which some are closed
-pub record WasLink (all : List Link) (j : ℕ) (links : List Link) (place : ℕ) (now : Link) : Type 0 where
-  pub was : Link
-  pub at : slice_get links place ≡ Some was
-  pub is : (now ≡ was) ⊎ (now ≡ closed_as all (j + place) was)
-
-was_link : (all : List Link) (j m : ℕ) (links : List Link) (place : ℕ) (now : Link) → slice_get (closed_upto all j m links) place ≡ Some now
-    → WasLink all j links place now
-was_link all j zero links place now at = record { was = now; at = at; is = inl refl }
-was_link all j (suc m) [] place now at = cc
-was_link all j (suc m) (x ∷ links) zero now at =
-    let same : closed_as all j x ≡ now = cc in
-    let here : j ≡ j + 0 = omega arith in
-    record { was = x; at = refl; is = inr (subst (λ (n : ℕ). now ≡ closed_as all n x) here (sym same)) }
-was_link all j (suc m) (x ∷ links) (suc place) now at =
-    let r = was_link all (suc j) m links place now at in
-    let later : suc j + place ≡ j + suc place = omega arith in
-    record {
-      was = r.was;
-      at = r.at;
-      is = elim r.is [ inl same ↦ inl same | inr closed ↦ inr (subst (λ (n : ℕ). now ≡ closed_as all n r.was) later closed) ];
-    }
+was_in : (all : List Link) (j m : ℕ) (links : List Link) (n : ℕ) (now : Link)
+    → In (n, now) (numbered j (closed_upto all j m links))
+    → (was : Link) × In (n, was) (numbered j links) × ((now ≡ was) ⊎ (now ≡ closed_as all n was))
+was_in all j zero links n now there = (now, there, inl refl)
+was_in all j (suc m) [] n now there = absurd there
+was_in all j (suc m) (x ∷ links) n now (inl same) =
+    let number : n ≡ j = ap (λ (y : ℕ × Link). y.0) same in
+    let link : now ≡ closed_as all j x = ap (λ (y : ℕ × Link). y.1) same in (
+      x,
+      inl (ap (λ (i : ℕ). (i, x)) number),
+      inr (link ∙ ap (λ (i : ℕ). closed_as all i x) (sym number)),
+    )
+was_in all j (suc m) (x ∷ links) n now (inr later) =
+    let r = was_in all (suc j) m links n now later in (r.0, inr r.1, r.2)
 
 -- a link that is not beaten stands there as it was
-unbeaten_stays : (all : List Link) (j m : ℕ) (links : List Link) (place : ℕ) (a : Link) → slice_get links place ≡ Some a
-    → is_beaten 0 all (j + place) a ≡ false → slice_get (closed_upto all j m links) place ≡ Some a
-unbeaten_stays all j zero links place a at free = at
-unbeaten_stays all j (suc m) [] place a at free = cc
-unbeaten_stays all j (suc m) (x ∷ links) zero a at free =
-    let same : x ≡ a = cc in
-    let here : j + 0 ≡ j = omega arith in
+stays_in : (all : List Link) (j m : ℕ) (links : List Link) (n : ℕ) (a : Link)
+    → In (n, a) (numbered j links)
+    → is_beaten 0 all n a ≡ false → In (n, a) (numbered j (closed_upto all j m links))
+stays_in all j zero links n a there free = there
+stays_in all j (suc m) [] n a there free = absurd there
+stays_in all j (suc m) (x ∷ links) n a (inl same) free =
     let free_here : is_beaten 0 all j x ≡ false =
-    subst (λ (n : ℕ). is_beaten 0 all n x ≡ false) here
-    (subst (λ (y : Link). is_beaten 0 all (j + 0) y ≡ false) (sym same) free) in
-    ap (λ (b : Bool). Some (record x { stands = cond b end.Redundant x.stands })) free_here ∙ ap (λ (y : Link). Some y) same
-unbeaten_stays all j (suc m) (x ∷ links) (suc place) a at free =
-    let later : j + suc place ≡ suc j + place = omega arith in
-    unbeaten_stays all (suc j) m links place a at (subst (λ (n : ℕ). is_beaten 0 all n a ≡ false) later free)
+    ap (λ (y : ℕ × Link). is_beaten 0 all y.0 y.1) (sym same) ∙ free in
+    inl (same
+    ∙ ap (λ (t : Bool). (j, record x { stands = cond t end.Redundant x.stands })) (sym free_here))
+stays_in all j (suc m) (x ∷ links) n a (inr later) free =
+    inr (stays_in all (suc j) m links n a later free)
 
 closed_beats : (t : Bool) (i : ℕ) (a : Link) (k : ℕ) (b : Link) → beats i (record a { stands = cond t end.Redundant a.stands }) k b ≡ true
     → beats i a k b ≡ true
@@ -307,28 +299,28 @@ both_so false false there back = refl
 pub same_beaten : (links : List Link) (m k : ℕ) (b : Link) → is_beaten 0 (closed_upto links 0 m links) k b ≡ is_beaten 0 links k b
 same_beaten links m k b = both_so (is_beaten 0 (closed_upto links 0 m links) k b) (is_beaten 0 links k b) there back
   where
-    was_beaten : (place : ℕ) (now : Link) → beats (0 + place) now k b ≡ true → (w : WasLink links 0 links place now) → is_beaten 0 links k b ≡ true
-    was_beaten place now is w =
-        elim w.is [
-          | inl same ↦ beaten_from 0 links k b place w.was w.at (subst (λ (y : Link). beats (0 + place) y k b ≡ true) same is)
-          | inr closed ↦
-              beaten_from 0 links k b place w.was w.at
-              (closed_beats (is_beaten 0 links (0 + place) w.was) (0 + place) w.was k b
-              (subst (λ (y : Link). beats (0 + place) y k b ≡ true) closed is))
-        ]
-
     there : is_beaten 0 (closed_upto links 0 m links) k b ≡ true → is_beaten 0 links k b ≡ true
     there is =
-        let r = beaten_by 0 (closed_upto links 0 m links) k b is in
-        was_beaten r.place r.link r.beats_it (was_link links 0 m links r.place r.link r.at)
+        let r =
+        one_over over_by (numbered 0 (closed_upto links 0 m links)) (k, b)
+        (sym (beaten_numbered 0 (closed_upto links 0 m links) k b) ∙ is) in
+        let w = was_in links 0 m links r.0.0 r.0.1 r.1 in
+        let beats_it : beats r.0.0 w.0 k b ≡ true =
+        elim w.2 [
+          | inl same ↦ subst (λ (y : Link). beats r.0.0 y k b ≡ true) same r.2
+          | inr closed ↦
+              closed_beats (is_beaten 0 links r.0.0 w.0) r.0.0 w.0 k b
+              (subst (λ (y : Link). beats r.0.0 y k b ≡ true) closed r.2)
+        ] in
+        beaten_numbered 0 links k b
+        ∙ under_one over_by (numbered 0 links) (r.0.0, w.0) (k, b) w.1 beats_it
 
     back : is_beaten 0 links k b ≡ true → is_beaten 0 (closed_upto links 0 m links) k b ≡ true
     back is =
-        let r = kept_rather links k b is in
-        let same : r.number ≡ 0 + r.number = omega arith in
-        beaten_from 0 (closed_upto links 0 m links) k b r.number r.link
-        (unbeaten_stays links 0 m links r.number r.link r.at (subst (λ (n : ℕ). is_beaten 0 links n r.link ≡ false) same r.unbeaten))
-        (subst (λ (n : ℕ). beats n r.link k b ≡ true) same r.beats_it)
+        let r = kept_in links k b is in
+        beaten_numbered 0 (closed_upto links 0 m links) k b
+        ∙ under_one over_by (numbered 0 (closed_upto links 0 m links)) r.0 (k, b)
+        (stays_in links 0 m links r.0.0 r.0.1 r.1 r.3) r.2
 
 -- closing the next link by the links as they then stand
 pub closes_next : (links : List Link) (m : ℕ) (b : Link) → slice_get links m ≡ Some b

@@ -1,11 +1,11 @@
 pub mod CallLaws
-pub mod EndLaws
 pub mod LiftLaws
 pub mod LinkLaws
-pub mod MoveLaws
+pub mod LinkSteps
 pub mod PathLaws
 pub mod ActLaws
 pub mod FreeLaws
+pub mod FreeSteps
 pub mod FreeSound
 pub mod FailLaws
 pub mod QuietLaws
@@ -13,11 +13,9 @@ pub mod SendLaws
 pub mod FreeSuits
 pub mod HeardLaws
 pub mod PlanLaws
-pub mod SuitLaws
 pub mod ToldLaws
-pub mod CountLaws
 pub mod IdleLaws
 pub mod KeptLaws
-pub mod OutLaws
 pub mod ReadingLaws
 pub mod RunLaws
+pub mod PlaceLaws

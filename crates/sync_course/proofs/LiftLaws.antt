@@ -1,23 +1,21 @@
 -- A link's turn as a part of the run, and the steps of the run between the turns of its links.
-use Rattle.std.proofs.Common.{◌≡◌, ℕ, zero, suc, ◌+◌, ◌<◌, Bool, false, cond, List, [], ◌∷◌, ◌++◌, length, refl, sym, ap, subst, inl, inr, arith, Option, None, Some}
+use Rattle.std.proofs.Common.{◌≡◌, ℕ, zero, suc, ◌+◌, ◌<◌, Bool, false, cond, List, [], ◌∷◌, length, refl, sym, ap, subst, inl, inr, arith, Option, None, Some}
+use Rattle.std.proofs.lemmas.Option.{slice_get_within}
 use Rattle.std.specs.Prelude.{slice_get, slice_set}
-use Rattle.outside.specs.Outside.{Outside, MakesAtMost}
+use Rattle.outside.specs.Outside.{Outside}
 use Rattle.outside.proofs.CallCounts.{most_none}
 use Rattle.sync_rules.specs.declared.entries.Entry.{Entry}
-use Rattle.sync_rules.specs.declared.entries.Entry.TheVariants as entry
 use Rattle.sync_rules.specs.declared.entries.Session.{Session}
 use Rattle.sync_rules.specs.Clients.{Meaning}
-use Rattle.sync_rules.specs.Facts.{after_all}
-use Rattle.sync_rules.specs.Legal.{Allowed}
 use Rattle.sync_rules.specs.Steps.{IsSettled}
-use Rattle.sync_course.specs.Events.{Event, Commit, Break, Pass, TellsEvents}
+use Rattle.sync_course.specs.Events.{Event, Pass}
 use Rattle.sync_course.specs.Paths.{Path, RunsPath}
-use Rattle.sync_course.proofs.PathLaws.{path_maps, path_one}
+use Rattle.sync_course.proofs.PathLaws.{path_maps}
 use Rattle.sync_course.proofs.ToldLaws.{told_pass}
-use Rattle.sync_course.proofs.CallLaws.{runs_commits, runs_quiet}
+use Rattle.sync_course.proofs.CallLaws.{runs_quiet}
 use Rattle.sync_course.specs.Links.{Link}
-use Rattle.sync_course.specs.LinkTurns.{Asks, Doing, Done, LinkStep, Spot}
-use Rattle.sync_course.specs.Turns.{Attaches, Between, Ended, Greets, Place, RunStep, Settles, StageStep, Terms, TurnStep, Works, attached, is_at_end, spot_of, turn_ended, unattached, with_spot}
+use Rattle.sync_course.specs.LinkTurns.{Asks, Done, LinkStep, Spot}
+use Rattle.sync_course.specs.Turns.{Attaches, Between, Ended, Place, RunStep, Settles, StageStep, Terms, TurnStep, Works, is_at_end, turn_ended, with_spot}
 
 -- ---- one item of a list
 
@@ -45,9 +43,7 @@ module _ {A : Type 0} where
   set_same (y ∷ xs) (suc n) x at = ap (λ (l : List A). y ∷ l) (set_same xs n x at)
 
   pub get_within : (xs : List A) (n : ℕ) (x : A) → slice_get xs n ≡ Some x → n < length xs
-  get_within [] n x at = cc
-  get_within (y ∷ xs) zero x at = omega arith
-  get_within (y ∷ xs) (suc n) x at = let rest : n < length xs = get_within xs n x at in omega (arith, rest)
+  get_within xs n x at = slice_get_within xs n x at
 
   pub get_past : (xs : List A) → slice_get xs (length xs) ≡ None
   get_past [] = refl
@@ -80,31 +76,6 @@ module _ (clients : Meaning) (terms : Terms) (n : ℕ) (place : Place) (within :
   link_lifts p q es path =
       path_maps (LinkStep clients n (terms.first + n)) (RunStep clients terms) (λ (s : Spot). with_spot n s place) lifted_step p q es path
 
-  module _ (Before After : List (List Entry) → Type 0) where
-    unfoldable pub runs_lifted : (p q : Spot) (o o' : Outside) {next : List (List Entry)}
-        → RunsPath (LinkStep clients n (terms.first + n)) Before After p q o o' next
-        → RunsPath (RunStep clients terms) Before After (with_spot n p place) (with_spot n q place) o o' next
-    runs_lifted p q o o' runs = record {
-      events = runs.events;
-      path = link_lifts p q runs.events runs.path;
-      told = runs.told;
-      journal = runs.journal;
-      calls = runs.calls;
-    }
-
--- a place at which a link has its turn is one of those that its spots give
-pub at_spot : (n : ℕ) (doing : Doing) (link : Link) (place : Place) → place.stage ≡ Works n doing → slice_get place.links n ≡ Some link
-    → with_spot n (spot_of doing link place) place ≡ place
-at_spot n doing link place works at =
-    λ i. record {
-      stage = sym works i;
-      links = set_same place.links n link at i;
-      moved = place.moved;
-      still = place.still;
-      made = place.made;
-      facts = place.facts;
-    }
-
 -- a link's turn leaves the other links
 pub others_keep : (n i : ℕ) (spot : Spot) (place : Place) → (i ≡ n → ⊥)
     → slice_get (with_spot n spot place).links i ≡ slice_get place.links i
@@ -136,47 +107,14 @@ module _ (clients : Meaning) (terms : Terms) where
       let q : Place = record p { stage = Works 0 Asks; moved = false } in
       stage_at p q Pass Between between (ap (λ (b : Bool). cond b (record p { stage = Ended }) q) (sym on))
 
-  module _ (Before After : List (List Entry) → Type 0) where
-    abbrev pub Leads : Place → Place → Outside → Outside → Type 0
-    Leads p q o o' = RunsPath (RunStep clients terms) Before After p q o o' []
-
-    -- a session begins
-    pub runs_attached : (s : Session) (left : List Session) (p : Place) (o o' : Outside) → p.stage ≡ Attaches (s ∷ left)
-        → Allowed clients p.facts (entry.Session s ∷ []) → o'.links ≡ o.links → MakesAtMost 4 o o'
-        → ((j : List (List Entry)) → Before j → After (j ++ (entry.Session s ∷ []) ∷ []))
-        → Leads p (record p { stage = Greets s left; facts = after_all p.facts (entry.Session s ∷ []) }) o o'
-    runs_attached s left p o o' attaches allowed same made grows =
-        let b : List Entry = entry.Session s ∷ [] in
-        let q : Place = record p { stage = Greets s left; facts = after_all p.facts b } in
-        runs_commits (RunStep clients terms) Before After (b ∷ []) grows p q o o' same made
-        (path_one (RunStep clients terms) p q (Commit b) (stage_at p q (Commit b) (Attaches (s ∷ left)) attaches (refl, allowed, refl)))
-
-    module _ (stays : (j : List (List Entry)) → Before j → After j) where
-      passes : (p q : Place) (o o' : Outside) → RunStep clients terms p Pass q → TellsEvents (Pass ∷ []) o o' → MakesAtMost 0 o o' → Leads p q o o'
-      passes p q o o' s told made = runs_quiet (RunStep clients terms) Before After stays p q Pass o o' refl s told made
-
-      -- the journal is settled, at the begin
-      pub runs_settled_begun : (sessions : List Session) (p : Place) (o : Outside) → p.stage ≡ Settles sessions → IsSettled clients p.facts
-          → Leads p (record p { stage = Attaches sessions }) o o
-      runs_settled_begun sessions p o settles settled =
-          let q : Place = record p { stage = Attaches sessions } in
-          passes p q o o (stage_at p q Pass (Settles sessions) settles (settled, refl)) (told_pass o o refl) (most_none 0 o)
-
-      -- a session greeted; all sends of its greeting are told as one event
-      pub runs_greeted : (s : Session) (left : List Session) (p : Place) (o o' : Outside) → p.stage ≡ Greets s left → TellsEvents (Pass ∷ []) o o'
-          → MakesAtMost 0 o o' → Leads p (attached s left p) o o'
-      runs_greeted s left p o o' greets told made =
-          passes p (attached s left p) o o' (stage_at p (attached s left p) Pass (Greets s left) greets refl) told made
-
-      -- its greeting failed
-      pub runs_ungreeted : (s : Session) (left : List Session) (p : Place) (o o' : Outside) → p.stage ≡ Greets s left
-          → TellsEvents (Break (length p.links) ∷ []) o o' → MakesAtMost 0 o o' → Leads p (unattached s left p) o o'
-      runs_ungreeted s left p o o' greets told made =
-          runs_quiet (RunStep clients terms) Before After stays p (unattached s left p) (Break (length p.links)) o o' refl
-          (stage_at p (unattached s left p) (Break (length p.links)) (Greets s left) greets (refl, refl)) told made
-
-      -- a turn begins
-      pub runs_turn : (p : Place) (o : Outside) → p.stage ≡ Between → is_at_end terms p ≡ false
-          → Leads p (record p { stage = Works 0 Asks; moved = false }) o o
-      runs_turn p o between on =
-          passes p (record p { stage = Works 0 Asks; moved = false }) o o (begin_step p between on) (told_pass o o refl) (most_none 0 o)
+  -- the journal is settled, at the begin
+  pub runs_settled_begun : (Before After : List (List Entry) → Type 0)
+      → ((j : List (List Entry)) → Before j → After j) → (sessions : List Session) (p : Place)
+      (o : Outside) → p.stage ≡ Settles sessions → IsSettled clients p.facts
+      → RunsPath (RunStep clients terms) Before After p (record p { stage = Attaches sessions }) o o
+      []
+  runs_settled_begun Before After stays sessions p o settles settled =
+      let q : Place = record p { stage = Attaches sessions } in
+      runs_quiet (RunStep clients terms) Before After stays p q Pass o o refl
+      (stage_at p q Pass (Settles sessions) settles (settled, refl)) (told_pass o o refl)
+      (most_none 0 o)

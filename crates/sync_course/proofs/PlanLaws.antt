@@ -1,9 +1,7 @@
 -- The batches of a run suit it as planned: its k-th session is the k-th of those it was given, and no plain entry is among them.
-use Rattle.std.proofs.Common.{◌≡◌, ℕ, zero, suc, ◌+◌, Bool, true, false, cond, List, [], ◌∷◌, ◌++◌, append-nil, append_assoc, refl, sym, ◌∙◌, ap, subst, inl, inr, arith, Option, None, Some}
+use Rattle.std.proofs.Common.{◌≡◌, ℕ, zero, suc, ◌+◌, false, List, [], ◌∷◌, ◌++◌, length, append-nil, append_assoc, refl, sym, ◌∙◌, ap, subst, inl, inr, arith, Some}
 use Rattle.std.specs.Prelude.{slice_get}
 use Rattle.record_grammar.specs.Laws.{FrontsHaveFronts, RecordsJoin, StreamsGoOn}
-use Rattle.record_grammar.specs.declared.stream.Item.{Item}
-use Rattle.record_grammar.specs.declared.stream.Item.TheVariants as item
 use Rattle.sync_rules.specs.declared.entries.Entry.{Entry}
 use Rattle.sync_rules.specs.declared.entries.Entry.TheVariants as entry
 use Rattle.sync_rules.specs.declared.entries.Session.{Session}
@@ -12,20 +10,19 @@ use Rattle.sync_rules.specs.Facts.{Facts, after_all, facts}
 use Rattle.sync_rules.specs.Growth.{IsFront}
 use Rattle.sync_rules.specs.Legal.{IsSettlingBatch, Legal}
 use Rattle.sync_rules.proofs.Continuing.{front_itself}
-use Rattle.sync_rules.proofs.StepLaws.{next_is_settling}
-use Rattle.sync_course.specs.Events.{Event, Commit, Hear, Miss, Read, Break, Pass, batches_of}
-use Rattle.sync_course.specs.Free.{FreeStep, IsPlain, first_free, forget}
-use Rattle.sync_course.specs.Links.{Link}
-use Rattle.sync_course.specs.LinkTurns.{Asks, Takes, Waits, Sends, Puts, Done, Doing, SendsNext, Spot, StepOf, TakesNext}
+use Rattle.sync_rules.proofs.StepLaws.{next_is_settling, IsSettlingEntry}
+use Rattle.sync_course.specs.Events.{Event, Commit, Break, Pass, batches_of}
+use Rattle.sync_course.specs.Free.{FreeStep, IsPlain, Rests, first_free, forget, hold_at}
+use Rattle.sync_course.specs.LinkTurns.{Asks}
 use Rattle.sync_course.specs.Paths.{Path}
 use Rattle.sync_course.specs.Story.{AllSuitNode, AllSuitPlanned, IsOfCourse, begun_by}
 use Rattle.sync_course.specs.Suits.{AllSuitCourse, SuitsCourse, heard_on}
-use Rattle.sync_course.proofs.SuitLaws.{settling_suits}
 use Rattle.sync_rules.specs.Lists.{In}
-use Rattle.sync_course.specs.Turns.{Attaches, Between, Broken, Ended, EndsTurn, GoesToNext, Greets, Place, RunStep, Settles, Stage, StageStep, Terms, TurnStep, Works, first_place, is_at_end, spot_of, turn_ended, with_spot}
-use Rattle.sync_course.proofs.FreeLaws.{run_is_free}
+use Rattle.sync_course.specs.Turns.{Attaches, Between, Broken, Ended, Greets, Place, RunStep, Settles, Stage, Terms, Works, attached, first_place, turn_ended, unattached, with_spot}
+use Rattle.sync_course.proofs.FreeLaws.{run_is_free, step_is_free, run_by_cases, staged}
 use Rattle.sync_course.proofs.FreeSound.{IsFreeSound, first_free_sound}
-use Rattle.sync_course.proofs.FreeSuits.{begun_by-append, free_path_suits, link_begins, settling_begins}
+use Rattle.sync_course.proofs.FreeSuits.{begun_by-append, free_path_suits}
+use Rattle.sync_course.proofs.FreeSteps.{settling_adds, step_adds}
 use Rattle.sync_course.proofs.PathLaws.{path_keeps}
 use Rattle.sync_course.proofs.RunLaws.{get_front}
 use Rattle.sync_course.proofs.ToldLaws.{batches_of-append}
@@ -40,41 +37,15 @@ none_plain_then : (bs cs : List (List Entry)) → NonePlain bs → NonePlain cs 
 none_plain_then [] cs a b = b
 none_plain_then (x ∷ bs) cs a b = (a.0, none_plain_then bs cs a.1 b)
 
-settling_not_plain : (clients : Meaning) (f : Facts) (b : List Entry) → IsSettlingBatch clients f b → IsPlain b → ⊥
-settling_not_plain clients f (entry.Contact c ∷ []) s is = absurd (next_is_settling clients f (entry.Contact c) s.2.0)
-settling_not_plain clients f (entry.Group def ∷ []) s is = absurd (next_is_settling clients f (entry.Group def) s.2.0)
-settling_not_plain clients f (entry.Level c g l ∷ []) s is = absurd (next_is_settling clients f (entry.Level c g l) s.2.0)
-settling_not_plain clients f (entry.Author m ∷ []) s is = absurd (next_is_settling clients f (entry.Author m) s.2.0)
-settling_not_plain clients f _ s is = absurd is
-
-takes_not_plain : (clients : Meaning) (session : ℕ) (its : List Item) (b : List Entry) (p q : Spot) → TakesNext clients session its b p q
-    → IsPlain b → ⊥
-takes_not_plain clients session [] b p q s = absurd s
-takes_not_plain clients session (item.Skipped place type_byte len ∷ its) b p q s = absurd s
-takes_not_plain clients session (item.One place r ∷ its) b p q s = λ is. subst IsPlain s.0 is
-
-sends_not_plain : (clients : Meaning) (session now room : ℕ) (b : List Entry) (p q : Spot) → SendsNext clients session now room b p q
-    → IsPlain b → ⊥
-sends_not_plain clients session now zero b p q s = absurd s
-sends_not_plain clients session now (suc room) b p q s = λ is. subst IsPlain s.is is
-
-link_not_plain : (clients : Meaning) (n session : ℕ) (doing : Doing) (e : Event) (p q : Spot) → StepOf clients n session doing e p q
+none_plain_by : (e : Event) → ((b : List Entry) → e ≡ Commit b → IsPlain b → ⊥)
     → NonePlain (batches_of (e ∷ []))
-link_not_plain clients n session (Takes its) (Commit b) p q s =
-    elim s [
-      | inl settles ↦ (settling_not_plain clients p.facts b settles.0, tt)
-      | inr takes ↦ (takes_not_plain clients session its b p q takes, tt)
-    ]
-link_not_plain clients n session (Sends now room) (Commit b) p q s = (sends_not_plain clients session now room b p q s, tt)
-link_not_plain clients n session Asks (Commit b) p q s = absurd s
-link_not_plain clients n session Waits (Commit b) p q s = absurd s
-link_not_plain clients n session (Puts now room) (Commit b) p q s = absurd s
-link_not_plain clients n session Done (Commit b) p q s = absurd s
-link_not_plain clients n session doing (Hear on reply) p q s = tt
-link_not_plain clients n session doing (Miss on) p q s = tt
-link_not_plain clients n session doing (Read on now) p q s = tt
-link_not_plain clients n session doing (Break on) p q s = tt
-link_not_plain clients n session doing Pass p q s = tt
+none_plain_by (Commit b) never = (never b refl, tt)
+none_plain_by _ never = tt
+
+-- what a link adds is no plain entry, and no session begins by it
+pub record AddsOfLink (e : Event) : Type 0 where
+  pub none_plain : NonePlain (batches_of (e ∷ []))
+  pub none_begins : begun_by (batches_of (e ∷ [])) ≡ []
 
 -- ---- the sessions that began are the first of those given
 
@@ -91,75 +62,65 @@ module _ (clients : Meaning) (terms : Terms) (sessions : List Session) where
     pub begun : BegunFirst sessions (done ++ batches_of (e ∷ [])) q.stage
 
   -- no session began
-  plans_same : (done : List (List Entry)) (e : Event) (p q : Place) → q ≡ p → NonePlain (batches_of (e ∷ [])) → begun_by (batches_of (e ∷ [])) ≡ []
-      → BegunFirst sessions done p.stage → StepPlans done e q
-  plans_same done e p q same plain none begun =
+  plans_same : (done : List (List Entry)) (e : Event) (p : Place) → NonePlain (batches_of (e ∷ []))
+      → begun_by (batches_of (e ∷ [])) ≡ [] → BegunFirst sessions done p.stage → StepPlans done e p
+  plans_same done e p plain none begun =
       let list : begun_by (done ++ batches_of (e ∷ [])) ≡ begun_by done =
       begun_by-append done (batches_of (e ∷ []))
       ∙ ap (λ (l : List Session). begun_by done ++ l) none
       ∙ append-nil (begun_by done) in
-      record {
-        none_plain = plain;
-        begun = subst (λ (x : Place). BegunFirst sessions (done ++ batches_of (e ∷ [])) x.stage) (sym same) (moved p.stage list begun);
-      }
+      record { none_plain = plain; begun = moved p.stage list begun }
     where
       moved : (stage : Stage) → begun_by (done ++ batches_of (e ∷ [])) ≡ begun_by done → BegunFirst sessions done stage
           → BegunFirst sessions (done ++ batches_of (e ∷ [])) stage
       moved (Settles left) list b = b ∙ ap (λ (l : List Session). l ++ left) (sym list)
       moved (Attaches left) list b = b ∙ ap (λ (l : List Session). l ++ left) (sym list)
       moved (Greets s left) list b = b ∙ ap (λ (l : List Session). l ++ left) (sym list)
-      moved Between list b = subst (λ (l : List Session). IsFront l sessions) (sym list) b
-      moved (Works n doing) list b = subst (λ (l : List Session). IsFront l sessions) (sym list) b
-      moved Ended list b = subst (λ (l : List Session). IsFront l sessions) (sym list) b
+      moved _ list b = subst (λ (l : List Session). IsFront l sessions) (sym list) b
 
-  turn_plans : (done : List (List Entry)) (n : ℕ) (doing : Doing) (o : Option Link) (e : Event) (p q : Place)
-      → TurnStep clients terms n doing o e p q → IsFront (begun_by done) sessions → StepPlans done e q
-  turn_plans done n doing None e p q t b = ends doing e t
-    where
-      ends : (d : Doing) (e : Event) → EndsTurn d e p q → StepPlans done e q
-      ends Asks Pass t = plans_same done Pass (turn_ended p) q t tt refl b
-      ends _ _ t = absurd t
-  turn_plans done n doing (Some link) e p q t b =
-      elim t [
-        | inl works ↦
-            plans_same done e (with_spot n works.spot p) q works.leads
-            (link_not_plain clients n (terms.first + n) doing e (spot_of doing link p) works.spot works.steps)
-            (link_begins clients n (terms.first + n) doing e (spot_of doing link p) works.spot works.steps) b
-        | inr next ↦ goes doing e next
-      ]
-    where
-      goes : (d : Doing) (e : Event) → GoesToNext n d e p q → StepPlans done e q
-      goes Done Pass t = plans_same done Pass (record p { stage = Works (suc n) Asks }) q t tt refl b
-      goes _ _ t = absurd t
+  passes_plan : (done : List (List Entry)) (p : Place) → BegunFirst sessions done p.stage
+      → StepPlans done Pass p
+  passes_plan done p begun = plans_same done Pass p tt refl begun
 
-  between_plans : (done : List (List Entry)) (p q : Place) (t : Bool)
-      → q ≡ cond t (record p { stage = Ended }) (record p { stage = Works 0 Asks; moved = false }) → IsFront (begun_by done) sessions
-      → StepPlans done Pass q
-  between_plans done p q true is b = plans_same done Pass (record p { stage = Ended }) q is tt refl b
-  between_plans done p q false is b = plans_same done Pass (record p { stage = Works 0 Asks; moved = false }) q is tt refl b
-
-  stage_plans : (done : List (List Entry)) (stage : Stage) (e : Event) (p q : Place) → p.stage ≡ stage → StageStep clients terms stage e p q
-      → BegunFirst sessions done stage → StepPlans done e q
-  stage_plans done (Settles left) (Commit b) p q is t begun =
-      plans_same done (Commit b) (record p { facts = after_all p.facts b }) q t.1 (settling_not_plain clients p.facts b t.0, tt)
-      (settling_begins clients p.facts b t.0) (subst (BegunFirst sessions done) (sym is) begun)
-  stage_plans done (Settles left) Pass p q is t begun = plans_same done Pass (record p { stage = Attaches left }) q t.1 tt refl begun
-  stage_plans done (Attaches (x ∷ left)) (Commit b) p q is t begun = record {
-    none_plain = (λ plain. subst IsPlain t.0 plain, tt);
-    begun =
-        subst (λ (y : Place). BegunFirst sessions (done ++ b ∷ []) y.stage) (sym t.2)
-        (begun
-        ∙ sym (append_assoc (begun_by done) (x ∷ []) left)
-        ∙ ap (λ (l : List Session). l ++ left)
-        (sym (ap (λ (y : List Entry). begun_by (done ++ y ∷ [])) t.0 ∙ begun_by-append done ((entry.Session x ∷ []) ∷ []))));
-  }
-  stage_plans done (Attaches []) Pass p q is t begun =
-      plans_same done Pass (record p { stage = Between }) q t tt refl (record { more = []; goes_on = begun })
-  stage_plans done (Greets x left) Pass p q is t begun = plans_same done Pass _ q t tt refl begun
-  stage_plans done (Greets x left) (Break on) p q is t begun = plans_same done (Break on) _ q t.1 tt refl begun
-  stage_plans done Between Pass p q is t begun = between_plans done p q (is_at_end terms p) t begun
-  stage_plans done (Works n doing) e p q is t begun = turn_plans done n doing (slice_get p.links n) e p q t begun
-  stage_plans done _ _ p q is t begun = absurd t
+  step_plans : (done : List (List Entry)) (p q : Place) (e : Event) → RunStep clients terms p e q
+      → BegunFirst sessions done p.stage → StepPlans done e q
+  step_plans done p q e t =
+      run_by_cases clients terms p
+      (λ (stage : Stage) (x : Event) (r : Place).
+      ((hold_at stage ≡ Rests → ⊥) → AddsOfLink x)
+      → BegunFirst sessions done stage → StepPlans done x r) (record {
+        settles = λ left b settling link begun.
+            let only = settling_adds clients p.facts b settling in
+            plans_same done (Commit b)
+            (record (staged (Settles left) p) { facts = after_all p.facts b })
+            (only.plain, tt) only.begins begun;
+        settled = λ left settled link begun. passes_plan done (staged (Attaches left) p) begun;
+        begins = λ x left allowed link begun. record {
+          none_plain = (λ plain. plain, tt);
+          begun =
+              begun
+              ∙ sym (append_assoc (begun_by done) (x ∷ []) left)
+              ∙ ap (λ (l : List Session). l ++ left)
+              (sym (begun_by-append done ((entry.Session x ∷ []) ∷ [])));
+        };
+        greets = λ x left link begun. passes_plan done (attached x left p) begun;
+        breaks = λ x left link begun.
+            plans_same done (Break (length p.links)) (unattached x left p) tt refl begun;
+        all_begun = λ link begun.
+            passes_plan done (staged Between p) (record { more = []; goes_on = begun });
+        ends = λ over link begun. passes_plan done (staged Ended p) begun;
+        turns = λ on link begun.
+            passes_plan done (record (staged (Works 0 Asks) p) { moved = false }) begun;
+        works = λ n doing link x spot at steps adds begun.
+            let adds = adds (λ holds. cc) in
+            plans_same done x (with_spot n spot p) adds.none_plain adds.none_begins begun;
+        goes_on = λ n link at adds begun. passes_plan done (staged (Works (suc n) Asks) p) begun;
+        turn_ends = λ n none link begun. passes_plan done (turn_ended p) begun;
+      }) q e t
+      (λ busy.
+      let adds = step_adds clients terms.first (forget p) (forget q) e
+      (step_is_free clients terms p q e t) in
+      record { none_plain = none_plain_by e (adds.plain busy); none_begins = adds.begins busy })
 
   -- what every place of a run keeps
   pub record KeepsPlans (before : List Event) (p : Place) : Type 0 where
@@ -169,7 +130,7 @@ module _ (clients : Meaning) (terms : Terms) (sessions : List Session) where
   plans_step : (before : List Event) (p q : Place) (e : Event) → KeepsPlans before p → RunStep clients terms p e q
       → KeepsPlans (before ++ e ∷ []) q
   plans_step before p q e k t =
-      let s = stage_plans (batches_of before) p.stage e p q refl t k.begun in
+      let s = step_plans (batches_of before) p q e t k.begun in
       let parts : batches_of (before ++ e ∷ []) ≡ batches_of before ++ batches_of (e ∷ []) = batches_of-append before (e ∷ []) in
       record {
         none_plain =
@@ -187,9 +148,7 @@ begun_front : (sessions : List Session) (done : List (List Entry)) (stage : Stag
 begun_front sessions done (Settles left) b = record { more = left; goes_on = b }
 begun_front sessions done (Attaches left) b = record { more = left; goes_on = b }
 begun_front sessions done (Greets s left) b = record { more = left; goes_on = b }
-begun_front sessions done Between b = b
-begun_front sessions done (Works n doing) b = b
-begun_front sessions done Ended b = b
+begun_front sessions done _ b = b
 
 -- ---- as planned
 
@@ -233,6 +192,18 @@ run_suits go_on join fronts clients terms sessions j events last legal broken =
 
 -- ---- as one of those that it was given
 
+module _ (clients : Meaning) (first : ℕ) (sessions : List Session) (heard : ℕ → List ℕ) where
+  settling_entry_suits : (f : Facts) (e : Entry) (es : List Entry) → IsSettlingEntry e → IsSettlingBatch clients f (e ∷ es)
+      → SuitsCourse clients first sessions heard f (e ∷ es)
+  settling_entry_suits f (entry.Judged id) es k s = s
+  settling_entry_suits f (entry.Deliver id) es k s = s
+  settling_entry_suits f (entry.Invalid id) es k s = s
+  settling_entry_suits f _ es k s = absurd k
+
+  pub settling_suits : (f : Facts) (b : List Entry) → IsSettlingBatch clients f b → SuitsCourse clients first sessions heard f b
+  settling_suits f [] s = absurd (omega arith)
+  settling_suits f (e ∷ es) s = settling_entry_suits f e es (next_is_settling clients f e s.2.0) s
+
 in_get : (xs : List Session) (i : ℕ) (x : Session) → slice_get xs i ≡ Some x → In x xs
 in_get [] i x at = cc
 in_get (y ∷ ys) zero x at = let same : y ≡ x = cc in inl (sym same)
@@ -250,7 +221,7 @@ module _ (fronts : FrontsHaveFronts) (clients : Meaning) (first : ℕ) (plans : 
   planned_suits f [] suits = tt
   planned_suits f (b ∷ bs) suits = (
     elim suits.0 [
-      | inl settles ↦ settling_suits fronts clients first plans heard f b settles
+      | inl settles ↦ settling_suits clients first plans heard f b settles
       | inr of_run ↦ one_suits f b of_run
     ],
     planned_suits (after_all f b) bs suits.1,

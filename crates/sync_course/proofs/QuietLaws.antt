@@ -1,25 +1,36 @@
--- What the last still turns of a run had: Idle answers alone, and nothing due at the readings made in them. And where the journal is
--- settled.
-use Rattle.std.proofs.Common.{◌≡◌, ℕ, zero, suc, ◌+◌, ◌<◌, ◌≤◌, Bool, true, false, cond, nat_eq, eq-eqb, List, [], ◌∷◌, length, refl, sym, ◌∙◌, ap, subst, inl, inr, arith, Option, None, Some}
-use Rattle.std.specs.Prelude.{slice_get}
-use Rattle.std.proofs.lemmas.Bool.{cases_eq, false≢true, ne_eqb}
-use Rattle.outside.specs.Links.{Reply, got, idle, ended}
-use Rattle.record_grammar.specs.declared.stream.Item.{Item}
-use Rattle.record_grammar.specs.declared.stream.Item.TheVariants as item
-use Rattle.sync_rules.specs.declared.entries.Entry.{Entry}
+-- What the last still turns of a run had, Idle answers alone and nothing due at the readings made
+-- in them; and how a run stands that is over.
+use Rattle.std.proofs.Common.{◌≡◌, ℕ, zero, suc, ◌+◌, ◌<◌, ◌≤◌, Bool, true, false, cond, nat_eq, eq-eqb, List, [], ◌∷◌, length, refl, sym, ◌∙◌, ap, subst, inl, inr, arith, Option, None, Some, not, ◌||◌, nat_le, ◌++◌, append-nil}
+use Rattle.std.specs.Prelude.{slice_get, nat_lt}
+use Rattle.std.proofs.lemmas.Bool.{cases_eq, false≢true, ne_eqb, and_parts, leb-true, ltb-true, or_left, or_right}
+use Rattle.outside.specs.Links.{idle}
 use Rattle.sync_rules.specs.Clients.{Meaning}
-use Rattle.sync_rules.specs.Facts.{Facts, after_all}
+use Rattle.sync_rules.specs.Facts.{Facts, facts}
 use Rattle.sync_course.specs.declared.TheConstants.{MAX_OUTPUTS}
 use Rattle.sync_course.specs.declared.ends.LinkEnd.{LinkEnd}
 use Rattle.sync_course.specs.declared.ends.LinkEnd.TheVariants as end
-use Rattle.sync_course.specs.Events.{Event, Commit, Hear, Miss, Read, Break, Pass}
+use Rattle.sync_course.specs.Events.{Event, Hear, Miss, Read}
 use Rattle.sync_course.specs.Paths.{Path}
 use Rattle.sync_course.specs.Links.{Link, is_going, is_sent_to}
-use Rattle.sync_course.specs.LinkTurns.{Asks, Takes, Waits, Sends, Puts, Done, Doing, IsEnough, LinkStep, PassesItem, SendsNext, Spot, StepOf, TakesNext, heard_spot}
-use Rattle.sync_course.specs.Turns.{Attaches, Between, Ended, EndsTurn, GoesToNext, Greets, Place, RunStep, Settles, Stage, StageStep, Terms, TurnStep, Works, is_at_end, spot_of, turn_ended, with_spot}
+use Rattle.sync_course.specs.LinkTurns.{Asks, Takes, Waits, Sends, Puts, Done, Doing, IsEnough, LinkStep, Spot}
+use Rattle.sync_course.specs.Turns.{Attaches, Between, Ended, Greets, Place, RunStep, Settles, Stage, Terms, Works, spot_of, turn_ended, with_spot, Course, first_place, is_over, some_going}
 use Rattle.sync_course.proofs.LiftLaws.{get_other, get_set, get_within}
+use Rattle.sync_course.proofs.LinkSteps.{Spares, link_by_cases, link_spares}
 use Rattle.sync_course.proofs.RunLaws.{IsClosedFrom, redundant_get}
-use Rattle.sync_course.specs.Quiet.{IsQuietAt, idles_after, idles_by, idles_with, reading_after, reading_by}
+use Rattle.sync_course.proofs.FreeLaws.{run_by_cases}
+use Rattle.sync_course.specs.Quiet.{IsQuietAt, idles_after, idles_by, idles_with, reading_after, reading_by, EndsQuiet, idle_answers, last_reading}
+use Rattle.record_grammar.specs.Laws.{RecordsJoin, StreamsGoOn}
+use Rattle.record_grammar.specs.Stream.{records, records_of}
+use Rattle.record_grammar.specs.declared.stream.Item.{Item}
+use Rattle.sync_ids.specs.declared.records.Record.{Record}
+use Rattle.sync_rules.specs.declared.entries.Entry.{Entry}
+use Rattle.sync_rules.specs.declared.entries.Session.{Session}
+use Rattle.sync_rules.specs.Legal.{Legal}
+use Rattle.sync_rules.specs.Steps.{IsSettled}
+use Rattle.sync_course.specs.Pending.{pending_at}
+use Rattle.sync_course.proofs.FreeSound.{run_counted}
+use Rattle.sync_course.proofs.PlaceLaws.{PlaceKeeps, path_stays}
+use Rattle.sync_course.specs.Suits.{IsCounted, AreRecordsTaken, keeps_all}
 
 -- ---- a link in a turn that did not move
 
@@ -48,134 +59,83 @@ pub record StillStep (clients : Meaning) (session still idles : ℕ) (reading : 
   pub facts : q.facts ≡ p.facts
   pub so : IsStill clients p.facts session still idles reading q.doing q.link
 
-module _ (clients : Meaning) (n session still : ℕ) where
-  still_at : (idles : ℕ) (reading : Option ℕ) (p q r : Spot) → q ≡ r → StillStep clients session still idles reading p r
-      → StillStep clients session still idles reading p q
-  still_at idles reading p q r same s = subst (StillStep clients session still idles reading p) (sym same) s
+-- an event behind which a spot has moved is no step of a still turn
+moved : {A : Type 0} → true ≡ false → A
+moved is = absurd (false≢true (sym is))
 
-  -- a place that moved is not one that did not
-  moves : {A : Type 0} → (q r : Spot) → q ≡ r → r.moved ≡ true → q.moved ≡ false → A
-  moves q r same moved unmoved = absurd (false≢true (sym unmoved ∙ ap (λ (s : Spot). s.moved) same ∙ moved))
-
-  unmoved_at : (p q r : Spot) → q ≡ r → r.moved ≡ p.moved → q.moved ≡ false → p.moved ≡ false
-  unmoved_at p q r same moved unmoved = sym moved ∙ sym (ap (λ (s : Spot). s.moved) same) ∙ unmoved
-
-  idle_here : (on idles : ℕ) → on ≡ n → idles_by n idles (Hear on idle) ≡ suc idles
-  idle_here on idles same = ap (λ (b : Bool). cond b (suc idles) idles) (eq-eqb on n same)
-
-  reading_here : (on now : ℕ) (reading : Option ℕ) → on ≡ n → reading_by n reading (Read on now) ≡ Some now
-  reading_here on now reading same = ap (λ (b : Bool). cond b (Some now) reading) (eq-eqb on n same)
-
-  abbrev Claim : Doing → ℕ → Option ℕ → Spot → Type 0
-  Claim doing idles reading p = p.moved ≡ false → IsStill clients p.facts session still idles reading doing p.link
-
-  abbrev Step : Event → ℕ → Option ℕ → Spot → Spot → Type 0
-  Step e idles reading p q = StillStep clients session still (idles_by n idles e) (reading_by n reading e) p q
-
-  still_hear : (on : ℕ) (reply : Reply) (idles : ℕ) (reading : Option ℕ) (p q : Spot) → on ≡ n → q ≡ heard_spot reply p → q.moved ≡ false
-      → Claim Asks idles reading p → Step (Hear on reply) idles reading p q
-  still_hear on (got bytes) idles reading p q here same unmoved claim = moves q (heard_spot (got bytes) p) same refl unmoved
-  still_hear on ended idles reading p q here same unmoved claim = moves q (heard_spot ended p) same refl unmoved
-  still_hear on idle idles reading p q here same unmoved claim =
-      let was : p.moved ≡ false = unmoved_at p q (heard_spot idle p) same refl unmoved in
-      still_at (idles_by n idles (Hear on idle)) reading p q (heard_spot idle p) same (record {
-        unmoved = was;
+still_step : (clients : Meaning) (n session still idles : ℕ)
+    (reading : Option ℕ) (p q : Spot) (e : Event)
+    → LinkStep clients n session p e q → q.moved ≡ false
+    → (p.moved ≡ false → IsStill clients p.facts session still idles reading p.doing p.link)
+    → StillStep clients session still (idles_by n idles e) (reading_by n reading e) p q
+still_step clients n session still idles reading p q e s =
+    let itself : nat_eq n n ≡ true = eq-eqb n n refl in
+    link_by_cases clients n session p
+    (λ (doing : Doing) (x : Event) (r : Spot). r.moved ≡ false
+    → (p.moved ≡ false → IsStill clients p.facts session still idles reading doing p.link)
+    → StillStep clients session still (idles_by n idles x) (reading_by n reading x) p r) (record {
+      hears = λ bytes going unmoved claim. moved unmoved;
+      idles = λ going unmoved claim. record {
+        unmoved = unmoved;
         facts = refl;
-        so = λ going.
-            let before : still ≤ idles = claim was going in
-            let more : idles_by n idles (Hear on idle) ≡ suc idles = idle_here on idles here in
+        so = λ asked.
+            let before : still ≤ idles = claim unmoved asked in
+            let more : idles_by n idles (Hear n idle) ≡ suc idles =
+            ap (λ (b : Bool). cond b (suc idles) idles) itself in
             subst (λ (k : ℕ). suc still ≤ k) (sym more) (omega (arith, before));
-      })
-
-  still_takes : (its : List Item) (b : List Entry) (p q : Spot) → TakesNext clients session its b p q → q.moved ≡ false → p.moved ≡ false
-  still_takes [] b p q s unmoved = absurd s
-  still_takes (item.One place r ∷ its) b p q s unmoved = sym (ap (λ (x : Spot). x.moved) s.2) ∙ unmoved
-  still_takes (item.Skipped place type_byte len ∷ its) b p q s unmoved = absurd s
-
-  still_passes : (its : List Item) (p q : Spot) → PassesItem its p q → q.moved ≡ false → p.moved ≡ false
-  still_passes [] p q s unmoved = sym (ap (λ (x : Spot). x.moved) s) ∙ unmoved
-  still_passes (item.One place r ∷ its) p q s unmoved = absurd s
-  still_passes (item.Skipped place type_byte len ∷ its) p q s unmoved = sym (ap (λ (x : Spot). x.moved) s) ∙ unmoved
-
-  still_sends : (now room : ℕ) (b : List Entry) (idles : ℕ) (reading : Option ℕ) (p q : Spot) → SendsNext clients session now room b p q
-      → q.moved ≡ false → Step (Commit b) idles reading p q
-  still_sends now zero b idles reading p q s unmoved = absurd s
-  still_sends now (suc room) b idles reading p q s unmoved = moves q _ s.leads refl unmoved
-
-  nothing_more : (f : Facts) (now room : ℕ) (reading : Option ℕ) → room ≡ MAX_OUTPUTS → reading ≡ Some now → IsEnough clients f session now room
-      → IsQuietAt clients f session reading
-  nothing_more f now room reading whole is enough =
-      subst (IsQuietAt clients f session) (sym is) (subst (λ (k : ℕ). IsEnough clients f session now k) whole enough)
-
-  still_step : (doing : Doing) (e : Event) (idles : ℕ) (reading : Option ℕ) (p q : Spot) → StepOf clients n session doing e p q
-      → q.moved ≡ false → Claim doing idles reading p → Step e idles reading p q
-  still_step Asks (Hear on reply) idles reading p q s unmoved claim = still_hear on reply idles reading p q s.0 s.2 unmoved claim
-  still_step Asks (Miss on) idles reading p q s unmoved claim = moves q _ s.2 refl unmoved
-  still_step Asks Pass idles reading p q s unmoved claim =
-      still_at idles reading p q (record p { doing = Waits }) s.1 (record {
-        unmoved = unmoved_at p q (record p { doing = Waits }) s.1 refl unmoved;
+      };
+      ends = λ going unmoved claim. moved unmoved;
+      misses = λ going unmoved claim. moved unmoved;
+      unasked = λ is unmoved claim. record {
+        unmoved = unmoved;
         facts = refl;
-        so = λ going. absurd (false≢true (sym s.0 ∙ going));
-      })
-  still_step (Takes its) (Commit b) idles reading p q s unmoved claim =
-      elim s [
-        | inl settles ↦ absurd (claim (sym (ap (λ (x : Spot). x.moved) settles.1) ∙ unmoved))
-        | inr takes ↦ absurd (claim (still_takes its b p q takes unmoved))
-      ]
-  still_step (Takes its) Pass idles reading p q s unmoved claim = absurd (claim (still_passes its p q s.1 unmoved))
-  still_step Waits (Read on now) idles reading p q s unmoved claim =
-      let r : Spot = record p { doing = Sends now MAX_OUTPUTS } in
-      let was : p.moved ≡ false = unmoved_at p q r s.2 refl unmoved in
-      still_at idles (reading_by n reading (Read on now)) p q r s.2 (record {
-        unmoved = was;
+        so = λ going. absurd (false≢true (sym is ∙ going));
+      };
+      settles = λ its b settling unmoved claim. absurd (claim unmoved);
+      takes = λ place r its allowed unmoved claim. absurd (claim unmoved);
+      skips = λ place type_byte len its unmoved claim. absurd (claim unmoved);
+      all_taken = λ settled unmoved claim. absurd (claim unmoved);
+      reads = λ now is_open unmoved claim. record {
+        unmoved = unmoved;
         facts = refl;
-        so = (refl, reading_here on now reading s.0, claim was);
-      })
-  still_step Waits Pass idles reading p q s unmoved claim =
-      let r : Spot = record p { doing = Done } in
-      let was : p.moved ≡ false = unmoved_at p q r s.1 refl unmoved in
-      still_at idles reading p q r s.1 (record {
-        unmoved = was;
+        so = (refl, ap (λ (b : Bool). cond b (Some now) reading) itself, claim unmoved);
+      };
+      closed = λ is unmoved claim. record {
+        unmoved = unmoved;
         facts = refl;
-        so = record { idle = claim was; quiet = λ sent. absurd (false≢true (sym s.0 ∙ sent)) };
-      })
-  still_step (Sends now room) (Commit b) idles reading p q s unmoved claim = still_sends now room b idles reading p q s unmoved
-  still_step (Sends now room) Pass idles reading p q s unmoved claim =
-      let r : Spot = record p { doing = Done } in
-      let was : p.moved ≡ false = unmoved_at p q r s.1 refl unmoved in
-      let so : (room ≡ MAX_OUTPUTS) × (reading ≡ Some now) × IsIdle (suc still) idles p.link = claim was in
-      still_at idles reading p q r s.1 (record {
-        unmoved = was;
-        facts = refl;
-        so = record { idle = so.2; quiet = λ sent. nothing_more p.facts now room reading so.0 so.1 s.0 };
-      })
-  still_step (Puts now room) Pass idles reading p q s unmoved claim =
-      absurd (claim (unmoved_at p q (record p { doing = Sends now room }) s refl unmoved))
-  still_step (Puts now room) (Break on) idles reading p q s unmoved claim = moves q _ s.1 refl unmoved
-  still_step _ _ idles reading p q s unmoved claim = absurd s
+        so = record { idle = claim unmoved; quiet = λ sent. absurd (false≢true (sym is ∙ sent)) };
+      };
+      puts = λ now room what is_due allowed unmoved claim. moved unmoved;
+      enough = λ now room enough unmoved claim.
+          let so : (room ≡ MAX_OUTPUTS) × (reading ≡ Some now) × IsIdle (suc still) idles p.link =
+          claim unmoved in
+          record {
+            unmoved = unmoved;
+            facts = refl;
+            so = record {
+              idle = so.2;
+              quiet = λ sent.
+                  subst (IsQuietAt clients p.facts session) (sym so.1)
+                  (subst (λ (k : ℕ). IsEnough clients p.facts session now k) so.0 enough);
+            };
+          };
+      put = λ now room unmoved claim. absurd (claim unmoved);
+      breaks = λ now room unmoved claim. moved unmoved;
+    }) q e s
 
-  -- what its events say of another link
-  abbrev Leaves : ℕ → Event → Type 0
-  Leaves i e = (idles : ℕ) (reading : Option ℕ) → (idles_by i idles e ≡ idles) × (reading_by i reading e ≡ reading)
+-- what an event says of another link
+abbrev pub Leaves : ℕ → Event → Type 0
+Leaves i e = (idles : ℕ) (reading : Option ℕ)
+    → (idles_by i idles e ≡ idles) × (reading_by i reading e ≡ reading)
 
-  on_other : (i on : ℕ) → (i ≡ n → ⊥) → on ≡ n → nat_eq on i ≡ false
-  on_other i on other same = ne_eqb on i (λ e. other (sym e ∙ same))
-
-  leaves_step : (i : ℕ) (doing : Doing) (e : Event) (p q : Spot) → (i ≡ n → ⊥) → StepOf clients n session doing e p q → Leaves i e
-  leaves_step i Asks (Hear on reply) p q other s =
-      λ idles reading. (ap (λ (b : Bool). cond b (idles_with reply idles) idles) (on_other i on other s.0), refl)
-  leaves_step i Asks (Miss on) p q other s = λ idles reading. (ap (λ (b : Bool). cond b 0 idles) (on_other i on other s.0), refl)
-  leaves_step i Asks Pass p q other s = λ idles reading. (refl, refl)
-  leaves_step i (Takes its) (Commit b) p q other s = λ idles reading. (refl, refl)
-  leaves_step i (Takes its) Pass p q other s = λ idles reading. (refl, refl)
-  leaves_step i Waits (Read on now) p q other s =
-      λ idles reading. (refl, ap (λ (b : Bool). cond b (Some now) reading) (on_other i on other s.0))
-  leaves_step i Waits Pass p q other s = λ idles reading. (refl, refl)
-  leaves_step i (Sends now room) (Commit b) p q other s = λ idles reading. (refl, refl)
-  leaves_step i (Sends now room) Pass p q other s = λ idles reading. (refl, refl)
-  leaves_step i (Puts now room) Pass p q other s = λ idles reading. (refl, refl)
-  leaves_step i (Puts now room) (Break on) p q other s = λ idles reading. (refl, refl)
-  leaves_step i _ _ p q other s = absurd s
+spared_leaves : (i : ℕ) (e : Event) → Spares i e → Leaves i e
+spared_leaves i (Hear on reply) apart idles reading =
+    (ap (λ (b : Bool). cond b (idles_with reply idles) idles) (ne_eqb on i apart), refl)
+spared_leaves i (Miss on) apart idles reading =
+    (ap (λ (b : Bool). cond b 0 idles) (ne_eqb on i apart), refl)
+spared_leaves i (Read on now) apart idles reading =
+    (refl, ap (λ (b : Bool). cond b (Some now) reading) (ne_eqb on i apart))
+spared_leaves i _ spares idles reading = (refl, refl)
 
 -- ---- a place of a run
 
@@ -206,13 +166,11 @@ get_none [] n none = omega arith
 get_none (x ∷ xs) zero none = cc
 get_none (x ∷ xs) (suc n) none = let rest : length xs ≤ n = get_none xs n none in omega (arith, rest)
 
-closed_going : (b : Bool) (stands : LinkEnd) → is_going (cond b end.Redundant stands) ≡ true → is_going stands ≡ true
-closed_going true stands is = cc
-closed_going false stands is = is
-
-closed_sent : (b : Bool) (stands : LinkEnd) → is_sent_to (cond b end.Redundant stands) ≡ true → is_sent_to stands ≡ true
-closed_sent true stands is = cc
-closed_sent false stands is = is
+-- what no redundant link is, a link was that it is where redundant ones were closed
+closed_so : (test : LinkEnd → Bool) → test end.Redundant ≡ false → (b : Bool) (stands : LinkEnd)
+    → test (cond b end.Redundant stands) ≡ true → test stands ≡ true
+closed_so test none true stands is = absurd (false≢true (sym none ∙ is))
+closed_so test none false stands is = is
 
 module _ (clients : Meaning) (terms : Terms) where
   still_first : (idles : ℕ → ℕ) (readings : ℕ → Option ℕ) (p : Place) → p.still ≡ 0
@@ -221,10 +179,6 @@ module _ (clients : Meaning) (terms : Terms) where
     idle = λ i link at going. omega (arith, none);
     quiet = λ some i link at sent. let s : 0 < p.still = some in absurd (omega (arith, none, s));
   }
-
-  still_ended : (idles : ℕ → ℕ) (readings : ℕ → Option ℕ) (p : Place) → BetweenTurns clients terms idles readings p
-      → BetweenTurns clients terms idles readings (record p { stage = Ended })
-  still_ended idles readings p b = record { idle = b.idle; quiet = b.quiet }
 
   still_begins : (idles : ℕ → ℕ) (readings : ℕ → Option ℕ) (p : Place) → BetweenTurns clients terms idles readings p
       → InTurn clients terms idles readings 0 Asks (record p { stage = Works 0 Asks; moved = false })
@@ -269,10 +223,14 @@ module _ (clients : Meaning) (terms : Terms) where
       record {
         idle = λ i link at going.
             let c = redundant_get p.links i link at in
-            (had i link c).idle (closed_going c.beaten c.was.stands (sym (ap (λ (l : Link). is_going l.stands) c.is) ∙ going));
+            (had i link c).idle
+            (closed_so is_going refl c.beaten c.was.stands
+            (sym (ap (λ (l : Link). is_going l.stands) c.is) ∙ going));
         quiet = λ some i link at sent.
             let c = redundant_get p.links i link at in
-            (had i link c).quiet (closed_sent c.beaten c.was.stands (sym (ap (λ (l : Link). is_sent_to l.stands) c.is) ∙ sent));
+            (had i link c).quiet
+            (closed_so is_sent_to refl c.beaten c.was.stands
+            (sym (ap (λ (l : Link). is_sent_to l.stands) c.is) ∙ sent));
       }
 
   had_same : (f g : Facts) (session still idles more : ℕ) (reading now : Option ℕ) (link : Link) → g ≡ f → more ≡ idles → now ≡ reading
@@ -292,10 +250,11 @@ module _ (clients : Meaning) (terms : Terms) where
       let session : ℕ = terms.first + n in
       let from : Spot = spot_of doing link p in
       let st : StillStep clients session p.still (idles_by n (idles n) e) (reading_by n (readings n) e) from spot =
-      still_step clients n session p.still doing e (idles n) (readings n) from spot steps unmoved (λ was. (t was).here link at) in
+      still_step clients n session p.still (idles n) (readings n) from spot e steps unmoved
+      (λ was. (t was).here link at) in
       let turn : InTurn clients terms idles readings n doing p = t st.unmoved in
-      let leaves : (i : ℕ) → (i ≡ n → ⊥) → Leaves clients n session p.still i e =
-      λ i other. leaves_step clients n session p.still i doing e from spot other steps in
+      let leaves : (i : ℕ) → (i ≡ n → ⊥) → Leaves i e =
+      λ i other. spared_leaves i e (link_spares clients n session i from spot e other steps) in
       record {
         passed = λ i other at_i less.
             let apart : i ≡ n → ⊥ = λ same. let s : i ≡ n = same in let l : i < n = less in omega (arith, s, l) in
@@ -319,55 +278,81 @@ module _ (clients : Meaning) (terms : Terms) where
   abbrev StillSo : (ℕ → ℕ) → (ℕ → Option ℕ) → Place → Type 0
   StillSo idles readings p = IsStillAt clients terms idles readings p.stage p
 
-  still_so : (idles : ℕ → ℕ) (readings : ℕ → Option ℕ) (q r : Place) → q ≡ r → StillSo idles readings r → StillSo idles readings q
-  still_so idles readings q r same s = subst (StillSo idles readings) (sym same) s
-
-  turn_still : (idles : ℕ → ℕ) (readings : ℕ → Option ℕ) (n : ℕ) (doing : Doing) (o : Option Link) (e : Event) (p q : Place)
-      → slice_get p.links n ≡ o → TurnStep clients terms n doing o e p q → (p.moved ≡ false → InTurn clients terms idles readings n doing p)
+  step_still : (idles : ℕ → ℕ) (readings : ℕ → Option ℕ) (p q : Place) (e : Event)
+      → RunStep clients terms p e q → StillSo idles readings p
       → StillSo (λ i. idles_by i (idles i) e) (λ i. reading_by i (readings i) e) q
-  turn_still idles readings n doing None e p q at t claim = ends doing e t claim
-    where
-      ends : (d : Doing) (e : Event) → EndsTurn d e p q → (p.moved ≡ false → InTurn clients terms idles readings n d p) → StillSo (λ i. idles_by i (idles i) e) (λ i. reading_by i (readings i) e) q
-      ends Asks Pass t claim = still_so idles readings q (turn_ended p) t (still_closed idles readings n Asks p at p.moved claim)
-      ends _ _ t claim = absurd t
-  turn_still idles readings n doing (Some link) e p q at t claim =
-      elim t [
-        | inl works ↦
-            still_so (λ i. idles_by i (idles i) e) (λ i. reading_by i (readings i) e) q (with_spot n works.spot p) works.leads
-            (still_works idles readings n doing link e works.spot p at works.steps claim)
-        | inr next ↦ goes doing e next claim
-      ]
-    where
-      goes : (d : Doing) (e : Event) → GoesToNext n d e p q → (p.moved ≡ false → InTurn clients terms idles readings n d p)
-          → StillSo (λ i. idles_by i (idles i) e) (λ i. reading_by i (readings i) e) q
-      goes Done Pass t claim =
-          still_so idles readings q (record p { stage = Works (suc n) Asks }) t (λ unmoved. still_next idles readings n p (claim unmoved))
-      goes _ _ t claim = absurd t
-
-  between_still : (idles : ℕ → ℕ) (readings : ℕ → Option ℕ) (p : Place) (b : Bool) → BetweenTurns clients terms idles readings p
-      → StillSo idles readings (cond b (record p { stage = Ended }) (record p { stage = Works 0 Asks; moved = false }))
-  between_still idles readings p true s = still_ended idles readings p s
-  between_still idles readings p false s = λ unmoved. still_begins idles readings p s
-
-  stage_still : (idles : ℕ → ℕ) (readings : ℕ → Option ℕ) (stage : Stage) (e : Event) (p q : Place) → p.stage ≡ stage
-      → StageStep clients terms stage e p q → IsStillAt clients terms idles readings stage p
-      → StillSo (λ i. idles_by i (idles i) e) (λ i. reading_by i (readings i) e) q
-  stage_still idles readings (Settles left) (Commit b) p q is t s =
-      still_so idles readings q (record p { facts = after_all p.facts b }) t.1
-      (subst (λ (st : Stage). IsStillAt clients terms idles readings st (record p { facts = after_all p.facts b })) (sym is) s)
-  stage_still idles readings (Settles left) Pass p q is t s = still_so idles readings q (record p { stage = Attaches left }) t.1 s
-  stage_still idles readings (Attaches (x ∷ left)) (Commit b) p q is t s = still_so idles readings q _ t.2 s
-  stage_still idles readings (Attaches []) Pass p q is t s =
-      still_so idles readings q (record p { stage = Between }) t (still_first idles readings p s)
-  stage_still idles readings (Greets x left) Pass p q is t s = still_so idles readings q _ t s
-  stage_still idles readings (Greets x left) (Break on) p q is t s = still_so idles readings q _ t.1 s
-  stage_still idles readings Between Pass p q is t s = still_so idles readings q _ t (between_still idles readings p (is_at_end terms p) s)
-  stage_still idles readings (Works n doing) e p q is t s = turn_still idles readings n doing (slice_get p.links n) e p q refl t s
-  stage_still idles readings _ _ p q is t s = absurd t
+  step_still idles readings p q e t =
+      run_by_cases clients terms p
+      (λ (stage : Stage) (x : Event) (r : Place). IsStillAt clients terms idles readings stage p
+      → StillSo (λ i. idles_by i (idles i) x) (λ i. reading_by i (readings i) x) r) (record {
+        settles = λ left b settling s. s;
+        settled = λ left settled s. s;
+        begins = λ x left allowed s. s;
+        greets = λ x left s. s;
+        breaks = λ x left s. s;
+        all_begun = λ s. still_first idles readings p s;
+        ends = λ over s. record { idle = s.idle; quiet = s.quiet };
+        turns = λ on s unmoved. still_begins idles readings p s;
+        works = λ n doing link x spot at steps s unmoved.
+            still_works idles readings n doing link x spot p at steps s unmoved;
+        goes_on = λ n link at s unmoved. still_next idles readings n p (s unmoved);
+        turn_ends = λ n none s. still_closed idles readings n Asks p none p.moved s;
+      }) q e t
 
   pub path_still : (idles : ℕ → ℕ) (readings : ℕ → Option ℕ) (p q : Place) (es : List Event) → Path (RunStep clients terms) p es q
       → StillSo idles readings p → StillSo (λ i. idles_after i (idles i) es) (λ i. reading_after i (readings i) es) q
-  path_still idles readings p q [] path s = still_so idles readings q p path s
+  path_still idles readings p q [] path s = subst (StillSo idles readings) (sym path) s
   path_still idles readings p q (e ∷ es) path s =
       path_still (λ i. idles_by i (idles i) e) (λ i. reading_by i (readings i) e) path.0 q es path.2
-      (stage_still idles readings p.stage e p path.0 refl path.1 s)
+      (step_still idles readings p path.0 e path.1 s)
+
+-- ---- a run that is over
+
+going_there : (links : List Link) (i : ℕ) (link : Link) → slice_get links i ≡ Some link → is_going link.stands ≡ true → some_going links ≡ true
+going_there [] i link at going = cc
+going_there (x ∷ links) zero link at going =
+    let same : x ≡ link = cc in
+    or_left (is_going x.stands) (some_going links) (ap (λ (l : Link). is_going l.stands) same ∙ going)
+going_there (x ∷ links) (suc i) link at going = or_right (is_going x.stands) (some_going links) (going_there links i link at going)
+
+-- where a link is asked yet, a run that is over had its quiet turns
+had_quiet : (some_is enough : Bool) → (not some_is || enough) ≡ true → some_is ≡ true → enough ≡ true
+had_quiet true enough over is = over
+had_quiet false enough over is = absurd (false≢true is)
+
+all_counted : (f : Facts) (session : ℕ) (link : Link) → keeps_all link.stands ≡ true → IsCounted f session [] link → AreRecordsTaken f session link
+unfolding records_of
+all_counted f session link keeps c =
+    let whole : records link.heard ≡ c.done = c.parts ∙ ap (λ (l : List Record). c.done ++ l) (c.whole keeps) ∙ append-nil c.done in
+    c.count ∙ ap length (sym whole)
+
+pub course_ends_quiet : StreamsGoOn → RecordsJoin → (clients : Meaning) (terms : Terms) (sessions : List Session) (j : List (List Entry)) (events : List Event) (last : Place)
+    → Legal clients j → Course clients terms sessions (facts j) events last
+    → is_over terms.quiet last ≡ true → EndsQuiet clients terms events last
+course_ends_quiet go_on join clients terms sessions j events last legal course over =
+    let start : Place = first_place sessions (facts j) in
+    let settled : IsSettled clients last.facts =
+    subst (λ (st : Stage). PlaceKeeps clients (λ i. last_reading i events) st last.facts)
+    course.at_end
+    (path_stays clients terms (λ i. None) start last events course.path tt) in
+    let still : BetweenTurns clients terms (λ i. idle_answers i events) (λ i. last_reading i events) last =
+    subst (λ (st : Stage). IsStillAt clients terms (λ i. idle_answers i events) (λ i. last_reading i events) st last) course.at_end
+    (path_still clients terms (λ i. 0) (λ i. None) start last events course.path refl) in
+    let counted = run_counted go_on join clients terms sessions j events last legal
+    (record { numbered = course.numbered; path = course.path }) in
+    let parts = and_parts (nat_lt 0 last.still) (not (some_going last.links) || nat_le terms.quiet last.still) over in
+    let some : 0 < last.still = ltb-true 0 last.still parts.0 in
+    record {
+      settled = settled;
+      idle = λ i link at going.
+          let quiet : terms.quiet ≤ last.still =
+          leb-true terms.quiet last.still
+          (had_quiet (some_going last.links) (nat_le terms.quiet last.still) parts.1 (going_there last.links i link at going)) in
+          let idles : last.still ≤ idle_answers i events = still.idle i link at going in
+          omega (arith, quiet, idles);
+      nothing_due = still.quiet some;
+      all_taken = λ i link at keeps.
+          all_counted last.facts (terms.first + i) link keeps
+          (subst (λ (its : List Item). IsCounted last.facts (terms.first + i) its link)
+          (ap (λ (st : Stage). pending_at st i) course.at_end) (counted i link at));
+    }

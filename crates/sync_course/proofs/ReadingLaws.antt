@@ -11,7 +11,7 @@ use Rattle.record_grammar.specs.declared.stream.Item.{Item}
 use Rattle.record_stream.specs.Pieces.{ReadingsFollow, ReadingsWiden}
 use Rattle.record_stream.specs.Reading.{AwaitsBytes, EndsBad, ReaderState, ReadsOn, fresh}
 use Rattle.sync_course.specs.declared.ends.LinkEnd.TheVariants as end
-use Rattle.sync_course.proofs.CountLaws.{new_items_are}
+use Rattle.sync_course.proofs.RunLaws.{new_items_are}
 use Rattle.sync_course.specs.Links.{new_items, stands_behind}
 use Rattle.sync_course.specs.Reading.{HasRead, IsReading}
 

@@ -1,13 +1,12 @@
 -- What was sent and what is owed on a link is a front of its session's output, and all of it unless a call of the link failed.
-use Rattle.std.proofs.Common.{◌≡◌, ℕ, zero, suc, ◌+◌, ◌<◌, Bool, true, false, cond, ◌||◌, nat_eq, eqb-true, List, [], ◌∷◌, ◌++◌, length, take, drop, take-append-drop, append-nil, append_assoc, refl, sym, ◌∙◌, ap, subst, inl, inr, arith, Option, None, Some}
+use Rattle.std.proofs.Common.{◌≡◌, ℕ, ◌+◌, ◌<◌, Bool, true, false, cond, ◌||◌, nat_eq, eqb-true, List, [], ◌∷◌, ◌++◌, length, take, drop, take-append-drop, append-nil, append_assoc, refl, sym, ◌∙◌, ap, subst, inl, inr, arith, Option, None, Some}
 use Rattle.std.specs.Prelude.{slice_get}
 use Rattle.std.proofs.lemmas.Bool.{false≢true, ne_eqb}
 use Rattle.std.proofs.lemmas.Grind.{flat_map-append}
 use Rattle.outside.specs.Runs.{IsFront}
+use Rattle.outside.proofs.RunLaws.{front_same, front_then}
 use Rattle.record_grammar.specs.Laws.{RecordsJoin, StreamsGoOn}
 use Rattle.record_grammar.specs.Spelling.{spelled, spelling}
-use Rattle.record_grammar.specs.declared.stream.Item.{Item}
-use Rattle.record_grammar.specs.declared.stream.Item.TheVariants as item
 use Rattle.sync_ids.specs.declared.records.Record.{Record}
 use Rattle.sync_rules.specs.declared.entries.Entry.{Entry}
 use Rattle.sync_rules.specs.declared.entries.Entry.TheVariants as entry
@@ -23,35 +22,27 @@ use Rattle.sync_rules.proofs.OutputLaws.{not_begun_sent, sent_push, settling_sil
 use Rattle.sync_rules.proofs.SessionLaws.{legal_sessions}
 use Rattle.sync_course.specs.declared.ends.LinkEnd.TheVariants as end
 use Rattle.sync_course.specs.Acts.{Act, Does, Send, Fail, batches_in, event_of, events_of, sends_on, sent_by}
-use Rattle.sync_course.specs.Events.{Event, Commit, Hear, Miss, Read, Break, Pass, batches_of, has_failure, is_failure}
-use Rattle.sync_course.specs.Free.{Free, FreeStep, Hold, HoldStep, Holds, IsPlain, Rests, first_free, spot_in}
+use Rattle.sync_course.specs.Events.{Event, Commit, batches_of, has_failure, is_failure}
+use Rattle.sync_course.specs.Free.{Free, FreeStep, Hold, first_free}
 use Rattle.sync_course.specs.Links.{Link, is_sent_to}
-use Rattle.sync_course.specs.LinkTurns.{Takes, Sends, Doing, SendsNext, Spot, StepOf, TakesNext, next_take, out_batch}
+use Rattle.sync_course.specs.LinkTurns.{next_take, out_batch}
 use Rattle.sync_course.specs.Owing.{ActStep, Owing, adds_to, paid}
 use Rattle.sync_course.specs.Paths.{Path}
 use Rattle.sync_course.specs.Story.{AllIsSent, FreeActs, LinkFailed}
 use Rattle.sync_course.proofs.ActLaws.{batches_in-append, events_of-append, sends_on-append}
-use Rattle.sync_course.proofs.FailLaws.{DoesOpen, FailsJust, HoldsOpen, fails_step, first_fails, path_fails, push_failure}
-use Rattle.sync_course.proofs.FreeSound.{IsBegunAt, IsFreeSound, first_free_sound, free_moves, free_path_sound, free_sound}
+use Rattle.sync_course.proofs.FailLaws.{FailsJust, HoldsOpen, fails_step, first_fails, path_fails, push_failure}
+use Rattle.sync_course.proofs.FreeSound.{IsBegunAt, IsFreeSound, first_free_sound, free_path_sound, free_sound, get_same}
+use Rattle.sync_course.proofs.FreeSteps.{step_adds, free_batches, plain_adds}
 use Rattle.sync_course.proofs.LiftLaws.{get_within}
 use Rattle.sync_course.proofs.PathLaws.{path_keeps}
 
 -- ---- fronts
-
-pub front_itself : (xs : List ℕ) → IsFront xs xs
-front_itself xs = record { rest = []; whole = sym (append-nil xs) }
 
 pub front_of_none : (xs : List ℕ) → IsFront [] xs
 front_of_none xs = record { rest = xs; whole = refl }
 
 pub front_before : (xs ys zs : List ℕ) → IsFront xs ys → IsFront (zs ++ xs) (zs ++ ys)
 front_before xs ys zs f = record { rest = f.rest; whole = ap (λ (l : List ℕ). zs ++ l) f.whole ∙ sym (append_assoc zs xs f.rest) }
-
-pub front_after : (xs ys zs : List ℕ) → IsFront xs ys → IsFront ys zs → IsFront xs zs
-front_after xs ys zs f g = record {
-  rest = f.rest ++ g.rest;
-  whole = g.whole ∙ ap (λ (l : List ℕ). l ++ g.rest) f.whole ∙ append_assoc xs f.rest g.rest;
-}
 
 front_take : (n : ℕ) (xs : List ℕ) → IsFront (take n xs) xs
 front_take n xs = record { rest = drop n xs; whole = sym (take-append-drop n xs) }
@@ -81,15 +72,10 @@ event_adds clients first j _ link legal goes = none_added first j link
 
 -- ---- nothing is committed for a link that failed
 
-settling_adds : (clients : Meaning) (f : Facts) (b : List Entry) (session : ℕ) → IsSettlingBatch clients f b → output_in f session b ≡ []
-settling_adds clients f b session s = silent_adds_nothing f session b (settling_silent clients f b s.2)
-
-plain_adds : (f : Facts) (b : List Entry) (session : ℕ) → IsPlain b → output_in f session b ≡ []
-plain_adds f (entry.Contact c ∷ []) session is = refl
-plain_adds f (entry.Group def ∷ []) session is = refl
-plain_adds f (entry.Level c g l ∷ []) session is = refl
-plain_adds f (entry.Author m ∷ []) session is = refl
-plain_adds f _ session is = absurd is
+settling_puts : (clients : Meaning) (f : Facts) (b : List Entry) (session : ℕ)
+    → IsSettlingBatch clients f b → output_in f session b ≡ []
+settling_puts clients f b session s =
+    silent_adds_nothing f session b (settling_silent clients f b s.2)
 
 -- the session that begins is no other
 begins_adds : (f : Facts) (x : Session) (session : ℕ) → (x.number ≡ session → ⊥) → output_in f session (entry.Session x ∷ []) ≡ []
@@ -100,69 +86,55 @@ out_adds : (f : Facts) (at session now : ℕ) (what : Out) → (at ≡ session �
 out_adds f at session now what other =
     ap (λ (b : Bool). cond b (records_of f.held what) [] ++ []) (ne_eqb at session other)
 
-take_adds : (clients : Meaning) (n session : ℕ) (its : List Item) (b : List Entry) (p q : Spot) → TakesNext clients n its b p q
-    → output_in p.facts session b ≡ []
-take_adds clients n session [] b p q s = absurd s
-take_adds clients n session (item.Skipped place type_byte len ∷ its) b p q s = absurd s
-take_adds clients n session (item.One place r ∷ its) b p q s =
-    let allowed : Allowed clients p.facts (next_take p.facts n r) = subst (Allowed clients p.facts) s.0 s.1 in
-    ap (λ (x : List Entry). output_in p.facts session x) s.0
-    ∙ silent_adds_nothing p.facts session (next_take p.facts n r) (take_silent clients p.facts n _ _ allowed)
+-- the records that an event adds to the output of a session
+abbrev pub records_by : Facts → ℕ → Event → List Record
+records_by f session (Commit b) = output_in f session b
+records_by f session _ = []
 
-send_adds : (clients : Meaning) (n session now room : ℕ) (b : List Entry) (p q : Spot) → (n ≡ session → ⊥) → SendsNext clients n now room b p q
-    → output_in p.facts session b ≡ []
-send_adds clients n session now zero b p q other s = absurd s
-send_adds clients n session now (suc room) b p q other s =
-    ap (λ (x : List Entry). output_in p.facts session x) s.is ∙ out_adds p.facts n session now s.what other
+none_by : (f : Facts) (session : ℕ) (e : Event)
+    → batches_of (e ∷ []) ≡ [] → records_by f session e ≡ []
+none_by f session (Commit b) none = cc
+none_by f session _ none = refl
 
-module _ (clients : Meaning) (first : ℕ) where
-  -- a link that failed is not the one that is in hand to send
-  link_adds : (n i : ℕ) (doing : Doing) (b : List Entry) (p q : Spot) → (is_sent_to p.link.stands ≡ true → n ≡ i → ⊥)
-      → StepOf clients n (first + n) doing (Commit b) p q → DoesOpen doing p.link.stands → output_in p.facts (first + i) b ≡ []
-  link_adds n i (Takes its) b p q other s o =
-      elim s [
-        | inl settles ↦ settling_adds clients p.facts b (first + i) settles.0
-        | inr takes ↦ take_adds clients (first + n) (first + i) its b p q takes
-      ]
-  link_adds n i (Sends now room) b p q other s o =
-      send_adds clients (first + n) (first + i) now room b p q
-      (λ same. other o (let is : first + n ≡ first + i = same in let e : n ≡ i = omega (arith, is) in e)) s
-  link_adds n i _ b p q other s o = absurd s
+-- a link that failed is not the one that is in hand to send, nor that of a session that begins
+event_spares : (clients : Meaning) (first : ℕ) (e : Event) (p q : Free) (i : ℕ)
+    → FreeStep clients first p e q → IsFreeSound clients first p → HoldsOpen p.hold p.links
+    → LinkFailed p.links i → records_by p.facts (first + i) e ≡ []
+event_spares clients first e p q i t s o f =
+    free_batches clients first p
+    (λ (x : Event) (g : Facts). records_by p.facts (first + i) x ≡ []) (record {
+      none = λ x none. none_by p.facts (first + i) x none;
+      settles = λ b settling. settling_puts clients p.facts b (first + i) settling;
+      adds = λ b rests plain allowed. (plain_adds p.facts b plain).puts (first + i);
+      begins = λ x rests allowed.
+          let may : MayBegin p.facts x = allowed.2 in
+          let within : i < length p.links = get_within p.links i f.link f.there in
+          let numbered : x.number ≡ p.facts.begun = may.numbered in
+          let begun : p.facts.begun ≡ first + length p.links =
+          subst (λ (h : Hold). IsBegunAt first h (length p.links) p.facts) rests s.begun in
+          begins_adds p.facts x (first + i)
+          (λ same.
+          let at : x.number ≡ first + i = same in
+          absurd (omega (arith, within, numbered, at, begun)));
+      takes = λ n place r its link holds at allowed.
+          silent_adds_nothing p.facts (first + i) (next_take p.facts (first + n) r)
+          (take_silent clients p.facts (first + n) _ _ allowed);
+      puts = λ n now room what link holds at is_due allowed.
+          let is_open : is_sent_to link.stands ≡ true =
+          subst (λ (h : Hold). HoldsOpen h p.links) holds o link at in
+          out_adds p.facts (first + n) (first + i) now what
+          (λ same.
+          let is : first + n ≡ first + i = same in
+          let number : i ≡ n = omega (arith, is) in
+          let there : link ≡ f.link = get_same at (ap (slice_get p.links) (sym number) ∙ f.there) in
+          let failed : link.stands ≡ end.Failed = ap (λ (l : Link). l.stands) there ∙ f.failed in
+          absurd (false≢true (ap is_sent_to (sym failed) ∙ is_open)));
+    }) q e t
 
-  pub hold_adds : (hold : Hold) (b : List Entry) (p q : Free) (i : ℕ) → HoldStep clients first hold (Commit b) p q
-      → IsBegunAt first hold (length p.links) p.facts → HoldsOpen hold p.links → LinkFailed p.links i → output_in p.facts (first + i) b ≡ []
-  hold_adds Rests b p q i t begun o f =
-      elim t [
-        | inl adds ↦ elim adds.0 [
-          | inl settles ↦ settling_adds clients p.facts b (first + i) settles
-          | inr plain ↦ plain_adds p.facts b (first + i) plain.0
-        ]
-        | inr begins ↦
-            let may : MayBegin p.facts begins.session = (subst (Allowed clients p.facts) begins.is begins.allowed).2 in
-            let within : i < length p.links = get_within p.links i f.link f.there in
-            let numbered : begins.session.number ≡ p.facts.begun = may.numbered in
-            ap (λ (x : List Entry). output_in p.facts (first + i) x) begins.is
-            ∙ begins_adds p.facts begins.session (first + i)
-            (λ same.
-            let at : begins.session.number ≡ first + i = same in
-            absurd (omega (arith, within, numbered, at, begun)))
-      ]
-  hold_adds (Holds n doing) b p q i t begun o f =
-      link_adds n i doing b (spot_in doing t.link t.moved p) t.spot
-      (λ is_open same.
-      let there : slice_get p.links n ≡ Some f.link = subst (λ (k : ℕ). slice_get p.links k ≡ Some f.link) (sym same) f.there in
-      let both : Some t.link ≡ Some f.link = sym t.there ∙ there in
-      let is : t.link ≡ f.link = cc in
-      let failed : t.link.stands ≡ end.Failed = ap (λ (l : Link). l.stands) is ∙ f.failed in
-      absurd (false≢true (ap is_sent_to (sym failed) ∙ is_open)))
-      t.steps (o t.link t.there)
-  hold_adds _ b p q i t begun o f = absurd t
-
-  event_spares : (e : Event) (p q : Free) (i : ℕ) → FreeStep clients first p e q → IsFreeSound clients first p → HoldsOpen p.hold p.links
-      → LinkFailed p.links i → adds_to p.facts first e i ≡ []
-  event_spares (Commit b) p q i t s o f =
-      ap (λ (rs : List Record). spelled rs) (hold_adds p.hold b p q i t s.begun o f)
-  event_spares _ p q i t s o f = refl
+none_owed : (f : Facts) (first i : ℕ) (e : Event) → records_by f (first + i) e ≡ []
+    → adds_to f first e i ≡ []
+none_owed f first i (Commit b) none = ap (λ (rs : List Record). spelled rs) none
+none_owed f first i _ none = refl
 
 -- ---- acts
 
@@ -212,14 +184,14 @@ module _ (clients : Meaning) (first : ℕ) where
       elim (is_failure i (event_of a)) as (λ t. is_failure i (event_of a) ≡ t → IsFront (sent_by i a ++ q.owed i) (p.owed i ++ adds_to p.at.facts first (event_of a) i)) [
         | true ↦ λ is. failed a s is
         | false ↦ λ is.
-            subst (λ (l : List ℕ). IsFront (sent_by i a ++ q.owed i) l) (act_whole a p q i s is) (front_itself (sent_by i a ++ q.owed i))
+            front_same _ _ (sym (act_whole a p q i s is))
       ] refl
     where
       failed : (a : Act) → ActsOn p a q → is_failure i (event_of a) ≡ true
           → IsFront (sent_by i a ++ q.owed i) (p.owed i ++ adds_to p.at.facts first (event_of a) i)
       failed (Does e) s is =
-          subst (λ (l : List ℕ). IsFront (q.owed i) l) (s.2 i ∙ ap (λ (l : List ℕ). l ++ adds_to p.at.facts first e i) (sym (s.0 i)))
-          (front_itself (q.owed i))
+          front_same _ _
+          (ap (λ (l : List ℕ). l ++ adds_to p.at.facts first e i) (s.0 i) ∙ sym (s.2 i))
       failed (Send n bytes) s is = cc
       failed (Fail n bytes count) s is =
           let there : IsFront bytes (p.owed i) = subst (λ (k : ℕ). IsFront bytes (p.owed k)) (eqb-true n i is) s.0 in
@@ -229,7 +201,7 @@ module _ (clients : Meaning) (first : ℕ) where
           ∙ append-nil (take count bytes) in
           subst (λ (l : List ℕ). IsFront l (p.owed i ++ [])) (sym went)
           (subst (λ (l : List ℕ). IsFront (take count bytes) l) (sym (append-nil (p.owed i)))
-          (front_after (take count bytes) bytes (p.owed i) (front_take count bytes) there))
+          (front_then (take count bytes) bytes (p.owed i) (front_take count bytes) there))
 
 -- behind acts from a journal on: the journal, the place, and what was sent and is owed
 pub record HasSent (clients : Meaning) (first : ℕ) (j : List (List Entry)) (acts : List Act) (p : Owing Free) : Type 0 where
@@ -249,7 +221,7 @@ module _ (go_on : StreamsGoOn) (join : RecordsJoin) (clients : Meaning) (first :
       let old : List (List Entry) = j ++ batches_in acts in
       let new : List (List Entry) = batches_of (e ∷ []) in
       let step : FreeStep clients first p.at e q.at = under clients first a p q s in
-      let m = free_moves clients first p.at q.at e step in
+      let m = (step_adds clients first p.at q.at e step).moves in
       let goes : GoesOn clients (facts old) new = subst (λ (f : Facts). GoesOn clients f new) (sym k.same) m.goes_on in
       let is : j ++ batches_in (acts ++ a ∷ []) ≡ old ++ new =
       ap (λ (l : List (List Entry)). j ++ l) (batches_in-append acts (a ∷ [])) ∙ sym (append_assoc j (batches_in acts) new) in
@@ -274,7 +246,9 @@ module _ (go_on : StreamsGoOn) (join : RecordsJoin) (clients : Meaning) (first :
       → IsFront (sends_on i acts ++ (p.owed i ++ adds_to p.at.facts first e i)) (output (j ++ batches_in (acts ++ a ∷ [])) (first + i))) [
         | true ↦ λ failed.
             let none : adds_to p.at.facts first e i ≡ [] =
-            event_spares clients first e p.at q.at i step k.sound k.fails.opens (k.fails.stays i failed) in
+            none_owed p.at.facts first i e
+            (event_spares clients first e p.at q.at i step k.sound k.fails.opens
+            (k.fails.stays i failed)) in
             let owed : sends_on i acts ++ p.owed i ≡ sends_on i acts ++ (p.owed i ++ adds_to p.at.facts first e i) =
             ap (λ (l : List ℕ). sends_on i acts ++ l)
             (sym (append-nil (p.owed i)) ∙ ap (λ (l : List ℕ). p.owed i ++ l) (sym none)) in
@@ -283,8 +257,7 @@ module _ (go_on : StreamsGoOn) (join : RecordsJoin) (clients : Meaning) (first :
             subst (λ (l : List ℕ). IsFront l (output (j ++ batches_in (acts ++ a ∷ [])) (first + i))) owed
             (subst (λ (l : List ℕ). IsFront (sends_on i acts ++ p.owed i) l) out (k.front i))
         | false ↦ λ well.
-            subst (λ (l : List ℕ). IsFront (sends_on i acts ++ (p.owed i ++ adds_to p.at.facts first e i)) l) (was_whole i well)
-            (front_itself (sends_on i acts ++ (p.owed i ++ adds_to p.at.facts first e i)))
+            front_same _ _ (sym (was_whole i well))
       ] in
       record {
         legal = subst (Legal clients) (sym is) (legal-append clients old new k.legal goes);
@@ -296,7 +269,7 @@ module _ (go_on : StreamsGoOn) (join : RecordsJoin) (clients : Meaning) (first :
             (fails_step clients first (events_of acts) p.at q.at e k.fails step);
         front = λ i.
             subst (λ (l : List ℕ). IsFront l (output (j ++ batches_in (acts ++ a ∷ [])) (first + i))) (sym (sends i))
-            (front_after (sends_on i acts ++ (sent_by i a ++ q.owed i))
+            (front_then (sends_on i acts ++ (sent_by i a ++ q.owed i))
             (sends_on i acts ++ (p.owed i ++ adds_to p.at.facts first e i)) (output (j ++ batches_in (acts ++ a ∷ [])) (first + i))
             (front_before (sent_by i a ++ q.owed i) (p.owed i ++ adds_to p.at.facts first e i) (sends_on i acts) (act_front clients first a p q i s))
             (was_front i (has_failure i (events_of acts)) refl));
@@ -364,4 +337,5 @@ pub failed_spared : StreamsGoOn → RecordsJoin → (clients : Meaning) (j : Lis
 failed_spared go_on join clients j es p q b link legal path step failed =
     let fails = path_fails clients (facts j).begun (facts j) p es path in
     let sound = free_path_sound go_on join clients (facts j).begun (first_free (facts j)) p es path (first_free_sound clients j legal) in
-    hold_adds clients (facts j).begun p.hold b p q link step sound.begun fails.opens (fails.stays link failed)
+    event_spares clients (facts j).begun (Commit b) p q link step sound fails.opens
+    (fails.stays link failed)

@@ -1,6 +1,7 @@
 -- What is told of events one behind the other, and of the events of single calls.
-use Rattle.std.proofs.Common.{◌≡◌, ◌⊎◌, ℕ, ◌+◌, ◌*◌, ◌≤◌, le_of_eq, le_refl, Bool, true, false, ◌||◌, nat_eq, eqb-true, List, [], ◌∷◌, ◌++◌, length, length-append, take, append-nil, append_assoc, refl, sym, ◌∙◌, ap, subst, inl, inr, arith, Option, None, Some, Ok, Err}
+use Rattle.std.proofs.Common.{◌≡◌, ◌⊎◌, ℕ, ◌≤◌, le_of_eq, Bool, true, false, ◌||◌, nat_eq, eqb-true, List, [], ◌∷◌, ◌++◌, length, take, append-nil, append_assoc, refl, sym, ◌∙◌, ap, subst, inl, inr, arith, Option, None, Some, Ok, Err}
 use Rattle.std.specs.Option.{option_map}
+use Rattle.std.proofs.Math.Bool.{or_assoc}
 use Rattle.std.proofs.lemmas.Bool.{cases_eq}
 use Rattle.outside.specs.declared.failed.Failed.{Failed}
 use Rattle.outside.specs.declared.host.Heard.{Heard}
@@ -8,55 +9,41 @@ use Rattle.outside.specs.declared.host.Heard.TheVariants as answer
 use Rattle.outside.specs.Faults.{CountRose, one_more}
 use Rattle.outside.specs.Host.{GrowsReadings, HearsAnswer, IsAnswerCaused, ReadsClock, SendsOnLink}
 use Rattle.outside.specs.Disk.{RelatesTold}
-use Rattle.outside.specs.Links.{HeardOn, Links, Planned, changed_at, got, idle, ended, hear_reply}
+use Rattle.outside.specs.Links.{HeardOn, Links, Planned, Reply, changed_at, got, idle, ended, hear_reply}
 use Rattle.outside.specs.Planned.{AnswersAsPlanned, UsesPlan, UsesReading}
-use Rattle.outside.specs.Outside.{Outside, MakesAtMost}
-use Rattle.outside.proofs.CallCounts.{most_then}
+use Rattle.outside.specs.Outside.{Outside}
 use Rattle.sync_rules.specs.declared.entries.Entry.{Entry}
 use Rattle.sync_course.specs.declared.TheConstants.{PIECE_LEN}
 use Rattle.sync_course.specs.Events.{Event, Commit, Hear, Miss, Read, Break, Pass, asked_event, batches_of, commits, readings_of, heard_by, heard_after, is_failure, has_failure, GrowsBy, PlansAfter, RoseIf, ChangesThrough, TellsEvents, UpcomingAfter}
-use Rattle.sync_course.specs.Paths.{RunsPath}
-use Rattle.sync_course.proofs.PathLaws.{path_then}
 
 -- ---- lists of events
 
 pub batches_of-append : (es fs : List Event) → batches_of (es ++ fs) ≡ batches_of es ++ batches_of fs
 batches_of-append [] fs = refl
-batches_of-append (Commit b ∷ es) fs = ap (λ (l : List (List Entry)). b ∷ l) (batches_of-append es fs)
-batches_of-append (Hear link reply ∷ es) fs = batches_of-append es fs
-batches_of-append (Miss link ∷ es) fs = batches_of-append es fs
-batches_of-append (Read link now ∷ es) fs = batches_of-append es fs
-batches_of-append (Break link ∷ es) fs = batches_of-append es fs
-batches_of-append (Pass ∷ es) fs = batches_of-append es fs
+batches_of-append (Commit b ∷ es) fs =
+    ap (λ (l : List (List Entry)). b ∷ l) (batches_of-append es fs)
+batches_of-append (_ ∷ es) fs = batches_of-append es fs
 
 pub readings_of-append : (es fs : List Event) → readings_of (es ++ fs) ≡ readings_of es ++ readings_of fs
 readings_of-append [] fs = refl
-readings_of-append (Commit b ∷ es) fs = readings_of-append es fs
-readings_of-append (Hear link reply ∷ es) fs = readings_of-append es fs
-readings_of-append (Miss link ∷ es) fs = readings_of-append es fs
 readings_of-append (Read link now ∷ es) fs = ap (λ (l : List ℕ). now ∷ l) (readings_of-append es fs)
-readings_of-append (Break link ∷ es) fs = readings_of-append es fs
-readings_of-append (Pass ∷ es) fs = readings_of-append es fs
+readings_of-append (_ ∷ es) fs = readings_of-append es fs
 
 heard_after-append : (es fs : List Event) (heard : List HeardOn) → heard_after (es ++ fs) heard ≡ heard_after fs (heard_after es heard)
 heard_after-append [] fs heard = refl
 heard_after-append (e ∷ es) fs heard = heard_after-append es fs (heard_by e heard)
 
-or_append : (a b c : Bool) → (a || (b || c)) ≡ ((a || b) || c)
-or_append true b c = refl
-or_append false b c = refl
-
 pub has_failure-append : (link : ℕ) (es fs : List Event) → has_failure link (es ++ fs) ≡ (has_failure link es || has_failure link fs)
 has_failure-append link [] fs = refl
 has_failure-append link (e ∷ es) fs =
     ap (λ (b : Bool). is_failure link e || b) (has_failure-append link es fs)
-    ∙ or_append (is_failure link e) (has_failure link es) (has_failure link fs)
+    ∙ sym (or_assoc (is_failure link e) (has_failure link es) (has_failure link fs))
 
 -- ---- what is told grows
 
-heard_none : (heard : Option (List HeardOn)) → heard ≡ option_map (heard_after []) heard
-heard_none None = refl
-heard_none (Some heard) = refl
+option_map_same : {A : Type 0} (f : A → A) → ((x : A) → f x ≡ x) → (o : Option A) → o ≡ option_map f o
+option_map_same f same None = refl
+option_map_same f same (Some x) = ap (λ y. Some y) (sym (same x))
 
 heard_then : (es fs : List Event) (heard : Option (List HeardOn))
     → option_map (heard_after fs) (option_map (heard_after es) heard) ≡ option_map (heard_after (es ++ fs)) heard
@@ -120,7 +107,7 @@ left_one R step e then a b becomes = becomes_map R (ChangesThrough step (e ∷ [
 
 pub told_none : (o : Outside) → TellsEvents [] o o
 told_none o = record {
-  heard = heard_none o.links.heard;
+  heard = option_map_same (heard_after []) (λ heard. refl) o.links.heard;
   readings = grows_none o.links.readings;
   faults = λ link. omega arith;
   planned = becomes_stays (ChangesThrough PlansAfter []) (λ x. refl) o.links.planned o.links.planned refl;
@@ -141,92 +128,58 @@ told_then es fs o o1 o2 first second = record {
   upcoming = left_then UpcomingAfter es fs o.links.upcoming o1.links.upcoming o2.links.upcoming first.upcoming second.upcoming;
 }
 
--- ---- what calls did, one behind the other
-
--- the calls of the batches of two lists of events, and of some that were next
-pub calls_add : (es fs : List Event) (next : List (List Entry))
-    → 4 * length (batches_of es) + 4 * length (next ++ batches_of fs) ≡ 4 * length (next ++ batches_of (es ++ fs))
-calls_add es fs next =
-    let both : length (batches_of (es ++ fs)) ≡ length (batches_of es) + length (batches_of fs) =
-    ap (λ (l : List (List Entry)). length l) (batches_of-append es fs) ∙ length-append (batches_of es) (batches_of fs) in
-    let first : length (next ++ batches_of fs) ≡ length next + length (batches_of fs) = length-append next (batches_of fs) in
-    let all : length (next ++ batches_of (es ++ fs)) ≡ length next + length (batches_of (es ++ fs)) =
-    length-append next (batches_of (es ++ fs)) in
-    omega (arith, both, first, all)
-
-module _ {P : Type 0} (step : P → Event → P → Type 0) (Before Between After : List (List Entry) → Type 0) where
-  unfoldable pub runs_then : (p q r : P) (o o1 o2 : Outside) {next : List (List Entry)} → RunsPath step Before Between p q o o1 []
-      → RunsPath step Between After q r o1 o2 next → RunsPath step Before After p r o o2 next
-  runs_then p q r o o1 o2 {next} first second = record {
-    events = first.events ++ second.events;
-    path = path_then step p q r first.events second.events first.path second.path;
-    told = told_then first.events second.events o o1 o2 first.told second.told;
-    journal = λ j before.
-        subst After
-        (append_assoc j (batches_of first.events) (batches_of second.events)
-        ∙ ap (λ (l : List (List Entry)). j ++ l) (sym (batches_of-append first.events second.events)))
-        (second.journal (j ++ batches_of first.events) (first.journal j before));
-    calls =
-        subst (λ (n : ℕ). MakesAtMost n o o2) (calls_add first.events second.events next)
-        (most_then (4 * length (batches_of first.events)) (4 * length (next ++ batches_of second.events)) o o1 o2 first.calls second.calls);
-  }
-
 -- ---- single calls
 
 pub batches_of_commits : (bs : List (List Entry)) → batches_of (commits bs) ≡ bs
 batches_of_commits [] = refl
 batches_of_commits (b ∷ bs) = ap (λ (l : List (List Entry)). b ∷ l) (batches_of_commits bs)
 
-commits_heard : (bs : List (List Entry)) (heard : List HeardOn) → heard_after (commits bs) heard ≡ heard
-commits_heard [] heard = refl
-commits_heard (b ∷ bs) heard = commits_heard bs heard
-
-commits_read : (bs : List (List Entry)) → readings_of (commits bs) ≡ []
-commits_read [] = refl
-commits_read (b ∷ bs) = commits_read bs
-
-commits_succeed : (link : ℕ) (bs : List (List Entry)) → has_failure link (commits bs) ≡ false
-commits_succeed link [] = refl
-commits_succeed link (b ∷ bs) = commits_succeed link bs
-
-commits_plan : (bs : List (List Entry)) (plans : ℕ → List Planned) → ChangesThrough PlansAfter (commits bs) plans plans
-commits_plan [] plans = refl
-commits_plan (b ∷ bs) plans = (plans, refl, commits_plan bs plans)
-
-commits_upcoming : (bs : List (List Entry)) (readings : List ℕ) → ChangesThrough UpcomingAfter (commits bs) readings readings
-commits_upcoming [] readings = refl
-commits_upcoming (b ∷ bs) readings = (readings, refl, commits_upcoming bs readings)
-
-option_map_same : {A : Type 0} (f : A → A) → ((x : A) → f x ≡ x) → (o : Option A) → o ≡ option_map f o
-option_map_same f same None = refl
-option_map_same f same (Some x) = ap (λ y. Some y) (sym (same x))
-
--- batches that were committed while the links stayed as they were
-pub told_commits : (bs : List (List Entry)) (o o' : Outside) → o'.links ≡ o.links → TellsEvents (commits bs) o o'
-told_commits bs o o' same = record {
-  heard = ap (λ (l : Links). l.heard) same ∙ option_map_same (heard_after (commits bs)) (commits_heard bs) o.links.heard;
+-- what is told is told as well where the links stay as they are
+told_beside : (es : List Event) (o mid o' : Outside) → o'.links ≡ mid.links → TellsEvents es o mid
+    → TellsEvents es o o'
+told_beside es o mid o' same told = record {
+  heard = ap (λ (l : Links). l.heard) same ∙ told.heard;
   readings =
-      subst (λ (l : Links). GrowsBy (readings_of (commits bs)) o.links.readings l.readings) (sym same)
-      (subst (λ (r : List ℕ). GrowsBy r o.links.readings o.links.readings) (sym (commits_read bs)) (grows_none o.links.readings));
+      subst (λ (l : Links). GrowsBy (readings_of es) o.links.readings l.readings) (sym same)
+      told.readings;
   faults = λ link.
-      subst (λ (l : Links). RoseIf (has_failure link (commits bs)) (o.links.faults link) (l.faults link)) (sym same)
-      (subst (λ (b : Bool). RoseIf b (o.links.faults link) (o.links.faults link)) (sym (commits_succeed link bs)) (le_refl (o.links.faults link)));
+      subst (λ (l : Links). RoseIf (has_failure link es) (o.links.faults link) (l.faults link))
+      (sym same)
+      (told.faults link);
   planned =
-      becomes_stays (ChangesThrough PlansAfter (commits bs)) (commits_plan bs) o.links.planned o'.links.planned (ap (λ (l : Links). l.planned) same);
+      subst (λ (l : Links). RelatesTold (ChangesThrough PlansAfter es) o.links.planned l.planned)
+      (sym same) told.planned;
   upcoming =
-      becomes_stays (ChangesThrough UpcomingAfter (commits bs)) (commits_upcoming bs) o.links.upcoming o'.links.upcoming
-      (ap (λ (l : Links). l.upcoming) same);
+      subst (λ (l : Links).
+      RelatesTold (ChangesThrough UpcomingAfter es) o.links.upcoming l.upcoming)
+      (sym same) told.upcoming;
 }
 
 -- nothing that is told of
 pub told_pass : (o o' : Outside) → o'.links ≡ o.links → TellsEvents (Pass ∷ []) o o'
-told_pass o o' same = record {
-  heard = (told_commits [] o o' same).heard;
-  readings = (told_commits [] o o' same).readings;
-  faults = (told_commits [] o o' same).faults;
-  planned = left_same PlansAfter Pass (λ x. refl) o.links.planned o'.links.planned (ap (λ (l : Links). l.planned) same);
-  upcoming = left_same UpcomingAfter Pass (λ x. refl) o.links.upcoming o'.links.upcoming (ap (λ (l : Links). l.upcoming) same);
+told_pass o o' same =
+    told_beside (Pass ∷ []) o o o' same (record {
+      heard = (told_none o).heard;
+      readings = (told_none o).readings;
+      faults = (told_none o).faults;
+      planned = left_same PlansAfter Pass (λ x. refl) o.links.planned o.links.planned refl;
+      upcoming = left_same UpcomingAfter Pass (λ x. refl) o.links.upcoming o.links.upcoming refl;
+    })
+
+told_commit : (b : List Entry) (o : Outside) → TellsEvents (Commit b ∷ []) o o
+told_commit b o = record {
+  heard = (told_none o).heard;
+  readings = (told_none o).readings;
+  faults = (told_none o).faults;
+  planned = left_same PlansAfter (Commit b) (λ x. refl) o.links.planned o.links.planned refl;
+  upcoming = left_same UpcomingAfter (Commit b) (λ x. refl) o.links.upcoming o.links.upcoming refl;
 }
+
+-- batches that were committed while the links stayed as they were
+pub told_commits : (bs : List (List Entry)) (o o' : Outside) → o'.links ≡ o.links → TellsEvents (commits bs) o o'
+told_commits [] o o' same = told_beside [] o o o' same (told_none o)
+told_commits (b ∷ bs) o o' same =
+    told_then (Commit b ∷ []) (commits bs) o o o' (told_commit b o) (told_commits bs o o' same)
 
 -- a count of a link that rose where the call of another one failed
 other_faults : (n link : ℕ) (old new : ℕ → ℕ) → old n ≤ new n → ((i : ℕ) → (i ≡ n → ⊥) → new i ≡ old i) → old link ≤ new link
@@ -244,40 +197,40 @@ failed_faults n link old new rose later others =
       | false ↦ λ is. other_faults n link old new later others
     ] refl
 
+-- a link gave an answer
+told_reply : (link : ℕ) (given : Heard) (reply : Reply) (buf : List ℕ) (o o' : Outside)
+    → length buf ≡ PIECE_LEN → HearsAnswer link given buf o.links o'.links
+    → o'.links.heard ≡ option_map (changed_at link (hear_reply (length buf) reply)) o.links.heard
+    → ((x y : ℕ → List Planned) → AnswersAsPlanned link given buf x y
+    → UsesPlan link (length buf) (Some reply) x y) → TellsEvents (Hear link reply ∷ []) o o'
+told_reply link given reply buf o o' whole hears heard uses = record {
+  heard =
+      heard ∙ ap (λ (room : ℕ). option_map (changed_at link (hear_reply room reply)) o.links.heard)
+      whole;
+  readings =
+      subst (λ (r : Option (List ℕ)). GrowsBy [] o.links.readings r) (sym hears.same_readings)
+      (grows_none o.links.readings);
+  faults = λ i. other_faults link i o.links.faults o'.links.faults hears.later hears.others;
+  planned =
+      left_one (AnswersAsPlanned link given buf) PlansAfter (Hear link reply)
+      (λ x y used. subst (λ (room : ℕ). UsesPlan link room (Some reply) x y) whole (uses x y used))
+      o.links.planned o'.links.planned hears.planned;
+  upcoming =
+      left_same UpcomingAfter (Hear link reply) (λ x. refl) o.links.upcoming o'.links.upcoming
+      hears.same_upcoming;
+}
+
 -- a link was asked
 pub told_asked : (link : ℕ) (given : Heard) (buf : List ℕ) (o o' : Outside) → length buf ≡ PIECE_LEN
     → HearsAnswer link given buf o.links o'.links → IsAnswerCaused given (length buf) (o.links.faults link) (o'.links.faults link)
     → TellsEvents (asked_event link given buf ∷ []) o o'
-told_asked link (answer.Got n) buf o o' whole hears caused = record {
-  heard = hears.heard ∙ ap (λ (room : ℕ). option_map (changed_at link (hear_reply room (got (take n buf)))) o.links.heard) whole;
-  readings = subst (λ (r : Option (List ℕ)). GrowsBy [] o.links.readings r) (sym hears.same_readings) (grows_none o.links.readings);
-  faults = λ i. other_faults link i o.links.faults o'.links.faults hears.later hears.others;
-  planned =
-      left_one (AnswersAsPlanned link (answer.Got n) buf) PlansAfter (Hear link (got (take n buf)))
-      (λ x y uses. subst (λ (room : ℕ). UsesPlan link room (Some (got (take n buf))) x y) whole uses) o.links.planned o'.links.planned
-      hears.planned;
-  upcoming = left_same UpcomingAfter (Hear link (got (take n buf))) (λ x. refl) o.links.upcoming o'.links.upcoming hears.same_upcoming;
-}
-told_asked link answer.Idle buf o o' whole hears caused = record {
-  heard = hears.heard ∙ ap (λ (room : ℕ). option_map (changed_at link (hear_reply room idle)) o.links.heard) whole;
-  readings = subst (λ (r : Option (List ℕ)). GrowsBy [] o.links.readings r) (sym hears.same_readings) (grows_none o.links.readings);
-  faults = λ i. other_faults link i o.links.faults o'.links.faults hears.later hears.others;
-  planned =
-      left_one (AnswersAsPlanned link answer.Idle buf) PlansAfter (Hear link idle)
-      (λ x y uses. subst (λ (room : ℕ). UsesPlan link room (Some idle) x y) whole uses) o.links.planned o'.links.planned
-      hears.planned;
-  upcoming = left_same UpcomingAfter (Hear link idle) (λ x. refl) o.links.upcoming o'.links.upcoming hears.same_upcoming;
-}
-told_asked link answer.End buf o o' whole hears caused = record {
-  heard = hears.heard ∙ ap (λ (room : ℕ). option_map (changed_at link (hear_reply room ended)) o.links.heard) whole;
-  readings = subst (λ (r : Option (List ℕ)). GrowsBy [] o.links.readings r) (sym hears.same_readings) (grows_none o.links.readings);
-  faults = λ i. other_faults link i o.links.faults o'.links.faults hears.later hears.others;
-  planned =
-      left_one (AnswersAsPlanned link answer.End buf) PlansAfter (Hear link ended)
-      (λ x y uses. subst (λ (room : ℕ). UsesPlan link room (Some ended) x y) whole uses) o.links.planned o'.links.planned
-      hears.planned;
-  upcoming = left_same UpcomingAfter (Hear link ended) (λ x. refl) o.links.upcoming o'.links.upcoming hears.same_upcoming;
-}
+told_asked link (answer.Got n) buf o o' whole hears caused =
+    told_reply link (answer.Got n) (got (take n buf)) buf o o' whole hears hears.heard (λ x y used.
+    used)
+told_asked link answer.Idle buf o o' whole hears caused =
+    told_reply link answer.Idle idle buf o o' whole hears hears.heard (λ x y used. used)
+told_asked link answer.End buf o o' whole hears caused =
+    told_reply link answer.End ended buf o o' whole hears hears.heard (λ x y used. used)
 told_asked link answer.Failed buf o o' whole hears caused = record {
   heard = hears.heard;
   readings = subst (λ (r : Option (List ℕ)). GrowsBy [] o.links.readings r) (sym hears.same_readings) (grows_none o.links.readings);
@@ -324,29 +277,3 @@ told_broken link bytes why o o' sends = record {
   planned = left_same PlansAfter (Break link) (λ x. refl) o.links.planned o'.links.planned sends.same_planned;
   upcoming = left_same UpcomingAfter (Break link) (λ x. refl) o.links.upcoming o'.links.upcoming sends.same_upcoming;
 }
-
--- nothing that is told of, before what is told
-pub told_behind_pass : (es : List Event) (o o' : Outside) → TellsEvents (Pass ∷ es) o o' → TellsEvents es o o'
-told_behind_pass es o o' told = record {
-  heard = told.heard;
-  readings = told.readings;
-  faults = told.faults;
-  planned =
-      becomes_map (ChangesThrough PlansAfter (Pass ∷ es)) (ChangesThrough PlansAfter es) (λ x y t. subst (λ z. ChangesThrough PlansAfter es z y) t.1 t.2) o.links.planned
-      o'.links.planned told.planned;
-  upcoming =
-      becomes_map (ChangesThrough UpcomingAfter (Pass ∷ es)) (ChangesThrough UpcomingAfter es) (λ x y t. subst (λ z. ChangesThrough UpcomingAfter es z y) t.1 t.2)
-      o.links.upcoming o'.links.upcoming told.upcoming;
-}
-
--- two sends of a greeting, told as one event: both went out, or the second one failed
-pub told_greeted : (link : ℕ) (first second : List ℕ) (o mid o' : Outside) → SendsOnLink link first (Ok tt) o.links mid.links
-    → SendsOnLink link second (Ok tt) mid.links o'.links → TellsEvents (Pass ∷ []) o o'
-told_greeted link first second o mid o' one two =
-    told_behind_pass (Pass ∷ []) o o' (told_then (Pass ∷ []) (Pass ∷ []) o mid o' (told_sent link first o mid one) (told_sent link second mid o' two))
-
-pub told_ungreeted : (link : ℕ) (first second : List ℕ) (why : Failed) (o mid o' : Outside) → SendsOnLink link first (Ok tt) o.links mid.links
-    → SendsOnLink link second (Err why) mid.links o'.links → TellsEvents (Break link ∷ []) o o'
-told_ungreeted link first second why o mid o' one two =
-    told_behind_pass (Break link ∷ []) o o'
-    (told_then (Pass ∷ []) (Break link ∷ []) o mid o' (told_sent link first o mid one) (told_broken link second why mid o' two))

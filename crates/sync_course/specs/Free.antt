@@ -13,7 +13,7 @@ use Rattle.sync_course.specs.Events.{Event, Commit, Break, Pass}
 use Rattle.sync_course.specs.Links.{Link, is_sent_to, link_of, without_redundant}
 use Rattle.sync_course.specs.LinkTurns.{Doing, Asks, Done, LinkStep, Sends, Spot, Waits}
 use Rattle.sync_course.specs.Owing.{Owing}
-use Rattle.sync_course.specs.Turns.{Attaches, Between, Ended, Greets, Place, Settles, Stage, Works}
+use Rattle.sync_course.specs.Turns.{Greets, Place, Stage, Works}
 
 -- what a node has in hand: nothing; a session that has begun, on whose link it is to greet; or the link of this number, which does
 -- this

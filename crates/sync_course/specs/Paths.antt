@@ -1,5 +1,5 @@
 -- Paths of a machine: events one after the other, each a step from the place where the one before it led.
-use Rattle.std.specs.Prelude.{◌≡◌, ℕ, ◌*◌, List, [], ◌∷◌, ◌++◌, length}
+use Rattle.std.specs.Prelude.{◌≡◌, ◌*◌, List, [], ◌∷◌, ◌++◌, length}
 use Rattle.outside.specs.Outside.{Outside, MakesAtMost}
 use Rattle.sync_rules.specs.declared.entries.Entry.{Entry}
 use Rattle.sync_course.specs.Events.{Event, batches_of, commits, TellsEvents}
@@ -18,11 +18,6 @@ pub record RunsPath {P : Type 0} (step : P → Event → P → Type 0) (Before A
   pub told : TellsEvents events old new
   pub journal : (j : List (List Entry)) → Before j → After (j ++ batches_of events)
   pub calls : MakesAtMost (4 * length (next ++ batches_of events)) old new
-
--- what a call did that committed so many batches
-pub record CountsBatches {P : Type 0} (step : P → Event → P → Type 0) (Before After : List (List Entry) → Type 0) (from to : P) (old new : Outside) (count : ℕ) : Type 0 where
-  pub runs : RunsPath step Before After from to old new []
-  pub counts : length (batches_of runs.events) ≡ count
 
 -- What a call did that was broken off: it led to some place. These batches were to be committed next, and it was broken off in one
 -- of them or behind them.

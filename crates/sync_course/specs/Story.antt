@@ -1,5 +1,5 @@
 -- What the paths of a node's acts promise: what a crash leaves at each moment, and what was sent.
-use Rattle.std.specs.Prelude.{◌≡◌, ◌⊎◌, ℕ, ◌+◌, true, false, List, [], ◌∷◌, ◌++◌, Some, slice_get, slice_index_or}
+use Rattle.std.specs.Prelude.{◌≡◌, ◌⊎◌, ℕ, ◌+◌, false, List, [], ◌∷◌, ◌++◌, Some, slice_get, slice_index_or}
 use Rattle.outside.specs.Outside.{Moment}
 use Rattle.outside.specs.Runs.{IsFront}
 use Rattle.entry_codec.specs.Standing.{journal, stands}

@@ -141,8 +141,3 @@ pub record Course (clients : Meaning) (terms : Terms) (sessions : List Session) 
 pub record Broken (clients : Meaning) (terms : Terms) (sessions : List Session) (f : Facts) (events : List Event) (last : Place) : Type 0 where
   pub numbered : terms.first ≡ f.begun
   pub path : Path (RunStep clients terms) (first_place sessions f) events last
-
--- a whole course is one that was broken off at its end
-pub whole_is_broken : (clients : Meaning) (terms : Terms) (sessions : List Session) (f : Facts) (events : List Event) (last : Place)
-    → Course clients terms sessions f events last → Broken clients terms sessions f events last
-whole_is_broken clients terms sessions f events last c = record { numbered = c.numbered; path = c.path }

@@ -1,4 +1,4 @@
-use Rattle.sync_course.proofs.CountLaws.{new_items_follow}
+use Rattle.sync_course.proofs.RunLaws.{new_items_follow}
 use Rattle.sync_course.proofs.laws.new_items_are_behind.Goals as goal
 
 pub returns : goal.returns

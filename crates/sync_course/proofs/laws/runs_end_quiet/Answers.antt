@@ -1,4 +1,4 @@
-use Rattle.sync_course.proofs.EndLaws.{course_ends_quiet}
+use Rattle.sync_course.proofs.QuietLaws.{course_ends_quiet}
 use Rattle.sync_course.proofs.laws.runs_end_quiet.Goals as goal
 
 pub returns : goal.returns
