@@ -22,7 +22,6 @@ use Rattle.sync_node.specs.Batches.{Added}
 use Rattle.sync_node.specs.Node.{AreAttached, MayGoOn, NodeValue}
 use Rattle.sync_node.specs.Output.{Journal}
 use Rattle.sync_node.proofs.CommitLaws.{settling_front}
-use Rattle.sync_node.proofs.NodeLaws.{node_of}
 
 -- ---- a plain batch
 
@@ -137,17 +136,3 @@ extended_leads clients batch s s' result o o' has two files j fits =
     (λ k between. at_most clients batch s.state.facts has.more has.adds j k between.front between.rest fits.facts_are between.parts between.is)
     (λ k end. at_most clients batch s.state.facts has.more has.adds j k has.more [] fits.facts_are (sym (append-nil has.more)) end)
     (has.runs.leads two files j fits)
-
-pub node_allowed : (clients : Meaning) (s : StoreValue) (first : ℕ) (links : List Link)
-    (closed : Bool) (n : NodeValue) (batch : List Entry) → node_of s first links closed ≡ n
-    → (n.closed ≡ false → Allowed clients n.store.state.facts batch) → closed ≡ false
-    → Allowed clients s.state.facts batch
-node_allowed clients s first links closed n batch is allowed =
-    subst (λ (m : NodeValue). (m.closed ≡ false → Allowed clients m.store.state.facts batch) → closed ≡ false → Allowed clients s.state.facts batch) is (λ then opened. then opened) allowed
-
--- the store of a node before
-pub node_fits : (clients : Meaning) (s : StoreValue) (first : ℕ) (links : List Link)
-    (closed : Bool) (n : NodeValue) (j : Journal) (two : Two File)
-    → node_of s first links closed ≡ n → FitsFiles clients n.store j two → FitsFiles clients s j two
-node_fits clients s first links closed n j two is fits =
-    subst (λ (m : NodeValue). FitsFiles clients m.store j two) (sym is) fits

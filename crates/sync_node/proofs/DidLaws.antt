@@ -14,22 +14,17 @@ use Rattle.sync_node.specs.Courses.{FitsWith, ReadsAs}
 use Rattle.sync_node.specs.Did.{ComesAtFronts, Did, DidSome, HasSentBy, SinceThen}
 use Rattle.sync_node.specs.Going.{LetsNothingFall}
 use Rattle.sync_node.specs.Output.{Journal, sent_on}
+use Rattle.sync_node.proofs.CourseLaws.{told_as}
 use Rattle.sync_node.proofs.SafeLaws.{goes_none}
 use Rattle.sync_node.proofs.WorkLaws.{goes_then}
 
 -- ---- told-ness, on
 
-some_on : {A : Type 0} (a b : Option A) (x : A) → is_some b ≡ is_some a → a ≡ Some x
-    → (y : A) × (b ≡ Some y)
-some_on None b x same is = cc
-some_on (Some a) None x same is = cc
-some_on (Some a) (Some b) x same is = (b, refl)
-
 pub told_on : (o o' : Outside) → LetsNothingFall o o' → TellsAll o → TellsAll o'
 told_on o o' goes told =
-    let files = some_on o.files o'.files told.two goes.same_files told.files_are in
-    let links = some_on o.links.told o'.links.told told.links goes.links.same_told told.links_are in
-    let heard = some_on o.links.heard o'.links.heard told.heard goes.links.same_heard told.heard_are in
+    let files = told_as o.files o'.files told.two goes.same_files told.files_are in
+    let links = told_as o.links.told o'.links.told told.links goes.links.same_told told.links_are in
+    let heard = told_as o.links.heard o'.links.heard told.heard goes.links.same_heard told.heard_are in
     record {
       two = files.0;
       files_are = files.1;

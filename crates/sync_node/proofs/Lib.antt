@@ -23,7 +23,6 @@ mod CourseRedundant
 mod CourseCalls
 mod CourseStart
 mod Undone
-pub mod Halts
 pub mod CourseLaws
 pub mod DidLaws
 pub mod WentLaws

@@ -14,13 +14,14 @@ use Rattle.sync_rules.proofs.OutputLaws.{settling_silent, silent_adds_nothing, t
 use Rattle.sync_store.specs.Ready.{IsReady}
 use Rattle.sync_store.specs.Store.{StoreValue}
 use Rattle.sync_course.specs.Acts.{Does, commit_acts}
-use Rattle.sync_course.specs.Events.{Commit, Event}
+use Rattle.sync_course.specs.Events.{Commit, Event, Pass}
 use Rattle.sync_course.specs.Links as course_links
 use Rattle.sync_course.specs.Links.{items_after, link_after}
 use Rattle.sync_course.specs.LinkTurns.{LinkStep, Spot, Takes, next_take, taken_spot}
 use Rattle.sync_course.specs.Owing.{Owing, adds_to, paid}
 use Rattle.sync_course.specs.Paths.{Path}
 use Rattle.sync_course.proofs.CallLaws.{step_at}
+use Rattle.sync_course.proofs.ToldLaws.{told_pass}
 use Rattle.sync_node.specs.declared.fault.Fault.{Fault}
 use Rattle.sync_node.specs.declared.fault.Fault.TheVariants as fault
 use Rattle.sync_node.specs.Batches.{CommitStops, Committed, Settled, SettleStops, SettlesBy}
@@ -28,6 +29,7 @@ use Rattle.sync_node.specs.Did.{Did}
 use Rattle.sync_node.specs.OnLinks.{LinkActs, LinkStopped, LinkWent, RecordStopped, RecordTaken}
 use Rattle.sync_node.specs.Output.{Journal}
 use Rattle.sync_node.proofs.CommitLaws.{settling_front}
+use Rattle.sync_node.proofs.PrimLaws.{did_pass}
 use Rattle.sync_node.proofs.WentLaws.{commit_stopped, no_memory, stopped_then, went_none, went_one, went_then}
 
 module _ (clients : Meaning) (n session : ℕ) where
@@ -78,6 +80,13 @@ module _ (clients : Meaning) (n session : ℕ) where
   link_does p q e s s' o o' none steps did = λ first is.
       went_one clients (LinkActs clients first n) (paid p) (paid q) (Does e) s s' o o'
       (step_of first is p q e steps (none first)) did
+
+  -- it calls nothing
+  pub link_pass : (p q : Spot) (s : StoreValue) (o : Outside) → LinkStep clients n session p Pass q
+      → LinkWent clients n session p q s s o o
+  link_pass p q s o steps =
+      link_does p q Pass s s o o (λ first link. refl) steps
+      (did_pass clients (Does Pass) s o refl (λ link. refl) (told_pass o o refl))
 
   -- ---- settling
 

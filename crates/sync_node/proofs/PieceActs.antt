@@ -29,19 +29,17 @@ use Rattle.sync_node.specs.declared.fault.Fault.TheVariants as fault
 use Rattle.sync_node.specs.declared.link.Link.{Link}
 use Rattle.sync_node.specs.Courses.{IsTaking, link_at, spot_at}
 use Rattle.sync_node.specs.Hearing.{LearnsNonce}
-use Rattle.sync_node.specs.OnLinks.{ItemsStopped, ItemsWent, LinkStopped, LinkWent, NextWent, PieceWent, RecordStopped, RecordTaken}
+use Rattle.sync_node.specs.OnLinks.{ItemsStopped, LinkStopped, LinkWent, NextWent, PieceWent, RecordStopped, RecordTaken}
 use Rattle.sync_node.proofs.CourseTakes.{closed_behind, learned, not_taking, same_at, to_come}
-use Rattle.sync_node.proofs.LinkActs.{link_does, link_joins, link_no_memory, link_stays, link_stops_then}
-use Rattle.sync_node.proofs.PrimLaws.{did_pass}
+use Rattle.sync_node.proofs.LinkActs.{link_joins, link_no_memory, link_pass, link_stays, link_stops_then}
 
 -- behind a skipped record, or behind the last item; no call is made
 pub link_passes : (clients : Meaning) (n session : ℕ) (its : List Item) (p q : Spot)
     (s : StoreValue) (o : Outside) → p.doing ≡ Takes its → IsSettled clients p.facts
     → PassesItem its p q → LinkWent clients n session p q s s o o
 link_passes clients n session its p q s o takes settled passes =
-    link_does clients n session p q Pass s s o o (λ first link. refl)
+    link_pass clients n session p q s o
     (step_at clients n session p q Pass (Takes its) takes (settled, passes))
-    (did_pass clients (Does Pass) s o refl (λ link. refl) (told_pass o o refl))
 
 -- ---- the next item
 
@@ -56,18 +54,12 @@ item_one follow clients n place r piece left l mid l' s s' o o' going same_sessi
       let come = answer_comes follow heard piece left l.reader mid.reader its (item.One place r ∷ []) reading reads in
       let others : List Item = come.0 in
       let p : Spot = spot_at (Takes its) l heard moved s.state.facts in
-      let same_link : link_at l heard ≡ link_at mid heard = λ i. record {
-        contact = ap (λ x. x.contact) (sym same_session) i;
-        nonce = sym same_nonce i;
-        heard = heard;
-        stands = (sym same_end) i;
-      } in
       let same_number : l'.session.number ≡ l.session.number = ap (λ x. x.number) (learns.same_session ∙ same_session) in
       let runs : LinkWent clients n l'.session.number p
       (record { doing = Takes (items_after r others); link = link_after place r (link_at l heard); moved = moved; facts = s'.state.facts }) s s' o o' =
       takes.went n place others p (ap (λ (x : List Item). Takes x) come.1) refl in
       let whole : link_after place r (link_at l heard) ≡ link_at l' heard =
-      ap (link_after place r) same_link ∙ learned place r mid l' heard learns in (
+      ap (link_after place r) (same_at l mid same_session same_end same_nonce heard) ∙ learned place r mid l' heard learns in (
         items_after r others,
         to_come place r others heard left mid l' (same_end ∙ going) learns.end
             (subst (λ x. IsReading heard left x others) (sym learns.same_reader) come.2),
@@ -89,14 +81,9 @@ item_skipped follow clients n place type_byte len piece left l l' s o going same
       let others : List Item = come.0 in
       let p : Spot = spot_at (Takes its) l heard moved s.state.facts in
       let q : Spot = spot_at (Takes others) l' heard moved s.state.facts in
-      let same_link : link_at l' heard ≡ link_at l heard = λ i. record {
-        contact = ap (λ x. x.contact) same_session i;
-        nonce = same_nonce i;
-        heard = heard;
-        stands = same_end i;
-      } in
       let passes : q ≡ record p { doing = Takes others } =
-      ap (λ x. record { doing = Takes others; link = x; moved = moved; facts = s.state.facts }) same_link in (
+      ap (λ x. record { doing = Takes others; link = x; moved = moved; facts = s.state.facts })
+      (sym (same_at l l' same_session same_end same_nonce heard)) in (
         others,
         subst (IsTaking heard left l' others) (sym (same_end ∙ going)) come.2,
         link_passes clients n l.session.number
@@ -183,7 +170,7 @@ item_no_memory clients n piece l l' s o ready same_session same_end same_nonce =
 
 pub items_none : (clients : Meaning) (n : ℕ) (piece : List ℕ) (l : Link) (s : StoreValue)
     (o : Outside) → l.end ≡ link_end.Going
-    → ItemsWent clients n piece piece l l s s o o
+    → NextWent clients n piece piece l l s s o o true
 items_none clients n piece l s o going = record {
   leads = λ heard its moved reading. (
     its,
@@ -193,7 +180,7 @@ items_none clients n piece l s o going = record {
 }
 
 module _ (clients : Meaning) (n : ℕ) (piece mid : List ℕ) (l m : Link) (s s1 : StoreValue) (o o1 : Outside) (same_session : m.session ≡ l.session)
-    (going : m.end ≡ link_end.Going) (a : ItemsWent clients n piece mid l m s s1 o o1) where
+    (going : m.end ≡ link_end.Going) (a : NextWent clients n piece mid l m s s1 o o1 true) where
   came_to : (heard : List ℕ) (its : List Item) (moved : Bool) → IsReading heard piece l.reader its
       → (others : List Item) × IsReading heard mid m.reader others
       × LinkWent clients n l.session.number (spot_at (Takes its) l heard moved s.state.facts) (spot_at (Takes others) m heard moved s1.state.facts) s s1 o o1
@@ -211,7 +198,7 @@ module _ (clients : Meaning) (n : ℕ) (piece mid : List ℕ) (l m : Link) (s s1
 
   pub items_then : (left : List ℕ) (l' : Link) (s' : StoreValue) (o' : Outside)
       → NextWent clients n mid left m l' s1 s' o1 o' true
-      → ItemsWent clients n piece left l l' s s' o o'
+      → NextWent clients n piece left l l' s s' o o' true
   items_then left l' s' o' b = record {
     leads = λ heard its moved reading.
         let first = came_to heard its moved reading in
@@ -253,7 +240,7 @@ module _ (clients : Meaning) (n : ℕ) (piece mid : List ℕ) (l m : Link) (s s1
 pub items_closed : (clients : Meaning) (n : ℕ) (piece left : List ℕ) (l l' : Link)
     (s s' : StoreValue) (o o' : Outside)
     → (l'.end ≡ link_end.Going → ⊥) → IsSettled clients s'.state.facts
-    → ItemsWent clients n piece left l l' s s' o o'
+    → NextWent clients n piece left l l' s s' o o' true
     → PieceWent clients n piece l l' s s' o o'
 items_closed clients n piece left l l' s s' o o' closed settled a = record {
   has_read = λ heard its reading going. absurd (closed going);

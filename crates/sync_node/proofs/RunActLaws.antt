@@ -3,6 +3,7 @@ use Rattle.std.proofs.Common.{◌≡◌, ℕ, suc, ◌+◌, ◌<◌, Bool, true,
 use Rattle.std.specs.Prelude.{nat_lt, not, slice_get, slice_set}
 use Rattle.outside.specs.Outside.{Outside}
 use Rattle.sync_rules.specs.Clients.{Meaning}
+use Rattle.sync_rules.specs.Facts.{Facts}
 use Rattle.sync_store.specs.Store.{StoreValue}
 use Rattle.sync_course.specs.Acts.{Act, Does, Fail, Send, commit_acts}
 use Rattle.sync_course.specs.Events.{Break, Commit, Pass}
@@ -155,23 +156,37 @@ module _ (clients : Meaning) (first n : ℕ) (links : List Link) (l : Link) (s :
         get_within (links_from 0 links heard) n (link_at l (heard n))
         (at_course clients first n links l s o at numbered terms same heard moved still made)
 
+    link_path : (doing doing' : Doing) (l' : Link) (f : Facts) (bytes : List ℕ) (moved' : Bool)
+        (acts : List Act)
+        → Path (LinkActs clients terms.first n) (paid (spot_at doing l (heard n) moved s.state.facts))
+        acts (paid (spot_at doing' l' bytes moved' f))
+        → Path (RunActs clients terms)
+        (paid (place_at (Works n doing) links heard moved still made s.state.facts)) acts
+        (paid (place_at (Works n doing') (slice_set links n l') (heard_with n bytes heard) moved' still made f))
+    link_path doing doing' l' f bytes moved' acts path =
+        let place : Place = place_at (Works n doing) links heard moved still made s.state.facts in
+        let p : Spot = spot_at doing l (heard n) moved s.state.facts in
+        let q : Spot = spot_at doing' l' bytes moved' f in
+        subst (λ (x : Place). Path (RunActs clients terms) (paid x) acts
+        (paid (place_at (Works n doing') (slice_set links n l') (heard_with n bytes heard) moved' still made f)))
+        (start_here clients first n links l s o at numbered terms same heard moved still made doing)
+        (subst (λ (x : Place). Path (RunActs clients terms) (paid (with_spot n p place)) acts (paid x))
+        (end_there clients first n links l s o at numbered terms same heard moved still made doing doing' l' f bytes moved')
+        (lift_path clients terms n place (link_within doing) (paid p) (paid q) acts path))
+
     pub link_goes : (doing doing' : Doing) (l' : Link) (s' : StoreValue) (o' : Outside)
         (bytes : List ℕ) (moved' : Bool)
         → LinkWent clients n l.session.number (spot_at doing l (heard n) moved s.state.facts)
         (spot_at doing' l' bytes moved' s'.state.facts) s s' o o'
         → RunWent clients terms (place_at (Works n doing) links heard moved still made s.state.facts)
         (place_at (Works n doing') (slice_set links n l') (heard_with n bytes heard) moved' still made s'.state.facts) s s' o o'
-    link_goes doing doing' l' s' o' bytes moved' went =
-        let place : Place = place_at (Works n doing) links heard moved still made s.state.facts in
-        let p : Spot = spot_at doing l (heard n) moved s.state.facts in
-        let q : Spot = spot_at doing' l' bytes moved' s'.state.facts in
-        let lifted : RunWent clients terms (with_spot n p place) (with_spot n q place) s s' o o' =
-        went_lifted clients terms n place (link_within doing) (paid p) (paid q) s s' o o'
-        (went terms.first (in_terms clients first n links l s o at numbered terms same heard moved still made)) in
-        subst (λ (x : Place). RunWent clients terms x (place_at (Works n doing') (slice_set links n l') (heard_with n bytes heard) moved' still made s'.state.facts) s s' o o')
-        (start_here clients first n links l s o at numbered terms same heard moved still made doing)
-        (subst (λ (x : Place). RunWent clients terms (with_spot n p place) x s s' o o')
-        (end_there clients first n links l s o at numbered terms same heard moved still made doing doing' l' s'.state.facts bytes moved') lifted)
+    link_goes doing doing' l' s' o' bytes moved' goes =
+        let went = goes terms.first (in_terms clients first n links l s o at numbered terms same heard moved still made) in
+        record {
+          acts = went.acts;
+          path = link_path doing doing' l' s'.state.facts bytes moved' went.acts went.path;
+          did = went.did;
+        }
 
     -- the same, with the number of batches that were committed
     pub link_makes : (doing doing' : Doing) (l' : Link) (s' : StoreValue) (o' : Outside)
@@ -181,23 +196,15 @@ module _ (clients : Meaning) (first n : ℕ) (links : List Link) (l : Link) (s :
         → RunMakes clients terms (place_at (Works n doing) links heard moved still made s.state.facts)
         (place_at (Works n doing') (slice_set links n l') (heard_with n bytes heard) moved' still made s'.state.facts) s s' o o' count
     link_makes doing doing' l' s' o' bytes moved' count makes =
-        let place : Place = place_at (Works n doing) links heard moved still made s.state.facts in
-        let p : Spot = spot_at doing l (heard n) moved s.state.facts in
-        let q : Spot = spot_at doing' l' bytes moved' s'.state.facts in
         let by = makes terms.first (in_terms clients first n links l s o at numbered terms same heard moved still made) in
-        let lifted : RunMakes clients terms (with_spot n p place) (with_spot n q place) s s' o o' count =
         record {
           went = record {
             acts = by.went.acts;
-            path = lift_path clients terms n place (link_within doing) (paid p) (paid q) by.went.acts by.went.path;
+            path = link_path doing doing' l' s'.state.facts bytes moved' by.went.acts by.went.path;
             did = by.went.did;
           };
           counts = by.counts;
-        } in
-        subst (λ (x : Place). RunMakes clients terms x (place_at (Works n doing') (slice_set links n l') (heard_with n bytes heard) moved' still made s'.state.facts) s s' o o' count)
-        (start_here clients first n links l s o at numbered terms same heard moved still made doing)
-        (subst (λ (x : Place). RunMakes clients terms (with_spot n p place) x s s' o o' count)
-        (end_there clients first n links l s o at numbered terms same heard moved still made doing doing' l' s'.state.facts bytes moved') lifted)
+        }
 
     pub link_stops : (doing : Doing) (l' : Link) (s' : StoreValue) (o' : Outside) (bytes : List ℕ)
         (e : Fault)

@@ -12,6 +12,7 @@ use Rattle.record_grammar.specs.Spelling.{spelled}
 use Rattle.sync_rules.specs.declared.entries.Entry.{Entry}
 use Rattle.sync_rules.specs.declared.entries.Entry.TheVariants as entry
 use Rattle.sync_rules.specs.declared.entries.Out.{Out}
+use Rattle.sync_rules.specs.declared.entries.Session.{Session}
 use Rattle.sync_rules.specs.Clients.{Meaning}
 use Rattle.sync_rules.specs.Facts.{Facts, after_all}
 use Rattle.sync_rules.specs.Growth.{output_in}
@@ -43,7 +44,8 @@ use Rattle.sync_node.specs.Output.{Journal}
 use Rattle.sync_node.specs.Sending.{EndsBy, SendsOn}
 use Rattle.sync_node.proofs.CourseTurns.{end_then, may_end, may_not_end, sends_yet}
 use Rattle.sync_node.proofs.DidLaws.{did_none, did_then}
-use Rattle.sync_node.proofs.LinkActs.{link_does, link_joins, link_no_memory, link_stays, link_stops_then}
+use Rattle.sync_node.proofs.LinkActs.{link_does, link_joins, link_no_memory, link_pass, link_stays, link_stops_then}
+use Rattle.sync_node.proofs.OutLaws.{all_paid}
 use Rattle.sync_node.proofs.PrimLaws.{did_fail, did_pass, did_quiet, did_send}
 use Rattle.sync_node.proofs.WentLaws.{commit_stopped}
 use Rattle.sync_node.proofs.WorkLaws.{goes_read}
@@ -115,9 +117,8 @@ module _ (clients : Meaning) (n session : ℕ) where
       → is_sent_to p.link.stands ≡ false
       → LinkWent clients n session p (record p { doing = Done }) s s o o
   link_closed p s o waits closed =
-      link_does clients n session p (record p { doing = Done }) Pass s s o o (λ first link. refl)
+      link_pass clients n session p (record p { doing = Done }) s o
       (step_at clients n session p (record p { doing = Done }) Pass Waits waits (closed, refl))
-      (did_pass clients (Does Pass) s o refl (λ link. refl) (told_pass o o refl))
 
   -- the clock is read
   link_read : (now : ℕ) (p : Spot) (s : StoreValue) (o o' : Outside) → p.doing ≡ Waits
@@ -181,18 +182,13 @@ module _ (clients : Meaning) (n now : ℕ) (what : Out) (l : Link) (s : StoreVal
   )
 
   -- nothing is owed once it went out
-  all_paid : (first : ℕ) → l.session.number ≡ first + n → (link : ℕ)
+  out_paid : (first : ℕ) → l.session.number ≡ first + n → (link : ℕ)
       → [] ≡ cond (nat_eq n link) []
       (adds_to s.state.facts first (Commit (out_batch l.session.number now what)) link)
-  all_paid first at link = elim (cases_eq link n) [
-    | inl same ↦
-        sym (ap (λ (b : Bool). cond b [] (adds_to s.state.facts first (Commit (out_batch l.session.number now what)) link))
-        (eq-eqb n link (sym same)))
-    | inr other ↦
-        sym (ap (λ (b : Bool). cond b [] (adds_to s.state.facts first (Commit (out_batch l.session.number now what)) link))
-        (ne_eqb n link (λ same. other (sym same)))
-        ∙ ap spelled (adds_none s.state.facts l.session.number (first + link) now what (λ same. other (omega (arith, same, at)))))
-  ]
+  out_paid first at link =
+      all_paid n link _
+      (λ other. ap spelled (adds_none s.state.facts l.session.number (first + link) now what
+      (λ same. other (omega (arith, same, at)))))
 
   module _ (stand : ImagesStand) (s1 : StoreValue) (o1 o' : Outside) (l' : Link) (bytes : List ℕ)
       (commits : Committed clients batch s s1 o o1)
@@ -244,7 +240,7 @@ module _ (clients : Meaning) (n now : ℕ) (what : Out) (l : Link) (s : StoreVal
           (subst (λ (f : Facts). LinkMakes clients n l.session.number (due_at heard moved room) (spot_at (Sends now room) l heard true f) s s1 o o' 1) facts_are
           (puts_by (Send n bytes) (record (put_at heard moved room) { doing = Sends now room }) heard moved room refl
           (did_send stand clients n bytes s1 o1 o' roomy within sends.call u went)
-          (λ first at. inl (owed_bytes first at, refl, all_paid first at))));
+          (λ first at. inl (owed_bytes first at, refl, out_paid first at))));
     }
     by_result (Err why) went ends heard moved room open_is = record {
       doing = Done;
@@ -254,7 +250,7 @@ module _ (clients : Meaning) (n now : ℕ) (what : Out) (l : Link) (s : StoreVal
           (subst (λ (f : Facts). LinkMakes clients n l.session.number (due_at heard moved room) (spot_at Done (record l { end = link_end.Failed }) heard true f) s s1 o o' 1) facts_are
           (puts_by (Fail n bytes went.sent.0) (failed_spot (put_at heard moved room)) heard moved room refl
           (did_fail stand clients n bytes s1 o1 o' roomy within sends.call why went)
-          (λ first at. (front_same _ _ (sym (owed_bytes first at)), (refl, refl), all_paid first at))));
+          (λ first at. (front_same _ _ (sym (owed_bytes first at)), (refl, refl), out_paid first at))));
     }
 
     pub put_went : PutWent clients n now l l' s s1 o o'
@@ -302,96 +298,86 @@ due_none clients n now l s o = record {
   end = inl refl;
 }
 
-module _ (clients : Meaning) (n now made : ℕ) (l m : Link) (s s1 : StoreValue) (o o1 : Outside) (a : OutsWent clients n now made l m s s1 o o1)
-    (open_is : is_sent_to m.end ≡ true) where
-  came : (heard : List ℕ) (moved : Bool)
-      (first : OutsMadeTo clients n now made l m s s1 o o1 heard moved)
-      → first.doing ≡ Sends now first.room
-      → LinkMakes clients n m.session.number (spot_at (Sends now MAX_OUTPUTS) l heard moved s.state.facts)
-      (spot_at (Sends now first.room) m heard (cond (nat_lt 0 made) true moved) s1.state.facts) s s1 o o1 made
-  came heard moved first is =
-      subst (λ (k : ℕ). LinkMakes clients n k (spot_at (Sends now MAX_OUTPUTS) l heard moved s.state.facts)
-      (spot_at (Sends now first.room) m heard (cond (nat_lt 0 made) true moved) s1.state.facts) s s1 o o1 made) (ap (λ x. x.number) (sym a.same_session))
-      (subst (λ d. LinkMakes clients n l.session.number (spot_at (Sends now MAX_OUTPUTS) l heard moved s.state.facts)
-      (spot_at d m heard (cond (nat_lt 0 made) true moved) s1.state.facts) s s1 o o1 made) is first.makes)
+-- the room that is left for a further output, and the way to where it is made
+record RoomLeft (clients : Meaning) (n now made : ℕ) (session : ℕ) (l m : Link) (s s1 : StoreValue)
+    (o o1 : Outside) (heard : List ℕ) (moved : Bool) : Type 0 where
+  room : ℕ
+  rest : room + (made + 1) ≡ MAX_OUTPUTS
+  makes : LinkMakes clients n session (spot_at (Sends now MAX_OUTPUTS) l heard moved s.state.facts)
+      (spot_at (Sends now (suc room)) m heard (cond (nat_lt 0 made) true moved) s1.state.facts)
+      s s1 o o1 made
 
-  back : (s' : StoreValue) (o' : Outside) (p q : Spot) (count : ℕ)
-      → LinkMakes clients n m.session.number p q s s' o o' count
-      → LinkMakes clients n l.session.number p q s s' o o' count
-  back s' o' p q count runs = subst (λ (k : ℕ). LinkMakes clients n k p q s s' o o' count) (ap (λ x. x.number) a.same_session) runs
-
-  -- the place from which the next output is made
-  at_room : (heard : List ℕ) (moved : Bool)
-      (first : OutsMadeTo clients n now made l m s s1 o o1 heard moved)
-      → first.doing ≡ Sends now first.room → (room : ℕ) → first.room ≡ suc room
-      → LinkMakes clients n m.session.number (spot_at (Sends now MAX_OUTPUTS) l heard moved s.state.facts)
-      (spot_at (Sends now (suc room)) m heard (cond (nat_lt 0 made) true moved) s1.state.facts) s s1 o o1 made
-  at_room heard moved first is room more =
-      subst (λ (k : ℕ). LinkMakes clients n m.session.number (spot_at (Sends now MAX_OUTPUTS) l heard moved s.state.facts)
-      (spot_at (Sends now k) m heard (cond (nat_lt 0 made) true moved) s1.state.facts) s s1 o o1 made) more (came heard moved first is)
+module _ (clients : Meaning) (n now made : ℕ) (l m : Link) (s s1 : StoreValue) (o o1 : Outside)
+    (a : OutsWent clients n now made l m s s1 o o1) (open_is : is_sent_to m.end ≡ true)
+    (less : made < MAX_OUTPUTS) where
+  room_left : (heard : List ℕ) (moved : Bool) → is_sent_to l.end ≡ true
+      → RoomLeft clients n now made l.session.number l m s s1 o o1 heard moved
+  room_left heard moved entry_open =
+      let first = a.leads heard moved entry_open in
+      sends_yet now first.room first.doing m first.goes_on open_is
+      (λ is. by_room first.room first.rest
+      (subst (λ d. LinkMakes clients n l.session.number
+      (spot_at (Sends now MAX_OUTPUTS) l heard moved s.state.facts)
+      (spot_at d m heard (cond (nat_lt 0 made) true moved) s1.state.facts) s s1 o o1 made) is first.makes))
+    where
+      by_room : (room : ℕ) → room + made ≡ MAX_OUTPUTS
+          → LinkMakes clients n l.session.number
+          (spot_at (Sends now MAX_OUTPUTS) l heard moved s.state.facts)
+          (spot_at (Sends now room) m heard (cond (nat_lt 0 made) true moved) s1.state.facts)
+          s s1 o o1 made
+          → RoomLeft clients n now made l.session.number l m s s1 o o1 heard moved
+      by_room zero rest makes = absurd (omega (arith, rest, less))
+      by_room (suc room) rest makes =
+          record { room = room; rest = omega (arith, rest); makes = makes }
 
   -- one more
-  pub due_then : (l' : Link) (s' : StoreValue) (o' : Outside) → made < MAX_OUTPUTS
-      → PutWent clients n now m l' s1 s' o1 o'
-      → OutsWent clients n now (made + 1) l l' s s' o o'
-  due_then l' s' o' less b = record {
+  pub due_then : (l' : Link) (s' : StoreValue) (o' : Outside)
+      → PutWent clients n now m l' s1 s' o1 o' → OutsWent clients n now (made + 1) l l' s s' o o'
+  due_then l' s' o' b = record {
     leads = λ heard moved entry_open.
-        let first = a.leads heard moved entry_open in
-        sends_yet now first.room first.doing m first.goes_on open_is (λ is. by_room heard moved first is first.room refl);
+        let first = room_left heard moved entry_open in
+        let moved1 : Bool = cond (nat_lt 0 made) true moved in
+        let second = b.leads heard moved1 first.room open_is in
+        let more : cond (nat_lt 0 (made + 1)) true moved ≡ true =
+        ap (λ (b : Bool). cond b true moved) (lt-ltb 0 (made + 1) (omega arith)) in
+        record {
+          room = first.room;
+          rest = first.rest;
+          doing = second.doing;
+          goes_on = second.goes_on;
+          makes =
+              makes_joins clients n l.session.number s s1 s' o o1 o'
+              (spot_at (Sends now MAX_OUTPUTS) l heard moved s.state.facts)
+              (spot_at (Sends now (suc first.room)) m heard moved1 s1.state.facts)
+              (spot_at second.doing l' heard (cond (nat_lt 0 (made + 1)) true moved) s'.state.facts)
+              made 1 first.makes
+              (subst (λ (b : Bool). LinkMakes clients n l.session.number
+              (spot_at (Sends now (suc first.room)) m heard moved1 s1.state.facts)
+              (spot_at second.doing l' heard b s'.state.facts) s1 s' o1 o' 1) (sym more)
+              (subst (λ (x : Session). LinkMakes clients n x.number
+              (spot_at (Sends now (suc first.room)) m heard moved1 s1.state.facts)
+              (spot_at second.doing l' heard true s'.state.facts) s1 s' o1 o' 1) a.same_session
+              second.makes));
+        };
     same_reader = b.same_reader ∙ a.same_reader;
     same_session = b.same_session ∙ a.same_session;
     end = end_then l.end m.end l'.end a.end b.end;
   }
-    where
-      moved_more : (moved : Bool) → cond (nat_lt 0 (made + 1)) true moved ≡ true
-      moved_more moved = ap (λ (b : Bool). cond b true moved) (lt-ltb 0 (made + 1) (omega arith))
-
-      by_room : (heard : List ℕ) (moved : Bool)
-          (first : OutsMadeTo clients n now made l m s s1 o o1 heard moved)
-          → first.doing ≡ Sends now first.room → (room : ℕ)
-          → first.room ≡ room → OutsMadeTo clients n now (made + 1) l l' s s' o o' heard moved
-      by_room heard moved first is zero none =
-          let rest : first.room + made ≡ MAX_OUTPUTS = first.rest in
-          absurd (omega (arith, rest, none, less))
-      by_room heard moved first is (suc room) more =
-          let rest : first.room + made ≡ MAX_OUTPUTS = first.rest in
-          let second = b.leads heard (cond (nat_lt 0 made) true moved) room open_is in
-          record {
-            room = room;
-            rest = omega (arith, rest, more);
-            doing = second.doing;
-            goes_on = second.goes_on;
-            makes =
-                back s' o' (spot_at (Sends now MAX_OUTPUTS) l heard moved s.state.facts) _ (made + 1)
-                (makes_joins clients n m.session.number s s1 s' o o1 o' (spot_at (Sends now MAX_OUTPUTS) l heard moved s.state.facts)
-                (spot_at (Sends now (suc room)) m heard (cond (nat_lt 0 made) true moved) s1.state.facts)
-                (spot_at second.doing l' heard (cond (nat_lt 0 (made + 1)) true moved) s'.state.facts) made 1 (at_room heard moved first is room more)
-                (subst (λ (b : Bool). LinkMakes clients n m.session.number (spot_at (Sends now (suc room)) m heard (cond (nat_lt 0 made) true moved) s1.state.facts)
-                (spot_at second.doing l' heard b s'.state.facts) s1 s' o1 o' 1) (sym (moved_more moved)) second.makes));
-          }
 
   -- broken off
-  pub due_stops : (l' : Link) (s' : StoreValue) (o' : Outside) (e : Fault) → made < MAX_OUTPUTS
+  pub due_stops : (l' : Link) (s' : StoreValue) (o' : Outside) (e : Fault)
       → PutStopped clients n now m l' s1 s' o1 o' e → DueStopped clients n now l l' s s' o o' e
-  due_stops l' s' o' e less b = record {
+  due_stops l' s' o' e b = record {
     stops = λ heard moved entry_open.
-        let first = a.leads heard moved entry_open in
-        sends_yet now first.room first.doing m first.goes_on open_is (λ is. by_room heard moved first is first.room refl);
+        let first = room_left heard moved entry_open in
+        let moved1 : Bool = cond (nat_lt 0 made) true moved in
+        let mid : Spot = spot_at (Sends now (suc first.room)) m heard moved1 s1.state.facts in
+        link_stops_then clients n l.session.number (link_at l' heard)
+        (spot_at (Sends now MAX_OUTPUTS) l heard moved s.state.facts) mid s s1 s' o o1 o' e
+        (makes_went clients n l.session.number _ _ s s1 o o1 made first.makes)
+        (subst (λ (x : Session). LinkStopped clients n x.number mid (link_at l' heard) s1 s' o1 o' e)
+        a.same_session (b.stops heard moved1 first.room));
   }
-    where
-      by_room : (heard : List ℕ) (moved : Bool)
-          (first : OutsMadeTo clients n now made l m s s1 o o1 heard moved)
-          → first.doing ≡ Sends now first.room → (room : ℕ)
-          → first.room ≡ room → LinkStopped clients n l.session.number (spot_at (Sends now MAX_OUTPUTS) l heard moved s.state.facts) (link_at l' heard) s s' o o' e
-      by_room heard moved first is zero none =
-          let rest : first.room + made ≡ MAX_OUTPUTS = first.rest in
-          absurd (omega (arith, rest, none, less))
-      by_room heard moved first is (suc room) more =
-          subst (λ (k : ℕ). LinkStopped clients n k (spot_at (Sends now MAX_OUTPUTS) l heard moved s.state.facts) (link_at l' heard) s s' o o' e) (ap (λ x. x.number) a.same_session)
-          (link_stops_then clients n m.session.number (link_at l' heard) (spot_at (Sends now MAX_OUTPUTS) l heard moved s.state.facts)
-          (spot_at (Sends now (suc room)) m heard (cond (nat_lt 0 made) true moved) s1.state.facts) s s1 s' o o1 o' e
-          (makes_went clients n m.session.number _ _ s s1 o o1 made (at_room heard moved first is room more))
-          (b.stops heard (cond (nat_lt 0 made) true moved) room))
 
 -- nothing more: nothing is due, the room is used up, or the link is closed
 pub due_end : (clients : Meaning) (n now made : ℕ) (l m : Link) (s s1 : StoreValue)

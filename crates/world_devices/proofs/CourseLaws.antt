@@ -14,8 +14,7 @@ use Rattle.sync_node.specs.Courses.{BeginsNextSession, BreaksBeginning, BreaksTu
 use Rattle.sync_node.specs.Node.{NodeValue}
 use Rattle.sync_node.specs.OnRuns.{BeginStopped, BeginWent, ByFault, RoundStopped}
 use Rattle.sync_node.specs.declared.fault.NodeFault.{NodeFault}
-use Rattle.sync_node.proofs.Halts.{beginning_breaks, turn_breaks}
-use Rattle.sync_node.proofs.NodeRuns.{beginning_halts, run_went, turn_halts}
+use Rattle.sync_node.proofs.NodeRuns.{beginning_breaks, run_went, turn_breaks}
 use Rattle.world_devices.proofs.RunLaws.{by_any}
 
 -- ---- from a session that is to begin to where it has begun
@@ -141,10 +140,10 @@ pub turn_breaks_off : (n n' : NodeValue) (o o' : Outside) (x : NodeFault) → By
     → BreaksTurn bundle_meaning n.first n.links n.store o o'
 turn_breaks_off n n' o o' x stopped =
     by_any (RoundStopped bundle_meaning n.first n.links n'.links n.store n'.store o o') (BreaksTurn bundle_meaning n.first n.links n.store o o')
-    (λ e w. turn_breaks bundle_meaning n.first n.links n'.links n.store o o' (turn_halts bundle_meaning n.first n.links n'.links n.store n'.store o o' e w)) x stopped
+    (λ e w. turn_breaks bundle_meaning n.first n.links n'.links n.store n'.store o o' e w) x stopped
 
 pub beginning_breaks_off : (session : Session) (n n' : NodeValue) (o o' : Outside) (x : NodeFault) → ByFault (BeginStopped bundle_meaning session n.links n'.links n.store n'.store o o') x
     → BreaksBeginning bundle_meaning session n.links n.store o o'
 beginning_breaks_off session n n' o o' x stopped =
     by_any (BeginStopped bundle_meaning session n.links n'.links n.store n'.store o o') (BreaksBeginning bundle_meaning session n.links n.store o o')
-    (λ e w. beginning_breaks bundle_meaning session n.links n'.links n.store o o' (beginning_halts bundle_meaning session n.links n'.links n.store n'.store o o' e w)) x stopped
+    (λ e w. beginning_breaks bundle_meaning session n.links n'.links n.store n'.store o o' e w) x stopped
