@@ -140,9 +140,8 @@ module _ (clients : Meaning) (n : ℕ) (l : Link) (s : StoreValue) (o o1 : Outsi
           has_read = taken.has_read (heard ++ bytes) its reading;
           ready = inl refl;
           went =
-              link_joins clients n l.session.number (spot_at Asks l heard moved s.state.facts)
-              (spot_at (Takes its) l (heard ++ bytes) true s.state.facts) (spot_at Waits l' (heard ++ bytes) true s'.state.facts) s s s' o o1 o'
-              (asked_here (heard_kind.Got count) heard moved hears caused) (taken.went (heard ++ bytes) its true reading);
+              link_joins n (asked_here (heard_kind.Got count) heard moved hears caused)
+              (taken.went (heard ++ bytes) its true reading);
         };
   }
 
@@ -157,8 +156,8 @@ module _ (clients : Meaning) (n : ℕ) (l : Link) (s : StoreValue) (o o1 : Outsi
         let its : List Item = new_items heard bytes in
         let reading : IsReading (heard ++ bytes) bytes l.reader its = piece_comes widen heard bytes l.reader (read going) in (
           heard ++ bytes,
-          link_stops_then clients n l.session.number (link_at l' (heard ++ bytes)) (spot_at Asks l heard moved s.state.facts)
-              (spot_at (Takes its) l (heard ++ bytes) true s.state.facts) s s s' o o1 o' e (asked_here (heard_kind.Got count) heard moved hears caused)
+          link_stops_then n (link_at l' (heard ++ bytes)) s' o' e
+              (asked_here (heard_kind.Got count) heard moved hears caused)
               (stopped.stops (heard ++ bytes) its true reading),
         );
   }

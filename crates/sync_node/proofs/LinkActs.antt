@@ -32,25 +32,24 @@ use Rattle.sync_node.proofs.CommitLaws.{settling_front}
 use Rattle.sync_node.proofs.PrimLaws.{did_pass}
 use Rattle.sync_node.proofs.WentLaws.{commit_stopped, no_memory, stopped_then, went_none, went_one, went_then}
 
-module _ (clients : Meaning) (n session : ℕ) where
-  -- ---- one behind the other
+-- ---- one behind the other
 
-  pub link_stays : (p : Spot) (s : StoreValue) (o : Outside)
-      → LinkWent clients n session p p s s o o
-  link_stays p s o = λ first is. went_none clients (LinkActs clients first n) (paid p) s o
+module _ {clients : Meaning} (n : ℕ) {session : ℕ} where
+  pub link_stays : {p : Spot} {s : StoreValue} {o : Outside} → LinkWent clients n session p p s s o o
+  link_stays {p = p} {s = s} {o = o} = λ first is. went_none clients (LinkActs clients first n) (paid p) s o
 
-  pub link_joins : (p q r : Spot) (s s1 s' : StoreValue) (o o1 o' : Outside)
+  pub link_joins : {p q r : Spot} {s s1 s' : StoreValue} {o o1 o' : Outside}
       → LinkWent clients n session p q s s1 o o1 → LinkWent clients n session q r s1 s' o1 o'
       → LinkWent clients n session p r s s' o o'
-  link_joins p q r s s1 s' o o1 o' first second = λ k is.
+  link_joins {p = p} {q = q} {r = r} {s = s} {s1 = s1} {s' = s'} {o = o} {o1 = o1} {o' = o'} first second = λ k is.
       went_then clients (LinkActs clients k n) (paid p) (paid q) (paid r) s s1 s' o o1 o'
       (first k is) (second k is)
 
-  pub link_stops_then : (link : course_links.Link) (p q : Spot) (s s1 s' : StoreValue)
-      (o o1 o' : Outside) (e : Fault) → LinkWent clients n session p q s s1 o o1
+  pub link_stops_then : {p q : Spot} {s s1 : StoreValue} {o o1 : Outside} (link : course_links.Link)
+      (s' : StoreValue) (o' : Outside) (e : Fault) → LinkWent clients n session p q s s1 o o1
       → LinkStopped clients n session q link s1 s' o1 o' e
       → LinkStopped clients n session p link s s' o o' e
-  link_stops_then link p q s s1 s' o o1 o' e first second = λ k is.
+  link_stops_then {p = p} {q = q} {s = s} {s1 = s1} {o = o} {o1 = o1} link s' o' e first second = λ k is.
       stopped_then clients (LinkActs clients k n) (λ (x : Owing Spot). x.at.link ≡ link) (paid p)
       (paid q) s s1 s' o o1 o' e (first k is) (second k is)
 
@@ -61,6 +60,7 @@ module _ (clients : Meaning) (n session : ℕ) where
       no_memory clients (LinkActs clients k n) (λ (x : Owing Spot). x.at.link ≡ p.link) (paid p) s o
       ready (inl refl)
 
+module _ (clients : Meaning) (n session : ℕ) where
   -- ---- one event
 
   -- nothing is owed by it
@@ -251,7 +251,7 @@ module _ (clients : Meaning) (session : ℕ) (r : Record) (s : StoreValue) (o : 
     settled = settles.settled;
     went = λ n place its p takes same.
         let q : Spot = record { doing = Takes (items_after r its); link = link_after place r p.link; moved = p.moved; facts = mid.state.facts } in
-        link_joins clients n session p q (record q { facts = s'.state.facts }) s mid s' o m o'
+        link_joins n
         (committed_take mid m commits n place its p takes same)
         (link_settles clients n session q (items_after r its) mid s' m o' refl refl settles.by);
   }
@@ -270,7 +270,7 @@ module _ (clients : Meaning) (session : ℕ) (r : Record) (s : StoreValue) (o : 
   record_stops_at_settle mid s' m o' e commits stops = record {
     stops = λ n place its p takes same.
         let q : Spot = record { doing = Takes (items_after r its); link = link_after place r p.link; moved = p.moved; facts = mid.state.facts } in
-        link_stops_then clients n session (link_after place r p.link) p q s mid s' o m o' e
+        link_stops_then n (link_after place r p.link) s' o' e
         (committed_take mid m commits n place its p takes same)
         (link_settle_stops clients n session q (items_after r its) mid s' m o' e refl refl stops);
   }

@@ -165,7 +165,7 @@ item_no_memory clients n piece l l' s o ready same_session same_end same_nonce =
   stops = λ heard its moved reading.
       subst (λ x. LinkStopped clients n l.session.number (spot_at (Takes its) l heard moved s.state.facts) x s s o o fault.Memory)
       (same_at l l' same_session same_end same_nonce heard)
-      (link_no_memory clients n l.session.number (spot_at (Takes its) l heard moved s.state.facts) s o ready);
+      (link_no_memory n (spot_at (Takes its) l heard moved s.state.facts) s o ready);
 }
 
 pub items_none : (clients : Meaning) (n : ℕ) (piece : List ℕ) (l : Link) (s : StoreValue)
@@ -175,7 +175,7 @@ items_none clients n piece l s o going = record {
   leads = λ heard its moved reading. (
     its,
     subst (IsTaking heard piece l its) (sym going) reading,
-    link_stays clients n l.session.number (spot_at (Takes its) l heard moved s.state.facts) s o,
+    link_stays n,
   );
 }
 
@@ -188,12 +188,12 @@ module _ (clients : Meaning) (n : ℕ) (piece mid : List ℕ) (l m : Link) (s s1
       let first = a.leads heard its moved reading in
       (first.0, subst (IsTaking heard mid m first.0) going first.1, first.2)
 
-  item_joins : (s' : StoreValue) (o' : Outside) (p q r : Spot)
+  item_joins : {s' : StoreValue} {o' : Outside} {p q r : Spot}
       → LinkWent clients n l.session.number p q s s1 o o1
       → LinkWent clients n m.session.number q r s1 s' o1 o'
       → LinkWent clients n l.session.number p r s s' o o'
-  item_joins s' o' p q r first second =
-      link_joins clients n l.session.number p q r s s1 s' o o1 o' first
+  item_joins {s' = s'} {o' = o'} {q = q} {r = r} first second =
+      link_joins n first
       (subst (λ (k : ℕ). LinkWent clients n k q r s1 s' o1 o') (ap (λ x. x.number) same_session) second)
 
   pub items_then : (left : List ℕ) (l' : Link) (s' : StoreValue) (o' : Outside)
@@ -205,8 +205,7 @@ module _ (clients : Meaning) (n : ℕ) (piece mid : List ℕ) (l m : Link) (s s1
         let second = b.leads heard first.0 moved first.1 in (
           second.0,
           second.1,
-          item_joins s' o' (spot_at (Takes its) l heard moved s.state.facts) (spot_at (Takes first.0) m heard moved s1.state.facts)
-              (spot_at (Takes second.0) l' heard moved s'.state.facts) first.2 second.2,
+          item_joins first.2 second.2,
         );
   }
 
@@ -220,8 +219,7 @@ module _ (clients : Meaning) (n : ℕ) (piece mid : List ℕ) (l m : Link) (s s1
     went = λ heard its moved reading.
         let first = came_to heard its moved reading in
         let second = b.leads heard first.0 moved first.1 in
-        item_joins s' o' (spot_at (Takes its) l heard moved s.state.facts) (spot_at (Takes first.0) m heard moved s1.state.facts)
-        (spot_at Waits l' heard moved s'.state.facts) first.2 second.1;
+        item_joins first.2 second.1;
   }
 
   pub items_stop : (l' : Link) (s' : StoreValue) (o' : Outside) (e : Fault)
@@ -230,8 +228,7 @@ module _ (clients : Meaning) (n : ℕ) (piece mid : List ℕ) (l m : Link) (s s1
   items_stop l' s' o' e b = record {
     stops = λ heard its moved reading.
         let first = came_to heard its moved reading in
-        link_stops_then clients n l.session.number (link_at l' heard) (spot_at (Takes its) l heard moved s.state.facts)
-        (spot_at (Takes first.0) m heard moved s1.state.facts) s s1 s' o o1 o' e first.2
+        link_stops_then n (link_at l' heard) s' o' e first.2
         (subst (λ (k : ℕ). LinkStopped clients n k (spot_at (Takes first.0) m heard moved s1.state.facts) (link_at l' heard) s1 s' o1 o' e) (ap (λ x. x.number) same_session)
         (b.stops heard first.0 moved first.1));
   }
@@ -252,7 +249,7 @@ items_closed clients n piece left l l' s s' o o' closed settled a = record {
       let passes : q ≡ all_taken_spot p =
       ap (λ x. record { doing = Waits; link = record (link_at l' heard) { stands = x }; moved = moved; facts = s'.state.facts })
       (sym (closed_behind l'.end (ending 0 heard) closed)) in
-      link_joins clients n l.session.number (spot_at (Takes its) l heard moved s.state.facts) p q s s' s' o o' o' first.2
+      link_joins n first.2
       (link_passes clients n l.session.number [] p q s' o'
       (ap (λ (x : List Item). Takes x) none) settled passes);
 }

@@ -52,28 +52,21 @@ use Rattle.sync_node.proofs.WorkLaws.{goes_read}
 
 -- ---- so many batches
 
-module _ (clients : Meaning) (n session : ℕ) where
-  pub makes_went : (p q : Spot) (s s' : StoreValue) (o o' : Outside) (count : ℕ)
+module _ {clients : Meaning} (n : ℕ) {session : ℕ} where
+  makes_went : {p q : Spot} {s s' : StoreValue} {o o' : Outside} {count : ℕ}
       → LinkMakes clients n session p q s s' o o' count → LinkWent clients n session p q s s' o o'
-  makes_went p q s s' o o' count makes = λ first is. (makes first is).went
+  makes_went makes = λ first is. (makes first is).went
 
-  makes_none : (p : Spot) (s : StoreValue) (o : Outside)
-      → LinkMakes clients n session p p s s o o 0
-  makes_none p s o = λ first is. record {
+  makes_none : {p : Spot} {s : StoreValue} {o : Outside} → LinkMakes clients n session p p s s o o 0
+  makes_none {s = s} {o = o} = λ first is. record {
     went = record { acts = []; path = refl; did = did_none clients s o };
     counts = refl;
   }
 
-  -- the same count by another name
-  makes_as : (s s' : StoreValue) (o o' : Outside) (p q : Spot) (a b : ℕ) → a ≡ b
-      → LinkMakes clients n session p q s s' o o' a → LinkMakes clients n session p q s s' o o' b
-  makes_as s s' o o' p q a b same makes =
-      subst (λ (k : ℕ). LinkMakes clients n session p q s s' o o' k) same makes
-
-  makes_joins : (s s1 s' : StoreValue) (o o1 o' : Outside) (p q r : Spot) (a b : ℕ)
+  makes_joins : {p q r : Spot} {s s1 s' : StoreValue} {o o1 o' : Outside} {a b c : ℕ} → a + b ≡ c
       → LinkMakes clients n session p q s s1 o o1 a → LinkMakes clients n session q r s1 s' o1 o' b
-      → LinkMakes clients n session p r s s' o o' (a + b)
-  makes_joins s s1 s' o o1 o' p q r a b first second = λ k is.
+      → LinkMakes clients n session p r s s' o o' c
+  makes_joins {p = p} {q = q} {r = r} {s = s} {s1 = s1} {s' = s'} {o = o} {o1 = o1} {o' = o'} {a = a} all first second = λ k is.
       let one = first k is in
       let two = second k is in
       record {
@@ -89,9 +82,11 @@ module _ (clients : Meaning) (n session : ℕ) where
             ap (λ (l : Journal). length l) (batches_in-append one.went.acts two.went.acts)
             ∙ length-append (batches_in one.went.acts) (batches_in two.went.acts)
             ∙ ap (λ (x : ℕ). x + length (batches_in two.went.acts)) one.counts
-            ∙ ap (λ (x : ℕ). a + x) two.counts;
+            ∙ ap (λ (x : ℕ). a + x) two.counts
+            ∙ all;
       }
 
+module _ (clients : Meaning) (n session : ℕ) where
   -- nothing more is sent in this turn
   makes_sent : (now room : ℕ) (p : Spot) (s : StoreValue) (o : Outside) → p.doing ≡ Sends now room
       → IsEnough clients p.facts session now room
@@ -277,7 +272,7 @@ pub put_no_memory : (clients : Meaning) (n now : ℕ) (l : Link) (s : StoreValue
     → IsReady clients s o.files → PutStopped clients n now l l s s o o fault.Memory
 put_no_memory clients n now l s o ready = record {
   stops = λ heard moved room.
-      link_no_memory clients n l.session.number
+      link_no_memory n
       (spot_at (Sends now (suc room)) l heard moved s.state.facts) s o ready;
 }
 
@@ -291,7 +286,7 @@ due_none clients n now l s o = record {
     rest = omega arith;
     doing = Sends now MAX_OUTPUTS;
     goes_on = inl (refl, open_is);
-    makes = makes_none clients n l.session.number (spot_at (Sends now MAX_OUTPUTS) l heard moved s.state.facts) s o;
+    makes = makes_none n;
   };
   same_reader = refl;
   same_session = refl;
@@ -346,11 +341,7 @@ module _ (clients : Meaning) (n now made : ℕ) (l m : Link) (s s1 : StoreValue)
           doing = second.doing;
           goes_on = second.goes_on;
           makes =
-              makes_joins clients n l.session.number s s1 s' o o1 o'
-              (spot_at (Sends now MAX_OUTPUTS) l heard moved s.state.facts)
-              (spot_at (Sends now (suc first.room)) m heard moved1 s1.state.facts)
-              (spot_at second.doing l' heard (cond (nat_lt 0 (made + 1)) true moved) s'.state.facts)
-              made 1 first.makes
+              makes_joins n refl first.makes
               (subst (λ (b : Bool). LinkMakes clients n l.session.number
               (spot_at (Sends now (suc first.room)) m heard moved1 s1.state.facts)
               (spot_at second.doing l' heard b s'.state.facts) s1 s' o1 o' 1) (sym more)
@@ -372,9 +363,7 @@ module _ (clients : Meaning) (n now made : ℕ) (l m : Link) (s s1 : StoreValue)
         let first = room_left heard moved entry_open in
         let moved1 : Bool = cond (nat_lt 0 made) true moved in
         let mid : Spot = spot_at (Sends now (suc first.room)) m heard moved1 s1.state.facts in
-        link_stops_then clients n l.session.number (link_at l' heard)
-        (spot_at (Sends now MAX_OUTPUTS) l heard moved s.state.facts) mid s s1 s' o o1 o' e
-        (makes_went clients n l.session.number _ _ s s1 o o1 made first.makes)
+        link_stops_then n (link_at l' heard) s' o' e (makes_went n first.makes)
         (subst (λ (x : Session). LinkStopped clients n x.number mid (link_at l' heard) s1 s' o1 o' e)
         a.same_session (b.stops heard moved1 first.room));
   }
@@ -391,14 +380,17 @@ due_end clients n now made l m s s1 o o1 a enough = record {
       let q : Spot = spot_at Done m heard (cond (nat_lt 0 made) true moved) s1.state.facts in
       elim first.goes_on [
         | inl sends ↦
-            let mid : Spot = spot_at (Sends now first.room) m heard (cond (nat_lt 0 made) true moved) s1.state.facts in
-            makes_as clients n l.session.number s s1 o o1 p q (made + 0) made (omega arith)
-            (makes_joins clients n l.session.number s s1 s1 o o1 o1 p mid q made 0
-            (subst (λ d. LinkMakes clients n l.session.number p (spot_at d m heard (cond (nat_lt 0 made) true moved) s1.state.facts) s s1 o o1 made) sends.0 first.makes)
+            let all : made + 0 ≡ made = omega arith in
+            let mid : Spot = record q { doing = Sends now first.room } in
+            makes_joins n all
+            (subst (λ d. LinkMakes clients n l.session.number p (record q { doing = d }) s s1 o o1 made)
+            sends.0 first.makes)
             (makes_sent clients n l.session.number now first.room mid s1 o1 refl
-            (subst (λ (k : ℕ). IsEnough clients s1.state.facts k now first.room) (ap (λ x. x.number) a.same_session) (enough sends.1 first.room first.rest))))
+            (subst (λ (x : Session). IsEnough clients s1.state.facts x.number now first.room)
+            a.same_session (enough sends.1 first.room first.rest)))
         | inr done ↦
-            subst (λ d. LinkMakes clients n l.session.number p (spot_at d m heard (cond (nat_lt 0 made) true moved) s1.state.facts) s s1 o o1 made) done.0 first.makes
+            subst (λ d. LinkMakes clients n l.session.number p (record q { doing = d }) s s1 o o1 made)
+            done.0 first.makes
       ];
   same_reader = a.same_reader;
   end = a.end;
@@ -412,9 +404,8 @@ due_no_memory clients n now made l m s s1 o o1 a ready = record {
   stops = λ heard moved entry_open.
       let first = a.leads heard moved entry_open in
       let mid : Spot = spot_at first.doing m heard (cond (nat_lt 0 made) true moved) s1.state.facts in
-      link_stops_then clients n l.session.number (link_at m heard) (spot_at (Sends now MAX_OUTPUTS) l heard moved s.state.facts) mid s s1 s1 o o1 o1 fault.Memory
-      (makes_went clients n l.session.number _ _ s s1 o o1 made first.makes)
-      (link_no_memory clients n l.session.number mid s1 o1 ready);
+      link_stops_then n (link_at m heard) s1 o1 fault.Memory (makes_went n first.makes)
+      (link_no_memory n mid s1 o1 ready);
 }
 
 -- ---- sending in a turn
@@ -430,7 +421,7 @@ sending_closed clients n l s o may = record {
             (may_not_end l.end may))
         | inr done ↦
             subst (λ d. LinkWent clients n l.session.number (spot_at d l heard moved s.state.facts) (spot_at Done l heard moved s.state.facts) s s o o) (sym done.0)
-            (link_stays clients n l.session.number (spot_at Done l heard moved s.state.facts) s o)
+            (link_stays n)
       ];
   same_reader = refl;
   end = inl refl;
@@ -455,9 +446,8 @@ module _ (clients : Meaning) (n now : ℕ) (l : Link) (s : StoreValue) (o o1 : O
       → SendingWent clients n l l' s s' o o' made
   sending_read l' s' o' made sent = record {
     went = λ heard moved doing ready.
-        link_joins clients n l.session.number (spot_at doing l heard moved s.state.facts) (spot_at (Sends now MAX_OUTPUTS) l heard moved s.state.facts)
-        (spot_at Done l' heard (cond (nat_lt 0 made) true moved) s'.state.facts) s s s' o o1 o' (read_at heard moved doing ready)
-        (makes_went clients n l.session.number _ _ s s' o1 o' made (sent.makes heard moved (may_end l.end may)));
+        link_joins n (read_at heard moved doing ready)
+        (makes_went n (sent.makes heard moved (may_end l.end may)));
     same_reader = sent.same_reader;
     end = sent.end;
   }
@@ -466,6 +456,6 @@ module _ (clients : Meaning) (n now : ℕ) (l : Link) (s : StoreValue) (o o1 : O
       → DueStopped clients n now l l' s s' o1 o' e → SendingStopped clients n l l' s s' o o' e
   sending_stops l' s' o' e sent = record {
     stops = λ heard moved doing ready.
-        link_stops_then clients n l.session.number (link_at l' heard) (spot_at doing l heard moved s.state.facts) (spot_at (Sends now MAX_OUTPUTS) l heard moved s.state.facts)
-        s s s' o o1 o' e (read_at heard moved doing ready) (sent.stops heard moved (may_end l.end may));
+        link_stops_then n (link_at l' heard) s' o' e (read_at heard moved doing ready)
+        (sent.stops heard moved (may_end l.end may));
   }
