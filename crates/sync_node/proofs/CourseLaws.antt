@@ -97,27 +97,6 @@ at_most_between batch j whole at_most =
       | inr more ↦ record { front = batch ∷ []; rest = []; parts = refl; is = more }
     ]
 
-pub commit_reads : (clients : Meaning) (s s' : StoreValue) (batch : List Entry)
-    (result : Result (Unit {0}) StoreFault) (o o' : Outside)
-    → FitsSome clients s o.files → is_some o'.files ≡ is_some o.files
-    → ((two : Two File) → o.files ≡ Some two → (j : List (List Entry)) → FitsFiles clients s j two → store_moments.RunsCommit clients batch result s' o o' j)
-    → ReadsFront clients (batch ∷ []) s o o'
-commit_reads clients s s' batch result o o' fits told adds =
-    reads_front clients s s' (batch ∷ []) o o' (λ j whole. WithAtMost j batch whole) (λ j whole. whole ≡ journal_with j batch result) fits told
-    (at_most_between batch) adds
-
--- ---- settling
-
-pub settle_reads : (clients : Meaning) (s s' : StoreValue) (result : Result (Unit {0}) StoreFault)
-    (o o' : Outside) (has : HasSettled clients s s' result o o')
-    → FitsSome clients s o.files → is_some o'.files ≡ is_some o.files
-    → ReadsFront clients has.more s o o'
-settle_reads clients s s' result o o' has fits told =
-    reads_front clients s s' has.more o o' (λ j whole. IsBetween j has.more whole) (λ j whole. whole ≡ j ++ has.more) fits told
-    (λ j whole between. between) has.comes.leads
-
--- ---- the records of these
-
 -- a call on the links or the clock asks the disk nothing
 pub quiet_most : (during : Moment → Type 0) (o o' : Outside) → LinkCall during o o'
     → MakesAtMost 0 o o'

@@ -142,9 +142,9 @@ fronts_then clients acts bs s s1 s2 o o1 o2 first second told j fit =
     (first.moments told j fit)
     (second (told_on o o1 first.goes told) (j ++ batches_in acts) (first.fits j fit))
 
-pub did_then : (clients : Meaning) (acts bs : List Act) (s s1 s2 : StoreValue) (o o1 o2 : Outside)
+pub did_then : {clients : Meaning} {acts bs : List Act} {s s1 s2 : StoreValue} {o o1 o2 : Outside}
     → Did clients acts s s1 o o1 → Did clients bs s1 s2 o1 o2 → Did clients (acts ++ bs) s s2 o o2
-did_then clients acts bs s s1 s2 o o1 o2 first second = record {
+did_then {clients = clients} {acts = acts} {bs = bs} {s = s} {s1 = s1} {s2 = s2} {o = o} {o1 = o1} {o2 = o2} first second = record {
   goes = goes_then o o1 o2 first.goes second.goes;
   tells = tells_then acts bs o o1 o2 first.tells second.tells;
   sent = sent_then acts bs o o1 o2 first.goes first.sent second.sent;
@@ -161,10 +161,10 @@ did_then clients acts bs s s1 s2 o o1 o2 first second = record {
   moments = fronts_then clients acts bs s s1 s2 o o1 o2 first second.moments;
 }
 
-pub some_then : (clients : Meaning) (acts bs : List Act) (next : Journal) (s s1 s2 : StoreValue)
-    (o o1 o2 : Outside) → Did clients acts s s1 o o1 → DidSome clients bs next s1 s2 o1 o2
+pub some_then : {clients : Meaning} {acts bs : List Act} {next : Journal} {s s1 s2 : StoreValue}
+    {o o1 o2 : Outside} → Did clients acts s s1 o o1 → DidSome clients bs next s1 s2 o1 o2
     → DidSome clients (acts ++ bs) next s s2 o o2
-some_then clients acts bs next s s1 s2 o o1 o2 first second = record {
+some_then {clients = clients} {acts = acts} {bs = bs} {next = next} {s = s} {s1 = s1} {s2 = s2} {o = o} {o1 = o1} {o2 = o2} first second = record {
   goes = goes_then o o1 o2 first.goes second.goes;
   tells = tells_then acts bs o o1 o2 first.tells second.tells;
   sent = sent_then acts bs o o1 o2 first.goes first.sent second.sent;

@@ -75,8 +75,7 @@ module _ {clients : Meaning} (n : ℕ) {session : ℕ} where
           path =
               path_then (LinkActs clients k n) (paid p) (paid q) (paid r) one.went.acts two.went.acts
               one.went.path two.went.path;
-          did =
-              did_then clients one.went.acts two.went.acts s s1 s' o o1 o' one.went.did two.went.did;
+          did = did_then one.went.did two.went.did;
         };
         counts =
             ap (λ (l : Journal). length l) (batches_in-append one.went.acts two.went.acts)
@@ -217,9 +216,7 @@ module _ (clients : Meaning) (n now : ℕ) (what : Out) (l : Link) (s : StoreVal
           out_step first at heard moved room,
           (paid q, steps first at, refl),
         );
-        did =
-            did_then clients (commit_acts (out_batch l.session.number now what ∷ [])) (a ∷ []) s s1 s1
-            o o1 o' did_commit did;
+        did = did_then did_commit did;
       };
       counts = ap (λ (l : Journal). suc (length l)) none;
     }

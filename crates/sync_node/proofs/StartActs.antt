@@ -85,7 +85,7 @@ greeted_twice stand n first second l mid l' o o1 o' within within1 unfailed one 
       is = inr (inl (refl, ends' ∙ ends));
       same_files = two.call.same_files ∙ one.call.same_files;
       did = λ clients s roomy.
-          did_then clients (Send n first ∷ []) (Send n second ∷ []) s s s o o1 o'
+          did_then
           (did_send stand clients n first s o o1 roomy within one.call u went)
           (did_send stand clients n second s o1 o' roomy within1 two.call v went');
     }
@@ -94,7 +94,7 @@ greeted_twice stand n first second l mid l' o o1 o' within within1 unfailed one 
       is = inr (inr (inr (went'.sent.0, refl, ends' ∙ ap (λ (x : Link). record x { end = link_end.Failed }) ends)));
       same_files = two.call.same_files ∙ one.call.same_files;
       did = λ clients s roomy.
-          did_then clients (Send n first ∷ []) (Fail n second went'.sent.0 ∷ []) s s s o o1 o'
+          did_then
           (did_send stand clients n first s o o1 roomy within one.call u went)
           (did_fail stand clients n second s o1 o' roomy within1 two.call why went');
     }
@@ -224,7 +224,7 @@ module _ (clients : Meaning) (x : Session) (s : StoreValue) (o : Outside) (batch
           acts = Does (Commit (session_batch x)) ∷ greets.acts;
           path = (owing_greeting, begin_step, path);
           did =
-              did_then clients (commit_acts (session_batch x ∷ [])) greets.acts s s1 s1 o o1 o2
+              did_then
               (subst (λ (b : List Entry). Did clients (commit_acts (b ∷ [])) s s1 o o1) is commits.did)
               (greets.did clients s1 roomy);
         }
