@@ -13,12 +13,11 @@ use Rattle.sync_node.specs.declared.fault.NodeFault.TheVariants as fault
 use Rattle.sync_node.specs.declared.link.Link.{Link}
 use Rattle.sync_node.specs.Adding.{IsPlain}
 use Rattle.sync_node.specs.Batches.{Added, AddStops}
-use Rattle.sync_node.specs.Calls.{AddCallStops, AttachStops, CallAnswers, CallGoes, CallStops}
+use Rattle.sync_node.specs.Calls.{AddingLeaves, CallAnswers, CallGoes, CallStops, StopsBy}
 use Rattle.sync_node.specs.Causes.{LinksGo}
 use Rattle.sync_node.specs.Faults.{fault_of}
 use Rattle.sync_node.specs.Keeps.{IsReadyOrRose, LinkKeeps, LinksKeep, StayAttached}
 use Rattle.sync_node.specs.Node.{AreAttached, IsNode, KeepsSessions, MayGoOn, MayRun, NodeValue}
-use Rattle.sync_node.specs.Starting.{StartStops}
 use Rattle.sync_node.specs.Stays.{IsUndone}
 use Rattle.sync_node.specs.Working.{HasGivenItems}
 use Rattle.sync_node.proofs.AddLaws.{add_attached, add_may}
@@ -139,17 +138,29 @@ closed_node clients n n' o o' stop node closed keeps =
 
 -- ---- where it stops
 
-stops_call : (T : Type 0) (clients : Meaning) (n' : NodeValue) (o o' : Outside) (f : Fault)
-    (e : NodeFault) → e ≡ fault_of f → IsReadyOrRose clients n'.store o o' f
-    → CallStops {T = T} clients n' o o' (Err e)
-stops_call T clients n' o o' f e gives stops =
-    subst (λ (x : NodeFault). CallStops {T = T} clients n' o o' (Err x)) (sym gives) (by_kind f stops)
+stops_by : (T : Type 0) (P : Fault → Type 0) (f : Fault) (e : NodeFault) → e ≡ fault_of f → P f
+    → StopsBy {T = T} P (Err e)
+stops_by T P f e is p = subst (λ (x : NodeFault). StopsBy {T = T} P (Err x)) (sym is) (by_kind f p)
   where
-    by_kind : (x : Fault) → IsReadyOrRose clients n'.store o o' x
-        → CallStops {T = T} clients n' o o' (Err (fault_of x))
-    by_kind node_fault.Memory so = so
-    by_kind node_fault.DiskFault so = so
-    by_kind node_fault.Full so = so
+    by_kind : (x : Fault) → P x → StopsBy {T = T} P (Err (fault_of x))
+    by_kind node_fault.Memory p = p
+    by_kind node_fault.DiskFault p = p
+    by_kind node_fault.Full p = p
+
+-- of the node as it was seen
+pub stops_seen : (T : Type 0) (P : NodeValue → Fault → Type 0) (m n : NodeValue) (f : Fault)
+    (e : NodeFault) → m ≡ n → e ≡ fault_of f → P m f → StopsBy {T = T} (P n) (Err e)
+stops_seen T P m n f e seen is p =
+    stops_by T (P n) f e is (subst (λ (x : NodeValue). P x f) seen p)
+
+pub adding_leaves : {H : Type 0} (clients : Meaning) (batch : List Entry) (s s' : StoreValue)
+    (host host' : H) (o o' : Outside) (f : Fault) → AddStops clients batch s s' o o' f
+    → (f ≡ node_fault.Full → IsUndone s s' host host')
+    → AddingLeaves clients s s' host host' o o' f
+adding_leaves clients batch s s' host host' o o' node_fault.Memory so none = so.ready
+adding_leaves clients batch s s' host host' o o' node_fault.DiskFault so none = so.breaks.rose
+adding_leaves clients batch s s' host host' o o' node_fault.Full so none =
+    record { ready = so.idle.ready; undone = none refl }
 
 pub record CallWorks {T H : Type 0} (clients : Meaning) (n n' : NodeValue) (host host' : H)
     (o o' : Outside) (result : Result T NodeFault) : Type 0 where
@@ -178,38 +189,8 @@ module _ {H : Type 0} (T : Type 0) (clients : Meaning) (n n' : NodeValue) (host 
         leaves_fault T clients n n' host host' o o' opened node keeps.go keeps.store.same_limit
         keeps.store.same_format first f e is closed;
     kept = record { same_first = first; same_sessions = keeps.same_sessions };
-    stops = stops_call T clients n' o o' f e is keeps.store.answered;
+    stops = stops_by T (IsReadyOrRose clients n'.store o o') f e is keeps.store.answered;
   }
-
-module _ {H : Type 0} (T : Type 0) (clients : Meaning) (m n n' : NodeValue) (host host' : H)
-    (o o' : Outside) (f : Fault) (e : NodeFault) (is : m ≡ n) (gives : e ≡ fault_of f) where
-  pub stops_attach : StartStops clients m.store n'.store host host' o o' f
-      → AttachStops {T = T} clients n n' host host' o o' (Err e)
-  stops_attach stops =
-      subst (λ (x : NodeValue). AttachStops {T = T} clients x n' host host' o o' (Err e)) is
-      (subst (λ (x : NodeFault). AttachStops {T = T} clients m n' host host' o o' (Err x)) (sym gives)
-      (by_kind f stops))
-    where
-      by_kind : (x : Fault) → StartStops clients m.store n'.store host host' o o' x
-          → AttachStops {T = T} clients m n' host host' o o' (Err (fault_of x))
-      by_kind node_fault.Memory so = record { ready = so.ready; undone = so.undone }
-      by_kind node_fault.DiskFault so = so
-      by_kind node_fault.Full so = record { ready = so.ready; undone = so.undone }
-
-  pub stops_add : (batch : List Entry) → AddStops clients batch m.store n'.store o o' f
-      → (f ≡ node_fault.Full → IsUndone m.store n'.store host host')
-      → AddCallStops {T = T} clients n n' host host' o o' (Err e)
-  stops_add batch stops undone =
-      subst (λ (x : NodeValue). AddCallStops {T = T} clients x n' host host' o o' (Err e)) is
-      (subst (λ (x : NodeFault). AddCallStops {T = T} clients m n' host host' o o' (Err x)) (sym gives)
-      (by_kind f stops undone))
-    where
-      by_kind : (x : Fault) → AddStops clients batch m.store n'.store o o' x
-          → (x ≡ node_fault.Full → IsUndone m.store n'.store host host')
-          → AddCallStops {T = T} clients m n' host host' o o' (Err (fault_of x))
-      by_kind node_fault.Memory so none = so.ready
-      by_kind node_fault.DiskFault so none = so.breaks.rose
-      by_kind node_fault.Full so none = record { ready = so.idle.ready; undone = none refl }
 
 -- ---- a batch that is added
 

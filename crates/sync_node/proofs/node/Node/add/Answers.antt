@@ -1,8 +1,9 @@
 use Rattle.std.proofs.Common.{Err, refl, ap, subst}
 use Rattle.sync_rules.specs.Legal.{Allowed}
 use Rattle.sync_node.specs.Batches.{AddStops}
+use Rattle.sync_node.specs.Calls.{AddingLeaves}
 use Rattle.sync_node.specs.Node.{NodeValue}
-use Rattle.sync_node.proofs.CallLaws.{add_keeps, add_stops_keep, closed_node, leaves_closed, never, node_may, stops_add, works_fault, works_node, works_ok}
+use Rattle.sync_node.proofs.CallLaws.{add_keeps, add_stops_keep, closed_node, leaves_closed, never, node_may, stops_seen, adding_leaves, works_fault, works_node, works_ok}
 use Rattle.sync_node.proofs.NodeActs.{by_fault}
 use Rattle.sync_node.proofs.node.Node.add.Goals as goal
 
@@ -83,10 +84,13 @@ returns-in-Err g c =
       goes = works.leaves.goes;
       links = refl;
       stops = λ opened.
-          stops_add (Unit {0}) (g.C.Clients.meaning c.args.clients.now) _ _ _ c.args.host.now
-          c.add_settled.new.host (g.H.Disk.tells c.args.host.now) (g.H.Disk.tells c.add_settled.new.host)
-          c.in-Err.fault c.close.result c.self.view_is c.close.ensures.fault
-          c.args.batch c.in-Err.ensures.stopped (λ full. c.in-Err.ensures.undone (ap (λ e. Err e) full));
+          stops_seen (Unit {0})
+          (λ n. AddingLeaves (g.C.Clients.meaning c.args.clients.now) n.store
+          c.add_settled.new.store c.args.host.now c.add_settled.new.host
+          (g.H.Disk.tells c.args.host.now) (g.H.Disk.tells c.add_settled.new.host))
+          _ _ c.in-Err.fault _ c.self.view_is c.close.ensures.fault
+          (adding_leaves _ c.args.batch _ _ _ _ _ _ c.in-Err.fault c.in-Err.ensures.stopped
+          (λ full. c.in-Err.ensures.undone (ap (λ e. Err e) full)));
       went = tt;
       stopped = λ opened.
           by_fault

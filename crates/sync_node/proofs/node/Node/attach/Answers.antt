@@ -5,8 +5,9 @@ use Rattle.sync_node.specs.declared.link.Link.{Link}
 use Rattle.sync_node.specs.Node.{NodeValue}
 use Rattle.sync_node.specs.OnRuns.{BeginStopped}
 use Rattle.sync_node.specs.Plans.{session_of}
+use Rattle.sync_node.specs.Starting.{StartStops}
 use Rattle.sync_node.proofs.AttachLaws.{attached_last, attached_may, one_longer, plan_allowed}
-use Rattle.sync_node.proofs.CallLaws.{leaves_closed, leaves_fault, leaves_ok, never, node_may, stops_attach}
+use Rattle.sync_node.proofs.CallLaws.{leaves_closed, leaves_fault, leaves_ok, never, node_may, stops_seen}
 use Rattle.sync_node.proofs.NodeActs.{by_fault}
 use Rattle.sync_node.proofs.StartActs.{begin_stopped, begin_went}
 use Rattle.sync_node.proofs.node.Node.attach.Goals as goal
@@ -112,10 +113,11 @@ returns-in-Err g c =
       goes = leaves.goes;
       links = c.in-Err.ensures.keeps.pushes;
       stops = λ opened.
-          stops_attach (Unit {0}) (g.C.Clients.meaning c.args.clients.now) _ _ _ c.args.host.now
-          c.attach_on.new.host (g.H.Disk.tells c.args.host.now) (g.H.Disk.tells c.attach_on.new.host)
-          c.in-Err.fault c.close.result c.self.view_is
-          c.close.ensures.fault c.in-Err.ensures.stops;
+          stops_seen (Unit {0})
+          (λ n. StartStops (g.C.Clients.meaning c.args.clients.now) n.store c.attach_on.new.store
+          c.args.host.now c.attach_on.new.host (g.H.Disk.tells c.args.host.now)
+          (g.H.Disk.tells c.attach_on.new.host))
+          _ _ c.in-Err.fault _ c.self.view_is c.close.ensures.fault c.in-Err.ensures.stops;
       went = λ opened. tt;
       stopped = λ opened.
           by_fault (BeginStopped _ _ _ _ _ _ _ _) c.in-Err.fault _ c.close.ensures.fault
