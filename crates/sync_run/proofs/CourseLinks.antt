@@ -31,106 +31,7 @@ use Rattle.sync_run.specs.declared.run.Limits.{Limits}
 use Rattle.sync_run.specs.Causes.{IsCaused}
 use Rattle.sync_run.specs.Courses.{RunComesTo, HearsRun, RanToEnd, RunComes, TestsContacts, TestsWords, WasBroken, WasFull, WasOver, RunWasSpent, are_too_many, is_unknown, run_test}
 use Rattle.sync_run.specs.Dialling.{MakesLinks, unheard}
-use Rattle.sync_run.proofs.CourseDials.{unbegun}
-
--- ---- the same, where links and files are the same
-
-hears_as : (es : List Event) (o0 o1 o2 o3 : Outside) → o1.links ≡ o0.links → o3.links ≡ o2.links → HearsRun es o1 o2 → HearsRun es o0 o3
-hears_as es o0 o1 o2 o3 first last h = record {
-  heard =
-      subst (λ (a : Links). o3.links.heard ≡ option_map (λ (l : List HeardOn). heard_after es (unheard o3.links.dialled)) a.heard) first
-      (subst (λ (b : Links). b.heard ≡ option_map (λ (l : List HeardOn). heard_after es (unheard b.dialled)) o1.links.heard) (sym last) h.heard);
-  readings =
-      subst (λ (a : Links). GrowsBy (readings_of es) a.readings o3.links.readings) first
-      (subst (λ (b : Links). GrowsBy (readings_of es) o1.links.readings b.readings) (sym last) h.readings);
-  faults = λ link.
-      subst (λ (a : Links). RoseIf (has_failure link es) (a.faults link) (o3.links.faults link)) first
-      (subst (λ (b : Links). RoseIf (has_failure link es) (o1.links.faults link) (b.faults link)) (sym last) (h.faults link));
-}
-
-reads_as : (clients : Meaning) (a b : Option (Two File)) (j : Journal) → b ≡ a → ReadsAs clients a j → ReadsAs clients b j
-reads_as clients a b j same reads = subst (λ (f : Option (Two File)). ReadsAs clients f j) (sym same) reads
-
-module _ (clients : Meaning) (limits : Limits) (words : List LinkWords) (j : Journal) (o0 o1 o2 o3 : Outside) (first : o1.links ≡ o0.links) (last : o3.links ≡ o2.links)
-    (files : o3.files ≡ o2.files) (reads : RelatesTold ReadsSame o0.files o1.files) where
-  -- the files of the begin, as a load leaves them
-  loaded_two : (two : Two File) → o0.files ≡ Some two → (two1 : Two File) × (o1.files ≡ Some two1) × (read_files two1 ≡ read_files two)
-  loaded_two two told = becomes_told ReadsSame o0.files o1.files two told reads
-
-  ran_as : (ends : Closing) → RanToEnd clients limits words j o1 o2 ends → RanToEnd clients limits words j o0 o3 ends
-  ran_as ends ran = record {
-    sessions = ran.sessions;
-    planned = ran.planned;
-    all_planned = ran.all_planned;
-    all_made = ap (λ (l : Links). l.dialled) last ∙ ran.all_made;
-    events = ran.events;
-    last = ran.last;
-    course = ran.course;
-    hears = hears_as ran.events o0 o1 o2 o3 first last ran.hears;
-    reads = reads_as clients o2.files o3.files _ files ran.reads;
-    closes = ran.closes;
-    by_heard = ran.by_heard;
-    as_told = λ i link at heard told. ran.as_told i link at heard (ap (λ (l : Links). l.heard) (sym last) ∙ told) ∙ ap (λ (l : Links). heard_on l i) (sym last);
-    quiet = ran.quiet;
-    next = λ two told spent.
-        let at = loaded_two two told in
-        ran.next at.0 at.1 (subst HasLastGeneration (sym at.2) spent);
-  }
-
-  was_as : WasBroken clients limits words j o1 o2 → WasBroken clients limits words j o0 o3
-  was_as was = record {
-    sessions = was.sessions;
-    planned = was.planned;
-    all_planned = was.all_planned;
-    events = was.events;
-    last = was.last;
-    broken = was.broken;
-    all_made = λ begun. ap (λ (l : Links). l.dialled) last ∙ was.all_made begun;
-    hears = hears_as was.events o0 o1 o2 o3 first last was.hears;
-    reads = reads_as clients o2.files o3.files _ files was.reads;
-  }
-
-  told_as : TellsAll o3 → TellsAll o2
-  told_as told = record {
-    two = told.two;
-    files_are = sym files ∙ told.files_are;
-    links = told.links;
-    links_are = ap (λ (l : Links). l.told) (sym last) ∙ told.links_are;
-    heard = told.heard;
-    heard_are = ap (λ (l : Links). l.heard) (sym last) ∙ told.heard_are;
-  }
-
-  over_as : WasOver clients limits words j o1 o2 → WasOver clients limits words j o0 o3
-  unfolding was_as
-  over_as was = record {
-    run = was_as was.run;
-    batch = was.batch;
-    next = was.next;
-    steps = was.steps;
-    over = was.over;
-    sent = λ told i l there unfailed. ap (λ (ls : Links). sent_on ls i) last ∙ was.sent (told_as told) i l there unfailed;
-  }
-
-  spent_as : RunWasSpent words o1 o2 → RunWasSpent words o0 o3
-  spent_as was = record {
-    last = λ two told. let at = loaded_two two told in subst HasLastGeneration at.2 (was.last at.0 at.1);
-    still = λ two two' told told'. let at = loaded_two two told in was.still at.0 two' at.1 (sym files ∙ told') ∙ at.2;
-    links =
-        subst (λ (a : Links). MakesLinks words a o3.links) first
-        (subst (λ (b : Links). MakesLinks words o1.links b) (sym last) was.links);
-  }
-
-  full_as : WasFull clients limits words j o1 o2 → WasFull clients limits words j o0 o3
-  full_as (inl was) = inl (over_as was)
-  full_as (inr was) = inr (spent_as was)
-
-  comes_as : (r : Result Closing Outcome) → RunComes clients limits words j o1 o2 r → RunComes clients limits words j o0 o3 r
-  comes_as (Ok ends) comes = ran_as ends comes
-  comes_as (Err (outcome.LinkFailed link)) comes = reads_as clients o2.files o3.files j files comes
-  comes_as (Err outcome.Full) comes = full_as comes
-  comes_as (Err outcome.Memory) comes = was_as comes
-  comes_as (Err outcome.DiskFault) comes = was_as comes
-  comes_as (Err _) comes = absurd comes
+use Rattle.sync_run.proofs.DialActs.{unbegun}
 
 -- ---- the tests
 
@@ -143,7 +44,7 @@ contacts_fail f words (Err e) why is tests =
 
 -- ---- by what the files stood for
 
-run_comes_to : (clients : Meaning) (limits : Limits) (words : List LinkWords) (stood : Standing) (j : Journal) (o o' : Outside) → stood ≡ journal j → run_test (facts j) words ≡ None
+pub run_comes_to : (clients : Meaning) (limits : Limits) (words : List LinkWords) (stood : Standing) (j : Journal) (o o' : Outside) → stood ≡ journal j → run_test (facts j) words ≡ None
     → (r : Result Closing Outcome) → RunComes clients limits words j o o' r → RunComesTo clients limits words stood o o' r
 run_comes_to clients limits words stood j o o' began known (Ok ends) comes = record { begin = j; began = began; tested = known; has = comes }
 run_comes_to clients limits words stood j o o' began known (Err (outcome.LinkFailed link)) comes = record { begin = j; began = began; tested = known; has = comes }
@@ -221,20 +122,17 @@ module _ (clients : Meaning) (limits : Limits) (words : List LinkWords) (two : T
           has = reads_still clients two o.files o'.files loaded.of told reads loaded.stood;
         })
 
-    -- the store fits the journal
-    fits_loaded : FitsSome clients s o'.files → FitsWith clients s o'.files loaded.of
-    fits_loaded fits =
-        let there = reads_still clients two o.files o'.files loaded.of told reads loaded.stood in
-        let fit = fits there.0 there.1 in
-        let both : journal fit.0 ≡ journal loaded.of = sym fit.1.stands_for ∙ there.2 in
-        let one : fit.0 ≡ loaded.of = cc in
-        (there.0, there.1, subst (λ (k : Journal). FitsFiles clients s k there.0) one fit.1)
-
-    pub links_come : (o2 o3 : Outside) (u : Unit {0}) (r : Result Closing Outcome) → FitsSome clients s o'.files → TestsWords s.state.facts words (Ok u) → o3.links ≡ o2.links
-        → o3.files ≡ o2.files → ((j : Journal) → FitsWith clients s o'.files j → RunComes clients limits words j o' o2 r) → RunComesTo clients limits words stood o o3 r
-    links_come o2 o3 u r fits tests last files comes =
-        run_comes_to clients limits words stood loaded.of o o3 loaded.stood (ap (λ (f : Facts). run_test f words) loaded.are ∙ tests) r
-        (comes_as clients limits words loaded.of o o' o2 o3 same last files reads r (comes loaded.of (fits_loaded fits)))
+-- the store fits the journal
+pub fits_loaded : (clients : Meaning) (two : Two File) (o o' : Outside) → o.files ≡ Some two
+    → RelatesTold ReadsSame o.files o'.files → (s : StoreValue)
+    → (loaded : HasFacts (stands clients (read_files two)) s) → FitsSome clients s o'.files
+    → FitsWith clients s o'.files loaded.of
+fits_loaded clients two o o' told reads s loaded fits =
+    let there = reads_still clients two o.files o'.files loaded.of told reads loaded.stood in
+    let fit = fits there.0 there.1 in
+    let both : journal fit.0 ≡ journal loaded.of = sym fit.1.stands_for ∙ there.2 in
+    let one : fit.0 ≡ loaded.of = cc in
+    (there.0, there.1, subst (λ (k : Journal). FitsFiles clients s k there.0) one fit.1)
 
 -- ---- causes
 

@@ -21,11 +21,10 @@ use Rattle.sync_course.specs.declared.ends.LinkEnd.{LinkEnd}
 use Rattle.sync_course.specs.declared.ends.LinkEnd.TheVariants as link_end
 use Rattle.sync_node.specs.declared.node.Turned.{Turned}
 use Rattle.sync_node.specs.declared.node.Turned.TheVariants as turned
-use Rattle.sync_node.specs.Courses.{AllRead, RunBreaks, is_still, links_from, place_at}
+use Rattle.sync_node.specs.Courses.{AllRead, is_still, links_from, place_at}
 use Rattle.sync_node.specs.OnRuns.{BeginStopped, BeginWent, ByFault, RoundStopped, RoundWent, RunActs, RunStopped, RunWent}
 use Rattle.sync_node.specs.declared.fault.NodeFault.{NodeFault}
 use Rattle.sync_node.specs.declared.fault.NodeFault.TheVariants as node_fault
-use Rattle.sync_node.proofs.NodeRuns.{run_halts}
 use Rattle.sync_node.proofs.PrimLaws.{did_pass}
 use Rattle.sync_node.proofs.WentLaws.{stopped_then, went_none, went_one, went_then}
 use Rattle.sync_node.specs.Node.{IsNode, NodeValue, asked_among, is_going}
@@ -53,12 +52,6 @@ by_fault_map P Q then node_fault.DiskFault p = then _ p
 by_fault_map P Q then node_fault.Full p = then _ p
 by_fault_map P Q then node_fault.Closed p = p
 
-pub by_fault_any : (P : _ → Type 0) (Q : Type 0) → ((e : _) → P e → Q) → (x : NodeFault) → ByFault P x → Q
-by_fault_any P Q then node_fault.Memory p = then _ p
-by_fault_any P Q then node_fault.DiskFault p = then _ p
-by_fault_any P Q then node_fault.Full p = then _ p
-by_fault_any P Q then node_fault.Closed p = absurd p
-
 -- a place that is told of nothing
 passes : (clients : Meaning) (terms : Terms) (p q : Place) (s : StoreValue) (o : Outside) → RunStep clients terms p Pass q
     → RunWent clients terms p q s s o o
@@ -76,13 +69,6 @@ stops_then clients terms p q s0 s s' o0 o o' x first second =
       stopped.0,
       stopped_then clients (RunActs clients terms) (λ (y : Owing Place). y.at.links ≡ stopped.0) (paid p) (paid q) s0 s s' o0 o o' e first stopped.1,
     )) x second
-
--- it was broken off
-pub stops_halted : (clients : Meaning) (terms : Terms) (p : Place) (s s' : StoreValue) (o o' : Outside) (x : NodeFault)
-    → StopsFrom clients terms p s s' o o' x → RunBreaks clients terms p s o o'
-stops_halted clients terms p s s' o o' x stops =
-    by_fault_any (λ e. (links : List course_links.Link) × RunStopped clients terms p links s s' o o' e) (RunBreaks clients terms p s o o')
-    (λ e stopped. (run_halts clients terms p stopped.0 s s' o o' e stopped.1).breaks) x stops
 
 -- ---- the sessions begin
 

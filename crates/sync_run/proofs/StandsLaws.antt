@@ -2,7 +2,6 @@
 use Rattle.std.proofs.Common.{◌≡◌, ℕ, ◌+◌, ◌++◌, ◌∷◌, [], ◌≤◌, ◌<◌, List, length, sym, ◌∙◌, ap, subst, refl, arith, Result, Ok, Err, get_or}
 use Rattle.std.specs.Prelude.{IsErrAnd}
 use Rattle.std.proofs.lemmas.List.{length-append, length-map}
-use Rattle.outside.specs.Faults.{CountRose, one_more}
 use Rattle.outside.specs.Outside.{Outside}
 use Rattle.sync_rules.specs.Clients.{Meaning}
 use Rattle.sync_rules.specs.declared.entries.Session.{Session}
@@ -14,8 +13,10 @@ use Rattle.sync_node.specs.Node.{AnswersAndCloses, IsNode, MayRun, NodeValue}
 use Rattle.sync_run.specs.declared.dialling.Dialled.{Dialled}
 use Rattle.sync_node.specs.Calls.{AttachStops, CallGoes, CallStops}
 use Rattle.sync_run.specs.NodeStands.{StandsBy}
-use Rattle.sync_run.specs.SafeRuns.{AllMayBegin, MayBeginOn}
-use Rattle.sync_run.proofs.CauseLaws.{causes_then, goes_none, goes_then, no_causes}
+use Rattle.sync_run.specs.Needs.{AllMayBegin, MayBeginOn}
+use Rattle.sync_node.proofs.SafeLaws.{goes_none}
+use Rattle.sync_node.proofs.WorkLaws.{goes_then}
+use Rattle.sync_run.proofs.CauseLaws.{causes_then, no_causes, rose_before}
 
 -- ---- what is kept
 
@@ -43,9 +44,6 @@ keeps_then n0 n1 n2 o0 o1 o2 first second = record {
 
 -- ---- where a call stopped
 
-pub rose_since : (a b c : ℕ) → a ≤ b → CountRose b c → CountRose a c
-rose_since a b c le rose = let more : one_more b ≤ c = rose in omega (arith, le, more)
-
 module _ (T U : Type 0) (clients : Meaning) (n' : NodeValue) (o o1 o' : Outside)
     (later : o.disk_faults ≤ o1.disk_faults) where
   stops_on : (x : NodeFault) → CallStops {T = T} clients n' o1 o' (Err x)
@@ -53,7 +51,7 @@ module _ (T U : Type 0) (clients : Meaning) (n' : NodeValue) (o o1 o' : Outside)
   stops_on fault.Memory stops = stops
   stops_on fault.Full stops = stops
   stops_on fault.DiskFault stops =
-      rose_since o.disk_faults o1.disk_faults o'.disk_faults later stops
+      rose_before o.disk_faults o1.disk_faults o'.disk_faults later stops
   stops_on fault.Closed stops = tt
 
   closes_by : (x : NodeFault) → AnswersAndCloses {T = T} (Err x) n'

@@ -6,7 +6,7 @@ ghost use Rattle.sync_rules.specs.declared.limits.TheConstants.{MAX_SESSIONS};
 ghost use Rattle.sync_node.specs.Node.{IsNode, MayRun};
 ghost use Rattle.sync_node.specs.Calls.{CallGoes};
 ghost use Rattle.sync_run.specs.NodeStands.{StandsBy};
-ghost use Rattle.sync_run.specs.SafeRuns.{AllMayBegin};
+ghost use Rattle.sync_run.specs.Needs.{AllMayBegin};
 ghost use Rattle.sync_run.specs.Parts.{MakesTurns, SessionsBegin, SessionsStopped, TurnsStopped};
 
 use crate::dialling::Dialled;

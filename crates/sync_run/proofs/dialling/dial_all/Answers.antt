@@ -4,7 +4,7 @@ use Rattle.std.proofs.lemmas.Option.{slice_get_read}
 use Rattle.outside.specs.declared.failed.Failed.{Failed}
 use Rattle.sync_run.specs.declared.dialling.Dialled.{Dialled}
 use Rattle.sync_run.specs.Dialling.{AreDialled, DialsAll}
-use Rattle.sync_run.proofs.SafeCalm.{calms_then, dial_stops, dialled_push, err_is, makes_next, pushed}
+use Rattle.sync_run.proofs.DialLaws.{calms_then, dial_stops, dialled_push, err_is, makes_next, pushed}
 use Rattle.sync_run.proofs.dialling.dial_all.Goals as goal
 
 pub returns-in_err-nonce-clause-dials : goal.returns-in_err-nonce-clause-dials

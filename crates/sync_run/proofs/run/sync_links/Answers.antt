@@ -1,12 +1,12 @@
 use Rattle.std.proofs.Common.{ap, ◌∙◌}
 use Rattle.outside.specs.Links.{Links}
 use Rattle.sync_node.specs.Going.{specs_of}
-use Rattle.sync_run.proofs.CourseLinks.{links_caused, links_come, refused_caused, refused_comes, unheld_caused, unheld_comes, unloaded_caused, unloaded_comes}
+use Rattle.sync_run.proofs.CourseLinks.{links_caused, refused_caused, refused_comes, unheld_caused, unheld_comes, unloaded_caused, unloaded_comes}
 use Rattle.sync_words.specs.declared.outcome.Outcome.TheVariants as outcome
-use Rattle.sync_run.proofs.LeavingLaws.{tested_begins, leaves_as, leaves_same, told_early}
-use Rattle.sync_run.proofs.SafeEnds.{headline_none}
-use Rattle.sync_run.proofs.SafeRunning.{at_rest_stills, headline_run, load_rests, rests_ready, sent_run, specs_disk, specs_kept}
-use Rattle.sync_run.proofs.SafeFull.{full_run, loaded_unfull}
+use Rattle.sync_run.proofs.LeavingLaws.{headline_none, leaves_as, leaves_same, loaded_unfull, told_early}
+use Rattle.sync_run.proofs.RanLaws.{headline_ran, ran_told}
+use Rattle.sync_run.proofs.RestLaws.{load_rests, rests_ready}
+use Rattle.sync_run.proofs.WordLaws.{specs_disk, specs_kept}
 use Rattle.sync_run.proofs.run.sync_links.Goals as goal
 
 pub run_links-ended-requires-clause-unused : goal.run_links-ended-requires-clause-unused
@@ -104,28 +104,22 @@ returns-in_err-dialled-clause-leaves g c =
     leaves_same c.args.links.now (g.H.Disk.tells c.args.host.now) (g.H.Disk.tells c.load_store.new.disk) c.from_residual-in_err-dialled.result c.load_store.ensures.run.same_links
 
 pub returns-clause-headline : goal.returns-clause-headline
-returns-clause-headline g c =
-    headline_run _ c.args.links.now _ (g.H.Disk.tells c.args.host.now) (g.H.Disk.tells c.load_store.new.disk) (g.H.Disk.tells c.run_links-ended.new.host) (g.H.Disk.tells c.hang_up_all.new.host) c.requires.unused
-    c.load_store.ensures.run (λ two told. (c.load_store.ensures.rests two told).moments) c.load_store.ensures.reads c.in_ok-store.ensures.loaded c.in_ok-store.ensures.opened.ready c.run_links-ended.ensures.safe
-    c.hang_up_all.ensures
+returns-clause-headline g c = λ two told new.
+    headline_ran _ c.args.limits c.args.links.now _ (g.H.Disk.tells c.args.host.now) (g.H.Disk.tells c.load_store.new.disk)
+    (g.H.Disk.tells c.run_links-ended.new.host) (g.H.Disk.tells c.hang_up_all.new.host) c.requires.unused
+    c.load_store.ensures.run c.load_store.ensures.reads c.hang_up_all.ensures two told
+    (c.load_store.ensures.rests two told).moments (c.in_ok-store.ensures.loaded two told)
+    c.in_ok-store.ensures.opened.ready.fits _ c.run_links-ended.ensures.ran c.moments_stand.ensures
+    c.batches_suit_as_planned.ensures new
 
 pub returns-clause-told : goal.returns-clause-told
-returns-clause-told g c = λ two told. record {
-  rests =
-      at_rest_stills (g.H.Disk.tells c.run_links-ended.new.host) (g.H.Disk.tells c.hang_up_all.new.host) _ c.hang_up_all.ensures c.run_links-ended.ensures.sends.rests;
-  sent =
-      sent_run _ _ (g.H.Disk.tells c.args.host.now) (g.H.Disk.tells c.run_links-ended.new.host) (g.H.Disk.tells c.hang_up_all.new.host) _ c.in_ok-store.ensures.loaded c.hang_up_all.ensures c.run_links-ended.ensures.sends.sent two told;
-  sent_full =
-      λ is. full_run _ _ (g.H.Disk.tells c.args.host.now) (g.H.Disk.tells c.load_store.new.disk) (g.H.Disk.tells c.run_links-ended.new.host) (g.H.Disk.tells c.hang_up_all.new.host) c.load_store.ensures.run c.hang_up_all.ensures
-      c.in_ok-store.ensures.loaded (c.run_links-ended.ensures.sends.sent_full is) two told;
-  comes =
-      links_come _ c.args.limits c.args.links.now two (g.H.Disk.tells c.args.host.now) (g.H.Disk.tells c.load_store.new.disk) c.requires.unused told c.load_store.ensures.run.same_links
-      c.load_store.ensures.reads _ (c.in_ok-store.ensures.loaded two told) (g.H.Disk.tells c.run_links-ended.new.host) (g.H.Disk.tells c.hang_up_all.new.host) c.in_ok-test_words.field-0
-      c.run_links-ended.result c.in_ok-store.ensures.opened.ready.fits c.in_ok-test_words.ensures.tested c.hang_up_all.ensures.same_links c.hang_up_all.ensures.same_files
-      c.run_links-ended.ensures.comes;
-  unbegun =
-      λ none. absurd (tested_begins c.args.links.now _ c.in_ok-store.store (c.in_ok-store.ensures.loaded two told) c.in_ok-test_words.ensures.tested none);
-}
+returns-clause-told g c = λ two told.
+    ran_told _ c.args.limits c.args.links.now _ (g.H.Disk.tells c.args.host.now) (g.H.Disk.tells c.load_store.new.disk)
+    (g.H.Disk.tells c.run_links-ended.new.host) (g.H.Disk.tells c.hang_up_all.new.host) c.requires.unused
+    c.load_store.ensures.run c.load_store.ensures.reads c.hang_up_all.ensures two told
+    (c.load_store.ensures.rests two told).moments (c.in_ok-store.ensures.loaded two told)
+    c.in_ok-store.ensures.opened.ready.fits _ c.run_links-ended.ensures.ran c.run_links-ended.ensures.rests
+    c.in_ok-test_words.ensures.tested c.all_is_sent.ensures.whole c.all_is_sent.ensures.full c.runs_end_quiet.ensures
 
 pub returns-clause-specs : goal.returns-clause-specs
 returns-clause-specs g c =

@@ -1,36 +1,45 @@
 -- What a command comes to whose links were dialled, by what the run on them came to.
-use Rattle.std.proofs.Common.{◌≡◌, ◌⊎◌, ℕ, suc, ◌≤◌, Bool, true, false, cond, List, [], ◌∷◌, ◌++◌, length, append-nil, refl, sym, ◌∙◌, ap, subst, arith, inl, inr, Option, None, Some, is_some, Result, Ok, Err}
+use Rattle.std.proofs.Common.{◌≡◌, ◌⊎◌, ℕ, suc, ◌+◌, ◌<◌, ◌≤◌, Bool, true, false, cond, List, [], ◌∷◌, ◌++◌, length, append-nil, refl, sym, ◌∙◌, ap, subst, arith, inl, inr, Option, None, Some, is_some, Result, Ok, Err}
 use Rattle.std.specs.Option.{option_map}
 use Rattle.outside.specs.declared.failed.Failed.{Failed}
 use Rattle.outside.specs.Faults.{CountRose, one_more}
 use Rattle.outside.specs.Files.{Two, File, read_files}
 use Rattle.outside.specs.Links.{HeardOn, Links}
 use Rattle.outside.specs.Outside.{Outside}
+use Rattle.outside.specs.Runs.{TellsAll}
+use Rattle.outside.proofs.RunLaws.{grow_then, told_after}
+use Rattle.entry_codec.specs.Standing.{journal, stands}
 use Rattle.sync_rules.specs.declared.entries.Session.{Session}
 use Rattle.sync_rules.specs.Clients.{Meaning}
 use Rattle.sync_rules.specs.Facts.{facts}
 use Rattle.sync_store.specs.Store.{StoreValue}
+use Rattle.sync_course.specs.Acts.{AtFront, batches_in, events_of}
 use Rattle.sync_course.specs.Events.{Event, GrowsBy, RoseIf, TellsEvents, has_failure, heard_after, readings_of}
+use Rattle.sync_course.specs.Owing.{Owing, paid}
+use Rattle.sync_course.specs.Turns.{Place, Terms, first_place}
 use Rattle.sync_course.proofs.ToldLaws.{told_none}
-use Rattle.sync_course.specs.Turns.{first_place}
 use Rattle.sync_node.proofs.CourseLaws.{fits_on}
+use Rattle.sync_node.proofs.DidLaws.{since_none}
 use Rattle.sync_node.specs.Courses.{FitsWith, ReadsAs}
+use Rattle.sync_node.specs.Did.{HasSentBy, SinceThen}
 use Rattle.sync_node.specs.Going.{LetsNothingFall}
-use Rattle.sync_node.specs.Output.{Journal}
+use Rattle.sync_node.specs.Output.{Journal, sent_on}
 use Rattle.sync_words.specs.declared.link_words.LinkWords.{LinkWords}
 use Rattle.sync_course.specs.Closing.{Closing}
+use Rattle.store_commands.specs.Commit.{MayMigrate}
 use Rattle.sync_words.specs.declared.outcome.Outcome.{Outcome}
 use Rattle.sync_words.specs.declared.outcome.Outcome.TheVariants as outcome
 use Rattle.sync_words.specs.Links.{has_nonce}
 use Rattle.sync_run.specs.declared.dialling.Dialled.{Dialled}
 use Rattle.sync_run.specs.declared.run.Limits.{Limits}
 use Rattle.sync_run.specs.Causes.{FailsAlone, IsCaused, RunCaused}
-use Rattle.sync_run.specs.Courses.{HearsRun, RanToEnd, RunComes, WasBroken, WasFull, WasOver, RunWasSpent, terms_of}
+use Rattle.sync_run.specs.Courses.{HearsRun, RunWasSpent, WasBroken, terms_of}
 use Rattle.sync_run.specs.Dialling.{AreDialled, DialsOnly, DialsAll, MakesLinks, unheard}
-use Rattle.sync_run.specs.Parts.{RunBroken, RunEnded, RunFilled, RunSpent, RunsOver, sessions_from}
+use Rattle.sync_run.specs.Parts.{AnswersAt, AnswersOnLinks, RanDialled, RanOnLinks, RunDid, RunSpent, sessions_from}
 use Rattle.sync_run.specs.Plans.{ArePlanned}
-use Rattle.sync_run.proofs.EndLaws.{course_by_heard}
-use Rattle.sync_run.proofs.HeardLaws.{course_told}
+use Rattle.sync_run.proofs.DialLaws.{calms_run}
+use Rattle.sync_run.proofs.RestLaws.{image_read}
+use Rattle.sync_run.proofs.RunActs.{did_behind}
 
 -- ---- sessions that words plan
 
@@ -88,7 +97,7 @@ heard_by_run es n None o1 o none made told = told ∙ ap (option_map (heard_afte
 heard_by_run es n (Some h) o1 o none made told =
     told ∙ ap (option_map (heard_after es)) made ∙ ap (λ (hs : List HeardOn). Some (heard_after es (hs ++ unheard n))) (no_heard h (none h refl))
 
-pub hears_dialled : (words : List LinkWords) (es : List Event) (o0 o1 o : Outside) → o0.links.dialled ≡ 0 → MakesLinks words o0.links o1.links → TellsEvents es o1 o
+hears_dialled : (words : List LinkWords) (es : List Event) (o0 o1 o : Outside) → o0.links.dialled ≡ 0 → MakesLinks words o0.links o1.links → TellsEvents es o1 o
     → o.links.dialled ≡ o1.links.dialled → HearsRun es o0 o
 hears_dialled words es o0 o1 o none makes told same =
     let number : o.links.dialled ≡ length words = omega (arith, same, makes.dialled, none) in
@@ -101,81 +110,137 @@ hears_dialled words es o0 o1 o none makes told same =
           rose_if_before (has_failure link es) (o0.links.faults link) (o1.links.faults link) (o.links.faults link) (makes.grows.faults link) (told.faults link);
     }
 
--- ---- the run on the links
+-- ---- dials before other acts
 
-module _ (clients : Meaning) (limits : Limits) (words : List LinkWords) (links : List Dialled) (j : Journal) (o0 o1 o : Outside) (none : o0.links.dialled ≡ 0)
-    (files : o1.files ≡ o0.files) (makes : MakesLinks words o0.links o1.links) (dialled : AreDialled words links) (count : length links ≡ length words) (same : o.links.dialled ≡ o1.links.dialled) where
-  all_planned : length (sessions_from (facts j).begun links) ≡ length words
-  all_planned = sessions_count (facts j).begun links ∙ count
-
-  all_made : o.links.dialled ≡ length words
-  all_made = omega (arith, same, makes.dialled, none)
-
-  ended_so : (ends : Closing) → RunEnded clients limits (sessions_from (facts j).begun links) j o1 o ends → RanToEnd clients limits words j o0 o ends
-  ended_so ends end = record {
-    sessions = sessions_from (facts j).begun links;
-    planned = sessions_planned (facts j).begun words links dialled;
-    all_planned = all_planned;
-    all_made = all_made;
-    events = end.events;
-    last = end.last;
-    course = end.course;
-    hears = hears_dialled words end.events o0 o1 o none makes end.told same;
-    reads = end.reads;
-    closes = end.closes;
-    by_heard = course_by_heard clients (terms_of limits j) (sessions_from (facts j).begun links) (facts j) end.events end.last end.course;
-    as_told =
-        course_told clients (terms_of limits j) (sessions_from (facts j).begun links) (facts j) end.events end.last o0 o end.course (all_made ∙ sym all_planned)
-        (hears_dialled words end.events o0 o1 o none makes end.told same).heard;
-    quiet = end.quiet;
-    next = λ two told. end.next two (files ∙ told);
+module _ (clients : Meaning) (s : StoreValue) (o0 o1 : Outside) (calms : DialsOnly o0 o1) (j : Journal)
+    (fit : FitsWith clients s o0.files j) where
+  -- the files are as they were, with nothing pending
+  calm_since : SinceThen o0 o1 (AtFront clients [] j (sent_on o0.links))
+  calm_since = record {
+    later = calms.later;
+    before = λ t m since at. elim (calms.moments fit.0 fit.1 t m since at) [
+      | inl old ↦ inl old
+      | inr calm ↦ inr (record {
+        before = [];
+        behind = [];
+        parts = refl;
+        stands_for =
+            ap (stands clients) (image_read fit.0 m.files fit.2.first_settled fit.2.second_settled calm.image)
+            ∙ fit.2.stands_for ∙ ap (λ (l : Journal). journal l) (sym (append-nil j));
+        part = λ link. [];
+        begun = λ link. record { rest = []; whole = refl };
+        has_sent = λ link. calm.same_sent link ∙ sym (append-nil (sent_on o0.links link));
+      })
+    ];
   }
 
-  broken_so : RunBroken clients limits (sessions_from (facts j).begun links) j o1 o → WasBroken clients limits words j o0 o
-  broken_so broken = record {
-    sessions = sessions_from (facts j).begun links;
-    planned = sessions_planned (facts j).begun words links dialled;
-    all_planned = all_planned;
-    events = broken.events;
-    last = broken.last;
-    broken = broken.broken;
-    all_made = λ begun. all_made;
-    hears = hears_dialled words broken.events o0 o1 o none makes broken.told same;
-    reads = broken.reads;
+  calm_sent : HasSentBy [] o0 o1
+  calm_sent told link = calms.sent link ∙ sym (append-nil (sent_on o0.links link))
+
+  calm_reads : ReadsAs clients o1.files j
+  calm_reads = let now = fits_on clients s o0 o1 calms.same_files j fit in (now.0, now.1, now.2.stands_for)
+
+  -- the acts of a run behind them
+  abbrev did_dialled : (terms : Terms) (from : Place) (o : Outside) → RunDid clients terms from j o1 o
+      → RunDid clients terms from j o0 o
+  did_dialled terms from o did =
+      did_behind clients terms from from j j o0 o1 o [] (sym (append-nil j)) refl
+      (told_after o0 o1 (calms_run o0 o1 calms)) calm_sent calm_since did
+
+  -- there were none
+  abbrev did_nothing : (terms : Terms) (from : Place) → RunDid clients terms from j o0 o1
+  did_nothing terms from = record {
+    acts = [];
+    to = paid from;
+    path = refl;
+    next = [];
+    beyond = paid from;
+    goes_on = refl;
+    sent = calm_sent;
+    reads = subst (λ (k : Journal). ReadsAs clients o1.files k) (sym (append-nil j)) calm_reads;
+    moments = λ told. calm_since;
   }
 
-  filled_so : RunFilled clients limits (sessions_from (facts j).begun links) j o1 o → WasOver clients limits words j o0 o
-  unfolding broken_so
-  filled_so filled = record {
-    run = broken_so filled.run;
-    batch = filled.batch;
-    next = filled.next;
-    steps = filled.steps;
-    over = filled.over;
-    sent = filled.sent;
-  }
+-- ---- by the answer of the dials
 
+module _ (clients : Meaning) (limits : Limits) (words : List LinkWords) (links : List Dialled)
+    (s : StoreValue) (o0 o1 : Outside) (none : o0.links.dialled ≡ 0) (calms : DialsOnly o0 o1) where
   -- nothing was done behind the dials
-  spent_so : RunSpent o1 o → RunWasSpent words o0 o
-  spent_so spent = record {
-    last = λ two told. spent.last two (files ∙ told);
+  spent_so : (o : Outside) → MakesLinks words o0.links o1.links → RunSpent o1 o → RunWasSpent words o0 o
+  spent_so o makes spent = record {
+    last = λ two told. spent.last two (calms.same_files ∙ told);
     still = λ two two' told told'.
-        let both : Some two' ≡ Some two = sym told' ∙ spent.same_files ∙ files ∙ told in
+        let both : Some two' ≡ Some two = sym told' ∙ spent.same_files ∙ calms.same_files ∙ told in
         let one : two' ≡ two = cc in
         ap (λ (t : Two File). read_files t) one;
     links = subst (λ (l : Links). MakesLinks words o0.links l) (sym spent.same_links) makes;
   }
 
-  full_so : (RunFilled clients limits (sessions_from (facts j).begun links) j o1 o ⊎ RunSpent o1 o) → WasFull clients limits words j o0 o
-  full_so (inl filled) = inl (filled_so filled)
-  full_so (inr spent) = inr (spent_so spent)
+  answers_so : (o : Outside) (r : Result Closing Outcome) (terms : Terms) (to : Owing Place) (j now : Journal)
+      → MakesLinks words o0.links o1.links
+      → AnswersAt clients limits terms to now (MayMigrate o1.files) (RunSpent o1 o) r
+      → AnswersOnLinks clients limits words terms to j now o0 o r
+  answers_so o (Ok ends) terms to j now makes answer =
+      (answer.0, λ two told. answer.1 two (calms.same_files ∙ told))
+  answers_so o (Err outcome.Full) terms to j now makes answer = elim answer [
+    | inl fills ↦ inl fills
+    | inr spent ↦ inr (spent_so o makes spent)
+  ]
+  answers_so o (Err outcome.Memory) terms to j now makes answer = tt
+  answers_so o (Err outcome.DiskFault) terms to j now makes answer = tt
+  answers_so o (Err _) terms to j now makes answer = absurd answer
 
-  pub run_comes : (r : Result Closing Outcome) → RunsOver clients limits (sessions_from (facts j).begun links) j o1 o r → RunComes clients limits words j o0 o r
-  run_comes (Ok ends) over = ended_so ends over
-  run_comes (Err outcome.Full) over = full_so over
-  run_comes (Err outcome.Memory) over = broken_so over
-  run_comes (Err outcome.DiskFault) over = broken_so over
-  run_comes (Err _) over = absurd over
+  pub dialled_ran : (u : Unit {0}) (lent : List Dialled) (o : Outside) (r : Result Closing Outcome)
+      → DialsAll words links (Ok u) o0 o1 → lent ≡ links → LetsNothingFall o1 o
+      → RanDialled clients limits lent s o1 o r
+      → (j : Journal) → FitsWith clients s o0.files j → RanOnLinks clients limits words j o0 o r
+  dialled_ran u lent o r dials is goes ran j fit =
+      let makes : MakesLinks words o0.links o1.links =
+      subst (λ (ws : List LinkWords). MakesLinks ws o0.links o1.links) dials.all.0 dials.makes in
+      let sessions : List Session = sessions_from (facts j).begun links in
+      let over =
+      (subst (λ (ds : List Dialled). RanDialled clients limits ds s o1 o r) is ran) j
+      (fits_on clients s o0 o1 calms.same_files j fit) in
+      record {
+        sessions = sessions;
+        planned = sessions_planned (facts j).begun words links dials.dialled;
+        all_planned = sessions_count (facts j).begun links ∙ dials.all.1;
+        did =
+            did_dialled clients s o0 o1 calms j fit (terms_of limits j) (first_place sessions (facts j)) o
+            over.did;
+        made = inl (omega (arith, goes.same_dialled, makes.dialled, none));
+        grows = grow_then o0.links o1.links o.links calms.grows goes.links;
+        hears = hears_dialled words (events_of over.did.acts) o0 o1 o none makes over.told goes.same_dialled;
+        answer =
+            answers_so o r (terms_of limits j) over.did.to j (j ++ batches_in over.did.acts) makes over.answer;
+      }
+
+  -- a dial failed
+  dial_answers : (link : ℕ) (r : Result Closing Outcome) (terms : Terms) (to : Owing Place) (j now : Journal)
+      → ReadsAs clients o1.files j → FailsAlone link r
+      → AnswersOnLinks clients limits words terms to j now o0 o1 r
+  dial_answers link (Ok ends) terms to j now reads alone = absurd alone
+  dial_answers link (Err (outcome.LinkFailed named)) terms to j now reads alone = reads
+  dial_answers link (Err _) terms to j now reads alone = absurd alone
+
+  pub undialled_ran : (e : Failed) (link : ℕ) (r : Result Closing Outcome)
+      → DialsAll words links (Err e) o0 o1 → FailsAlone link r
+      → (j : Journal) → FitsWith clients s o0.files j → RanOnLinks clients limits words j o0 o1 r
+  undialled_ran e link r dials alone j fit =
+      let sessions : List Session = some_sessions (facts j).begun words in
+      let start : Place = first_place sessions (facts j) in
+      record {
+        sessions = sessions;
+        planned = some_planned (facts j).begun words;
+        all_planned = some_count (facts j).begun words;
+        did = did_nothing clients s o0 o1 calms j fit (terms_of limits j) start;
+        made = inr refl;
+        grows = calms.grows;
+        hears = hears_dialled dials.made [] o0 o1 o1 none dials.makes (told_none o1) refl;
+        answer =
+            dial_answers link r (terms_of limits j) (paid start) j (j ++ [])
+            (calm_reads clients s o0 o1 calms j fit) alone;
+      }
 
 -- the run did not begin
 pub unbegun : (clients : Meaning) (limits : Limits) (words made : List LinkWords) (j : Journal) (o0 o : Outside) → o0.links.dialled ≡ 0 → MakesLinks made o0.links o.links
@@ -191,32 +256,6 @@ unbegun clients limits words made j o0 o none makes reads = record {
   hears = hears_dialled made [] o0 o o none makes (told_none o) refl;
   reads = subst (λ (k : Journal). ReadsAs clients o.files k) (sym (append-nil j)) reads;
 }
-
-dial_comes : (clients : Meaning) (limits : Limits) (words made : List LinkWords) (link : ℕ) (j : Journal) (o0 o : Outside) (r : Result Closing Outcome) → o0.links.dialled ≡ 0
-    → MakesLinks made o0.links o.links → ReadsAs clients o.files j → FailsAlone link r → RunComes clients limits words j o0 o r
-dial_comes clients limits words made link j o0 o (Ok ends) none makes reads alone = absurd alone
-dial_comes clients limits words made link j o0 o (Err (outcome.LinkFailed named)) none makes reads alone = reads
-dial_comes clients limits words made link j o0 o (Err _) none makes reads alone = absurd alone
-
--- ---- by the answer of the dials
-
-module _ (clients : Meaning) (limits : Limits) (words : List LinkWords) (links : List Dialled) (s : StoreValue) (o0 o1 : Outside) (none : o0.links.dialled ≡ 0) (calms : DialsOnly o0 o1) where
-  fits_calm : (j : Journal) → FitsWith clients s o0.files j → FitsWith clients s o1.files j
-  fits_calm j fit = fits_on clients s o0 o1 calms.same_files j fit
-
-  pub dialled_comes : (u : Unit {0}) (lent : List Dialled) (o : Outside) (r : Result Closing Outcome) → DialsAll words links (Ok u) o0 o1 → lent ≡ links → LetsNothingFall o1 o
-      → ((j : Journal) → FitsWith clients s o1.files j → RunsOver clients limits (sessions_from (facts j).begun lent) j o1 o r)
-      → (j : Journal) → FitsWith clients s o0.files j → RunComes clients limits words j o0 o r
-  dialled_comes u lent o r dials is goes over j fit =
-      run_comes clients limits words links j o0 o1 o none calms.same_files (subst (λ (ws : List LinkWords). MakesLinks ws o0.links o1.links) dials.all.0 dials.makes) dials.dialled dials.all.1
-      goes.same_dialled r
-      (subst (λ (ds : List Dialled). RunsOver clients limits (sessions_from (facts j).begun ds) j o1 o r) is (over j (fits_calm j fit)))
-
-  pub undialled_comes : (e : Failed) (link : ℕ) (r : Result Closing Outcome) → DialsAll words links (Err e) o0 o1 → FailsAlone link r
-      → (j : Journal) → FitsWith clients s o0.files j → RunComes clients limits words j o0 o1 r
-  undialled_comes e link r dials alone j fit =
-      let now : FitsWith clients s o1.files j = fits_calm j fit in
-      dial_comes clients limits words dials.made link j o0 o1 r none dials.makes (now.0, now.1, now.2.stands_for) alone
 
 -- ---- causes
 
