@@ -1,15 +1,13 @@
 -- What the command comes to, by its load, its tests, and the run on its links.
-use Rattle.std.proofs.Common.{◌≡◌, ◌+◌, ◌≤◌, Bool, true, false, List, [], ◌++◌, append-nil, refl, sym, ◌∙◌, ap, subst, arith, inl, inr, Option, None, Some, Result, Ok, Err}
+use Rattle.std.proofs.Common.{◌≡◌, ◌+◌, ◌≤◌, Bool, true, false, List, [], ◌++◌, append-nil, refl, sym, ◌∙◌, ap, subst, arith, Option, None, Some, Result, Ok, Err}
 use Rattle.std.specs.Prelude.{IsErrAnd, if◌then◌else◌}
 use Rattle.std.specs.Option.{option_map}
 use Rattle.outside.specs.Disk.{RelatesTold}
 use Rattle.outside.specs.Faults.{CountRose, one_more}
 use Rattle.outside.specs.Files.{Two, File, read_files}
-use Rattle.outside.specs.Links.{HeardOn, Links}
+use Rattle.outside.specs.Links.{Links}
 use Rattle.outside.specs.Outside.{DiskRun, Outside}
-use Rattle.outside.proofs.CallSteps.{becomes_told}
 use Rattle.outside.proofs.RunLaws.{grow_same}
-use Rattle.outside.specs.Runs.{TellsAll}
 use Rattle.frame_journal.specs.Gates.{ReadsSame}
 use Rattle.sync_rules.specs.declared.states.Refused.{Refused}
 use Rattle.sync_rules.specs.declared.states.Refused.TheVariants as refused
@@ -18,10 +16,8 @@ use Rattle.sync_rules.specs.Facts.{Facts, facts}
 use Rattle.entry_codec.specs.Standing.{Standing, journal, stands}
 use Rattle.sync_store.specs.Fitting.{FitsFiles, FitsSome}
 use Rattle.sync_store.specs.Store.{StoreValue}
-use Rattle.sync_course.specs.Events.{Event, GrowsBy, RoseIf, has_failure, heard_after, readings_of}
 use Rattle.sync_node.specs.Courses.{FitsWith, ReadsAs}
-use Rattle.sync_node.specs.Output.{Journal, heard_on, sent_on}
-use Rattle.store_commands.specs.Commit.{HasLastGeneration}
+use Rattle.sync_node.specs.Output.{Journal}
 use Rattle.store_commands.specs.Load.{HasFacts, IsLoaded, LoadedBy}
 use Rattle.sync_words.specs.declared.link_words.LinkWords.{LinkWords}
 use Rattle.sync_course.specs.Closing.{Closing}
@@ -29,18 +25,20 @@ use Rattle.sync_words.specs.declared.outcome.Outcome.{Outcome}
 use Rattle.sync_words.specs.declared.outcome.Outcome.TheVariants as outcome
 use Rattle.sync_run.specs.declared.run.Limits.{Limits}
 use Rattle.sync_run.specs.Causes.{IsCaused}
-use Rattle.sync_run.specs.Courses.{RunComesTo, HearsRun, RanToEnd, RunComes, TestsContacts, TestsWords, WasBroken, WasFull, WasOver, RunWasSpent, are_too_many, is_unknown, run_test}
-use Rattle.sync_run.specs.Dialling.{MakesLinks, unheard}
+use Rattle.sync_run.specs.Courses.{RunComesTo, RunComes, TestsContacts, TestsWords, WasBroken, are_too_many, is_unknown, run_test}
+use Rattle.sync_run.specs.Dialling.{MakesLinks}
 use Rattle.sync_run.proofs.DialActs.{unbegun}
+use Rattle.sync_run.proofs.RunActs.{passed}
 
 -- ---- the tests
 
 -- a contact is not known
-pub contacts_fail : (f : Facts) (words : List LinkWords) (r : Result (Unit {0}) Refused) (why : Refused) → IsErrAnd r (λ e. e ≡ why) → TestsContacts f words (Err why) → TestsWords f words r
-contacts_fail f words (Ok u) why is tests = absurd is
-contacts_fail f words (Err e) why is tests =
-    ap (λ (b : Bool). if b then Some refused.UnknownContact else (if are_too_many f words then Some refused.TooManySessions else None)) tests.1
-    ∙ ap (λ (w : Refused). Some w) (sym tests.0 ∙ sym is)
+pub contacts_fail : (f : Facts) (words : List LinkWords) (r : Result (Unit {0}) Refused) (why : Refused)
+    → IsErrAnd r (λ e. e ≡ why) → TestsContacts f words (Err why) → TestsWords f words r
+contacts_fail f words r why is tests =
+    passed (TestsWords f words) r why is
+    (ap (λ (b : Bool). if b then Some refused.UnknownContact else (if are_too_many f words then Some refused.TooManySessions else None)) tests.1
+    ∙ ap (λ (w : Refused). Some w) (sym tests.0))
 
 -- ---- by what the files stood for
 
@@ -89,38 +87,25 @@ module _ (clients : Meaning) (limits : Limits) (words : List LinkWords) (two : T
   stood = stands clients (read_files two)
 
   -- it was broken off before its first session
-  broken_early : (begin : Journal) → stood ≡ journal begin → WasBroken clients limits words begin o o'
+  pub broken_early : (begin : Journal) → stood ≡ journal begin → WasBroken clients limits words begin o o'
   broken_early begin began =
       unbegun clients limits words [] begin o o' none (no_links_made o o' same) (reads_still clients two o.files o'.files begin told reads began)
 
-  load_comes : (came : Outcome) → LoadedBy o o' (Err came) → IsLoaded stood (Err came) → RunComesTo clients limits words stood o o' (Err came)
+  pub load_comes : (came : Outcome) → LoadedBy o o' (Err came) → IsLoaded stood (Err came) → RunComesTo clients limits words stood o o' (Err came)
   load_comes outcome.NoStore by loaded = loaded
   load_comes (outcome.Damaged place) by loaded = loaded
   load_comes outcome.DiskFault by loaded = broken_early
   load_comes outcome.Memory by loaded = broken_early
   load_comes _ by loaded = absurd by
 
-  pub unloaded_comes : (r : Result Closing Outcome) (came : Outcome) → IsErrAnd r (λ e. e ≡ came) → LoadedBy o o' (Err came) → IsLoaded stood (Err came)
-      → RunComesTo clients limits words stood o o' r
-  unloaded_comes (Ok ends) came is by loaded = absurd is
-  unloaded_comes (Err e) came is by loaded =
-      subst (λ (x : Outcome). RunComesTo clients limits words stood o o' (Err x)) (sym is) (load_comes came by loaded)
-
-  pub unheld_comes : (r : Result Closing Outcome) → IsErrAnd r (λ e. e ≡ outcome.Memory) → RunComesTo clients limits words stood o o' r
-  unheld_comes (Ok ends) is = absurd is
-  unheld_comes (Err e) is = subst (λ (x : Outcome). RunComesTo clients limits words stood o o' (Err x)) (sym is) broken_early
-
-  module _ (s : StoreValue) (loaded : HasFacts stood s) where
-    pub refused_comes : (r : Result Closing Outcome) (why : Refused) → IsErrAnd r (λ e. e ≡ outcome.Refused why) → TestsWords s.state.facts words (Err why)
-        → RunComesTo clients limits words stood o o' r
-    refused_comes (Ok ends) why is tests = absurd is
-    refused_comes (Err e) why is tests =
-        subst (λ (x : Outcome). RunComesTo clients limits words stood o o' (Err x)) (sym is) (record {
-          begin = loaded.of;
-          began = loaded.stood;
-          tested = ap (λ (f : Facts). run_test f words) loaded.are ∙ tests;
-          has = reads_still clients two o.files o'.files loaded.of told reads loaded.stood;
-        })
+  pub refused_comes : (s : StoreValue) → HasFacts stood s → (why : Refused) → TestsWords s.state.facts words (Err why)
+      → RunComesTo clients limits words stood o o' (Err (outcome.Refused why))
+  refused_comes s loaded why tests = record {
+    begin = loaded.of;
+    began = loaded.stood;
+    tested = ap (λ (f : Facts). run_test f words) loaded.are ∙ tests;
+    has = reads_still clients two o.files o'.files loaded.of told reads loaded.stood;
+  }
 
 -- the store fits the journal
 pub fits_loaded : (clients : Meaning) (two : Two File) (o o' : Outside) → o.files ≡ Some two
@@ -136,38 +121,27 @@ fits_loaded clients two o o' told reads s loaded fits =
 
 -- ---- causes
 
-load_caused : (words : List LinkWords) (o o' : Outside) (came : Outcome) → LoadedBy o o' (Err came) → IsCaused words o o' (Err came)
+pub load_caused : (words : List LinkWords) (o o' : Outside) (came : Outcome) → LoadedBy o o' (Err came) → IsCaused words o o' (Err came)
 load_caused words o o' outcome.NoStore by = tt
 load_caused words o o' (outcome.Damaged place) by = tt
 load_caused words o o' outcome.DiskFault by = by
 load_caused words o o' outcome.Memory by = tt
 load_caused words o o' _ by = absurd by
 
-pub unloaded_caused : (words : List LinkWords) (o o' : Outside) (r : Result Closing Outcome) (came : Outcome) → IsErrAnd r (λ e. e ≡ came) → LoadedBy o o' (Err came)
-    → IsCaused words o o' r
-unloaded_caused words o o' (Ok ends) came is by = absurd is
-unloaded_caused words o o' (Err e) came is by = subst (λ (x : Outcome). IsCaused words o o' (Err x)) (sym is) (load_caused words o o' came by)
-
-pub refused_caused : (f : Facts) (words : List LinkWords) (o o' : Outside) (r : Result Closing Outcome) (why : Refused) → IsErrAnd r (λ e. e ≡ outcome.Refused why)
-    → TestsWords f words (Err why) → IsCaused words o o' r
-refused_caused f words o o' (Ok ends) why is tests = absurd is
-refused_caused f words o o' (Err e) why is tests =
-    subst (λ (x : Outcome). IsCaused words o o' (Err x)) (sym is) (test_caused (is_unknown f words) (are_too_many f words) why tests)
+-- one of the two tests refused it
+pub refused_caused : (f : Facts) (words : List LinkWords) (o o' : Outside) (why : Refused)
+    → TestsWords f words (Err why) → IsCaused words o o' (Err (outcome.Refused why))
+refused_caused f words o o' why tests = by_tests (is_unknown f words) (are_too_many f words) why tests
   where
-    -- one of the two tests refused it
-    test_caused : (unknown many : Bool) (w : Refused)
+    by_tests : (unknown many : Bool) (w : Refused)
         → (if unknown then Some refused.UnknownContact else (if many then Some refused.TooManySessions else None)) ≡ Some w → IsCaused words o o' (Err (outcome.Refused w))
-    test_caused true many w is =
+    by_tests true many w is =
         let same : refused.UnknownContact ≡ w = cc in
         subst (λ (x : Refused). IsCaused words o o' (Err (outcome.Refused x))) same tt
-    test_caused false true w is =
+    by_tests false true w is =
         let same : refused.TooManySessions ≡ w = cc in
         subst (λ (x : Refused). IsCaused words o o' (Err (outcome.Refused x))) same tt
-    test_caused false false w is = cc
-
-pub unheld_caused : (words : List LinkWords) (o o' : Outside) (r : Result Closing Outcome) → IsErrAnd r (λ e. e ≡ outcome.Memory) → IsCaused words o o' r
-unheld_caused words o o' (Ok ends) is = absurd is
-unheld_caused words o o' (Err e) is = subst (λ (x : Outcome). IsCaused words o o' (Err x)) (sym is) tt
+    by_tests false false w is = cc
 
 pub links_caused : (words : List LinkWords) (o o1 o2 o3 : Outside) → DiskRun o o1 → o3.links ≡ o2.links → o3.disk_faults ≡ o2.disk_faults
     → (r : Result Closing Outcome) → IsCaused words o1 o2 r → IsCaused words o o3 r

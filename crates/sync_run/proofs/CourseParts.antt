@@ -32,7 +32,7 @@ use Rattle.sync_node.specs.Plans.{session_of}
 use Rattle.sync_run.specs.declared.dialling.Dialled.{Dialled}
 use Rattle.sync_run.specs.declared.run.Limits.{Limits}
 use Rattle.sync_run.specs.Courses.{terms_at}
-use Rattle.sync_run.specs.Parts.{EndsFrom, MakesTurns, RunsSessions, SessionsBegin, SessionsStopped, StopsFrom, StopsRun, TurnsStopped, before_links, before_sessions, before_turns, sessions_from, silent}
+use Rattle.sync_run.specs.Parts.{EndsFrom, RunsSessions, SessionsBegin, SessionsStopped, StopsFrom, StopsRun, before_links, before_sessions, before_turns, sessions_from, silent}
 use Rattle.sync_run.proofs.TellLaws.{told_too}
 
 -- what is said of the error of a call, of that which goes on by `?`
@@ -309,29 +309,18 @@ module _ (clients : Meaning) (limits : Limits) (first : ℕ) (from : Place) (lin
     is_so = is ∙ sym (over_here limits.quiet Ended links so.heard so.moved still made s.state.facts);
   }
 
--- a turn stopped, wherever the run began
-pub turns_stopped : (clients : Meaning) (limits : Limits) (first : ℕ) (links0 links links' : List Link) (s0 s s' : StoreValue) (o0 o o' : Outside) (still made : ℕ) (x : NodeFault)
-    → ((heard : ℕ → List ℕ) → AllRead heard links0 → TurnsSoFar clients limits first (before_turns links0 heard s0.state.facts) links s0 s o0 o still made)
-    → over_by limits.quiet still (nat_lt 0 (asked_among links)) ≡ false → made < limits.turns → (at : ℕ) → at ≡ first
-    → ByFault (RoundStopped clients at links links' s s' o o') x → TurnsStopped clients limits first links0 s0 s' o0 o' x
-turns_stopped clients limits first links0 links links' s0 s s' o0 o o' still made x so going left at same stopped = record {
-  stops = λ heard read.
-      turn_stopped clients limits first (before_turns links0 heard s0.state.facts) links s0 s o0 o still made (so heard read) going left at links' s' o' x same stopped;
-}
-
 -- ---- both
 
 module _ (clients : Meaning) (limits : Limits) (at : ℕ) (dialled : List Dialled) (links : List Link)
     (s0 s s' : StoreValue) (o0 o o' : Outside) (same : at ≡ s0.state.facts.begun)
     (begins : SessionsBegin clients dialled links s0 s o0 o) where
   pub run_ends : (links' : List Link) (over : Bool)
-      → MakesTurns clients limits at links links' s s' o o' over
+      → EndsFrom clients limits at (before_turns links silent s.state.facts) links' s s' o o' over
       → RunsSessions clients limits dialled links' s0 s' o0 o' over
   run_ends links' over turns = record {
     ends = λ two files.
         let first : ℕ = s0.state.facts.begun in
-        let end = (subst (λ (k : ℕ). MakesTurns clients limits k links links' s s' o o' over) same
-        turns).ends silent begins.has_read in
+        let end = subst (λ (k : ℕ). EndsFrom clients limits k (before_turns links silent s.state.facts) links' s s' o o' over) same turns in
         record {
           heard = end.heard;
           moved = end.moved;
@@ -346,15 +335,15 @@ module _ (clients : Meaning) (limits : Limits) (at : ℕ) (dialled : List Dialle
         };
   }
 
-  pub run_stopped : (x : NodeFault) → TurnsStopped clients limits at links s s' o o' x
+  pub run_stopped : (x : NodeFault)
+      → StopsFrom clients (terms_at limits at) (before_turns links silent s.state.facts) s s' o o' x
       → StopsRun clients limits dialled s0 s' o0 o' x
   run_stopped x stopped = record {
     stops = λ two files.
         let terms : Terms = terms_at limits s0.state.facts.begun in
         stops_then clients terms (before_links dialled s0.state.facts)
         (before_turns links silent s.state.facts) s0 s s' o0 o o' x (begins.went two files terms refl)
-        ((subst (λ (k : ℕ). TurnsStopped clients limits k links s s' o o' x) same stopped).stops silent
-        begins.has_read);
+        (subst (λ (k : ℕ). StopsFrom clients (terms_at limits k) (before_turns links silent s.state.facts) s s' o o' x) same stopped);
   }
 
 pub run_unbegun : (clients : Meaning) (limits : Limits) (dialled : List Dialled) (s0 s' : StoreValue)

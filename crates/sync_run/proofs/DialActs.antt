@@ -1,12 +1,11 @@
 -- What a command comes to whose links were dialled, by what the run on them came to.
-use Rattle.std.proofs.Common.{◌≡◌, ◌⊎◌, ℕ, suc, ◌+◌, ◌<◌, ◌≤◌, Bool, true, false, cond, List, [], ◌∷◌, ◌++◌, length, append-nil, refl, sym, ◌∙◌, ap, subst, arith, inl, inr, Option, None, Some, is_some, Result, Ok, Err}
+use Rattle.std.proofs.Common.{◌≡◌, ℕ, suc, ◌≤◌, Bool, true, false, cond, List, [], ◌∷◌, ◌++◌, length, append-nil, refl, sym, ◌∙◌, ap, subst, arith, inl, inr, Option, None, Some, is_some, Result, Ok, Err}
 use Rattle.std.specs.Option.{option_map}
 use Rattle.outside.specs.declared.failed.Failed.{Failed}
 use Rattle.outside.specs.Faults.{CountRose, one_more}
 use Rattle.outside.specs.Files.{Two, File, read_files}
 use Rattle.outside.specs.Links.{HeardOn, Links}
 use Rattle.outside.specs.Outside.{Outside}
-use Rattle.outside.specs.Runs.{TellsAll}
 use Rattle.outside.proofs.RunLaws.{grow_then, told_after}
 use Rattle.entry_codec.specs.Standing.{journal, stands}
 use Rattle.sync_rules.specs.declared.entries.Session.{Session}
@@ -19,7 +18,6 @@ use Rattle.sync_course.specs.Owing.{Owing, paid}
 use Rattle.sync_course.specs.Turns.{Place, Terms, first_place}
 use Rattle.sync_course.proofs.ToldLaws.{told_none}
 use Rattle.sync_node.proofs.CourseLaws.{fits_on}
-use Rattle.sync_node.proofs.DidLaws.{since_none}
 use Rattle.sync_node.specs.Courses.{FitsWith, ReadsAs}
 use Rattle.sync_node.specs.Did.{HasSentBy, SinceThen}
 use Rattle.sync_node.specs.Going.{LetsNothingFall}

@@ -3,8 +3,6 @@ use Rattle.std.proofs.Common.{◌≡◌, ℕ, zero, suc, ◌+◌, ◌⊎◌, ◌
 use Rattle.std.specs.Option.{option_map}
 use Rattle.std.specs.Prelude.{slice_get, slice_set}
 use Rattle.outside.specs.Links.{HeardOn}
-use Rattle.outside.specs.Outside.{Outside}
-use Rattle.outside.specs.Runs.{answers_at, heard_bytes}
 use Rattle.sync_rules.specs.declared.entries.Session.{Session}
 use Rattle.sync_rules.specs.Clients.{Meaning}
 use Rattle.sync_rules.specs.Facts.{Facts}
@@ -15,17 +13,15 @@ use Rattle.sync_course.specs.Events.{Break, Commit, Event, Pass, heard_after}
 use Rattle.sync_course.specs.Free.{first_free, forget}
 use Rattle.sync_course.proofs.FreeLaws.{run_is_free, step_is_free}
 use Rattle.sync_course.proofs.HeardLaws.{at_of, bytes_of, events_tell, free_path_adds, none_tell}
-use Rattle.sync_course.proofs.LiftLaws.{get_within}
 use Rattle.sync_course.specs.Links.{Link, closed_from, link_of}
 use Rattle.sync_course.specs.LinkTurns.{Asks, Done, Doing}
 use Rattle.sync_course.specs.Owing.{Owing}
 use Rattle.sync_course.specs.Paths.{Path}
 use Rattle.sync_course.specs.Suits.{heard_in, heard_on}
-use Rattle.sync_course.specs.Turns.{Attaches, Between, Course, Ended, EndsTurn, GoesToNext, Greets, Place, RunStep, Settles, Stage, StageStep, Terms, TurnStep, Works, first_place, is_at_end, turn_ended, with_spot}
+use Rattle.sync_course.specs.Turns.{Attaches, Between, Ended, EndsTurn, GoesToNext, Greets, Place, RunStep, Settles, Stage, StageStep, Terms, TurnStep, Works, first_place, is_at_end, turn_ended, with_spot}
 use Rattle.sync_rules.specs.declared.entries.Entry.{Entry}
 use Rattle.sync_node.specs.OnRuns.{RunActs}
 use Rattle.sync_run.specs.Dialling.{unheard}
-use Rattle.sync_run.specs.Ends.{AllHeardAsTold}
 
 -- what was heard at a place of a run is what its events bring
 path_hears : (clients : Meaning) (terms : Terms) (sessions : List Session) (f : Facts)

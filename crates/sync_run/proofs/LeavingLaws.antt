@@ -27,6 +27,7 @@ use Rattle.sync_run.specs.Ran.{RanTold}
 use Rattle.sync_rules.specs.Clients.{Meaning}
 use Rattle.sync_run.specs.Leaving.{DoesNotBegin, LeavesLinks, MayNotBegin}
 use Rattle.sync_run.proofs.CourseLinks.{no_links_made}
+use Rattle.sync_run.proofs.RunActs.{passed}
 use Rattle.sync_run.proofs.TellLaws.{nothing_sent, reads_told, silent_by}
 
 -- no link was touched
@@ -88,16 +89,16 @@ pub told_early : (clients : Meaning) (limits : Limits) (words : List LinkWords) 
     (o o1 : Outside) → o.files ≡ Some two → DiskRun o o1 → MomentsAre o o1 (IsNow two o.links)
     → RelatesTold ReadsSame o.files o1.files → (r : Result Closing Outcome) (x : Outcome)
     → IsErrAnd r (λ y. y ≡ x) → (x ≡ outcome.Full → ⊥) → LeavesFilesAtRest o1.files (Err x)
-    → RunComesTo clients limits words (stands clients (read_files two)) o o1 r
+    → RunComesTo clients limits words (stands clients (read_files two)) o o1 (Err x)
     → RanTold clients limits words two o o1 r
-told_early clients limits words two o o1 told run moments reads (Ok ends) x is other rests comes = absurd is
-told_early clients limits words two o o1 told run moments reads (Err y) x is other rests comes = record {
-  rests = subst (λ (z : Outcome). LeavesFilesAtRest o1.files (Err z)) (sym is) rests;
-  sent = tt;
-  sent_full = λ full. absurd (other (let same : x ≡ outcome.Full = cc in same));
-  comes = comes;
-  unbegun = λ none. unbegun_loaded two o o1 told run moments reads;
-}
+told_early clients limits words two o o1 told run moments reads r x is other rests comes =
+    passed (RanTold clients limits words two o o1) r x is (record {
+      rests = rests;
+      sent = tt;
+      sent_full = λ full. absurd (other (let same : x ≡ outcome.Full = cc in same));
+      comes = comes;
+      unbegun = λ none. unbegun_loaded two o o1 told run moments reads;
+    })
 
 -- over a journal for which the tests hold some session may
 pub tested_begins : (words : List LinkWords) (standing : Standing) (s : StoreValue) → HasFacts standing s → run_test s.state.facts words ≡ None → MayNotBegin words standing → ⊥

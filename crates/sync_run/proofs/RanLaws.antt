@@ -1,20 +1,18 @@
 -- What a run leaves, whatever it came to, by the acts of its node: the headline, what was sent, and its
 -- course.
-use Rattle.std.proofs.Common.{◌≡◌, ◌⊎◌, ℕ, zero, suc, ◌+◌, ◌<◌, ◌≤◌, Bool, true, false, List, [], ◌∷◌, ◌++◌, append-nil, map, length, refl, sym, ◌∙◌, ap, subst, arith, inl, inr, Option, None, Some, is_some, slice_index_or, Result, Ok, Err}
-use Rattle.std.specs.Prelude.{IfOk, IsErrOf, slice_get}
+use Rattle.std.proofs.Common.{◌≡◌, ◌⊎◌, ℕ, zero, suc, ◌+◌, ◌<◌, ◌≤◌, Bool, true, false, List, [], ◌∷◌, ◌++◌, append-nil, map, length, refl, sym, ◌∙◌, ap, subst, arith, inl, inr, Option, None, Some, is_some, Result, Ok, Err}
+use Rattle.std.specs.Prelude.{IfOk, slice_get}
 use Rattle.std.specs.Option.{option_map}
 use Rattle.outside.specs.declared.limits.TheConstants.{MAX_JOURNAL}
 use Rattle.outside.specs.Disk.{RelatesTold}
 use Rattle.outside.proofs.CallSteps.{becomes_told}
-use Rattle.outside.specs.Faults.{CountRose}
 use Rattle.outside.specs.Files.{Two, File, read_files}
-use Rattle.outside.specs.Links.{HeardOn, ToldLink, Links, sent_of}
+use Rattle.outside.specs.Links.{HeardOn, Links, sent_of}
 use Rattle.outside.specs.Outside.{DiskRun, IsNow, Moment, MomentsAre, Outside}
 use Rattle.outside.specs.Runs.{IsFront, TellsAll, answers_at, heard_bytes}
 use Rattle.record_grammar.specs.Spelling.{spelled}
 use Rattle.frame_journal.specs.Gates.{ReadsSame}
 use Rattle.entry_codec.specs.Standing.{journal, stands}
-use Rattle.sync_rules.specs.declared.entries.Entry.{Entry}
 use Rattle.sync_rules.specs.declared.entries.Session.{Session}
 use Rattle.sync_rules.specs.Clients.{Meaning}
 use Rattle.sync_rules.specs.Facts.{Facts, after_all, facts}
@@ -22,10 +20,10 @@ use Rattle.sync_rules.specs.Legal.{Legal}
 use Rattle.sync_rules.specs.Output.{sent}
 use Rattle.sync_store.specs.Fitting.{FitsSome}
 use Rattle.sync_store.specs.Store.{StoreValue}
-use Rattle.store_commands.specs.Commit.{HasLastGeneration, MayMigrate, needed_by}
+use Rattle.store_commands.specs.Commit.{HasLastGeneration, needed_by}
 use Rattle.store_commands.specs.Load.{HasFacts}
 use Rattle.sync_course.specs.Acts.{Act, AtFront, Does, batches_in, commit_acts, events_of, next_bytes, sends_on}
-use Rattle.sync_course.specs.Closing.{Closing, closing}
+use Rattle.sync_course.specs.Closing.{Closing}
 use Rattle.sync_course.specs.Events.{Commit, Event, GrowsBy, RoseIf, batches_of, has_failure, heard_after, readings_of}
 use Rattle.sync_course.specs.Free.{Free, FreeStep, first_free, forget, owing_free}
 use Rattle.sync_course.specs.Links as course_links
@@ -35,8 +33,6 @@ use Rattle.sync_course.specs.Quiet.{EndsQuiet}
 use Rattle.sync_course.specs.Story.{AllIsSent, AllSuitPlanned, FreeActs, LinkFailed, MomentStands, begun_by, heard_at}
 use Rattle.sync_course.specs.Suits.{heard_in, heard_on as place_heard}
 use Rattle.sync_course.specs.Turns.{Broken, Course, Ended, Place, RunStep, Settles, Terms, first_place, is_over}
-use Rattle.sync_course.specs.declared.ends.LinkEnd.{LinkEnd}
-use Rattle.sync_course.specs.declared.ends.LinkEnd.TheVariants as link_end
 use Rattle.sync_course.proofs.ActLaws.{batches_in-append}
 use Rattle.sync_course.proofs.FailLaws.{FailsJust, path_fails}
 use Rattle.sync_course.proofs.FreeLaws.{run_acts_are_free}
@@ -45,13 +41,12 @@ use Rattle.sync_course.proofs.SendLaws.{events_path}
 use Rattle.sync_node.specs.Courses.{FitsWith, ReadsAs}
 use Rattle.sync_node.specs.OnRuns.{RunActs}
 use Rattle.sync_node.specs.Output.{Journal, heard_on, output, sent_on}
-use Rattle.sync_node.specs.Suits.{SuitsRun}
-use Rattle.sync_node.proofs.EventLaws.{EventPath, Thins, as_events}
+use Rattle.sync_node.proofs.EventLaws.{EventPath, as_events}
 use Rattle.sync_words.specs.declared.link_words.LinkWords.{LinkWords}
 use Rattle.sync_words.specs.declared.outcome.Outcome.{Outcome}
 use Rattle.sync_words.specs.declared.outcome.Outcome.TheVariants as outcome
 use Rattle.sync_run.specs.declared.run.Limits.{Limits}
-use Rattle.sync_run.specs.Courses.{HearsRun, RanToEnd, RunComes, RunWasSpent, SentAt, WasBroken, WasOver, run_test, terms_of}
+use Rattle.sync_run.specs.Courses.{HearsRun, RanToEnd, RunComes, RunWasSpent, WasBroken, WasOver, run_test, terms_of}
 use Rattle.sync_run.specs.Dialling.{MakesLinks, PassesTime, unheard}
 use Rattle.sync_run.specs.Headline.{AllSentWhenFull, HeadlineTold, LeavesFilesAtRest, RunsOn, SentWhole, StandsForRun, sent_by}
 use Rattle.sync_run.specs.Parts.{AnswersOnLinks, FillsAt, RanOnLinks}
@@ -321,7 +316,7 @@ module _ (clients : Meaning) (limits : Limits) (words : List LinkWords) (s : Sto
     pub headline_ran : HeadlineTold clients words two o0 o3 told
     headline_ran =
         let runs : (m : Moment) → StandsForRun clients words loaded.of (heard_on o3.links) (sent_by m) m.files
-            → RunsOn clients words (stands clients (read_files two)) (heard_on o3.links) (sent_by m) m.files =
+        → RunsOn clients words (stands clients (read_files two)) (heard_on o3.links) (sent_by m) m.files =
         λ m stood. record { begin = loaded.of; began = loaded.stood; stands_for = stood } in
         record {
           moments = λ m w. elim (moment_is m w) [ inl now ↦ inl now | inr stood ↦ inr (runs m stood) ];

@@ -1,9 +1,8 @@
 -- Files at rest: nothing is pending in them, so that a crash leaves what a read gives.
-use Rattle.std.proofs.Common.{◌≡◌, List, refl, sym, ap, ◌∙◌, subst, arith, Option, None, Some, Result, Ok, Err}
+use Rattle.std.proofs.Common.{◌≡◌, ℕ, List, refl, sym, ap, ◌∙◌, subst, arith, Option, None, Some, Result, Err}
 use Rattle.std.proofs.lemmas.Grind.{same_number_lists}
 use Rattle.outside.specs.Disk.{RelatesTold}
 use Rattle.outside.specs.Files.{Two, File, IsFileImage, IsImage, NothingPending, read_files, settled}
-use Rattle.outside.specs.Outside.{Outside}
 use Rattle.frame_journal.specs.Gates.{SyncsBoth}
 use Rattle.sync_rules.specs.Clients.{Meaning}
 use Rattle.sync_store.specs.Store.{StoreValue}

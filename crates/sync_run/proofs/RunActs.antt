@@ -31,10 +31,10 @@ use Rattle.store_commands.specs.Commit.{ComesAnew, MayMigrate, SettledAnew, Sett
 use Rattle.store_commands.proofs.Stood.{last_here, spent_here}
 use Rattle.sync_course.specs.Acts.{Act, AtFront, Does, batches_in, commit_acts, events_of, sends_on}
 use Rattle.sync_course.specs.Closing.{Closing}
-use Rattle.sync_course.specs.Events.{Commit, Event, Pass, TellsEvents, commits}
+use Rattle.sync_course.specs.Events.{Event, Pass, TellsEvents}
 use Rattle.sync_course.specs.Owing.{Owing, paid}
 use Rattle.sync_course.specs.Paths.{Path}
-use Rattle.sync_course.specs.Turns.{Attaches, Ended, Place, Terms, first_place}
+use Rattle.sync_course.specs.Turns.{Ended, Place, Terms, first_place}
 use Rattle.sync_course.proofs.ActLaws.{batches_in-append, batches_in_commits, commit_acts-append, commits_send, events_of-append, events_of_commits, sends_on-append}
 use Rattle.sync_course.proofs.PathLaws.{path_parts, path_push, path_then}
 use Rattle.sync_course.proofs.ToldLaws.{told_commits, told_pass, told_then}
@@ -73,7 +73,7 @@ sum_over : (s : StoreValue) (k : Journal) (batch : List Entry) → s.end ≡ jou
     → s.limit < needed s batch → MAX_JOURNAL < needed_by k batch
 sum_over s k batch end same short limit over =
     let room : room_of (written_in s) (after_all (facts k) batch)
-        ≡ room_of (written_in s) (after_all s.state.facts batch) =
+    ≡ room_of (written_in s) (after_all s.state.facts batch) =
     ap (λ (f : Facts). room_of (written_in s) (after_all f batch)) same in
     let Over : Format → Type 0 =
     λ f. MAX_JOURNAL < journal_end f k + 5 + payload_len f batch + room_of f (after_all (facts k) batch) in
@@ -117,11 +117,11 @@ module _ (clients : Meaning) (terms : Terms) (from : Place) (j : Journal) (s s' 
 
 module _ (clients : Meaning) (limits : Limits) (links : List Dialled) (s t s' : StoreValue)
     (o o' : Outside) (made : t ≡ s) where
-  abbrev terms : Terms
-  terms = terms_at limits s.state.facts.begun
+  abbrev at_first : Terms
+  at_first = terms_at limits s.state.facts.begun
 
-  abbrev from : Place
-  from = before_links links s.state.facts
+  abbrev at_links : Place
+  at_links = before_links links s.state.facts
 
   module _ (nodes : List Link) (over : Bool) (runs : RunsSessions clients limits links nodes t s' o o' over) where
     -- the run came to its end
@@ -132,7 +132,7 @@ module _ (clients : Meaning) (limits : Limits) (links : List Dialled) (s t s' : 
         let end = here.ends fit.0 fit.1 in
         let last : Place = place_at Ended nodes end.heard end.moved end.still end.made s'.state.facts in
         record {
-          did = did_whole clients terms from j s s' o o' fit (paid last) end.went;
+          did = did_whole clients at_first at_links j s s' o o' fit (paid last) end.went;
           told = end.went.did.tells;
           answer = (
             record {
@@ -154,7 +154,7 @@ module _ (clients : Meaning) (limits : Limits) (links : List Dialled) (s t s' : 
         let end = here.ends fit.0 fit.1 in
         let last : Place = place_at Ended nodes end.heard end.moved end.still end.made s'.state.facts in
         record {
-          did = did_whole clients terms from j s s' o o' fit (paid last) end.went;
+          did = did_whole clients at_first at_links j s s' o o' fit (paid last) end.went;
           told = end.went.did.tells;
           answer = tt;
         }
@@ -169,7 +169,7 @@ module _ (clients : Meaning) (limits : Limits) (links : List Dialled) (s t s' : 
   ran_out stops j fit =
       let here = (stops_here node_fault.Memory stops).stops fit.0 fit.1 in
       record {
-        did = did_whole clients terms from j s s' o o' fit here.1.to here.1.went;
+        did = did_whole clients at_first at_links j s s' o o' fit here.1.to here.1.went;
         told = here.1.went.did.tells;
         answer = tt;
       }
@@ -179,7 +179,7 @@ module _ (clients : Meaning) (limits : Limits) (links : List Dialled) (s t s' : 
   ran_broken stops j fit =
       let here = (stops_here node_fault.DiskFault stops).stops fit.0 fit.1 in
       record {
-        did = did_broken clients terms from j s s' o o' fit (λ (q : Owing Place). q.at.links ≡ here.0) here.1;
+        did = did_broken clients at_first at_links j s s' o o' fit (λ (q : Owing Place). q.at.links ≡ here.0) here.1;
         told = here.1.did.tells;
         answer = tt;
       }
@@ -192,7 +192,7 @@ module _ (clients : Meaning) (limits : Limits) (links : List Dialled) (s t s' : 
       let here = (stops_here node_fault.Full stops).stops fit.0 fit.1 in
       let now = here.1.went.did.fits j fit in
       record {
-        did = did_whole clients terms from j s s' o o' fit here.1.to here.1.went;
+        did = did_whole clients at_first at_links j s s' o o' fit here.1.to here.1.went;
         told = here.1.went.did.tells;
         answer =
             inl (record {
@@ -228,7 +228,7 @@ module _ (clients : Meaning) (terms : Terms) (from mid : Place) (j k : Journal) 
       ∙ append_assoc j (batches_in first) (batches_in did.acts)
       ∙ ap (λ (l : Journal). j ++ l) (sym (batches_in-append first did.acts))
 
-  behind_moments : TellsAll o
+  pub behind_moments : TellsAll o
       → SinceThen o o' (AtFront clients (first ++ (did.acts ++ commit_acts did.next)) j (sent_on o.links))
   behind_moments told =
       let rest : List Act = did.acts ++ commit_acts did.next in
@@ -289,7 +289,7 @@ module _ (clients : Meaning) (limits : Limits) (links : List Dialled) (s s1 : St
   settling : AllSettling clients (facts j) more
   settling = subst (λ (f : Facts). AllSettling clients f more) (sym fit.2.facts_are) comes.settling
 
-  settled_path : Path (RunActs clients (terms_of limits j)) (paid start) (commit_acts more)
+  pub settled_path : Path (RunActs clients (terms_of limits j)) (paid start) (commit_acts more)
       (paid (first_place sessions (after_batches (facts j) more)))
   settled_path = settling_acts clients (terms_of limits j) sessions (facts j) more settling
 
@@ -318,7 +318,7 @@ module _ (clients : Meaning) (limits : Limits) (links : List Dialled) (s s1 : St
   -- ---- it was broken off while it was settled
 
   module _ (front : ReadsFront clients more s o o1) where
-    parts : commit_acts more ≡ commit_acts front.front ++ commit_acts front.others
+    pub parts : commit_acts more ≡ commit_acts front.front ++ commit_acts front.others
     parts = ap commit_acts front.parts ∙ commit_acts-append front.front front.others
 
     abbrev broken_path : (q : Owing Place)

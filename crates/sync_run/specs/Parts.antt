@@ -88,17 +88,6 @@ pub record EndsFrom (clients : Meaning) (limits : Limits) (first : ℕ) (from : 
       (place_at Ended links heard moved still made s'.state.facts) s s' o o'
   pub is_so : over ≡ is_over limits.quiet (place_at Ended links heard moved still made s'.state.facts)
 
--- the turns of a run were made, from before the first one on
-pub record MakesTurns (clients : Meaning) (limits : Limits) (first : ℕ) (links links' : List Link)
-    (s s' : StoreValue) (o o' : Outside) (over : Bool) : Type 0 where
-  pub ends : (heard : ℕ → List ℕ) → AllRead heard links
-      → EndsFrom clients limits first (before_turns links heard s.state.facts) links' s s' o o' over
-
-pub record TurnsStopped (clients : Meaning) (limits : Limits) (first : ℕ) (links : List Link)
-    (s s' : StoreValue) (o o' : Outside) (x : NodeFault) : Type 0 where
-  pub stops : (heard : ℕ → List ℕ) → AllRead heard links
-      → StopsFrom clients (terms_at limits first) (before_turns links heard s.state.facts) s s' o o' x
-
 -- ---- both
 
 -- where files are told, the sessions of these links began and the turns were made

@@ -18,7 +18,6 @@ ghost use Rattle.sync_run.specs.Causes.{FailsAlone, IsCaused, RunCaused};
 ghost use Rattle.sync_run.specs.Courses.{HaveSpecs, TestsContacts, TestsWords};
 ghost use Rattle.sync_run.specs.Headline.{Headline, LeavesFilesAtRest};
 ghost use Rattle.sync_run.specs.Leaving.{LeavesLinks, LinksCameTo, MayHangUp};
-ghost use Rattle.sync_node.specs.Calls.{CallGoes};
 ghost use Rattle.sync_run.specs.Needs.{AllMayBegin, HasRoomFor, IsKnown};
 ghost use Rattle.sync_run.specs.NodeStands.{StandsBy};
 ghost use Rattle.sync_run.specs.Parts.{RanDialled, RanOnLinks, RanSettled, RunsSessions, StopsRun};
@@ -235,9 +234,8 @@ fn run_node<H: Host, C: Clients>(
     requires sessions { node.old.store.state.facts.begun + length links.now ≤ MAX_SESSIONS }
     requires few { length links.now ≤ LINKS }
     requires dialled { length links.now ≤ (H.tells host.old).links.dialled }
-    ensures stands { StandsBy (C.meaning clients.now) (length links.now) node.new (H.tells host.old)
-        (H.tells host.new) result }
-    ensures keeps { CallGoes node.old node.new (H.tells host.old) (H.tells host.new) }
+    ensures stands { StandsBy (C.meaning clients.now) (length links.now) node.old node.new
+        (H.tells host.old) (H.tells host.new) result }
     ensures went { IfOk result (RunsSessions (C.meaning clients.now) limits links.now node.new.links
         node.old.store node.new.store (H.tells host.old) (H.tells host.new)) }
     ensures stopped { IfErr result (StopsRun (C.meaning clients.now) limits links.now node.old.store

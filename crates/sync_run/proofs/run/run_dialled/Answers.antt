@@ -59,7 +59,9 @@ returns-clause-goes g c =
 
 pub returns-clause-caused : goal.returns-clause-caused
 returns-clause-caused g c =
-    caused_settled _ _ _ _ c.migrate_and_settle.ensures.run c.run_settled.ensures.caused
+    caused_settled (g.H.Disk.tells c.args.host.now) (g.H.Disk.tells c.migrate_and_settle.new.disk)
+    (g.H.Disk.tells c.run_settled.new.host) c.run_settled.result c.migrate_and_settle.ensures.run
+    c.run_settled.ensures.caused
 
 pub returns-clause-ran : goal.returns-clause-ran
 returns-clause-ran g c =

@@ -1,10 +1,9 @@
-use Rattle.std.proofs.Common.{ap, arith, refl, subst, sym, ◌∙◌, ℕ}
+use Rattle.std.proofs.Common.{ap, arith, subst, sym, ◌∙◌, ℕ}
 use Rattle.sync_node.proofs.SafeLaws.{goes_none}
 use Rattle.sync_node.specs.Node.{NodeValue}
 use Rattle.sync_store.specs.Store.{format_meant}
 use Rattle.sync_words.specs.declared.outcome.Outcome.TheVariants as outcome
 use Rattle.sync_run.specs.Needs.{AllMayBegin}
-use Rattle.sync_run.specs.Causes.{RunCaused}
 use Rattle.sync_run.specs.Parts.{RanSettled}
 use Rattle.sync_run.proofs.CauseLaws.{ends_rose}
 use Rattle.sync_run.proofs.RestLaws.{rests_at, rests_ready}
@@ -41,7 +40,7 @@ returns-in_err-node-clause-ran g c =
 -- ---- want of memory for the ends of the links
 
 pub returns-in_err-close-in-Ok-clause-goes : goal.returns-in_err-close-in-Ok-clause-goes
-returns-in_err-close-in-Ok-clause-goes g c = c.run_node.ensures.keeps.goes
+returns-in_err-close-in-Ok-clause-goes g c = c.run_node.ensures.stands.goes.goes
 
 pub returns-in_err-close-in-Ok-clause-rests : goal.returns-in_err-close-in-Ok-clause-rests
 returns-in_err-close-in-Ok-clause-rests g c =
@@ -59,7 +58,7 @@ returns-in_err-close-in-Ok-clause-ran g c =
 -- ---- the run came to its end
 
 pub returns-in-Ok-clause-goes : goal.returns-in-Ok-clause-goes
-returns-in-Ok-clause-goes g c = c.run_node.ensures.keeps.goes
+returns-in-Ok-clause-goes g c = c.run_node.ensures.stands.goes.goes
 
 pub returns-in-Ok-clause-rests : goal.returns-in-Ok-clause-rests
 returns-in-Ok-clause-rests g c =
@@ -69,7 +68,7 @@ pub returns-in-Ok-clause-caused : goal.returns-in-Ok-clause-caused
 returns-in-Ok-clause-caused g c =
     ends_rose c.in-Ok.over _ _ _ (g.H.Disk.tells c.args.host.now) (g.H.Disk.tells c.run_node.new.host)
     (ap (λ (n : NodeValue). n.links) c.in_ok-node.ensures) c.in_ok-close-in-Ok.ensures
-    c.run_node.ensures.keeps.cause
+    c.run_node.ensures.stands.goes.cause
 
 pub returns-in-Ok-clause-ran : goal.returns-in-Ok-clause-ran
 returns-in-Ok-clause-ran g c =
@@ -79,7 +78,7 @@ returns-in-Ok-clause-ran g c =
 -- ---- it was broken off
 
 pub returns-in-Err-Memory-clause-goes : goal.returns-in-Err-Memory-clause-goes
-returns-in-Err-Memory-clause-goes g c = c.run_node.ensures.keeps.goes
+returns-in-Err-Memory-clause-goes g c = c.run_node.ensures.stands.goes.goes
 
 pub returns-in-Err-Memory-clause-rests : goal.returns-in-Err-Memory-clause-rests
 returns-in-Err-Memory-clause-rests g c =
@@ -91,7 +90,7 @@ returns-in-Err-Memory-clause-ran g c =
     (rw c.in-Err-Memory.field-0-is at c.in-Err-Memory.ensures.stopped)
 
 pub returns-in-Err-DiskFault-clause-goes : goal.returns-in-Err-DiskFault-clause-goes
-returns-in-Err-DiskFault-clause-goes g c = c.run_node.ensures.keeps.goes
+returns-in-Err-DiskFault-clause-goes g c = c.run_node.ensures.stands.goes.goes
 
 pub returns-in-Err-DiskFault-clause-caused : goal.returns-in-Err-DiskFault-clause-caused
 returns-in-Err-DiskFault-clause-caused g c =
@@ -103,7 +102,7 @@ returns-in-Err-DiskFault-clause-ran g c =
     (rw c.in-Err-DiskFault.field-0-is at c.in-Err-DiskFault.ensures.stopped)
 
 pub returns-in-Err-Full-clause-goes : goal.returns-in-Err-Full-clause-goes
-returns-in-Err-Full-clause-goes g c = c.run_node.ensures.keeps.goes
+returns-in-Err-Full-clause-goes g c = c.run_node.ensures.stands.goes.goes
 
 pub returns-in-Err-Full-clause-rests : goal.returns-in-Err-Full-clause-rests
 returns-in-Err-Full-clause-rests g c =
@@ -113,6 +112,6 @@ pub returns-in-Err-Full-clause-ran : goal.returns-in-Err-Full-clause-ran
 returns-in-Err-Full-clause-ran g c =
     let made = ap (λ (n : NodeValue). n.store) c.in_ok-node.ensures in
     ran_full _ c.args.limits c.args.links.now _ _ _ _ _ made
-    (c.run_node.ensures.keeps.same_limit ∙ ap (λ (s : _). s.limit) made ∙ c.requires.limited)
-    (ap format_meant (c.run_node.ensures.keeps.same_format ∙ ap (λ (s : _). s.format) made) ∙ c.requires.short)
+    (c.run_node.ensures.stands.goes.same_limit ∙ ap (λ (s : _). s.limit) made ∙ c.requires.limited)
+    (ap format_meant (c.run_node.ensures.stands.goes.same_format ∙ ap (λ (s : _). s.format) made) ∙ c.requires.short)
     (rw c.in-Err-Full.field-0-is at c.in-Err-Full.ensures.stopped)
