@@ -10,6 +10,7 @@ use Rattle.sync_course.specs.declared.ends.LinkEnd.TheVariants as end
 use Rattle.sync_node.specs.Causes.{FailByCause, StandsFailed}
 use Rattle.sync_node.specs.Going.{LetsNothingFall}
 use Rattle.sync_course.specs.Closing.{Closing}
+use Rattle.store_commands.specs.Commit.{ExtendsBy}
 use Rattle.sync_words.specs.declared.outcome.Outcome.{Outcome}
 use Rattle.sync_words.specs.declared.outcome.Outcome.TheVariants as outcome
 use Rattle.sync_run.specs.Causes.{FailuresRose, RunCaused}
@@ -48,7 +49,8 @@ end_failed (x ∷ links) (suc i) stands at failed =
     record { link = rest.link; there = rest.there; failed = rest.failed }
 
 -- where no link stood failed before
-pub ends_rose : (over : Bool) (links links' : List Link) (ends : Closing) (o o' : Outside) → links ≡ [] → ends ≡ closed_by over links'
+pub ends_rose : (over : Bool) (links links' : List Link) (ends : Closing) (o o' : Outside)
+    → links ≡ [] → ends ≡ closed_by over links'
     → FailByCause links links' o o' → FailuresRose o o' ends
 ends_rose over links links' ends o o' none are causes i stands at failed =
     let stood = end_failed links' i stands (subst (λ (c : Closing). slice_get c.ends i ≡ Some stands) are at) failed in
@@ -58,12 +60,22 @@ ends_rose over links links' ends o o' none are causes i stands at failed =
     ]
 
 -- settling before it changed no link
-pub caused_settled : (o o1 o' : Outside) (r : Result Closing Outcome) → DiskRun o o1 → RunCaused o1 o' r
+pub caused_settled : (o o1 o' : Outside) (r : Result Closing Outcome) → DiskRun o o1
+    → RunCaused o1 o' r
     → RunCaused o o' r
 caused_settled o o1 o' (Ok ends) run caused = λ i stands at failed.
-    subst (λ (l : Links). CountRose (l.faults i) (o'.links.faults i)) run.same_links (caused i stands at failed)
+    subst (λ (l : Links). CountRose (l.faults i) (o'.links.faults i)) run.same_links
+    (caused i stands at failed)
 caused_settled o o1 o' (Err outcome.DiskFault) run caused =
     rose_before o.disk_faults o1.disk_faults o'.disk_faults run.later caused
 caused_settled o o1 o' (Err outcome.Full) run caused = tt
 caused_settled o o1 o' (Err outcome.Memory) run caused = tt
 caused_settled o o1 o' (Err _) run caused = absurd caused
+
+-- settling itself was broken off
+pub unsettled_caused : (o o' : Outside) (e : Outcome) → ExtendsBy o o' (Err e)
+    → RunCaused o o' (Err e)
+unsettled_caused o o' outcome.DiskFault by = by
+unsettled_caused o o' outcome.Full by = tt
+unsettled_caused o o' outcome.Memory by = tt
+unsettled_caused o o' _ by = absurd by

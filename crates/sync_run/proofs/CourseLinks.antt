@@ -33,16 +33,19 @@ use Rattle.sync_run.proofs.RunActs.{passed}
 -- ---- the tests
 
 -- a contact is not known
-pub contacts_fail : (f : Facts) (words : List LinkWords) (r : Result (Unit {0}) Refused) (why : Refused)
+pub contacts_fail : (f : Facts) (words : List LinkWords) (r : Result (Unit {0}) Refused)
+    (why : Refused)
     → IsErrAnd r (λ e. e ≡ why) → TestsContacts f words (Err why) → TestsWords f words r
 contacts_fail f words r why is tests =
     passed (TestsWords f words) r why is
-    (ap (λ (b : Bool). if b then Some refused.UnknownContact else (if are_too_many f words then Some refused.TooManySessions else None)) tests.1
+    (ap (λ (b : Bool). if b then Some refused.UnknownContact else
+    (if are_too_many f words then Some refused.TooManySessions else None)) tests.1
     ∙ ap (λ (w : Refused). Some w) (sym tests.0))
 
 -- ---- by what the files stood for
 
-pub run_comes_to : (clients : Meaning) (limits : Limits) (words : List LinkWords) (stood : Standing) (j : Journal) (o o' : Outside) → stood ≡ journal j → run_test (facts j) words ≡ None
+pub run_comes_to : (clients : Meaning) (limits : Limits) (words : List LinkWords) (stood : Standing)
+    (j : Journal) (o o' : Outside) → stood ≡ journal j → run_test (facts j) words ≡ None
     → (r : Result Closing Outcome) → RunComes clients limits words j o o' r → RunComesTo clients limits words stood o o' r
 run_comes_to clients limits words stood j o o' began known (Ok ends) comes = record { begin = j; began = began; tested = known; has = comes }
 run_comes_to clients limits words stood j o o' began known (Err (outcome.LinkFailed link)) comes = record { begin = j; began = began; tested = known; has = comes }
@@ -87,18 +90,21 @@ module _ (clients : Meaning) (limits : Limits) (words : List LinkWords) (two : T
   stood = stands clients (read_files two)
 
   -- it was broken off before its first session
-  pub broken_early : (begin : Journal) → stood ≡ journal begin → WasBroken clients limits words begin o o'
+  pub broken_early : (begin : Journal) → stood ≡ journal begin
+      → WasBroken clients limits words begin o o'
   broken_early begin began =
       unbegun clients limits words [] begin o o' none (no_links_made o o' same) (reads_still clients two o.files o'.files begin told reads began)
 
-  pub load_comes : (came : Outcome) → LoadedBy o o' (Err came) → IsLoaded stood (Err came) → RunComesTo clients limits words stood o o' (Err came)
+  pub load_comes : (came : Outcome) → LoadedBy o o' (Err came) → IsLoaded stood (Err came)
+      → RunComesTo clients limits words stood o o' (Err came)
   load_comes outcome.NoStore by loaded = loaded
   load_comes (outcome.Damaged place) by loaded = loaded
   load_comes outcome.DiskFault by loaded = broken_early
   load_comes outcome.Memory by loaded = broken_early
   load_comes _ by loaded = absurd by
 
-  pub refused_comes : (s : StoreValue) → HasFacts stood s → (why : Refused) → TestsWords s.state.facts words (Err why)
+  pub refused_comes : (s : StoreValue) → HasFacts stood s → (why : Refused)
+      → TestsWords s.state.facts words (Err why)
       → RunComesTo clients limits words stood o o' (Err (outcome.Refused why))
   refused_comes s loaded why tests = record {
     begin = loaded.of;
@@ -121,7 +127,8 @@ fits_loaded clients two o o' told reads s loaded fits =
 
 -- ---- causes
 
-pub load_caused : (words : List LinkWords) (o o' : Outside) (came : Outcome) → LoadedBy o o' (Err came) → IsCaused words o o' (Err came)
+pub load_caused : (words : List LinkWords) (o o' : Outside) (came : Outcome) → LoadedBy o o'
+    (Err came) → IsCaused words o o' (Err came)
 load_caused words o o' outcome.NoStore by = tt
 load_caused words o o' (outcome.Damaged place) by = tt
 load_caused words o o' outcome.DiskFault by = by
@@ -131,7 +138,8 @@ load_caused words o o' _ by = absurd by
 -- one of the two tests refused it
 pub refused_caused : (f : Facts) (words : List LinkWords) (o o' : Outside) (why : Refused)
     → TestsWords f words (Err why) → IsCaused words o o' (Err (outcome.Refused why))
-refused_caused f words o o' why tests = by_tests (is_unknown f words) (are_too_many f words) why tests
+refused_caused f words o o' why tests =
+    by_tests (is_unknown f words) (are_too_many f words) why tests
   where
     by_tests : (unknown many : Bool) (w : Refused)
         → (if unknown then Some refused.UnknownContact else (if many then Some refused.TooManySessions else None)) ≡ Some w → IsCaused words o o' (Err (outcome.Refused w))

@@ -320,7 +320,9 @@ module _ (clients : Meaning) (limits : Limits) (at : ℕ) (dialled : List Dialle
   run_ends links' over turns = record {
     ends = λ two files.
         let first : ℕ = s0.state.facts.begun in
-        let end = subst (λ (k : ℕ). EndsFrom clients limits k (before_turns links silent s.state.facts) links' s s' o o' over) same turns in
+        let end =
+        subst (λ (k : ℕ). EndsFrom clients limits k (before_turns links silent s.state.facts)
+        links' s s' o o' over) same turns in
         record {
           heard = end.heard;
           moved = end.moved;
@@ -343,7 +345,8 @@ module _ (clients : Meaning) (limits : Limits) (at : ℕ) (dialled : List Dialle
         let terms : Terms = terms_at limits s0.state.facts.begun in
         stops_then clients terms (before_links dialled s0.state.facts)
         (before_turns links silent s.state.facts) s0 s s' o0 o o' x (begins.went two files terms refl)
-        (subst (λ (k : ℕ). StopsFrom clients (terms_at limits k) (before_turns links silent s.state.facts) s s' o o' x) same stopped);
+        (subst (λ (k : ℕ). StopsFrom clients (terms_at limits k)
+        (before_turns links silent s.state.facts) s s' o o' x) same stopped);
   }
 
 pub run_unbegun : (clients : Meaning) (limits : Limits) (dialled : List Dialled) (s0 s' : StoreValue)

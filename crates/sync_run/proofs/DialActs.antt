@@ -1,5 +1,7 @@
 -- What a command comes to whose links were dialled, by what the run on them came to.
-use Rattle.std.proofs.Common.{◌≡◌, ℕ, suc, ◌≤◌, Bool, true, false, cond, List, [], ◌∷◌, ◌++◌, length, append-nil, refl, sym, ◌∙◌, ap, subst, arith, inl, inr, Option, None, Some, is_some, Result, Ok, Err}
+use Rattle.std.proofs.Common.{◌≡◌, ℕ, suc, ◌≤◌, Bool, true, false, cond, List, [], ◌∷◌, ◌++◌}
+use Rattle.std.proofs.Common.{length, append-nil, refl, sym, ◌∙◌, ap, subst, arith, inl, inr}
+use Rattle.std.proofs.Common.{Option, None, Some, is_some, Result, Ok, Err}
 use Rattle.std.specs.Option.{option_map}
 use Rattle.outside.specs.declared.failed.Failed.{Failed}
 use Rattle.outside.specs.Faults.{CountRose, one_more}
@@ -13,7 +15,8 @@ use Rattle.sync_rules.specs.Clients.{Meaning}
 use Rattle.sync_rules.specs.Facts.{facts}
 use Rattle.sync_store.specs.Store.{StoreValue}
 use Rattle.sync_course.specs.Acts.{AtFront, batches_in, events_of}
-use Rattle.sync_course.specs.Events.{Event, GrowsBy, RoseIf, TellsEvents, has_failure, heard_after, readings_of}
+use Rattle.sync_course.specs.Events.{Event, GrowsBy, RoseIf, TellsEvents, has_failure, heard_after}
+use Rattle.sync_course.specs.Events.{readings_of}
 use Rattle.sync_course.specs.Owing.{Owing, paid}
 use Rattle.sync_course.specs.Turns.{Place, Terms, first_place}
 use Rattle.sync_course.proofs.ToldLaws.{told_none}
@@ -33,7 +36,8 @@ use Rattle.sync_run.specs.declared.run.Limits.{Limits}
 use Rattle.sync_run.specs.Causes.{FailsAlone, IsCaused, RunCaused}
 use Rattle.sync_run.specs.Courses.{HearsRun, RunWasSpent, WasBroken, terms_of}
 use Rattle.sync_run.specs.Dialling.{AreDialled, DialsOnly, DialsAll, MakesLinks, unheard}
-use Rattle.sync_run.specs.Parts.{AnswersAt, AnswersOnLinks, RanDialled, RanOnLinks, RunDid, RunSpent, sessions_from}
+use Rattle.sync_run.specs.Parts.{AnswersAt, AnswersOnLinks, RanDialled, RanOnLinks, RunDid}
+use Rattle.sync_run.specs.Parts.{RunSpent, sessions_from}
 use Rattle.sync_run.specs.Plans.{ArePlanned}
 use Rattle.sync_run.proofs.DialLaws.{calms_run}
 use Rattle.sync_run.proofs.RestLaws.{image_read}
@@ -41,16 +45,24 @@ use Rattle.sync_run.proofs.RunActs.{did_behind}
 
 -- ---- sessions that words plan
 
-sessions_planned : (first : ℕ) (words : List LinkWords) (links : List Dialled) → AreDialled words links → ArePlanned first words (sessions_from first links)
+sessions_planned : (first : ℕ) (words : List LinkWords) (links : List Dialled)
+    → AreDialled words links → ArePlanned first words (sessions_from first links)
 sessions_planned first words [] dialled = tt
 sessions_planned first [] (d ∷ links) dialled = absurd dialled
 sessions_planned first (w ∷ words) (d ∷ links) dialled =
     let one = dialled.0 in (
-      record { numbered = refl; same_contact = one.same_contact; same_mode = one.same_mode; same_latency = one.same_latency; nonce = one.nonce },
+      record {
+        numbered = refl;
+        same_contact = one.same_contact;
+        same_mode = one.same_mode;
+        same_latency = one.same_latency;
+        nonce = one.nonce;
+      },
       sessions_planned (suc first) words links dialled.1,
     )
 
-sessions_count : (first : ℕ) (links : List Dialled) → length (sessions_from first links) ≡ length links
+sessions_count : (first : ℕ) (links : List Dialled)
+    → length (sessions_from first links) ≡ length links
 sessions_count first [] = refl
 sessions_count first (d ∷ links) = ap suc (sessions_count (suc first) links)
 
@@ -58,21 +70,35 @@ sessions_count first (d ∷ links) = ap suc (sessions_count (suc first) links)
 some_sessions : ℕ → List LinkWords → List Session
 some_sessions first [] = []
 some_sessions first (w ∷ words) =
-    record { number = first; contact = w.contact; mode = w.mode; latency = w.latency; nonce = cond (has_nonce w) (Some []) None } ∷ some_sessions (suc first) words
+    record {
+      number = first;
+      contact = w.contact;
+      mode = w.mode;
+      latency = w.latency;
+      nonce = cond (has_nonce w) (Some []) None;
+    } ∷ some_sessions (suc first) words
 
 some_nonce : (b : Bool) → is_some (cond {A = Option (List ℕ)} b (Some []) None) ≡ b
 some_nonce true = refl
 some_nonce false = refl
 
-some_planned : (first : ℕ) (words : List LinkWords) → ArePlanned first words (some_sessions first words)
+some_planned : (first : ℕ) (words : List LinkWords) → ArePlanned first words
+    (some_sessions first words)
 unfolding some_sessions
 some_planned first [] = tt
 some_planned first (w ∷ words) = (
-  record { numbered = refl; same_contact = refl; same_mode = refl; same_latency = refl; nonce = some_nonce (has_nonce w) },
+  record {
+    numbered = refl;
+    same_contact = refl;
+    same_mode = refl;
+    same_latency = refl;
+    nonce = some_nonce (has_nonce w);
+  },
   some_planned (suc first) words,
 )
 
-some_count : (first : ℕ) (words : List LinkWords) → length (some_sessions first words) ≡ length words
+some_count : (first : ℕ) (words : List LinkWords)
+    → length (some_sessions first words) ≡ length words
 unfolding some_sessions
 some_count first [] = refl
 some_count first (w ∷ words) = ap suc (some_count (suc first) words)
@@ -88,29 +114,39 @@ no_heard [] is = refl
 no_heard (x ∷ h) is = absurd (omega (arith, is))
 
 -- on links that were made, of which there were none before
-heard_by_run : (es : List Event) (n : ℕ) (o0 o1 o : Option (List HeardOn)) → ((h : List HeardOn) → o0 ≡ Some h → length h ≡ 0)
-    → o1 ≡ option_map (λ (hs : List HeardOn). hs ++ unheard n) o0 → o ≡ option_map (heard_after es) o1
+heard_by_run : (es : List Event) (n : ℕ) (o0 o1 o : Option (List HeardOn))
+    → ((h : List HeardOn) → o0 ≡ Some h → length h ≡ 0)
+    → o1 ≡ option_map (λ (hs : List HeardOn). hs ++ unheard n) o0
+    → o ≡ option_map (heard_after es) o1
     → o ≡ option_map (λ (h : List HeardOn). heard_after es (unheard n)) o0
 heard_by_run es n None o1 o none made told = told ∙ ap (option_map (heard_after es)) made
 heard_by_run es n (Some h) o1 o none made told =
-    told ∙ ap (option_map (heard_after es)) made ∙ ap (λ (hs : List HeardOn). Some (heard_after es (hs ++ unheard n))) (no_heard h (none h refl))
+    told ∙ ap (option_map (heard_after es)) made
+    ∙ ap (λ (hs : List HeardOn). Some (heard_after es (hs ++ unheard n)))
+    (no_heard h (none h refl))
 
-hears_dialled : (words : List LinkWords) (es : List Event) (o0 o1 o : Outside) → o0.links.dialled ≡ 0 → MakesLinks words o0.links o1.links → TellsEvents es o1 o
+hears_dialled : (words : List LinkWords) (es : List Event) (o0 o1 o : Outside)
+    → o0.links.dialled ≡ 0 → MakesLinks words o0.links o1.links → TellsEvents es o1 o
     → o.links.dialled ≡ o1.links.dialled → HearsRun es o0 o
 hears_dialled words es o0 o1 o none makes told same =
     let number : o.links.dialled ≡ length words = omega (arith, same, makes.dialled, none) in
     record {
       heard =
-          heard_by_run es (length words) o0.links.heard o1.links.heard o.links.heard (λ h is. o0.all_heard h is ∙ none) makes.heard told.heard
-          ∙ ap (λ (n : ℕ). option_map (λ (h : List HeardOn). heard_after es (unheard n)) o0.links.heard) (sym number);
-      readings = subst (λ (r : Option (List ℕ)). GrowsBy (readings_of es) r o.links.readings) makes.same_readings told.readings;
+          heard_by_run es (length words) o0.links.heard o1.links.heard o.links.heard (λ h is.
+          o0.all_heard h is ∙ none) makes.heard told.heard
+          ∙ ap (λ (n : ℕ). option_map (λ (h : List HeardOn). heard_after es (unheard n))
+          o0.links.heard) (sym number);
+      readings = subst (λ (r : Option (List ℕ)). GrowsBy (readings_of es) r o.links.readings)
+          makes.same_readings told.readings;
       faults = λ link.
-          rose_if_before (has_failure link es) (o0.links.faults link) (o1.links.faults link) (o.links.faults link) (makes.grows.faults link) (told.faults link);
+          rose_if_before (has_failure link es) (o0.links.faults link) (o1.links.faults link)
+          (o.links.faults link) (makes.grows.faults link) (told.faults link);
     }
 
 -- ---- dials before other acts
 
-module _ (clients : Meaning) (s : StoreValue) (o0 o1 : Outside) (calms : DialsOnly o0 o1) (j : Journal)
+module _ (clients : Meaning) (s : StoreValue) (o0 o1 : Outside) (calms : DialsOnly o0 o1)
+    (j : Journal)
     (fit : FitsWith clients s o0.files j) where
   -- the files are as they were, with nothing pending
   calm_since : SinceThen o0 o1 (AtFront clients [] j (sent_on o0.links))
@@ -123,7 +159,8 @@ module _ (clients : Meaning) (s : StoreValue) (o0 o1 : Outside) (calms : DialsOn
         behind = [];
         parts = refl;
         stands_for =
-            ap (stands clients) (image_read fit.0 m.files fit.2.first_settled fit.2.second_settled calm.image)
+            ap (stands clients) (image_read fit.0 m.files fit.2.first_settled fit.2.second_settled
+            calm.image)
             ∙ fit.2.stands_for ∙ ap (λ (l : Journal). journal l) (sym (append-nil j));
         part = λ link. [];
         begun = λ link. record { rest = []; whole = refl };
@@ -136,10 +173,12 @@ module _ (clients : Meaning) (s : StoreValue) (o0 o1 : Outside) (calms : DialsOn
   calm_sent told link = calms.sent link ∙ sym (append-nil (sent_on o0.links link))
 
   calm_reads : ReadsAs clients o1.files j
-  calm_reads = let now = fits_on clients s o0 o1 calms.same_files j fit in (now.0, now.1, now.2.stands_for)
+  calm_reads =
+      let now = fits_on clients s o0 o1 calms.same_files j fit in (now.0, now.1, now.2.stands_for)
 
   -- the acts of a run behind them
-  abbrev did_dialled : (terms : Terms) (from : Place) (o : Outside) → RunDid clients terms from j o1 o
+  abbrev did_dialled : (terms : Terms) (from : Place) (o : Outside)
+      → RunDid clients terms from j o1 o
       → RunDid clients terms from j o0 o
   did_dialled terms from o did =
       did_behind clients terms from from j j o0 o1 o [] (sym (append-nil j)) refl
@@ -164,7 +203,8 @@ module _ (clients : Meaning) (s : StoreValue) (o0 o1 : Outside) (calms : DialsOn
 module _ (clients : Meaning) (limits : Limits) (words : List LinkWords) (links : List Dialled)
     (s : StoreValue) (o0 o1 : Outside) (none : o0.links.dialled ≡ 0) (calms : DialsOnly o0 o1) where
   -- nothing was done behind the dials
-  spent_so : (o : Outside) → MakesLinks words o0.links o1.links → RunSpent o1 o → RunWasSpent words o0 o
+  spent_so : (o : Outside) → MakesLinks words o0.links o1.links → RunSpent o1 o
+      → RunWasSpent words o0 o
   spent_so o makes spent = record {
     last = λ two told. spent.last two (calms.same_files ∙ told);
     still = λ two two' told told'.
@@ -174,7 +214,8 @@ module _ (clients : Meaning) (limits : Limits) (words : List LinkWords) (links :
     links = subst (λ (l : Links). MakesLinks words o0.links l) (sym spent.same_links) makes;
   }
 
-  answers_so : (o : Outside) (r : Result Closing Outcome) (terms : Terms) (to : Owing Place) (j now : Journal)
+  answers_so : (o : Outside) (r : Result Closing Outcome) (terms : Terms) (to : Owing Place)
+      (j now : Journal)
       → MakesLinks words o0.links o1.links
       → AnswersAt clients limits terms to now (MayMigrate o1.files) (RunSpent o1 o) r
       → AnswersOnLinks clients limits words terms to j now o0 o r
@@ -204,17 +245,21 @@ module _ (clients : Meaning) (limits : Limits) (words : List LinkWords) (links :
         planned = sessions_planned (facts j).begun words links dials.dialled;
         all_planned = sessions_count (facts j).begun links ∙ dials.all.1;
         did =
-            did_dialled clients s o0 o1 calms j fit (terms_of limits j) (first_place sessions (facts j)) o
+            did_dialled clients s o0 o1 calms j fit (terms_of limits j)
+            (first_place sessions (facts j)) o
             over.did;
         made = inl (omega (arith, goes.same_dialled, makes.dialled, none));
         grows = grow_then o0.links o1.links o.links calms.grows goes.links;
-        hears = hears_dialled words (events_of over.did.acts) o0 o1 o none makes over.told goes.same_dialled;
+        hears = hears_dialled words (events_of over.did.acts) o0 o1 o none makes over.told
+            goes.same_dialled;
         answer =
-            answers_so o r (terms_of limits j) over.did.to j (j ++ batches_in over.did.acts) makes over.answer;
+            answers_so o r (terms_of limits j) over.did.to j (j ++ batches_in over.did.acts) makes
+            over.answer;
       }
 
   -- a dial failed
-  dial_answers : (link : ℕ) (r : Result Closing Outcome) (terms : Terms) (to : Owing Place) (j now : Journal)
+  dial_answers : (link : ℕ) (r : Result Closing Outcome) (terms : Terms) (to : Owing Place)
+      (j now : Journal)
       → ReadsAs clients o1.files j → FailsAlone link r
       → AnswersOnLinks clients limits words terms to j now o0 o1 r
   dial_answers link (Ok ends) terms to j now reads alone = absurd alone
@@ -241,7 +286,8 @@ module _ (clients : Meaning) (limits : Limits) (words : List LinkWords) (links :
       }
 
 -- the run did not begin
-pub unbegun : (clients : Meaning) (limits : Limits) (words made : List LinkWords) (j : Journal) (o0 o : Outside) → o0.links.dialled ≡ 0 → MakesLinks made o0.links o.links
+pub unbegun : (clients : Meaning) (limits : Limits) (words made : List LinkWords) (j : Journal)
+    (o0 o : Outside) → o0.links.dialled ≡ 0 → MakesLinks made o0.links o.links
     → ReadsAs clients o.files j → WasBroken clients limits words j o0 o
 unbegun clients limits words made j o0 o none makes reads = record {
   sessions = some_sessions (facts j).begun words;
@@ -257,22 +303,27 @@ unbegun clients limits words made j o0 o none makes reads = record {
 
 -- ---- causes
 
-pub dialled_caused : (words : List LinkWords) (o0 o1 o : Outside) (r : Result Closing Outcome) → DialsOnly o0 o1 → RunCaused o1 o r → IsCaused words o0 o r
+pub dialled_caused : (words : List LinkWords) (o0 o1 o : Outside) (r : Result Closing Outcome)
+    → DialsOnly o0 o1 → RunCaused o1 o r → IsCaused words o0 o r
 dialled_caused words o0 o1 o (Ok ends) calms caused = λ i stands at failed.
     let rose : one_more (o1.links.faults i) ≤ o.links.faults i = caused i stands at failed in
     let later : o0.links.faults i ≤ o1.links.faults i = calms.grows.faults i in
     let more : one_more (o0.links.faults i) ≤ o.links.faults i = omega (arith, rose, later) in
     more
-dialled_caused words o0 o1 o (Err outcome.DiskFault) calms caused = subst (λ (n : ℕ). CountRose n o.disk_faults) calms.same_faults caused
+dialled_caused words o0 o1 o (Err outcome.DiskFault) calms caused =
+    subst (λ (n : ℕ). CountRose n o.disk_faults) calms.same_faults caused
 dialled_caused words o0 o1 o (Err outcome.Full) calms caused = tt
 dialled_caused words o0 o1 o (Err outcome.Memory) calms caused = tt
 dialled_caused words o0 o1 o (Err _) calms caused = absurd caused
 
-pub undialled_caused : (words : List LinkWords) (links : List Dialled) (o0 o1 : Outside) (e : Failed) (link : ℕ) (r : Result Closing Outcome) → DialsAll words links (Err e) o0 o1
+pub undialled_caused : (words : List LinkWords) (links : List Dialled) (o0 o1 : Outside)
+    (e : Failed) (link : ℕ) (r : Result Closing Outcome) → DialsAll words links (Err e) o0 o1
     → link ≡ length links → FailsAlone link r → IsCaused words o0 o1 r
 undialled_caused words links o0 o1 e link (Ok ends) dials is alone = absurd alone
 undialled_caused words links o0 o1 e link (Err (outcome.LinkFailed named)) dials is alone = record {
   within = omega (arith, is, alone, dials.all.0);
-  rose = subst (λ (n : ℕ). CountRose (o0.links.faults n) (o1.links.faults n)) (sym (alone ∙ is)) dials.all.1;
+  rose =
+      subst (λ (n : ℕ). CountRose (o0.links.faults n) (o1.links.faults n)) (sym (alone ∙ is))
+      dials.all.1;
 }
 undialled_caused words links o0 o1 e link (Err _) dials is alone = absurd alone

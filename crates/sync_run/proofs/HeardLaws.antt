@@ -1,4 +1,5 @@
--- The bytes heard on each link at a place of a run are those of the answers that its events have; and so are those that are told.
+-- The bytes heard on each link at a place of a run are those of the answers that its events have;
+-- and so are those that are told.
 use Rattle.std.proofs.Common.{◌≡◌, ℕ, zero, suc, ◌+◌, ◌⊎◌, ◌<◌, ◌≤◌, Bool, true, false, cond, List, [], ◌∷◌, ◌++◌, length, append-nil, length-append, refl, sym, ◌∙◌, ap, subst, inl, inr, arith, Option, None, Some}
 use Rattle.std.specs.Option.{option_map}
 use Rattle.std.specs.Prelude.{slice_get, slice_set}
@@ -114,7 +115,8 @@ module _ (clients : Meaning) (terms : Terms) (sessions : List Session) where
 
 -- ---- at any place of a run
 
-pub told_of : (told told0 : Option (List HeardOn)) (es : List Event) (n : ℕ) (heard : List HeardOn) → told ≡ option_map (λ (h : List HeardOn). heard_after es (unheard n)) told0 → told ≡ Some heard
+pub told_of : (told told0 : Option (List HeardOn)) (es : List Event) (n : ℕ) (heard : List HeardOn)
+    → told ≡ option_map (λ (h : List HeardOn). heard_after es (unheard n)) told0 → told ≡ Some heard
     → told ≡ Some (heard_after es (unheard n))
 told_of told None es n heard is some = cc
 told_of told (Some h) es n heard is some = is
@@ -159,7 +161,8 @@ path_told clients terms sessions f es last n path few i =
 
 -- batches that are committed bring nothing
 pub commits_bring : (clients : Meaning) (terms : Terms) (p q : Owing Place) (bs : List (List Entry))
-    → Path (RunActs clients terms) p (commit_acts bs) q → (i : ℕ) → heard_on q.at i ≡ heard_on p.at i
+    → Path (RunActs clients terms) p (commit_acts bs) q → (i : ℕ)
+    → heard_on q.at i ≡ heard_on p.at i
 commits_bring clients terms p q [] path i = ap (λ (x : Owing Place). heard_on x.at i) path
 commits_bring clients terms p q (b ∷ bs) path i =
     commits_bring clients terms path.0 q bs path.2 i

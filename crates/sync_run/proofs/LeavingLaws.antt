@@ -109,7 +109,8 @@ tested_begins words standing s has tested none =
     let both : true ≡ false = sym fails ∙ holds in
     cc
 
--- where no session began: each moment might have been before the command, and the files read as before
+-- where no session began: each moment might have been before the command, and the files read as
+-- before
 pub headline_none : (clients : Meaning) (words : List LinkWords) (o o' : Outside) → o.links.dialled ≡ 0 → DiskRun o o' → ((two : Two File) → o.files ≡ Some two → MomentsAre o o' (IsNow two o.links))
     → RelatesTold ReadsSame o.files o'.files → Headline clients words o o'
 headline_none clients words o o' none run moments reads two told told' =

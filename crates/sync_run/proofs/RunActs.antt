@@ -1,6 +1,8 @@
--- What calls did of a run, as acts: sessions that ran over a settled store, and what was done before
--- them.
-use Rattle.std.proofs.Common.{◌≡◌, ℕ, ◌+◌, ◌<◌, Bool, false, List, [], ◌∷◌, ◌++◌, append-nil, append_assoc, refl, sym, ◌∙◌, ap, subst, arith, inl, inr, Some, Result, Ok, Err}
+-- What calls did of a run, as acts: sessions that ran over a settled store, and what was done
+-- before them.
+use Rattle.std.proofs.Common.{◌≡◌, ℕ, ◌+◌, ◌<◌, Bool, false, List, [], ◌∷◌, ◌++◌, append-nil}
+use Rattle.std.proofs.Common.{append_assoc, refl, sym, ◌∙◌, ap, subst, arith, inl, inr, Some}
+use Rattle.std.proofs.Common.{Result, Ok, Err}
 use Rattle.std.specs.Prelude.{IsErrAnd}
 use Rattle.outside.specs.declared.limits.TheConstants.{MAX_JOURNAL}
 use Rattle.outside.specs.Files.{Two, File}
@@ -35,7 +37,9 @@ use Rattle.sync_course.specs.Events.{Event, Pass, TellsEvents}
 use Rattle.sync_course.specs.Owing.{Owing, paid}
 use Rattle.sync_course.specs.Paths.{Path}
 use Rattle.sync_course.specs.Turns.{Ended, Place, Terms, first_place}
-use Rattle.sync_course.proofs.ActLaws.{batches_in-append, batches_in_commits, commit_acts-append, commits_send, events_of-append, events_of_commits, sends_on-append}
+use Rattle.sync_course.proofs.ActLaws.{batches_in-append, batches_in_commits, commit_acts-append}
+use Rattle.sync_course.proofs.ActLaws.{commits_send, events_of-append, events_of_commits}
+use Rattle.sync_course.proofs.ActLaws.{sends_on-append}
 use Rattle.sync_course.proofs.PathLaws.{path_parts, path_push, path_then}
 use Rattle.sync_course.proofs.ToldLaws.{told_commits, told_pass, told_then}
 use Rattle.sync_node.specs.declared.fault.NodeFault.{NodeFault}
@@ -56,11 +60,14 @@ use Rattle.sync_run.specs.declared.dialling.Dialled.{Dialled}
 use Rattle.sync_run.specs.declared.run.Limits.{Limits}
 use Rattle.sync_run.specs.Closed.{closed_by}
 use Rattle.sync_run.specs.Courses.{terms_at, terms_of}
-use Rattle.sync_run.specs.Parts.{AnswersAt, FillsAt, RanDialled, RanOver, RanSettled, RunDid, RunSpent, RunsSessions, StopsRun, before_links, before_sessions, sessions_from}
+use Rattle.sync_run.specs.Parts.{AnswersAt, FillsAt, RanDialled, RanOver, RanSettled, RunDid}
+use Rattle.sync_run.specs.Parts.{RunSpent, RunsSessions, StopsRun, before_links, before_sessions}
+use Rattle.sync_run.specs.Parts.{sessions_from}
 use Rattle.sync_run.proofs.LineLaws.{links_close}
 
 -- an error that goes on by `?`
-pub passed : {T E : Type 0} (P : Result T E → Type 0) (r : Result T E) (x : E) → IsErrAnd r (λ e. e ≡ x)
+pub passed : {T E : Type 0} (P : Result T E → Type 0) (r : Result T E) (x : E) → IsErrAnd r
+    (λ e. e ≡ x)
     → P (Err x) → P r
 passed P (Ok t) x is h = absurd is
 passed P (Err e) x is h = subst (λ (y : _). P (Err y)) (sym is) h
@@ -68,7 +75,8 @@ passed P (Err e) x is h = subst (λ (y : _). P (Err y)) (sym is) h
 -- ---- sessions over a settled store
 
 -- the sum of a store in format 2 is that of its journal
-sum_over : (s : StoreValue) (k : Journal) (batch : List Entry) → s.end ≡ journal_end (written_in s) k
+sum_over : (s : StoreValue) (k : Journal) (batch : List Entry) → s.end ≡ journal_end
+    (written_in s) k
     → facts k ≡ s.state.facts → written_in s ≡ kind.Short → s.limit ≡ MAX_JOURNAL
     → s.limit < needed s batch → MAX_JOURNAL < needed_by k batch
 sum_over s k batch end same short limit over =
@@ -76,14 +84,16 @@ sum_over s k batch end same short limit over =
     ≡ room_of (written_in s) (after_all s.state.facts batch) =
     ap (λ (f : Facts). room_of (written_in s) (after_all f batch)) same in
     let Over : Format → Type 0 =
-    λ f. MAX_JOURNAL < journal_end f k + 5 + payload_len f batch + room_of f (after_all (facts k) batch) in
+    λ f. MAX_JOURNAL < journal_end f k + 5 + payload_len f batch
+    + room_of f (after_all (facts k) batch) in
     let here : Over (written_in s) = omega (arith, end, limit, over, room) in
     subst Over short here
 
 module _ (clients : Meaning) (terms : Terms) (from : Place) (j : Journal) (s s' : StoreValue)
     (o o' : Outside) (fit : FitsWith clients s o.files j) where
   -- they led to a place
-  abbrev did_whole : (to : Owing Place) → Went clients (RunActs clients terms) (paid from) to s s' o o'
+  abbrev did_whole : (to : Owing Place) → Went clients (RunActs clients terms)
+      (paid from) to s s' o o'
       → RunDid clients terms from j o o'
   did_whole to w = record {
     acts = w.acts;
@@ -123,14 +133,18 @@ module _ (clients : Meaning) (limits : Limits) (links : List Dialled) (s t s' : 
   abbrev at_links : Place
   at_links = before_links links s.state.facts
 
-  module _ (nodes : List Link) (over : Bool) (runs : RunsSessions clients limits links nodes t s' o o' over) where
+  module _ (nodes : List Link) (over : Bool)
+      (runs : RunsSessions clients limits links nodes t s' o o' over) where
     -- the run came to its end
     pub ran_whole : (ends : Closing) → ends ≡ closed_by over nodes
         → RanSettled clients limits links s o o' (Ok ends)
     ran_whole ends are j fit =
-        let here = subst (λ (x : StoreValue). RunsSessions clients limits links nodes x s' o o' over) made runs in
+        let here =
+        subst (λ (x : StoreValue). RunsSessions clients limits links nodes x s' o o' over) made
+        runs in
         let end = here.ends fit.0 fit.1 in
-        let last : Place = place_at Ended nodes end.heard end.moved end.still end.made s'.state.facts in
+        let last : Place = place_at Ended nodes end.heard end.moved end.still end.made
+        s'.state.facts in
         record {
           did = did_whole clients at_first at_links j s s' o o' fit (paid last) end.went;
           told = end.went.did.tells;
@@ -150,9 +164,12 @@ module _ (clients : Meaning) (limits : Limits) (links : List Dialled) (s t s' : 
     -- but how its links ended was not written down
     pub ran_unclosed : RanSettled clients limits links s o o' (Err outcome.Memory)
     ran_unclosed j fit =
-        let here = subst (λ (x : StoreValue). RunsSessions clients limits links nodes x s' o o' over) made runs in
+        let here =
+        subst (λ (x : StoreValue). RunsSessions clients limits links nodes x s' o o' over) made
+        runs in
         let end = here.ends fit.0 fit.1 in
-        let last : Place = place_at Ended nodes end.heard end.moved end.still end.made s'.state.facts in
+        let last : Place = place_at Ended nodes end.heard end.moved end.still end.made
+        s'.state.facts in
         record {
           did = did_whole clients at_first at_links j s s' o o' fit (paid last) end.went;
           told = end.went.did.tells;
@@ -179,7 +196,8 @@ module _ (clients : Meaning) (limits : Limits) (links : List Dialled) (s t s' : 
   ran_broken stops j fit =
       let here = (stops_here node_fault.DiskFault stops).stops fit.0 fit.1 in
       record {
-        did = did_broken clients at_first at_links j s s' o o' fit (λ (q : Owing Place). q.at.links ≡ here.0) here.1;
+        did = did_broken clients at_first at_links j s s' o o' fit (λ (q : Owing Place).
+            q.at.links ≡ here.0) here.1;
         told = here.1.did.tells;
         answer = tt;
       }
@@ -200,7 +218,8 @@ module _ (clients : Meaning) (limits : Limits) (links : List Dialled) (s t s' : 
               next = here.1.next;
               steps = here.1.steps;
               over =
-                  sum_over s' (j ++ batches_in here.1.went.acts) here.1.batch now.2.end_is now.2.facts_are
+                  sum_over s' (j ++ batches_in here.1.went.acts) here.1.batch now.2.end_is
+                  now.2.facts_are
                   short limit here.1.over;
             });
       }
@@ -212,13 +231,18 @@ ran_none clients limits links s o j fit =
     let terms : Terms = terms_at limits s.state.facts.begun in
     let from : Place = before_links links s.state.facts in
     let w = went_none clients (RunActs clients terms) (paid from) s o in
-    record { did = did_whole clients terms from j s s o o fit (paid from) w; told = w.did.tells; answer = tt }
+    record {
+      did = did_whole clients terms from j s s o o fit (paid from) w;
+      told = w.did.tells;
+      answer = tt;
+    }
 
 -- ---- behind other acts
 
 module _ (clients : Meaning) (terms : Terms) (from mid : Place) (j k : Journal) (o o1 o' : Outside)
     (first : List Act) (is : k ≡ j ++ batches_in first)
-    (path : Path (RunActs clients terms) (paid from) first (paid mid)) (told_on : TellsAll o → TellsAll o1)
+    (path : Path (RunActs clients terms) (paid from) first (paid mid)) (told_on : TellsAll o
+    → TellsAll o1)
     (sent : HasSentBy first o o1)
     (since : SinceThen o o1 (AtFront clients first j (sent_on o.links)))
     (did : RunDid clients terms mid k o1 o') where
@@ -229,11 +253,13 @@ module _ (clients : Meaning) (terms : Terms) (from mid : Place) (j k : Journal) 
       ∙ ap (λ (l : Journal). j ++ l) (sym (batches_in-append first did.acts))
 
   pub behind_moments : TellsAll o
-      → SinceThen o o' (AtFront clients (first ++ (did.acts ++ commit_acts did.next)) j (sent_on o.links))
+      → SinceThen o o' (AtFront clients (first ++ (did.acts ++ commit_acts did.next)) j
+      (sent_on o.links))
   behind_moments told =
       let rest : List Act = did.acts ++ commit_acts did.next in
       since_then o o1 o' (AtFront clients first j (sent_on o.links))
-      (AtFront clients rest k (sent_on o1.links)) (AtFront clients (first ++ rest) j (sent_on o.links))
+      (AtFront clients rest k (sent_on o1.links))
+      (AtFront clients (first ++ rest) j (sent_on o.links))
       (λ m at. front_wide clients first rest j (sent_on o.links) m at)
       (λ m at. front_shift clients first rest j (sent_on o.links) (sent_on o1.links) m (sent told)
       (subst (λ (l : Journal). AtFront clients rest l (sent_on o1.links) m) is at))
@@ -243,7 +269,8 @@ module _ (clients : Meaning) (terms : Terms) (from mid : Place) (j k : Journal) 
   did_behind = record {
     acts = first ++ did.acts;
     to = did.to;
-    path = path_then (RunActs clients terms) (paid from) (paid mid) did.to first did.acts path did.path;
+    path = path_then (RunActs clients terms) (paid from) (paid mid) did.to first did.acts path
+        did.path;
     next = did.next;
     beyond = did.beyond;
     goes_on = did.goes_on;
@@ -251,7 +278,8 @@ module _ (clients : Meaning) (terms : Terms) (from mid : Place) (j k : Journal) 
         did.sent (told_on told) link
         ∙ ap (λ (l : List ℕ). l ++ sends_on link did.acts) (sent told link)
         ∙ append_assoc (sent_on o.links link) (sends_on link first) (sends_on link did.acts)
-        ∙ ap (λ (l : List ℕ). sent_on o.links link ++ l) (sym (sends_on-append link first did.acts));
+        ∙ ap (λ (l : List ℕ). sent_on o.links link ++ l)
+        (sym (sends_on-append link first did.acts));
     reads = subst (λ (l : Journal). ReadsAs clients o'.files l) now_is did.reads;
     moments = λ told.
         subst (λ (acts : List Act). SinceThen o o' (AtFront clients acts j (sent_on o.links)))
@@ -261,7 +289,8 @@ module _ (clients : Meaning) (terms : Terms) (from mid : Place) (j k : Journal) 
 -- ---- settling
 
 -- settling batches owe nothing
-settling_acts : (clients : Meaning) (terms : Terms) (sessions : List Session) (f : Facts) (bs : Journal)
+settling_acts : (clients : Meaning) (terms : Terms) (sessions : List Session) (f : Facts)
+    (bs : Journal)
     → AllSettling clients f bs
     → Path (RunActs clients terms) (paid (first_place sessions f)) (commit_acts bs)
     (paid (first_place sessions (after_batches f bs)))
@@ -278,7 +307,8 @@ settling_acts clients terms sessions f (b ∷ bs) settling = (
 )
 
 module _ (clients : Meaning) (limits : Limits) (links : List Dialled) (s s1 : StoreValue)
-    (o o1 : Outside) (more : Journal) (run : DiskRun o o1) (comes : ComesAnew clients s s1 o o1 more)
+    (o o1 : Outside) (more : Journal) (run : DiskRun o o1)
+    (comes : ComesAnew clients s s1 o o1 more)
     (j : Journal) (fit : FitsWith clients s o.files j) where
   abbrev sessions : List Session
   sessions = sessions_from (facts j).begun links
@@ -300,7 +330,8 @@ module _ (clients : Meaning) (limits : Limits) (links : List Dialled) (s s1 : St
         later = led.moments.later;
         before = λ t m since at. elim (led.moments.before t m since at) [
           | inl old ↦ inl old
-          | inr during ↦ inr (at_batch clients more j (IsBetween j more) o.links m (λ whole between. between) during)
+          | inr during ↦ inr (at_batch clients more j (IsBetween j more) o.links m (λ whole between.
+              between) during)
         ];
       }
 
@@ -342,10 +373,12 @@ module _ (clients : Meaning) (limits : Limits) (links : List Dialled) (s s1 : St
       goes_on = broken_path.2;
       sent = settling_sent front.front;
       reads =
-          subst (λ (bs : Journal). ReadsAs clients o1.files (j ++ bs)) (sym (batches_in_commits front.front))
+          subst (λ (bs : Journal). ReadsAs clients o1.files (j ++ bs))
+          (sym (batches_in_commits front.front))
           (front.reads j fit);
       moments = λ told.
-          subst (λ (acts : List Act). SinceThen o o1 (AtFront clients acts j (sent_on o.links))) parts
+          subst (λ (acts : List Act). SinceThen o o1 (AtFront clients acts j (sent_on o.links)))
+          parts
           settling_since;
     }
 
@@ -381,7 +414,8 @@ module _ (clients : Meaning) (limits : Limits) (links : List Dialled) (s s1 : St
         let done : Facts = after_batches (facts j) more in
         subst (λ (f : Facts). Path (RunActs clients (terms_of limits j)) (paid start) first
         (paid (before_sessions sessions f))) same_facts
-        (path_push (RunActs clients (terms_of limits j)) (paid start) (paid (first_place sessions done))
+        (path_push (RunActs clients (terms_of limits j)) (paid start)
+        (paid (first_place sessions done))
         (paid (before_sessions sessions done)) (commit_acts more) (Does Pass) settled_path (
           λ link. refl,
           (subst (IsSettled clients) (sym same_facts) settled, refl),
@@ -397,20 +431,23 @@ module _ (clients : Meaning) (limits : Limits) (links : List Dialled) (s s1 : St
     first_sent told link =
         settling_sent more told link
         ∙ ap (λ (l : List ℕ). sent_on o.links link ++ l)
-        (sym (sends_on-append link (commit_acts more) (Does Pass ∷ []) ∙ append-nil (sends_on link (commit_acts more))))
+        (sym (sends_on-append link (commit_acts more) (Does Pass ∷ [])
+        ∙ append-nil (sends_on link (commit_acts more))))
 
     first_told : TellsEvents (events_of first) o o1
     first_told =
         subst (λ (es : List Event). TellsEvents es o o1)
         (sym (events_of-append (commit_acts more) (Does Pass ∷ [])))
-        (told_then (events_of (commit_acts more)) (Pass ∷ []) o o1 o1 (settling_told more) (told_pass o1 o1 refl))
+        (told_then (events_of (commit_acts more)) (Pass ∷ []) o o1 o1 (settling_told more)
+        (told_pass o1 o1 refl))
 
     first_since : SinceThen o o1 (AtFront clients first j (sent_on o.links))
     first_since = record {
       later = settling_since.later;
       before = λ t m since at. elim (settling_since.before t m since at) [
         | inl old ↦ inl old
-        | inr front ↦ inr (front_wide clients (commit_acts more) (Does Pass ∷ []) j (sent_on o.links) m front)
+        | inr front ↦ inr (front_wide clients (commit_acts more) (Does Pass ∷ []) j
+            (sent_on o.links) m front)
       ];
     }
 
@@ -421,19 +458,23 @@ module _ (clients : Meaning) (limits : Limits) (links : List Dialled) (s s1 : St
         (j ++ more) (Unit {0}) ⊥ o1 o' r
     ran_here =
         subst (λ (k : ℕ). RanOver clients limits (terms_at limits k)
-        (before_sessions (sessions_from k links) s1.state.facts) (j ++ more) (Unit {0}) ⊥ o1 o' r) begun_same
-        (ran (j ++ more) (fits_grown clients s s1 more o o1 (λ k whole. IsBetween k more whole) run.same_told
+        (before_sessions (sessions_from k links) s1.state.facts) (j ++ more) (Unit {0}) ⊥ o1 o' r)
+        begun_same
+        (ran (j ++ more) (fits_grown clients s s1 more o o1 (λ k whole. IsBetween k more whole)
+        run.same_told
         opened comes.leads j fit))
 
     same_journal : j ++ more ≡ j ++ batches_in first
     same_journal = ap (λ (l : Journal). j ++ l) (sym first_batches)
 
-    answered : (r : Result Closing Outcome) (to : Owing Place) (now now' : Journal) → now ≡ now' → MayMigrate o.files
+    answered : (r : Result Closing Outcome) (to : Owing Place) (now now' : Journal) → now ≡ now'
+        → MayMigrate o.files
         → AnswersAt clients limits (terms_of limits j) to now (Unit {0}) ⊥ r
         → AnswersAt clients limits (terms_of limits j) to now' (MayMigrate o.files) Spent r
     answered (Ok ends) to now now' same whole answer = (answer.0, whole)
     answered (Err outcome.Full) to now now' same whole answer = elim answer [
-      | inl fills ↦ inl (subst (λ (l : Journal). FillsAt clients (terms_of limits j) to l) same fills)
+      | inl fills ↦ inl (subst (λ (l : Journal). FillsAt clients (terms_of limits j) to l) same
+          fills)
       | inr none ↦ absurd none
     ]
     answered (Err outcome.Memory) to now now' same whole answer = tt
@@ -446,11 +487,14 @@ module _ (clients : Meaning) (limits : Limits) (links : List Dialled) (s s1 : St
         let mid : Place = before_sessions sessions s1.state.facts in
         record {
           did =
-              did_behind clients (terms_of limits j) start mid j (j ++ more) o o1 o' first same_journal
+              did_behind clients (terms_of limits j) start mid j (j ++ more) o o1 o' first
+              same_journal
               first_path told_on first_sent first_since ran_here.did;
           told =
-              subst (λ (es : List Event). TellsEvents es o o') (sym (events_of-append first ran_here.did.acts))
-              (told_then (events_of first) (events_of ran_here.did.acts) o o1 o' first_told ran_here.told);
+              subst (λ (es : List Event). TellsEvents es o o')
+              (sym (events_of-append first ran_here.did.acts))
+              (told_then (events_of first) (events_of ran_here.did.acts) o o1 o' first_told
+              ran_here.told);
           answer =
               answered r ran_here.did.to ((j ++ more) ++ batches_in ran_here.did.acts)
               (j ++ batches_in (first ++ ran_here.did.acts))
@@ -459,7 +503,8 @@ module _ (clients : Meaning) (limits : Limits) (links : List Dialled) (s s1 : St
               (λ two files last.
               let both : Some fit.0 ≡ Some two = sym fit.1 ∙ files in
               let one : fit.0 ≡ two = cc in
-              unspent (spent_here clients s j two (subst (λ (t : Two File). FitsFiles clients s j t) one fit.2) last))
+              unspent (spent_here clients s j two
+              (subst (λ (t : Two File). FitsFiles clients s j t) one fit.2) last))
               ran_here.answer;
         }
 
@@ -473,7 +518,8 @@ module _ (clients : Meaning) (limits : Limits) (links : List Dialled) (s s1 : St
     last = λ two files.
         let both : Some fit.0 ≡ Some two = sym fit.1 ∙ files in
         let one : fit.0 ≡ two = cc in
-        last_here clients s j two (subst (λ (t : Two File). FitsFiles clients s j t) one fit.2) spent;
+        last_here clients s j two (subst (λ (t : Two File). FitsFiles clients s j t) one fit.2)
+        spent;
     same_files = ap (λ (x : Outside). x.files) same;
     same_links = ap (λ (x : Outside). x.links) same;
   }
@@ -482,21 +528,26 @@ module _ (clients : Meaning) (limits : Limits) (links : List Dialled) (s s1 : St
       → FitsWith clients s o.files j → SettledAnew clients s s1 (Err e)
       → (e ≡ outcome.Full → o1 ≡ o)
       → AnswersAt clients limits terms to now (MayMigrate o.files) (RunSpent o o1) (Err e)
-  settling_answers terms to j now outcome.Full fit answer same = inr (spent_by j fit answer.0 (same refl))
+  settling_answers terms to j now outcome.Full fit answer same =
+      inr (spent_by j fit answer.0 (same refl))
   settling_answers terms to j now outcome.Memory fit answer same = tt
   settling_answers terms to j now outcome.DiskFault fit answer same = tt
   settling_answers terms to j now _ fit answer same = absurd answer
 
   pub settling_stopped : (r : Result Closing Outcome) (e : Outcome) → IsErrAnd r (λ x. x ≡ e)
-      → FitsSome clients s o.files → SettlesAnew clients s s1 o o1 (Err e) → (e ≡ outcome.Full → o1 ≡ o)
+      → FitsSome clients s o.files → SettlesAnew clients s s1 o o1 (Err e)
+      → (e ≡ outcome.Full → o1 ≡ o)
       → RanDialled clients limits links s o o1 r
   settling_stopped r e is fits settles same j fit =
       let front =
       reads_front clients s s1 settles.more o o1 (λ k whole. IsBetween k settles.more whole)
-      (λ k whole. whole ≡ k ++ settles.more) fits run.same_told (λ k whole between. between) settles.comes.leads in
+      (λ k whole. whole ≡ k ++ settles.more) fits run.same_told (λ k whole between.
+      between) settles.comes.leads in
       passed (λ (x : Result Closing Outcome). RanOver clients limits (terms_of limits j)
-      (first_place (sessions_from (facts j).begun links) (facts j)) j (MayMigrate o.files) (RunSpent o o1) o o1 x) r e is
-      (over_settling clients limits links s s1 o o1 settles.more run settles.comes j fit front e (MayMigrate o.files)
+      (first_place (sessions_from (facts j).begun links) (facts j)) j (MayMigrate o.files)
+      (RunSpent o o1) o o1 x) r e is
+      (over_settling clients limits links s s1 o o1 settles.more run settles.comes j fit front e
+      (MayMigrate o.files)
       (RunSpent o o1)
       (settling_answers (terms_of limits j)
       (broken_path clients limits links s s1 o o1 settles.more run settles.comes j fit front).0 j
@@ -506,5 +557,6 @@ module _ (clients : Meaning) (limits : Limits) (links : List Dialled) (s s1 : St
       → SettlesAnew clients s s1 o o1 (Ok u) → RanSettled clients limits links s1 o1 o' r
       → RanDialled clients limits links s o o' r
   settled_ran u o' r settles ran j fit =
-      ran_behind clients limits links s s1 o o1 settles.more run settles.comes j fit settles.answer.0
+      ran_behind clients limits links s s1 o o1 settles.more run settles.comes j fit
+      settles.answer.0
       settles.answer.1 o' r ran (RunSpent o o') settles.answer.3

@@ -68,5 +68,6 @@ pub nothing_sent : (o : Outside) → o.links.dialled ≡ 0 → (link : ℕ) → 
 nothing_sent o none link = ap (λ (s : List (List ℕ)). slice_index_or s link []) (none_sent o none)
 
 -- a moment before which nothing was sent
-pub silent_by : (o : Outside) (m : Moment) (link : ℕ) → o.links.dialled ≡ 0 → m.sent ≡ sent_of o.links.told → sent_by m link ≡ []
+pub silent_by : (o : Outside) (m : Moment) (link : ℕ) → o.links.dialled ≡ 0
+    → m.sent ≡ sent_of o.links.told → sent_by m link ≡ []
 silent_by o m link none sent = ap (λ (s : List (List ℕ)). slice_index_or s link []) (sent ∙ none_sent o none)

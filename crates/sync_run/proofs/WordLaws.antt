@@ -35,17 +35,23 @@ pub settles_only : (clients : Meaning) (s s' : StoreValue) (o o' : Outside) (r :
 settles_only clients s s' o o' r settles =
     subst (λ (f : Facts). OnlySettles s.state.facts f) (sym settles.comes.facts) (all_settling_only clients s.state.facts settles.more settles.comes.settling)
 
-pub goes_settled : (clients : Meaning) (s s' : StoreValue) (o o' : Outside) (r : Result (Unit {0}) Outcome)
-    → IsReady clients s o.files → DiskRun o o' → SettlesAnew clients s s' o o' r → LetsNothingFall o o'
+pub goes_settled : (clients : Meaning) (s s' : StoreValue) (o o' : Outside)
+    (r : Result (Unit {0}) Outcome)
+    → IsReady clients s o.files → DiskRun o o' → SettlesAnew clients s s' o o' r
+    → LetsNothingFall o o'
 goes_settled clients s s' o o' r ready run settles =
-    goes_disk o o' run (λ two told. let fit = ready.fits two told in (settles.comes.leads two told fit.0 fit.1).moments.later)
+    goes_disk o o' run (λ two told. let fit = ready.fits two told in
+    (settles.comes.leads two told fit.0 fit.1).moments.later)
 
 -- the sessions may begin behind it
-pub may_settled : (clients : Meaning) (s s' : StoreValue) (o o' : Outside) (r : Result (Unit {0}) Outcome)
-    (links : List Dialled) → SettlesAnew clients s s' o o' r → AllMayBegin s.state.facts.contacts links
+pub may_settled : (clients : Meaning) (s s' : StoreValue) (o o' : Outside)
+    (r : Result (Unit {0}) Outcome)
+    (links : List Dialled) → SettlesAnew clients s s' o o' r
+    → AllMayBegin s.state.facts.contacts links
     → AllMayBegin s'.state.facts.contacts links
 may_settled clients s s' o o' r links settles all =
-    subst (λ (k : ℕ). AllMayBegin k links) (sym (settles_only clients s s' o o' r settles).contacts) all
+    subst (λ (k : ℕ). AllMayBegin k links) (sym (settles_only clients s s' o o' r settles).contacts)
+    all
 
 -- what a node of a store that is ready needs
 pub new_may : (clients : Meaning) (s : StoreValue) (o : Outside) → IsReady clients s o.files → MayRun clients (new_node s) o

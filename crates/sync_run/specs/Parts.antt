@@ -1,5 +1,6 @@
 -- What the parts of a run come to, as parts of its course.
-use Rattle.std.specs.Prelude.{◌≡◌, ◌⊎◌, ℕ, suc, ◌<◌, Bool, false, List, [], ◌∷◌, ◌++◌, length, Some, Result, Ok, Err}
+use Rattle.std.specs.Prelude.{◌≡◌, ◌⊎◌, ℕ, suc, ◌<◌, Bool, false, List, [], ◌∷◌, ◌++◌, length, Some}
+use Rattle.std.specs.Prelude.{Result, Ok, Err}
 use Rattle.outside.specs.declared.limits.TheConstants.{MAX_JOURNAL}
 use Rattle.outside.specs.Files.{Two, File, read_files}
 use Rattle.outside.specs.Outside.{Outside}
@@ -54,7 +55,8 @@ abbrev pub before_turns : List Link → (ℕ → List ℕ) → Facts → Place
 before_turns links heard f = place_at Between links heard false 0 0 f
 
 -- a run stopped at a place, whatever its links are there, by what the node answered
-abbrev pub StopsFrom : Meaning → Terms → Place → StoreValue → StoreValue → Outside → Outside → NodeFault
+abbrev pub StopsFrom : Meaning → Terms → Place → StoreValue → StoreValue → Outside → Outside
+    → NodeFault
     → Type 0
 StopsFrom clients terms p s s' o o' x =
     ByFault (λ e. (links : List course_links.Link) × RunStopped clients terms p links s s' o o' e) x
@@ -65,14 +67,16 @@ StopsFrom clients terms p s s' o o' x =
 pub record SessionsBegin (clients : Meaning) (dialled : List Dialled) (links : List Link)
     (s s' : StoreValue) (o o' : Outside) : Type 0 where
   pub has_read : AllRead silent links
-  pub went : (two : Two File) → o.files ≡ Some two → (terms : Terms) → terms.first ≡ s.state.facts.begun
+  pub went : (two : Two File) → o.files ≡ Some two → (terms : Terms)
+      → terms.first ≡ s.state.facts.begun
       → RunWent clients terms (before_links dialled s.state.facts)
       (before_turns links silent s'.state.facts) s s' o o'
 
 -- or it stopped while they began
 pub record SessionsStopped (clients : Meaning) (dialled : List Dialled) (s s' : StoreValue)
     (o o' : Outside) (x : NodeFault) : Type 0 where
-  pub stops : (two : Two File) → o.files ≡ Some two → (terms : Terms) → terms.first ≡ s.state.facts.begun
+  pub stops : (two : Two File) → o.files ≡ Some two → (terms : Terms)
+      → terms.first ≡ s.state.facts.begun
       → StopsFrom clients terms (before_links dialled s.state.facts) s s' o o' x
 
 -- ---- the turns are made
@@ -86,7 +90,8 @@ pub record EndsFrom (clients : Meaning) (limits : Limits) (first : ℕ) (from : 
   pub made : ℕ
   pub went : RunWent clients (terms_at limits first) from
       (place_at Ended links heard moved still made s'.state.facts) s s' o o'
-  pub is_so : over ≡ is_over limits.quiet (place_at Ended links heard moved still made s'.state.facts)
+  pub is_so : over ≡ is_over limits.quiet
+      (place_at Ended links heard moved still made s'.state.facts)
 
 -- ---- both
 
@@ -100,7 +105,8 @@ pub record RunsSessions (clients : Meaning) (limits : Limits) (dialled : List Di
 pub record StopsRun (clients : Meaning) (limits : Limits) (dialled : List Dialled)
     (s s' : StoreValue) (o o' : Outside) (x : NodeFault) : Type 0 where
   pub stops : (two : Two File) → o.files ≡ Some two
-      → StopsFrom clients (terms_at limits s.state.facts.begun) (before_links dialled s.state.facts) s
+      → StopsFrom clients (terms_at limits s.state.facts.begun) (before_links dialled s.state.facts)
+      s
       s' o o' x
 
 -- ---- the run on links that were dialled
@@ -128,23 +134,26 @@ pub record EndsAt (limits : Limits) (to : Owing Place) (ends : Closing) : Type 0
   pub closes : ends ≡ closing limits.quiet to.at
 
 -- the next step from there commits a batch with which this journal passes the greatest length
-pub record FillsAt (clients : Meaning) (terms : Terms) (to : Owing Place) (j : Journal) : Type 0 where
+pub record FillsAt (clients : Meaning) (terms : Terms) (to : Owing Place)
+    (j : Journal) : Type 0 where
   pub batch : List Entry
   pub next : Owing Place
   pub steps : RunActs clients terms to (Does (Commit batch)) next
   pub over : MAX_JOURNAL < needed_by j batch
 
--- where a run stood at its answer, over this journal by then; what is so where it ended, and what may
--- be so beside where there was no room
+-- where a run stood at its answer, over this journal by then; what is so where it ended, and what
+-- may be so beside where there was no room
 abbrev pub AnswersAt : Meaning → Limits → Terms → Owing Place → Journal → (Whole Spent : Type 0)
     → Result Closing Outcome → Type 0
 AnswersAt clients limits terms to j Whole Spent (Ok ends) = EndsAt limits to ends × Whole
-AnswersAt clients limits terms to j Whole Spent (Err outcome.Full) = FillsAt clients terms to j ⊎ Spent
+AnswersAt clients limits terms to j Whole Spent (Err outcome.Full) =
+    FillsAt clients terms to j ⊎ Spent
 AnswersAt clients limits terms to j Whole Spent (Err outcome.Memory) = Unit {0}
 AnswersAt clients limits terms to j Whole Spent (Err outcome.DiskFault) = Unit {0}
 AnswersAt clients limits terms to j Whole Spent (Err _) = ⊥
 
-pub record RanOver (clients : Meaning) (limits : Limits) (terms : Terms) (from : Place) (j : Journal)
+pub record RanOver (clients : Meaning) (limits : Limits) (terms : Terms) (from : Place)
+    (j : Journal)
     (Whole Spent : Type 0) (o o' : Outside) (result : Result Closing Outcome) : Type 0 where
   pub did : RunDid clients terms from j o o'
   pub told : TellsEvents (events_of did.acts) o o'
@@ -155,7 +164,8 @@ abbrev pub RanSettled : Meaning → Limits → List Dialled → StoreValue → O
     → Result Closing Outcome → Type 0
 RanSettled clients limits links s o o' result =
     (j : Journal) → FitsWith clients s o.files j
-    → RanOver clients limits (terms_at limits s.state.facts.begun) (before_links links s.state.facts) j
+    → RanOver clients limits (terms_at limits s.state.facts.begun)
+    (before_links links s.state.facts) j
     (Unit {0}) ⊥ o o' result
 
 -- no generation was left for a journal in format 2, and nothing was done
@@ -170,7 +180,8 @@ abbrev pub RanDialled : Meaning → Limits → List Dialled → StoreValue → O
 RanDialled clients limits links s o o' result =
     (j : Journal) → FitsWith clients s o.files j
     → RanOver clients limits (terms_of limits j)
-    (first_place (sessions_from (facts j).begun links) (facts j)) j (MayMigrate o.files) (RunSpent o o')
+    (first_place (sessions_from (facts j).begun links) (facts j)) j (MayMigrate o.files)
+    (RunSpent o o')
     o o' result
 
 -- ---- with the dials before it

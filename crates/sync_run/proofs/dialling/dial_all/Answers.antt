@@ -17,7 +17,8 @@ returns-in_err-nonce-clause-dials g c =
     let e = c.in_err-nonce.field-0.0 in
     let o0 = g.H.Disk.tells c.args.host.now in
     let o2 = g.H.Disk.tells c.dial_one.new.host in
-    passed (λ (r : Result (Unit {0}) Failed). DialsAll words c.links.to.items r o0 o2) c.from_residual.result e c.from_residual.ensures.1
+    passed (λ (r : Result (Unit {0}) Failed). DialsAll words c.links.to.items r o0 o2)
+    c.from_residual.result e c.from_residual.ensures.1
     (dial_stops words c.links.to.items i (i + 1) c.words-item.result e o0 (g.H.Disk.tells c.links.host) o2 c.requires.unused c.links.invariant.count refl there within c.links.invariant.dialled c.links.invariant.makes
     (omega (arith, length-take i words, within)) (omega (arith, length-take (i + 1) words, within)) c.in_err-nonce.ensures.makes)
 

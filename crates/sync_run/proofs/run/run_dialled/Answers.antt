@@ -2,7 +2,8 @@ use Rattle.std.proofs.Common.{ap, arith, ◌∙◌, Err}
 use Rattle.outside.specs.Links.{Links}
 use Rattle.sync_node.proofs.WorkLaws.{goes_then}
 use Rattle.sync_run.specs.Headline.{LeavesFilesAtRest}
-use Rattle.sync_run.proofs.CauseLaws.{caused_settled}
+use Rattle.sync_run.specs.Causes.{RunCaused}
+use Rattle.sync_run.proofs.CauseLaws.{caused_settled, unsettled_caused}
 use Rattle.sync_run.proofs.RestLaws.{rests_stays}
 use Rattle.sync_run.proofs.RunActs.{passed, settled_ran, settling_stopped}
 use Rattle.sync_run.proofs.WordLaws.{goes_settled, may_settled, settles_only}
@@ -24,47 +25,62 @@ run_settled-requires-clause-each g c =
 
 pub run_settled-requires-clause-sessions : goal.run_settled-requires-clause-sessions
 run_settled-requires-clause-sessions g c =
-    omega (arith, (settles_only _ _ _ _ _ _ c.migrate_and_settle.ensures.settled).begun, c.requires.sessions)
+    omega (
+      arith,
+      (settles_only _ _ _ _ _ _ c.migrate_and_settle.ensures.settled).begun,
+      c.requires.sessions,
+    )
 
 pub run_settled-requires-clause-dialled : goal.run_settled-requires-clause-dialled
 run_settled-requires-clause-dialled g c =
-    omega (arith, ap (λ (l : Links). l.dialled) c.migrate_and_settle.ensures.run.same_links, c.requires.dialled)
+    omega (
+      arith,
+      ap (λ (l : Links). l.dialled) c.migrate_and_settle.ensures.run.same_links,
+      c.requires.dialled,
+    )
 
--- ---- it was not settled
+-- it was not settled
+pub returns-in_err-migrate_and_settle : goal.returns-in_err-migrate_and_settle
+returns-in_err-migrate_and_settle g c =
+    let old = g.H.Disk.tells c.args.host.now in
+    let new = g.H.Disk.tells c.migrate_and_settle.new.disk in
+    let r = c.from_residual.result in
+    let e = c.in_err-migrate_and_settle.field-0.0 in
+    let is = c.from_residual.ensures.1 in
+    let settle = c.migrate_and_settle.ensures in
+    record {
+      goes = goes_settled _ _ _ _ _ _ c.requires.ready settle.run settle.settled;
+      rests =
+          passed (LeavesFilesAtRest new.files) r e is
+          (rests_stays _ _ _ e c.in_err-migrate_and_settle.ensures.stays);
+      caused =
+          passed (RunCaused old new) r e is
+          (unsettled_caused old new e c.in_err-migrate_and_settle.ensures.by);
+      ran =
+          settling_stopped _ c.args.limits c.args.links.now _ _ _ _ settle.run r e is
+          c.requires.ready.fits
+          c.in_err-migrate_and_settle.ensures.settled
+          (λ full.
+          ap g.H.Disk.tells (c.in_err-migrate_and_settle.ensures.untouched
+          (ap (λ e. Err e) full)));
+    }
 
-pub returns-in_err-migrate_and_settle-clause-goes : goal.returns-in_err-migrate_and_settle-clause-goes
-returns-in_err-migrate_and_settle-clause-goes g c =
-    goes_settled _ _ _ _ _ _ c.requires.ready c.migrate_and_settle.ensures.run
-    c.migrate_and_settle.ensures.settled
-
-pub returns-in_err-migrate_and_settle-clause-rests : goal.returns-in_err-migrate_and_settle-clause-rests
-returns-in_err-migrate_and_settle-clause-rests g c =
-    passed (LeavesFilesAtRest (g.H.Disk.tells c.migrate_and_settle.new.disk).files) c.from_residual.result
-    c.in_err-migrate_and_settle.field-0.0 c.from_residual.ensures.1
-    (rests_stays _ _ _ c.in_err-migrate_and_settle.field-0.0 c.in_err-migrate_and_settle.ensures.stays)
-
-pub returns-in_err-migrate_and_settle-clause-ran : goal.returns-in_err-migrate_and_settle-clause-ran
-returns-in_err-migrate_and_settle-clause-ran g c =
-    settling_stopped _ c.args.limits c.args.links.now _ _ _ _ c.migrate_and_settle.ensures.run
-    c.from_residual.result c.in_err-migrate_and_settle.field-0.0 c.from_residual.ensures.1
-    c.requires.ready.fits c.in_err-migrate_and_settle.ensures.settled
-    (λ full. ap g.H.Disk.tells (c.in_err-migrate_and_settle.ensures.untouched (ap (λ e. Err e) full)))
-
--- ---- the sessions ran
-
-pub returns-clause-goes : goal.returns-clause-goes
-returns-clause-goes g c =
-    goes_then _ _ _ (goes_settled _ _ _ _ _ _ c.requires.ready c.migrate_and_settle.ensures.run
-    c.migrate_and_settle.ensures.settled) c.run_settled.ensures.goes
-
-pub returns-clause-caused : goal.returns-clause-caused
-returns-clause-caused g c =
-    caused_settled (g.H.Disk.tells c.args.host.now) (g.H.Disk.tells c.migrate_and_settle.new.disk)
-    (g.H.Disk.tells c.run_settled.new.host) c.run_settled.result c.migrate_and_settle.ensures.run
-    c.run_settled.ensures.caused
-
-pub returns-clause-ran : goal.returns-clause-ran
-returns-clause-ran g c =
-    settled_ran _ c.args.limits c.args.links.now _ _ _ _ c.migrate_and_settle.ensures.run
-    c.in_ok-migrate_and_settle.field-0 _ c.run_settled.result
-    c.in_ok-migrate_and_settle.ensures.settled c.run_settled.ensures.ran
+-- the sessions ran
+pub returns : goal.returns
+returns g c =
+    let settle = c.migrate_and_settle.ensures in
+    record {
+      goes =
+          goes_then _ _ _ (goes_settled _ _ _ _ _ _ c.requires.ready settle.run settle.settled)
+          c.run_settled.ensures.goes;
+      rests = c.run_settled.ensures.rests;
+      caused =
+          caused_settled (g.H.Disk.tells c.args.host.now)
+          (g.H.Disk.tells c.migrate_and_settle.new.disk)
+          (g.H.Disk.tells c.run_settled.new.host) c.run_settled.result settle.run
+          c.run_settled.ensures.caused;
+      ran =
+          settled_ran _ c.args.limits c.args.links.now _ _ _ _ settle.run
+          c.in_ok-migrate_and_settle.field-0 _ c.run_settled.result
+          c.in_ok-migrate_and_settle.ensures.settled c.run_settled.ensures.ran;
+    }

@@ -10,7 +10,8 @@ make_turns-requires-clause-read g c = c.in_ok-attach_all.ensures.went.has_read
 pub returns-in_err-attach_all-clause-stands : goal.returns-in_err-attach_all-clause-stands
 returns-in_err-attach_all-clause-stands g c =
     let old = g.H.Disk.tells c.args.host.now in
-    stands_on _ _ _ c.args.node.now c.args.node.now c.attach_all.new.node old old (g.H.Disk.tells c.attach_all.new.host)
+    stands_on _ _ _ c.args.node.now c.args.node.now c.attach_all.new.node old old
+    (g.H.Disk.tells c.attach_all.new.host)
     (keeps_none c.args.node.now old (is_node_without _ c.requires.none c.requires.first)) _ _
     c.from_residual.result c.in_err-attach_all.field-0.0 c.from_residual.ensures.1
     c.in_err-attach_all.ensures.stands
@@ -25,7 +26,8 @@ returns-in_err-attach_all-clause-stopped g c =
 
 pub returns-clause-stands : goal.returns-clause-stands
 returns-clause-stands g c =
-    stands_then _ c.args.node.now c.attach_all.new.node c.make_turns.new.node (g.H.Disk.tells c.args.host.now)
+    stands_then _ c.args.node.now c.attach_all.new.node c.make_turns.new.node
+    (g.H.Disk.tells c.args.host.now)
     (g.H.Disk.tells c.attach_all.new.host) (g.H.Disk.tells c.make_turns.new.host)
     c.in_ok-attach_all.ensures.stands.goes _ _ c.in_ok-attach_all.ensures.stands.number
     c.make_turns.result c.make_turns.ensures.stands

@@ -3,8 +3,10 @@ use Rattle.outside.specs.Links.{Links}
 use Rattle.sync_node.specs.Going.{specs_of}
 use Rattle.sync_words.specs.declared.outcome.Outcome.TheVariants as outcome
 use Rattle.sync_run.specs.Causes.{IsCaused}
-use Rattle.sync_run.proofs.CourseLinks.{broken_early, links_caused, load_caused, load_comes, refused_caused, refused_comes}
-use Rattle.sync_run.proofs.LeavingLaws.{headline_none, leaves_as, leaves_same, loaded_unfull, told_early}
+use Rattle.sync_run.proofs.CourseLinks.{broken_early, links_caused, load_caused, load_comes}
+use Rattle.sync_run.proofs.CourseLinks.{refused_caused, refused_comes}
+use Rattle.sync_run.proofs.LeavingLaws.{headline_none, leaves_as, leaves_same, loaded_unfull}
+use Rattle.sync_run.proofs.LeavingLaws.{told_early}
 use Rattle.sync_run.proofs.RanLaws.{headline_ran, ran_told}
 use Rattle.sync_run.proofs.RestLaws.{load_rests, rests_ready}
 use Rattle.sync_run.proofs.RunActs.{passed}
@@ -12,7 +14,8 @@ use Rattle.sync_run.proofs.WordLaws.{specs_disk, specs_kept}
 use Rattle.sync_run.proofs.run.sync_links.Goals as goal
 
 pub run_links-ended-requires-clause-unused : goal.run_links-ended-requires-clause-unused
-run_links-ended-requires-clause-unused g c = ap (λ (l : Links). l.dialled) c.load_store.ensures.run.same_links ∙ c.requires.unused
+run_links-ended-requires-clause-unused g c =
+    ap (λ (l : Links). l.dialled) c.load_store.ensures.run.same_links ∙ c.requires.unused
 
 pub run_links-ended-requires-clause-ready : goal.run_links-ended-requires-clause-ready
 run_links-ended-requires-clause-ready g c = c.in_ok-store.ensures.opened.ready
@@ -26,12 +29,16 @@ returns-in_err-store g c =
     let load = c.load_store.ensures in
     let e = c.in_err-store.field-0.0 in
     record {
-      headline = headline_none _ words old new c.requires.unused load.run (λ two told. (load.rests two told).moments) load.reads;
+      headline = headline_none _ words old new c.requires.unused load.run (λ two told.
+          (load.rests two told).moments) load.reads;
       told = λ two told.
-          told_early _ c.args.limits words two old new told load.run (load.rests two told).moments load.reads
-          c.from_residual.result e c.from_residual.ensures.1 (loaded_unfull old new e c.in_err-store.ensures.by)
+          told_early _ c.args.limits words two old new told load.run (load.rests two told).moments
+          load.reads
+          c.from_residual.result e c.from_residual.ensures.1
+          (loaded_unfull old new e c.in_err-store.ensures.by)
           (load_rests _ _ e c.in_err-store.ensures.settled)
-          (load_comes _ c.args.limits words two old new c.requires.unused told load.run.same_links load.reads e
+          (load_comes _ c.args.limits words two old new c.requires.unused told load.run.same_links
+          load.reads e
           c.in_err-store.ensures.by (c.in_err-store.ensures.loaded two told));
       specs = specs_disk words old new c.requires.unused load.run;
       caused =
@@ -51,16 +58,20 @@ returns-in_err-test_words g c =
     let why = c.in_err-test_words.field-0.0 in
     let tested = c.in_err-test_words.ensures.tested in
     record {
-      headline = headline_none _ words old new c.requires.unused load.run (λ two told. (load.rests two told).moments) load.reads;
+      headline = headline_none _ words old new c.requires.unused load.run (λ two told.
+          (load.rests two told).moments) load.reads;
       told = λ two told.
-          told_early _ c.args.limits words two old new told load.run (load.rests two told).moments load.reads result
+          told_early _ c.args.limits words two old new told load.run (load.rests two told).moments
+          load.reads result
           (outcome.Refused why) c.from_residual-in_err-test_words.ensures.1 (λ same. cc)
           (rests_ready _ _ _ c.in_ok-store.ensures.opened.ready)
-          (refused_comes _ c.args.limits words two old new c.requires.unused told load.run.same_links load.reads _
+          (refused_comes _ c.args.limits words two old new c.requires.unused told
+          load.run.same_links load.reads _
           (c.in_ok-store.ensures.loaded two told) why tested);
       specs = specs_disk words old new c.requires.unused load.run;
       caused =
-          passed (IsCaused words old new) result (outcome.Refused why) c.from_residual-in_err-test_words.ensures.1
+          passed (IsCaused words old new) result (outcome.Refused why)
+          c.from_residual-in_err-test_words.ensures.1
           (refused_caused c.in_ok-store.store.state.facts words old new why tested);
       leaves = leaves_same words old new result load.run.same_links;
     }
@@ -74,14 +85,18 @@ returns-in_err-dialled g c =
     let load = c.load_store.ensures in
     let result = c.from_residual-in_err-dialled.result in
     record {
-      headline = headline_none _ words old new c.requires.unused load.run (λ two told. (load.rests two told).moments) load.reads;
+      headline = headline_none _ words old new c.requires.unused load.run (λ two told.
+          (load.rests two told).moments) load.reads;
       told = λ two told.
-          told_early _ c.args.limits words two old new told load.run (load.rests two told).moments load.reads result
+          told_early _ c.args.limits words two old new told load.run (load.rests two told).moments
+          load.reads result
           outcome.Memory c.from_residual-in_err-dialled.ensures.1 (λ same. cc)
           (rests_ready _ _ _ c.in_ok-store.ensures.opened.ready)
-          (broken_early _ c.args.limits words two old new c.requires.unused told load.run.same_links load.reads);
+          (broken_early _ c.args.limits words two old new c.requires.unused told load.run.same_links
+          load.reads);
       specs = specs_disk words old new c.requires.unused load.run;
-      caused = passed (IsCaused words old new) result outcome.Memory c.from_residual-in_err-dialled.ensures.1 tt;
+      caused = passed (IsCaused words old new) result outcome.Memory
+          c.from_residual-in_err-dialled.ensures.1 tt;
       leaves = leaves_same words old new result load.run.same_links;
     }
 
@@ -98,17 +113,22 @@ returns g c =
     let ran = c.run_links-ended.ensures in
     record {
       headline = λ two told.
-          headline_ran _ c.args.limits words _ old loaded ended new c.requires.unused load.run load.reads c.hang_up_all.ensures
+          headline_ran _ c.args.limits words _ old loaded ended new c.requires.unused load.run
+          load.reads c.hang_up_all.ensures
           two told (load.rests two told).moments (c.in_ok-store.ensures.loaded two told)
-          c.in_ok-store.ensures.opened.ready.fits _ ran.ran c.moments_stand.ensures c.batches_suit_as_planned.ensures;
+          c.in_ok-store.ensures.opened.ready.fits _ ran.ran c.moments_stand.ensures
+          c.batches_suit_as_planned.ensures;
       told = λ two told.
-          ran_told _ c.args.limits words _ old loaded ended new c.requires.unused load.run load.reads c.hang_up_all.ensures two
+          ran_told _ c.args.limits words _ old loaded ended new c.requires.unused load.run
+          load.reads c.hang_up_all.ensures two
           told (load.rests two told).moments (c.in_ok-store.ensures.loaded two told)
-          c.in_ok-store.ensures.opened.ready.fits _ ran.ran ran.rests c.in_ok-test_words.ensures.tested
+          c.in_ok-store.ensures.opened.ready.fits _ ran.ran ran.rests
+          c.in_ok-test_words.ensures.tested
           c.all_is_sent.ensures.whole c.all_is_sent.ensures.full c.runs_end_quiet.ensures;
       specs = specs_kept words ended new (ap (λ (l : Links). specs_of l.told) same) ran.links.specs;
       caused =
           links_caused words old loaded ended new load.run same c.hang_up_all.ensures.same_faults
           c.run_links-ended.result ran.links.caused;
-      leaves = leaves_as words old loaded ended new c.run_links-ended.result load.run.same_links same ran.links.leaves;
+      leaves = leaves_as words old loaded ended new c.run_links-ended.result load.run.same_links
+          same ran.links.leaves;
     }

@@ -54,8 +54,10 @@ pub returns-in_err-attach-clause-stands : goal.returns-in_err-attach-clause-stan
 returns-in_err-attach-clause-stands g c =
     let l = c.links.invariant in
     let e = c.in_err-attach.ensures in
-    stands_stopped (Unit {0}) _ _ c.args.node.now c.links.node c.attach.new.self (g.H.Disk.tells c.args.host.now)
-    (g.H.Disk.tells c.links.host) (g.H.Disk.tells c.attach.new.host) l.keeps _ c.from_residual.result
+    stands_stopped (Unit {0}) _ _ c.args.node.now c.links.node c.attach.new.self
+    (g.H.Disk.tells c.args.host.now)
+    (g.H.Disk.tells c.links.host) (g.H.Disk.tells c.attach.new.host) l.keeps _
+    c.from_residual.result
     c.in_err-attach.field-0.0 c.from_residual.ensures.1 e.goes (e.answers.opened l.still_open) e.may
     (attach_stops (Unit {0}) _ _ c.links.node c.attach.new.self c.links.host c.attach.new.host
     (g.H.Disk.tells c.links.host) (g.H.Disk.tells c.attach.new.host) c.in_err-attach.field-0.0 (e.stops l.still_open))

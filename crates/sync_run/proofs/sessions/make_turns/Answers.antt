@@ -53,7 +53,8 @@ pub returns-in_err-turn-clause-stands : goal.returns-in_err-turn-clause-stands
 returns-in_err-turn-clause-stands g c =
     let l = c.turns.invariant in
     let e = c.in_err-turn.ensures in
-    stands_stopped Turned _ _ c.args.node.now c.turns.node c.turn.new.self (g.H.Disk.tells c.args.host.now)
+    stands_stopped Turned _ _ c.args.node.now c.turns.node c.turn.new.self
+    (g.H.Disk.tells c.args.host.now)
     (g.H.Disk.tells c.turns.host) (g.H.Disk.tells c.turn.new.host) l.keeps _ c.from_residual.result
     c.in_err-turn.field-0.0 c.from_residual.ensures.1 e.goes (e.answers.opened l.still_open) e.may
     (e.stops l.still_open)
@@ -90,7 +91,8 @@ returns-then-is_over-clause-went g c =
     (still_behind c.in_ok-turn.field-0 c.turns.still c.match-branch-2.still branch) refl
     (c.in_ok-turn.ensures.went l.still_open) in
     turns_end _ c.args.limits c.args.node.now.first _ _ _ _ _ _ _ _ so true
-    (sym c.if-is_over.true ∙ over_asked _ _ c.args.limits.quiet _ _ (asked_among c.turn.new.self.links)
+    (sym c.if-is_over.true
+    ∙ over_asked _ _ c.args.limits.quiet _ _ (asked_among c.turn.new.self.links)
     c.is_over.ensures c.from.ensures c.asked.ensures) refl
 
 pub returns-clause-stands : goal.returns-clause-stands
