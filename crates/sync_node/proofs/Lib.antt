@@ -1,8 +1,7 @@
 mod Fronts
-mod SuitLaws
-mod SafeLaws
+pub mod SafeLaws
 mod CommitLaws
-mod WorkLaws
+pub mod WorkLaws
 mod OutLaws
 mod TakeLaws
 mod StartLaws
@@ -13,7 +12,6 @@ mod CauseLaws
 mod KeepLaws
 mod TurnKeeps
 mod CallLaws
-mod BeginLaws
 mod AddLaws
 pub mod SentLaws
 mod CourseTakes

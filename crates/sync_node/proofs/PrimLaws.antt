@@ -34,7 +34,7 @@ use Rattle.sync_node.proofs.SafeLaws.{goes_led, goes_link, specs_told}
 -- ---- batches that were committed
 
 -- a moment between two of some batches
-at_batch : (clients : Meaning) (may j : Journal) (P : Journal → Type 0) (links : Links)
+pub at_batch : (clients : Meaning) (may j : Journal) (P : Journal → Type 0) (links : Links)
     (m : Moment) → ((whole : Journal) → P whole → IsBetween j may whole)
     → JournalMoment clients P (sent_of links.told) m
     → AtFront clients (commit_acts may) j (sent_on links) m
