@@ -1,5 +1,5 @@
 -- A batch that is added beside the sessions.
-use Rattle.std.proofs.Common.{◌≡◌, ◌≢◌, ℕ, Bool, false, List, [], ◌∷◌, ◌++◌, refl, sym, ap, ◌∙◌, subst, inl, inr, arith, Some, Result, append-nil}
+use Rattle.std.proofs.Common.{◌≡◌, ◌≢◌, ℕ, false, List, [], ◌∷◌, ◌++◌, refl, sym, ap, ◌∙◌, subst, inl, inr, arith, Some, Result, append-nil}
 use Rattle.outside.specs.Files.{Two, File}
 use Rattle.outside.specs.Links.{sent_of}
 use Rattle.outside.specs.Outside.{Outside}
@@ -9,7 +9,7 @@ use Rattle.sync_rules.specs.declared.entries.Entry.TheVariants as entry
 use Rattle.sync_rules.specs.Allows.{is_account_kind, is_settling_kind}
 use Rattle.sync_rules.specs.Clients.{Meaning}
 use Rattle.sync_rules.specs.Facts.{Facts, after_all, after_batches, facts, session_at}
-use Rattle.sync_rules.specs.Legal.{Allowed, AllSettling}
+use Rattle.sync_rules.specs.Legal.{AllSettling}
 use Rattle.sync_rules.proofs.StepKinds.{all_settling_only}
 use Rattle.sync_store.specs.Store.{StoreValue}
 use Rattle.sync_store.specs.Fitting.{FitsFiles}
@@ -19,7 +19,7 @@ use Rattle.sync_store.specs.declared.fault.StoreFault.{StoreFault}
 use Rattle.sync_node.specs.declared.link.Link.{Link}
 use Rattle.sync_node.specs.Adding.{AddsAtMost, IsPlain}
 use Rattle.sync_node.specs.Batches.{Added}
-use Rattle.sync_node.specs.Node.{AreAttached, MayGoOn, NodeValue}
+use Rattle.sync_node.specs.Node.{AreAttached, MayGoOn}
 use Rattle.sync_node.specs.Output.{Journal}
 use Rattle.sync_node.proofs.CommitLaws.{settling_front}
 

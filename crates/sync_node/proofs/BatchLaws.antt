@@ -18,7 +18,6 @@ use Rattle.sync_store.specs.declared.fault.StoreFault.{StoreFault}
 use Rattle.sync_store.specs.declared.fault.StoreFault.TheVariants as store_fault
 use Rattle.sync_course.specs.Acts.{commit_acts}
 use Rattle.sync_node.specs.Batches.{Added, AddingBreaks, AddingFull, CommitsAndSettles, Breaks, Committed, HasNoRoom, Settled, SettlesBy, SettlingBreaks, NodeStaysIdle}
-use Rattle.sync_node.specs.Courses.{ReadsFront}
 use Rattle.sync_node.specs.Did.{Did}
 use Rattle.sync_node.specs.Output.{Journal}
 use Rattle.sync_node.proofs.CourseLaws.{at_most_between, told_as}
@@ -146,7 +145,8 @@ module _ (clients : Meaning) (batch : List Entry) (s s' : StoreValue)
     adds = has.adds;
     breaks =
         did_breaks clients s s' has.more o o' (λ j whole. IsBetween j has.more whole)
-        (λ j whole. whole ≡ j ++ has.more) ready.fits has.runs.run has.runs.calls.most has.runs.limit
+        (λ j whole. whole ≡ j ++ has.more) ready.fits has.runs.run has.runs.calls.most
+        has.runs.limit
         has.runs.format (λ j whole between. between) has.runs.leads rose;
   }
 

@@ -1,5 +1,6 @@
 -- What the calls of a node answer and leave, of the work that they hand on.
-use Rattle.std.proofs.Common.{◌≡◌, ℕ, ◌<◌, Bool, true, false, List, length, get_or, set, refl, sym, ap, ◌∙◌, subst, inl, arith, Option, None, Some, Result, Ok, Err}
+use Rattle.std.proofs.Common.{◌≡◌, ℕ, ◌<◌, Bool, true, false, List, length, get_or, set, refl, sym}
+use Rattle.std.proofs.Common.{ap, ◌∙◌, subst, inl, arith, Option, None, Some, Result, Ok, Err}
 use Rattle.std.specs.List.{slice_get}
 use Rattle.std.proofs.lemmas.Option.{slice_get-get_or}
 use Rattle.outside.specs.Outside.{Outside}
@@ -97,7 +98,8 @@ module _ {H : Type 0} (T : Type 0) (clients : Meaning) (n n' : NodeValue) (host 
 pub link_there : (n m : NodeValue) → n ≡ m → (number : ℕ) (l : Link) → number < length m.links
     → l ≡ get_or n.links number l → slice_get n.links number ≡ Some l
 link_there n m is number l within found =
-    let here : number < length n.links = subst (λ (x : NodeValue). number < length x.links) (sym is) within in
+    let here : number < length n.links =
+    subst (λ (x : NodeValue). number < length x.links) (sym is) within in
     slice_get-get_or n.links number l here ∙ ap Some (sym found)
 
 pub node_may : (clients : Meaning) (n m : NodeValue) (o : Outside) → n ≡ m → MayRun clients m o
@@ -169,7 +171,8 @@ pub record CallWorks {T H : Type 0} (clients : Meaning) (n n' : NodeValue) (host
   pub stops : CallStops clients n' o o' result
 
 module _ {H : Type 0} (T : Type 0) (clients : Meaning) (n n' : NodeValue) (host host' : H)
-    (o o' : Outside) (opened : n.closed ≡ false) (node : IsNode n') (first : n'.first ≡ n.first) where
+    (o o' : Outside) (opened : n.closed ≡ false) (node : IsNode n') (first : n'.first
+    ≡ n.first) where
   pub works_ok : (x : T) → n'.closed ≡ false
       → LinksKeep clients n.links n'.links n.store n'.store o o' None
       → CallWorks {T = T} clients n n' host host' o o' (Ok x)

@@ -1,5 +1,7 @@
 -- Why links stand Failed: one call after another.
-use Rattle.std.proofs.Common.{◌≡◌, ◌≢◌, ◌⊎◌, ℕ, zero, suc, ◌≤◌, Bool, true, false, cond, List, [], ◌∷◌, ◌++◌, length, set, refl, sym, ap, ◌∙◌, subst, inl, inr, arith, Some, Result, Ok, Err}
+use Rattle.std.proofs.Common.{◌≡◌, ◌≢◌, ◌⊎◌, ℕ, zero, suc, ◌≤◌, Bool, true, false, cond, List, []}
+use Rattle.std.proofs.Common.{◌∷◌, ◌++◌, length, set, refl, sym, ap, ◌∙◌, subst, inl, inr, arith}
+use Rattle.std.proofs.Common.{Some, Result, Ok, Err}
 use Rattle.std.specs.List.{slice_get}
 use Rattle.std.proofs.lemmas.Bool.{cases_eq}
 use Rattle.outside.specs.declared.failed.Failed.{Failed}
@@ -195,7 +197,11 @@ links_go_set place links links1 l l' o o1 o2 first here second = record {
                   inr (subst (λ k. CountRose (o.links.faults k) (o2.links.faults k)) (sym same)
                   (rose_before (o.links.faults place) (o1.links.faults place) (o2.links.faults place) (first.goes.links.faults place) rose))
             ]
-        | inr apart ↦ earlier (record { link = stands.link; there = sym (get_other links1 place number l' apart) ∙ stands.there; failed = stands.failed })
+        | inr apart ↦ earlier (record {
+          link = stands.link;
+          there = sym (get_other links1 place number l' apart) ∙ stands.there;
+          failed = stands.failed;
+        })
       ];
 }
 
@@ -220,7 +226,8 @@ pub links_go_push : (number : ℕ) (links links' : List Link) (l : Link) (o o' :
 links_go_push number links links' l o o' last pushed goes cause = record {
   goes = goes;
   cause = λ n stands.
-      elim (get_push_cases links l n stands.link (ap (λ (ls : List Link). slice_get ls n) (sym pushed) ∙ stands.there)) [
+      elim (get_push_cases links l n stands.link
+      (ap (λ (ls : List Link). slice_get ls n) (sym pushed) ∙ stands.there)) [
         | inl here ↦ inl (record { link = stands.link; there = here; failed = stands.failed })
         | inr end ↦
             inr (subst (λ k. CountRose (o.links.faults k) (o'.links.faults k)) (sym (end.0 ∙ last))

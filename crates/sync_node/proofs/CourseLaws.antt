@@ -1,6 +1,6 @@
 -- Laws for callers: what the calls of a store come to, for a course: which batches stand behind a
 -- call, whatever it answers.
-use Rattle.std.proofs.Common.{◌≡◌, false, List, [], ◌∷◌, ◌++◌, append-nil, refl, sym, ◌∙◌, ap, subst, inl, inr, Option, Some, None, is_some, Result}
+use Rattle.std.proofs.Common.{◌≡◌, false, List, [], ◌∷◌, ◌++◌, append-nil, refl, sym, ◌∙◌, ap, subst, inl, inr, Option, Some, None, is_some}
 use Rattle.outside.specs.Files.{Two, File, read_files}
 use Rattle.outside.specs.Links.{sent_of}
 use Rattle.outside.specs.Outside.{LinkCall, MakesAtMost, Outside, Moment}
@@ -10,10 +10,7 @@ use Rattle.sync_rules.specs.Clients.{Meaning}
 use Rattle.entry_codec.specs.Standing.{journal}
 use Rattle.sync_store.specs.Store.{StoreValue}
 use Rattle.sync_store.specs.Fitting.{FitsFiles, FitsSome}
-use Rattle.sync_store.specs.Moments as store_moments
-use Rattle.sync_store.specs.Moments.{IsBetween, LeadsTo, WithAtMost, journal_with}
-use Rattle.sync_store.specs.Settling.{HasSettled}
-use Rattle.sync_store.specs.declared.fault.StoreFault.{StoreFault}
+use Rattle.sync_store.specs.Moments.{IsBetween, LeadsTo, WithAtMost}
 use Rattle.sync_node.specs.Courses.{FitsWith, ReadsFront}
 
 -- files that are told on one side of a call are told on the other

@@ -86,7 +86,8 @@ pub to_come : (place : ℕ) (r : Record) (others : List Item) (heard left : List
     → ClosesBy place r old.end new.end → IsReading heard left new.reader others
     → IsTaking heard left new (items_after r others) new.end
 to_come place r others heard left old new going c reading =
-    by (closes r) (ap (cond (closes r) (link_end.NoVersion place)) (sym going) ∙ end_same place r old.end new.end c)
+    by (closes r) (ap (cond (closes r) (link_end.NoVersion place)) (sym going)
+    ∙ end_same place r old.end new.end c)
   where
     by : (b : Bool) → cond b (link_end.NoVersion place) link_end.Going ≡ new.end
         → IsTaking heard left new (cond b [] others) new.end

@@ -153,7 +153,8 @@ module _ {P : Type 0} (clients : Meaning) (facts_of : P → Facts) (first : ℕ)
       → Went clients (ActStep facts_of first step) p q s s' o o'
       → RunsPath step (FitsWith clients s o.files) (FitsWith clients s' o'.files) p.at q.at o o' []
   runs_of p q s s' o o' went =
-      let way : EventPath step p.at q.at (events_of went.acts) = as_events p q went.acts went.path in
+      let way : EventPath step p.at q.at (events_of went.acts) =
+      as_events p q went.acts went.path in
       record {
         events = way.events;
         path = way.path;

@@ -13,7 +13,7 @@ use Rattle.sync_store.specs.Store.{StoreValue}
 use Rattle.sync_course.specs.Acts.{Does}
 use Rattle.sync_course.specs.Events.{Pass, asked_event}
 use Rattle.sync_course.specs.Links.{is_going, new_items, stands_ended}
-use Rattle.sync_course.specs.LinkTurns.{Asks, Done, Spot, Takes, Waits, answered_spot}
+use Rattle.sync_course.specs.LinkTurns.{Asks, Done, Spot, Waits, answered_spot}
 use Rattle.sync_course.specs.Owing.{adds_to}
 use Rattle.sync_course.specs.Reading.{IsReading}
 use Rattle.sync_course.specs.declared.TheConstants.{PIECE_LEN}
@@ -70,7 +70,8 @@ module _ (clients : Meaning) (n : ℕ) (l : Link) (s : StoreValue) (o o1 : Outsi
       → LinkWent clients n l.session.number (spot_at Asks l heard moved s.state.facts)
       (answered_spot given buf (spot_at Asks l heard moved s.state.facts)) s s o o1
   asked_here given heard moved hears caused =
-      link_asked clients n l.session.number given buf (spot_at Asks l heard moved s.state.facts) s o o1
+      link_asked clients n l.session.number given buf (spot_at Asks l heard moved s.state.facts) s o
+      o1
       refl (going_end l.end going) whole call hears caused
 
   -- nothing came for now
@@ -114,7 +115,9 @@ module _ (clients : Meaning) (n : ℕ) (l : Link) (s : StoreValue) (o o1 : Outsi
         record {
           heard' = heard;
           doing = Waits;
-          has_read = λ still. absurd (ended_not_going (ending l.reader.place l.reader.bytes) (sym is ∙ still));
+          has_read =
+              λ still.
+              absurd (ended_not_going (ending l.reader.place l.reader.bytes) (sym is ∙ still));
           ready = inl refl;
           went =
               subst (λ x. LinkWent clients n l.session.number (spot_at Asks l heard moved s.state.facts)

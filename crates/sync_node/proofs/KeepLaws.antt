@@ -1,5 +1,6 @@
 -- What work leaves, whatever was heard: one piece of it after another.
-use Rattle.std.proofs.Common.{◌≡◌, ℕ, ◌≤◌, List, [], ◌∷◌, refl, sym, ap, ◌∙◌, subst, arith, inl, inr, Option, None, Some, Result, Ok, Err}
+use Rattle.std.proofs.Common.{◌≡◌, ℕ, ◌≤◌, List, [], ◌∷◌, refl, sym, ap, ◌∙◌, subst, arith, inl}
+use Rattle.std.proofs.Common.{inr, Option, None, Some, Result, Ok, Err}
 use Rattle.std.specs.Prelude.{IfErr, IsErrAnd, OnOk}
 use Rattle.outside.specs.Outside.{Outside}
 use Rattle.sync_rules.specs.declared.entries.Entry.{Entry}
@@ -26,7 +27,8 @@ use Rattle.sync_node.specs.Causes.{LinkGoes, PushesOne}
 use Rattle.sync_node.specs.Did.{Did}
 use Rattle.sync_node.specs.Going.{LetsNothingFall}
 use Rattle.sync_node.specs.Output.{Journal}
-use Rattle.sync_node.specs.Keeps.{HasOrStops, IsReadyOrRose, LinkKeeps, StaysSettled, StoreKeeps, stop_of}
+use Rattle.sync_node.specs.Keeps.{HasOrStops, IsReadyOrRose, LinkKeeps, StaysSettled, StoreKeeps}
+use Rattle.sync_node.specs.Keeps.{stop_of}
 use Rattle.sync_node.specs.Working.{HasGivenItems, IsAble, MayWork}
 use Rattle.sync_node.specs.OnRuns.{GreetsBy, IsGreeting}
 use Rattle.sync_node.specs.Sending.{SendsOn}
@@ -199,28 +201,34 @@ pub work_memory : {T : Type 0} {clients : Meaning} {n : ℕ} {l l' : Link} {s : 
     {o : Outside} (r : Result T Fault) → IsErrAnd r (λ y. y ≡ fault.Memory) → LinkGoes n l l' o o
     → IsReady clients s o.files → LinkKeeps clients n l l' s s o o (stop_of r)
 work_memory {clients = clients} {s = s} {o = o} r is goes ready =
-    record { link = goes; store = store_memory (StaysSettled clients s s o) clients s o o r is ready }
+    record {
+      link = goes;
+      store = store_memory (StaysSettled clients s s o) clients s o o r is ready;
+    }
 
 pub work_then : {clients : Meaning} {n : ℕ} {l l1 l2 : Link} {s s1 s2 : StoreValue}
     {o o1 o2 : Outside} {stop : Option Fault} → LinkKeeps clients n l l1 s s1 o o1 None
     → LinkKeeps clients n l1 l2 s1 s2 o1 o2 stop → LinkKeeps clients n l l2 s s2 o o2 stop
-work_then {clients = clients} {s = s} {s1 = s1} {s2 = s2} {o = o} {o1 = o1} {o2 = o2} {stop = stop} first second = record {
-  link = link_then first.link second.link;
-  store = record {
-    same_limit = second.store.same_limit ∙ first.store.same_limit;
-    same_format = second.store.same_format ∙ first.store.same_format;
-    answered =
-        answered_then (StaysSettled clients s1 s2 o2) (StaysSettled clients s s2 o2) clients s2 o
-        o1 o2 stop (settled_then clients s s1 s2 o1 o2 first.store.answered)
-        first.link.goes.later second.store.answered;
-  };
-}
+work_then {clients = clients} {s = s} {s1 = s1} {s2 = s2} {o = o} {o1 = o1} {o2 = o2} {stop =
+    stop} first second = record {
+      link = link_then first.link second.link;
+      store = record {
+        same_limit = second.store.same_limit ∙ first.store.same_limit;
+        same_format = second.store.same_format ∙ first.store.same_format;
+        answered =
+            answered_then (StaysSettled clients s1 s2 o2) (StaysSettled clients s s2 o2) clients s2
+            o
+            o1 o2 stop (settled_then clients s s1 s2 o1 o2 first.store.answered)
+            first.link.goes.later second.store.answered;
+      };
+    }
 
 pub work_was : {T : Type 0} {clients : Meaning} {n : ℕ} {l l' : Link} {s s' : StoreValue}
     {o o' : Outside} (r : Result T Fault) (e : Fault) → IsErrAnd r (λ y. y ≡ e)
     → LinkKeeps clients n l l' s s' o o' (Some e)
     → LinkKeeps clients n l l' s s' o o' (stop_of r)
-work_was {clients = clients} {n = n} {l = l} {l' = l'} {s = s} {s' = s'} {o = o} {o' = o'} r e is keeps =
+work_was {clients = clients} {n = n} {l = l} {l' = l'} {s = s} {s' = s'} {o = o} {o' =
+    o'} r e is keeps =
     was r e (LinkKeeps clients n l l' s s' o o') is keeps
 
 -- what is wanting then is memory

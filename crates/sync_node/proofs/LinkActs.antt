@@ -35,13 +35,16 @@ use Rattle.sync_node.proofs.WentLaws.{commit_stopped, no_memory, stopped_then, w
 -- ---- one behind the other
 
 module _ {clients : Meaning} (n : ℕ) {session : ℕ} where
-  pub link_stays : {p : Spot} {s : StoreValue} {o : Outside} → LinkWent clients n session p p s s o o
-  link_stays {p = p} {s = s} {o = o} = λ first is. went_none clients (LinkActs clients first n) (paid p) s o
+  pub link_stays : {p : Spot} {s : StoreValue} {o : Outside}
+      → LinkWent clients n session p p s s o o
+  link_stays {p = p} {s = s} {o = o} =
+      λ first is. went_none clients (LinkActs clients first n) (paid p) s o
 
   pub link_joins : {p q r : Spot} {s s1 s' : StoreValue} {o o1 o' : Outside}
       → LinkWent clients n session p q s s1 o o1 → LinkWent clients n session q r s1 s' o1 o'
       → LinkWent clients n session p r s s' o o'
-  link_joins {p = p} {q = q} {r = r} {s = s} {s1 = s1} {s' = s'} {o = o} {o1 = o1} {o' = o'} first second = λ k is.
+  link_joins {p = p} {q = q} {r = r} {s = s} {s1 = s1} {s' = s'} {o = o} {o1 = o1} {o' =
+      o'} first second = λ k is.
       went_then clients (LinkActs clients k n) (paid p) (paid q) (paid r) s s1 s' o o1 o'
       (first k is) (second k is)
 
@@ -49,7 +52,8 @@ module _ {clients : Meaning} (n : ℕ) {session : ℕ} where
       (s' : StoreValue) (o' : Outside) (e : Fault) → LinkWent clients n session p q s s1 o o1
       → LinkStopped clients n session q link s1 s' o1 o' e
       → LinkStopped clients n session p link s s' o o' e
-  link_stops_then {p = p} {q = q} {s = s} {s1 = s1} {o = o} {o1 = o1} link s' o' e first second = λ k is.
+  link_stops_then {p = p} {q = q} {s = s} {s1 = s1} {o = o} {o1 = o1} link s' o' e first second =
+      λ k is.
       stopped_then clients (LinkActs clients k n) (λ (x : Owing Spot). x.at.link ≡ link) (paid p)
       (paid q) s s1 s' o o1 o' e (first k is) (second k is)
 

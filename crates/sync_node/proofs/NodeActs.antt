@@ -36,4 +36,5 @@ module _ (clients : Meaning) (first : ℕ) (links lent new kept : List Link) (s 
       → RoundStopped clients first links kept s s' o o' e
   round_stopped_as e is_lent is_kept stopped =
       subst (λ (ls : List Link). RoundStopped clients first ls kept s s' o o' e) is_lent
-      (subst (λ (ls : List Link). RoundStopped clients first lent ls s s' o o' e) (sym is_kept) stopped)
+      (subst (λ (ls : List Link). RoundStopped clients first lent ls s s' o o' e) (sym is_kept)
+      stopped)

@@ -1,5 +1,7 @@
 -- The links of a node: what work on one of them leaves of the others.
-use Rattle.std.proofs.Common.{◌≡◌, ◌≢◌, ◌⊎◌, ℕ, zero, suc, ◌+◌, ◌-◌, ◌≤◌, Bool, true, false, List, [], ◌∷◌, ◌++◌, length, take, drop, set, Ok, Err, append-nil, refl, sym, ap, ◌∙◌, subst, inl, inr, arith, None, Some}
+use Rattle.std.proofs.Common.{◌≡◌, ◌⊎◌, ℕ, zero, suc, ◌+◌, true, List}
+use Rattle.std.proofs.Common.{[], ◌∷◌, ◌++◌, length, take, drop, set, Err, append-nil, refl}
+use Rattle.std.proofs.Common.{sym, ap, ◌∙◌, subst, inl, inr, arith, None, Some}
 use Rattle.std.specs.List.{slice_get}
 use Rattle.std.proofs.lemmas.Bool.{cases_eq}
 use Rattle.std.proofs.lemmas.List.{length-set, take_all}
@@ -14,13 +16,11 @@ use Rattle.sync_node.specs.declared.link.Link.{Link}
 use Rattle.sync_course.specs.declared.ends.LinkEnd.TheVariants as link_end
 use Rattle.sync_course.proofs.LiftLaws.{get_other}
 use Rattle.sync_node.specs.Keeps.{LinkKeeps}
-use Rattle.outside.specs.declared.limits.TheConstants.{LINKS}
 use Rattle.sync_node.specs.declared.fault.Fault.{Fault}
 use Rattle.sync_node.specs.declared.fault.Fault.TheVariants as node_fault
 use Rattle.sync_node.specs.declared.fault.NodeFault.{NodeFault}
-use Rattle.sync_node.specs.declared.fault.NodeFault.TheVariants as fault
 use Rattle.sync_node.specs.Faults.{fault_of}
-use Rattle.sync_node.specs.Node.{AnswersAndCloses, AreAttached, AreSome, IsAttached, IsNode, MayGoOn, MayRun, NodeValue, StaysClosed}
+use Rattle.sync_node.specs.Node.{AnswersAndCloses, AreAttached, IsAttached, MayGoOn, NodeValue}
 use Rattle.sync_node.specs.Redundant.{ClosesSome, StaysOrCloses}
 use Rattle.sync_node.specs.Working.{HasGivenItems, MayWork}
 
@@ -43,7 +43,8 @@ all_attached clients first link links l l' s s' o o' attached here keeps waits =
     let moved : (x : Session) (n : ℕ) → session_at s.state.facts.sessions n ≡ Some x → session_at s'.state.facts.sessions n ≡ Some x =
     λ x n known. ap (λ t. session_at t n) keeps.store.answered.same_sessions ∙ known in
     record {
-      begun = keeps.store.answered.same_begun ∙ (attached.begun ∙ ap (λ n. first + n) (sym (length-set links link l')));
+      begun = keeps.store.answered.same_begun
+          ∙ (attached.begun ∙ ap (λ n. first + n) (sym (length-set links link l')));
       each = λ other x there. elim (cases_eq other link) [
         | inl same ↦
             let is : x ≡ l' = get_set_same links link l' x (subst (λ k. slice_get (set links link l') k ≡ Some x) same there) in

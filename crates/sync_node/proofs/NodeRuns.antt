@@ -45,7 +45,8 @@ module _ (clients : Meaning) (first : ℕ) (links links' : List Link) (s s' : St
       → BreaksTurn clients first links s o o'
   turn_breaks e w = record {
     stops = λ terms heard moved still made same read more.
-        run_breaks clients terms _ _ s s' o o' e (w.stops terms heard moved still made same read more).1;
+        run_breaks clients terms _ _ s s' o o' e
+        (w.stops terms heard moved still made same read more).1;
   }
 
 -- a session that begins

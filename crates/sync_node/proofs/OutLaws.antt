@@ -1,5 +1,6 @@
 -- An output that is committed and sent.
-use Rattle.std.proofs.Common.{◌≡◌, ◌≢◌, ◌⊎◌, ℕ, Bool, cond, nat_eq, eq-eqb, List, [], ◌∷◌, take, sym, ap, ◌∙◌, subst, inl, inr, Result, Ok, Err}
+use Rattle.std.proofs.Common.{◌≡◌, ◌≢◌, ◌⊎◌, ℕ, Bool, cond, nat_eq, eq-eqb, List, [], ◌∷◌, take}
+use Rattle.std.proofs.Common.{sym, ap, ◌∙◌, subst, inl, inr, Result, Ok, Err}
 use Rattle.std.proofs.lemmas.Bool.{cases_eq, ne_eqb}
 use Rattle.outside.specs.declared.failed.Failed.{Failed}
 use Rattle.outside.specs.Outside.{Outside}

@@ -15,7 +15,6 @@ use Rattle.sync_rules.specs.Clients.{Meaning}
 use Rattle.sync_rules.specs.Steps.{IsSettled}
 use Rattle.sync_store.specs.Ready.{IsReady}
 use Rattle.sync_store.specs.Store.{StoreValue}
-use Rattle.sync_course.specs.Acts.{Does}
 use Rattle.sync_course.specs.Events.{Pass}
 use Rattle.sync_course.specs.Links.{items_after, link_after, stands_behind}
 use Rattle.sync_course.specs.LinkTurns.{PassesItem, Spot, Takes, Waits, all_taken_spot}
@@ -23,15 +22,16 @@ use Rattle.sync_course.specs.Reading.{HasRead, IsReading}
 use Rattle.sync_course.specs.declared.ends.LinkEnd.TheVariants as link_end
 use Rattle.sync_course.proofs.CallLaws.{step_at}
 use Rattle.sync_course.proofs.ReadingLaws.{answer_comes, closes_behind_bad, goes_on_behind_more, none_come}
-use Rattle.sync_course.proofs.ToldLaws.{told_pass}
 use Rattle.sync_node.specs.declared.fault.Fault.{Fault}
 use Rattle.sync_node.specs.declared.fault.Fault.TheVariants as fault
 use Rattle.sync_node.specs.declared.link.Link.{Link}
 use Rattle.sync_node.specs.Courses.{IsTaking, link_at, spot_at}
 use Rattle.sync_node.specs.Hearing.{LearnsNonce}
-use Rattle.sync_node.specs.OnLinks.{ItemsStopped, LinkStopped, LinkWent, NextWent, PieceWent, RecordStopped, RecordTaken}
+use Rattle.sync_node.specs.OnLinks.{ItemsStopped, LinkStopped, LinkWent, NextWent, PieceWent}
+use Rattle.sync_node.specs.OnLinks.{RecordStopped, RecordTaken}
 use Rattle.sync_node.proofs.CourseTakes.{closed_behind, learned, not_taking, same_at, to_come}
-use Rattle.sync_node.proofs.LinkActs.{link_joins, link_no_memory, link_pass, link_stays, link_stops_then}
+use Rattle.sync_node.proofs.LinkActs.{link_joins, link_no_memory, link_pass, link_stays}
+use Rattle.sync_node.proofs.LinkActs.{link_stops_then}
 
 -- behind a skipped record, or behind the last item; no call is made
 pub link_passes : (clients : Meaning) (n session : ℕ) (its : List Item) (p q : Spot)
@@ -49,25 +49,42 @@ pub item_one : ReadingsFollow → (clients : Meaning) (n place : ℕ) (r : Recor
     → ReadsOn piece l.reader (item.One place r ∷ []) left mid.reader → LearnsNonce place r mid l'
     → RecordTaken clients l'.session.number r s s' o o'
     → NextWent clients n piece left l l' s s' o o' true
-item_one follow clients n place r piece left l mid l' s s' o o' going same_session same_end same_nonce reads learns takes = record {
-  leads = λ heard its moved reading.
-      let come = answer_comes follow heard piece left l.reader mid.reader its (item.One place r ∷ []) reading reads in
-      let others : List Item = come.0 in
-      let p : Spot = spot_at (Takes its) l heard moved s.state.facts in
-      let same_number : l'.session.number ≡ l.session.number = ap (λ x. x.number) (learns.same_session ∙ same_session) in
-      let runs : LinkWent clients n l'.session.number p
-      (record { doing = Takes (items_after r others); link = link_after place r (link_at l heard); moved = moved; facts = s'.state.facts }) s s' o o' =
-      takes.went n place others p (ap (λ (x : List Item). Takes x) come.1) refl in
-      let whole : link_after place r (link_at l heard) ≡ link_at l' heard =
-      ap (link_after place r) (same_at l mid same_session same_end same_nonce heard) ∙ learned place r mid l' heard learns in (
-        items_after r others,
-        to_come place r others heard left mid l' (same_end ∙ going) learns.end
-            (subst (λ x. IsReading heard left x others) (sym learns.same_reader) come.2),
-        subst (λ (k : ℕ). LinkWent clients n k p (spot_at (Takes (items_after r others)) l' heard moved s'.state.facts) s s' o o') same_number
-            (subst (λ x. LinkWent clients n l'.session.number p
-            (record { doing = Takes (items_after r others); link = x; moved = moved; facts = s'.state.facts }) s s' o o') whole runs),
-      );
-}
+item_one follow clients n place r piece left l mid l' s s' o o' going same_session same_end
+    same_nonce reads learns takes = record {
+      leads = λ heard its moved reading.
+          let come = answer_comes follow heard piece left l.reader mid.reader its
+          (item.One place r ∷ []) reading reads in
+          let others : List Item = come.0 in
+          let p : Spot = spot_at (Takes its) l heard moved s.state.facts in
+          let same_number : l'.session.number ≡ l.session.number =
+          ap (λ x. x.number) (learns.same_session ∙ same_session) in
+          let runs : LinkWent clients n l'.session.number p
+          (record {
+            doing = Takes (items_after r others);
+            link = link_after place r (link_at l heard);
+            moved = moved;
+            facts = s'.state.facts;
+          }) s s' o o' =
+          takes.went n place others p (ap (λ (x : List Item). Takes x) come.1) refl in
+          let whole : link_after place r (link_at l heard) ≡ link_at l' heard =
+          ap (link_after place r) (same_at l mid same_session same_end same_nonce heard)
+          ∙ learned place r mid l' heard learns in (
+            items_after r others,
+            to_come place r others heard left mid l' (same_end ∙ going) learns.end
+                (subst (λ x. IsReading heard left x others) (sym learns.same_reader) come.2),
+            subst (λ (k : ℕ).
+                LinkWent clients n k p
+                (spot_at (Takes (items_after r others)) l' heard moved s'.state.facts) s s' o o')
+                same_number
+                (subst (λ x. LinkWent clients n l'.session.number p
+                (record {
+                  doing = Takes (items_after r others);
+                  link = x;
+                  moved = moved;
+                  facts = s'.state.facts;
+                }) s s' o o') whole runs),
+          );
+    }
 
 pub item_skipped : ReadingsFollow → (clients : Meaning) (n place type_byte len : ℕ)
     (piece left : List ℕ) (l l' : Link) (s : StoreValue) (o : Outside)

@@ -1,5 +1,5 @@
 -- The turns of all links, and a whole turn, as paths of a run's acts.
-use Rattle.std.proofs.Common.{◌≡◌, ℕ, suc, ◌+◌, ◌<◌, Bool, true, false, cond, ◌&&◌, List, [], length, refl, sym, ◌∙◌, ap, subst, inl, inr, arith, Some}
+use Rattle.std.proofs.Common.{◌≡◌, ℕ, suc, ◌+◌, ◌<◌, Bool, true, false, cond, ◌&&◌, List, length, refl, sym, ◌∙◌, ap, subst, inl, inr, arith, Some}
 use Rattle.std.specs.Prelude.{nat_lt, not, slice_get, slice_set}
 use Rattle.outside.specs.Outside.{Outside}
 use Rattle.sync_rules.specs.Clients.{Meaning}
@@ -13,7 +13,7 @@ use Rattle.sync_course.specs.LinkTurns.{Asks, Doing, Done, Sends, Spot}
 use Rattle.sync_course.specs.Owing.{Owing, paid}
 use Rattle.sync_course.specs.Paths.{Path}
 use Rattle.sync_course.specs.declared.TheConstants.{MAX_OUTPUTS}
-use Rattle.sync_course.specs.Turns.{Between, Place, RunStep, Terms, Works, is_at_end, turn_ended, with_spot}
+use Rattle.sync_course.specs.Turns.{Between, Place, RunStep, Terms, Works, is_at_end, with_spot}
 use Rattle.sync_course.proofs.LiftLaws.{begin_step, end_step, get_set, get_within, lifted_step, next_step}
 use Rattle.sync_course.proofs.PathLaws.{path_maps}
 use Rattle.sync_course.proofs.ToldLaws.{told_pass}
@@ -133,8 +133,10 @@ module _ {clients : Meaning} (terms : Terms) where
   run_joins : {p q r : Place} {s s1 s' : StoreValue} {o o1 o' : Outside}
       → RunWent clients terms p q s s1 o o1 → RunWent clients terms q r s1 s' o1 o'
       → RunWent clients terms p r s s' o o'
-  run_joins {p = p} {q = q} {r = r} {s = s} {s1 = s1} {s' = s'} {o = o} {o1 = o1} {o' = o'} first second =
-      went_then clients (RunActs clients terms) (paid p) (paid q) (paid r) s s1 s' o o1 o' first second
+  run_joins {p = p} {q = q} {r = r} {s = s} {s1 = s1} {s' = s'} {o = o} {o1 = o1} {o' =
+      o'} first second =
+      went_then clients (RunActs clients terms) (paid p) (paid q) (paid r) s s1 s' o o1 o' first
+      second
 
   run_stops_then : {p q : Place} {s s1 : StoreValue} {o o1 : Outside}
       (links : List course_links.Link) (s' : StoreValue) (o' : Outside) (e : Fault)
@@ -158,20 +160,25 @@ module _ (clients : Meaning) (first n : ℕ) (links : List Link) (l : Link) (s :
 
     link_path : (doing doing' : Doing) (l' : Link) (f : Facts) (bytes : List ℕ) (moved' : Bool)
         (acts : List Act)
-        → Path (LinkActs clients terms.first n) (paid (spot_at doing l (heard n) moved s.state.facts))
+        → Path (LinkActs clients terms.first n)
+        (paid (spot_at doing l (heard n) moved s.state.facts))
         acts (paid (spot_at doing' l' bytes moved' f))
         → Path (RunActs clients terms)
         (paid (place_at (Works n doing) links heard moved still made s.state.facts)) acts
-        (paid (place_at (Works n doing') (slice_set links n l') (heard_with n bytes heard) moved' still made f))
+        (paid (place_at (Works n doing') (slice_set links n l') (heard_with n bytes heard) moved'
+        still made f))
     link_path doing doing' l' f bytes moved' acts path =
         let place : Place = place_at (Works n doing) links heard moved still made s.state.facts in
         let p : Spot = spot_at doing l (heard n) moved s.state.facts in
         let q : Spot = spot_at doing' l' bytes moved' f in
         subst (λ (x : Place). Path (RunActs clients terms) (paid x) acts
-        (paid (place_at (Works n doing') (slice_set links n l') (heard_with n bytes heard) moved' still made f)))
+        (paid (place_at (Works n doing') (slice_set links n l') (heard_with n bytes heard) moved'
+        still made f)))
         (start_here clients first n links l s o at numbered terms same heard moved still made doing)
-        (subst (λ (x : Place). Path (RunActs clients terms) (paid (with_spot n p place)) acts (paid x))
-        (end_there clients first n links l s o at numbered terms same heard moved still made doing doing' l' f bytes moved')
+        (subst (λ (x : Place).
+        Path (RunActs clients terms) (paid (with_spot n p place)) acts (paid x))
+        (end_there clients first n links l s o at numbered terms same heard moved still made doing
+        doing' l' f bytes moved')
         (lift_path clients terms n place (link_within doing) (paid p) (paid q) acts path))
 
     pub link_goes : (doing doing' : Doing) (l' : Link) (s' : StoreValue) (o' : Outside)
@@ -181,7 +188,9 @@ module _ (clients : Meaning) (first n : ℕ) (links : List Link) (l : Link) (s :
         → RunWent clients terms (place_at (Works n doing) links heard moved still made s.state.facts)
         (place_at (Works n doing') (slice_set links n l') (heard_with n bytes heard) moved' still made s'.state.facts) s s' o o'
     link_goes doing doing' l' s' o' bytes moved' goes =
-        let went = goes terms.first (in_terms clients first n links l s o at numbered terms same heard moved still made) in
+        let went =
+        goes terms.first (in_terms clients first n links l s o at numbered terms same heard
+        moved still made) in
         record {
           acts = went.acts;
           path = link_path doing doing' l' s'.state.facts bytes moved' went.acts went.path;
@@ -346,7 +355,9 @@ round_went clients first n links mid links' s s' o o' quiet all turns closes exa
         has_read = closed_read mid links' so.heard' closes so.has_read;
         went =
             run_joins terms (round_begun clients terms links s o heard moved still made on)
-            (run_joins terms so.went (round_closed clients n mid links' s' o' all exact terms so.heard' still made quiet));
+            (run_joins terms so.went
+            (round_closed clients n mid links' s' o' all exact terms so.heard' still made
+            quiet));
       };
 }
 

@@ -1,5 +1,6 @@
 -- What calls let fall: nothing, whether they are of the disk, of a store or of a link.
-use Rattle.std.proofs.Common.{◌≡◌, ℕ, zero, suc, ◌≤◌, List, [], ◌∷◌, map, refl, ap, arith, Option, Some, None, is_some}
+use Rattle.std.proofs.Common.{◌≡◌, ℕ, zero, suc, ◌≤◌, List, [], ◌∷◌, map, refl, ap, arith, Option}
+use Rattle.std.proofs.Common.{Some, None, is_some}
 use Rattle.std.specs.Option.{option_map}
 use Rattle.outside.specs.Files.{Two, File}
 use Rattle.outside.specs.Links.{ToldLink, Links, with_sent}

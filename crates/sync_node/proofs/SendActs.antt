@@ -1,7 +1,7 @@
 -- Outputs that are committed and sent, as steps of a link's turn.
 use Rattle.std.proofs.Common.{◌≡◌, ◌≢◌, ◌⊎◌, ℕ, zero, suc, ◌+◌, ◌<◌, ◌≤◌, Bool, true, false, cond, nat_eq, eq-eqb, List, [], ◌∷◌, ◌++◌, append-nil, length, length-append, refl, sym, ◌∙◌, ap, subst, inl, inr, arith, Result, Ok, Err}
 use Rattle.std.specs.Prelude.{nat_lt}
-use Rattle.std.proofs.lemmas.Bool.{cases_eq, false≢true, lt-ltb, ne_eqb}
+use Rattle.std.proofs.lemmas.Bool.{false≢true, lt-ltb, ne_eqb}
 use Rattle.entry_codec.specs.Standing.{room_of}
 use Rattle.outside.specs.declared.failed.Failed.{Failed}
 use Rattle.outside.specs.declared.limits.TheConstants.{MAX_JOURNAL}
@@ -39,12 +39,13 @@ use Rattle.sync_node.specs.Batches.{CommitStops, Committed}
 use Rattle.sync_node.specs.Courses.{IsReadyToSend, link_at, spot_at}
 use Rattle.sync_node.specs.Did.{Did}
 use Rattle.sync_node.specs.Ends.{MaySend}
-use Rattle.sync_node.specs.OnLinks.{DueStopped, DueWent, LinkActs, LinkMakes, LinkStopped, LinkWent, OutsMadeTo, OutsWent, PutStopped, PutTo, PutWent, SendingStopped, SendingWent}
+use Rattle.sync_node.specs.OnLinks.{DueStopped, DueWent, LinkActs, LinkMakes, LinkStopped, LinkWent, OutsWent, PutStopped, PutTo, PutWent, SendingStopped, SendingWent}
 use Rattle.sync_node.specs.Output.{Journal}
 use Rattle.sync_node.specs.Sending.{EndsBy, SendsOn}
 use Rattle.sync_node.proofs.CourseTurns.{end_then, may_end, may_not_end, sends_yet}
 use Rattle.sync_node.proofs.DidLaws.{did_none, did_then}
-use Rattle.sync_node.proofs.LinkActs.{link_does, link_joins, link_no_memory, link_pass, link_stays, link_stops_then}
+use Rattle.sync_node.proofs.LinkActs.{link_does, link_joins, link_no_memory, link_pass, link_stays}
+use Rattle.sync_node.proofs.LinkActs.{link_stops_then}
 use Rattle.sync_node.proofs.OutLaws.{all_paid}
 use Rattle.sync_node.proofs.PrimLaws.{did_fail, did_pass, did_quiet, did_send}
 use Rattle.sync_node.proofs.WentLaws.{commit_stopped}
@@ -66,7 +67,8 @@ module _ {clients : Meaning} (n : ℕ) {session : ℕ} where
   makes_joins : {p q r : Spot} {s s1 s' : StoreValue} {o o1 o' : Outside} {a b c : ℕ} → a + b ≡ c
       → LinkMakes clients n session p q s s1 o o1 a → LinkMakes clients n session q r s1 s' o1 o' b
       → LinkMakes clients n session p r s s' o o' c
-  makes_joins {p = p} {q = q} {r = r} {s = s} {s1 = s1} {s' = s'} {o = o} {o1 = o1} {o' = o'} {a = a} all first second = λ k is.
+  makes_joins {p = p} {q = q} {r = r} {s = s} {s1 = s1} {s' = s'} {o = o} {o1 = o1} {o' = o'} {a =
+      a} all first second = λ k is.
       let one = first k is in
       let two = second k is in
       record {
@@ -242,7 +244,11 @@ module _ (clients : Meaning) (n now : ℕ) (what : Out) (l : Link) (s : StoreVal
           (subst (λ (f : Facts). LinkMakes clients n l.session.number (due_at heard moved room) (spot_at Done (record l { end = link_end.Failed }) heard true f) s s1 o o' 1) facts_are
           (puts_by (Fail n bytes went.sent.0) (failed_spot (put_at heard moved room)) heard moved room refl
           (did_fail stand clients n bytes s1 o1 o' roomy within sends.call why went)
-          (λ first at. (front_same _ _ (sym (owed_bytes first at)), (refl, refl), out_paid first at))));
+          (λ first at. (
+            front_same _ _ (sym (owed_bytes first at)),
+            (refl, refl),
+            out_paid first at,
+          ))));
     }
 
     pub put_went : PutWent clients n now l l' s s1 o o'
@@ -310,7 +316,8 @@ module _ (clients : Meaning) (n now made : ℕ) (l m : Link) (s s1 : StoreValue)
       (λ is. by_room first.room first.rest
       (subst (λ d. LinkMakes clients n l.session.number
       (spot_at (Sends now MAX_OUTPUTS) l heard moved s.state.facts)
-      (spot_at d m heard (cond (nat_lt 0 made) true moved) s1.state.facts) s s1 o o1 made) is first.makes))
+      (spot_at d m heard (cond (nat_lt 0 made) true moved) s1.state.facts) s s1 o o1 made) is
+      first.makes))
     where
       by_room : (room : ℕ) → room + made ≡ MAX_OUTPUTS
           → LinkMakes clients n l.session.number
@@ -361,7 +368,8 @@ module _ (clients : Meaning) (n now made : ℕ) (l m : Link) (s s1 : StoreValue)
         let moved1 : Bool = cond (nat_lt 0 made) true moved in
         let mid : Spot = spot_at (Sends now (suc first.room)) m heard moved1 s1.state.facts in
         link_stops_then n (link_at l' heard) s' o' e (makes_went n first.makes)
-        (subst (λ (x : Session). LinkStopped clients n x.number mid (link_at l' heard) s1 s' o1 o' e)
+        (subst (λ (x : Session).
+        LinkStopped clients n x.number mid (link_at l' heard) s1 s' o1 o' e)
         a.same_session (b.stops heard moved1 first.room));
   }
 
@@ -380,13 +388,15 @@ due_end clients n now made l m s s1 o o1 a enough = record {
             let all : made + 0 ≡ made = omega arith in
             let mid : Spot = record q { doing = Sends now first.room } in
             makes_joins n all
-            (subst (λ d. LinkMakes clients n l.session.number p (record q { doing = d }) s s1 o o1 made)
+            (subst (λ d. LinkMakes clients n l.session.number p (record q { doing = d }) s s1 o o1
+            made)
             sends.0 first.makes)
             (makes_sent clients n l.session.number now first.room mid s1 o1 refl
             (subst (λ (x : Session). IsEnough clients s1.state.facts x.number now first.room)
             a.same_session (enough sends.1 first.room first.rest)))
         | inr done ↦
-            subst (λ d. LinkMakes clients n l.session.number p (record q { doing = d }) s s1 o o1 made)
+            subst (λ d. LinkMakes clients n l.session.number p (record q { doing = d }) s s1 o o1
+            made)
             done.0 first.makes
       ];
   same_reader = a.same_reader;

@@ -1,7 +1,7 @@
 -- A session that begins on the next link, as acts of a run.
 use Rattle.std.proofs.Common.{◌≡◌, ◌≢◌, ◌⊎◌, ℕ, ◌+◌, ◌<◌, ◌≤◌, Bool, cond, nat_eq, eq-eqb, List, [], ◌∷◌, ◌++◌, append-nil, length, refl, sym, ◌∙◌, ap, subst, inl, inr, arith, Some, Result, Ok, Err}
 use Rattle.std.specs.Prelude.{slice_get}
-use Rattle.std.proofs.lemmas.Bool.{cases_eq, ne_eqb}
+use Rattle.std.proofs.lemmas.Bool.{ne_eqb}
 use Rattle.entry_codec.specs.Standing.{room_of}
 use Rattle.outside.specs.declared.failed.Failed.{Failed}
 use Rattle.outside.specs.declared.limits.TheConstants.{MAX_JOURNAL}
@@ -159,11 +159,14 @@ module _ (clients : Meaning) (x : Session) (s : StoreValue) (o : Outside) (batch
       paid_once link = all_paid n link _ (owed_off link)
 
       paid_now : (rest : List ℕ) (link : ℕ)
-          → [] ≡ cond (nat_eq n link) [] (cond (nat_eq n link) rest (adds_to s.state.facts terms.first (Commit (session_batch x)) link))
+          → [] ≡ cond (nat_eq n link) []
+          (cond (nat_eq n link) rest
+          (adds_to s.state.facts terms.first (Commit (session_batch x)) link))
       paid_now rest link =
           all_paid n link _
           (λ other.
-          ap (λ (b : Bool). cond b rest (adds_to s.state.facts terms.first (Commit (session_batch x)) link))
+          ap (λ (b : Bool).
+          cond b rest (adds_to s.state.facts terms.first (Commit (session_batch x)) link))
           (ne_eqb n link (λ same. other (sym same)))
           ∙ owed_off link other)
 
@@ -262,7 +265,9 @@ module _ (clients : Meaning) (x : Session) (s : StoreValue) (o : Outside) (batch
       let as_is : s1.state.facts ≡ after_all s.state.facts (session_batch x) = commits.facts ∙ ap (λ (b : List Entry). after_all s.state.facts b) is in
       record {
         facts = as_is;
-        has_read = λ going. subst (λ (r : ReaderState). HasRead [] r) (sym (greeted_reader n first second _ l greets.acts greets.is ∙ is_fresh)) (fresh_has_read awaits awaits.nothing);
+        has_read = λ going. subst (λ (r : ReaderState). HasRead [] r)
+            (sym (greeted_reader n first second _ l greets.acts greets.is ∙ is_fresh))
+            (fresh_has_read awaits awaits.nothing);
         went = λ two told terms left links moved still made long numbered.
             let some = ready.fits two told in
             let same : begun ≡ x = begun_is s.state.facts s1.state.facts x begun (is_free clients s.state.facts x some.0 some.1.legal some.1.facts_are allowed) as_is found in
@@ -282,34 +287,48 @@ start_no_memory clients x s o ready = record {
 module _ (clients : Meaning) (x y : Session) (is : x ≡ y) (links : List Link) (s : StoreValue)
     (o o' : Outside) where
   pub begin_went : (n : ℕ) (links' : List Link) (s' : StoreValue) → length links ≡ n
-      → StartWentLast clients n x links links' s s' o o' → BeginWent clients y links links' s s' o o'
-  begin_went n links' s' last behind = subst (λ (z : Session). BeginWent clients z links links' s s' o o') is (record {
-    facts = behind.starts.facts;
-    has_read = λ heard none read i y there.
-        elim (get_push_cases links behind.link i y (subst (λ (ls : List Link). slice_get ls i ≡ Some y) behind.pushed there)) [
-          | inl old ↦ read i y old
-          | inr new ↦
-              subst (λ (k : ℕ). IsLinkRead (heard k) y) (sym new.0)
-              (subst (λ (bytes : List ℕ). IsLinkRead bytes y) (sym none) (subst (IsLinkRead []) (sym new.1) behind.starts.has_read))
-        ];
-    went = λ two told terms left heard moved still made none numbered.
-        let plain : length links ≡ 0 + length links = omega arith in
-        let ends : links_from 0 links heard ++ link_at behind.link [] ∷ [] ≡ links_from 0 links' heard =
-        ap (λ (bytes : List ℕ). links_from 0 links heard ++ link_at behind.link bytes ∷ []) (sym none)
-        ∙ ap (λ (j : ℕ). links_from 0 links heard ++ link_at behind.link (heard j) ∷ []) plain
-        ∙ sym (push_from 0 links behind.link heard)
-        ∙ ap (λ (ls : List Link). links_from 0 ls heard) (sym behind.pushed) in
-        subst
-        (λ (ls : List course_links.Link). RunWent clients terms (place_at (Attaches (x ∷ left)) links heard moved still made s.state.facts) (attaching_at left ls moved still made s'.state.facts) s s' o o')
-        ends
-        (behind.starts.went two told terms left (links_from 0 links heard) moved still made (length_from 0 links heard ∙ last)
-        (numbered ∙ ap (λ (k : ℕ). terms.first + k) last));
-  })
+      → StartWentLast clients n x links links' s s' o o'
+      → BeginWent clients y links links' s s' o o'
+  begin_went n links' s' last behind =
+      subst (λ (z : Session). BeginWent clients z links links' s s' o o') is (record {
+        facts = behind.starts.facts;
+        has_read = λ heard none read i y there.
+            elim (get_push_cases links behind.link i y
+            (subst (λ (ls : List Link). slice_get ls i ≡ Some y) behind.pushed there)) [
+              | inl old ↦ read i y old
+              | inr new ↦
+                  subst (λ (k : ℕ). IsLinkRead (heard k) y) (sym new.0)
+                  (subst (λ (bytes : List ℕ). IsLinkRead bytes y) (sym none)
+                  (subst (IsLinkRead []) (sym new.1) behind.starts.has_read))
+            ];
+        went = λ two told terms left heard moved still made none numbered.
+            let plain : length links ≡ 0 + length links = omega arith in
+            let ends : links_from 0 links heard ++ link_at behind.link [] ∷ []
+            ≡ links_from 0 links' heard =
+            ap (λ (bytes : List ℕ). links_from 0 links heard ++ link_at behind.link bytes ∷ [])
+            (sym none)
+            ∙ ap (λ (j : ℕ). links_from 0 links heard ++ link_at behind.link (heard j) ∷ []) plain
+            ∙ sym (push_from 0 links behind.link heard)
+            ∙ ap (λ (ls : List Link). links_from 0 ls heard) (sym behind.pushed) in
+            subst
+            (λ (ls : List course_links.Link).
+            RunWent clients terms
+            (place_at (Attaches (x ∷ left)) links heard moved still made s.state.facts)
+            (attaching_at left ls moved still made s'.state.facts) s s' o o')
+            ends
+            (behind.starts.went two told terms left (links_from 0 links heard) moved still made
+            (length_from 0 links heard ∙ last)
+            (numbered ∙ ap (λ (k : ℕ). terms.first + k) last));
+      })
 
   pub begin_stopped : (links' : List Link) (s' : StoreValue) (e : Fault) → links' ≡ links
       → StartStopped clients x s s' o o' e → BeginStopped clients y links links' s s' o o' e
-  begin_stopped links' s' e same stopped = subst (λ (z : Session). BeginStopped clients z links links' s s' o o' e) is (record {
-    stops = λ terms left heard moved still made.
-        subst (λ (ls : List Link). RunStopped clients terms (place_at (Attaches (x ∷ left)) links heard moved still made s.state.facts) (links_from 0 ls heard) s s' o o' e)
-        (sym same) (stopped.stops terms left (links_from 0 links heard) moved still made);
-  })
+  begin_stopped links' s' e same stopped =
+      subst (λ (z : Session). BeginStopped clients z links links' s s' o o' e) is (record {
+        stops = λ terms left heard moved still made.
+            subst (λ (ls : List Link).
+            RunStopped clients terms
+            (place_at (Attaches (x ∷ left)) links heard moved still made s.state.facts)
+            (links_from 0 ls heard) s s' o o' e)
+            (sym same) (stopped.stops terms left (links_from 0 links heard) moved still made);
+      })

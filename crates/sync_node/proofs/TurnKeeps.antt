@@ -7,11 +7,12 @@ use Rattle.sync_rules.specs.Clients.{Meaning}
 use Rattle.sync_store.specs.Store.{StoreValue}
 use Rattle.sync_node.specs.declared.fault.Fault.{Fault}
 use Rattle.sync_node.specs.declared.link.Link.{Link}
-use Rattle.sync_node.specs.Keeps.{HasOrStops, LinkKeeps, LinksKeep, StayAttached, StaysSettled}
+use Rattle.sync_node.specs.Keeps.{HasOrStops, LinkKeeps, LinksKeep, StayAttached}
 use Rattle.sync_node.specs.Node.{MayGoOn}
 use Rattle.sync_node.specs.Redundant.{ClosesSome}
 use Rattle.sync_node.specs.Working.{HasGivenItems}
-use Rattle.sync_node.proofs.CauseLaws.{links_go_closed, links_go_same, links_go_set, sessions_closed, sessions_set}
+use Rattle.sync_node.proofs.CauseLaws.{links_go_closed, links_go_same, links_go_set}
+use Rattle.sync_node.proofs.CauseLaws.{sessions_closed, sessions_set}
 use Rattle.sync_node.proofs.KeepLaws.{stops_later}
 use Rattle.sync_node.proofs.SafeLaws.{goes_none}
 use Rattle.sync_node.proofs.NodeLaws.{all_attached, closed_attached, links_go_on, links_may}
@@ -34,16 +35,17 @@ pub links_keep_next : (clients : Meaning) (place : ℕ) (links links1 : List Lin
     → LinksKeep clients links links1 s s1 o o1 None → slice_get links1 place ≡ Some l
     → LinkKeeps clients place l l' s1 s2 o1 o2 stop → (stop ≡ None → HasGivenItems l')
     → LinksKeep clients links (set links1 place l') s s2 o o2 stop
-links_keep_next clients place links links1 l l' s s1 s2 o o1 o2 stop keeps here turned waits = record {
-  go = links_go_set place links links1 l l' o o1 o2 keeps.go here turned.link;
-  same_sessions =
-      sessions_set place links1 l l' here turned.link.same_session ∙ keeps.same_sessions;
-  store = record {
-    same_limit = turned.store.same_limit ∙ keeps.store.same_limit;
-    same_format = turned.store.same_format ∙ keeps.store.same_format;
-    answered = by_stop stop turned waits;
-  };
-}
+links_keep_next clients place links links1 l l' s s1 s2 o o1 o2 stop keeps here turned waits =
+    record {
+      go = links_go_set place links links1 l l' o o1 o2 keeps.go here turned.link;
+      same_sessions =
+          sessions_set place links1 l l' here turned.link.same_session ∙ keeps.same_sessions;
+      store = record {
+        same_limit = turned.store.same_limit ∙ keeps.store.same_limit;
+        same_format = turned.store.same_format ∙ keeps.store.same_format;
+        answered = by_stop stop turned waits;
+      };
+    }
   where
     by_stop : (stop : Option Fault) → LinkKeeps clients place l l' s1 s2 o1 o2 stop
         → (stop ≡ None → HasGivenItems l')

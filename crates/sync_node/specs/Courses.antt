@@ -1,6 +1,6 @@
 -- What a run does to a store and its disk, as a course: where the disk fits the store with a
 -- journal, and what the files stand for where a call was broken off.
-use Rattle.std.specs.Prelude.{◌≡◌, ◌⊎◌, ℕ, suc, ◌+◌, Bool, true, false, cond, not, ◌&&◌, nat_eq, slice_get, List, [], ◌∷◌, ◌++◌, length, Option, Some}
+use Rattle.std.specs.Prelude.{◌≡◌, ◌⊎◌, ℕ, suc, Bool, true, false, cond, not, ◌&&◌, nat_eq, slice_get, List, [], ◌∷◌, ◌++◌, Option, Some}
 use Rattle.outside.specs.Files.{Two, File, read_files}
 use Rattle.outside.specs.Outside.{Outside}
 use Rattle.sync_rules.specs.declared.entries.Entry.{Entry}
@@ -20,7 +20,6 @@ use Rattle.sync_course.specs.declared.ends.LinkEnd.TheVariants as link_end
 use Rattle.sync_node.specs.declared.node.Turned.{Turned}
 use Rattle.sync_node.specs.declared.node.Turned.TheVariants as turned
 use Rattle.sync_course.specs.LinkTurns.{Doing, Done, Sends, Spot, Waits}
-use Rattle.sync_course.specs.Events.{Commit, Event}
 use Rattle.sync_course.specs.Paths.{BreaksPath, RunsPath}
 use Rattle.sync_course.specs.Turns.{Attaches, Between, Place, RunStep, Stage, Terms, is_at_end}
 
@@ -161,18 +160,6 @@ attaching_at left links moved still made f = record {
   made = made;
   facts = f;
 }
-
--- where files are told, the next session began on the link behind those of a node, on which nothing
--- was heard
-pub record BeginsNextSession (clients : Meaning) (session : Session) (links links' : List Link)
-    (s s' : StoreValue) (o o' : Outside) : Type 0 where
-  pub has_read : (heard : ℕ → List ℕ) → heard (length links) ≡ [] → AllRead heard links
-      → AllRead heard links'
-  pub runs : (two : Two File) → o.files ≡ Some two → (terms : Terms) (left : List Session)
-      (heard : ℕ → List ℕ) (moved : Bool) (still made : ℕ) → heard (length links) ≡ []
-      → RunRuns clients terms
-      (place_at (Attaches (session ∷ left)) links heard moved still made s.state.facts)
-      (place_at (Attaches left) links' heard moved still made s'.state.facts) s s' o o'
 
 -- the call was broken off, whatever its links are then
 pub record BreaksBeginning (clients : Meaning) (session : Session) (links : List Link)

@@ -1,6 +1,6 @@
 -- What the calls of one link's turn came to: where they led on the machine of the turn, or where
 -- they stopped. One name for each piece of work, and one for where it stops.
-use Rattle.std.specs.Prelude.{◌≡◌, ◌⊎◌, ℕ, suc, ◌+◌, Bool, true, false, cond, nat_lt, List, [], ◌∷◌, length}
+use Rattle.std.specs.Prelude.{◌≡◌, ◌⊎◌, ℕ, suc, ◌+◌, Bool, true, false, cond, nat_lt, List, ◌∷◌, length}
 use Rattle.outside.specs.Outside.{Outside}
 use Rattle.record_grammar.specs.declared.stream.Item.{Item}
 use Rattle.record_grammar.specs.declared.stream.Item.TheVariants as item

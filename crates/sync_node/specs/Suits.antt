@@ -7,8 +7,8 @@ use Rattle.sync_rules.specs.Facts.{Facts, facts}
 use Rattle.sync_course.specs.Story.{AllSuitPlanned, SuitsPlanned}
 use Rattle.sync_node.specs.Output.{Journal}
 
--- what a run adds: it settles, or it is as the sessions are planned, which are numbered from `first`
--- on, one for each link in order
+-- what a run adds: it settles, or it is as the sessions are planned, which are numbered from
+-- `first` on, one for each link in order
 abbrev pub SuitsSessions : Meaning → ℕ → List Session → (ℕ → List ℕ) → Facts → List Entry → Type 0
 SuitsSessions clients first plans heard f batch = SuitsPlanned clients first plans heard f batch
 

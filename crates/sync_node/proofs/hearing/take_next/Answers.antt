@@ -1,4 +1,4 @@
-use Rattle.std.proofs.Common.{refl, ap, length, arith, true, false}
+use Rattle.std.proofs.Common.{refl, ap, length, arith}
 use Rattle.record_stream.specs.Reading.{ReaderState}
 use Rattle.sync_node.specs.declared.fault.Fault.TheVariants as fault
 use Rattle.sync_node.proofs.CauseLaws.{learnt_unfailed, link_kept, link_unfailed}
@@ -70,13 +70,19 @@ returns-in_err-place-clause-keeps g c =
 
 pub returns-in_err-take_one-in-One-clause-keeps : goal.returns-in_err-take_one-in-One-clause-keeps
 returns-in_err-take_one-in-One-clause-keeps g c = record {
-  link = link_unfailed c.take_one.ensures.goes c.learn.ensures.same_session (learnt_unfailed c.in-One.place c.in-One.rec _ _ c.learn.ensures c.requires.asked);
-  store = store_was _ _ _ _ _ _ _ c.in_err-take_one-in-One.field-0.0 c.from_residual-in_err-take_one-in-One.ensures.1 c.in_err-take_one-in-One.ensures.keeps;
+  link =
+      link_unfailed c.take_one.ensures.goes c.learn.ensures.same_session
+      (learnt_unfailed c.in-One.place c.in-One.rec _ _ c.learn.ensures c.requires.asked);
+  store =
+      store_was _ _ _ _ _ _ _ c.in_err-take_one-in-One.field-0.0
+      c.from_residual-in_err-take_one-in-One.ensures.1 c.in_err-take_one-in-One.ensures.keeps;
 }
 
 pub returns-in_ok-take_one-in-One-clause-keeps : goal.returns-in_ok-take_one-in-One-clause-keeps
 returns-in_ok-take_one-in-One-clause-keeps g c = record {
-  link = link_unfailed c.take_one.ensures.goes c.learn.ensures.same_session (learnt_unfailed c.in-One.place c.in-One.rec _ _ c.learn.ensures c.requires.asked);
+  link =
+      link_unfailed c.take_one.ensures.goes c.learn.ensures.same_session
+      (learnt_unfailed c.in-One.place c.in-One.rec _ _ c.learn.ensures c.requires.asked);
   store = c.in_ok-take_one-in-One.ensures.keeps;
 }
 

@@ -5,8 +5,10 @@ use Rattle.sync_node.proofs.hearing.take_piece.Given as goal
 
 abbrev pub invariant-items : goal.invariant-items
 invariant-items g l = record {
-  keeps : LinkKeeps (g.C.Clients.meaning l.clients) l.number l.initial.link l.link l.initial.store l.store (g.H.Disk.tells l.initial.host) (g.H.Disk.tells l.host) None;
-  went : NextWent (g.C.Clients.meaning l.clients) l.number l.initial.piece l.piece l.initial.link l.link l.initial.store l.store (g.H.Disk.tells l.initial.host) (g.H.Disk.tells l.host) true;
+  keeps : LinkKeeps (g.C.Clients.meaning l.clients) l.number l.initial.link l.link l.initial.store
+      l.store (g.H.Disk.tells l.initial.host) (g.H.Disk.tells l.host) None;
+  went : NextWent (g.C.Clients.meaning l.clients) l.number l.initial.piece l.piece l.initial.link
+      l.link l.initial.store l.store (g.H.Disk.tells l.initial.host) (g.H.Disk.tells l.host) true;
 }
 
 abbrev pub decreases-items : goal.decreases-items

@@ -44,10 +44,12 @@ returns-clause-went g c =
     c.send_on.ensures
 
 pub returns-in_err-bytes-clause-keeps : goal.returns-in_err-bytes-clause-keeps
-returns-in_err-bytes-clause-keeps g c = work_memory _ c.from_residual.ensures.1 link_none c.requires.able.able.ready
+returns-in_err-bytes-clause-keeps g c =
+    work_memory _ c.from_residual.ensures.1 link_none c.requires.able.able.ready
 
 pub returns-in_err-batch-clause-keeps : goal.returns-in_err-batch-clause-keeps
-returns-in_err-batch-clause-keeps g c = work_memory _ c.from_residual-in_err-batch.ensures.1 link_none c.requires.able.able.ready
+returns-in_err-batch-clause-keeps g c =
+    work_memory _ c.from_residual-in_err-batch.ensures.1 link_none c.requires.able.able.ready
 
 pub returns-in_err-commit-clause-keeps : goal.returns-in_err-commit-clause-keeps
 returns-in_err-commit-clause-keeps g c =

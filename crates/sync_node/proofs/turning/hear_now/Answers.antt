@@ -1,4 +1,3 @@
-use Rattle.std.proofs.Common.{true}
 use Rattle.sync_node.proofs.CauseLaws.{link_none}
 use Rattle.sync_node.proofs.HearActs.{hear_nothing}
 use Rattle.sync_node.proofs.KeepLaws.{work_none}

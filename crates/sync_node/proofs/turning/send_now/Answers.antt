@@ -1,4 +1,4 @@
-use Rattle.std.proofs.Common.{true, refl}
+use Rattle.std.proofs.Common.{refl}
 use Rattle.sync_node.proofs.CauseLaws.{link_kept, link_none}
 use Rattle.sync_node.proofs.CourseTurns.{if_ok_then}
 use Rattle.sync_node.proofs.KeepLaws.{work_link, work_none, work_then}
@@ -40,4 +40,5 @@ returns-then-not-may_send-clause-keeps g c = work_none link_none c.requires.able
 
 pub returns-clause-keeps : goal.returns-clause-keeps
 returns-clause-keeps g c =
-    work_then (work_link (link_kept (goes_read _ _ _ c.now-now.ensures.call c.now-now.ensures.links) refl refl) c.now-now.ensures.call.same_files c.requires.able.able) c.send_all.ensures.keeps
+    work_then (work_link (link_kept (goes_read _ _ _ c.now-now.ensures.call c.now-now.ensures.links)
+    refl refl) c.now-now.ensures.call.same_files c.requires.able.able) c.send_all.ensures.keeps

@@ -31,7 +31,8 @@ links-preserved g c =
     record {
       keeps =
           links_keep_next _ c.links.place _ c.links.links _ c.turn_link.new.link _ _ _ _ _ _ None
-          c.links.invariant.keeps here c.in_ok-quiet.ensures.keeps (λ _. c.in_ok-quiet.ensures.waits);
+          c.links.invariant.keeps here c.in_ok-quiet.ensures.keeps (λ _.
+          c.in_ok-quiet.ensures.waits);
       went = λ first attached.
           let now = c.links.invariant.keeps.store.answered.attached first attached in
           let is : c.if-still.still ≡ (c.links.still && c.in_ok-quiet.quiet) =
@@ -47,7 +48,8 @@ links-preserved g c =
 
 pub returns-in_err-quiet-clause-keeps : goal.returns-in_err-quiet-clause-keeps
 returns-in_err-quiet-clause-keeps g c =
-    let here = slice_get-get_or c.links.links c.links.place c.index-links-place.result (omega (arith, c.links-test.true, c.links.auto.links)) in
+    let here = slice_get-get_or c.links.links c.links.place c.index-links-place.result
+    (omega (arith, c.links-test.true, c.links.auto.links)) in
     was _ c.in_err-quiet.field-0.0 (LinksKeep _ _ _ _ _ _ _) c.from_residual.ensures.1
     (links_keep_next _ c.links.place _ c.links.links _ c.turn_link.new.link _ _ _ _ _ _
     (Some c.in_err-quiet.field-0.0) c.links.invariant.keeps here c.in_err-quiet.ensures.keeps

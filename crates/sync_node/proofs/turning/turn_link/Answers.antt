@@ -32,7 +32,9 @@ returns-else-quiet-clause-went g c =
 
 pub send_now-requires : goal.send_now-requires
 send_now-requires g c =
-    record { able = may_kept c.requires.able c.in_ok-quiet.ensures.keeps c.in_ok-quiet.ensures.waits }
+    record {
+      able = may_kept c.requires.able c.in_ok-quiet.ensures.keeps c.in_ok-quiet.ensures.waits;
+    }
 
 pub returns-in_err-quiet-clause-keeps : goal.returns-in_err-quiet-clause-keeps
 returns-in_err-quiet-clause-keeps g c =

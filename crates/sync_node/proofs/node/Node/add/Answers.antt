@@ -1,9 +1,9 @@
-use Rattle.std.proofs.Common.{Err, refl, ap, subst}
-use Rattle.sync_rules.specs.Legal.{Allowed}
+use Rattle.std.proofs.Common.{Err, refl, ap}
 use Rattle.sync_node.specs.Batches.{AddStops}
 use Rattle.sync_node.specs.Calls.{AddingLeaves}
-use Rattle.sync_node.specs.Node.{NodeValue}
-use Rattle.sync_node.proofs.CallLaws.{add_keeps, add_stops_keep, closed_node, leaves_closed, never, node_may, stops_seen, adding_leaves, works_fault, works_node, works_ok}
+use Rattle.sync_node.proofs.CallLaws.{add_keeps, add_stops_keep, closed_node, leaves_closed, never}
+use Rattle.sync_node.proofs.CallLaws.{node_may, stops_seen, adding_leaves, works_fault, works_node}
+use Rattle.sync_node.proofs.CallLaws.{works_ok}
 use Rattle.sync_node.proofs.NodeActs.{by_fault}
 use Rattle.sync_node.proofs.node.Node.add.Goals as goal
 

@@ -1,4 +1,4 @@
-use Rattle.std.proofs.Common.{◌≡◌, ◌<◌, false, List, ℕ, arith, sym, refl, ap, length, subst, ◌∙◌}
+use Rattle.std.proofs.Common.{◌≡◌, ◌<◌, false, List, ℕ, arith, sym, refl, ap, length, subst}
 use Rattle.sync_rules.specs.Steps.{IsSettled}
 use Rattle.sync_rules.specs.declared.limits.TheConstants.{MAX_SESSIONS}
 use Rattle.sync_node.specs.declared.link.Link.{Link}
@@ -7,7 +7,8 @@ use Rattle.sync_node.specs.OnRuns.{BeginStopped}
 use Rattle.sync_node.specs.Plans.{session_of}
 use Rattle.sync_node.specs.Starting.{StartStops}
 use Rattle.sync_node.proofs.AttachLaws.{attached_last, attached_may, one_longer, plan_allowed}
-use Rattle.sync_node.proofs.CallLaws.{leaves_closed, leaves_fault, leaves_ok, never, node_may, stops_seen}
+use Rattle.sync_node.proofs.CallLaws.{leaves_closed, leaves_fault, leaves_ok, never, node_may}
+use Rattle.sync_node.proofs.CallLaws.{stops_seen}
 use Rattle.sync_node.proofs.NodeActs.{by_fault}
 use Rattle.sync_node.proofs.StartActs.{begin_stopped, begin_went}
 use Rattle.sync_node.proofs.node.Node.attach.Goals as goal
@@ -38,11 +39,17 @@ pub attach_on-requires-clause-allowed : goal.attach_on-requires-clause-allowed
 attach_on-requires-clause-allowed g c =
     plan_allowed (g.C.Clients.meaning c.args.clients.now) c.self.inside.store.state.facts
     (session_of c.sessions.result c.args.plan.now c.args.nonce)
-    (subst (λ (n : NodeValue). n.closed ≡ false → IsSettled (g.C.Clients.meaning c.args.clients.now) n.store.state.facts)
+    (subst (λ (n : NodeValue). n.closed ≡ false
+    → IsSettled (g.C.Clients.meaning c.args.clients.now) n.store.state.facts)
     (sym c.self.view_is) c.requires.settled c.if-self.false)
     c.sessions.ensures
-    (subst (λ (n : NodeValue). n.store.state.facts.begun < MAX_SESSIONS) (sym c.self.view_is) c.requires.begun)
-    (omega (arith, c.requires.contact, ap (λ (n : NodeValue). n.store.state.facts.contacts) c.self.view_is))
+    (subst (λ (n : NodeValue). n.store.state.facts.begun < MAX_SESSIONS) (sym c.self.view_is)
+    c.requires.begun)
+    (omega (
+      arith,
+      c.requires.contact,
+      ap (λ (n : NodeValue). n.store.state.facts.contacts) c.self.view_is,
+    ))
     c.requires.latency c.requires.nonce
 
 pub attach_on-requires-clause-dialled : goal.attach_on-requires-clause-dialled
@@ -95,7 +102,8 @@ returns-in-Ok g c =
       links = (c.in-Ok.ensures.went.link, c.in-Ok.ensures.went.pushed);
       stops = λ opened. tt;
       went = λ opened.
-          begin_went _ session _ (ap (λ (k : ℕ). session_of k c.args.plan.now c.args.nonce) c.sessions.ensures)
+          begin_went _ session _
+          (ap (λ (k : ℕ). session_of k c.args.plan.now c.args.nonce) c.sessions.ensures)
           c.self.inside.links.items _ _ _ c.args.link _ _ last c.in-Ok.ensures.went;
       stopped = λ opened. tt;
     })

@@ -1,7 +1,8 @@
 use Rattle.std.proofs.Common.{Bool, List, ℕ, None, Some, arith, refl, ap, length, ◌∙◌}
 use Rattle.sync_node.specs.Node.{NodeValue}
 use Rattle.sync_node.specs.OnRuns.{AskingStopped}
-use Rattle.sync_node.proofs.CallLaws.{closed_node, leaves_closed, link_there, never, node_may, node_works, works_fault, works_node, works_ok}
+use Rattle.sync_node.proofs.CallLaws.{closed_node, leaves_closed, link_there, never, node_may}
+use Rattle.sync_node.proofs.CallLaws.{node_works, works_fault, works_node, works_ok}
 use Rattle.sync_node.proofs.NodeActs.{by_fault}
 use Rattle.sync_node.proofs.NodeLaws.{kept_long, link_able}
 use Rattle.sync_node.proofs.RunActLaws.{asking_stopped, asking_went}
@@ -50,8 +51,7 @@ invariant_of-self g c =
     let keeps =
     node_works _ _ _ _ _ None c.self.view_is c.requires.may c.if-self.false c.args.link _
     c.receive_on.new.link _ c.requires.attached c.index_mut.ensures.value c.in-Ok.ensures.keeps
-    (λ _. c.in-Ok.ensures.waits) in
-    (
+    (λ _. c.in-Ok.ensures.waits) in (
       kept_long _ _ _ _ _ c.self.invariant.0 (omega (arith, c.as_mut_slice.ensures.len))
           c.as_mut_slice.ensures.value (omega (arith, c.receive_on.auto.buffer)),
       works_node _ _ _ _ _ c.self.invariant.1 c.if-self.false refl keeps,
@@ -62,8 +62,7 @@ invariant_of-self-in-Err g c =
     let keeps =
     node_works _ _ _ _ _ (Some c.in-Err.fault) c.self.view_is c.requires.may c.if-self.false
     c.args.link _ c.receive_on.new.link _ c.requires.attached c.index_mut.ensures.value
-    c.in-Err.ensures.keeps (λ none going. cc) in
-    (
+    c.in-Err.ensures.keeps (λ none going. cc) in (
       kept_long _ _ _ _ _ c.self.invariant.0 (omega (arith, c.as_mut_slice.ensures.len))
           c.as_mut_slice.ensures.value (omega (arith, c.receive_on.auto.buffer)),
       closed_node _ _ _ _ _ _ c.self.invariant.1 c.close.ensures.closed keeps,
@@ -79,7 +78,8 @@ returns-in-Ok g c =
     link_there _ _ c.self.view_is c.args.link _ c.requires.attached c.index_mut.ensures.value in
     let numbered = ((c.self.invariant.1.attached c.if-self.false).each c.args.link _ here).numbered in
     let works =
-    works_ok Bool _ _ _ c.args.host.now c.receive_on.new.host _ _ c.if-self.false (invariant_of-self g c).1 refl
+    works_ok Bool _ _ _ c.args.host.now c.receive_on.new.host _ _ c.if-self.false
+    (invariant_of-self g c).1 refl
     c.in-Ok.idle c.if-self.false keeps in
     rw (← c.self.view_is) (record {
       answers = works.leaves.answers;
@@ -88,7 +88,8 @@ returns-in-Ok g c =
       kept = works.kept;
       stops = λ opened. tt;
       went = λ opened.
-          asking_went _ c.self.inside.first c.args.link _ _ _ _ here numbered c.receive_on.new.link _ _ c.in-Ok.idle
+          asking_went _ c.self.inside.first c.args.link _ _ _ _ here numbered c.receive_on.new.link
+          _ _ c.in-Ok.idle
           c.in-Ok.ensures.went;
       stopped = λ opened. tt;
     })
@@ -115,6 +116,7 @@ returns-in-Err g c =
       went = λ opened. tt;
       stopped = λ opened.
           by_fault (AskingStopped _ _ _ _ _ _ _ _ _) c.in-Err.fault _ c.close.ensures.fault
-          (asking_stopped _ c.self.inside.first c.args.link _ _ _ _ here numbered c.receive_on.new.link _ _ _
+          (asking_stopped _ c.self.inside.first c.args.link _ _ _ _ here numbered
+          c.receive_on.new.link _ _ _
           c.in-Err.ensures.stopped);
     })

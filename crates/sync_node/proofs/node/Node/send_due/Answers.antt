@@ -1,7 +1,8 @@
 use Rattle.std.proofs.Common.{ℕ, None, Some, arith, refl, ap, length}
 use Rattle.sync_node.specs.Node.{NodeValue}
 use Rattle.sync_node.specs.OnRuns.{OutsStopped}
-use Rattle.sync_node.proofs.CallLaws.{closed_node, leaves_closed, link_there, never, node_may, node_works, works_fault, works_node, works_ok}
+use Rattle.sync_node.proofs.CallLaws.{closed_node, leaves_closed, link_there, never, node_may}
+use Rattle.sync_node.proofs.CallLaws.{node_works, works_fault, works_node, works_ok}
 use Rattle.sync_node.proofs.NodeActs.{by_fault}
 use Rattle.sync_node.proofs.NodeLaws.{link_able}
 use Rattle.sync_node.proofs.RunActLaws.{outs_sent, outs_stopped}
@@ -43,8 +44,7 @@ invariant_of-self g c =
     let keeps =
     node_works _ _ _ _ _ None c.self.view_is c.requires.may c.if-self.false c.args.link _
     c.send_all.new.link _ c.requires.attached c.index_mut.ensures.value c.in-Ok.ensures.keeps
-    (λ _. c.in-Ok.ensures.waits) in
-    (
+    (λ _. c.in-Ok.ensures.waits) in (
       c.self.invariant.0,
       works_node _ _ _ _ _ c.self.invariant.1 c.if-self.false refl keeps,
     )
@@ -54,8 +54,7 @@ invariant_of-self-in-Err g c =
     let keeps =
     node_works _ _ _ _ _ (Some c.in-Err.fault) c.self.view_is c.requires.may c.if-self.false
     c.args.link _ c.send_all.new.link _ c.requires.attached c.index_mut.ensures.value
-    c.in-Err.ensures.keeps (λ none going. cc) in
-    (
+    c.in-Err.ensures.keeps (λ none going. cc) in (
       c.self.invariant.0,
       closed_node _ _ _ _ _ _ c.self.invariant.1 c.close.ensures.closed keeps,
     )
@@ -71,7 +70,8 @@ returns-in-Ok g c =
     let numbered = ((c.self.invariant.1.attached c.if-self.false).each c.args.link _ here).numbered in
     let may = (rw (← c.self.view_is) at c.requires.unclosed) _ here in
     let works =
-    works_ok ℕ _ _ _ c.args.host.now c.send_all.new.host _ _ c.if-self.false (invariant_of-self g c).1 refl
+    works_ok ℕ _ _ _ c.args.host.now c.send_all.new.host _ _ c.if-self.false
+    (invariant_of-self g c).1 refl
     c.in-Ok.made c.if-self.false keeps in
     rw (← c.self.view_is) (record {
       answers = works.leaves.answers;
@@ -80,7 +80,8 @@ returns-in-Ok g c =
       kept = works.kept;
       stops = λ opened. tt;
       went = λ opened.
-          outs_sent _ c.self.inside.first c.args.link _ _ _ _ here numbered c.args.now may c.send_all.new.link _ _ c.in-Ok.made
+          outs_sent _ c.self.inside.first c.args.link _ _ _ _ here numbered c.args.now may
+          c.send_all.new.link _ _ c.in-Ok.made
           (c.in-Ok.ensures.went may);
       stopped = λ opened. tt;
     })
@@ -108,6 +109,7 @@ returns-in-Err g c =
       went = λ opened. tt;
       stopped = λ opened.
           by_fault (OutsStopped _ _ _ _ _ _ _ _ _ _) c.in-Err.fault _ c.close.ensures.fault
-          (outs_stopped _ c.self.inside.first c.args.link _ _ _ _ here numbered c.args.now may c.send_all.new.link _ _ _
+          (outs_stopped _ c.self.inside.first c.args.link _ _ _ _ here numbered c.args.now may
+          c.send_all.new.link _ _ _
           (c.in-Err.ensures.stopped may));
     })

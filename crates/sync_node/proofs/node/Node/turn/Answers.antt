@@ -1,9 +1,9 @@
 use Rattle.std.proofs.Common.{List, ℕ, length, refl, ap, arith, ◌∙◌}
 use Rattle.sync_node.specs.declared.link.Link.{Link}
 use Rattle.sync_node.specs.declared.node.Turned.{Turned}
-use Rattle.sync_node.specs.Node.{NodeValue}
 use Rattle.sync_node.specs.OnRuns.{RoundStopped}
-use Rattle.sync_node.proofs.CallLaws.{closed_node, leaves_closed, never, node_may, works_fault, works_node, works_ok}
+use Rattle.sync_node.proofs.CallLaws.{closed_node, leaves_closed, never, node_may, works_fault}
+use Rattle.sync_node.proofs.CallLaws.{works_node, works_ok}
 use Rattle.sync_node.proofs.NodeActs.{by_fault, round_as, round_stopped_as}
 use Rattle.sync_node.proofs.NodeLaws.{attached_as, kept_long, kept_same, may_as}
 use Rattle.sync_node.proofs.TurnKeeps.{links_keep_as}
@@ -51,12 +51,12 @@ turn_all-requires-clause-whole g c =
 pub invariant_of-self : goal.invariant_of-self
 invariant_of-self g c =
     let keeps =
-    links_keep_as _ c.self.inside.links.items _ c.turn_all.new.links _ _ _ _ _ _ c.as_mut_slice.ensures.value
+    links_keep_as _ c.self.inside.links.items _ c.turn_all.new.links _ _ _ _ _ _
+    c.as_mut_slice.ensures.value
     (kept_same c.self.inside.links.len c.self.inside.links.items _ c.turn_all.new.links
     (omega (arith, c.as_mut_slice.ensures.len)) c.as_mut_slice.ensures.value
     (omega (arith, c.turn_all.auto.links)))
-    c.in-Ok-true.ensures.keeps in
-    (
+    c.in-Ok-true.ensures.keeps in (
       kept_long _ _ _ _ _ c.self.invariant.0 (omega (arith, c.as_mut_slice-2.ensures.len))
           c.as_mut_slice-2.ensures.value (omega (arith, c.turn_all.auto.buffer)),
       works_node _ _ _ _ _ c.self.invariant.1 c.if-self.false refl keeps,
@@ -65,12 +65,12 @@ invariant_of-self g c =
 pub invariant_of-self-in-Ok-false : goal.invariant_of-self-in-Ok-false
 invariant_of-self-in-Ok-false g c =
     let keeps =
-    links_keep_as _ c.self.inside.links.items _ c.turn_all.new.links _ _ _ _ _ _ c.as_mut_slice.ensures.value
+    links_keep_as _ c.self.inside.links.items _ c.turn_all.new.links _ _ _ _ _ _
+    c.as_mut_slice.ensures.value
     (kept_same c.self.inside.links.len c.self.inside.links.items _ c.turn_all.new.links
     (omega (arith, c.as_mut_slice.ensures.len)) c.as_mut_slice.ensures.value
     (omega (arith, c.turn_all.auto.links)))
-    c.in-Ok-false.ensures.keeps in
-    (
+    c.in-Ok-false.ensures.keeps in (
       kept_long _ _ _ _ _ c.self.invariant.0 (omega (arith, c.as_mut_slice-2.ensures.len))
           c.as_mut_slice-2.ensures.value (omega (arith, c.turn_all.auto.buffer)),
       works_node _ _ _ _ _ c.self.invariant.1 c.if-self.false refl keeps,
@@ -79,12 +79,12 @@ invariant_of-self-in-Ok-false g c =
 pub invariant_of-self-in-Err : goal.invariant_of-self-in-Err
 invariant_of-self-in-Err g c =
     let keeps =
-    links_keep_as _ c.self.inside.links.items _ c.turn_all.new.links _ _ _ _ _ _ c.as_mut_slice.ensures.value
+    links_keep_as _ c.self.inside.links.items _ c.turn_all.new.links _ _ _ _ _ _
+    c.as_mut_slice.ensures.value
     (kept_same c.self.inside.links.len c.self.inside.links.items _ c.turn_all.new.links
     (omega (arith, c.as_mut_slice.ensures.len)) c.as_mut_slice.ensures.value
     (omega (arith, c.turn_all.auto.links)))
-    c.in-Err.ensures.keeps in
-    (
+    c.in-Err.ensures.keeps in (
       kept_long _ _ _ _ _ c.self.invariant.0 (omega (arith, c.as_mut_slice-2.ensures.len))
           c.as_mut_slice-2.ensures.value (omega (arith, c.turn_all.auto.buffer)),
       closed_node _ _ _ _ _ _ c.self.invariant.1 c.close.ensures.closed keeps,
@@ -93,7 +93,8 @@ invariant_of-self-in-Err g c =
 pub returns-in-Ok-true : goal.returns-in-Ok-true
 returns-in-Ok-true g c =
     let keeps =
-    links_keep_as _ c.self.inside.links.items _ c.turn_all.new.links _ _ _ _ _ _ c.as_mut_slice.ensures.value
+    links_keep_as _ c.self.inside.links.items _ c.turn_all.new.links _ _ _ _ _ _
+    c.as_mut_slice.ensures.value
     (kept_same c.self.inside.links.len c.self.inside.links.items _ c.turn_all.new.links
     (omega (arith, c.as_mut_slice.ensures.len)) c.as_mut_slice.ensures.value
     (omega (arith, c.turn_all.auto.links)))
@@ -108,9 +109,10 @@ returns-in-Ok-true g c =
       kept = works.kept;
       stops = λ opened. tt;
       went = λ opened.
-          round_as _ c.self.inside.first c.self.inside.links.items _ c.turn_all.new.links _ _ _ _ _ _ _ c.as_mut_slice.ensures.value
+          round_as _ c.self.inside.first c.self.inside.links.items _ c.turn_all.new.links _ _ _ _ _
+          _ _ c.as_mut_slice.ensures.value
           (kept_same c.self.inside.links.len c.self.inside.links.items _ c.turn_all.new.links
-    (omega (arith, c.as_mut_slice.ensures.len)) c.as_mut_slice.ensures.value
+          (omega (arith, c.as_mut_slice.ensures.len)) c.as_mut_slice.ensures.value
           (omega (arith, c.turn_all.auto.links)))
           c.in-Ok-true.field-0-test
           (c.in-Ok-true.ensures.went c.self.inside.first
@@ -122,7 +124,8 @@ returns-in-Ok-true g c =
 pub returns-in-Ok-false : goal.returns-in-Ok-false
 returns-in-Ok-false g c =
     let keeps =
-    links_keep_as _ c.self.inside.links.items _ c.turn_all.new.links _ _ _ _ _ _ c.as_mut_slice.ensures.value
+    links_keep_as _ c.self.inside.links.items _ c.turn_all.new.links _ _ _ _ _ _
+    c.as_mut_slice.ensures.value
     (kept_same c.self.inside.links.len c.self.inside.links.items _ c.turn_all.new.links
     (omega (arith, c.as_mut_slice.ensures.len)) c.as_mut_slice.ensures.value
     (omega (arith, c.turn_all.auto.links)))
@@ -137,9 +140,10 @@ returns-in-Ok-false g c =
       kept = works.kept;
       stops = λ opened. tt;
       went = λ opened.
-          round_as _ c.self.inside.first c.self.inside.links.items _ c.turn_all.new.links _ _ _ _ _ _ _ c.as_mut_slice.ensures.value
+          round_as _ c.self.inside.first c.self.inside.links.items _ c.turn_all.new.links _ _ _ _ _
+          _ _ c.as_mut_slice.ensures.value
           (kept_same c.self.inside.links.len c.self.inside.links.items _ c.turn_all.new.links
-    (omega (arith, c.as_mut_slice.ensures.len)) c.as_mut_slice.ensures.value
+          (omega (arith, c.as_mut_slice.ensures.len)) c.as_mut_slice.ensures.value
           (omega (arith, c.turn_all.auto.links)))
           c.in-Ok-false.field-0-test
           (c.in-Ok-false.ensures.went c.self.inside.first
@@ -151,7 +155,8 @@ returns-in-Ok-false g c =
 pub returns-in-Err : goal.returns-in-Err
 returns-in-Err g c =
     let keeps =
-    links_keep_as _ c.self.inside.links.items _ c.turn_all.new.links _ _ _ _ _ _ c.as_mut_slice.ensures.value
+    links_keep_as _ c.self.inside.links.items _ c.turn_all.new.links _ _ _ _ _ _
+    c.as_mut_slice.ensures.value
     (kept_same c.self.inside.links.len c.self.inside.links.items _ c.turn_all.new.links
     (omega (arith, c.as_mut_slice.ensures.len)) c.as_mut_slice.ensures.value
     (omega (arith, c.turn_all.auto.links)))
@@ -169,9 +174,10 @@ returns-in-Err g c =
       went = λ opened. tt;
       stopped = λ opened.
           by_fault (RoundStopped _ _ _ _ _ _ _ _) c.in-Err.fault _ c.close.ensures.fault
-          (round_stopped_as _ c.self.inside.first c.self.inside.links.items _ c.turn_all.new.links _ _ _ _ _ c.in-Err.fault c.as_mut_slice.ensures.value
+          (round_stopped_as _ c.self.inside.first c.self.inside.links.items _ c.turn_all.new.links _
+          _ _ _ _ c.in-Err.fault c.as_mut_slice.ensures.value
           (kept_same c.self.inside.links.len c.self.inside.links.items _ c.turn_all.new.links
-    (omega (arith, c.as_mut_slice.ensures.len)) c.as_mut_slice.ensures.value
+          (omega (arith, c.as_mut_slice.ensures.len)) c.as_mut_slice.ensures.value
           (omega (arith, c.turn_all.auto.links)))
           (c.in-Err.ensures.stopped c.self.inside.first
           (attached_as c.self.inside.first _ _ _ c.as_mut_slice.ensures.value
