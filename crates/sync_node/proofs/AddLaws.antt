@@ -25,32 +25,26 @@ use Rattle.sync_node.proofs.CommitLaws.{settling_front}
 
 -- ---- a plain batch
 
-pub plain_kind : (batch : List Entry) → IsPlain batch → is_settling_kind batch ≡ false
-plain_kind (entry.Contact c ∷ []) plain = refl
-plain_kind (entry.Group def ∷ []) plain = refl
-plain_kind (entry.Level c g l ∷ []) plain = refl
-plain_kind (entry.Author m ∷ []) plain = refl
-plain_kind _ plain = absurd plain
-
-pub plain_own : (batch : List Entry) → IsPlain batch → is_account_kind batch ≡ false
-plain_own (entry.Contact c ∷ []) plain = refl
-plain_own (entry.Group def ∷ []) plain = refl
-plain_own (entry.Level c g l ∷ []) plain = refl
-plain_own (entry.Author m ∷ []) plain = refl
-plain_own _ plain = absurd plain
-
--- it leaves the sessions, and how many have begun
+-- the sessions, and how many have begun, are left
 record LeavesSessions (f later : Facts) : Type 0 where
   sessions : later.sessions ≡ f.sessions
   begun : later.begun ≡ f.begun
 
-plain_leaves : (f : Facts) (batch : List Entry) → IsPlain batch
-    → LeavesSessions f (after_all f batch)
-plain_leaves f (entry.Contact c ∷ []) plain = record { sessions = refl; begun = refl }
-plain_leaves f (entry.Group def ∷ []) plain = record { sessions = refl; begun = refl }
-plain_leaves f (entry.Level c g l ∷ []) plain = record { sessions = refl; begun = refl }
-plain_leaves f (entry.Author m ∷ []) plain = record { sessions = refl; begun = refl }
-plain_leaves f _ plain = absurd plain
+pub record PlainBatch (f : Facts) (batch : List Entry) : Type 0 where
+  pub kind : is_settling_kind batch ≡ false
+  pub own : is_account_kind batch ≡ false
+  leaves : LeavesSessions f (after_all f batch)
+
+pub plain_of : (f : Facts) (batch : List Entry) → IsPlain batch → PlainBatch f batch
+plain_of f (entry.Contact c ∷ []) plain =
+    record { kind = refl; own = refl; leaves = record { sessions = refl; begun = refl } }
+plain_of f (entry.Group def ∷ []) plain =
+    record { kind = refl; own = refl; leaves = record { sessions = refl; begun = refl } }
+plain_of f (entry.Level c g l ∷ []) plain =
+    record { kind = refl; own = refl; leaves = record { sessions = refl; begun = refl } }
+plain_of f (entry.Author m ∷ []) plain =
+    record { kind = refl; own = refl; leaves = record { sessions = refl; begun = refl } }
+plain_of f _ plain = absurd plain
 
 -- ---- the batch, and settling behind it
 
@@ -67,7 +61,7 @@ leaves clients batch s s' o o' added plain =
     by_more (b ∷ rest) adds are some =
         let first : after_all s.state.facts b ≡ after_all s.state.facts batch = ap (λ (x : List Entry). after_all s.state.facts x) adds.0 in
         let behind : s'.state.facts ≡ after_batches (after_all s.state.facts batch) rest = are ∙ ap (λ (f : Facts). after_batches f rest) first in
-        let plainly = plain_leaves s.state.facts batch plain in
+        let plainly = (plain_of s.state.facts batch plain).leaves in
         let only = all_settling_only clients (after_all s.state.facts batch) rest adds.1 in
         record {
           sessions = ap (λ (f : Facts). f.sessions) behind ∙ (only.sessions ∙ plainly.sessions);

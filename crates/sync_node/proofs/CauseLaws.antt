@@ -98,15 +98,6 @@ link_sent {number = n} {bytes = bytes} {l = l} {l' = l'} {o = o} {o' = o'} sends
     by_result (Err e) went ends =
         link_failed goes (ap (λ (x : Link). x.session) ends) went.faults.failed
 
--- a link that began as going, behind a commit
-pub greeted_cause : (number : ℕ) (l0 l : Link) (o o1 o2 : Outside) → LetsNothingFall o o1
-    → l0.end ≡ link_end.Going → LinkGoes number l0 l o1 o2
-    → l.end ≡ link_end.Failed → CountRose (o.links.faults number) (o2.links.faults number)
-greeted_cause number l0 l o o1 o2 goes going greets failed = elim (greets.cause failed) [
-  | inl before ↦ absurd (let e : link_end.Going ≡ link_end.Failed = sym going ∙ before in cc)
-  | inr rose ↦ rose_before (o.links.faults number) (o1.links.faults number) (o2.links.faults number) (goes.links.faults number) rose
-]
-
 -- ---- how links end that did not fail
 
 pub ended_unfailed : (e : Ending) → stands_ended e ≢ link_end.Failed

@@ -35,7 +35,7 @@ use Rattle.sync_node.specs.Sending.{SendsOn}
 use Rattle.sync_node.specs.Starting.{HasBegun, StartStops, StartsNone}
 use Rattle.sync_node.specs.Stays.{IsUndoneBy}
 use Rattle.sync_node.specs.Taking.{next_take}
-use Rattle.sync_node.proofs.CauseLaws.{greeted_cause, link_kept, link_sent, link_then, rose_before}
+use Rattle.sync_node.proofs.CauseLaws.{link_kept, link_sent, link_then, rose_before}
 use Rattle.sync_node.proofs.OutLaws.{out_batch}
 use Rattle.sync_node.proofs.StartLaws.{session_batch}
 use Rattle.sync_node.proofs.Undone.{stays_none, was}
@@ -374,7 +374,12 @@ has_begun clients n x begun first second l0 l s s1 o o1 o2 batch is settled comm
       waits = λ _.
           subst (λ (r : ReaderState). AwaitsBytes r)
           (sym (greeted_reader n first second l0 l greets.acts greets.is)) awaits;
-      cause = greeted_cause n l0 l o o1 o2 commits.did.goes going goes;
+      cause = λ failed.
+          elim ((link_then {l = l0} {l1 = l0} (link_kept commits.did.goes refl refl) goes).cause failed) [
+            | inl before ↦
+                absurd (let e : link_end.Going ≡ link_end.Failed = sym going ∙ before in cc)
+            | inr rose ↦ rose
+          ];
     }
 
 pub starts_none : {H : Type 0} (clients : Meaning) (s : StoreValue) (host : H) (o : Outside)

@@ -274,25 +274,6 @@ module _ (clients : Meaning) (first n : ℕ) (links0 links : List Link) (l : Lin
         (run_passes terms
         (next_step clients terms n (link_at l' (heard' (0 + n))) done refl (get_at 0 n (slice_set links n l') heard' l' there)))
 
-  links_then : (l' : Link) (s' : StoreValue) (o' : Outside) (still_too : Bool)
-      → TurnWent clients n l l' s s' o o' still_too
-      → LinksWent clients first (suc n) links0 (slice_set links n l') s0 s' o0 o' (quiet && still_too)
-  links_then l' s' o' still_too turn = record {
-    leads = λ terms heard moved still made same read.
-        let so = a.leads terms heard moved still made same read in
-        let t = turn.leads (so.heard' n) (cond quiet moved true) (so.has_read n l at) in
-        record {
-          heard' = heard_with n t.heard' so.heard';
-          has_read = all_read n links so.heard' l l' t.heard' at so.has_read t.has_read;
-          went =
-              subst (λ (b : Bool). RunWent clients terms (place_at (Works 0 Asks) links0 heard moved still made s0.state.facts)
-              (place_at (Works (suc n) Asks) (slice_set links n l') (heard_with n t.heard' so.heard') b still made s'.state.facts) s0 s' o0 o')
-              (and_cond quiet still_too moved)
-              (run_joins terms so.went
-              (turn_goes terms same so.heard' (cond quiet moved true) still made l' s' o' t.heard' (cond still_too (cond quiet moved true) true) t.went));
-        };
-  }
-
   pub links_stop : (l' : Link) (s' : StoreValue) (o' : Outside) (e : Fault)
       → HearingStopped clients n l l' s s' o o' e
       → LinksStopped clients first links0 (slice_set links n l') s0 s' o0 o' e
@@ -315,7 +296,26 @@ module _ (clients : Meaning) (first n : ℕ) (links0 links : List Link) (l : Lin
   links_next l' s' o' still_too turn k all more is =
       let next : suc n ≡ k = omega (arith, more) in
       subst (λ (j : ℕ). LinksWent clients first j links0 (slice_set links n l') s0 s' o0 o' all) next
-      (subst (λ (b : Bool). LinksWent clients first (suc n) links0 (slice_set links n l') s0 s' o0 o' b) (sym is) (links_then l' s' o' still_too turn))
+      (record {
+        leads = λ terms heard moved still made same read.
+            let so = a.leads terms heard moved still made same read in
+            let t = turn.leads (so.heard' n) (cond quiet moved true) (so.has_read n l at) in
+            let heard' : ℕ → List ℕ = heard_with n t.heard' so.heard' in
+            record {
+              heard' = heard';
+              has_read = all_read n links so.heard' l l' t.heard' at so.has_read t.has_read;
+              went =
+                  subst (λ (b : Bool). RunWent clients terms
+                  (place_at (Works 0 Asks) links0 heard moved still made s0.state.facts)
+                  (place_at (Works (suc n) Asks) (slice_set links n l') heard' b still made
+                  s'.state.facts) s0 s' o0 o')
+                  (and_cond quiet still_too moved
+                  ∙ ap (λ (b : Bool). cond b moved true) (sym is))
+                  (run_joins terms so.went
+                  (turn_goes terms same so.heard' (cond quiet moved true) still made l' s' o'
+                  t.heard' (cond still_too (cond quiet moved true) true) t.went));
+            };
+      })
 
 -- ---- a whole turn
 

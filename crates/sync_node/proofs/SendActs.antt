@@ -204,24 +204,32 @@ module _ (clients : Meaning) (n now : ℕ) (what : Out) (l : Link) (s : StoreVal
     did_commit =
         subst (λ (b : List Entry). Did clients (commit_acts (b ∷ [])) s s1 o o1) is commits.did
 
-    -- it was committed, and this act came behind
-    puts_by : (a : Act) (q : Spot) (heard : List ℕ) (moved : Bool) (room : ℕ)
-        → batches_in (a ∷ []) ≡ [] → Did clients (a ∷ []) s1 s1 o1 o'
+    -- it was committed, and this act came behind, and left the link so
+    puts_by : (a : Act) (doing : Doing) (x : Link) (heard : List ℕ) (moved : Bool) (room : ℕ)
+        → l' ≡ x → batches_in (a ∷ []) ≡ [] → Did clients (a ∷ []) s1 s1 o1 o'
         → ((first : ℕ) → l.session.number ≡ first + n
-        → LinkActs clients first n (owing_at first heard moved room) a (paid q))
-        → LinkMakes clients n l.session.number (due_at heard moved room) q s s1 o o' 1
-    puts_by a q heard moved room none did steps = λ first at. record {
-      went = record {
-        acts = Does (Commit (out_batch l.session.number now what)) ∷ (a ∷ []);
-        path = (
-          owing_at first heard moved room,
-          out_step first at heard moved room,
-          (paid q, steps first at, refl),
-        );
-        did = did_then did_commit did;
-      };
-      counts = ap (λ (l : Journal). suc (length l)) none;
-    }
+        → LinkActs clients first n (owing_at first heard moved room) a
+        (paid (spot_at doing x heard true
+        (after_all s.state.facts (out_batch l.session.number now what)))))
+        → LinkMakes clients n l.session.number (due_at heard moved room)
+        (spot_at doing l' heard true s1.state.facts) s s1 o o' 1
+    puts_by a doing x heard moved room is_x none did steps =
+        subst (λ (y : Link). LinkMakes clients n l.session.number (due_at heard moved room)
+        (spot_at doing y heard true s1.state.facts) s s1 o o' 1) (sym is_x)
+        (subst (λ (f : Facts). LinkMakes clients n l.session.number (due_at heard moved room)
+        (spot_at doing x heard true f) s s1 o o' 1) facts_are
+        (λ first at. record {
+          went = record {
+            acts = Does (Commit (out_batch l.session.number now what)) ∷ (a ∷ []);
+            path = (
+              owing_at first heard moved room,
+              out_step first at heard moved room,
+              (paid _, steps first at, refl),
+            );
+            did = did_then did_commit did;
+          };
+          counts = ap (λ (l : Journal). suc (length l)) none;
+        }))
 
     by_result : (result : Result (Unit {0}) Failed) → SendsBytes n bytes result o1.links o'.links
         → EndsBy result l l' → (heard : List ℕ) (moved : Bool) (room : ℕ)
@@ -230,25 +238,22 @@ module _ (clients : Meaning) (n now : ℕ) (what : Out) (l : Link) (s : StoreVal
       doing = Sends now room;
       goes_on = inl (refl, ap (λ x. is_sent_to x.end) ends ∙ open_is);
       makes =
-          subst (λ (x : Link). LinkMakes clients n l.session.number (due_at heard moved room) (spot_at (Sends now room) x heard true s1.state.facts) s s1 o o' 1) (sym ends)
-          (subst (λ (f : Facts). LinkMakes clients n l.session.number (due_at heard moved room) (spot_at (Sends now room) l heard true f) s s1 o o' 1) facts_are
-          (puts_by (Send n bytes) (record (put_at heard moved room) { doing = Sends now room }) heard moved room refl
+          puts_by (Send n bytes) (Sends now room) l heard moved room ends refl
           (did_send stand clients n bytes s1 o1 o' roomy within sends.call u went)
-          (λ first at. inl (owed_bytes first at, refl, out_paid first at))));
+          (λ first at. inl (owed_bytes first at, refl, out_paid first at));
     }
     by_result (Err why) went ends heard moved room open_is = record {
       doing = Done;
       goes_on = inr (refl, ap (λ x. is_sent_to x.end) ends);
       makes =
-          subst (λ (x : Link). LinkMakes clients n l.session.number (due_at heard moved room) (spot_at Done x heard true s1.state.facts) s s1 o o' 1) (sym ends)
-          (subst (λ (f : Facts). LinkMakes clients n l.session.number (due_at heard moved room) (spot_at Done (record l { end = link_end.Failed }) heard true f) s s1 o o' 1) facts_are
-          (puts_by (Fail n bytes went.sent.0) (failed_spot (put_at heard moved room)) heard moved room refl
+          puts_by (Fail n bytes went.sent.0) Done (record l { end = link_end.Failed }) heard moved
+          room ends refl
           (did_fail stand clients n bytes s1 o1 o' roomy within sends.call why went)
           (λ first at. (
             front_same _ _ (sym (owed_bytes first at)),
             (refl, refl),
             out_paid first at,
-          ))));
+          ));
     }
 
     pub put_went : PutWent clients n now l l' s s1 o o'
