@@ -375,7 +375,8 @@ has_begun clients n x begun first second l0 l s s1 o o1 o2 batch is settled comm
           subst (λ (r : ReaderState). AwaitsBytes r)
           (sym (greeted_reader n first second l0 l greets.acts greets.is)) awaits;
       cause = λ failed.
-          elim ((link_then {l = l0} {l1 = l0} (link_kept commits.did.goes refl refl) goes).cause failed) [
+          let all = link_then {l = l0} {l1 = l0} (link_kept commits.did.goes refl refl) goes in
+          elim (all.cause failed) [
             | inl before ↦
                 absurd (let e : link_end.Going ≡ link_end.Failed = sym going ∙ before in cc)
             | inr rose ↦ rose
