@@ -1,5 +1,5 @@
 -- A batch that is added beside the sessions.
-use Rattle.std.proofs.Common.{◌≡◌, ◌≢◌, ℕ, Bool, false, List, [], ◌∷◌, ◌++◌, refl, sym, ap, ◌∙◌, subst, inl, inr, arith, Some, Result, append-nil}
+use Rattle.std.proofs.Common.{◌≡◌, ◌≢◌, ℕ, false, List, [], ◌∷◌, ◌++◌, refl, sym, ap, ◌∙◌, subst, inl, inr, arith, Some, Result, append-nil}
 use Rattle.outside.specs.Files.{Two, File}
 use Rattle.outside.specs.Links.{sent_of}
 use Rattle.outside.specs.Outside.{Outside}
@@ -9,7 +9,7 @@ use Rattle.sync_rules.specs.declared.entries.Entry.TheVariants as entry
 use Rattle.sync_rules.specs.Allows.{is_account_kind, is_settling_kind}
 use Rattle.sync_rules.specs.Clients.{Meaning}
 use Rattle.sync_rules.specs.Facts.{Facts, after_all, after_batches, facts, session_at}
-use Rattle.sync_rules.specs.Legal.{Allowed, AllSettling}
+use Rattle.sync_rules.specs.Legal.{AllSettling}
 use Rattle.sync_rules.proofs.StepKinds.{all_settling_only}
 use Rattle.sync_store.specs.Store.{StoreValue}
 use Rattle.sync_store.specs.Fitting.{FitsFiles}
@@ -19,39 +19,32 @@ use Rattle.sync_store.specs.declared.fault.StoreFault.{StoreFault}
 use Rattle.sync_node.specs.declared.link.Link.{Link}
 use Rattle.sync_node.specs.Adding.{AddsAtMost, IsPlain}
 use Rattle.sync_node.specs.Batches.{Added}
-use Rattle.sync_node.specs.Node.{AreAttached, MayGoOn, NodeValue}
+use Rattle.sync_node.specs.Node.{AreAttached, MayGoOn}
 use Rattle.sync_node.specs.Output.{Journal}
 use Rattle.sync_node.proofs.CommitLaws.{settling_front}
-use Rattle.sync_node.proofs.NodeLaws.{node_of}
 
 -- ---- a plain batch
 
-pub plain_kind : (batch : List Entry) → IsPlain batch → is_settling_kind batch ≡ false
-plain_kind (entry.Contact c ∷ []) plain = refl
-plain_kind (entry.Group def ∷ []) plain = refl
-plain_kind (entry.Level c g l ∷ []) plain = refl
-plain_kind (entry.Author m ∷ []) plain = refl
-plain_kind _ plain = absurd plain
-
-pub plain_own : (batch : List Entry) → IsPlain batch → is_account_kind batch ≡ false
-plain_own (entry.Contact c ∷ []) plain = refl
-plain_own (entry.Group def ∷ []) plain = refl
-plain_own (entry.Level c g l ∷ []) plain = refl
-plain_own (entry.Author m ∷ []) plain = refl
-plain_own _ plain = absurd plain
-
--- it leaves the sessions, and how many have begun
+-- the sessions, and how many have begun, are left
 record LeavesSessions (f later : Facts) : Type 0 where
   sessions : later.sessions ≡ f.sessions
   begun : later.begun ≡ f.begun
 
-plain_leaves : (f : Facts) (batch : List Entry) → IsPlain batch
-    → LeavesSessions f (after_all f batch)
-plain_leaves f (entry.Contact c ∷ []) plain = record { sessions = refl; begun = refl }
-plain_leaves f (entry.Group def ∷ []) plain = record { sessions = refl; begun = refl }
-plain_leaves f (entry.Level c g l ∷ []) plain = record { sessions = refl; begun = refl }
-plain_leaves f (entry.Author m ∷ []) plain = record { sessions = refl; begun = refl }
-plain_leaves f _ plain = absurd plain
+pub record PlainBatch (f : Facts) (batch : List Entry) : Type 0 where
+  pub kind : is_settling_kind batch ≡ false
+  pub own : is_account_kind batch ≡ false
+  leaves : LeavesSessions f (after_all f batch)
+
+pub plain_of : (f : Facts) (batch : List Entry) → IsPlain batch → PlainBatch f batch
+plain_of f (entry.Contact c ∷ []) plain =
+    record { kind = refl; own = refl; leaves = record { sessions = refl; begun = refl } }
+plain_of f (entry.Group def ∷ []) plain =
+    record { kind = refl; own = refl; leaves = record { sessions = refl; begun = refl } }
+plain_of f (entry.Level c g l ∷ []) plain =
+    record { kind = refl; own = refl; leaves = record { sessions = refl; begun = refl } }
+plain_of f (entry.Author m ∷ []) plain =
+    record { kind = refl; own = refl; leaves = record { sessions = refl; begun = refl } }
+plain_of f _ plain = absurd plain
 
 -- ---- the batch, and settling behind it
 
@@ -68,7 +61,7 @@ leaves clients batch s s' o o' added plain =
     by_more (b ∷ rest) adds are some =
         let first : after_all s.state.facts b ≡ after_all s.state.facts batch = ap (λ (x : List Entry). after_all s.state.facts x) adds.0 in
         let behind : s'.state.facts ≡ after_batches (after_all s.state.facts batch) rest = are ∙ ap (λ (f : Facts). after_batches f rest) first in
-        let plainly = plain_leaves s.state.facts batch plain in
+        let plainly = (plain_of s.state.facts batch plain).leaves in
         let only = all_settling_only clients (after_all s.state.facts batch) rest adds.1 in
         record {
           sessions = ap (λ (f : Facts). f.sessions) behind ∙ (only.sessions ∙ plainly.sessions);
@@ -137,17 +130,3 @@ extended_leads clients batch s s' result o o' has two files j fits =
     (λ k between. at_most clients batch s.state.facts has.more has.adds j k between.front between.rest fits.facts_are between.parts between.is)
     (λ k end. at_most clients batch s.state.facts has.more has.adds j k has.more [] fits.facts_are (sym (append-nil has.more)) end)
     (has.runs.leads two files j fits)
-
-pub node_allowed : (clients : Meaning) (s : StoreValue) (first : ℕ) (links : List Link)
-    (closed : Bool) (n : NodeValue) (batch : List Entry) → node_of s first links closed ≡ n
-    → (n.closed ≡ false → Allowed clients n.store.state.facts batch) → closed ≡ false
-    → Allowed clients s.state.facts batch
-node_allowed clients s first links closed n batch is allowed =
-    subst (λ (m : NodeValue). (m.closed ≡ false → Allowed clients m.store.state.facts batch) → closed ≡ false → Allowed clients s.state.facts batch) is (λ then opened. then opened) allowed
-
--- the store of a node before
-pub node_fits : (clients : Meaning) (s : StoreValue) (first : ℕ) (links : List Link)
-    (closed : Bool) (n : NodeValue) (j : Journal) (two : Two File)
-    → node_of s first links closed ≡ n → FitsFiles clients n.store j two → FitsFiles clients s j two
-node_fits clients s first links closed n j two is fits =
-    subst (λ (m : NodeValue). FitsFiles clients m.store j two) (sym is) fits

@@ -1,10 +1,10 @@
 -- The links of a node with one more.
-use Rattle.std.proofs.Common.{◌≡◌, ◌⊎◌, ℕ, zero, suc, ◌+◌, ◌<◌, ◌≤◌, Bool, true, false, List, [], ◌∷◌, ◌++◌, length, refl, sym, ap, ◌∙◌, subst, inl, inr, arith, Some}
-use Rattle.std.specs.List.{slice_get}
+use Rattle.std.proofs.Common.{◌≡◌, ℕ, ◌+◌, ◌<◌, ◌≤◌, true, List, [], ◌∷◌, ◌++◌, length, refl, sym, ap, ◌∙◌, subst, inl, inr, arith}
 use Rattle.std.proofs.lemmas.List.{length-append}
 use Rattle.outside.specs.Outside.{Outside}
 use Rattle.sync_rules.specs.declared.entries.Session.{Session}
 use Rattle.sync_rules.specs.Clients.{Meaning}
+use Rattle.sync_course.proofs.RunLaws.{get_push_cases}
 use Rattle.sync_rules.proofs.Continuing.{continues_all}
 use Rattle.sync_rules.specs.Facts.{Facts, after_all, session_at}
 use Rattle.sync_rules.specs.Legal.{Allowed, suits_nonce}
@@ -13,19 +13,10 @@ use Rattle.sync_rules.specs.Steps.{IsSettled}
 use Rattle.sync_store.specs.Store.{StoreValue}
 use Rattle.sync_node.specs.declared.link.Link.{Link}
 use Rattle.sync_node.specs.Going.{LetsNothingFall}
-use Rattle.sync_node.specs.Node.{AreAttached, IsAttached, MayGoOn, NodeValue}
+use Rattle.sync_node.specs.Node.{AreAttached, IsAttached, MayGoOn}
 use Rattle.sync_node.specs.OnRuns.{StartWentLast}
 use Rattle.sync_node.specs.Starting.{HasBegun}
-use Rattle.sync_node.proofs.NodeLaws.{node_of}
 use Rattle.sync_node.proofs.StartLaws.{session_batch}
-
-pub get_push : {A : Type 0} (xs : List A) (x : A) (i : ℕ) (y : A)
-    → slice_get (xs ++ x ∷ []) i ≡ Some y → (slice_get xs i ≡ Some y) ⊎ ((i ≡ length xs) × (y ≡ x))
-get_push [] x zero y e = inr (refl, cc)
-get_push [] x (suc i) y e = cc
-get_push (z ∷ xs) x zero y e = inl e
-get_push (z ∷ xs) x (suc i) y e =
-    elim (get_push xs x i y e) [ inl here ↦ inl here | inr last ↦ inr (ap suc last.0, last.1) ]
 
 -- a session of a plan may begin
 pub plan_allowed : (clients : Meaning) (f : Facts) (x : Session) → IsSettled clients f
@@ -55,7 +46,7 @@ module _ (clients : Meaning) (first link : ℕ) (x : Session) (links : List Link
         let one : s'.state.facts.begun ≡ s.state.facts.begun + 1 = ap (λ (f : Facts). f.begun) facts in
         let long : length (links ++ l ∷ []) ≡ length links + 1 = length-append links (l ∷ []) in
         omega (arith, one, long, attached.begun);
-    each = λ n y there. elim (get_push links l n y there) [
+    each = λ n y there. elim (get_push_cases links l n y there) [
       | inl here ↦
           let was = attached.each n y here in
           record {
@@ -101,10 +92,3 @@ attached_may clients link x links links' s s' o o' dialled last goes starts = re
   settled = λ _. starts.begun.settled;
   dialled = omega (arith, dialled, last, one_longer clients link x links links' s s' o o' starts, goes.links.dialled);
 }
-
-pub node_settled : (clients : Meaning) (s : StoreValue) (first : ℕ) (links : List Link)
-    (closed : Bool) (n : NodeValue) → node_of s first links closed ≡ n
-    → (n.closed ≡ false → IsSettled clients n.store.state.facts) → closed ≡ false
-    → IsSettled clients s.state.facts
-node_settled clients s first links closed n is settled =
-    subst (λ (m : NodeValue). (m.closed ≡ false → IsSettled clients m.store.state.facts) → closed ≡ false → IsSettled clients s.state.facts) is (λ then opened. then opened) settled

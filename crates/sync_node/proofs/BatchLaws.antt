@@ -18,11 +18,10 @@ use Rattle.sync_store.specs.declared.fault.StoreFault.{StoreFault}
 use Rattle.sync_store.specs.declared.fault.StoreFault.TheVariants as store_fault
 use Rattle.sync_course.specs.Acts.{commit_acts}
 use Rattle.sync_node.specs.Batches.{Added, AddingBreaks, AddingFull, CommitsAndSettles, Breaks, Committed, HasNoRoom, Settled, SettlesBy, SettlingBreaks, NodeStaysIdle}
-use Rattle.sync_node.specs.Courses.{ReadsFront}
 use Rattle.sync_node.specs.Did.{Did}
 use Rattle.sync_node.specs.Output.{Journal}
-use Rattle.sync_node.proofs.CourseLaws.{at_most_between, commit_reads, reads_front, settle_reads, told_as}
-use Rattle.sync_node.proofs.PrimLaws.{did_batches, did_some, did_unasked}
+use Rattle.sync_node.proofs.CourseLaws.{at_most_between, told_as}
+use Rattle.sync_node.proofs.PrimLaws.{did_batches, did_breaks, did_unasked}
 
 -- ---- one batch
 
@@ -52,18 +51,9 @@ pub commit_breaks : (clients : Meaning) (s s' : StoreValue) (batch : List Entry)
     → AddsTo clients batch (Err store_fault.DiskFault) s s' o o'
     → CountRose o.disk_faults o'.disk_faults → Breaks clients (batch ∷ []) s s' o o'
 commit_breaks clients s s' batch o o' ready run made answer adds rose =
-    let stood =
-    commit_reads clients s s' batch (Err store_fault.DiskFault) o o' ready.fits run.same_told adds in
-    record {
-      front = stood.front;
-      others = stood.others;
-      parts = stood.parts;
-      did =
-          did_some clients s s' (batch ∷ []) o o' (λ j whole. WithAtMost j batch whole)
-          (λ j whole. whole ≡ j) ready.fits run made answer.2.limit answer.2.format
-          (at_most_between batch) adds stood;
-      rose = rose;
-    }
+    did_breaks clients s s' (batch ∷ []) o o' (λ j whole. WithAtMost j batch whole)
+    (λ j whole. whole ≡ j) ready.fits run made answer.2.limit answer.2.format
+    (at_most_between batch) adds rose
 
 -- the host was not called, and the store is as it was
 pub commit_idle : {H : Type 0} (tells : H → Outside) (clients : Meaning) (s s' : StoreValue)
@@ -119,22 +109,14 @@ pub settle_breaks : (clients : Meaning) (s s' : StoreValue) (result : Result (Un
     (o o' : Outside) → IsReady clients s o.files → DiskRun o o'
     → HasSettled clients s s' result o o' → CountRose o.disk_faults o'.disk_faults
     → SettlingBreaks clients s s' o o'
-settle_breaks clients s s' result o o' ready run has rose =
-    let stood = settle_reads clients s s' result o o' has ready.fits run.same_told in
-    record {
-      more = has.more;
-      settling = has.comes.settling;
-      breaks = record {
-        front = stood.front;
-        others = stood.others;
-        parts = stood.parts;
-        did =
-            did_some clients s s' has.more o o' (λ j whole. IsBetween j has.more whole)
-            (λ j whole. whole ≡ j ++ has.more) ready.fits run has.comes.calls.most has.comes.limit
-            has.comes.format (λ j whole between. between) has.comes.leads stood;
-        rose = rose;
-      };
-    }
+settle_breaks clients s s' result o o' ready run has rose = record {
+  more = has.more;
+  settling = has.comes.settling;
+  breaks =
+      did_breaks clients s s' has.more o o' (λ j whole. IsBetween j has.more whole)
+      (λ j whole. whole ≡ j ++ has.more) ready.fits run has.comes.calls.most has.comes.limit
+      has.comes.format (λ j whole between. between) has.comes.leads rose;
+}
 
 -- ---- a batch that is added
 
@@ -158,25 +140,15 @@ module _ (clients : Meaning) (batch : List Entry) (s s' : StoreValue)
   }
 
   pub add_breaks : CountRose o.disk_faults o'.disk_faults → AddingBreaks clients batch s s' o o'
-  add_breaks rose =
-      let stood : ReadsFront clients has.more s o o' =
-      reads_front clients s s' has.more o o' (λ j whole. IsBetween j has.more whole)
-      (λ j whole. whole ≡ j ++ has.more) ready.fits has.runs.run.same_told (λ j whole between. between)
-      has.runs.leads in
-      record {
-        more = has.more;
-        adds = has.adds;
-        breaks = record {
-          front = stood.front;
-          others = stood.others;
-          parts = stood.parts;
-          did =
-              did_some clients s s' has.more o o' (λ j whole. IsBetween j has.more whole)
-              (λ j whole. whole ≡ j ++ has.more) ready.fits has.runs.run has.runs.calls.most
-              has.runs.limit has.runs.format (λ j whole between. between) has.runs.leads stood;
-          rose = rose;
-        };
-      }
+  add_breaks rose = record {
+    more = has.more;
+    adds = has.adds;
+    breaks =
+        did_breaks clients s s' has.more o o' (λ j whole. IsBetween j has.more whole)
+        (λ j whole. whole ≡ j ++ has.more) ready.fits has.runs.run has.runs.calls.most
+        has.runs.limit
+        has.runs.format (λ j whole between. between) has.runs.leads rose;
+  }
 
   pub add_full : has.more ≡ [] → s.limit < needed s batch → s'.closed ≡ false
       → (s'.closed ≡ false → IsReady clients s' o'.files) → AddingFull clients batch s s' o o'

@@ -1,7 +1,9 @@
 -- Why links stand Failed: one call after another.
-use Rattle.std.proofs.Common.{◌≡◌, ◌≢◌, ◌⊎◌, ℕ, zero, suc, ◌≤◌, true, false, List, [], ◌∷◌, ◌++◌, length, set, refl, sym, ap, ◌∙◌, subst, inl, inr, arith, Some, Result, Ok, Err}
+use Rattle.std.proofs.Common.{◌≡◌, ◌≢◌, ◌⊎◌, ℕ, zero, suc, ◌≤◌, Bool, true, false, cond, List, []}
+use Rattle.std.proofs.Common.{◌∷◌, ◌++◌, length, set, refl, sym, ap, ◌∙◌, subst, inl, inr, arith}
+use Rattle.std.proofs.Common.{Some, Result, Ok, Err}
 use Rattle.std.specs.List.{slice_get}
-use Rattle.std.proofs.lemmas.Bool.{cases_eq, false≢true}
+use Rattle.std.proofs.lemmas.Bool.{cases_eq}
 use Rattle.outside.specs.declared.failed.Failed.{Failed}
 use Rattle.outside.specs.Faults.{CountRose, one_more}
 use Rattle.outside.specs.Host.{SendsOnLink}
@@ -9,21 +11,19 @@ use Rattle.outside.specs.Outside.{Outside}
 use Rattle.record_grammar.specs.declared.stream.Ending.{Ending}
 use Rattle.record_grammar.specs.declared.stream.Ending.TheVariants as ending_kind
 use Rattle.sync_ids.specs.declared.records.Record.{Record}
-use Rattle.sync_ids.specs.declared.records.Record.TheVariants as record_kind
-use Rattle.sync_course.proofs.LinkLaws.{contains_zero, zero_contained}
-use Rattle.sync_course.specs.Links.{has_zero}
 use Rattle.sync_rules.specs.declared.entries.Session.{Session}
 use Rattle.sync_node.specs.declared.link.Link.{Link}
-use Rattle.sync_course.specs.declared.ends.LinkEnd.{LinkEnd}
 use Rattle.sync_course.specs.declared.ends.LinkEnd.TheVariants as link_end
 use Rattle.sync_node.specs.Causes.{LinkGoes, LinksGo, StandsFailed, sessions_of}
-use Rattle.sync_course.specs.Links.{stands_ended}
+use Rattle.sync_course.specs.Links.{closes, stands_ended}
 use Rattle.sync_node.specs.Going.{LetsNothingFall}
-use Rattle.sync_node.specs.Hearing.{ClosesBy, LearnsNonce}
+use Rattle.sync_node.specs.Hearing.{LearnsNonce}
 use Rattle.sync_node.specs.Redundant.{ClosesSome}
 use Rattle.sync_node.specs.Sending.{EndsBy, SendsOn}
-use Rattle.sync_node.proofs.AttachLaws.{get_push}
-use Rattle.sync_node.proofs.NodeLaws.{get_set_other, get_set_same}
+use Rattle.sync_course.proofs.LiftLaws.{get_other}
+use Rattle.sync_course.proofs.RunLaws.{get_push_cases}
+use Rattle.sync_node.proofs.CourseTakes.{end_same}
+use Rattle.sync_node.proofs.NodeLaws.{get_set_same}
 use Rattle.sync_node.proofs.OutLaws.{goes_send}
 use Rattle.sync_node.proofs.SafeLaws.{goes_none}
 use Rattle.sync_node.proofs.WorkLaws.{goes_then}
@@ -39,62 +39,64 @@ rose_before a b c before rose = let r : one_more b ≤ c = rose in omega (arith,
 -- ---- one link
 
 -- the link did not fail
-pub link_kept : (number : ℕ) (l l' : Link) (o o' : Outside) → LetsNothingFall o o' → l'.session ≡ l.session
-    → l'.end ≡ l.end → LinkGoes number l l' o o'
-link_kept number l l' o o' goes same_session same = record {
+pub link_kept : {number : ℕ} {l l' : Link} {o o' : Outside} → LetsNothingFall o o'
+    → l'.session ≡ l.session → l'.end ≡ l.end → LinkGoes number l l' o o'
+link_kept goes same_session same = record {
   same_session = same_session;
   goes = goes;
   cause = λ failed. inl (sym same ∙ failed);
 }
 
-pub link_unfailed : (number : ℕ) (l l' : Link) (o o' : Outside) → LetsNothingFall o o'
+pub link_unfailed : {number : ℕ} {l l' : Link} {o o' : Outside} → LetsNothingFall o o'
     → l'.session ≡ l.session → l'.end ≢ link_end.Failed → LinkGoes number l l' o o'
-link_unfailed number l l' o o' goes same_session unfailed = record {
+link_unfailed goes same_session unfailed = record {
   same_session = same_session;
   goes = goes;
   cause = λ failed. absurd (unfailed failed);
 }
 
-pub link_none : (number : ℕ) (l : Link) (o : Outside) → LinkGoes number l l o o
-link_none number l o = link_kept number l l o o (goes_none o) refl refl
+pub link_none : {number : ℕ} {l : Link} {o : Outside} → LinkGoes number l l o o
+link_none {o = o} = link_kept (goes_none o) refl refl
 
 -- a call on it failed
-pub link_failed : (number : ℕ) (l l' : Link) (o o' : Outside) → LetsNothingFall o o'
+pub link_failed : {number : ℕ} {l l' : Link} {o o' : Outside} → LetsNothingFall o o'
     → l'.session ≡ l.session → CountRose (o.links.faults number) (o'.links.faults number)
     → LinkGoes number l l' o o'
-link_failed number l l' o o' goes same_session rose = record { same_session = same_session; goes = goes; cause = λ failed. inr rose }
+link_failed goes same_session rose =
+    record { same_session = same_session; goes = goes; cause = λ failed. inr rose }
 
-pub link_then : (number : ℕ) (l l1 l2 : Link) (o o1 o2 : Outside) → LinkGoes number l l1 o o1
+pub link_then : {number : ℕ} {l l1 l2 : Link} {o o1 o2 : Outside} → LinkGoes number l l1 o o1
     → LinkGoes number l1 l2 o1 o2 → LinkGoes number l l2 o o2
-link_then number l l1 l2 o o1 o2 first second = record {
+link_then {number = n} {o = o} {o1 = o1} {o2 = o2} first second = record {
   same_session = second.same_session ∙ first.same_session;
   goes = goes_then o o1 o2 first.goes second.goes;
   cause = λ failed. elim (second.cause failed) [
     | inl before ↦ elim (first.cause before) [
       | inl at_first ↦ inl at_first
-      | inr rose ↦ inr (rose_later (o.links.faults number) (o1.links.faults number) (o2.links.faults number) rose (second.goes.links.faults number))
+      | inr rose ↦
+          inr (rose_later (o.links.faults n) (o1.links.faults n) (o2.links.faults n) rose
+          (second.goes.links.faults n))
     ]
-    | inr rose ↦ inr (rose_before (o.links.faults number) (o1.links.faults number) (o2.links.faults number) (first.goes.links.faults number) rose)
+    | inr rose ↦
+        inr (rose_before (o.links.faults n) (o1.links.faults n) (o2.links.faults n)
+        (first.goes.links.faults n) rose)
   ];
 }
 
-pub link_sent : (number : ℕ) (bytes : List ℕ) (l l' : Link) (o o' : Outside)
+pub link_sent : {number : ℕ} {bytes : List ℕ} {l l' : Link} {o o' : Outside}
     → SendsOn number bytes l l' o o' → LinkGoes number l l' o o'
-link_sent number bytes l l' o o' sends = by_result sends.result sends.sends sends.ends
+link_sent {number = n} {bytes = bytes} {l = l} {l' = l'} {o = o} {o' = o'} sends =
+    by_result sends.result sends.sends sends.ends
   where
-    by_result : (result : Result (Unit {0}) Failed) → SendsOnLink number bytes result o.links o'.links
-        → EndsBy result l l' → LinkGoes number l l' o o'
-    by_result (Ok u) went ends = link_kept number l l' o o' (goes_send o o' number bytes l l' sends) (ap (λ (x : Link). x.session) ends) (ap (λ (x : Link). x.end) ends)
-    by_result (Err e) went ends = link_failed number l l' o o' (goes_send o o' number bytes l l' sends) (ap (λ (x : Link). x.session) ends) went.faults.failed
+    goes : LetsNothingFall o o'
+    goes = goes_send o o' n bytes l l' sends
 
--- a link that began as going, behind a commit
-pub greeted_cause : (number : ℕ) (l0 l : Link) (o o1 o2 : Outside) → LetsNothingFall o o1
-    → l0.end ≡ link_end.Going → LinkGoes number l0 l o1 o2
-    → l.end ≡ link_end.Failed → CountRose (o.links.faults number) (o2.links.faults number)
-greeted_cause number l0 l o o1 o2 goes going greets failed = elim (greets.cause failed) [
-  | inl before ↦ absurd (let e : link_end.Going ≡ link_end.Failed = sym going ∙ before in cc)
-  | inr rose ↦ rose_before (o.links.faults number) (o1.links.faults number) (o2.links.faults number) (goes.links.faults number) rose
-]
+    by_result : (result : Result (Unit {0}) Failed) → SendsOnLink n bytes result o.links o'.links
+        → EndsBy result l l' → LinkGoes n l l' o o'
+    by_result (Ok u) went ends =
+        link_kept goes (ap (λ (x : Link). x.session) ends) (ap (λ (x : Link). x.end) ends)
+    by_result (Err e) went ends =
+        link_failed goes (ap (λ (x : Link). x.session) ends) went.faults.failed
 
 -- ---- how links end that did not fail
 
@@ -103,37 +105,15 @@ ended_unfailed ending_kind.Clean is = cc
 ended_unfailed (ending_kind.Inside place) is = cc
 ended_unfailed (ending_kind.Bad place why) is = cc
 
-kept_unfailed : (old new : LinkEnd) → new ≡ old → old ≡ link_end.Going → new ≢ link_end.Failed
-kept_unfailed old new same going failed =
-    let e : link_end.Going ≡ link_end.Failed = sym going ∙ (sym same ∙ failed) in cc
-
-versions_unfailed : (place : ℕ) (versions : List ℕ) (old new : LinkEnd)
-    → ClosesBy place (record_kind.Versions versions) old new → old ≡ link_end.Going
-    → new ≢ link_end.Failed
-versions_unfailed place versions old new closing going failed =
-    elim (has_zero versions) as (λ b. has_zero versions ≡ b → ⊥) [
-      | true ↦ λ has. kept_unfailed old new (closing.0 (zero_contained versions has)) going failed
-      | false ↦ λ has.
-          let closed : new ≡ link_end.NoVersion place = closing.1 (λ there. false≢true (sym has ∙ contains_zero versions there)) in
-          let e : link_end.NoVersion place ≡ link_end.Failed = sym closed ∙ failed in
-          cc
-    ] refl
-
-closes_unfailed : (place : ℕ) (r : Record) (old new : LinkEnd) → ClosesBy place r old new
-    → old ≡ link_end.Going → new ≢ link_end.Failed
-closes_unfailed place (record_kind.Versions versions) old new closing going =
-    versions_unfailed place versions old new closing going
-closes_unfailed place (record_kind.Ack ids) old new same going = kept_unfailed old new same going
-closes_unfailed place (record_kind.Message m) old new same going = kept_unfailed old new same going
-closes_unfailed place (record_kind.Offer ids) old new same going = kept_unfailed old new same going
-closes_unfailed place (record_kind.Request ids) old new same going =
-    kept_unfailed old new same going
-closes_unfailed place (record_kind.Priority nonce) old new same going =
-    kept_unfailed old new same going
-
 pub learnt_unfailed : (place : ℕ) (r : Record) (l l' : Link) → LearnsNonce place r l l'
     → l.end ≡ link_end.Going → l'.end ≢ link_end.Failed
-learnt_unfailed place r l l' learns going = closes_unfailed place r l.end l'.end learns.end going
+learnt_unfailed place r l l' learns going failed =
+    by (closes r) (ap (cond (closes r) (link_end.NoVersion place)) (sym going)
+    ∙ (end_same place r l.end l'.end learns.end ∙ failed))
+  where
+    by : (b : Bool) → cond b (link_end.NoVersion place) link_end.Going ≡ link_end.Failed → ⊥
+    by true is = cc
+    by false is = cc
 
 -- ---- the sessions of all links
 
@@ -167,15 +147,17 @@ sessions_closed (x ∷ old) (y ∷ new) closes =
     } in
     ap (λ (s : Session). s ∷ sessions_of new) same ∙ ap (λ (ss : List Session). x.session ∷ ss) (sessions_closed old new rest)
 
--- links that were lent
-pub sessions_as : (links lent new kept : List Link) → lent ≡ links → kept ≡ new
-    → sessions_of new ≡ sessions_of lent → sessions_of kept ≡ sessions_of links
-sessions_as links lent new kept is is_kept same = ap sessions_of is_kept ∙ same ∙ ap sessions_of is
+-- links with as many sessions are as many
+pub same_long : (old new : List Link) → sessions_of old ≡ sessions_of new → length old ≡ length new
+same_long [] [] same = refl
+same_long [] (y ∷ new) same = cc
+same_long (x ∷ old) [] same = cc
+same_long (x ∷ old) (y ∷ new) same =
+    let heads : x.session ∷ sessions_of old ≡ y.session ∷ sessions_of new = same in
+    let tails : sessions_of old ≡ sessions_of new = cc in
+    ap suc (same_long old new tails)
 
 -- ---- all links
-
-pub links_go_none : (links : List Link) (o : Outside) → LinksGo links links o o
-links_go_none links o = record { goes = goes_none o; cause = λ number stands. inl stands }
 
 -- the links are as before
 pub links_go_same : (links links' : List Link) (o o' : Outside) → links' ≡ links → LetsNothingFall o o'
@@ -206,7 +188,11 @@ links_go_set place links links1 l l' o o1 o2 first here second = record {
                   inr (subst (λ k. CountRose (o.links.faults k) (o2.links.faults k)) (sym same)
                   (rose_before (o.links.faults place) (o1.links.faults place) (o2.links.faults place) (first.goes.links.faults place) rose))
             ]
-        | inr apart ↦ earlier (record { link = stands.link; there = sym (get_set_other links1 place number l' apart) ∙ stands.there; failed = stands.failed })
+        | inr apart ↦ earlier (record {
+          link = stands.link;
+          there = sym (get_other links1 place number l' apart) ∙ stands.there;
+          failed = stands.failed;
+        })
       ];
 }
 
@@ -231,18 +217,11 @@ pub links_go_push : (number : ℕ) (links links' : List Link) (l : Link) (o o' :
 links_go_push number links links' l o o' last pushed goes cause = record {
   goes = goes;
   cause = λ n stands.
-      elim (get_push links l n stands.link (ap (λ (ls : List Link). slice_get ls n) (sym pushed) ∙ stands.there)) [
+      elim (get_push_cases links l n stands.link
+      (ap (λ (ls : List Link). slice_get ls n) (sym pushed) ∙ stands.there)) [
         | inl here ↦ inl (record { link = stands.link; there = here; failed = stands.failed })
         | inr end ↦
             inr (subst (λ k. CountRose (o.links.faults k) (o'.links.faults k)) (sym (end.0 ∙ last))
             (cause (ap (λ (x : Link). x.end) (sym end.1) ∙ stands.failed)))
       ];
 }
-
--- ---- a node
-
--- links that were lent
-pub links_go_as : (links lent new kept : List Link) (o o' : Outside) → lent ≡ links → kept ≡ new
-    → LinksGo lent new o o' → LinksGo links kept o o'
-links_go_as links lent new kept o o' is is_kept go =
-    subst (λ (ls : List Link). LinksGo ls kept o o') is (subst (λ (ls : List Link). LinksGo lent ls o o') (sym is_kept) go)

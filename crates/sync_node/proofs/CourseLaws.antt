@@ -1,6 +1,6 @@
 -- Laws for callers: what the calls of a store come to, for a course: which batches stand behind a
 -- call, whatever it answers.
-use Rattle.std.proofs.Common.{◌≡◌, false, List, [], ◌∷◌, ◌++◌, append-nil, refl, sym, ◌∙◌, ap, subst, inl, inr, Option, Some, None, is_some, Result}
+use Rattle.std.proofs.Common.{◌≡◌, false, List, [], ◌∷◌, ◌++◌, append-nil, refl, sym, ◌∙◌, ap, subst, inl, inr, Option, Some, None, is_some}
 use Rattle.outside.specs.Files.{Two, File, read_files}
 use Rattle.outside.specs.Links.{sent_of}
 use Rattle.outside.specs.Outside.{LinkCall, MakesAtMost, Outside, Moment}
@@ -10,10 +10,7 @@ use Rattle.sync_rules.specs.Clients.{Meaning}
 use Rattle.entry_codec.specs.Standing.{journal}
 use Rattle.sync_store.specs.Store.{StoreValue}
 use Rattle.sync_store.specs.Fitting.{FitsFiles, FitsSome}
-use Rattle.sync_store.specs.Moments as store_moments
-use Rattle.sync_store.specs.Moments.{IsBetween, LeadsTo, WithAtMost, journal_with}
-use Rattle.sync_store.specs.Settling.{HasSettled}
-use Rattle.sync_store.specs.declared.fault.StoreFault.{StoreFault}
+use Rattle.sync_store.specs.Moments.{IsBetween, LeadsTo, WithAtMost}
 use Rattle.sync_node.specs.Courses.{FitsWith, ReadsFront}
 
 -- files that are told on one side of a call are told on the other
@@ -96,27 +93,6 @@ at_most_between batch j whole at_most =
       | inl same ↦ record { front = []; rest = batch ∷ []; parts = refl; is = same ∙ sym (append-nil j) }
       | inr more ↦ record { front = batch ∷ []; rest = []; parts = refl; is = more }
     ]
-
-pub commit_reads : (clients : Meaning) (s s' : StoreValue) (batch : List Entry)
-    (result : Result (Unit {0}) StoreFault) (o o' : Outside)
-    → FitsSome clients s o.files → is_some o'.files ≡ is_some o.files
-    → ((two : Two File) → o.files ≡ Some two → (j : List (List Entry)) → FitsFiles clients s j two → store_moments.RunsCommit clients batch result s' o o' j)
-    → ReadsFront clients (batch ∷ []) s o o'
-commit_reads clients s s' batch result o o' fits told adds =
-    reads_front clients s s' (batch ∷ []) o o' (λ j whole. WithAtMost j batch whole) (λ j whole. whole ≡ journal_with j batch result) fits told
-    (at_most_between batch) adds
-
--- ---- settling
-
-pub settle_reads : (clients : Meaning) (s s' : StoreValue) (result : Result (Unit {0}) StoreFault)
-    (o o' : Outside) (has : HasSettled clients s s' result o o')
-    → FitsSome clients s o.files → is_some o'.files ≡ is_some o.files
-    → ReadsFront clients has.more s o o'
-settle_reads clients s s' result o o' has fits told =
-    reads_front clients s s' has.more o o' (λ j whole. IsBetween j has.more whole) (λ j whole. whole ≡ j ++ has.more) fits told
-    (λ j whole between. between) has.comes.leads
-
--- ---- the records of these
 
 -- a call on the links or the clock asks the disk nothing
 pub quiet_most : (during : Moment → Type 0) (o o' : Outside) → LinkCall during o o'

@@ -64,7 +64,7 @@ versions_end place versions old new true is closes_by =
 versions_end place versions old new false is closes_by =
     sym (closes_by.1 (λ c. false≢true (sym is ∙ contains_zero versions c)))
 
-end_same : (place : ℕ) (r : Record) (old new : LinkEnd) → ClosesBy place r old new
+pub end_same : (place : ℕ) (r : Record) (old new : LinkEnd) → ClosesBy place r old new
     → cond (closes r) (link_end.NoVersion place) old ≡ new
 end_same place (record_kind.Versions versions) old new c =
     versions_end place versions old new (has_zero versions) refl c
@@ -81,24 +81,18 @@ learned place r l l' heard learns = λ i. record {
 }
 
 -- the items that are to come behind a record
-closed_none : (place : ℕ) (versions : List ℕ) (others : List Item) (heard left : List ℕ)
-    (old new : Link) (b : Bool) → has_zero versions ≡ b
-    → old.end ≡ link_end.Going → ClosesBy place (record_kind.Versions versions) old.end new.end
-    → IsReading heard left new.reader others
-    → IsTaking heard left new (cond (cond b false true) [] others) new.end
-closed_none place versions others heard left old new true is going c reading =
-    subst (IsTaking heard left new others) (sym (c.0 (zero_contained versions is) ∙ going)) reading
-closed_none place versions others heard left old new false is going c reading =
-    subst (IsTaking heard left new []) (sym (c.1 (λ x. false≢true (sym is ∙ contains_zero versions x)))) refl
-
 pub to_come : (place : ℕ) (r : Record) (others : List Item) (heard left : List ℕ) (old new : Link)
     → old.end ≡ link_end.Going
     → ClosesBy place r old.end new.end → IsReading heard left new.reader others
     → IsTaking heard left new (items_after r others) new.end
-to_come place (record_kind.Versions versions) others heard left old new going c reading =
-    closed_none place versions others heard left old new (has_zero versions) refl going c reading
-to_come place _ others heard left old new going c reading =
-    subst (IsTaking heard left new others) (sym (c ∙ going)) reading
+to_come place r others heard left old new going c reading =
+    by (closes r) (ap (cond (closes r) (link_end.NoVersion place)) (sym going)
+    ∙ end_same place r old.end new.end c)
+  where
+    by : (b : Bool) → cond b (link_end.NoVersion place) link_end.Going ≡ new.end
+        → IsTaking heard left new (cond b [] others) new.end
+    by true is = subst (IsTaking heard left new []) is refl
+    by false is = subst (IsTaking heard left new others) is reading
 
 -- a link as a course has it, whatever its reader
 pub same_at : (l l' : Link) → l'.session ≡ l.session → l'.end ≡ l.end → l'.nonce ≡ l.nonce

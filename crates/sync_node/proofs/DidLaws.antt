@@ -1,5 +1,5 @@
 -- What calls did, one behind the other.
-use Rattle.std.proofs.Common.{◌≡◌, ℕ, ◌+◌, ◌*◌, List, [], ◌++◌, append-nil, append_assoc, length, length-append, refl, sym, ◌∙◌, ap, subst, inl, inr, arith, Option, Some, None, is_some}
+use Rattle.std.proofs.Common.{◌≡◌, ℕ, ◌+◌, ◌*◌, List, [], ◌++◌, append-nil, append_assoc, length, length-append, refl, sym, ◌∙◌, ap, subst, inl, inr, arith}
 use Rattle.outside.specs.Outside.{MakesAtMost, Moment, Outside}
 use Rattle.outside.specs.Runs.{TellsAll}
 use Rattle.outside.proofs.CallCounts.{most_none, most_then}
@@ -14,22 +14,18 @@ use Rattle.sync_node.specs.Courses.{FitsWith, ReadsAs}
 use Rattle.sync_node.specs.Did.{ComesAtFronts, Did, DidSome, HasSentBy, SinceThen}
 use Rattle.sync_node.specs.Going.{LetsNothingFall}
 use Rattle.sync_node.specs.Output.{Journal, sent_on}
+use Rattle.sync_node.proofs.CourseLaws.{told_as}
 use Rattle.sync_node.proofs.SafeLaws.{goes_none}
 use Rattle.sync_node.proofs.WorkLaws.{goes_then}
 
 -- ---- told-ness, on
 
-some_on : {A : Type 0} (a b : Option A) (x : A) → is_some b ≡ is_some a → a ≡ Some x
-    → (y : A) × (b ≡ Some y)
-some_on None b x same is = cc
-some_on (Some a) None x same is = cc
-some_on (Some a) (Some b) x same is = (b, refl)
-
 pub told_on : (o o' : Outside) → LetsNothingFall o o' → TellsAll o → TellsAll o'
 told_on o o' goes told =
-    let files = some_on o.files o'.files told.two goes.same_files told.files_are in
-    let links = some_on o.links.told o'.links.told told.links goes.links.same_told told.links_are in
-    let heard = some_on o.links.heard o'.links.heard told.heard goes.links.same_heard told.heard_are in
+    let files = told_as o.files o'.files told.two goes.same_files told.files_are in
+    let links = told_as o.links.told o'.links.told told.links goes.links.same_told told.links_are in
+    let heard = told_as o.links.heard o'.links.heard told.heard goes.links.same_heard
+    told.heard_are in
     record {
       two = files.0;
       files_are = files.1;
@@ -147,44 +143,48 @@ fronts_then clients acts bs s s1 s2 o o1 o2 first second told j fit =
     (first.moments told j fit)
     (second (told_on o o1 first.goes told) (j ++ batches_in acts) (first.fits j fit))
 
-pub did_then : (clients : Meaning) (acts bs : List Act) (s s1 s2 : StoreValue) (o o1 o2 : Outside)
+pub did_then : {clients : Meaning} {acts bs : List Act} {s s1 s2 : StoreValue} {o o1 o2 : Outside}
     → Did clients acts s s1 o o1 → Did clients bs s1 s2 o1 o2 → Did clients (acts ++ bs) s s2 o o2
-did_then clients acts bs s s1 s2 o o1 o2 first second = record {
-  goes = goes_then o o1 o2 first.goes second.goes;
-  tells = tells_then acts bs o o1 o2 first.tells second.tells;
-  sent = sent_then acts bs o o1 o2 first.goes first.sent second.sent;
-  limit = second.limit ∙ first.limit;
-  format = second.format ∙ first.format;
-  fits = λ j fit.
-      subst (λ (k : Journal). FitsWith clients s2 o2.files k)
-      (append_assoc j (batches_in acts) (batches_in bs)
-      ∙ ap (λ (l : Journal). j ++ l) (sym (batches_in-append acts bs)))
-      (second.fits (j ++ batches_in acts) (first.fits j fit));
-  calls =
-      subst (λ (n : ℕ). MakesAtMost n o o2) (calls_add acts bs [])
-      (most_then (4 * length (batches_in acts)) (4 * length (batches_in bs)) o o1 o2 first.calls second.calls);
-  moments = fronts_then clients acts bs s s1 s2 o o1 o2 first second.moments;
-}
+did_then {clients = clients} {acts = acts} {bs = bs} {s = s} {s1 = s1} {s2 = s2} {o = o} {o1 =
+    o1} {o2 = o2} first second = record {
+      goes = goes_then o o1 o2 first.goes second.goes;
+      tells = tells_then acts bs o o1 o2 first.tells second.tells;
+      sent = sent_then acts bs o o1 o2 first.goes first.sent second.sent;
+      limit = second.limit ∙ first.limit;
+      format = second.format ∙ first.format;
+      fits = λ j fit.
+          subst (λ (k : Journal). FitsWith clients s2 o2.files k)
+          (append_assoc j (batches_in acts) (batches_in bs)
+          ∙ ap (λ (l : Journal). j ++ l) (sym (batches_in-append acts bs)))
+          (second.fits (j ++ batches_in acts) (first.fits j fit));
+      calls =
+          subst (λ (n : ℕ). MakesAtMost n o o2) (calls_add acts bs [])
+          (most_then (4 * length (batches_in acts)) (4 * length (batches_in bs)) o o1 o2 first.calls
+          second.calls);
+      moments = fronts_then clients acts bs s s1 s2 o o1 o2 first second.moments;
+    }
 
-pub some_then : (clients : Meaning) (acts bs : List Act) (next : Journal) (s s1 s2 : StoreValue)
-    (o o1 o2 : Outside) → Did clients acts s s1 o o1 → DidSome clients bs next s1 s2 o1 o2
+pub some_then : {clients : Meaning} {acts bs : List Act} {next : Journal} {s s1 s2 : StoreValue}
+    {o o1 o2 : Outside} → Did clients acts s s1 o o1 → DidSome clients bs next s1 s2 o1 o2
     → DidSome clients (acts ++ bs) next s s2 o o2
-some_then clients acts bs next s s1 s2 o o1 o2 first second = record {
-  goes = goes_then o o1 o2 first.goes second.goes;
-  tells = tells_then acts bs o o1 o2 first.tells second.tells;
-  sent = sent_then acts bs o o1 o2 first.goes first.sent second.sent;
-  limit = second.limit ∙ first.limit;
-  format = second.format ∙ first.format;
-  reads = λ j fit.
-      subst (λ (k : Journal). ReadsAs clients o2.files k)
-      (append_assoc j (batches_in acts) (batches_in bs)
-      ∙ ap (λ (l : Journal). j ++ l) (sym (batches_in-append acts bs)))
-      (second.reads (j ++ batches_in acts) (first.fits j fit));
-  calls =
-      subst (λ (n : ℕ). MakesAtMost n o o2) (calls_add acts bs next)
-      (most_then (4 * length (batches_in acts)) (4 * length (next ++ batches_in bs)) o o1 o2 first.calls second.calls);
-  moments =
-      subst (λ (acts : List Act). ComesAtFronts clients acts s o o2)
-      (sym (append_assoc acts bs (commit_acts next)))
-      (fronts_then clients acts (bs ++ commit_acts next) s s1 s2 o o1 o2 first second.moments);
-}
+some_then {clients = clients} {acts = acts} {bs = bs} {next = next} {s = s} {s1 = s1} {s2 = s2} {o =
+    o} {o1 = o1} {o2 = o2} first second = record {
+      goes = goes_then o o1 o2 first.goes second.goes;
+      tells = tells_then acts bs o o1 o2 first.tells second.tells;
+      sent = sent_then acts bs o o1 o2 first.goes first.sent second.sent;
+      limit = second.limit ∙ first.limit;
+      format = second.format ∙ first.format;
+      reads = λ j fit.
+          subst (λ (k : Journal). ReadsAs clients o2.files k)
+          (append_assoc j (batches_in acts) (batches_in bs)
+          ∙ ap (λ (l : Journal). j ++ l) (sym (batches_in-append acts bs)))
+          (second.reads (j ++ batches_in acts) (first.fits j fit));
+      calls =
+          subst (λ (n : ℕ). MakesAtMost n o o2) (calls_add acts bs next)
+          (most_then (4 * length (batches_in acts)) (4 * length (next ++ batches_in bs)) o o1 o2
+          first.calls second.calls);
+      moments =
+          subst (λ (acts : List Act). ComesAtFronts clients acts s o o2)
+          (sym (append_assoc acts bs (commit_acts next)))
+          (fronts_then clients acts (bs ++ commit_acts next) s s1 s2 o o1 o2 first second.moments);
+    }

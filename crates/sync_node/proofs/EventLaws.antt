@@ -15,10 +15,9 @@ use Rattle.sync_course.specs.Paths.{BreaksPath, Path, RunsPath}
 use Rattle.sync_course.proofs.ToldLaws.{batches_of-append, readings_of-append}
 use Rattle.sync_node.specs.declared.fault.Fault.{Fault}
 use Rattle.sync_node.specs.declared.fault.Fault.TheVariants as fault
-use Rattle.sync_node.specs.Courses.{FitsWith, HasOrWillHave, ReadsAs}
-use Rattle.sync_node.specs.Did.{Did}
+use Rattle.sync_node.specs.Courses.{FitsWith, ReadsAs}
 use Rattle.sync_node.specs.Output.{Journal}
-use Rattle.sync_node.specs.Went.{HasSoon, Stopped, Went}
+use Rattle.sync_node.specs.Went.{Stopped, Went}
 
 -- ---- events without some that tell of nothing
 
@@ -150,94 +149,68 @@ module _ {P : Type 0} (clients : Meaning) (facts_of : P → Facts) (first : ℕ)
 
   -- ---- what calls did
 
-  abbrev run_by : (p q : P) (acts : List Act) (s s' : StoreValue) (o o' : Outside)
-      → EventPath step p q (events_of acts) → Did clients acts s s' o o'
-      → RunsPath step (FitsWith clients s o.files) (FitsWith clients s' o'.files) p q o o' []
-  run_by p q acts s s' o o' way did = record {
-    events = way.events;
-    path = way.path;
-    told = thins_told way.events (events_of acts) o o' way.thins did.tells;
-    journal = λ j fit.
-        subst (λ (bs : Journal). FitsWith clients s' o'.files (j ++ bs)) (sym way.thins.batches)
-        (did.fits j fit);
-    calls =
-        subst (λ (bs : Journal). MakesAtMost (4 * length bs) o o') (sym way.thins.batches) did.calls;
-  }
-
   pub runs_of : (p q : Owing P) (s s' : StoreValue) (o o' : Outside)
       → Went clients (ActStep facts_of first step) p q s s' o o'
       → RunsPath step (FitsWith clients s o.files) (FitsWith clients s' o'.files) p.at q.at o o' []
   runs_of p q s s' o o' went =
-      run_by p.at q.at went.acts s s' o o' (as_events p q went.acts went.path) went.did
+      let way : EventPath step p.at q.at (events_of went.acts) =
+      as_events p q went.acts went.path in
+      record {
+        events = way.events;
+        path = way.path;
+        told = thins_told way.events (events_of went.acts) o o' way.thins went.did.tells;
+        journal = λ j fit.
+            subst (λ (bs : Journal). FitsWith clients s' o'.files (j ++ bs)) (sym way.thins.batches)
+            (went.did.fits j fit);
+        calls =
+            subst (λ (bs : Journal). MakesAtMost (4 * length bs) o o') (sym way.thins.batches)
+            went.did.calls;
+      }
 
   -- ---- where they stopped
 
-  -- a run was broken off at a place that has this, or will have
-  pub record HaltsWith (Has : P → Type 0) (p : P) (s : StoreValue) (o o' : Outside) : Type 1 where
-    pub breaks : BreaksPath step (FitsWith clients s o.files) (ReadsAs clients o'.files) p o o'
-    pub stands : HasOrWillHave step Has breaks.to
-
-  soon_of : (Has : P → Type 0) (q : Owing P)
-      → HasSoon (ActStep facts_of first step) (λ (x : Owing P). Has x.at) q
-      → HasOrWillHave step Has q.at
-  soon_of Has q soon = elim soon [
-    | inl has ↦ inl has
-    | inr c ↦
-        inr (record { batch = c.batch; next = c.next.at; steps = c.steps.1; has = c.has })
-  ]
-
-  halts_ready : (Has : P → Type 0) (p q : Owing P) (s s' : StoreValue) (o o' : Outside)
+  breaks_ready : (p q : Owing P) (s s' : StoreValue) (o o' : Outside)
       → Went clients (ActStep facts_of first step) p q s s' o o'
-      → HasSoon (ActStep facts_of first step) (λ (x : Owing P). Has x.at) q
-      → HaltsWith Has p.at s o o'
-  halts_ready Has p q s s' o o' went soon =
-      let way : EventPath step p.at q.at (events_of went.acts) = as_events p q went.acts went.path in
+      → BreaksPath step (FitsWith clients s o.files) (ReadsAs clients o'.files) p.at o o'
+  breaks_ready p q s s' o o' went =
       let run : RunsPath step (FitsWith clients s o.files) (FitsWith clients s' o'.files) p.at q.at o o' [] =
-      run_by p.at q.at went.acts s s' o o' way went.did in
+      runs_of p q s s' o o' went in
       record {
-        breaks = record {
-          to = q.at;
-          next = [];
-          beyond = q.at;
-          goes_on = refl;
-          runs = record {
-            events = way.events;
-            path = way.path;
-            told = run.told;
-            journal = λ j fit. let fits = run.journal j fit in (fits.0, fits.1, fits.2.stands_for);
-            calls = run.calls;
-          };
+        to = q.at;
+        next = [];
+        beyond = q.at;
+        goes_on = refl;
+        runs = record {
+          events = run.events;
+          path = run.path;
+          told = run.told;
+          journal = λ j fit. let fits = run.journal j fit in (fits.0, fits.1, fits.2.stands_for);
+          calls = run.calls;
         };
-        stands = soon_of Has q soon;
       }
 
-  pub halts_of : (Has : P → Type 0) (p : Owing P) (s s' : StoreValue) (o o' : Outside) (e : Fault)
-      → Stopped clients (ActStep facts_of first step) (λ (x : Owing P). Has x.at) p s s' o o' e
-      → HaltsWith Has p.at s o o'
-  halts_of Has p s s' o o' fault.Memory stops =
-      halts_ready Has p stops.to s s' o o' stops.went stops.stands
-  halts_of Has p s s' o o' fault.Full stops =
-      halts_ready Has p stops.to s s' o o' stops.went stops.stands
-  halts_of Has p s s' o o' fault.DiskFault stops =
+  pub breaks_of : (Has : Owing P → Type 0) (p : Owing P) (s s' : StoreValue) (o o' : Outside)
+      (e : Fault) → Stopped clients (ActStep facts_of first step) Has p s s' o o' e
+      → BreaksPath step (FitsWith clients s o.files) (ReadsAs clients o'.files) p.at o o'
+  breaks_of Has p s s' o o' fault.Memory stops = breaks_ready p stops.to s s' o o' stops.went
+  breaks_of Has p s s' o o' fault.Full stops = breaks_ready p stops.to s s' o o' stops.went
+  breaks_of Has p s s' o o' fault.DiskFault stops =
       let way : EventPath step p.at stops.to.at (events_of stops.acts) =
       as_events p stops.to stops.acts stops.path in
       record {
-        breaks = record {
-          to = stops.to.at;
-          next = stops.next;
-          beyond = stops.beyond.at;
-          goes_on = commits_path stops.to stops.beyond stops.next stops.goes_on;
-          runs = record {
-            events = way.events;
-            path = way.path;
-            told = thins_told way.events (events_of stops.acts) o o' way.thins stops.did.tells;
-            journal = λ j fit.
-                subst (λ (bs : Journal). ReadsAs clients o'.files (j ++ bs)) (sym way.thins.batches)
-                (stops.did.reads j fit);
-            calls =
-                subst (λ (bs : Journal). MakesAtMost (4 * length (stops.next ++ bs)) o o')
-                (sym way.thins.batches) stops.did.calls;
-          };
+        to = stops.to.at;
+        next = stops.next;
+        beyond = stops.beyond.at;
+        goes_on = commits_path stops.to stops.beyond stops.next stops.goes_on;
+        runs = record {
+          events = way.events;
+          path = way.path;
+          told = thins_told way.events (events_of stops.acts) o o' way.thins stops.did.tells;
+          journal = λ j fit.
+              subst (λ (bs : Journal). ReadsAs clients o'.files (j ++ bs)) (sym way.thins.batches)
+              (stops.did.reads j fit);
+          calls =
+              subst (λ (bs : Journal). MakesAtMost (4 * length (stops.next ++ bs)) o o')
+              (sym way.thins.batches) stops.did.calls;
         };
-        stands = soon_of Has stops.to stops.stands;
       }

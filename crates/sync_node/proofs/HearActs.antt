@@ -5,8 +5,6 @@ use Rattle.outside.specs.declared.host.Heard.TheVariants as heard_kind
 use Rattle.outside.specs.Host.{HearsAnswer, IsAnswerCaused}
 use Rattle.outside.specs.Outside.{Outside, QuietCall}
 use Rattle.record_grammar.specs.Stream.{ending}
-use Rattle.record_grammar.specs.declared.stream.Ending.{Ending}
-use Rattle.record_grammar.specs.declared.stream.Ending.TheVariants as ending_kind
 use Rattle.record_grammar.specs.declared.stream.Item.{Item}
 use Rattle.record_stream.specs.Pieces.{ReadingsWiden}
 use Rattle.sync_rules.specs.Clients.{Meaning}
@@ -15,7 +13,7 @@ use Rattle.sync_store.specs.Store.{StoreValue}
 use Rattle.sync_course.specs.Acts.{Does}
 use Rattle.sync_course.specs.Events.{Pass, asked_event}
 use Rattle.sync_course.specs.Links.{is_going, new_items, stands_ended}
-use Rattle.sync_course.specs.LinkTurns.{Asks, Done, Spot, Takes, Waits, answered_spot}
+use Rattle.sync_course.specs.LinkTurns.{Asks, Done, Spot, Waits, answered_spot}
 use Rattle.sync_course.specs.Owing.{adds_to}
 use Rattle.sync_course.specs.Reading.{IsReading}
 use Rattle.sync_course.specs.declared.TheConstants.{PIECE_LEN}
@@ -23,15 +21,15 @@ use Rattle.sync_course.specs.declared.ends.LinkEnd.{LinkEnd}
 use Rattle.sync_course.specs.declared.ends.LinkEnd.TheVariants as link_end
 use Rattle.sync_course.proofs.CallLaws.{asked_commits, asked_step, step_at}
 use Rattle.sync_course.proofs.ReadingLaws.{ends_as, piece_comes}
-use Rattle.sync_course.proofs.ToldLaws.{told_asked, told_pass}
+use Rattle.sync_course.proofs.ToldLaws.{told_asked}
 use Rattle.sync_node.specs.declared.fault.Fault.{Fault}
 use Rattle.sync_node.specs.declared.link.Link.{Link}
 use Rattle.sync_node.specs.Courses.{link_at, spot_at}
 use Rattle.sync_node.specs.OnLinks.{HearingStopped, HearingWent, ItemsStopped, LinkWent, PieceWent}
 use Rattle.sync_node.proofs.CourseTurns.{going_end, not_going_end}
-use Rattle.sync_node.proofs.LinkActs.{link_does, link_joins, link_stops_then}
-use Rattle.sync_node.proofs.PrimLaws.{did_pass, did_quiet}
-use Rattle.sync_node.proofs.WorkLaws.{goes_heard}
+use Rattle.sync_node.proofs.LinkActs.{link_does, link_joins, link_pass, link_stops_then}
+use Rattle.sync_node.proofs.PrimLaws.{did_quiet}
+use Rattle.sync_node.proofs.WorkLaws.{ended_not_going, goes_heard}
 
 module _ (clients : Meaning) (n session : ℕ) where
   asked_adds : (given : Heard) (buf : List ℕ) (f : Facts) (first link : ℕ)
@@ -61,12 +59,21 @@ module _ (clients : Meaning) (n session : ℕ) where
       → is_going p.link.stands ≡ false
       → LinkWent clients n session p (record p { doing = Waits }) s s o o
   link_unasked p s o asks going =
-      link_does clients n session p (record p { doing = Waits }) Pass s s o o (λ first link. refl)
+      link_pass clients n session p (record p { doing = Waits }) s o
       (step_at clients n session p (record p { doing = Waits }) Pass Asks asks (going, refl))
-      (did_pass clients (Does Pass) s o refl (λ link. refl) (told_pass o o refl))
 
 module _ (clients : Meaning) (n : ℕ) (l : Link) (s : StoreValue) (o o1 : Outside) (buf : List ℕ) (whole : length buf ≡ PIECE_LEN)
     (going : l.end ≡ link_end.Going) (call : QuietCall o o1) where
+  asked_here : (given : Heard) (heard : List ℕ) (moved : Bool)
+      → HearsAnswer n given buf o.links o1.links
+      → IsAnswerCaused given (length buf) (o.links.faults n) (o1.links.faults n)
+      → LinkWent clients n l.session.number (spot_at Asks l heard moved s.state.facts)
+      (answered_spot given buf (spot_at Asks l heard moved s.state.facts)) s s o o1
+  asked_here given heard moved hears caused =
+      link_asked clients n l.session.number given buf (spot_at Asks l heard moved s.state.facts) s o
+      o1
+      refl (going_end l.end going) whole call hears caused
+
   -- nothing came for now
   pub hear_idle : HearsAnswer n heard_kind.Idle buf o.links o1.links
       → IsAnswerCaused heard_kind.Idle (length buf) (o.links.faults n) (o1.links.faults n)
@@ -77,9 +84,7 @@ module _ (clients : Meaning) (n : ℕ) (l : Link) (s : StoreValue) (o o1 : Outsi
       doing = Waits;
       has_read = read;
       ready = inl refl;
-      went =
-          link_asked clients n l.session.number heard_kind.Idle buf
-          (spot_at Asks l heard moved s.state.facts) s o o1 refl (going_end l.end going) whole call hears caused;
+      went = asked_here heard_kind.Idle heard moved hears caused;
     };
   }
 
@@ -93,16 +98,9 @@ module _ (clients : Meaning) (n : ℕ) (l : Link) (s : StoreValue) (o o1 : Outsi
       doing = Done;
       has_read = λ still. cc;
       ready = inr (refl, refl);
-      went =
-          link_asked clients n l.session.number heard_kind.Failed buf
-          (spot_at Asks l heard moved s.state.facts) s o o1 refl (going_end l.end going) whole call hears caused;
+      went = asked_here heard_kind.Failed heard moved hears caused;
     };
   }
-
-  ended_not : (e : Ending) → stands_ended e ≡ link_end.Going → ⊥
-  ended_not ending_kind.Clean is = cc
-  ended_not (ending_kind.Inside place) is = cc
-  ended_not (ending_kind.Bad place why) is = cc
 
   -- the other side ended
   pub hear_ended : (end : LinkEnd) → end ≡ stands_ended (ending l.reader.place l.reader.bytes)
@@ -117,24 +115,16 @@ module _ (clients : Meaning) (n : ℕ) (l : Link) (s : StoreValue) (o o1 : Outsi
         record {
           heard' = heard;
           doing = Waits;
-          has_read = λ still. absurd (ended_not (ending l.reader.place l.reader.bytes) (sym is ∙ still));
+          has_read =
+              λ still.
+              absurd (ended_not_going (ending l.reader.place l.reader.bytes) (sym is ∙ still));
           ready = inl refl;
           went =
               subst (λ x. LinkWent clients n l.session.number (spot_at Asks l heard moved s.state.facts)
               (record { doing = Waits; link = record (link_at l heard) { stands = x }; moved = true; facts = s.state.facts }) s s o o1) stood
-              (link_asked clients n l.session.number heard_kind.End buf
-              (spot_at Asks l heard moved s.state.facts) s o o1 refl (going_end l.end going) whole call hears caused);
+              (asked_here heard_kind.End heard moved hears caused);
         };
   }
-
-  heard_piece : (count : ℕ) (heard : List ℕ) (moved : Bool)
-      → HearsAnswer n (heard_kind.Got count) buf o.links o1.links
-      → IsAnswerCaused (heard_kind.Got count) (length buf) (o.links.faults n) (o1.links.faults n)
-      → LinkWent clients n l.session.number (spot_at Asks l heard moved s.state.facts)
-      (spot_at (Takes (new_items heard (take count buf))) l (heard ++ take count buf) true s.state.facts) s s o o1
-  heard_piece count heard moved hears caused =
-      link_asked clients n l.session.number (heard_kind.Got count) buf
-      (spot_at Asks l heard moved s.state.facts) s o o1 refl (going_end l.end going) whole call hears caused
 
   -- bytes came, and were taken
   pub hear_piece : ReadingsWiden → (count : ℕ) (l' : Link) (s' : StoreValue) (o' : Outside)
@@ -153,9 +143,8 @@ module _ (clients : Meaning) (n : ℕ) (l : Link) (s : StoreValue) (o o1 : Outsi
           has_read = taken.has_read (heard ++ bytes) its reading;
           ready = inl refl;
           went =
-              link_joins clients n l.session.number (spot_at Asks l heard moved s.state.facts)
-              (spot_at (Takes its) l (heard ++ bytes) true s.state.facts) (spot_at Waits l' (heard ++ bytes) true s'.state.facts) s s s' o o1 o'
-              (heard_piece count heard moved hears caused) (taken.went (heard ++ bytes) its true reading);
+              link_joins n (asked_here (heard_kind.Got count) heard moved hears caused)
+              (taken.went (heard ++ bytes) its true reading);
         };
   }
 
@@ -170,8 +159,8 @@ module _ (clients : Meaning) (n : ℕ) (l : Link) (s : StoreValue) (o o1 : Outsi
         let its : List Item = new_items heard bytes in
         let reading : IsReading (heard ++ bytes) bytes l.reader its = piece_comes widen heard bytes l.reader (read going) in (
           heard ++ bytes,
-          link_stops_then clients n l.session.number (link_at l' (heard ++ bytes)) (spot_at Asks l heard moved s.state.facts)
-              (spot_at (Takes its) l (heard ++ bytes) true s.state.facts) s s s' o o1 o' e (heard_piece count heard moved hears caused)
+          link_stops_then n (link_at l' (heard ++ bytes)) s' o' e
+              (asked_here (heard_kind.Got count) heard moved hears caused)
               (stopped.stops (heard ++ bytes) its true reading),
         );
   }

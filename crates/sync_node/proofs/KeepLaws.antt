@@ -1,5 +1,6 @@
 -- What work leaves, whatever was heard: one piece of it after another.
-use Rattle.std.proofs.Common.{◌≡◌, ℕ, ◌≤◌, List, [], refl, sym, ap, ◌∙◌, subst, arith, inl, inr, Some, Result, Ok, Err}
+use Rattle.std.proofs.Common.{◌≡◌, ℕ, ◌≤◌, List, [], ◌∷◌, refl, sym, ap, ◌∙◌, subst, arith, inl}
+use Rattle.std.proofs.Common.{inr, Option, None, Some, Result, Ok, Err}
 use Rattle.std.specs.Prelude.{IfErr, IsErrAnd, OnOk}
 use Rattle.outside.specs.Outside.{Outside}
 use Rattle.sync_rules.specs.declared.entries.Entry.{Entry}
@@ -12,7 +13,7 @@ use Rattle.sync_rules.specs.Steps.{IsSettled}
 use Rattle.sync_rules.specs.declared.entries.Out.{Out}
 use Rattle.sync_ids.specs.declared.records.Record.{Record}
 use Rattle.record_stream.specs.Reading.{AwaitsBytes, ReaderState}
-use Rattle.sync_course.specs.Acts.{Act}
+use Rattle.sync_course.specs.Acts.{Act, commit_acts}
 use Rattle.sync_course.specs.declared.ends.LinkEnd.TheVariants as link_end
 use Rattle.sync_rules.specs.Growth.{OnlySettles}
 use Rattle.sync_rules.proofs.StepKinds.{all_settling_only, settled_stays, takes_one}
@@ -21,20 +22,23 @@ use Rattle.sync_store.specs.Store.{StoreValue}
 use Rattle.sync_node.specs.declared.fault.Fault.{Fault}
 use Rattle.sync_node.specs.declared.fault.Fault.TheVariants as fault
 use Rattle.sync_node.specs.declared.link.Link.{Link}
-use Rattle.sync_node.specs.Batches.{CommitStops, Committed, SettleStops, Settled}
+use Rattle.sync_node.specs.Batches.{AddStops, Breaks, CommitStops, Committed, SettleStops, Settled}
 use Rattle.sync_node.specs.Causes.{LinkGoes, PushesOne}
+use Rattle.sync_node.specs.Did.{Did}
 use Rattle.sync_node.specs.Going.{LetsNothingFall}
+use Rattle.sync_node.specs.Output.{Journal}
 use Rattle.sync_node.specs.Keeps.{HasOrStops, IsReadyOrRose, LinkKeeps, StaysSettled, StoreKeeps}
+use Rattle.sync_node.specs.Keeps.{stop_of}
 use Rattle.sync_node.specs.Working.{HasGivenItems, IsAble, MayWork}
 use Rattle.sync_node.specs.OnRuns.{GreetsBy, IsGreeting}
 use Rattle.sync_node.specs.Sending.{SendsOn}
 use Rattle.sync_node.specs.Starting.{HasBegun, StartStops, StartsNone}
 use Rattle.sync_node.specs.Stays.{IsUndoneBy}
 use Rattle.sync_node.specs.Taking.{next_take}
-use Rattle.sync_node.proofs.CauseLaws.{greeted_cause, link_kept, link_sent, link_then, rose_before}
+use Rattle.sync_node.proofs.CauseLaws.{link_kept, link_sent, link_then, rose_before}
 use Rattle.sync_node.proofs.OutLaws.{out_batch}
 use Rattle.sync_node.proofs.StartLaws.{session_batch}
-use Rattle.sync_node.proofs.Undone.{stays_none}
+use Rattle.sync_node.proofs.Undone.{stays_none, was}
 
 -- ---- answers
 
@@ -46,48 +50,28 @@ stops_later clients s o o1 o2 fault.Full later ready = ready
 stops_later clients s o o1 o2 fault.DiskFault later rose =
     rose_before o.disk_faults o1.disk_faults o2.disk_faults later rose
 
-pub answered_then : {T : Type 0} (P Q : Type 0) (clients : Meaning) (s : StoreValue)
-    (o o1 o2 : Outside) (r : Result T Fault) → (P → Q) → o.disk_faults ≤ o1.disk_faults
-    → HasOrStops P clients s o1 o2 r → HasOrStops Q clients s o o2 r
-answered_then P Q clients s o o1 o2 (Ok x) then later p = then p
-answered_then P Q clients s o o1 o2 (Err e) then later p = stops_later clients s o o1 o2 e later p
-
-pub answered_was : {T : Type 0} (P : Type 0) (clients : Meaning) (s : StoreValue) (o o' : Outside)
-    (r : Result T Fault) (e : Fault) → IsErrAnd r (λ y. y ≡ e) → IsReadyOrRose clients s o o' e
-    → HasOrStops P clients s o o' r
-answered_was P clients s o o' (Ok x) e is p = absurd is
-answered_was P clients s o o' (Err y) e is p =
-    subst (λ (x : Fault). IsReadyOrRose clients s o o' x) (sym is) p
+pub answered_then : (P Q : Type 0) (clients : Meaning) (s : StoreValue) (o o1 o2 : Outside)
+    (stop : Option Fault) → (P → Q) → o.disk_faults ≤ o1.disk_faults
+    → HasOrStops P clients s o1 o2 stop → HasOrStops Q clients s o o2 stop
+answered_then P Q clients s o o1 o2 None then later p = then p
+answered_then P Q clients s o o1 o2 (Some e) then later p =
+    stops_later clients s o o1 o2 e later p
 
 -- ---- a store
 
 -- an error that was handed on
-pub store_was : {T U : Type 0} (P Q : Type 0) (clients : Meaning) (s s' : StoreValue)
-    (o o' : Outside) (r : Result U Fault) (e : Fault) → IsErrAnd r (λ y. y ≡ e)
-    → StoreKeeps {T = T} P clients s s' o o' (Err e) → StoreKeeps {T = U} Q clients s s' o o' r
-store_was P Q clients s s' o o' r e is keeps = record {
-  same_limit = keeps.same_limit;
-  same_format = keeps.same_format;
-  answered = answered_was Q clients s' o o' r e is keeps.answered;
-}
+pub store_was : {T : Type 0} (P : Type 0) (clients : Meaning) (s s' : StoreValue) (o o' : Outside)
+    (r : Result T Fault) (e : Fault) → IsErrAnd r (λ y. y ≡ e)
+    → StoreKeeps P clients s s' o o' (Some e) → StoreKeeps P clients s s' o o' (stop_of r)
+store_was P clients s s' o o' r e is keeps =
+    was r e (StoreKeeps P clients s s' o o') is keeps
 
 pub store_memory : {T : Type 0} (P : Type 0) (clients : Meaning) (s : StoreValue) (o o' : Outside)
     (r : Result T Fault) → IsErrAnd r (λ y. y ≡ fault.Memory) → IsReady clients s o'.files
-    → StoreKeeps {T = T} P clients s s o o' r
-store_memory P clients s o o' r is ready = record {
-  same_limit = refl;
-  same_format = refl;
-  answered = answered_was P clients s o o' r fault.Memory is ready;
-}
-
-pub store_ok : {T U : Type 0} (P : Type 0) (clients : Meaning) (s s' : StoreValue)
-    (o o' : Outside) (x : T) (y : U) → StoreKeeps {T = T} P clients s s' o o' (Ok x)
-    → StoreKeeps {T = U} P clients s s' o o' (Ok y)
-store_ok P clients s s' o o' x y keeps = record {
-  same_limit = keeps.same_limit;
-  same_format = keeps.same_format;
-  answered = keeps.answered;
-}
+    → StoreKeeps P clients s s o o' (stop_of r)
+store_memory P clients s o o' r is ready =
+    store_was P clients s s o o' r fault.Memory is
+    (record { same_limit = refl; same_format = refl; answered = ready })
 
 pub settled_then : (clients : Meaning) (s s1 s2 : StoreValue) (o1 o2 : Outside)
     → StaysSettled clients s s1 o1 → StaysSettled clients s1 s2 o2 → StaysSettled clients s s2 o2
@@ -100,32 +84,68 @@ settled_then clients s s1 s2 o1 o2 first second = record {
 
 -- ---- batches
 
-pub commit_goes : (clients : Meaning) (batch : List Entry) (s s' : StoreValue) (o o' : Outside)
-    (e : Fault) → CommitStops clients batch s s' o o' e → LetsNothingFall o o'
-commit_goes clients batch s s' o o' fault.Memory stops = stops.did.goes
-commit_goes clients batch s s' o o' fault.Full stops = stops.idle.did.goes
-commit_goes clients batch s s' o o' fault.DiskFault stops = stops.did.goes
+-- what a fault of the store leaves
+pub record StopsLeft (clients : Meaning) (s s' : StoreValue) (o o' : Outside)
+    (e : Fault) : Type 0 where
+  pub goes : LetsNothingFall o o'
+  pub same_limit : s'.limit ≡ s.limit
+  pub same_format : s'.format ≡ s.format
+  pub stops : IsReadyOrRose clients s' o o' e
 
-pub commit_keeps : (P : Type 0) (clients : Meaning) (batch : List Entry) (s s' : StoreValue)
-    (o o' : Outside) (e : Fault) → CommitStops clients batch s s' o o' e
-    → StoreKeeps {T = Unit {0}} P clients s s' o o' (Err e)
-commit_keeps P clients batch s s' o o' fault.Memory stops =
-    record { same_limit = stops.did.limit; same_format = stops.did.format; answered = stops.ready }
-commit_keeps P clients batch s s' o o' fault.Full stops = record {
-  same_limit = stops.idle.did.limit;
-  same_format = stops.idle.did.format;
-  answered = stops.idle.ready;
+pub keeps_left : (P : Type 0) (clients : Meaning) (s s' : StoreValue) (o o' : Outside) (e : Fault)
+    → StopsLeft clients s s' o o' e → StoreKeeps P clients s s' o o' (Some e)
+keeps_left P clients s s' o o' e left = record {
+  same_limit = left.same_limit;
+  same_format = left.same_format;
+  answered = left.stops;
 }
-commit_keeps P clients batch s s' o o' fault.DiskFault stops =
-    record { same_limit = stops.did.limit; same_format = stops.did.format; answered = stops.rose }
+
+left_by : (clients : Meaning) (acts : List Act) (s s' : StoreValue) (o o' : Outside) (e : Fault)
+    → Did clients acts s s' o o' → IsReadyOrRose clients s' o o' e
+    → StopsLeft clients s s' o o' e
+left_by clients acts s s' o o' e did stops =
+    record { goes = did.goes; same_limit = did.limit; same_format = did.format; stops = stops }
+
+left_broken : (clients : Meaning) (may : Journal) (s s' : StoreValue) (o o' : Outside)
+    → Breaks clients may s s' o o' → StopsLeft clients s s' o o' fault.DiskFault
+left_broken clients may s s' o o' breaks = record {
+  goes = breaks.did.goes;
+  same_limit = breaks.did.limit;
+  same_format = breaks.did.format;
+  stops = breaks.rose;
+}
+
+pub commit_left : (clients : Meaning) (batch : List Entry) (s s' : StoreValue) (o o' : Outside)
+    (e : Fault) → CommitStops clients batch s s' o o' e → StopsLeft clients s s' o o' e
+commit_left clients batch s s' o o' fault.Memory stops =
+    left_by clients [] s s' o o' fault.Memory stops.did stops.ready
+commit_left clients batch s s' o o' fault.Full stops =
+    left_by clients [] s s' o o' fault.Full stops.idle.did stops.idle.ready
+commit_left clients batch s s' o o' fault.DiskFault stops =
+    left_broken clients (batch ∷ []) s s' o o' stops
+
+settle_left : (clients : Meaning) (s s' : StoreValue) (o o' : Outside) (e : Fault)
+    → SettleStops clients s s' o o' e → StopsLeft clients s s' o o' e
+settle_left clients s s' o o' fault.Memory stops =
+    left_by clients (commit_acts stops.more) s s' o o' fault.Memory stops.did stops.ready
+settle_left clients s s' o o' fault.Full stops = absurd stops
+settle_left clients s s' o o' fault.DiskFault stops =
+    left_broken clients stops.more s s' o o' stops.breaks
+
+pub add_left : (clients : Meaning) (batch : List Entry) (s s' : StoreValue) (o o' : Outside)
+    (e : Fault) → AddStops clients batch s s' o o' e → StopsLeft clients s s' o o' e
+add_left clients batch s s' o o' fault.Memory stops =
+    left_by clients (commit_acts stops.more) s s' o o' fault.Memory stops.did stops.ready
+add_left clients batch s s' o o' fault.Full stops =
+    left_by clients [] s s' o o' fault.Full stops.idle.did stops.idle.ready
+add_left clients batch s s' o o' fault.DiskFault stops =
+    left_broken clients stops.more s s' o o' stops.breaks
 
 pub settle_goes : (clients : Meaning) (s s' : StoreValue) (o o' : Outside)
     (r : Result (Unit {0}) Fault) → OnOk r (Settled clients s s' o o')
     → IfErr r (SettleStops clients s s' o o') → LetsNothingFall o o'
 settle_goes clients s s' o o' (Ok x) went stopped = went.by.did.goes
-settle_goes clients s s' o o' (Err fault.Memory) went stopped = stopped.did.goes
-settle_goes clients s s' o o' (Err fault.Full) went stopped = absurd stopped
-settle_goes clients s s' o o' (Err fault.DiskFault) went stopped = stopped.breaks.did.goes
+settle_goes clients s s' o o' (Err e) went stopped = (settle_left clients s s' o o' e stopped).goes
 
 pub settled_only : (clients : Meaning) (s s' : StoreValue) (o o' : Outside)
     → Settled clients s s' o o' → OnlySettles s.state.facts s'.state.facts
@@ -136,7 +156,7 @@ settled_only clients s s' o o' went =
 pub settle_keeps : (clients : Meaning) (s s' : StoreValue) (o o' : Outside)
     (r : Result (Unit {0}) Fault) → OnOk r (Settled clients s s' o o')
     → IfErr r (SettleStops clients s s' o o')
-    → StoreKeeps (StaysSettled clients s s' o') clients s s' o o' r
+    → StoreKeeps (StaysSettled clients s s' o') clients s s' o o' (stop_of r)
 settle_keeps clients s s' o o' (Ok x) went stopped =
     let only = settled_only clients s s' o o' went in
     record {
@@ -149,114 +169,88 @@ settle_keeps clients s s' o o' (Ok x) went stopped =
         same_begun = only.begun;
       };
     }
-settle_keeps clients s s' o o' (Err fault.Memory) went stopped =
-    record { same_limit = stopped.did.limit; same_format = stopped.did.format; answered = stopped.ready }
-settle_keeps clients s s' o o' (Err fault.Full) went stopped = absurd stopped
-settle_keeps clients s s' o o' (Err fault.DiskFault) went stopped = record {
-  same_limit = stopped.breaks.did.limit;
-  same_format = stopped.breaks.did.format;
-  answered = stopped.breaks.rose;
-}
+settle_keeps clients s s' o o' (Err e) went stopped =
+    keeps_left (StaysSettled clients s s' o') clients s s' o o' e
+    (settle_left clients s s' o o' e stopped)
 
 -- ---- a link
 
-pub same_store : {T : Type 0} (clients : Meaning) (n : ℕ) (session : Session) (s : StoreValue)
-    (o o' : Outside) (x : T) → IsReady clients s o'.files → IsAble clients n session s o
-    → StoreKeeps {T = T} (StaysSettled clients s s o') clients s s o o' (Ok x)
-same_store clients n session s o o' x ready able = record {
-  same_limit = refl;
-  same_format = refl;
-  answered = record {
-    ready = ready;
-    settled = able.settled;
-    same_sessions = refl;
-    same_begun = refl;
-  };
-}
-
-pub work_none : {T : Type 0} (clients : Meaning) (n : ℕ) (l l' : Link) (s : StoreValue)
-    (o : Outside) (x : T) → LinkGoes n l l' o o → IsAble clients n l.session s o
-    → LinkKeeps {T = T} clients n l l' s s o o (Ok x)
-work_none clients n l l' s o x goes able =
-    record { link = goes; store = same_store clients n l.session s o o x able.ready able }
-
 -- the link alone changed, and a call was made that leaves the files
-pub work_link : {T : Type 0} (clients : Meaning) (n : ℕ) (l l' : Link) (s : StoreValue)
-    (o o' : Outside) (x : T) → LinkGoes n l l' o o' → o'.files ≡ o.files
-    → IsAble clients n l.session s o → LinkKeeps {T = T} clients n l l' s s o o' (Ok x)
-work_link clients n l l' s o o' x goes same able = record {
+pub work_link : {clients : Meaning} {n : ℕ} {l l' : Link} {s : StoreValue} {o o' : Outside}
+    → LinkGoes n l l' o o' → o'.files ≡ o.files → IsAble clients n l.session s o
+    → LinkKeeps clients n l l' s s o o' None
+work_link {clients = clients} {s = s} goes same able = record {
   link = goes;
-  store =
-      same_store clients n l.session s o o' x
-      (subst (λ f. IsReady clients s f) (sym same) able.ready) able;
-}
-
-pub work_memory : {T : Type 0} (clients : Meaning) (n : ℕ) (l l' : Link) (s : StoreValue)
-    (o : Outside) (r : Result T Fault) → IsErrAnd r (λ y. y ≡ fault.Memory) → LinkGoes n l l' o o
-    → IsReady clients s o.files → LinkKeeps {T = T} clients n l l' s s o o r
-work_memory clients n l l' s o r is goes ready = record {
-  link = goes;
-  store = store_memory (StaysSettled clients s s o) clients s o o r is ready;
-}
-
-pub work_then : {T U : Type 0} (clients : Meaning) (n : ℕ) (l l1 l2 : Link) (s s1 s2 : StoreValue)
-    (o o1 o2 : Outside) (x : T) (r : Result U Fault)
-    → LinkKeeps {T = T} clients n l l1 s s1 o o1 (Ok x)
-    → LinkKeeps {T = U} clients n l1 l2 s1 s2 o1 o2 r
-    → LinkKeeps {T = U} clients n l l2 s s2 o o2 r
-work_then clients n l l1 l2 s s1 s2 o o1 o2 x r first second = record {
-  link = link_then n l l1 l2 o o1 o2 first.link second.link;
   store = record {
-    same_limit = second.store.same_limit ∙ first.store.same_limit;
-    same_format = second.store.same_format ∙ first.store.same_format;
-    answered =
-        answered_then (StaysSettled clients s1 s2 o2) (StaysSettled clients s s2 o2) clients s2 o
-        o1 o2 r (settled_then clients s s1 s2 o1 o2 first.store.answered)
-        first.link.goes.later second.store.answered;
+    same_limit = refl;
+    same_format = refl;
+    answered = record {
+      ready = subst (λ f. IsReady clients s f) (sym same) able.ready;
+      settled = able.settled;
+      same_sessions = refl;
+      same_begun = refl;
+    };
   };
 }
 
-pub work_was : {T U : Type 0} (clients : Meaning) (n : ℕ) (l l' : Link) (s s' : StoreValue)
-    (o o' : Outside) (r : Result U Fault) (e : Fault) → IsErrAnd r (λ y. y ≡ e)
-    → LinkKeeps {T = T} clients n l l' s s' o o' (Err e)
-    → LinkKeeps {T = U} clients n l l' s s' o o' r
-work_was clients n l l' s s' o o' r e is keeps = record {
-  link = keeps.link;
-  store =
-      store_was (StaysSettled clients s s' o') (StaysSettled clients s s' o') clients s s' o o' r e
-      is keeps.store;
-}
+pub work_none : {clients : Meaning} {n : ℕ} {l l' : Link} {s : StoreValue} {o : Outside}
+    → LinkGoes n l l' o o → IsAble clients n l.session s o → LinkKeeps clients n l l' s s o o None
+work_none goes able = work_link goes refl able
 
-pub work_ok : {T U : Type 0} (clients : Meaning) (n : ℕ) (l l' : Link) (s s' : StoreValue)
-    (o o' : Outside) (x : T) (y : U) → LinkKeeps {T = T} clients n l l' s s' o o' (Ok x)
-    → LinkKeeps {T = U} clients n l l' s s' o o' (Ok y)
-work_ok clients n l l' s s' o o' x y keeps = record {
-  link = keeps.link;
-  store = store_ok (StaysSettled clients s s' o') clients s s' o o' x y keeps.store;
-}
+pub work_memory : {T : Type 0} {clients : Meaning} {n : ℕ} {l l' : Link} {s : StoreValue}
+    {o : Outside} (r : Result T Fault) → IsErrAnd r (λ y. y ≡ fault.Memory) → LinkGoes n l l' o o
+    → IsReady clients s o.files → LinkKeeps clients n l l' s s o o (stop_of r)
+work_memory {clients = clients} {s = s} {o = o} r is goes ready =
+    record {
+      link = goes;
+      store = store_memory (StaysSettled clients s s o) clients s o o r is ready;
+    }
+
+pub work_then : {clients : Meaning} {n : ℕ} {l l1 l2 : Link} {s s1 s2 : StoreValue}
+    {o o1 o2 : Outside} {stop : Option Fault} → LinkKeeps clients n l l1 s s1 o o1 None
+    → LinkKeeps clients n l1 l2 s1 s2 o1 o2 stop → LinkKeeps clients n l l2 s s2 o o2 stop
+work_then {clients = clients} {s = s} {s1 = s1} {s2 = s2} {o = o} {o1 = o1} {o2 = o2} {stop =
+    stop} first second = record {
+      link = link_then first.link second.link;
+      store = record {
+        same_limit = second.store.same_limit ∙ first.store.same_limit;
+        same_format = second.store.same_format ∙ first.store.same_format;
+        answered =
+            answered_then (StaysSettled clients s1 s2 o2) (StaysSettled clients s s2 o2) clients s2
+            o
+            o1 o2 stop (settled_then clients s s1 s2 o1 o2 first.store.answered)
+            first.link.goes.later second.store.answered;
+      };
+    }
+
+pub work_was : {T : Type 0} {clients : Meaning} {n : ℕ} {l l' : Link} {s s' : StoreValue}
+    {o o' : Outside} (r : Result T Fault) (e : Fault) → IsErrAnd r (λ y. y ≡ e)
+    → LinkKeeps clients n l l' s s' o o' (Some e)
+    → LinkKeeps clients n l l' s s' o o' (stop_of r)
+work_was {clients = clients} {n = n} {l = l} {l' = l'} {s = s} {s' = s'} {o = o} {o' =
+    o'} r e is keeps =
+    was r e (LinkKeeps clients n l l' s s' o o') is keeps
 
 -- what is wanting then is memory
-pub work_halts : {T U : Type 0} (clients : Meaning) (n : ℕ) (l l' : Link) (s s' : StoreValue)
-    (o o' : Outside) (x : T) (r : Result U Fault) → IsErrAnd r (λ y. y ≡ fault.Memory)
-    → LinkKeeps {T = T} clients n l l' s s' o o' (Ok x)
-    → LinkKeeps {T = U} clients n l l' s s' o o' r
-work_halts clients n l l' s s' o o' x r is keeps = record {
-  link = keeps.link;
-  store = record {
-    same_limit = keeps.store.same_limit;
-    same_format = keeps.store.same_format;
-    answered =
-        answered_was (StaysSettled clients s s' o') clients s' o o' r fault.Memory is
-        keeps.store.answered.ready;
-  };
-}
+pub work_halts : {T : Type 0} {clients : Meaning} {n : ℕ} {l l' : Link} {s s' : StoreValue}
+    {o o' : Outside} (r : Result T Fault) → IsErrAnd r (λ y. y ≡ fault.Memory)
+    → LinkKeeps clients n l l' s s' o o' None → LinkKeeps clients n l l' s s' o o' (stop_of r)
+work_halts r is keeps =
+    work_was r fault.Memory is (record {
+      link = keeps.link;
+      store = record {
+        same_limit = keeps.store.same_limit;
+        same_format = keeps.store.same_format;
+        answered = keeps.store.answered.ready;
+      };
+    })
 
 -- ---- what the next piece of work needs
 
-pub able_kept : {T : Type 0} (clients : Meaning) (n : ℕ) (l l' : Link) (s s' : StoreValue)
-    (o o' : Outside) (x : T) → IsAble clients n l.session s o
-    → LinkKeeps {T = T} clients n l l' s s' o o' (Ok x) → IsAble clients n l'.session s' o'
-able_kept clients n l l' s s' o o' x able keeps = record {
+pub able_kept : {clients : Meaning} {n : ℕ} {l l' : Link} {s s' : StoreValue} {o o' : Outside}
+    → IsAble clients n l.session s o → LinkKeeps clients n l l' s s' o o' None
+    → IsAble clients n l'.session s' o'
+able_kept {l = l} {s' = s'} able keeps = record {
   ready = keeps.store.answered.ready;
   settled = keeps.store.answered.settled;
   known =
@@ -266,38 +260,34 @@ able_kept clients n l l' s s' o o' x able keeps = record {
   dialled = omega (arith, able.dialled, keeps.link.goes.links.dialled);
 }
 
-pub may_kept : {T : Type 0} (clients : Meaning) (n : ℕ) (l l' : Link) (s s' : StoreValue)
-    (o o' : Outside) (x : T) → MayWork clients n l s o
-    → LinkKeeps {T = T} clients n l l' s s' o o' (Ok x) → HasGivenItems l'
+pub may_kept : {clients : Meaning} {n : ℕ} {l l' : Link} {s s' : StoreValue} {o o' : Outside}
+    → MayWork clients n l s o → LinkKeeps clients n l l' s s' o o' None → HasGivenItems l'
     → MayWork clients n l' s' o'
-may_kept clients n l l' s s' o o' x may keeps waits =
-    record { able = able_kept clients n l l' s s' o o' x may.able keeps; waits = waits }
+may_kept may keeps waits = record { able = able_kept may.able keeps; waits = waits }
 
 -- ---- an output
 
 pub put_broke : {T : Type 0} (clients : Meaning) (n : ℕ) (l : Link) (s s' : StoreValue)
     (o o' : Outside) (r : Result T Fault) (batch : List Entry) (e : Fault)
     → IsErrAnd r (λ y. y ≡ e) → CommitStops clients batch s s' o o' e
-    → LinkKeeps {T = T} clients n l l s s' o o' r
-put_broke clients n l s s' o o' r batch e is stops = record {
-  link = link_kept n l l o o' (commit_goes clients batch s s' o o' e stops) refl refl;
-  store =
-      store_was (StaysSettled clients s s' o') (StaysSettled clients s s' o') clients s s' o o' r e
-      is (commit_keeps (StaysSettled clients s s' o') clients batch s s' o o' e stops);
-}
+    → LinkKeeps clients n l l s s' o o' (stop_of r)
+put_broke clients n l s s' o o' r batch e is stops =
+    let left = commit_left clients batch s s' o o' e stops in
+    work_was r e is (record {
+      link = link_kept left.goes refl refl;
+      store = keeps_left (StaysSettled clients s s' o') clients s s' o o' e left;
+    })
 
-pub put_keeps : {T : Type 0} (clients : Meaning) (n now : ℕ) (what : Out) (l l' : Link)
-    (s s1 : StoreValue) (o o1 o2 : Outside) (bytes : List ℕ) (batch : List Entry) (x : T)
+pub put_keeps : (clients : Meaning) (n now : ℕ) (what : Out) (l l' : Link)
+    (s s1 : StoreValue) (o o1 o2 : Outside) (bytes : List ℕ) (batch : List Entry)
     → batch ≡ out_batch l.session.number now what → IsAble clients n l.session s o
     → Committed clients batch s s1 o o1 → SendsOn n bytes l l' o1 o2
-    → LinkKeeps {T = T} clients n l l' s s1 o o2 (Ok x)
-put_keeps clients n now what l l' s s1 o o1 o2 bytes batch x is able commits sends =
+    → LinkKeeps clients n l l' s s1 o o2 None
+put_keeps clients n now what l l' s s1 o o1 o2 bytes batch is able commits sends =
     let facts : s1.state.facts ≡ after_all s.state.facts (out_batch l.session.number now what) =
     commits.facts ∙ ap (λ (b : List Entry). after_all s.state.facts b) is in
     record {
-      link =
-          link_then n l l l' o o1 o2 (link_kept n l l o o1 commits.did.goes refl refl)
-          (link_sent n bytes l l' o1 o2 sends);
+      link = link_then {l1 = l} (link_kept commits.did.goes refl refl) (link_sent sends);
       store = record {
         same_limit = commits.did.limit;
         same_format = commits.did.format;
@@ -316,12 +306,12 @@ put_keeps clients n now what l l' s s1 o o1 o2 bytes batch x is able commits sen
 -- ---- a record
 
 pub take_keeps : (clients : Meaning) (session : Session) (r : Record) (s mid s' : StoreValue)
-    (o m o' : Outside) (batch : List Entry) (result : Result (Unit {0}) Fault)
+    (o m o' : Outside) (batch : List Entry) (stop : Option Fault)
     → batch ≡ next_take s.state.facts session r → Allowed clients s.state.facts batch
     → Committed clients batch s mid o m
-    → StoreKeeps (StaysSettled clients mid s' o') clients mid s' m o' result
-    → StoreKeeps (StaysSettled clients s s' o') clients s s' o o' result
-take_keeps clients session r s mid s' o m o' batch result is allowed commits keeps =
+    → StoreKeeps (StaysSettled clients mid s' o') clients mid s' m o' stop
+    → StoreKeeps (StaysSettled clients s s' o') clients s s' o o' stop
+take_keeps clients session r s mid s' o m o' batch stop is allowed commits keeps =
     let one =
     takes_one clients s.state.facts session.number (takes_of s.state.facts.takes session.number)
     (taken_from s.state.facts session.number session.contact r)
@@ -333,7 +323,7 @@ take_keeps clients session r s mid s' o m o' batch result is allowed commits kee
       same_format = keeps.same_format ∙ commits.did.format;
       answered =
           answered_then (StaysSettled clients mid s' o') (StaysSettled clients s s' o') clients s' o
-          m o' result
+          m o' stop
           (λ stays. record {
             ready = stays.ready;
             settled = stays.settled;
@@ -345,7 +335,7 @@ take_keeps clients session r s mid s' o m o' batch result is allowed commits kee
 
 -- ---- a session that begins
 
-greeted_reader : (n : ℕ) (first second : List ℕ) (l l' : Link) (acts : List Act)
+pub greeted_reader : (n : ℕ) (first second : List ℕ) (l l' : Link) (acts : List Act)
     → IsGreeting n first second l l' acts → l'.reader ≡ l.reader
 greeted_reader n first second l l' acts greeting = elim greeting [
   | inl one ↦ ap (λ (y : Link). y.reader) one.2
@@ -384,7 +374,13 @@ has_begun clients n x begun first second l0 l s s1 o o1 o2 batch is settled comm
       waits = λ _.
           subst (λ (r : ReaderState). AwaitsBytes r)
           (sym (greeted_reader n first second l0 l greets.acts greets.is)) awaits;
-      cause = greeted_cause n l0 l o o1 o2 commits.did.goes going goes;
+      cause = λ failed.
+          let all = link_then {l = l0} {l1 = l0} (link_kept commits.did.goes refl refl) goes in
+          elim (all.cause failed) [
+            | inl before ↦
+                absurd (let e : link_end.Going ≡ link_end.Failed = sym going ∙ before in cc)
+            | inr rose ↦ rose
+          ];
     }
 
 pub starts_none : {H : Type 0} (clients : Meaning) (s : StoreValue) (host : H) (o : Outside)

@@ -1,8 +1,7 @@
 mod Fronts
-mod SuitLaws
-mod SafeLaws
+pub mod SafeLaws
 mod CommitLaws
-mod WorkLaws
+pub mod WorkLaws
 mod OutLaws
 mod TakeLaws
 mod StartLaws
@@ -13,7 +12,6 @@ mod CauseLaws
 mod KeepLaws
 mod TurnKeeps
 mod CallLaws
-mod BeginLaws
 mod AddLaws
 pub mod SentLaws
 mod CourseTakes
@@ -23,7 +21,6 @@ mod CourseRedundant
 mod CourseCalls
 mod CourseStart
 mod Undone
-pub mod Halts
 pub mod CourseLaws
 pub mod DidLaws
 pub mod WentLaws

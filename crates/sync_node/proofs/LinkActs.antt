@@ -14,13 +14,14 @@ use Rattle.sync_rules.proofs.OutputLaws.{settling_silent, silent_adds_nothing, t
 use Rattle.sync_store.specs.Ready.{IsReady}
 use Rattle.sync_store.specs.Store.{StoreValue}
 use Rattle.sync_course.specs.Acts.{Does, commit_acts}
-use Rattle.sync_course.specs.Events.{Commit, Event}
+use Rattle.sync_course.specs.Events.{Commit, Event, Pass}
 use Rattle.sync_course.specs.Links as course_links
 use Rattle.sync_course.specs.Links.{items_after, link_after}
 use Rattle.sync_course.specs.LinkTurns.{LinkStep, Spot, Takes, next_take, taken_spot}
 use Rattle.sync_course.specs.Owing.{Owing, adds_to, paid}
 use Rattle.sync_course.specs.Paths.{Path}
 use Rattle.sync_course.proofs.CallLaws.{step_at}
+use Rattle.sync_course.proofs.ToldLaws.{told_pass}
 use Rattle.sync_node.specs.declared.fault.Fault.{Fault}
 use Rattle.sync_node.specs.declared.fault.Fault.TheVariants as fault
 use Rattle.sync_node.specs.Batches.{CommitStops, Committed, Settled, SettleStops, SettlesBy}
@@ -28,27 +29,31 @@ use Rattle.sync_node.specs.Did.{Did}
 use Rattle.sync_node.specs.OnLinks.{LinkActs, LinkStopped, LinkWent, RecordStopped, RecordTaken}
 use Rattle.sync_node.specs.Output.{Journal}
 use Rattle.sync_node.proofs.CommitLaws.{settling_front}
+use Rattle.sync_node.proofs.PrimLaws.{did_pass}
 use Rattle.sync_node.proofs.WentLaws.{commit_stopped, no_memory, stopped_then, went_none, went_one, went_then}
 
-module _ (clients : Meaning) (n session : ℕ) where
-  -- ---- one behind the other
+-- ---- one behind the other
 
-  pub link_stays : (p : Spot) (s : StoreValue) (o : Outside)
+module _ {clients : Meaning} (n : ℕ) {session : ℕ} where
+  pub link_stays : {p : Spot} {s : StoreValue} {o : Outside}
       → LinkWent clients n session p p s s o o
-  link_stays p s o = λ first is. went_none clients (LinkActs clients first n) (paid p) s o
+  link_stays {p = p} {s = s} {o = o} =
+      λ first is. went_none clients (LinkActs clients first n) (paid p) s o
 
-  pub link_joins : (p q r : Spot) (s s1 s' : StoreValue) (o o1 o' : Outside)
+  pub link_joins : {p q r : Spot} {s s1 s' : StoreValue} {o o1 o' : Outside}
       → LinkWent clients n session p q s s1 o o1 → LinkWent clients n session q r s1 s' o1 o'
       → LinkWent clients n session p r s s' o o'
-  link_joins p q r s s1 s' o o1 o' first second = λ k is.
+  link_joins {p = p} {q = q} {r = r} {s = s} {s1 = s1} {s' = s'} {o = o} {o1 = o1} {o' =
+      o'} first second = λ k is.
       went_then clients (LinkActs clients k n) (paid p) (paid q) (paid r) s s1 s' o o1 o'
       (first k is) (second k is)
 
-  pub link_stops_then : (link : course_links.Link) (p q : Spot) (s s1 s' : StoreValue)
-      (o o1 o' : Outside) (e : Fault) → LinkWent clients n session p q s s1 o o1
+  pub link_stops_then : {p q : Spot} {s s1 : StoreValue} {o o1 : Outside} (link : course_links.Link)
+      (s' : StoreValue) (o' : Outside) (e : Fault) → LinkWent clients n session p q s s1 o o1
       → LinkStopped clients n session q link s1 s' o1 o' e
       → LinkStopped clients n session p link s s' o o' e
-  link_stops_then link p q s s1 s' o o1 o' e first second = λ k is.
+  link_stops_then {p = p} {q = q} {s = s} {s1 = s1} {o = o} {o1 = o1} link s' o' e first second =
+      λ k is.
       stopped_then clients (LinkActs clients k n) (λ (x : Owing Spot). x.at.link ≡ link) (paid p)
       (paid q) s s1 s' o o1 o' e (first k is) (second k is)
 
@@ -59,6 +64,7 @@ module _ (clients : Meaning) (n session : ℕ) where
       no_memory clients (LinkActs clients k n) (λ (x : Owing Spot). x.at.link ≡ p.link) (paid p) s o
       ready (inl refl)
 
+module _ (clients : Meaning) (n session : ℕ) where
   -- ---- one event
 
   -- nothing is owed by it
@@ -78,6 +84,13 @@ module _ (clients : Meaning) (n session : ℕ) where
   link_does p q e s s' o o' none steps did = λ first is.
       went_one clients (LinkActs clients first n) (paid p) (paid q) (Does e) s s' o o'
       (step_of first is p q e steps (none first)) did
+
+  -- it calls nothing
+  pub link_pass : (p q : Spot) (s : StoreValue) (o : Outside) → LinkStep clients n session p Pass q
+      → LinkWent clients n session p q s s o o
+  link_pass p q s o steps =
+      link_does p q Pass s s o o (λ first link. refl) steps
+      (did_pass clients (Does Pass) s o refl (λ link. refl) (told_pass o o refl))
 
   -- ---- settling
 
@@ -242,7 +255,7 @@ module _ (clients : Meaning) (session : ℕ) (r : Record) (s : StoreValue) (o : 
     settled = settles.settled;
     went = λ n place its p takes same.
         let q : Spot = record { doing = Takes (items_after r its); link = link_after place r p.link; moved = p.moved; facts = mid.state.facts } in
-        link_joins clients n session p q (record q { facts = s'.state.facts }) s mid s' o m o'
+        link_joins n
         (committed_take mid m commits n place its p takes same)
         (link_settles clients n session q (items_after r its) mid s' m o' refl refl settles.by);
   }
@@ -261,7 +274,7 @@ module _ (clients : Meaning) (session : ℕ) (r : Record) (s : StoreValue) (o : 
   record_stops_at_settle mid s' m o' e commits stops = record {
     stops = λ n place its p takes same.
         let q : Spot = record { doing = Takes (items_after r its); link = link_after place r p.link; moved = p.moved; facts = mid.state.facts } in
-        link_stops_then clients n session (link_after place r p.link) p q s mid s' o m o' e
+        link_stops_then n (link_after place r p.link) s' o' e
         (committed_take mid m commits n place its p takes same)
         (link_settle_stops clients n session q (items_after r its) mid s' m o' e refl refl stops);
   }

@@ -1,8 +1,10 @@
 -- The links of a node: what work on one of them leaves of the others.
-use Rattle.std.proofs.Common.{◌≡◌, ◌≢◌, ◌⊎◌, ℕ, zero, suc, ◌+◌, ◌-◌, ◌≤◌, Bool, true, false, List, [], ◌∷◌, ◌++◌, length, take, drop, set, Ok, Err, append-nil, refl, sym, ap, ◌∙◌, subst, inl, inr, arith, Some}
+use Rattle.std.proofs.Common.{◌≡◌, ◌⊎◌, ℕ, zero, suc, ◌+◌, true, List}
+use Rattle.std.proofs.Common.{[], ◌∷◌, ◌++◌, length, take, drop, set, Err, append-nil, refl}
+use Rattle.std.proofs.Common.{sym, ap, ◌∙◌, subst, inl, inr, arith, None, Some}
 use Rattle.std.specs.List.{slice_get}
 use Rattle.std.proofs.lemmas.Bool.{cases_eq}
-use Rattle.std.proofs.lemmas.List.{length-append, length-drop, length-take, take_all}
+use Rattle.std.proofs.lemmas.List.{length-set, take_all}
 use Rattle.std.proofs.Math.ListN.{drop_of_length-le}
 use Rattle.std.proofs.lemmas.Option.{slice_get_within}
 use Rattle.outside.specs.Outside.{Outside}
@@ -12,14 +14,13 @@ use Rattle.sync_rules.specs.Facts.{Facts, session_at}
 use Rattle.sync_store.specs.Store.{StoreValue}
 use Rattle.sync_node.specs.declared.link.Link.{Link}
 use Rattle.sync_course.specs.declared.ends.LinkEnd.TheVariants as link_end
+use Rattle.sync_course.proofs.LiftLaws.{get_other}
 use Rattle.sync_node.specs.Keeps.{LinkKeeps}
-use Rattle.outside.specs.declared.limits.TheConstants.{LINKS}
 use Rattle.sync_node.specs.declared.fault.Fault.{Fault}
 use Rattle.sync_node.specs.declared.fault.Fault.TheVariants as node_fault
 use Rattle.sync_node.specs.declared.fault.NodeFault.{NodeFault}
-use Rattle.sync_node.specs.declared.fault.NodeFault.TheVariants as fault
 use Rattle.sync_node.specs.Faults.{fault_of}
-use Rattle.sync_node.specs.Node.{AnswersAndCloses, AreAttached, AreSome, IsAttached, IsNode, MayGoOn, MayRun, NodeValue, StaysClosed}
+use Rattle.sync_node.specs.Node.{AnswersAndCloses, AreAttached, IsAttached, MayGoOn, NodeValue}
 use Rattle.sync_node.specs.Redundant.{ClosesSome, StaysOrCloses}
 use Rattle.sync_node.specs.Working.{HasGivenItems, MayWork}
 
@@ -31,32 +32,19 @@ get_set_same [] i a x e = cc
 get_set_same (y ∷ ys) zero a x e = cc
 get_set_same (y ∷ ys) (suc i) a x e = get_set_same ys i a x e
 
-pub get_set_other : {A : Type 0} (xs : List A) (i k : ℕ) (a : A) → k ≢ i
-    → slice_get (set xs i a) k ≡ slice_get xs k
-get_set_other [] i k a apart = refl
-get_set_other (y ∷ ys) zero zero a apart = absurd (apart refl)
-get_set_other (y ∷ ys) zero (suc k) a apart = refl
-get_set_other (y ∷ ys) (suc i) zero a apart = refl
-get_set_other (y ∷ ys) (suc i) (suc k) a apart =
-    get_set_other ys i k a (λ same. apart (ap suc same))
-
-pub length_set : {A : Type 0} (xs : List A) (i : ℕ) (a : A) → length (set xs i a) ≡ length xs
-length_set [] i a = refl
-length_set (y ∷ ys) zero a = refl
-length_set (y ∷ ys) (suc i) a = ap suc (length_set ys i a)
-
 -- ---- the links of a node
 
-pub all_attached : {T : Type 0} (clients : Meaning) (first link : ℕ) (links : List Link)
-    (l l' : Link) (s s' : StoreValue) (o o' : Outside) (x : T)
+pub all_attached : (clients : Meaning) (first link : ℕ) (links : List Link) (l l' : Link)
+    (s s' : StoreValue) (o o' : Outside)
     → AreAttached first links s.state.facts → slice_get links link ≡ Some l
-    → LinkKeeps {T = T} clients link l l' s s' o o' (Ok x) → HasGivenItems l'
+    → LinkKeeps clients link l l' s s' o o' None → HasGivenItems l'
     → AreAttached first (set links link l') s'.state.facts
-all_attached clients first link links l l' s s' o o' ok attached here keeps waits =
+all_attached clients first link links l l' s s' o o' attached here keeps waits =
     let moved : (x : Session) (n : ℕ) → session_at s.state.facts.sessions n ≡ Some x → session_at s'.state.facts.sessions n ≡ Some x =
     λ x n known. ap (λ t. session_at t n) keeps.store.answered.same_sessions ∙ known in
     record {
-      begun = keeps.store.answered.same_begun ∙ (attached.begun ∙ ap (λ n. first + n) (sym (length_set links link l')));
+      begun = keeps.store.answered.same_begun
+          ∙ (attached.begun ∙ ap (λ n. first + n) (sym (length-set links link l')));
       each = λ other x there. elim (cases_eq other link) [
         | inl same ↦
             let is : x ≡ l' = get_set_same links link l' x (subst (λ k. slice_get (set links link l') k ≡ Some x) same there) in
@@ -68,7 +56,7 @@ all_attached clients first link links l l' s s' o o' ok attached here keeps wait
             } in
             subst (λ k. IsAttached first s'.state.facts k x) (sym same) (subst (λ (y : Link). IsAttached first s'.state.facts link y) (sym is) mine)
         | inr apart ↦
-            let was = attached.each other x (sym (get_set_other links link other l' apart) ∙ there) in
+            let was = attached.each other x (sym (get_other links link other l' apart) ∙ there) in
             record { numbered = was.numbered; known = moved x.session x.session.number was.known; waits = was.waits }
       ];
     }
@@ -91,11 +79,11 @@ link_able clients first link links l s o may attached here =
     }
 
 -- and the links may go on behind it
-pub links_go_on : {T : Type 0} (clients : Meaning) (link : ℕ) (links links' : List Link)
-    (l l' : Link) (s s' : StoreValue) (o o' : Outside) (x : T) → MayGoOn clients links s o
-    → length links' ≡ length links → LinkKeeps {T = T} clients link l l' s s' o o' (Ok x)
+pub links_go_on : (clients : Meaning) (link : ℕ) (links links' : List Link) (l l' : Link)
+    (s s' : StoreValue) (o o' : Outside) → MayGoOn clients links s o
+    → length links' ≡ length links → LinkKeeps clients link l l' s s' o o' None
     → MayGoOn clients links' s' o'
-links_go_on clients link links links' l l' s s' o o' x may same keeps = record {
+links_go_on clients link links links' l l' s s' o o' may same keeps = record {
   ready = keeps.store.answered.ready;
   settled = λ _. keeps.store.answered.settled;
   dialled = omega (arith, may.dialled, same, keeps.link.goes.links.dialled);
@@ -112,7 +100,7 @@ pub closes_one : (old mid : List Link) (place : ℕ) (l : Link) → ClosesSome o
 closes_one old mid place l closes here going =
     let closed : Link = record l { end = link_end.Redundant } in
     record {
-      same_number = length_set mid place closed ∙ closes.same_number;
+      same_number = length-set mid place closed ∙ closes.same_number;
       each = λ number x there. elim (cases_eq number place) [
         | inl same ↦
             let is : x ≡ record l { end = link_end.Redundant } = get_set_same mid place closed x (subst (λ k. slice_get (set mid place closed) k ≡ Some x) same there) in
@@ -126,7 +114,7 @@ closes_one old mid place l closes here going =
               | inr closing ↦ absurd (let e : link_end.Redundant ≡ link_end.Going = sym (ap (λ (y : Link). y.end) closing.1) ∙ going in cc)
             ] in
             subst (λ k. StaysOrCloses old k x) (sym same) mine
-        | inr apart ↦ closes.each number x (sym (get_set_other mid place number closed apart) ∙ there)
+        | inr apart ↦ closes.each number x (sym (get_other mid place number closed apart) ∙ there)
       ];
     }
 
@@ -166,44 +154,23 @@ links_may clients links links' s o same may = record {
 
 -- ---- a node
 
-abbrev pub node_of : StoreValue → ℕ → List Link → Bool → NodeValue
-node_of s first links closed = record { store = s; first = first; links = links; closed = closed }
-
-pub node_may : (clients : Meaning) (s : StoreValue) (first : ℕ) (links : List Link) (closed : Bool)
-    (n : NodeValue) (o : Outside) → node_of s first links closed ≡ n → MayRun clients n o
-    → closed ≡ false
-    → MayGoOn clients links s o
-node_may clients s first links closed n o is may =
-    subst (λ (x : NodeValue). MayRun clients x o → closed ≡ false → MayGoOn clients links s o) is (λ might opened. might opened) may
-
-pub stays_closed : {T H : Type 0} (n : NodeValue) (host : H) → StaysClosed {T = T} {H = H} n n host host (Err fault.Closed)
-stays_closed n host = record { answer = refl; same = refl; same_host = refl }
-
--- a node that is not closed has its links attached, and still is a node
-pub is_node : (s : StoreValue) (first : ℕ) (links : List Link) (closed : Bool)
-    → length links ≤ LINKS → AreAttached first links s.state.facts
-    → IsNode (node_of s first links closed)
-is_node s first links closed few attached = record { few = few; attached = λ _. attached }
-
-pub true≢false : (b : Bool) → b ≡ true → b ≡ false → ⊥
-true≢false b closed opened = let e : true ≡ false = sym closed ∙ opened in cc
-
-pub is_closed_node : (s : StoreValue) (first : ℕ) (links : List Link) (closed : Bool)
-    → closed ≡ true → length links ≤ LINKS → IsNode (node_of s first links closed)
-is_closed_node s first links closed is few = record { few = few; attached = λ opened. absurd (true≢false closed is opened) }
+-- a list that was lent is the one that came back
+pub kept_same : {A : Type 0} (len : ℕ) (old lent new : List A) → len ≡ length lent → lent ≡ old
+    → length new ≡ length lent → take len (new ++ drop (length new) old) ≡ new
+kept_same {A} len old lent new long is same =
+    let as_long : length lent ≡ length old = ap (λ (xs : List A). length xs) is in
+    let none : drop (length new) old ≡ [] =
+    drop_of_length-le old (omega (arith, same, as_long)) in
+    ap (λ l. take len (new ++ l)) none
+    ∙ (ap (λ l. take len l) (append-nil new) ∙ take_all len new (omega (arith, long, same)))
 
 -- a buffer that was lent is as long as before
-pub kept_long : (len n : ℕ) (old new : List ℕ) → length old ≡ n → len ≡ length old
-    → length new ≡ length old → length (take len (new ++ drop (length new) old)) ≡ n
-kept_long len n old new long is same =
-    let rest : length (new ++ drop (length new) old) ≡ length old + (length old - length new) = omega (arith, length-append new (drop (length new) old), length-drop (length new) old, same) in
-    omega (arith, length-take len (new ++ drop (length new) old), rest, long, is, same)
-
-pub kept_same : {A : Type 0} (len : ℕ) (old new : List A) → len ≡ length old
-    → length new ≡ length old → take len (new ++ drop (length new) old) ≡ new
-kept_same len old new long same =
-    let none : drop (length new) old ≡ [] = drop_of_length-le old (omega (arith, same)) in
-    ap (λ l. take len (new ++ l)) none ∙ (ap (λ l. take len l) (append-nil new) ∙ take_all len new (omega (arith, long, same)))
+pub kept_long : {A : Type 0} (len n : ℕ) (old lent new : List A) → length old ≡ n
+    → len ≡ length lent → lent ≡ old → length new ≡ length lent
+    → length (take len (new ++ drop (length new) old)) ≡ n
+kept_long {A} len n old lent new whole long is same =
+    ap (λ (xs : List A). length xs) (kept_same len old lent new long is same)
+    ∙ (same ∙ (ap (λ (xs : List A). length xs) is ∙ whole))
 
 -- ---- links that were lent
 
@@ -212,19 +179,10 @@ pub attached_as : (first : ℕ) (links lent : List Link) (f : Facts) → lent �
 attached_as first links lent f is attached =
     subst (λ (ls : List Link). AreAttached first ls f) (sym is) attached
 
-pub links_kept : (first : ℕ) (new kept : List Link) (f : Facts) → kept ≡ new
-    → AreAttached first new f → AreAttached first kept f
-links_kept first new kept f is attached =
-    subst (λ (ls : List Link). AreAttached first ls f) (sym is) attached
-
 pub may_as : (clients : Meaning) (links lent : List Link) (s : StoreValue) (o : Outside)
     → lent ≡ links → MayGoOn clients links s o → MayGoOn clients lent s o
 may_as clients links lent s o is may =
     subst (λ (ls : List Link). MayGoOn clients ls s o) (sym is) may
-
-pub some_as : (first : ℕ) (links lent : List Link) (f : Facts) → lent ≡ links
-    → AreAttached first links f → AreSome lent f
-some_as first links lent f is attached = record { first = first; attached = attached_as first links lent f is attached }
 
 -- a fault is an answer of a node that was not closed
 pub fault_answers : (T : Type 0) (f : Fault) (e : NodeFault) (n' : NodeValue) → e ≡ fault_of f → n'.closed ≡ true → AnswersAndCloses {T = T} (Err e) n'

@@ -1,5 +1,7 @@
 -- An output that is committed and sent.
-use Rattle.std.proofs.Common.{◌≡◌, ◌≢◌, ◌⊎◌, ℕ, List, [], ◌∷◌, take, sym, ap, ◌∙◌, subst, inl, inr, Result, Ok, Err}
+use Rattle.std.proofs.Common.{◌≡◌, ◌≢◌, ◌⊎◌, ℕ, Bool, cond, nat_eq, eq-eqb, List, [], ◌∷◌, take}
+use Rattle.std.proofs.Common.{sym, ap, ◌∙◌, subst, inl, inr, Result, Ok, Err}
+use Rattle.std.proofs.lemmas.Bool.{cases_eq, ne_eqb}
 use Rattle.outside.specs.declared.failed.Failed.{Failed}
 use Rattle.outside.specs.Outside.{Outside}
 use Rattle.outside.proofs.RunLaws.{grow_send, went_out}
@@ -36,6 +38,16 @@ pub put_waits : (link : ℕ) (bytes : List ℕ) (l l' : Link) (o o' : Outside)
 put_waits link bytes l l' o o' sends waits going = elim (kept_by sends.result l l' sends.ends) [
   | inl same ↦ subst (λ (x : Link). AwaitsBytes x.reader) (sym same) (waits (ap (λ (x : Link). x.end) (sym same) ∙ going))
   | inr failed ↦ absurd (let e : link_end.Failed ≡ link_end.Going = sym (ap (λ (x : Link). x.end) failed) ∙ going in cc)
+]
+
+-- nothing is owed any more, once that of one link went out
+pub all_paid : (n link : ℕ) (owed : List ℕ) → (link ≢ n → owed ≡ [])
+    → [] ≡ cond (nat_eq n link) [] owed
+all_paid n link owed others = elim (cases_eq link n) [
+  | inl same ↦ sym (ap (λ (b : Bool). cond b [] owed) (eq-eqb n link (sym same)))
+  | inr other ↦
+      sym (ap (λ (b : Bool). cond b [] owed) (ne_eqb n link (λ same. other (sym same)))
+      ∙ others other)
 ]
 
 -- ---- a link that may be sent on

@@ -15,7 +15,6 @@ use Rattle.sync_rules.specs.Clients.{Meaning}
 use Rattle.sync_rules.specs.Steps.{IsSettled}
 use Rattle.sync_store.specs.Ready.{IsReady}
 use Rattle.sync_store.specs.Store.{StoreValue}
-use Rattle.sync_course.specs.Acts.{Does}
 use Rattle.sync_course.specs.Events.{Pass}
 use Rattle.sync_course.specs.Links.{items_after, link_after, stands_behind}
 use Rattle.sync_course.specs.LinkTurns.{PassesItem, Spot, Takes, Waits, all_taken_spot}
@@ -23,25 +22,24 @@ use Rattle.sync_course.specs.Reading.{HasRead, IsReading}
 use Rattle.sync_course.specs.declared.ends.LinkEnd.TheVariants as link_end
 use Rattle.sync_course.proofs.CallLaws.{step_at}
 use Rattle.sync_course.proofs.ReadingLaws.{answer_comes, closes_behind_bad, goes_on_behind_more, none_come}
-use Rattle.sync_course.proofs.ToldLaws.{told_pass}
 use Rattle.sync_node.specs.declared.fault.Fault.{Fault}
 use Rattle.sync_node.specs.declared.fault.Fault.TheVariants as fault
 use Rattle.sync_node.specs.declared.link.Link.{Link}
 use Rattle.sync_node.specs.Courses.{IsTaking, link_at, spot_at}
 use Rattle.sync_node.specs.Hearing.{LearnsNonce}
-use Rattle.sync_node.specs.OnLinks.{ItemsStopped, ItemsWent, LinkStopped, LinkWent, NextWent, PieceWent, RecordStopped, RecordTaken}
+use Rattle.sync_node.specs.OnLinks.{ItemsStopped, LinkStopped, LinkWent, NextWent, PieceWent}
+use Rattle.sync_node.specs.OnLinks.{RecordStopped, RecordTaken}
 use Rattle.sync_node.proofs.CourseTakes.{closed_behind, learned, not_taking, same_at, to_come}
-use Rattle.sync_node.proofs.LinkActs.{link_does, link_joins, link_no_memory, link_stays, link_stops_then}
-use Rattle.sync_node.proofs.PrimLaws.{did_pass}
+use Rattle.sync_node.proofs.LinkActs.{link_joins, link_no_memory, link_pass, link_stays}
+use Rattle.sync_node.proofs.LinkActs.{link_stops_then}
 
 -- behind a skipped record, or behind the last item; no call is made
 pub link_passes : (clients : Meaning) (n session : ℕ) (its : List Item) (p q : Spot)
     (s : StoreValue) (o : Outside) → p.doing ≡ Takes its → IsSettled clients p.facts
     → PassesItem its p q → LinkWent clients n session p q s s o o
 link_passes clients n session its p q s o takes settled passes =
-    link_does clients n session p q Pass s s o o (λ first link. refl)
+    link_pass clients n session p q s o
     (step_at clients n session p q Pass (Takes its) takes (settled, passes))
-    (did_pass clients (Does Pass) s o refl (λ link. refl) (told_pass o o refl))
 
 -- ---- the next item
 
@@ -51,31 +49,42 @@ pub item_one : ReadingsFollow → (clients : Meaning) (n place : ℕ) (r : Recor
     → ReadsOn piece l.reader (item.One place r ∷ []) left mid.reader → LearnsNonce place r mid l'
     → RecordTaken clients l'.session.number r s s' o o'
     → NextWent clients n piece left l l' s s' o o' true
-item_one follow clients n place r piece left l mid l' s s' o o' going same_session same_end same_nonce reads learns takes = record {
-  leads = λ heard its moved reading.
-      let come = answer_comes follow heard piece left l.reader mid.reader its (item.One place r ∷ []) reading reads in
-      let others : List Item = come.0 in
-      let p : Spot = spot_at (Takes its) l heard moved s.state.facts in
-      let same_link : link_at l heard ≡ link_at mid heard = λ i. record {
-        contact = ap (λ x. x.contact) (sym same_session) i;
-        nonce = sym same_nonce i;
-        heard = heard;
-        stands = (sym same_end) i;
-      } in
-      let same_number : l'.session.number ≡ l.session.number = ap (λ x. x.number) (learns.same_session ∙ same_session) in
-      let runs : LinkWent clients n l'.session.number p
-      (record { doing = Takes (items_after r others); link = link_after place r (link_at l heard); moved = moved; facts = s'.state.facts }) s s' o o' =
-      takes.went n place others p (ap (λ (x : List Item). Takes x) come.1) refl in
-      let whole : link_after place r (link_at l heard) ≡ link_at l' heard =
-      ap (link_after place r) same_link ∙ learned place r mid l' heard learns in (
-        items_after r others,
-        to_come place r others heard left mid l' (same_end ∙ going) learns.end
-            (subst (λ x. IsReading heard left x others) (sym learns.same_reader) come.2),
-        subst (λ (k : ℕ). LinkWent clients n k p (spot_at (Takes (items_after r others)) l' heard moved s'.state.facts) s s' o o') same_number
-            (subst (λ x. LinkWent clients n l'.session.number p
-            (record { doing = Takes (items_after r others); link = x; moved = moved; facts = s'.state.facts }) s s' o o') whole runs),
-      );
-}
+item_one follow clients n place r piece left l mid l' s s' o o' going same_session same_end
+    same_nonce reads learns takes = record {
+      leads = λ heard its moved reading.
+          let come = answer_comes follow heard piece left l.reader mid.reader its
+          (item.One place r ∷ []) reading reads in
+          let others : List Item = come.0 in
+          let p : Spot = spot_at (Takes its) l heard moved s.state.facts in
+          let same_number : l'.session.number ≡ l.session.number =
+          ap (λ x. x.number) (learns.same_session ∙ same_session) in
+          let runs : LinkWent clients n l'.session.number p
+          (record {
+            doing = Takes (items_after r others);
+            link = link_after place r (link_at l heard);
+            moved = moved;
+            facts = s'.state.facts;
+          }) s s' o o' =
+          takes.went n place others p (ap (λ (x : List Item). Takes x) come.1) refl in
+          let whole : link_after place r (link_at l heard) ≡ link_at l' heard =
+          ap (link_after place r) (same_at l mid same_session same_end same_nonce heard)
+          ∙ learned place r mid l' heard learns in (
+            items_after r others,
+            to_come place r others heard left mid l' (same_end ∙ going) learns.end
+                (subst (λ x. IsReading heard left x others) (sym learns.same_reader) come.2),
+            subst (λ (k : ℕ).
+                LinkWent clients n k p
+                (spot_at (Takes (items_after r others)) l' heard moved s'.state.facts) s s' o o')
+                same_number
+                (subst (λ x. LinkWent clients n l'.session.number p
+                (record {
+                  doing = Takes (items_after r others);
+                  link = x;
+                  moved = moved;
+                  facts = s'.state.facts;
+                }) s s' o o') whole runs),
+          );
+    }
 
 pub item_skipped : ReadingsFollow → (clients : Meaning) (n place type_byte len : ℕ)
     (piece left : List ℕ) (l l' : Link) (s : StoreValue) (o : Outside)
@@ -89,14 +98,9 @@ item_skipped follow clients n place type_byte len piece left l l' s o going same
       let others : List Item = come.0 in
       let p : Spot = spot_at (Takes its) l heard moved s.state.facts in
       let q : Spot = spot_at (Takes others) l' heard moved s.state.facts in
-      let same_link : link_at l' heard ≡ link_at l heard = λ i. record {
-        contact = ap (λ x. x.contact) same_session i;
-        nonce = same_nonce i;
-        heard = heard;
-        stands = same_end i;
-      } in
       let passes : q ≡ record p { doing = Takes others } =
-      ap (λ x. record { doing = Takes others; link = x; moved = moved; facts = s.state.facts }) same_link in (
+      ap (λ x. record { doing = Takes others; link = x; moved = moved; facts = s.state.facts })
+      (sym (same_at l l' same_session same_end same_nonce heard)) in (
         others,
         subst (IsTaking heard left l' others) (sym (same_end ∙ going)) come.2,
         link_passes clients n l.session.number
@@ -178,22 +182,22 @@ item_no_memory clients n piece l l' s o ready same_session same_end same_nonce =
   stops = λ heard its moved reading.
       subst (λ x. LinkStopped clients n l.session.number (spot_at (Takes its) l heard moved s.state.facts) x s s o o fault.Memory)
       (same_at l l' same_session same_end same_nonce heard)
-      (link_no_memory clients n l.session.number (spot_at (Takes its) l heard moved s.state.facts) s o ready);
+      (link_no_memory n (spot_at (Takes its) l heard moved s.state.facts) s o ready);
 }
 
 pub items_none : (clients : Meaning) (n : ℕ) (piece : List ℕ) (l : Link) (s : StoreValue)
     (o : Outside) → l.end ≡ link_end.Going
-    → ItemsWent clients n piece piece l l s s o o
+    → NextWent clients n piece piece l l s s o o true
 items_none clients n piece l s o going = record {
   leads = λ heard its moved reading. (
     its,
     subst (IsTaking heard piece l its) (sym going) reading,
-    link_stays clients n l.session.number (spot_at (Takes its) l heard moved s.state.facts) s o,
+    link_stays n,
   );
 }
 
 module _ (clients : Meaning) (n : ℕ) (piece mid : List ℕ) (l m : Link) (s s1 : StoreValue) (o o1 : Outside) (same_session : m.session ≡ l.session)
-    (going : m.end ≡ link_end.Going) (a : ItemsWent clients n piece mid l m s s1 o o1) where
+    (going : m.end ≡ link_end.Going) (a : NextWent clients n piece mid l m s s1 o o1 true) where
   came_to : (heard : List ℕ) (its : List Item) (moved : Bool) → IsReading heard piece l.reader its
       → (others : List Item) × IsReading heard mid m.reader others
       × LinkWent clients n l.session.number (spot_at (Takes its) l heard moved s.state.facts) (spot_at (Takes others) m heard moved s1.state.facts) s s1 o o1
@@ -201,25 +205,24 @@ module _ (clients : Meaning) (n : ℕ) (piece mid : List ℕ) (l m : Link) (s s1
       let first = a.leads heard its moved reading in
       (first.0, subst (IsTaking heard mid m first.0) going first.1, first.2)
 
-  item_joins : (s' : StoreValue) (o' : Outside) (p q r : Spot)
+  item_joins : {s' : StoreValue} {o' : Outside} {p q r : Spot}
       → LinkWent clients n l.session.number p q s s1 o o1
       → LinkWent clients n m.session.number q r s1 s' o1 o'
       → LinkWent clients n l.session.number p r s s' o o'
-  item_joins s' o' p q r first second =
-      link_joins clients n l.session.number p q r s s1 s' o o1 o' first
+  item_joins {s' = s'} {o' = o'} {q = q} {r = r} first second =
+      link_joins n first
       (subst (λ (k : ℕ). LinkWent clients n k q r s1 s' o1 o') (ap (λ x. x.number) same_session) second)
 
   pub items_then : (left : List ℕ) (l' : Link) (s' : StoreValue) (o' : Outside)
       → NextWent clients n mid left m l' s1 s' o1 o' true
-      → ItemsWent clients n piece left l l' s s' o o'
+      → NextWent clients n piece left l l' s s' o o' true
   items_then left l' s' o' b = record {
     leads = λ heard its moved reading.
         let first = came_to heard its moved reading in
         let second = b.leads heard first.0 moved first.1 in (
           second.0,
           second.1,
-          item_joins s' o' (spot_at (Takes its) l heard moved s.state.facts) (spot_at (Takes first.0) m heard moved s1.state.facts)
-              (spot_at (Takes second.0) l' heard moved s'.state.facts) first.2 second.2,
+          item_joins first.2 second.2,
         );
   }
 
@@ -233,8 +236,7 @@ module _ (clients : Meaning) (n : ℕ) (piece mid : List ℕ) (l m : Link) (s s1
     went = λ heard its moved reading.
         let first = came_to heard its moved reading in
         let second = b.leads heard first.0 moved first.1 in
-        item_joins s' o' (spot_at (Takes its) l heard moved s.state.facts) (spot_at (Takes first.0) m heard moved s1.state.facts)
-        (spot_at Waits l' heard moved s'.state.facts) first.2 second.1;
+        item_joins first.2 second.1;
   }
 
   pub items_stop : (l' : Link) (s' : StoreValue) (o' : Outside) (e : Fault)
@@ -243,8 +245,7 @@ module _ (clients : Meaning) (n : ℕ) (piece mid : List ℕ) (l m : Link) (s s1
   items_stop l' s' o' e b = record {
     stops = λ heard its moved reading.
         let first = came_to heard its moved reading in
-        link_stops_then clients n l.session.number (link_at l' heard) (spot_at (Takes its) l heard moved s.state.facts)
-        (spot_at (Takes first.0) m heard moved s1.state.facts) s s1 s' o o1 o' e first.2
+        link_stops_then n (link_at l' heard) s' o' e first.2
         (subst (λ (k : ℕ). LinkStopped clients n k (spot_at (Takes first.0) m heard moved s1.state.facts) (link_at l' heard) s1 s' o1 o' e) (ap (λ x. x.number) same_session)
         (b.stops heard first.0 moved first.1));
   }
@@ -253,7 +254,7 @@ module _ (clients : Meaning) (n : ℕ) (piece mid : List ℕ) (l m : Link) (s s1
 pub items_closed : (clients : Meaning) (n : ℕ) (piece left : List ℕ) (l l' : Link)
     (s s' : StoreValue) (o o' : Outside)
     → (l'.end ≡ link_end.Going → ⊥) → IsSettled clients s'.state.facts
-    → ItemsWent clients n piece left l l' s s' o o'
+    → NextWent clients n piece left l l' s s' o o' true
     → PieceWent clients n piece l l' s s' o o'
 items_closed clients n piece left l l' s s' o o' closed settled a = record {
   has_read = λ heard its reading going. absurd (closed going);
@@ -265,7 +266,7 @@ items_closed clients n piece left l l' s s' o o' closed settled a = record {
       let passes : q ≡ all_taken_spot p =
       ap (λ x. record { doing = Waits; link = record (link_at l' heard) { stands = x }; moved = moved; facts = s'.state.facts })
       (sym (closed_behind l'.end (ending 0 heard) closed)) in
-      link_joins clients n l.session.number (spot_at (Takes its) l heard moved s.state.facts) p q s s' s' o o' o' first.2
+      link_joins n first.2
       (link_passes clients n l.session.number [] p q s' o'
       (ap (λ (x : List Item). Takes x) none) settled passes);
 }

@@ -4,6 +4,7 @@ use Rattle.std.specs.Option.{option_map}
 use Rattle.std.proofs.lemmas.Bool.{cases_eq, ne_eqb}
 use Rattle.outside.specs.declared.failed.Failed.{Failed}
 use Rattle.outside.specs.declared.limits.TheConstants.{MAX_JOURNAL}
+use Rattle.outside.specs.Faults.{CountRose}
 use Rattle.outside.specs.Files.{Two, File}
 use Rattle.outside.specs.Host.{SendsOnLink, SendsPart}
 use Rattle.outside.specs.Links.{Links, sent_of, with_sent}
@@ -20,11 +21,12 @@ use Rattle.sync_course.specs.Events.{Event, TellsEvents as Tells}
 use Rattle.sync_course.proofs.ActLaws.{batches_in_commits, commit_acts-append, commits_send, events_of_commits}
 use Rattle.sync_course.proofs.CallLaws.{calls_parts}
 use Rattle.sync_course.proofs.ToldLaws.{told_broken, told_commits, told_sent}
+use Rattle.sync_node.specs.Batches.{Breaks}
 use Rattle.sync_node.specs.Courses.{FitsWith, ReadsAs, ReadsFront}
 use Rattle.sync_node.specs.Did.{ComesAtFronts, Did, DidSome, HasSentBy}
 use Rattle.sync_node.specs.Going.{LetsNothingFall, specs_of}
 use Rattle.sync_node.specs.Output.{Journal, sent_on}
-use Rattle.sync_node.proofs.CourseLaws.{fits_grown, fits_on, quiet_most}
+use Rattle.sync_node.proofs.CourseLaws.{fits_grown, fits_on, quiet_most, reads_front}
 use Rattle.sync_node.proofs.DidLaws.{did_none, since_none}
 use Rattle.sync_node.proofs.Fronts.{front_taken}
 use Rattle.sync_node.proofs.SafeLaws.{goes_led, goes_link, specs_told}
@@ -32,7 +34,7 @@ use Rattle.sync_node.proofs.SafeLaws.{goes_led, goes_link, specs_told}
 -- ---- batches that were committed
 
 -- a moment between two of some batches
-at_batch : (clients : Meaning) (may j : Journal) (P : Journal → Type 0) (links : Links)
+pub at_batch : (clients : Meaning) (may j : Journal) (P : Journal → Type 0) (links : Links)
     (m : Moment) → ((whole : Journal) → P whole → IsBetween j may whole)
     → JournalMoment clients P (sent_of links.told) m
     → AtFront clients (commit_acts may) j (sent_on links) m
@@ -106,7 +108,7 @@ module _ (clients : Meaning) (s s' : StoreValue) (may : Journal) (o o' : Outside
   }
 
   -- some of them, and a call of the disk failed
-  pub did_some : (stood : ReadsFront clients may s o o')
+  did_some : (stood : ReadsFront clients may s o o')
       → DidSome clients (commit_acts stood.front) stood.others s s' o o'
   did_some stood = record {
     goes = goes_led clients s s' o o' P Q fits run leads;
@@ -125,6 +127,17 @@ module _ (clients : Meaning) (s s' : StoreValue) (may : Journal) (o o' : Outside
         subst (λ (acts : List Act). ComesAtFronts clients acts s o o')
         (ap commit_acts stood.parts ∙ commit_acts-append stood.front stood.others) batch_fronts;
   }
+
+  pub did_breaks : CountRose o.disk_faults o'.disk_faults → Breaks clients may s s' o o'
+  did_breaks rose =
+      let stood = reads_front clients s s' may o o' P Q fits run.same_told between leads in
+      record {
+        front = stood.front;
+        others = stood.others;
+        parts = stood.parts;
+        did = did_some stood;
+        rose = rose;
+      }
 
 -- a call that did not reach the host
 pub did_unasked : {H : Type 0} (tells : H → Outside) (clients : Meaning) (s s' : StoreValue)

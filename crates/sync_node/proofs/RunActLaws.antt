@@ -1,8 +1,9 @@
 -- The turns of all links, and a whole turn, as paths of a run's acts.
-use Rattle.std.proofs.Common.{◌≡◌, ℕ, suc, ◌+◌, ◌<◌, Bool, true, false, cond, ◌&&◌, List, [], length, refl, sym, ◌∙◌, ap, subst, inl, inr, arith, Some}
+use Rattle.std.proofs.Common.{◌≡◌, ℕ, suc, ◌+◌, ◌<◌, Bool, true, false, cond, ◌&&◌, List, length, refl, sym, ◌∙◌, ap, subst, inl, inr, arith, Some}
 use Rattle.std.specs.Prelude.{nat_lt, not, slice_get, slice_set}
 use Rattle.outside.specs.Outside.{Outside}
 use Rattle.sync_rules.specs.Clients.{Meaning}
+use Rattle.sync_rules.specs.Facts.{Facts}
 use Rattle.sync_store.specs.Store.{StoreValue}
 use Rattle.sync_course.specs.Acts.{Act, Does, Fail, Send, commit_acts}
 use Rattle.sync_course.specs.Events.{Break, Commit, Pass}
@@ -12,7 +13,7 @@ use Rattle.sync_course.specs.LinkTurns.{Asks, Doing, Done, Sends, Spot}
 use Rattle.sync_course.specs.Owing.{Owing, paid}
 use Rattle.sync_course.specs.Paths.{Path}
 use Rattle.sync_course.specs.declared.TheConstants.{MAX_OUTPUTS}
-use Rattle.sync_course.specs.Turns.{Between, Place, RunStep, Terms, Works, is_at_end, turn_ended, with_spot}
+use Rattle.sync_course.specs.Turns.{Between, Place, RunStep, Terms, Works, is_at_end, with_spot}
 use Rattle.sync_course.proofs.LiftLaws.{begin_step, end_step, get_set, get_within, lifted_step, next_step}
 use Rattle.sync_course.proofs.PathLaws.{path_maps}
 use Rattle.sync_course.proofs.ToldLaws.{told_pass}
@@ -121,25 +122,27 @@ module _ (clients : Meaning) (terms : Terms) (n : ℕ) (place : Place) (within :
 
 -- ---- steps of the run that call nothing
 
-module _ (clients : Meaning) (terms : Terms) where
-  run_passes : (p q : Place) (s : StoreValue) (o : Outside) → RunStep clients terms p Pass q
+module _ {clients : Meaning} (terms : Terms) where
+  run_passes : {p q : Place} {s : StoreValue} {o : Outside} → RunStep clients terms p Pass q
       → RunWent clients terms p q s s o o
-  run_passes p q s o step =
+  run_passes {p = p} {q = q} {s = s} {o = o} step =
       went_one clients (RunActs clients terms) (paid p) (paid q) (Does Pass) s s o o
       (λ link. refl, step, λ link. refl)
       (did_pass clients (Does Pass) s o refl (λ link. refl) (told_pass o o refl))
 
-  run_joins : (p q r : Place) (s s1 s' : StoreValue) (o o1 o' : Outside)
+  run_joins : {p q r : Place} {s s1 s' : StoreValue} {o o1 o' : Outside}
       → RunWent clients terms p q s s1 o o1 → RunWent clients terms q r s1 s' o1 o'
       → RunWent clients terms p r s s' o o'
-  run_joins p q r s s1 s' o o1 o' first second =
-      went_then clients (RunActs clients terms) (paid p) (paid q) (paid r) s s1 s' o o1 o' first second
+  run_joins {p = p} {q = q} {r = r} {s = s} {s1 = s1} {s' = s'} {o = o} {o1 = o1} {o' =
+      o'} first second =
+      went_then clients (RunActs clients terms) (paid p) (paid q) (paid r) s s1 s' o o1 o' first
+      second
 
-  run_stops_then : (links : List course_links.Link) (p q : Place) (s s1 s' : StoreValue)
-      (o o1 o' : Outside) (e : Fault) → RunWent clients terms p q s s1 o o1
-      → RunStopped clients terms q links s1 s' o1 o' e
+  run_stops_then : {p q : Place} {s s1 : StoreValue} {o o1 : Outside}
+      (links : List course_links.Link) (s' : StoreValue) (o' : Outside) (e : Fault)
+      → RunWent clients terms p q s s1 o o1 → RunStopped clients terms q links s1 s' o1 o' e
       → RunStopped clients terms p links s s' o o' e
-  run_stops_then links p q s s1 s' o o1 o' e first second =
+  run_stops_then {p = p} {q = q} {s = s} {s1 = s1} {o = o} {o1 = o1} links s' o' e first second =
       stopped_then clients (RunActs clients terms) (λ (x : Owing Place). x.at.links ≡ links) (paid p)
       (paid q) s s1 s' o o1 o' e first second
 
@@ -155,23 +158,44 @@ module _ (clients : Meaning) (first n : ℕ) (links : List Link) (l : Link) (s :
         get_within (links_from 0 links heard) n (link_at l (heard n))
         (at_course clients first n links l s o at numbered terms same heard moved still made)
 
+    link_path : (doing doing' : Doing) (l' : Link) (f : Facts) (bytes : List ℕ) (moved' : Bool)
+        (acts : List Act)
+        → Path (LinkActs clients terms.first n)
+        (paid (spot_at doing l (heard n) moved s.state.facts))
+        acts (paid (spot_at doing' l' bytes moved' f))
+        → Path (RunActs clients terms)
+        (paid (place_at (Works n doing) links heard moved still made s.state.facts)) acts
+        (paid (place_at (Works n doing') (slice_set links n l') (heard_with n bytes heard) moved'
+        still made f))
+    link_path doing doing' l' f bytes moved' acts path =
+        let place : Place = place_at (Works n doing) links heard moved still made s.state.facts in
+        let p : Spot = spot_at doing l (heard n) moved s.state.facts in
+        let q : Spot = spot_at doing' l' bytes moved' f in
+        subst (λ (x : Place). Path (RunActs clients terms) (paid x) acts
+        (paid (place_at (Works n doing') (slice_set links n l') (heard_with n bytes heard) moved'
+        still made f)))
+        (start_here clients first n links l s o at numbered terms same heard moved still made doing)
+        (subst (λ (x : Place).
+        Path (RunActs clients terms) (paid (with_spot n p place)) acts (paid x))
+        (end_there clients first n links l s o at numbered terms same heard moved still made doing
+        doing' l' f bytes moved')
+        (lift_path clients terms n place (link_within doing) (paid p) (paid q) acts path))
+
     pub link_goes : (doing doing' : Doing) (l' : Link) (s' : StoreValue) (o' : Outside)
         (bytes : List ℕ) (moved' : Bool)
         → LinkWent clients n l.session.number (spot_at doing l (heard n) moved s.state.facts)
         (spot_at doing' l' bytes moved' s'.state.facts) s s' o o'
         → RunWent clients terms (place_at (Works n doing) links heard moved still made s.state.facts)
         (place_at (Works n doing') (slice_set links n l') (heard_with n bytes heard) moved' still made s'.state.facts) s s' o o'
-    link_goes doing doing' l' s' o' bytes moved' went =
-        let place : Place = place_at (Works n doing) links heard moved still made s.state.facts in
-        let p : Spot = spot_at doing l (heard n) moved s.state.facts in
-        let q : Spot = spot_at doing' l' bytes moved' s'.state.facts in
-        let lifted : RunWent clients terms (with_spot n p place) (with_spot n q place) s s' o o' =
-        went_lifted clients terms n place (link_within doing) (paid p) (paid q) s s' o o'
-        (went terms.first (in_terms clients first n links l s o at numbered terms same heard moved still made)) in
-        subst (λ (x : Place). RunWent clients terms x (place_at (Works n doing') (slice_set links n l') (heard_with n bytes heard) moved' still made s'.state.facts) s s' o o')
-        (start_here clients first n links l s o at numbered terms same heard moved still made doing)
-        (subst (λ (x : Place). RunWent clients terms (with_spot n p place) x s s' o o')
-        (end_there clients first n links l s o at numbered terms same heard moved still made doing doing' l' s'.state.facts bytes moved') lifted)
+    link_goes doing doing' l' s' o' bytes moved' goes =
+        let went =
+        goes terms.first (in_terms clients first n links l s o at numbered terms same heard
+        moved still made) in
+        record {
+          acts = went.acts;
+          path = link_path doing doing' l' s'.state.facts bytes moved' went.acts went.path;
+          did = went.did;
+        }
 
     -- the same, with the number of batches that were committed
     pub link_makes : (doing doing' : Doing) (l' : Link) (s' : StoreValue) (o' : Outside)
@@ -181,23 +205,15 @@ module _ (clients : Meaning) (first n : ℕ) (links : List Link) (l : Link) (s :
         → RunMakes clients terms (place_at (Works n doing) links heard moved still made s.state.facts)
         (place_at (Works n doing') (slice_set links n l') (heard_with n bytes heard) moved' still made s'.state.facts) s s' o o' count
     link_makes doing doing' l' s' o' bytes moved' count makes =
-        let place : Place = place_at (Works n doing) links heard moved still made s.state.facts in
-        let p : Spot = spot_at doing l (heard n) moved s.state.facts in
-        let q : Spot = spot_at doing' l' bytes moved' s'.state.facts in
         let by = makes terms.first (in_terms clients first n links l s o at numbered terms same heard moved still made) in
-        let lifted : RunMakes clients terms (with_spot n p place) (with_spot n q place) s s' o o' count =
         record {
           went = record {
             acts = by.went.acts;
-            path = lift_path clients terms n place (link_within doing) (paid p) (paid q) by.went.acts by.went.path;
+            path = link_path doing doing' l' s'.state.facts bytes moved' by.went.acts by.went.path;
             did = by.went.did;
           };
           counts = by.counts;
-        } in
-        subst (λ (x : Place). RunMakes clients terms x (place_at (Works n doing') (slice_set links n l') (heard_with n bytes heard) moved' still made s'.state.facts) s s' o o' count)
-        (start_here clients first n links l s o at numbered terms same heard moved still made doing)
-        (subst (λ (x : Place). RunMakes clients terms (with_spot n p place) x s s' o o' count)
-        (end_there clients first n links l s o at numbered terms same heard moved still made doing doing' l' s'.state.facts bytes moved') lifted)
+        }
 
     pub link_stops : (doing : Doing) (l' : Link) (s' : StoreValue) (o' : Outside) (bytes : List ℕ)
         (e : Fault)
@@ -253,33 +269,10 @@ module _ (clients : Meaning) (first n : ℕ) (links0 links : List Link) (l : Lin
         let heard' : ℕ → List ℕ = heard_with n bytes heard in
         let done : Place = place_at (Works n Done) (slice_set links n l') heard' moved' still made s'.state.facts in
         let there : slice_get (slice_set links n l') n ≡ Some l' = get_set links n l' (get_within links n l at) in
-        run_joins clients terms (place_at (Works n Asks) links heard moved still made s.state.facts) done
-        (place_at (Works (suc n) Asks) (slice_set links n l') heard' moved' still made s'.state.facts) s s' s' o o' o'
+        run_joins terms
         (link_goes clients first n links l s o at numbered terms same heard moved still made Asks Done l' s' o' bytes moved' went)
-        (run_passes clients terms done (place_at (Works (suc n) Asks) (slice_set links n l') heard' moved' still made s'.state.facts) s' o'
+        (run_passes terms
         (next_step clients terms n (link_at l' (heard' (0 + n))) done refl (get_at 0 n (slice_set links n l') heard' l' there)))
-
-  links_then : (l' : Link) (s' : StoreValue) (o' : Outside) (still_too : Bool)
-      → TurnWent clients n l l' s s' o o' still_too
-      → LinksWent clients first (suc n) links0 (slice_set links n l') s0 s' o0 o' (quiet && still_too)
-  links_then l' s' o' still_too turn = record {
-    leads = λ terms heard moved still made same read.
-        let so = a.leads terms heard moved still made same read in
-        let t = turn.leads (so.heard' n) (cond quiet moved true) (so.has_read n l at) in
-        record {
-          heard' = heard_with n t.heard' so.heard';
-          has_read = all_read n links so.heard' l l' t.heard' at so.has_read t.has_read;
-          went =
-              subst (λ (b : Bool). RunWent clients terms (place_at (Works 0 Asks) links0 heard moved still made s0.state.facts)
-              (place_at (Works (suc n) Asks) (slice_set links n l') (heard_with n t.heard' so.heard') b still made s'.state.facts) s0 s' o0 o')
-              (and_cond quiet still_too moved)
-              (run_joins clients terms (place_at (Works 0 Asks) links0 heard moved still made s0.state.facts)
-              (place_at (Works n Asks) links so.heard' (cond quiet moved true) still made s.state.facts)
-              (place_at (Works (suc n) Asks) (slice_set links n l') (heard_with n t.heard' so.heard') (cond still_too (cond quiet moved true) true) still made s'.state.facts)
-              s0 s s' o0 o o' so.went
-              (turn_goes terms same so.heard' (cond quiet moved true) still made l' s' o' t.heard' (cond still_too (cond quiet moved true) true) t.went));
-        };
-  }
 
   pub links_stop : (l' : Link) (s' : StoreValue) (o' : Outside) (e : Fault)
       → HearingStopped clients n l l' s s' o o' e
@@ -290,9 +283,7 @@ module _ (clients : Meaning) (first n : ℕ) (links0 links : List Link) (l : Lin
         let halts = stopped.stops (so.heard' n) (cond quiet moved true) (so.has_read n l at) in
         let heard' : ℕ → List ℕ = heard_with n halts.0 so.heard' in (
           heard',
-          run_stops_then clients terms (links_from 0 (slice_set links n l') heard')
-              (place_at (Works 0 Asks) links0 heard moved still made s0.state.facts)
-              (place_at (Works n Asks) links so.heard' (cond quiet moved true) still made s.state.facts) s0 s s' o0 o o' e so.went
+          run_stops_then terms (links_from 0 (slice_set links n l') heard') s' o' e so.went
               (link_stops clients first n links l s o at numbered terms same so.heard' (cond quiet moved true) still made Asks l' s' o' halts.0 e halts.1),
         );
   }
@@ -305,7 +296,26 @@ module _ (clients : Meaning) (first n : ℕ) (links0 links : List Link) (l : Lin
   links_next l' s' o' still_too turn k all more is =
       let next : suc n ≡ k = omega (arith, more) in
       subst (λ (j : ℕ). LinksWent clients first j links0 (slice_set links n l') s0 s' o0 o' all) next
-      (subst (λ (b : Bool). LinksWent clients first (suc n) links0 (slice_set links n l') s0 s' o0 o' b) (sym is) (links_then l' s' o' still_too turn))
+      (record {
+        leads = λ terms heard moved still made same read.
+            let so = a.leads terms heard moved still made same read in
+            let t = turn.leads (so.heard' n) (cond quiet moved true) (so.has_read n l at) in
+            let heard' : ℕ → List ℕ = heard_with n t.heard' so.heard' in
+            record {
+              heard' = heard';
+              has_read = all_read n links so.heard' l l' t.heard' at so.has_read t.has_read;
+              went =
+                  subst (λ (b : Bool). RunWent clients terms
+                  (place_at (Works 0 Asks) links0 heard moved still made s0.state.facts)
+                  (place_at (Works (suc n) Asks) (slice_set links n l') heard' b still made
+                  s'.state.facts) s0 s' o0 o')
+                  (and_cond quiet still_too moved
+                  ∙ ap (λ (b : Bool). cond b moved true) (sym is))
+                  (run_joins terms so.went
+                  (turn_goes terms same so.heard' (cond quiet moved true) still made l' s' o'
+                  t.heard' (cond still_too (cond quiet moved true) true) t.went));
+            };
+      })
 
 -- ---- a whole turn
 
@@ -317,7 +327,7 @@ round_begun : (clients : Meaning) (terms : Terms) (links : List Link) (s : Store
     (place_at (Works 0 Asks) links heard false still made s.state.facts) s s o o
 round_begun clients terms links s o heard moved still made on =
     let from : Place = place_at Between links heard moved still made s.state.facts in
-    run_passes clients terms from (record from { stage = Works 0 Asks; moved = false }) s o
+    run_passes terms
     (begin_step clients terms from refl on)
 
 module _ (clients : Meaning) (n : ℕ) (mid links' : List Link) (s : StoreValue) (o : Outside) (all : n ≡ length mid)
@@ -329,7 +339,7 @@ module _ (clients : Meaning) (n : ℕ) (mid links' : List Link) (s : StoreValue)
   round_closed terms heard still made quiet =
       let place : Place = place_at (Works n Asks) mid heard (cond quiet false true) still made s.state.facts in
       subst (λ (q : Place). RunWent clients terms place q s s o o) (ended_at clients n mid links' s o all exact heard still made quiet)
-      (run_passes clients terms place (turn_ended place) s o
+      (run_passes terms
       (end_step clients terms place (ap (λ (k : ℕ). Works k Asks) (all ∙ sym (length_from 0 mid heard)))))
 
 pub round_went : (clients : Meaning) (first n : ℕ) (links mid links' : List Link)
@@ -340,18 +350,14 @@ pub round_went : (clients : Meaning) (first n : ℕ) (links mid links' : List Li
 round_went clients first n links mid links' s s' o o' quiet all turns closes exact = record {
   leads = λ terms heard moved still made same read on.
       let so = turns.leads terms heard false still made same read in
-      let from : Place = place_at Between links heard moved still made s.state.facts in
-      let begun : Place = place_at (Works 0 Asks) links heard false still made s.state.facts in
-      let behind : Place = place_at (Works n Asks) mid so.heard' (cond quiet false true) still made s'.state.facts in
-      let to : Place = place_at Between links' so.heard' (not quiet) (cond quiet (suc still) 0) (suc made) s'.state.facts in
       record {
         heard' = so.heard';
         has_read = closed_read mid links' so.heard' closes so.has_read;
         went =
-            run_joins clients terms from begun to s s s' o o o'
-            (round_begun clients terms links s o heard moved still made on)
-            (run_joins clients terms begun behind to s s' s' o o' o'
-            so.went (round_closed clients n mid links' s' o' all exact terms so.heard' still made quiet));
+            run_joins terms (round_begun clients terms links s o heard moved still made on)
+            (run_joins terms so.went
+            (round_closed clients n mid links' s' o' all exact terms so.heard' still made
+            quiet));
       };
 }
 
@@ -362,8 +368,8 @@ round_stopped clients first links links' s s' o o' e stopped = record {
   stops = λ terms heard moved still made same read on.
       let halts = stopped.stops terms heard false still made same read in (
         halts.0,
-        run_stops_then clients terms (links_from 0 links' halts.0) (place_at Between links heard moved still made s.state.facts)
-            (place_at (Works 0 Asks) links heard false still made s.state.facts) s s s' o o o' e (round_begun clients terms links s o heard moved still made on) halts.1,
+        run_stops_then terms (links_from 0 links' halts.0) s' o' e
+            (round_begun clients terms links s o heard moved still made on) halts.1,
       );
 }
 

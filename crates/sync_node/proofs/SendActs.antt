@@ -1,7 +1,7 @@
 -- Outputs that are committed and sent, as steps of a link's turn.
 use Rattle.std.proofs.Common.{◌≡◌, ◌≢◌, ◌⊎◌, ℕ, zero, suc, ◌+◌, ◌<◌, ◌≤◌, Bool, true, false, cond, nat_eq, eq-eqb, List, [], ◌∷◌, ◌++◌, append-nil, length, length-append, refl, sym, ◌∙◌, ap, subst, inl, inr, arith, Result, Ok, Err}
 use Rattle.std.specs.Prelude.{nat_lt}
-use Rattle.std.proofs.lemmas.Bool.{cases_eq, false≢true, lt-ltb, ne_eqb}
+use Rattle.std.proofs.lemmas.Bool.{false≢true, lt-ltb, ne_eqb}
 use Rattle.entry_codec.specs.Standing.{room_of}
 use Rattle.outside.specs.declared.failed.Failed.{Failed}
 use Rattle.outside.specs.declared.limits.TheConstants.{MAX_JOURNAL}
@@ -12,6 +12,7 @@ use Rattle.record_grammar.specs.Spelling.{spelled}
 use Rattle.sync_rules.specs.declared.entries.Entry.{Entry}
 use Rattle.sync_rules.specs.declared.entries.Entry.TheVariants as entry
 use Rattle.sync_rules.specs.declared.entries.Out.{Out}
+use Rattle.sync_rules.specs.declared.entries.Session.{Session}
 use Rattle.sync_rules.specs.Clients.{Meaning}
 use Rattle.sync_rules.specs.Facts.{Facts, after_all}
 use Rattle.sync_rules.specs.Growth.{output_in}
@@ -38,40 +39,36 @@ use Rattle.sync_node.specs.Batches.{CommitStops, Committed}
 use Rattle.sync_node.specs.Courses.{IsReadyToSend, link_at, spot_at}
 use Rattle.sync_node.specs.Did.{Did}
 use Rattle.sync_node.specs.Ends.{MaySend}
-use Rattle.sync_node.specs.OnLinks.{DueStopped, DueWent, LinkActs, LinkMakes, LinkStopped, LinkWent, OutsMadeTo, OutsWent, PutStopped, PutTo, PutWent, SendingStopped, SendingWent}
+use Rattle.sync_node.specs.OnLinks.{DueStopped, DueWent, LinkActs, LinkMakes, LinkStopped, LinkWent, OutsWent, PutStopped, PutTo, PutWent, SendingStopped, SendingWent}
 use Rattle.sync_node.specs.Output.{Journal}
 use Rattle.sync_node.specs.Sending.{EndsBy, SendsOn}
 use Rattle.sync_node.proofs.CourseTurns.{end_then, may_end, may_not_end, sends_yet}
 use Rattle.sync_node.proofs.DidLaws.{did_none, did_then}
-use Rattle.sync_node.proofs.LinkActs.{link_does, link_joins, link_no_memory, link_stays, link_stops_then}
+use Rattle.sync_node.proofs.LinkActs.{link_does, link_joins, link_no_memory, link_pass, link_stays}
+use Rattle.sync_node.proofs.LinkActs.{link_stops_then}
+use Rattle.sync_node.proofs.OutLaws.{all_paid}
 use Rattle.sync_node.proofs.PrimLaws.{did_fail, did_pass, did_quiet, did_send}
 use Rattle.sync_node.proofs.WentLaws.{commit_stopped}
 use Rattle.sync_node.proofs.WorkLaws.{goes_read}
 
 -- ---- so many batches
 
-module _ (clients : Meaning) (n session : ℕ) where
-  pub makes_went : (p q : Spot) (s s' : StoreValue) (o o' : Outside) (count : ℕ)
+module _ {clients : Meaning} (n : ℕ) {session : ℕ} where
+  makes_went : {p q : Spot} {s s' : StoreValue} {o o' : Outside} {count : ℕ}
       → LinkMakes clients n session p q s s' o o' count → LinkWent clients n session p q s s' o o'
-  makes_went p q s s' o o' count makes = λ first is. (makes first is).went
+  makes_went makes = λ first is. (makes first is).went
 
-  makes_none : (p : Spot) (s : StoreValue) (o : Outside)
-      → LinkMakes clients n session p p s s o o 0
-  makes_none p s o = λ first is. record {
+  makes_none : {p : Spot} {s : StoreValue} {o : Outside} → LinkMakes clients n session p p s s o o 0
+  makes_none {s = s} {o = o} = λ first is. record {
     went = record { acts = []; path = refl; did = did_none clients s o };
     counts = refl;
   }
 
-  -- the same count by another name
-  makes_as : (s s' : StoreValue) (o o' : Outside) (p q : Spot) (a b : ℕ) → a ≡ b
-      → LinkMakes clients n session p q s s' o o' a → LinkMakes clients n session p q s s' o o' b
-  makes_as s s' o o' p q a b same makes =
-      subst (λ (k : ℕ). LinkMakes clients n session p q s s' o o' k) same makes
-
-  makes_joins : (s s1 s' : StoreValue) (o o1 o' : Outside) (p q r : Spot) (a b : ℕ)
+  makes_joins : {p q r : Spot} {s s1 s' : StoreValue} {o o1 o' : Outside} {a b c : ℕ} → a + b ≡ c
       → LinkMakes clients n session p q s s1 o o1 a → LinkMakes clients n session q r s1 s' o1 o' b
-      → LinkMakes clients n session p r s s' o o' (a + b)
-  makes_joins s s1 s' o o1 o' p q r a b first second = λ k is.
+      → LinkMakes clients n session p r s s' o o' c
+  makes_joins {p = p} {q = q} {r = r} {s = s} {s1 = s1} {s' = s'} {o = o} {o1 = o1} {o' = o'} {a =
+      a} all first second = λ k is.
       let one = first k is in
       let two = second k is in
       record {
@@ -80,16 +77,17 @@ module _ (clients : Meaning) (n session : ℕ) where
           path =
               path_then (LinkActs clients k n) (paid p) (paid q) (paid r) one.went.acts two.went.acts
               one.went.path two.went.path;
-          did =
-              did_then clients one.went.acts two.went.acts s s1 s' o o1 o' one.went.did two.went.did;
+          did = did_then one.went.did two.went.did;
         };
         counts =
             ap (λ (l : Journal). length l) (batches_in-append one.went.acts two.went.acts)
             ∙ length-append (batches_in one.went.acts) (batches_in two.went.acts)
             ∙ ap (λ (x : ℕ). x + length (batches_in two.went.acts)) one.counts
-            ∙ ap (λ (x : ℕ). a + x) two.counts;
+            ∙ ap (λ (x : ℕ). a + x) two.counts
+            ∙ all;
       }
 
+module _ (clients : Meaning) (n session : ℕ) where
   -- nothing more is sent in this turn
   makes_sent : (now room : ℕ) (p : Spot) (s : StoreValue) (o : Outside) → p.doing ≡ Sends now room
       → IsEnough clients p.facts session now room
@@ -115,9 +113,8 @@ module _ (clients : Meaning) (n session : ℕ) where
       → is_sent_to p.link.stands ≡ false
       → LinkWent clients n session p (record p { doing = Done }) s s o o
   link_closed p s o waits closed =
-      link_does clients n session p (record p { doing = Done }) Pass s s o o (λ first link. refl)
+      link_pass clients n session p (record p { doing = Done }) s o
       (step_at clients n session p (record p { doing = Done }) Pass Waits waits (closed, refl))
-      (did_pass clients (Does Pass) s o refl (λ link. refl) (told_pass o o refl))
 
   -- the clock is read
   link_read : (now : ℕ) (p : Spot) (s : StoreValue) (o o' : Outside) → p.doing ≡ Waits
@@ -181,18 +178,13 @@ module _ (clients : Meaning) (n now : ℕ) (what : Out) (l : Link) (s : StoreVal
   )
 
   -- nothing is owed once it went out
-  all_paid : (first : ℕ) → l.session.number ≡ first + n → (link : ℕ)
+  out_paid : (first : ℕ) → l.session.number ≡ first + n → (link : ℕ)
       → [] ≡ cond (nat_eq n link) []
       (adds_to s.state.facts first (Commit (out_batch l.session.number now what)) link)
-  all_paid first at link = elim (cases_eq link n) [
-    | inl same ↦
-        sym (ap (λ (b : Bool). cond b [] (adds_to s.state.facts first (Commit (out_batch l.session.number now what)) link))
-        (eq-eqb n link (sym same)))
-    | inr other ↦
-        sym (ap (λ (b : Bool). cond b [] (adds_to s.state.facts first (Commit (out_batch l.session.number now what)) link))
-        (ne_eqb n link (λ same. other (sym same)))
-        ∙ ap spelled (adds_none s.state.facts l.session.number (first + link) now what (λ same. other (omega (arith, same, at)))))
-  ]
+  out_paid first at link =
+      all_paid n link _
+      (λ other. ap spelled (adds_none s.state.facts l.session.number (first + link) now what
+      (λ same. other (omega (arith, same, at)))))
 
   module _ (stand : ImagesStand) (s1 : StoreValue) (o1 o' : Outside) (l' : Link) (bytes : List ℕ)
       (commits : Committed clients batch s s1 o o1)
@@ -212,26 +204,32 @@ module _ (clients : Meaning) (n now : ℕ) (what : Out) (l : Link) (s : StoreVal
     did_commit =
         subst (λ (b : List Entry). Did clients (commit_acts (b ∷ [])) s s1 o o1) is commits.did
 
-    -- it was committed, and this act came behind
-    puts_by : (a : Act) (q : Spot) (heard : List ℕ) (moved : Bool) (room : ℕ)
-        → batches_in (a ∷ []) ≡ [] → Did clients (a ∷ []) s1 s1 o1 o'
+    -- it was committed, and this act came behind, and left the link so
+    puts_by : (a : Act) (doing : Doing) (x : Link) (heard : List ℕ) (moved : Bool) (room : ℕ)
+        → l' ≡ x → batches_in (a ∷ []) ≡ [] → Did clients (a ∷ []) s1 s1 o1 o'
         → ((first : ℕ) → l.session.number ≡ first + n
-        → LinkActs clients first n (owing_at first heard moved room) a (paid q))
-        → LinkMakes clients n l.session.number (due_at heard moved room) q s s1 o o' 1
-    puts_by a q heard moved room none did steps = λ first at. record {
-      went = record {
-        acts = Does (Commit (out_batch l.session.number now what)) ∷ (a ∷ []);
-        path = (
-          owing_at first heard moved room,
-          out_step first at heard moved room,
-          (paid q, steps first at, refl),
-        );
-        did =
-            did_then clients (commit_acts (out_batch l.session.number now what ∷ [])) (a ∷ []) s s1 s1
-            o o1 o' did_commit did;
-      };
-      counts = ap (λ (l : Journal). suc (length l)) none;
-    }
+        → LinkActs clients first n (owing_at first heard moved room) a
+        (paid (spot_at doing x heard true
+        (after_all s.state.facts (out_batch l.session.number now what)))))
+        → LinkMakes clients n l.session.number (due_at heard moved room)
+        (spot_at doing l' heard true s1.state.facts) s s1 o o' 1
+    puts_by a doing x heard moved room is_x none did steps =
+        subst (λ (y : Link). LinkMakes clients n l.session.number (due_at heard moved room)
+        (spot_at doing y heard true s1.state.facts) s s1 o o' 1) (sym is_x)
+        (subst (λ (f : Facts). LinkMakes clients n l.session.number (due_at heard moved room)
+        (spot_at doing x heard true f) s s1 o o' 1) facts_are
+        (λ first at. record {
+          went = record {
+            acts = Does (Commit (out_batch l.session.number now what)) ∷ (a ∷ []);
+            path = (
+              owing_at first heard moved room,
+              out_step first at heard moved room,
+              (paid _, steps first at, refl),
+            );
+            did = did_then did_commit did;
+          };
+          counts = ap (λ (l : Journal). suc (length l)) none;
+        }))
 
     by_result : (result : Result (Unit {0}) Failed) → SendsBytes n bytes result o1.links o'.links
         → EndsBy result l l' → (heard : List ℕ) (moved : Bool) (room : ℕ)
@@ -240,21 +238,22 @@ module _ (clients : Meaning) (n now : ℕ) (what : Out) (l : Link) (s : StoreVal
       doing = Sends now room;
       goes_on = inl (refl, ap (λ x. is_sent_to x.end) ends ∙ open_is);
       makes =
-          subst (λ (x : Link). LinkMakes clients n l.session.number (due_at heard moved room) (spot_at (Sends now room) x heard true s1.state.facts) s s1 o o' 1) (sym ends)
-          (subst (λ (f : Facts). LinkMakes clients n l.session.number (due_at heard moved room) (spot_at (Sends now room) l heard true f) s s1 o o' 1) facts_are
-          (puts_by (Send n bytes) (record (put_at heard moved room) { doing = Sends now room }) heard moved room refl
+          puts_by (Send n bytes) (Sends now room) l heard moved room ends refl
           (did_send stand clients n bytes s1 o1 o' roomy within sends.call u went)
-          (λ first at. inl (owed_bytes first at, refl, all_paid first at))));
+          (λ first at. inl (owed_bytes first at, refl, out_paid first at));
     }
     by_result (Err why) went ends heard moved room open_is = record {
       doing = Done;
       goes_on = inr (refl, ap (λ x. is_sent_to x.end) ends);
       makes =
-          subst (λ (x : Link). LinkMakes clients n l.session.number (due_at heard moved room) (spot_at Done x heard true s1.state.facts) s s1 o o' 1) (sym ends)
-          (subst (λ (f : Facts). LinkMakes clients n l.session.number (due_at heard moved room) (spot_at Done (record l { end = link_end.Failed }) heard true f) s s1 o o' 1) facts_are
-          (puts_by (Fail n bytes went.sent.0) (failed_spot (put_at heard moved room)) heard moved room refl
+          puts_by (Fail n bytes went.sent.0) Done (record l { end = link_end.Failed }) heard moved
+          room ends refl
           (did_fail stand clients n bytes s1 o1 o' roomy within sends.call why went)
-          (λ first at. (front_same _ _ (sym (owed_bytes first at)), (refl, refl), all_paid first at))));
+          (λ first at. (
+            front_same _ _ (sym (owed_bytes first at)),
+            (refl, refl),
+            out_paid first at,
+          ));
     }
 
     pub put_went : PutWent clients n now l l' s s1 o o'
@@ -281,7 +280,7 @@ pub put_no_memory : (clients : Meaning) (n now : ℕ) (l : Link) (s : StoreValue
     → IsReady clients s o.files → PutStopped clients n now l l s s o o fault.Memory
 put_no_memory clients n now l s o ready = record {
   stops = λ heard moved room.
-      link_no_memory clients n l.session.number
+      link_no_memory n
       (spot_at (Sends now (suc room)) l heard moved s.state.facts) s o ready;
 }
 
@@ -295,103 +294,89 @@ due_none clients n now l s o = record {
     rest = omega arith;
     doing = Sends now MAX_OUTPUTS;
     goes_on = inl (refl, open_is);
-    makes = makes_none clients n l.session.number (spot_at (Sends now MAX_OUTPUTS) l heard moved s.state.facts) s o;
+    makes = makes_none n;
   };
   same_reader = refl;
   same_session = refl;
   end = inl refl;
 }
 
-module _ (clients : Meaning) (n now made : ℕ) (l m : Link) (s s1 : StoreValue) (o o1 : Outside) (a : OutsWent clients n now made l m s s1 o o1)
-    (open_is : is_sent_to m.end ≡ true) where
-  came : (heard : List ℕ) (moved : Bool)
-      (first : OutsMadeTo clients n now made l m s s1 o o1 heard moved)
-      → first.doing ≡ Sends now first.room
-      → LinkMakes clients n m.session.number (spot_at (Sends now MAX_OUTPUTS) l heard moved s.state.facts)
-      (spot_at (Sends now first.room) m heard (cond (nat_lt 0 made) true moved) s1.state.facts) s s1 o o1 made
-  came heard moved first is =
-      subst (λ (k : ℕ). LinkMakes clients n k (spot_at (Sends now MAX_OUTPUTS) l heard moved s.state.facts)
-      (spot_at (Sends now first.room) m heard (cond (nat_lt 0 made) true moved) s1.state.facts) s s1 o o1 made) (ap (λ x. x.number) (sym a.same_session))
-      (subst (λ d. LinkMakes clients n l.session.number (spot_at (Sends now MAX_OUTPUTS) l heard moved s.state.facts)
-      (spot_at d m heard (cond (nat_lt 0 made) true moved) s1.state.facts) s s1 o o1 made) is first.makes)
+-- the room that is left for a further output, and the way to where it is made
+record RoomLeft (clients : Meaning) (n now made : ℕ) (session : ℕ) (l m : Link) (s s1 : StoreValue)
+    (o o1 : Outside) (heard : List ℕ) (moved : Bool) : Type 0 where
+  room : ℕ
+  rest : room + (made + 1) ≡ MAX_OUTPUTS
+  makes : LinkMakes clients n session (spot_at (Sends now MAX_OUTPUTS) l heard moved s.state.facts)
+      (spot_at (Sends now (suc room)) m heard (cond (nat_lt 0 made) true moved) s1.state.facts)
+      s s1 o o1 made
 
-  back : (s' : StoreValue) (o' : Outside) (p q : Spot) (count : ℕ)
-      → LinkMakes clients n m.session.number p q s s' o o' count
-      → LinkMakes clients n l.session.number p q s s' o o' count
-  back s' o' p q count runs = subst (λ (k : ℕ). LinkMakes clients n k p q s s' o o' count) (ap (λ x. x.number) a.same_session) runs
-
-  -- the place from which the next output is made
-  at_room : (heard : List ℕ) (moved : Bool)
-      (first : OutsMadeTo clients n now made l m s s1 o o1 heard moved)
-      → first.doing ≡ Sends now first.room → (room : ℕ) → first.room ≡ suc room
-      → LinkMakes clients n m.session.number (spot_at (Sends now MAX_OUTPUTS) l heard moved s.state.facts)
-      (spot_at (Sends now (suc room)) m heard (cond (nat_lt 0 made) true moved) s1.state.facts) s s1 o o1 made
-  at_room heard moved first is room more =
-      subst (λ (k : ℕ). LinkMakes clients n m.session.number (spot_at (Sends now MAX_OUTPUTS) l heard moved s.state.facts)
-      (spot_at (Sends now k) m heard (cond (nat_lt 0 made) true moved) s1.state.facts) s s1 o o1 made) more (came heard moved first is)
+module _ (clients : Meaning) (n now made : ℕ) (l m : Link) (s s1 : StoreValue) (o o1 : Outside)
+    (a : OutsWent clients n now made l m s s1 o o1) (open_is : is_sent_to m.end ≡ true)
+    (less : made < MAX_OUTPUTS) where
+  room_left : (heard : List ℕ) (moved : Bool) → is_sent_to l.end ≡ true
+      → RoomLeft clients n now made l.session.number l m s s1 o o1 heard moved
+  room_left heard moved entry_open =
+      let first = a.leads heard moved entry_open in
+      sends_yet now first.room first.doing m first.goes_on open_is
+      (λ is. by_room first.room first.rest
+      (subst (λ d. LinkMakes clients n l.session.number
+      (spot_at (Sends now MAX_OUTPUTS) l heard moved s.state.facts)
+      (spot_at d m heard (cond (nat_lt 0 made) true moved) s1.state.facts) s s1 o o1 made) is
+      first.makes))
+    where
+      by_room : (room : ℕ) → room + made ≡ MAX_OUTPUTS
+          → LinkMakes clients n l.session.number
+          (spot_at (Sends now MAX_OUTPUTS) l heard moved s.state.facts)
+          (spot_at (Sends now room) m heard (cond (nat_lt 0 made) true moved) s1.state.facts)
+          s s1 o o1 made
+          → RoomLeft clients n now made l.session.number l m s s1 o o1 heard moved
+      by_room zero rest makes = absurd (omega (arith, rest, less))
+      by_room (suc room) rest makes =
+          record { room = room; rest = omega (arith, rest); makes = makes }
 
   -- one more
-  pub due_then : (l' : Link) (s' : StoreValue) (o' : Outside) → made < MAX_OUTPUTS
-      → PutWent clients n now m l' s1 s' o1 o'
-      → OutsWent clients n now (made + 1) l l' s s' o o'
-  due_then l' s' o' less b = record {
+  pub due_then : (l' : Link) (s' : StoreValue) (o' : Outside)
+      → PutWent clients n now m l' s1 s' o1 o' → OutsWent clients n now (made + 1) l l' s s' o o'
+  due_then l' s' o' b = record {
     leads = λ heard moved entry_open.
-        let first = a.leads heard moved entry_open in
-        sends_yet now first.room first.doing m first.goes_on open_is (λ is. by_room heard moved first is first.room refl);
+        let first = room_left heard moved entry_open in
+        let moved1 : Bool = cond (nat_lt 0 made) true moved in
+        let second = b.leads heard moved1 first.room open_is in
+        let more : cond (nat_lt 0 (made + 1)) true moved ≡ true =
+        ap (λ (b : Bool). cond b true moved) (lt-ltb 0 (made + 1) (omega arith)) in
+        record {
+          room = first.room;
+          rest = first.rest;
+          doing = second.doing;
+          goes_on = second.goes_on;
+          makes =
+              makes_joins n refl first.makes
+              (subst (λ (b : Bool). LinkMakes clients n l.session.number
+              (spot_at (Sends now (suc first.room)) m heard moved1 s1.state.facts)
+              (spot_at second.doing l' heard b s'.state.facts) s1 s' o1 o' 1) (sym more)
+              (subst (λ (x : Session). LinkMakes clients n x.number
+              (spot_at (Sends now (suc first.room)) m heard moved1 s1.state.facts)
+              (spot_at second.doing l' heard true s'.state.facts) s1 s' o1 o' 1) a.same_session
+              second.makes));
+        };
     same_reader = b.same_reader ∙ a.same_reader;
     same_session = b.same_session ∙ a.same_session;
     end = end_then l.end m.end l'.end a.end b.end;
   }
-    where
-      moved_more : (moved : Bool) → cond (nat_lt 0 (made + 1)) true moved ≡ true
-      moved_more moved = ap (λ (b : Bool). cond b true moved) (lt-ltb 0 (made + 1) (omega arith))
-
-      by_room : (heard : List ℕ) (moved : Bool)
-          (first : OutsMadeTo clients n now made l m s s1 o o1 heard moved)
-          → first.doing ≡ Sends now first.room → (room : ℕ)
-          → first.room ≡ room → OutsMadeTo clients n now (made + 1) l l' s s' o o' heard moved
-      by_room heard moved first is zero none =
-          let rest : first.room + made ≡ MAX_OUTPUTS = first.rest in
-          absurd (omega (arith, rest, none, less))
-      by_room heard moved first is (suc room) more =
-          let rest : first.room + made ≡ MAX_OUTPUTS = first.rest in
-          let second = b.leads heard (cond (nat_lt 0 made) true moved) room open_is in
-          record {
-            room = room;
-            rest = omega (arith, rest, more);
-            doing = second.doing;
-            goes_on = second.goes_on;
-            makes =
-                back s' o' (spot_at (Sends now MAX_OUTPUTS) l heard moved s.state.facts) _ (made + 1)
-                (makes_joins clients n m.session.number s s1 s' o o1 o' (spot_at (Sends now MAX_OUTPUTS) l heard moved s.state.facts)
-                (spot_at (Sends now (suc room)) m heard (cond (nat_lt 0 made) true moved) s1.state.facts)
-                (spot_at second.doing l' heard (cond (nat_lt 0 (made + 1)) true moved) s'.state.facts) made 1 (at_room heard moved first is room more)
-                (subst (λ (b : Bool). LinkMakes clients n m.session.number (spot_at (Sends now (suc room)) m heard (cond (nat_lt 0 made) true moved) s1.state.facts)
-                (spot_at second.doing l' heard b s'.state.facts) s1 s' o1 o' 1) (sym (moved_more moved)) second.makes));
-          }
 
   -- broken off
-  pub due_stops : (l' : Link) (s' : StoreValue) (o' : Outside) (e : Fault) → made < MAX_OUTPUTS
+  pub due_stops : (l' : Link) (s' : StoreValue) (o' : Outside) (e : Fault)
       → PutStopped clients n now m l' s1 s' o1 o' e → DueStopped clients n now l l' s s' o o' e
-  due_stops l' s' o' e less b = record {
+  due_stops l' s' o' e b = record {
     stops = λ heard moved entry_open.
-        let first = a.leads heard moved entry_open in
-        sends_yet now first.room first.doing m first.goes_on open_is (λ is. by_room heard moved first is first.room refl);
+        let first = room_left heard moved entry_open in
+        let moved1 : Bool = cond (nat_lt 0 made) true moved in
+        let mid : Spot = spot_at (Sends now (suc first.room)) m heard moved1 s1.state.facts in
+        link_stops_then n (link_at l' heard) s' o' e (makes_went n first.makes)
+        (subst (λ (x : Session).
+        LinkStopped clients n x.number mid (link_at l' heard) s1 s' o1 o' e)
+        a.same_session (b.stops heard moved1 first.room));
   }
-    where
-      by_room : (heard : List ℕ) (moved : Bool)
-          (first : OutsMadeTo clients n now made l m s s1 o o1 heard moved)
-          → first.doing ≡ Sends now first.room → (room : ℕ)
-          → first.room ≡ room → LinkStopped clients n l.session.number (spot_at (Sends now MAX_OUTPUTS) l heard moved s.state.facts) (link_at l' heard) s s' o o' e
-      by_room heard moved first is zero none =
-          let rest : first.room + made ≡ MAX_OUTPUTS = first.rest in
-          absurd (omega (arith, rest, none, less))
-      by_room heard moved first is (suc room) more =
-          subst (λ (k : ℕ). LinkStopped clients n k (spot_at (Sends now MAX_OUTPUTS) l heard moved s.state.facts) (link_at l' heard) s s' o o' e) (ap (λ x. x.number) a.same_session)
-          (link_stops_then clients n m.session.number (link_at l' heard) (spot_at (Sends now MAX_OUTPUTS) l heard moved s.state.facts)
-          (spot_at (Sends now (suc room)) m heard (cond (nat_lt 0 made) true moved) s1.state.facts) s s1 s' o o1 o' e
-          (makes_went clients n m.session.number _ _ s s1 o o1 made (at_room heard moved first is room more))
-          (b.stops heard (cond (nat_lt 0 made) true moved) room))
 
 -- nothing more: nothing is due, the room is used up, or the link is closed
 pub due_end : (clients : Meaning) (n now made : ℕ) (l m : Link) (s s1 : StoreValue)
@@ -405,14 +390,19 @@ due_end clients n now made l m s s1 o o1 a enough = record {
       let q : Spot = spot_at Done m heard (cond (nat_lt 0 made) true moved) s1.state.facts in
       elim first.goes_on [
         | inl sends ↦
-            let mid : Spot = spot_at (Sends now first.room) m heard (cond (nat_lt 0 made) true moved) s1.state.facts in
-            makes_as clients n l.session.number s s1 o o1 p q (made + 0) made (omega arith)
-            (makes_joins clients n l.session.number s s1 s1 o o1 o1 p mid q made 0
-            (subst (λ d. LinkMakes clients n l.session.number p (spot_at d m heard (cond (nat_lt 0 made) true moved) s1.state.facts) s s1 o o1 made) sends.0 first.makes)
+            let all : made + 0 ≡ made = omega arith in
+            let mid : Spot = record q { doing = Sends now first.room } in
+            makes_joins n all
+            (subst (λ d. LinkMakes clients n l.session.number p (record q { doing = d }) s s1 o o1
+            made)
+            sends.0 first.makes)
             (makes_sent clients n l.session.number now first.room mid s1 o1 refl
-            (subst (λ (k : ℕ). IsEnough clients s1.state.facts k now first.room) (ap (λ x. x.number) a.same_session) (enough sends.1 first.room first.rest))))
+            (subst (λ (x : Session). IsEnough clients s1.state.facts x.number now first.room)
+            a.same_session (enough sends.1 first.room first.rest)))
         | inr done ↦
-            subst (λ d. LinkMakes clients n l.session.number p (spot_at d m heard (cond (nat_lt 0 made) true moved) s1.state.facts) s s1 o o1 made) done.0 first.makes
+            subst (λ d. LinkMakes clients n l.session.number p (record q { doing = d }) s s1 o o1
+            made)
+            done.0 first.makes
       ];
   same_reader = a.same_reader;
   end = a.end;
@@ -426,9 +416,8 @@ due_no_memory clients n now made l m s s1 o o1 a ready = record {
   stops = λ heard moved entry_open.
       let first = a.leads heard moved entry_open in
       let mid : Spot = spot_at first.doing m heard (cond (nat_lt 0 made) true moved) s1.state.facts in
-      link_stops_then clients n l.session.number (link_at m heard) (spot_at (Sends now MAX_OUTPUTS) l heard moved s.state.facts) mid s s1 s1 o o1 o1 fault.Memory
-      (makes_went clients n l.session.number _ _ s s1 o o1 made first.makes)
-      (link_no_memory clients n l.session.number mid s1 o1 ready);
+      link_stops_then n (link_at m heard) s1 o1 fault.Memory (makes_went n first.makes)
+      (link_no_memory n mid s1 o1 ready);
 }
 
 -- ---- sending in a turn
@@ -444,7 +433,7 @@ sending_closed clients n l s o may = record {
             (may_not_end l.end may))
         | inr done ↦
             subst (λ d. LinkWent clients n l.session.number (spot_at d l heard moved s.state.facts) (spot_at Done l heard moved s.state.facts) s s o o) (sym done.0)
-            (link_stays clients n l.session.number (spot_at Done l heard moved s.state.facts) s o)
+            (link_stays n)
       ];
   same_reader = refl;
   end = inl refl;
@@ -469,9 +458,8 @@ module _ (clients : Meaning) (n now : ℕ) (l : Link) (s : StoreValue) (o o1 : O
       → SendingWent clients n l l' s s' o o' made
   sending_read l' s' o' made sent = record {
     went = λ heard moved doing ready.
-        link_joins clients n l.session.number (spot_at doing l heard moved s.state.facts) (spot_at (Sends now MAX_OUTPUTS) l heard moved s.state.facts)
-        (spot_at Done l' heard (cond (nat_lt 0 made) true moved) s'.state.facts) s s s' o o1 o' (read_at heard moved doing ready)
-        (makes_went clients n l.session.number _ _ s s' o1 o' made (sent.makes heard moved (may_end l.end may)));
+        link_joins n (read_at heard moved doing ready)
+        (makes_went n (sent.makes heard moved (may_end l.end may)));
     same_reader = sent.same_reader;
     end = sent.end;
   }
@@ -480,6 +468,6 @@ module _ (clients : Meaning) (n now : ℕ) (l : Link) (s : StoreValue) (o o1 : O
       → DueStopped clients n now l l' s s' o1 o' e → SendingStopped clients n l l' s s' o o' e
   sending_stops l' s' o' e sent = record {
     stops = λ heard moved doing ready.
-        link_stops_then clients n l.session.number (link_at l' heard) (spot_at doing l heard moved s.state.facts) (spot_at (Sends now MAX_OUTPUTS) l heard moved s.state.facts)
-        s s s' o o1 o' e (read_at heard moved doing ready) (sent.stops heard moved (may_end l.end may));
+        link_stops_then n (link_at l' heard) s' o' e (read_at heard moved doing ready)
+        (sent.stops heard moved (may_end l.end may));
   }

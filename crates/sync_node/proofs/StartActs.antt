@@ -1,7 +1,7 @@
 -- A session that begins on the next link, as acts of a run.
 use Rattle.std.proofs.Common.{◌≡◌, ◌≢◌, ◌⊎◌, ℕ, ◌+◌, ◌<◌, ◌≤◌, Bool, cond, nat_eq, eq-eqb, List, [], ◌∷◌, ◌++◌, append-nil, length, refl, sym, ◌∙◌, ap, subst, inl, inr, arith, Some, Result, Ok, Err}
 use Rattle.std.specs.Prelude.{slice_get}
-use Rattle.std.proofs.lemmas.Bool.{cases_eq, ne_eqb}
+use Rattle.std.proofs.lemmas.Bool.{ne_eqb}
 use Rattle.entry_codec.specs.Standing.{room_of}
 use Rattle.outside.specs.declared.failed.Failed.{Failed}
 use Rattle.outside.specs.declared.limits.TheConstants.{MAX_JOURNAL}
@@ -41,6 +41,8 @@ use Rattle.sync_node.specs.Sending.{EndsBy, SendsOn}
 use Rattle.sync_node.proofs.CourseRuns.{length_from}
 use Rattle.sync_node.proofs.CourseStart.{begins_as, begun_is, is_free, push_from}
 use Rattle.sync_node.proofs.DidLaws.{did_then}
+use Rattle.sync_node.proofs.KeepLaws.{greeted_reader}
+use Rattle.sync_node.proofs.OutLaws.{all_paid}
 use Rattle.sync_node.proofs.PrimLaws.{did_fail, did_send}
 use Rattle.sync_node.proofs.StartLaws.{session_batch}
 use Rattle.sync_node.proofs.WentLaws.{commit_stopped, no_memory}
@@ -83,7 +85,7 @@ greeted_twice stand n first second l mid l' o o1 o' within within1 unfailed one 
       is = inr (inl (refl, ends' ∙ ends));
       same_files = two.call.same_files ∙ one.call.same_files;
       did = λ clients s roomy.
-          did_then clients (Send n first ∷ []) (Send n second ∷ []) s s s o o1 o'
+          did_then
           (did_send stand clients n first s o o1 roomy within one.call u went)
           (did_send stand clients n second s o1 o' roomy within1 two.call v went');
     }
@@ -92,7 +94,7 @@ greeted_twice stand n first second l mid l' o o1 o' within within1 unfailed one 
       is = inr (inr (inr (went'.sent.0, refl, ends' ∙ ap (λ (x : Link). record x { end = link_end.Failed }) ends)));
       same_files = two.call.same_files ∙ one.call.same_files;
       did = λ clients s roomy.
-          did_then clients (Send n first ∷ []) (Fail n second went'.sent.0 ∷ []) s s s o o1 o'
+          did_then
           (did_send stand clients n first s o o1 roomy within one.call u went)
           (did_fail stand clients n second s o1 o' roomy within1 two.call why went');
     }
@@ -152,25 +154,21 @@ module _ (clients : Meaning) (x : Session) (s : StoreValue) (o : Outside) (batch
       }
 
       -- nothing is owed on the link any more
-      paid_now : (rest : List ℕ) (link : ℕ)
-          → [] ≡ cond (nat_eq n link) [] (cond (nat_eq n link) rest (adds_to s.state.facts terms.first (Commit (session_batch x)) link))
-      paid_now rest link = elim (cases_eq link n) [
-        | inl same ↦
-            sym (ap (λ (b : Bool). cond b [] (cond b rest (adds_to s.state.facts terms.first (Commit (session_batch x)) link))) (eq-eqb n link (sym same)))
-        | inr other ↦
-            sym (ap (λ (b : Bool). cond b [] (cond b rest (adds_to s.state.facts terms.first (Commit (session_batch x)) link))) (ne_eqb n link (λ same. other (sym same)))
-            ∙ owed_off link other)
-      ]
-
       paid_once : (link : ℕ)
           → [] ≡ cond (nat_eq n link) [] (adds_to s.state.facts terms.first (Commit (session_batch x)) link)
-      paid_once link = elim (cases_eq link n) [
-        | inl same ↦
-            sym (ap (λ (b : Bool). cond b [] (adds_to s.state.facts terms.first (Commit (session_batch x)) link)) (eq-eqb n link (sym same)))
-        | inr other ↦
-            sym (ap (λ (b : Bool). cond b [] (adds_to s.state.facts terms.first (Commit (session_batch x)) link)) (ne_eqb n link (λ same. other (sym same)))
-            ∙ owed_off link other)
-      ]
+      paid_once link = all_paid n link _ (owed_off link)
+
+      paid_now : (rest : List ℕ) (link : ℕ)
+          → [] ≡ cond (nat_eq n link) []
+          (cond (nat_eq n link) rest
+          (adds_to s.state.facts terms.first (Commit (session_batch x)) link))
+      paid_now rest link =
+          all_paid n link _
+          (λ other.
+          ap (λ (b : Bool).
+          cond b rest (adds_to s.state.facts terms.first (Commit (session_batch x)) link))
+          (ne_eqb n link (λ same. other (sym same)))
+          ∙ owed_off link other)
 
       second_here : cond (nat_eq n n) second (adds_to s.state.facts terms.first (Commit (session_batch x)) n) ≡ second
       second_here =
@@ -229,7 +227,7 @@ module _ (clients : Meaning) (x : Session) (s : StoreValue) (o : Outside) (batch
           acts = Does (Commit (session_batch x)) ∷ greets.acts;
           path = (owing_greeting, begin_step, path);
           did =
-              did_then clients (commit_acts (session_batch x ∷ [])) greets.acts s s1 s1 o o1 o2
+              did_then
               (subst (λ (b : List Entry). Did clients (commit_acts (b ∷ [])) s s1 o o1) is commits.did)
               (greets.did clients s1 roomy);
         }
@@ -267,24 +265,14 @@ module _ (clients : Meaning) (x : Session) (s : StoreValue) (o : Outside) (batch
       let as_is : s1.state.facts ≡ after_all s.state.facts (session_batch x) = commits.facts ∙ ap (λ (b : List Entry). after_all s.state.facts b) is in
       record {
         facts = as_is;
-        has_read = λ going. subst (λ (r : ReaderState). HasRead [] r) (sym (reader_of greets.is)) (fresh_has_read awaits awaits.nothing);
+        has_read = λ going. subst (λ (r : ReaderState). HasRead [] r)
+            (sym (greeted_reader n first second _ l greets.acts greets.is ∙ is_fresh))
+            (fresh_has_read awaits awaits.nothing);
         went = λ two told terms left links moved still made long numbered.
             let some = ready.fits two told in
             let same : begun ≡ x = begun_is s.state.facts s1.state.facts x begun (is_free clients s.state.facts x some.0 some.1.legal some.1.facts_are allowed) as_is found in
             starts_there terms left links moved still made n long numbered first second bytes s1 o1 o2 commits roomy begun reader same l greets;
       }
-    where
-      reader_of : IsGreeting n first second (record { session = begun; reader = reader; nonce = begun.nonce; end = link_end.Going }) l greets.acts → l.reader ≡ fresh
-      reader_of greeting = elim greeting [
-        | inl one ↦ ap (λ (y : Link). y.reader) one.2 ∙ is_fresh
-        | inr others ↦ elim others [
-          | inl both ↦ ap (λ (y : Link). y.reader) both.1 ∙ is_fresh
-          | inr failed ↦ elim failed [
-            | inl at_first ↦ ap (λ (y : Link). y.reader) at_first.2 ∙ is_fresh
-            | inr at_second ↦ ap (λ (y : Link). y.reader) at_second.2 ∙ is_fresh
-          ]
-        ]
-      ]
 
 pub start_no_memory : (clients : Meaning) (x : Session) (s : StoreValue) (o : Outside)
     → IsReady clients s o.files → StartStopped clients x s s o o fault.Memory
@@ -296,36 +284,51 @@ start_no_memory clients x s o ready = record {
 
 -- ---- behind the links of a node
 
-module _ (clients : Meaning) (x : Session) (links : List Link) (s : StoreValue) (o o' : Outside) where
+module _ (clients : Meaning) (x y : Session) (is : x ≡ y) (links : List Link) (s : StoreValue)
+    (o o' : Outside) where
   pub begin_went : (n : ℕ) (links' : List Link) (s' : StoreValue) → length links ≡ n
-      → StartWentLast clients n x links links' s s' o o' → BeginWent clients x links links' s s' o o'
-  begin_went n links' s' last behind = record {
-    facts = behind.starts.facts;
-    has_read = λ heard none read i y there.
-        elim (get_push_cases links behind.link i y (subst (λ (ls : List Link). slice_get ls i ≡ Some y) behind.pushed there)) [
-          | inl old ↦ read i y old
-          | inr new ↦
-              subst (λ (k : ℕ). IsLinkRead (heard k) y) (sym new.0)
-              (subst (λ (bytes : List ℕ). IsLinkRead bytes y) (sym none) (subst (IsLinkRead []) (sym new.1) behind.starts.has_read))
-        ];
-    went = λ two told terms left heard moved still made none numbered.
-        let plain : length links ≡ 0 + length links = omega arith in
-        let ends : links_from 0 links heard ++ link_at behind.link [] ∷ [] ≡ links_from 0 links' heard =
-        ap (λ (bytes : List ℕ). links_from 0 links heard ++ link_at behind.link bytes ∷ []) (sym none)
-        ∙ ap (λ (j : ℕ). links_from 0 links heard ++ link_at behind.link (heard j) ∷ []) plain
-        ∙ sym (push_from 0 links behind.link heard)
-        ∙ ap (λ (ls : List Link). links_from 0 ls heard) (sym behind.pushed) in
-        subst
-        (λ (ls : List course_links.Link). RunWent clients terms (place_at (Attaches (x ∷ left)) links heard moved still made s.state.facts) (attaching_at left ls moved still made s'.state.facts) s s' o o')
-        ends
-        (behind.starts.went two told terms left (links_from 0 links heard) moved still made (length_from 0 links heard ∙ last)
-        (numbered ∙ ap (λ (k : ℕ). terms.first + k) last));
-  }
+      → StartWentLast clients n x links links' s s' o o'
+      → BeginWent clients y links links' s s' o o'
+  begin_went n links' s' last behind =
+      subst (λ (z : Session). BeginWent clients z links links' s s' o o') is (record {
+        facts = behind.starts.facts;
+        has_read = λ heard none read i y there.
+            elim (get_push_cases links behind.link i y
+            (subst (λ (ls : List Link). slice_get ls i ≡ Some y) behind.pushed there)) [
+              | inl old ↦ read i y old
+              | inr new ↦
+                  subst (λ (k : ℕ). IsLinkRead (heard k) y) (sym new.0)
+                  (subst (λ (bytes : List ℕ). IsLinkRead bytes y) (sym none)
+                  (subst (IsLinkRead []) (sym new.1) behind.starts.has_read))
+            ];
+        went = λ two told terms left heard moved still made none numbered.
+            let plain : length links ≡ 0 + length links = omega arith in
+            let ends : links_from 0 links heard ++ link_at behind.link [] ∷ []
+            ≡ links_from 0 links' heard =
+            ap (λ (bytes : List ℕ). links_from 0 links heard ++ link_at behind.link bytes ∷ [])
+            (sym none)
+            ∙ ap (λ (j : ℕ). links_from 0 links heard ++ link_at behind.link (heard j) ∷ []) plain
+            ∙ sym (push_from 0 links behind.link heard)
+            ∙ ap (λ (ls : List Link). links_from 0 ls heard) (sym behind.pushed) in
+            subst
+            (λ (ls : List course_links.Link).
+            RunWent clients terms
+            (place_at (Attaches (x ∷ left)) links heard moved still made s.state.facts)
+            (attaching_at left ls moved still made s'.state.facts) s s' o o')
+            ends
+            (behind.starts.went two told terms left (links_from 0 links heard) moved still made
+            (length_from 0 links heard ∙ last)
+            (numbered ∙ ap (λ (k : ℕ). terms.first + k) last));
+      })
 
   pub begin_stopped : (links' : List Link) (s' : StoreValue) (e : Fault) → links' ≡ links
-      → StartStopped clients x s s' o o' e → BeginStopped clients x links links' s s' o o' e
-  begin_stopped links' s' e same stopped = record {
-    stops = λ terms left heard moved still made.
-        subst (λ (ls : List Link). RunStopped clients terms (place_at (Attaches (x ∷ left)) links heard moved still made s.state.facts) (links_from 0 ls heard) s s' o o' e)
-        (sym same) (stopped.stops terms left (links_from 0 links heard) moved still made);
-  }
+      → StartStopped clients x s s' o o' e → BeginStopped clients y links links' s s' o o' e
+  begin_stopped links' s' e same stopped =
+      subst (λ (z : Session). BeginStopped clients z links links' s s' o o' e) is (record {
+        stops = λ terms left heard moved still made.
+            subst (λ (ls : List Link).
+            RunStopped clients terms
+            (place_at (Attaches (x ∷ left)) links heard moved still made s.state.facts)
+            (links_from 0 ls heard) s s' o o' e)
+            (sym same) (stopped.stops terms left (links_from 0 links heard) moved still made);
+      })

@@ -30,9 +30,7 @@ module _ (clients : Meaning) (n : ℕ) (l m : Link) (s s1 : StoreValue) (o o1 : 
           went =
               subst (λ (b : Bool). LinkWent clients n l.session.number (spot_at Asks l heard moved s.state.facts) (spot_at Done l' first.heard' b s'.state.facts) s s' o o')
               (same_moved moved)
-              (link_joins clients n l.session.number (spot_at Asks l heard moved s.state.facts)
-              (spot_at first.doing m first.heard' (cond idle moved true) s1.state.facts)
-              (spot_at Done l' first.heard' (cond (nat_lt 0 made) true (cond idle moved true)) s'.state.facts) s s1 s' o o1 o' first.went second);
+              (link_joins n first.went second);
         };
   }
 
@@ -43,7 +41,7 @@ module _ (clients : Meaning) (n : ℕ) (l m : Link) (s s1 : StoreValue) (o o1 : 
         let first = hears.leads heard moved read in
         let mid : Spot = spot_at first.doing m first.heard' (cond idle moved true) s1.state.facts in (
           first.heard',
-          link_stops_then clients n l.session.number (link_at l' first.heard') (spot_at Asks l heard moved s.state.facts) mid s s1 s' o o1 o' e first.went
+          link_stops_then n (link_at l' first.heard') s' o' e first.went
               (subst (λ (k : ℕ). LinkStopped clients n k mid (link_at l' first.heard') s1 s' o1 o' e) (ap (λ x. x.number) same_session)
               (sends.stops first.heard' (cond idle moved true) first.doing first.ready)),
         );

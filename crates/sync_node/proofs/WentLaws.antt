@@ -48,7 +48,7 @@ module _ {P : Type 0} (clients : Meaning) (step : P → Act → P → Type 0) wh
   went_then p q r s s1 s2 o o1 o2 first second = record {
     acts = first.acts ++ second.acts;
     path = path_then step p q r first.acts second.acts first.path second.path;
-    did = did_then clients first.acts second.acts s s1 s2 o o1 o2 first.did second.did;
+    did = did_then first.did second.did;
   }
 
   module _ (Has : P → Type 0) where
@@ -79,7 +79,7 @@ module _ {P : Type 0} (clients : Meaning) (step : P → Act → P → Type 0) wh
       next = second.next;
       beyond = second.beyond;
       goes_on = second.goes_on;
-      did = some_then clients first.acts second.acts second.next s s1 s2 o o1 o2 first.did second.did;
+      did = some_then first.did second.did;
       stands = second.stands;
       rose = rose_before _ _ _ first.did.goes.later second.rose;
     }

@@ -5,12 +5,16 @@ use Rattle.outside.specs.Faults.{CountRose}
 use Rattle.outside.specs.Outside.{Outside}
 use Rattle.sync_rules.specs.Clients.{Meaning}
 use Rattle.sync_store.specs.Ready.{IsReady}
+use Rattle.sync_store.specs.Store.{StoreValue}
+use Rattle.sync_node.specs.declared.fault.Fault.{Fault}
+use Rattle.sync_node.specs.declared.fault.Fault.TheVariants as fault
 use Rattle.sync_node.specs.declared.fault.NodeFault.{NodeFault}
-use Rattle.sync_node.specs.declared.fault.NodeFault.TheVariants as fault
+use Rattle.sync_node.specs.declared.fault.NodeFault.TheVariants as node
 use Rattle.sync_node.specs.Causes.{FailByCause}
 use Rattle.sync_node.specs.Going.{LetsNothingFall}
 use Rattle.sync_node.specs.Node.{AnswersAndCloses, IsNode, NodeValue, StaysClosed}
-use Rattle.sync_node.specs.Stays.{IsUndone}
+use Rattle.sync_node.specs.Keeps.{IsReadyOrRose}
+use Rattle.sync_node.specs.Starting.{StartStops, StartsNone}
 
 -- what it answers, and whether the node is closed then: where it was closed nothing is done
 pub record CallAnswers {T H : Type 0} (n n' : NodeValue) (host host' : H)
@@ -28,38 +32,34 @@ pub record CallGoes (n n' : NodeValue) (o o' : Outside) : Type 0 where
   pub same_first : n'.first ≡ n.first
   pub cause : FailByCause n.links n'.links o o'
 
--- by the answer of a node that was not closed: where memory or room was wanting the store is ready;
--- where a call of the disk failed the count of its failures rose
+-- by the answer of a node: this of the fault that stopped its work
+abbrev pub StopsBy : {T : Type 0} → (Fault → Type 0) → Result T NodeFault → Type 0
+StopsBy P (Ok _) = Unit {0}
+StopsBy P (Err node.Memory) = P fault.Memory
+StopsBy P (Err node.Full) = P fault.Full
+StopsBy P (Err node.DiskFault) = P fault.DiskFault
+StopsBy P (Err node.Closed) = Unit {0}
+
+-- where memory or room was wanting the store is ready; where a call of the disk failed the count of
+-- its failures rose
 abbrev pub CallStops : {T : Type 0} → Meaning → NodeValue → Outside → Outside → Result T NodeFault
     → Type 0
-CallStops clients n' o o' (Ok _) = Unit {0}
-CallStops clients n' o o' (Err fault.Memory) = IsReady clients n'.store o'.files
-CallStops clients n' o o' (Err fault.Full) = IsReady clients n'.store o'.files
-CallStops clients n' o o' (Err fault.DiskFault) = CountRose o.disk_faults o'.disk_faults
-CallStops clients n' o o' (Err fault.Closed) = Unit {0}
-
--- the store is ready, and nothing was done
-pub record IsReadyUndone {H : Type 0} (clients : Meaning) (n n' : NodeValue) (host host' : H)
-    (o' : Outside) : Type 0 where
-  pub ready : IsReady clients n'.store o'.files
-  pub undone : IsUndone n.store n'.store host host'
+CallStops clients n' o o' result = StopsBy (IsReadyOrRose clients n'.store o o') result
 
 -- a session is begun whole or, for want of memory or of room, not at all
 abbrev pub AttachStops : {T H : Type 0} → Meaning → NodeValue → NodeValue → H → H → Outside → Outside
     → Result T NodeFault → Type 0
-AttachStops clients n n' host host' o o' (Ok _) = Unit {0}
-AttachStops clients n n' host host' o o' (Err fault.Memory) = IsReadyUndone clients n n' host host' o'
-AttachStops clients n n' host host' o o' (Err fault.Full) = IsReadyUndone clients n n' host host' o'
-AttachStops clients n n' host host' o o' (Err fault.DiskFault) =
-    CountRose o.disk_faults o'.disk_faults
-AttachStops clients n n' host host' o o' (Err fault.Closed) = Unit {0}
+AttachStops clients n n' host host' o o' result =
+    StopsBy (StartStops clients n.store n'.store host host' o o') result
 
 -- a batch for which there is no room is not added at all; memory may also be wanting while it settles
+abbrev pub AddingLeaves : {H : Type 0} → Meaning → StoreValue → StoreValue → H → H → Outside
+    → Outside → Fault → Type 0
+AddingLeaves clients s s' host host' o o' fault.Memory = IsReady clients s' o'.files
+AddingLeaves clients s s' host host' o o' fault.Full = StartsNone clients s s' host host' o'
+AddingLeaves clients s s' host host' o o' fault.DiskFault = CountRose o.disk_faults o'.disk_faults
+
 abbrev pub AddCallStops : {T H : Type 0} → Meaning → NodeValue → NodeValue → H → H → Outside → Outside
     → Result T NodeFault → Type 0
-AddCallStops clients n n' host host' o o' (Ok _) = Unit {0}
-AddCallStops clients n n' host host' o o' (Err fault.Memory) = IsReady clients n'.store o'.files
-AddCallStops clients n n' host host' o o' (Err fault.Full) = IsReadyUndone clients n n' host host' o'
-AddCallStops clients n n' host host' o o' (Err fault.DiskFault) =
-    CountRose o.disk_faults o'.disk_faults
-AddCallStops clients n n' host host' o o' (Err fault.Closed) = Unit {0}
+AddCallStops clients n n' host host' o o' result =
+    StopsBy (AddingLeaves clients n.store n'.store host host' o o') result

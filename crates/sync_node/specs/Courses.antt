@@ -1,6 +1,6 @@
 -- What a run does to a store and its disk, as a course: where the disk fits the store with a
 -- journal, and what the files stand for where a call was broken off.
-use Rattle.std.specs.Prelude.{◌≡◌, ◌⊎◌, ℕ, suc, ◌+◌, Bool, true, false, cond, not, ◌&&◌, nat_eq, slice_get, List, [], ◌∷◌, ◌++◌, length, Option, Some}
+use Rattle.std.specs.Prelude.{◌≡◌, ◌⊎◌, ℕ, suc, Bool, true, false, cond, not, ◌&&◌, nat_eq, slice_get, List, [], ◌∷◌, ◌++◌, Option, Some}
 use Rattle.outside.specs.Files.{Two, File, read_files}
 use Rattle.outside.specs.Outside.{Outside}
 use Rattle.sync_rules.specs.declared.entries.Entry.{Entry}
@@ -20,7 +20,6 @@ use Rattle.sync_course.specs.declared.ends.LinkEnd.TheVariants as link_end
 use Rattle.sync_node.specs.declared.node.Turned.{Turned}
 use Rattle.sync_node.specs.declared.node.Turned.TheVariants as turned
 use Rattle.sync_course.specs.LinkTurns.{Doing, Done, Sends, Spot, Waits}
-use Rattle.sync_course.specs.Events.{Commit, Event}
 use Rattle.sync_course.specs.Paths.{BreaksPath, RunsPath}
 use Rattle.sync_course.specs.Turns.{Attaches, Between, Place, RunStep, Stage, Terms, is_at_end}
 
@@ -43,27 +42,6 @@ RunRuns clients terms p q s s' o o' =
 abbrev pub RunBreaks : Meaning → Terms → Place → StoreValue → Outside → Outside → Type 0
 RunBreaks clients terms p s o o' =
     BreaksPath (RunStep clients terms) (FitsWith clients s o.files) (ReadsAs clients o'.files) p o o'
-
--- ---- how the links stand where a call was broken off
-
--- the next step from a place commits a batch, and leads to one that has this
-pub record CommitsTo {P : Type 0} (step : P → Event → P → Type 0) (Has : P → Type 0)
-    (place : P) : Type 0 where
-  pub batch : List Entry
-  pub next : P
-  pub steps : step place (Commit batch) next
-  pub has : Has next
-
--- A place has this, or the next one has it: a link notes what a record says of it before the batch
--- of the record is committed.
-abbrev pub HasOrWillHave : {P : Type 0} → (P → Event → P → Type 0) → (P → Type 0) → P → Type 0
-HasOrWillHave step Has place = Has place ⊎ CommitsTo step Has place
-
--- the same of a run and all its links
-pub record RunHalts (clients : Meaning) (terms : Terms) (p : Place) (links : List course_links.Link)
-    (s : StoreValue) (o o' : Outside) : Type 0 where
-  pub breaks : RunBreaks clients terms p s o o'
-  pub stands : HasOrWillHave (RunStep clients terms) (λ (q : Place). q.links ≡ links) breaks.to
 
 -- some of these batches, from the first on, stand in the files as they read, behind the journal
 -- that the store had
@@ -162,16 +140,7 @@ pub record MakesTurn (clients : Meaning) (first : ℕ) (links links' : List Link
       → is_at_end terms (place_at Between links heard moved still made s.state.facts) ≡ false
       → TurnMade clients terms links links' s s' o o' heard moved still made quiet
 
--- the turn was broken off, and the links stand so then, by what was heard on each
-pub record HaltsTurn (clients : Meaning) (first : ℕ) (links links' : List Link) (s : StoreValue)
-    (o o' : Outside) : Type 0 where
-  pub stops : (terms : Terms) (heard : ℕ → List ℕ) (moved : Bool) (still made : ℕ)
-      → terms.first ≡ first → AllRead heard links
-      → is_at_end terms (place_at Between links heard moved still made s.state.facts) ≡ false
-      → (heard' : ℕ → List ℕ) × RunHalts clients terms
-      (place_at Between links heard moved still made s.state.facts) (links_from 0 links' heard') s o o'
-
--- it was broken off, whatever its links are then
+-- the turn was broken off, whatever its links are then
 pub record BreaksTurn (clients : Meaning) (first : ℕ) (links : List Link) (s : StoreValue)
     (o o' : Outside) : Type 0 where
   pub stops : (terms : Terms) (heard : ℕ → List ℕ) (moved : Bool) (still made : ℕ)
@@ -192,28 +161,7 @@ attaching_at left links moved still made f = record {
   facts = f;
 }
 
--- where files are told, the next session began on the link behind those of a node, on which nothing
--- was heard
-pub record BeginsNextSession (clients : Meaning) (session : Session) (links links' : List Link)
-    (s s' : StoreValue) (o o' : Outside) : Type 0 where
-  pub has_read : (heard : ℕ → List ℕ) → heard (length links) ≡ [] → AllRead heard links
-      → AllRead heard links'
-  pub runs : (two : Two File) → o.files ≡ Some two → (terms : Terms) (left : List Session)
-      (heard : ℕ → List ℕ) (moved : Bool) (still made : ℕ) → heard (length links) ≡ []
-      → RunRuns clients terms
-      (place_at (Attaches (session ∷ left)) links heard moved still made s.state.facts)
-      (place_at (Attaches left) links' heard moved still made s'.state.facts) s s' o o'
-
--- the call was broken off, and the links stand so then
-pub record HaltsBeginning (clients : Meaning) (session : Session) (links links' : List Link)
-    (s : StoreValue) (o o' : Outside) : Type 0 where
-  pub stops : (terms : Terms) (left : List Session) (heard : ℕ → List ℕ) (moved : Bool)
-      (still made : ℕ)
-      → RunHalts clients terms
-      (place_at (Attaches (session ∷ left)) links heard moved still made s.state.facts)
-      (links_from 0 links' heard) s o o'
-
--- it was broken off, whatever its links are then
+-- the call was broken off, whatever its links are then
 pub record BreaksBeginning (clients : Meaning) (session : Session) (links : List Link)
     (s : StoreValue) (o o' : Outside) : Type 0 where
   pub stops : (terms : Terms) (left : List Session) (heard : ℕ → List ℕ) (moved : Bool)

@@ -1,6 +1,6 @@
 -- What work leaves, whatever was heard: nothing falls, the store keeps its limit and its format, and
 -- behind a fault it is ready or the disk failed.
-use Rattle.std.specs.Prelude.{◌≡◌, ℕ, List, Result, Ok, Err}
+use Rattle.std.specs.Prelude.{◌≡◌, ℕ, List, Option, None, Some, Result, Ok, Err}
 use Rattle.outside.specs.Faults.{CountRose}
 use Rattle.outside.specs.Outside.{Outside}
 use Rattle.sync_rules.specs.Clients.{Meaning}
@@ -20,17 +20,21 @@ IsReadyOrRose clients s o o' fault.Memory = IsReady clients s o'.files
 IsReadyOrRose clients s o o' fault.Full = IsReady clients s o'.files
 IsReadyOrRose clients s o o' fault.DiskFault = CountRose o.disk_faults o'.disk_faults
 
--- by what work answers: it has this, or it stopped so
-abbrev pub HasOrStops : {T : Type 0} → Type 0 → Meaning → StoreValue → Outside → Outside
-    → Result T Fault → Type 0
-HasOrStops Has clients s o o' (Ok _) = Has
-HasOrStops Has clients s o o' (Err e) = IsReadyOrRose clients s o o' e
+-- how a call was stopped, if it was
+abbrev pub stop_of : {T E : Type 0} → Result T E → Option E
+stop_of (Ok _) = None
+stop_of (Err e) = Some e
 
-pub record StoreKeeps {T : Type 0} (Has : Type 0) (clients : Meaning) (s s' : StoreValue)
-    (o o' : Outside) (result : Result T Fault) : Type 0 where
+-- by how work was stopped: it has this, or what a fault leaves
+abbrev pub HasOrStops : Type 0 → Meaning → StoreValue → Outside → Outside → Option Fault → Type 0
+HasOrStops Has clients s o o' None = Has
+HasOrStops Has clients s o o' (Some e) = IsReadyOrRose clients s o o' e
+
+pub record StoreKeeps (Has : Type 0) (clients : Meaning) (s s' : StoreValue)
+    (o o' : Outside) (stop : Option Fault) : Type 0 where
   pub same_limit : s'.limit ≡ s.limit
   pub same_format : s'.format ≡ s.format
-  pub answered : HasOrStops Has clients s' o o' result
+  pub answered : HasOrStops Has clients s' o o' stop
 
 -- the store is ready and settled, and its sessions are those of before
 pub record StaysSettled (clients : Meaning) (s s' : StoreValue) (o' : Outside) : Type 0 where
@@ -40,10 +44,10 @@ pub record StaysSettled (clients : Meaning) (s s' : StoreValue) (o' : Outside) :
   pub same_begun : s'.state.facts.begun ≡ s.state.facts.begun
 
 -- of work on one link
-pub record LinkKeeps {T : Type 0} (clients : Meaning) (number : ℕ) (l l' : Link) (s s' : StoreValue)
-    (o o' : Outside) (result : Result T Fault) : Type 0 where
+pub record LinkKeeps (clients : Meaning) (number : ℕ) (l l' : Link) (s s' : StoreValue)
+    (o o' : Outside) (stop : Option Fault) : Type 0 where
   pub link : LinkGoes number l l' o o'
-  pub store : StoreKeeps (StaysSettled clients s s' o') clients s s' o o' result
+  pub store : StoreKeeps (StaysSettled clients s s' o') clients s s' o o' stop
 
 -- links that were attached are attached still, and may go on
 pub record StayAttached (clients : Meaning) (links links' : List Link) (s s' : StoreValue)
@@ -53,8 +57,8 @@ pub record StayAttached (clients : Meaning) (links links' : List Link) (s s' : S
       → AreAttached first links' s'.state.facts
 
 -- of work on all links
-pub record LinksKeep {T : Type 0} (clients : Meaning) (links links' : List Link) (s s' : StoreValue)
-    (o o' : Outside) (result : Result T Fault) : Type 0 where
+pub record LinksKeep (clients : Meaning) (links links' : List Link) (s s' : StoreValue)
+    (o o' : Outside) (stop : Option Fault) : Type 0 where
   pub go : LinksGo links links' o o'
   pub same_sessions : sessions_of links' ≡ sessions_of links
-  pub store : StoreKeeps (StayAttached clients links links' s s' o') clients s s' o o' result
+  pub store : StoreKeeps (StayAttached clients links links' s s' o') clients s s' o o' stop

@@ -2,7 +2,6 @@ pub mod Faults
 pub mod Ends
 pub mod Output
 pub mod Suits
-pub mod Safe
 pub mod Going
 pub mod Causes
 pub mod Working
@@ -16,7 +15,6 @@ pub mod Node
 pub mod Keeps
 pub mod Calls
 pub mod Stays
-pub mod Begun
 pub mod Plans
 pub mod Cited
 pub mod Courses

@@ -1,6 +1,6 @@
 -- What the calls of one link's turn came to: where they led on the machine of the turn, or where
 -- they stopped. One name for each piece of work, and one for where it stops.
-use Rattle.std.specs.Prelude.{◌≡◌, ◌⊎◌, ℕ, suc, ◌+◌, Bool, true, false, cond, nat_lt, List, [], ◌∷◌, length}
+use Rattle.std.specs.Prelude.{◌≡◌, ◌⊎◌, ℕ, suc, ◌+◌, Bool, true, false, cond, nat_lt, List, ◌∷◌, length}
 use Rattle.outside.specs.Outside.{Outside}
 use Rattle.record_grammar.specs.declared.stream.Item.{Item}
 use Rattle.record_grammar.specs.declared.stream.Item.TheVariants as item
@@ -83,6 +83,7 @@ TakesOrPassesItem clients n heard its moved left l l' s s' o o' false =
     × LinkWent clients n l.session.number (spot_at (Takes its) l heard moved s.state.facts)
     (spot_at Waits l' heard moved s'.state.facts) s s' o o'
 
+-- one item was, or, where more may come, some of them
 pub record NextWent (clients : Meaning) (n : ℕ) (piece left : List ℕ) (l l' : Link)
     (s s' : StoreValue) (o o' : Outside) (more : Bool) : Type 0 where
   pub leads : (heard : List ℕ) (its : List Item) (moved : Bool) → IsReading heard piece l.reader its
@@ -93,12 +94,6 @@ pub record ItemsStopped (clients : Meaning) (n : ℕ) (piece : List ℕ) (l l' :
   pub stops : (heard : List ℕ) (its : List Item) (moved : Bool) → IsReading heard piece l.reader its
       → LinkStopped clients n l.session.number
       (spot_at (Takes its) l heard moved s.state.facts) (link_at l' heard) s s' o o' e
-
--- some items of a piece were taken
-pub record ItemsWent (clients : Meaning) (n : ℕ) (piece left : List ℕ) (l l' : Link)
-    (s s' : StoreValue) (o o' : Outside) : Type 0 where
-  pub leads : (heard : List ℕ) (its : List Item) (moved : Bool) → IsReading heard piece l.reader its
-      → TakesOrPassesItem clients n heard its moved left l l' s s' o o' true
 
 -- all of them were, and the link waits for the clock
 pub record PieceWent (clients : Meaning) (n : ℕ) (piece : List ℕ) (l l' : Link)

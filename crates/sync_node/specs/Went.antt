@@ -1,5 +1,5 @@
 -- Where calls led on a machine whose steps are acts, and where they stopped.
-use Rattle.std.specs.Prelude.{◌⊎◌, ◌<◌, List, []}
+use Rattle.std.specs.Prelude.{◌⊎◌, ◌<◌, List}
 use Rattle.outside.specs.Faults.{CountRose}
 use Rattle.outside.specs.Outside.{Outside}
 use Rattle.sync_rules.specs.declared.entries.Entry.{Entry}

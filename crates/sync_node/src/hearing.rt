@@ -3,7 +3,7 @@ ghost use Rattle.std.specs.Prelude.{◌≡◌, length, IfErr, IfOk, OnOk};
 ghost use Rattle.sync_course.specs.declared.TheConstants.{PIECE_LEN};
 ghost use Rattle.sync_node.specs.Going.{LetsNothingFall};
 ghost use Rattle.sync_node.specs.Hearing.{LearnsNonce};
-ghost use Rattle.sync_node.specs.Keeps.{LinkKeeps, StaysSettled, StoreKeeps};
+ghost use Rattle.sync_node.specs.Keeps.{LinkKeeps, StaysSettled, StoreKeeps, stop_of};
 ghost use Rattle.sync_node.specs.OnLinks.{HearingStopped, HearingWent, ItemsStopped, NextWent};
 ghost use Rattle.sync_node.specs.OnLinks.{PieceWent, RecordStopped, RecordTaken};
 ghost use Rattle.sync_node.specs.Taking.{IsOpenToTake, LeavesLess};
@@ -42,7 +42,7 @@ pub(crate) fn receive_on<H: Host, C: Clients>(
     ensures stopped { IfErr result (HearingStopped (C.meaning clients.now) number link.old link.new
         store.old store.new (H.tells host.old) (H.tells host.new)) }
     ensures keeps { LinkKeeps (C.meaning clients.now) number link.old link.new store.old store.new
-        (H.tells host.old) (H.tells host.new) result }
+        (H.tells host.old) (H.tells host.new) (stop_of result) }
     ensures waits { OnOk result (HasGivenItems link.new) }
 {
     cite_laws();
@@ -83,7 +83,7 @@ fn take_piece<H: Host, C: Clients>(
     ensures stopped { IfErr result (ItemsStopped (C.meaning clients.now) number piece.old link.old
         link.new store.old store.new (H.tells host.old) (H.tells host.new)) }
     ensures keeps { LinkKeeps (C.meaning clients.now) number link.old link.new store.old store.new
-        (H.tells host.old) (H.tells host.new) result }
+        (H.tells host.old) (H.tells host.new) (stop_of result) }
     ensures waits { OnOk result (HasGivenItems link.new) }
 {
     'items: while link.is_asked() {
@@ -114,7 +114,7 @@ fn take_next<H: Host, C: Clients>(
     ensures stopped { IfErr result (ItemsStopped (C.meaning clients.now) number piece.old link.old
         link.new store.old store.new (H.tells host.old) (H.tells host.new)) }
     ensures keeps { LinkKeeps (C.meaning clients.now) number link.old link.new store.old store.new
-        (H.tells host.old) (H.tells host.new) result }
+        (H.tells host.old) (H.tells host.new) (stop_of result) }
     ensures left { IfOk result (LeavesLess link.old piece.old link.new piece.new) }
 {
     cite_laws();
@@ -171,7 +171,7 @@ fn take_one<H: Host, C: Clients>(
     ensures goes { LetsNothingFall (H.tells host.old) (H.tells host.new) }
     ensures keeps { StoreKeeps (StaysSettled (C.meaning clients.now) store.old store.new
         (H.tells host.new)) (C.meaning clients.now) store.old store.new (H.tells host.old)
-        (H.tells host.new) result }
+        (H.tells host.new) (stop_of result) }
 {
     records_are_within(&rec);
     let taken = store.state().takes(session.number);

@@ -8,13 +8,11 @@
 //!   due.
 //! - `redundant`: which of the links with one contact is kept.
 //! - `told`: each call on the store or the host, with what it leaves.
-//! - `laws`: how a run begins and ends, for callers.
 #![tactic(auto)]
 
 mod attaching;
 mod fault;
 mod hearing;
-pub mod laws;
 mod link;
 mod node;
 mod redundant;

@@ -3,7 +3,7 @@ ghost use Rattle.std.specs.Prelude.{◌≢◌, ◌∷◌, ◌<◌, [], IfErr, If
 ghost use Rattle.sync_rules.specs.Legal.{Allowed};
 ghost use Rattle.sync_rules.specs.declared.entries.Entry.TheVariants as entry;
 ghost use Rattle.sync_node.specs.Ends.{MaySend};
-ghost use Rattle.sync_node.specs.Keeps.{LinkKeeps};
+ghost use Rattle.sync_node.specs.Keeps.{LinkKeeps, stop_of};
 ghost use Rattle.sync_node.specs.OnLinks.{DueStopped, DueWent, PutStopped, PutWent};
 ghost use Rattle.sync_node.specs.Sending.{SendsOn};
 ghost use Rattle.sync_node.specs.Working.{HasGivenItems, MayWork};
@@ -38,7 +38,7 @@ pub(crate) fn send_all<H: Host, C: Clients>(
     ensures stopped { MaySend link.old.end → IfErr result (DueStopped (C.meaning clients.now) number
         now link.old link.new store.old store.new (H.tells host.old) (H.tells host.new)) }
     ensures keeps { LinkKeeps (C.meaning clients.now) number link.old link.new store.old store.new
-        (H.tells host.old) (H.tells host.new) result }
+        (H.tells host.old) (H.tells host.new) (stop_of result) }
     ensures waits { OnOk result (HasGivenItems link.new) }
 {
     let mut made = 0;
@@ -75,7 +75,7 @@ fn put_out<H: Host, C: Clients>(
     ensures stopped { IfErr result (PutStopped (C.meaning clients.now) number now link.old link.new
         store.old store.new (H.tells host.old) (H.tells host.new)) }
     ensures keeps { LinkKeeps (C.meaning clients.now) number link.old link.new store.old store.new
-        (H.tells host.old) (H.tells host.new) result }
+        (H.tells host.old) (H.tells host.new) (stop_of result) }
     ensures waits { OnOk result (HasGivenItems link.new) }
 {
     cite_laws();

@@ -2,7 +2,7 @@
 ghost use Rattle.std.specs.Prelude.{◌≡◌, ℕ, ◌<◌, ◌≤◌, length, IfErr, IfOk, OnOk};
 ghost use Rattle.sync_course.specs.declared.TheConstants.{PIECE_LEN};
 ghost use Rattle.outside.specs.declared.limits.TheConstants.{LINKS};
-ghost use Rattle.sync_node.specs.Keeps.{LinkKeeps, LinksKeep};
+ghost use Rattle.sync_node.specs.Keeps.{LinkKeeps, LinksKeep, stop_of};
 ghost use Rattle.sync_node.specs.Node.{AreAttached, AreSome, MayGoOn};
 ghost use Rattle.sync_node.specs.OnLinks.{HearingStopped, HearingWent, SendingStopped};
 ghost use Rattle.sync_node.specs.OnLinks.{SendingWent, TurnWent};
@@ -41,7 +41,7 @@ pub(crate) fn turn_all<H: Host, C: Clients>(
         → IfErr result (RoundStopped (C.meaning clients.now) first links.old links.new store.old
         store.new (H.tells host.old) (H.tells host.new)) }
     ensures keeps { LinksKeep (C.meaning clients.now) links.old links.new store.old store.new
-        (H.tells host.old) (H.tells host.new) result }
+        (H.tells host.old) (H.tells host.new) (stop_of result) }
 {
     let still = turn_each(alloc, store, host, clients, links, buffer)?;
     close_redundant(links);
@@ -68,7 +68,7 @@ fn turn_each<H: Host, C: Clients>(
         → IfErr result (LinksStopped (C.meaning clients.now) first links.old links.new store.old
         store.new (H.tells host.old) (H.tells host.new)) }
     ensures keeps { LinksKeep (C.meaning clients.now) links.old links.new store.old store.new
-        (H.tells host.old) (H.tells host.new) result }
+        (H.tells host.old) (H.tells host.new) (stop_of result) }
 {
     let mut still = true;
     'links: for place in 0..links.len() {
@@ -98,7 +98,7 @@ fn turn_link<H: Host, C: Clients>(
     ensures stopped { IfErr result (HearingStopped (C.meaning clients.now) number link.old link.new
         store.old store.new (H.tells host.old) (H.tells host.new)) }
     ensures keeps { LinkKeeps (C.meaning clients.now) number link.old link.new store.old store.new
-        (H.tells host.old) (H.tells host.new) result }
+        (H.tells host.old) (H.tells host.new) (stop_of result) }
     ensures waits { OnOk result (HasGivenItems link.new) }
 {
     let quiet = hear_now(alloc, store, host, clients, number, link, buffer)?;
@@ -123,7 +123,7 @@ fn hear_now<H: Host, C: Clients>(
     ensures stopped { IfErr result (HearingStopped (C.meaning clients.now) number link.old link.new
         store.old store.new (H.tells host.old) (H.tells host.new)) }
     ensures keeps { LinkKeeps (C.meaning clients.now) number link.old link.new store.old store.new
-        (H.tells host.old) (H.tells host.new) result }
+        (H.tells host.old) (H.tells host.new) (stop_of result) }
     ensures waits { OnOk result (HasGivenItems link.new) }
 {
     if !link.is_asked() {
@@ -148,7 +148,7 @@ fn send_now<H: Host, C: Clients>(
     ensures stopped { IfErr result (SendingStopped (C.meaning clients.now) number link.old link.new
         store.old store.new (H.tells host.old) (H.tells host.new)) }
     ensures keeps { LinkKeeps (C.meaning clients.now) number link.old link.new store.old store.new
-        (H.tells host.old) (H.tells host.new) result }
+        (H.tells host.old) (H.tells host.new) (stop_of result) }
     ensures waits { OnOk result (HasGivenItems link.new) }
 {
     if !link.may_send() {

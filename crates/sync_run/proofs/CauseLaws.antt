@@ -1,48 +1,25 @@
 -- What calls one after another leave, and why links stand Failed.
-use Rattle.std.proofs.Common.{◌≡◌, ℕ, zero, suc, ◌≤◌, Bool, List, [], ◌∷◌, inl, inr, arith, refl, subst, ◌∙◌, Some}
+use Rattle.std.proofs.Common.{◌≡◌, ℕ, zero, suc, ◌≤◌, Bool, List, [], ◌∷◌, inl, inr, arith, refl, subst, ◌∙◌, Some, Result, Ok, Err}
 use Rattle.std.specs.Prelude.{map, slice_get}
 use Rattle.outside.specs.Faults.{CountRose, one_more}
 use Rattle.outside.specs.Links.{Links}
-use Rattle.outside.specs.Outside.{Outside}
-use Rattle.outside.proofs.RunLaws.{grow_same, grow_then}
-use Rattle.outside.proofs.CallSteps.{calls_none, calls_then, told_on}
+use Rattle.outside.specs.Outside.{DiskRun, Outside}
 use Rattle.sync_node.specs.declared.link.Link.{Link}
 use Rattle.sync_course.specs.declared.ends.LinkEnd.{LinkEnd}
 use Rattle.sync_course.specs.declared.ends.LinkEnd.TheVariants as end
 use Rattle.sync_node.specs.Causes.{FailByCause, StandsFailed}
 use Rattle.sync_node.specs.Going.{LetsNothingFall}
 use Rattle.sync_course.specs.Closing.{Closing}
-use Rattle.sync_run.specs.Causes.{FailuresRose}
+use Rattle.store_commands.specs.Commit.{ExtendsBy}
+use Rattle.sync_words.specs.declared.outcome.Outcome.{Outcome}
+use Rattle.sync_words.specs.declared.outcome.Outcome.TheVariants as outcome
+use Rattle.sync_run.specs.Causes.{FailuresRose, RunCaused}
 use Rattle.sync_run.specs.Closed.{closed_by}
-
-pub goes_none : (o : Outside) → LetsNothingFall o o
-goes_none o = record {
-  same_files = refl;
-  later = omega arith;
-  links = grow_same o.links o.links refl;
-  same_dialled = refl;
-  same_specs = refl;
-  clock = λ two files. omega arith;
-  calls = calls_none o;
-}
-
-pub goes_then : (o o1 o2 : Outside) → LetsNothingFall o o1 → LetsNothingFall o1 o2 → LetsNothingFall o o2
-goes_then o o1 o2 first second = record {
-  same_files = second.same_files ∙ first.same_files;
-  later = omega (arith, first.later, second.later);
-  links = grow_then o.links o1.links o2.links first.links second.links;
-  same_dialled = second.same_dialled ∙ first.same_dialled;
-  same_specs = second.same_specs ∙ first.same_specs;
-  clock = λ two files.
-      let there = told_on o o1 two first.same_files files in
-      omega (arith, first.clock two files, second.clock there.0 there.1);
-  calls = calls_then o o1 o2 first.calls second.calls;
-}
 
 rose_later : (a b c : ℕ) → CountRose a b → b ≤ c → CountRose a c
 rose_later a b c rose later = let r : one_more a ≤ b = rose in omega (arith, r, later)
 
-rose_before : (a b c : ℕ) → a ≤ b → CountRose b c → CountRose a c
+pub rose_before : (a b c : ℕ) → a ≤ b → CountRose b c → CountRose a c
 rose_before a b c before rose = let r : one_more b ≤ c = rose in omega (arith, before, r)
 
 pub no_causes : (links : List Link) (o : Outside) → FailByCause links links o o
@@ -72,11 +49,33 @@ end_failed (x ∷ links) (suc i) stands at failed =
     record { link = rest.link; there = rest.there; failed = rest.failed }
 
 -- where no link stood failed before
-pub ends_rose : (over : Bool) (links links' : List Link) (ends : Closing) (o0 o1 o : Outside) → links ≡ [] → ends ≡ closed_by over links' → o1.links ≡ o0.links
-    → FailByCause links links' o1 o → FailuresRose o0 o ends
-ends_rose over links links' ends o0 o1 o none are same causes i stands at failed =
+pub ends_rose : (over : Bool) (links links' : List Link) (ends : Closing) (o o' : Outside)
+    → links ≡ [] → ends ≡ closed_by over links'
+    → FailByCause links links' o o' → FailuresRose o o' ends
+ends_rose over links links' ends o o' none are causes i stands at failed =
     let stood = end_failed links' i stands (subst (λ (c : Closing). slice_get c.ends i ≡ Some stands) are at) failed in
     elim (causes i stood) [
       | inl before ↦ let no : slice_get [] i ≡ Some before.link = subst (λ (ls : List Link). slice_get ls i ≡ Some before.link) none before.there in cc
-      | inr rose ↦ subst (λ (l : Links). CountRose (l.faults i) (o.links.faults i)) same rose
+      | inr rose ↦ rose
     ]
+
+-- settling before it changed no link
+pub caused_settled : (o o1 o' : Outside) (r : Result Closing Outcome) → DiskRun o o1
+    → RunCaused o1 o' r
+    → RunCaused o o' r
+caused_settled o o1 o' (Ok ends) run caused = λ i stands at failed.
+    subst (λ (l : Links). CountRose (l.faults i) (o'.links.faults i)) run.same_links
+    (caused i stands at failed)
+caused_settled o o1 o' (Err outcome.DiskFault) run caused =
+    rose_before o.disk_faults o1.disk_faults o'.disk_faults run.later caused
+caused_settled o o1 o' (Err outcome.Full) run caused = tt
+caused_settled o o1 o' (Err outcome.Memory) run caused = tt
+caused_settled o o1 o' (Err _) run caused = absurd caused
+
+-- settling itself was broken off
+pub unsettled_caused : (o o' : Outside) (e : Outcome) → ExtendsBy o o' (Err e)
+    → RunCaused o o' (Err e)
+unsettled_caused o o' outcome.DiskFault by = by
+unsettled_caused o o' outcome.Full by = tt
+unsettled_caused o o' outcome.Memory by = tt
+unsettled_caused o o' _ by = absurd by

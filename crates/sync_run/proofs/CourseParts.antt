@@ -21,11 +21,10 @@ use Rattle.sync_course.specs.declared.ends.LinkEnd.{LinkEnd}
 use Rattle.sync_course.specs.declared.ends.LinkEnd.TheVariants as link_end
 use Rattle.sync_node.specs.declared.node.Turned.{Turned}
 use Rattle.sync_node.specs.declared.node.Turned.TheVariants as turned
-use Rattle.sync_node.specs.Courses.{AllRead, RunBreaks, is_still, links_from, place_at}
+use Rattle.sync_node.specs.Courses.{AllRead, is_still, links_from, place_at}
 use Rattle.sync_node.specs.OnRuns.{BeginStopped, BeginWent, ByFault, RoundStopped, RoundWent, RunActs, RunStopped, RunWent}
 use Rattle.sync_node.specs.declared.fault.NodeFault.{NodeFault}
 use Rattle.sync_node.specs.declared.fault.NodeFault.TheVariants as node_fault
-use Rattle.sync_node.proofs.NodeRuns.{run_halts}
 use Rattle.sync_node.proofs.PrimLaws.{did_pass}
 use Rattle.sync_node.proofs.WentLaws.{stopped_then, went_none, went_one, went_then}
 use Rattle.sync_node.specs.Node.{IsNode, NodeValue, asked_among, is_going}
@@ -33,7 +32,7 @@ use Rattle.sync_node.specs.Plans.{session_of}
 use Rattle.sync_run.specs.declared.dialling.Dialled.{Dialled}
 use Rattle.sync_run.specs.declared.run.Limits.{Limits}
 use Rattle.sync_run.specs.Courses.{terms_at}
-use Rattle.sync_run.specs.Parts.{EndsFrom, MakesTurns, RunsSessions, SessionsBegin, SessionsStopped, StopsFrom, StopsRun, TurnsStopped, before_links, before_sessions, before_turns, sessions_from, silent}
+use Rattle.sync_run.specs.Parts.{EndsFrom, RunsSessions, SessionsBegin, SessionsStopped, StopsFrom, StopsRun, before_links, before_sessions, before_turns, sessions_from, silent}
 use Rattle.sync_run.proofs.TellLaws.{told_too}
 
 -- what is said of the error of a call, of that which goes on by `?`
@@ -53,12 +52,6 @@ by_fault_map P Q then node_fault.DiskFault p = then _ p
 by_fault_map P Q then node_fault.Full p = then _ p
 by_fault_map P Q then node_fault.Closed p = p
 
-pub by_fault_any : (P : _ → Type 0) (Q : Type 0) → ((e : _) → P e → Q) → (x : NodeFault) → ByFault P x → Q
-by_fault_any P Q then node_fault.Memory p = then _ p
-by_fault_any P Q then node_fault.DiskFault p = then _ p
-by_fault_any P Q then node_fault.Full p = then _ p
-by_fault_any P Q then node_fault.Closed p = absurd p
-
 -- a place that is told of nothing
 passes : (clients : Meaning) (terms : Terms) (p q : Place) (s : StoreValue) (o : Outside) → RunStep clients terms p Pass q
     → RunWent clients terms p q s s o o
@@ -76,13 +69,6 @@ stops_then clients terms p q s0 s s' o0 o o' x first second =
       stopped.0,
       stopped_then clients (RunActs clients terms) (λ (y : Owing Place). y.at.links ≡ stopped.0) (paid p) (paid q) s0 s s' o0 o o' e first stopped.1,
     )) x second
-
--- it was broken off
-pub stops_halted : (clients : Meaning) (terms : Terms) (p : Place) (s s' : StoreValue) (o o' : Outside) (x : NodeFault)
-    → StopsFrom clients terms p s s' o o' x → RunBreaks clients terms p s o o'
-stops_halted clients terms p s s' o o' x stops =
-    by_fault_any (λ e. (links : List course_links.Link) × RunStopped clients terms p links s s' o o' e) (RunBreaks clients terms p s o o')
-    (λ e stopped. (run_halts clients terms p stopped.0 s s' o o' e stopped.1).breaks) x stops
 
 -- ---- the sessions begin
 
@@ -323,29 +309,20 @@ module _ (clients : Meaning) (limits : Limits) (first : ℕ) (from : Place) (lin
     is_so = is ∙ sym (over_here limits.quiet Ended links so.heard so.moved still made s.state.facts);
   }
 
--- a turn stopped, wherever the run began
-pub turns_stopped : (clients : Meaning) (limits : Limits) (first : ℕ) (links0 links links' : List Link) (s0 s s' : StoreValue) (o0 o o' : Outside) (still made : ℕ) (x : NodeFault)
-    → ((heard : ℕ → List ℕ) → AllRead heard links0 → TurnsSoFar clients limits first (before_turns links0 heard s0.state.facts) links s0 s o0 o still made)
-    → over_by limits.quiet still (nat_lt 0 (asked_among links)) ≡ false → made < limits.turns → (at : ℕ) → at ≡ first
-    → ByFault (RoundStopped clients at links links' s s' o o') x → TurnsStopped clients limits first links0 s0 s' o0 o' x
-turns_stopped clients limits first links0 links links' s0 s s' o0 o o' still made x so going left at same stopped = record {
-  stops = λ heard read.
-      turn_stopped clients limits first (before_turns links0 heard s0.state.facts) links s0 s o0 o still made (so heard read) going left at links' s' o' x same stopped;
-}
-
 -- ---- both
 
 module _ (clients : Meaning) (limits : Limits) (at : ℕ) (dialled : List Dialled) (links : List Link)
     (s0 s s' : StoreValue) (o0 o o' : Outside) (same : at ≡ s0.state.facts.begun)
     (begins : SessionsBegin clients dialled links s0 s o0 o) where
   pub run_ends : (links' : List Link) (over : Bool)
-      → MakesTurns clients limits at links links' s s' o o' over
+      → EndsFrom clients limits at (before_turns links silent s.state.facts) links' s s' o o' over
       → RunsSessions clients limits dialled links' s0 s' o0 o' over
   run_ends links' over turns = record {
     ends = λ two files.
         let first : ℕ = s0.state.facts.begun in
-        let end = (subst (λ (k : ℕ). MakesTurns clients limits k links links' s s' o o' over) same
-        turns).ends silent begins.has_read in
+        let end =
+        subst (λ (k : ℕ). EndsFrom clients limits k (before_turns links silent s.state.facts)
+        links' s s' o o' over) same turns in
         record {
           heard = end.heard;
           moved = end.moved;
@@ -360,15 +337,16 @@ module _ (clients : Meaning) (limits : Limits) (at : ℕ) (dialled : List Dialle
         };
   }
 
-  pub run_stopped : (x : NodeFault) → TurnsStopped clients limits at links s s' o o' x
+  pub run_stopped : (x : NodeFault)
+      → StopsFrom clients (terms_at limits at) (before_turns links silent s.state.facts) s s' o o' x
       → StopsRun clients limits dialled s0 s' o0 o' x
   run_stopped x stopped = record {
     stops = λ two files.
         let terms : Terms = terms_at limits s0.state.facts.begun in
         stops_then clients terms (before_links dialled s0.state.facts)
         (before_turns links silent s.state.facts) s0 s s' o0 o o' x (begins.went two files terms refl)
-        ((subst (λ (k : ℕ). TurnsStopped clients limits k links s s' o o' x) same stopped).stops silent
-        begins.has_read);
+        (subst (λ (k : ℕ). StopsFrom clients (terms_at limits k)
+        (before_turns links silent s.state.facts) s s' o o' x) same stopped);
   }
 
 pub run_unbegun : (clients : Meaning) (limits : Limits) (dialled : List Dialled) (s0 s' : StoreValue)

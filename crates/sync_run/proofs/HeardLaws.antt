@@ -1,27 +1,28 @@
--- The bytes heard on each link at a place of a run are those of the answers that its events have; and so are those that are told.
-use Rattle.std.proofs.Common.{◌≡◌, ℕ, zero, suc, ◌+◌, ◌⊎◌, ◌<◌, ◌≤◌, Bool, true, false, cond, List, [], ◌∷◌, ◌++◌, length, length-append, refl, sym, ◌∙◌, ap, subst, inl, inr, arith, Option, None, Some}
+-- The bytes heard on each link at a place of a run are those of the answers that its events have;
+-- and so are those that are told.
+use Rattle.std.proofs.Common.{◌≡◌, ℕ, zero, suc, ◌+◌, ◌⊎◌, ◌<◌, ◌≤◌, Bool, true, false, cond, List, [], ◌∷◌, ◌++◌, length, append-nil, length-append, refl, sym, ◌∙◌, ap, subst, inl, inr, arith, Option, None, Some}
 use Rattle.std.specs.Option.{option_map}
 use Rattle.std.specs.Prelude.{slice_get, slice_set}
 use Rattle.outside.specs.Links.{HeardOn}
-use Rattle.outside.specs.Outside.{Outside}
-use Rattle.outside.specs.Runs.{answers_at, heard_bytes}
 use Rattle.sync_rules.specs.declared.entries.Session.{Session}
 use Rattle.sync_rules.specs.Clients.{Meaning}
 use Rattle.sync_rules.specs.Facts.{Facts}
 use Rattle.sync_course.specs.declared.ends.LinkEnd.{LinkEnd}
 use Rattle.sync_course.specs.declared.ends.LinkEnd.TheVariants as end
+use Rattle.sync_course.specs.Acts.{commit_acts}
 use Rattle.sync_course.specs.Events.{Break, Commit, Event, Pass, heard_after}
 use Rattle.sync_course.specs.Free.{first_free, forget}
-use Rattle.sync_course.proofs.FreeLaws.{run_is_free}
+use Rattle.sync_course.proofs.FreeLaws.{run_is_free, step_is_free}
 use Rattle.sync_course.proofs.HeardLaws.{at_of, bytes_of, events_tell, free_path_adds, none_tell}
-use Rattle.sync_course.proofs.LiftLaws.{get_within}
 use Rattle.sync_course.specs.Links.{Link, closed_from, link_of}
 use Rattle.sync_course.specs.LinkTurns.{Asks, Done, Doing}
+use Rattle.sync_course.specs.Owing.{Owing}
 use Rattle.sync_course.specs.Paths.{Path}
 use Rattle.sync_course.specs.Suits.{heard_in, heard_on}
-use Rattle.sync_course.specs.Turns.{Attaches, Between, Course, Ended, EndsTurn, GoesToNext, Greets, Place, RunStep, Settles, Stage, StageStep, Terms, TurnStep, Works, first_place, is_at_end, turn_ended, with_spot}
+use Rattle.sync_course.specs.Turns.{Attaches, Between, Ended, EndsTurn, GoesToNext, Greets, Place, RunStep, Settles, Stage, StageStep, Terms, TurnStep, Works, first_place, is_at_end, turn_ended, with_spot}
+use Rattle.sync_rules.specs.declared.entries.Entry.{Entry}
+use Rattle.sync_node.specs.OnRuns.{RunActs}
 use Rattle.sync_run.specs.Dialling.{unheard}
-use Rattle.sync_run.specs.Ends.{AllHeardAsTold}
 
 -- what was heard at a place of a run is what its events bring
 path_hears : (clients : Meaning) (terms : Terms) (sessions : List Session) (f : Facts)
@@ -112,31 +113,13 @@ module _ (clients : Meaning) (terms : Terms) (sessions : List Session) where
   path_has [] p q path has = has_at p q path has
   path_has (e ∷ es) p q path has = path_has es path.0 q path.2 (stage_has p.stage e p path.0 refl path.1 has)
 
-  pub course_has : (f : Facts) (events : List Event) (last : Place) → Course clients terms sessions f events last → length last.links ≡ length sessions
-  course_has f events last course =
-      subst (λ (st : Stage). HasLinks sessions st (length last.links)) course.at_end (path_has events (first_place sessions f) last course.path (refl, refl))
+-- ---- at any place of a run
 
--- ---- together
-
-told_of : (told told0 : Option (List HeardOn)) (es : List Event) (n : ℕ) (heard : List HeardOn) → told ≡ option_map (λ (h : List HeardOn). heard_after es (unheard n)) told0 → told ≡ Some heard
+pub told_of : (told told0 : Option (List HeardOn)) (es : List Event) (n : ℕ) (heard : List HeardOn)
+    → told ≡ option_map (λ (h : List HeardOn). heard_after es (unheard n)) told0 → told ≡ Some heard
     → told ≡ Some (heard_after es (unheard n))
 told_of told None es n heard is some = cc
 told_of told (Some h) es n heard is some = is
-
-pub course_told : (clients : Meaning) (terms : Terms) (sessions : List Session) (f : Facts) (events : List Event) (last : Place) (old new : Outside) → Course clients terms sessions f events last
-    → new.links.dialled ≡ length sessions → new.links.heard ≡ option_map (λ (h : List HeardOn). heard_after events (unheard new.links.dialled)) old.links.heard → AllHeardAsTold last new
-course_told clients terms sessions f events last old new course made hears i link at heard told =
-    let within : i < length last.links = get_within last.links i link at in
-    let count : length last.links ≡ length sessions = course_has clients terms sessions f events last course in
-    let few : i < length (unheard new.links.dialled) = omega (arith, within, count, made, unheard_length new.links.dialled) in
-    let are : new.links.heard ≡ Some (heard_after events (unheard new.links.dialled)) = told_of new.links.heard old.links.heard events new.links.dialled heard hears told in
-    ap heard_in (sym at)
-    ∙ path_hears clients terms sessions f events last i course.path
-    ∙ sym (ap (λ (l : List ℕ). l ++ bytes_of i events) (unheard_none new.links.dialled i))
-    ∙ sym (events_tell events (unheard new.links.dialled) i few)
-    ∙ ap (λ (o : Option (List HeardOn)). heard_bytes (answers_at o i)) (sym are)
-
--- ---- at any place of a run
 
 -- at each stage no more links stand than there are sessions
 links_few : (sessions : List Session) (stage : Stage) (n : ℕ) → HasLinks sessions stage n → n ≤ length sessions
@@ -153,17 +136,36 @@ no_link [] i past = refl
 no_link (l ∷ links) zero past = absurd (omega (arith, past))
 no_link (l ∷ links) (suc i) past = no_link links i (omega (arith, past))
 
--- where nothing was heard before a run, what is told to be heard is what its place has
-pub path_told : (clients : Meaning) (terms : Terms) (sessions : List Session) (f : Facts) (es : List Event) (last : Place) (h : List HeardOn) → Path (RunStep clients terms) (first_place sessions f) es last
-    → length sessions ≤ length h → ((i : ℕ) → at_of h i ≡ []) → (i : ℕ) → at_of (heard_after es h) i ≡ heard_on last i
-path_told clients terms sessions f es last h path few silent i =
-    elim (within_or_past i (length h)) [
+pub path_few : (clients : Meaning) (terms : Terms) (sessions : List Session) (f : Facts)
+    (es : List Event) (last : Place) → Path (RunStep clients terms) (first_place sessions f) es last
+    → length last.links ≤ length sessions
+path_few clients terms sessions f es last path =
+    links_few sessions last.stage (length last.links)
+    (path_has clients terms sessions es (first_place sessions f) last path (refl, refl))
+
+-- where so many links were made, what is told to be heard is what the place of a run has
+pub path_told : (clients : Meaning) (terms : Terms) (sessions : List Session) (f : Facts)
+    (es : List Event) (last : Place) (n : ℕ)
+    → Path (RunStep clients terms) (first_place sessions f) es last → length last.links ≤ n
+    → (i : ℕ) → at_of (heard_after es (unheard n)) i ≡ heard_on last i
+path_told clients terms sessions f es last n path few i =
+    elim (within_or_past i n) [
       | inl within ↦
-          events_tell es h i within ∙ ap (λ (l : List ℕ). l ++ bytes_of i es) (silent i)
+          events_tell es (unheard n) i (omega (arith, within, unheard_length n))
+          ∙ ap (λ (l : List ℕ). l ++ bytes_of i es) (unheard_none n i)
           ∙ sym (path_hears clients terms sessions f es last i path)
       | inr past ↦
-          let count : length last.links ≤ length sessions =
-          links_few sessions last.stage (length last.links) (path_has clients terms sessions es (first_place sessions f) last path (refl, refl)) in
-          none_tell es h i past
-          ∙ sym (no_link last.links i (omega (arith, count, few, past)))
+          none_tell es (unheard n) i (omega (arith, past, unheard_length n))
+          ∙ sym (no_link last.links i (omega (arith, few, past)))
     ]
+
+-- batches that are committed bring nothing
+pub commits_bring : (clients : Meaning) (terms : Terms) (p q : Owing Place) (bs : List (List Entry))
+    → Path (RunActs clients terms) p (commit_acts bs) q → (i : ℕ)
+    → heard_on q.at i ≡ heard_on p.at i
+commits_bring clients terms p q [] path i = ap (λ (x : Owing Place). heard_on x.at i) path
+commits_bring clients terms p q (b ∷ bs) path i =
+    commits_bring clients terms path.0 q bs path.2 i
+    ∙ free_path_adds clients terms.first (Commit b ∷ []) (forget p.at) (forget path.0.at) i
+    (forget path.0.at, step_is_free clients terms p.at path.0.at (Commit b) path.1.1, refl)
+    ∙ append-nil (heard_on p.at i)

@@ -1,5 +1,5 @@
 -- What a run leaves on the links that ends before its first session, by the calls that it made.
-use Rattle.std.proofs.Common.{◌≡◌, ℕ, true, false, List, [], sym, ap, ◌∙◌, subst, refl, Option, None, Some, is_some, Result, Ok, Err}
+use Rattle.std.proofs.Common.{◌≡◌, ℕ, ◌+◌, true, false, List, [], ◌++◌, append-nil, inl, sym, ap, ◌∙◌, subst, refl, Option, None, Some, is_some, Result, Ok, Err}
 use Rattle.std.specs.Prelude.{IsErrAnd}
 use Rattle.outside.specs.declared.failed.Failed.{Failed}
 use Rattle.outside.specs.Disk.{RelatesTold}
@@ -11,7 +11,7 @@ use Rattle.sync_rules.specs.declared.states.Refused.{Refused}
 use Rattle.sync_rules.specs.Facts.{Facts, facts}
 use Rattle.entry_codec.specs.Standing.{Standing, stands}
 use Rattle.sync_store.specs.Store.{StoreValue}
-use Rattle.store_commands.specs.Load.{HasFacts}
+use Rattle.store_commands.specs.Load.{HasFacts, LoadedBy}
 use Rattle.sync_words.specs.declared.link_words.LinkWords.{LinkWords}
 use Rattle.sync_course.specs.Closing.{Closing}
 use Rattle.sync_words.specs.declared.outcome.Outcome.{Outcome}
@@ -21,12 +21,14 @@ use Rattle.sync_run.specs.Causes.{FailsAlone, RunCaused}
 use Rattle.sync_run.specs.Dialling.{DialsAll, MakesLinks}
 use Rattle.sync_run.specs.Courses.{RunComesTo, run_test}
 use Rattle.sync_run.specs.declared.run.Limits.{Limits}
-use Rattle.sync_run.specs.Headline.{LeavesFilesAtRest}
+use Rattle.sync_node.specs.Output.{output, sent_on}
+use Rattle.sync_run.specs.Headline.{Headline, LeavesFilesAtRest}
 use Rattle.sync_run.specs.Ran.{RanTold}
 use Rattle.sync_rules.specs.Clients.{Meaning}
 use Rattle.sync_run.specs.Leaving.{DoesNotBegin, LeavesLinks, MayNotBegin}
 use Rattle.sync_run.proofs.CourseLinks.{no_links_made}
-use Rattle.sync_run.proofs.SafeEnds.{reads_told}
+use Rattle.sync_run.proofs.RunActs.{passed}
+use Rattle.sync_run.proofs.TellLaws.{nothing_sent, reads_told, silent_by}
 
 -- no link was touched
 pub leaves_same : (words : List LinkWords) (o o' : Outside) (r : Result Closing Outcome) → o'.links ≡ o.links → LeavesLinks words o o' r
@@ -87,16 +89,16 @@ pub told_early : (clients : Meaning) (limits : Limits) (words : List LinkWords) 
     (o o1 : Outside) → o.files ≡ Some two → DiskRun o o1 → MomentsAre o o1 (IsNow two o.links)
     → RelatesTold ReadsSame o.files o1.files → (r : Result Closing Outcome) (x : Outcome)
     → IsErrAnd r (λ y. y ≡ x) → (x ≡ outcome.Full → ⊥) → LeavesFilesAtRest o1.files (Err x)
-    → RunComesTo clients limits words (stands clients (read_files two)) o o1 r
+    → RunComesTo clients limits words (stands clients (read_files two)) o o1 (Err x)
     → RanTold clients limits words two o o1 r
-told_early clients limits words two o o1 told run moments reads (Ok ends) x is other rests comes = absurd is
-told_early clients limits words two o o1 told run moments reads (Err y) x is other rests comes = record {
-  rests = subst (λ (z : Outcome). LeavesFilesAtRest o1.files (Err z)) (sym is) rests;
-  sent = tt;
-  sent_full = λ full. absurd (other (let same : x ≡ outcome.Full = cc in same));
-  comes = comes;
-  unbegun = λ none. unbegun_loaded two o o1 told run moments reads;
-}
+told_early clients limits words two o o1 told run moments reads r x is other rests comes =
+    passed (RanTold clients limits words two o o1) r x is (record {
+      rests = rests;
+      sent = tt;
+      sent_full = λ full. absurd (other (let same : x ≡ outcome.Full = cc in same));
+      comes = comes;
+      unbegun = λ none. unbegun_loaded two o o1 told run moments reads;
+    })
 
 -- over a journal for which the tests hold some session may
 pub tested_begins : (words : List LinkWords) (standing : Standing) (s : StoreValue) → HasFacts standing s → run_test s.state.facts words ≡ None → MayNotBegin words standing → ⊥
@@ -106,3 +108,27 @@ tested_begins words standing s has tested none =
     ap (λ (f : Facts). is_some (run_test f words)) has.are ∙ ap (λ (o : Option Refused). is_some o) tested in
     let both : true ≡ false = sym fails ∙ holds in
     cc
+
+-- where no session began: each moment might have been before the command, and the files read as
+-- before
+pub headline_none : (clients : Meaning) (words : List LinkWords) (o o' : Outside) → o.links.dialled ≡ 0 → DiskRun o o' → ((two : Two File) → o.files ≡ Some two → MomentsAre o o' (IsNow two o.links))
+    → RelatesTold ReadsSame o.files o'.files → Headline clients words o o'
+headline_none clients words o o' none run moments reads two told told' =
+    let each = (moments two told).each in
+    record {
+      moments = λ m w. inl (each m w);
+      once_sent = λ m w link some. absurd (some (silent_by o m link none (each m w).sent));
+      ends = λ begin stood. record {
+        sessions = [];
+        planned = tt;
+        whole = begin;
+        stands_for = ap (stands clients) (reads_told o.files o'.files two told'.two reads told told'.files_are) ∙ stood;
+        suits = record { more = []; extends = sym (append-nil begin); suits = tt };
+        has_sent = λ link.
+            let nothing : sent_on o'.links link ≡ [] = ap (λ (l : Links). sent_on l link) run.same_links ∙ nothing_sent o none link in
+            record { rest = output begin ((facts begin).begun + link); whole = ap (λ (l : List ℕ). l ++ output begin ((facts begin).begun + link)) (sym nothing) };
+      };
+    }
+
+pub loaded_unfull : (old new : Outside) (e : Outcome) → LoadedBy old new (Err e) → e ≡ outcome.Full → ⊥
+loaded_unfull old new e by is = subst (λ (x : Outcome). LoadedBy old new (Err x)) is by

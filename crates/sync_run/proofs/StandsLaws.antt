@@ -1,8 +1,7 @@
 -- How a node stands behind parts of a run, one after the other.
-use Rattle.std.proofs.Common.{◌≡◌, ℕ, ◌+◌, ◌++◌, ◌∷◌, [], ◌≤◌, ◌<◌, List, length, sym, ◌∙◌, ap, subst, refl, arith, Result, Ok, Err, get_or}
+use Rattle.std.proofs.Common.{◌≡◌, ℕ, ◌+◌, ◌++◌, ◌∷◌, [], ◌<◌, List, length, sym, ◌∙◌, ap, subst, refl, Result, Ok, Err, get_or}
 use Rattle.std.specs.Prelude.{IsErrAnd}
 use Rattle.std.proofs.lemmas.List.{length-append, length-map}
-use Rattle.outside.specs.Faults.{CountRose, one_more}
 use Rattle.outside.specs.Outside.{Outside}
 use Rattle.sync_rules.specs.Clients.{Meaning}
 use Rattle.sync_rules.specs.declared.entries.Session.{Session}
@@ -14,8 +13,11 @@ use Rattle.sync_node.specs.Node.{AnswersAndCloses, IsNode, MayRun, NodeValue}
 use Rattle.sync_run.specs.declared.dialling.Dialled.{Dialled}
 use Rattle.sync_node.specs.Calls.{AttachStops, CallGoes, CallStops}
 use Rattle.sync_run.specs.NodeStands.{StandsBy}
-use Rattle.sync_run.specs.SafeRuns.{AllMayBegin, MayBeginOn}
-use Rattle.sync_run.proofs.CauseLaws.{causes_then, goes_none, goes_then, no_causes}
+use Rattle.sync_run.specs.Needs.{AllMayBegin, MayBeginOn}
+use Rattle.sync_node.proofs.SafeLaws.{goes_none}
+use Rattle.sync_node.proofs.WorkLaws.{goes_then}
+use Rattle.sync_run.proofs.RunActs.{passed}
+use Rattle.sync_run.proofs.CauseLaws.{causes_then, no_causes, rose_before}
 
 -- ---- what is kept
 
@@ -43,17 +45,15 @@ keeps_then n0 n1 n2 o0 o1 o2 first second = record {
 
 -- ---- where a call stopped
 
-pub rose_since : (a b c : ℕ) → a ≤ b → CountRose b c → CountRose a c
-rose_since a b c le rose = let more : one_more b ≤ c = rose in omega (arith, le, more)
-
-module _ (T U : Type 0) (clients : Meaning) (n' : NodeValue) (o o1 o' : Outside)
-    (later : o.disk_faults ≤ o1.disk_faults) where
-  stops_on : (x : NodeFault) → CallStops {T = T} clients n' o1 o' (Err x)
-      → CallStops {T = U} clients n' o o' (Err x)
+-- a call of a node stopped behind others, and its fault goes on by `?`
+module _ (T U : Type 0) (clients : Meaning) (n0 n n' : NodeValue) (o0 o o' : Outside)
+    (first : CallGoes n0 n o0 o) where
+  stops_on : (x : NodeFault) → CallStops {T = T} clients n' o o' (Err x)
+      → CallStops {T = U} clients n' o0 o' (Err x)
   stops_on fault.Memory stops = stops
   stops_on fault.Full stops = stops
   stops_on fault.DiskFault stops =
-      rose_since o.disk_faults o1.disk_faults o'.disk_faults later stops
+      rose_before o0.disk_faults o.disk_faults o'.disk_faults first.goes.later stops
   stops_on fault.Closed stops = tt
 
   closes_by : (x : NodeFault) → AnswersAndCloses {T = T} (Err x) n'
@@ -63,14 +63,13 @@ module _ (T U : Type 0) (clients : Meaning) (n' : NodeValue) (o o1 o' : Outside)
   closes_by fault.DiskFault answer = answer
   closes_by fault.Closed answer = answer
 
-  -- a call of a node stopped, and its fault goes on by `?`
   pub stands_stopped : (count : ℕ) (r : Result U NodeFault) (x : NodeFault)
-      → IsErrAnd r (λ y. y ≡ x) → AnswersAndCloses {T = T} (Err x) n' → MayRun clients n' o'
-      → CallStops {T = T} clients n' o1 o' (Err x) → StandsBy clients count n' o o' r
-  stands_stopped count (Ok u) x is answer may stops = absurd is
-  stands_stopped count (Err y) x is answer may stops =
-      subst (λ (z : NodeFault). StandsBy {T = U} clients count n' o o' (Err z)) (sym is)
-      (record {
+      → IsErrAnd r (λ y. y ≡ x) → CallGoes n n' o o' → AnswersAndCloses {T = T} (Err x) n'
+      → MayRun clients n' o' → CallStops {T = T} clients n' o o' (Err x)
+      → StandsBy clients count n0 n' o0 o' r
+  stands_stopped count r x is second answer may stops =
+      passed (StandsBy {T = U} clients count n0 n' o0 o') r x is (record {
+        goes = keeps_then n0 n n' o0 o o' first second;
         answer = closes_by x answer;
         may = may;
         stops = stops_on x stops;
@@ -79,20 +78,24 @@ module _ (T U : Type 0) (clients : Meaning) (n' : NodeValue) (o o1 o' : Outside)
 
   -- the same of a part of a run
   pub stands_on : (count count' : ℕ) (r : Result U NodeFault) (x : NodeFault)
-      → IsErrAnd r (λ y. y ≡ x) → StandsBy {T = T} clients count n' o1 o' (Err x)
-      → StandsBy clients count' n' o o' r
-  stands_on count count' (Ok u) x is stands = absurd is
-  stands_on count count' (Err y) x is stands =
-      stands_stopped count' (Err y) x is stands.answer stands.may stands.stops
+      → IsErrAnd r (λ y. y ≡ x) → StandsBy {T = T} clients count n n' o o' (Err x)
+      → StandsBy clients count' n0 n' o0 o' r
+  stands_on count count' r x is stands =
+      stands_stopped count' r x is stands.goes stands.answer stands.may stands.stops
 
 -- behind another part
-pub stands_then : {T : Type 0} (clients : Meaning) (n' : NodeValue) (o o1 o' : Outside)
-    → o.disk_faults ≤ o1.disk_faults → (count count' : ℕ) → count ≡ count' → (r : Result T NodeFault)
-    → StandsBy clients count n' o1 o' r → StandsBy clients count' n' o o' r
-stands_then {T = T} clients n' o o1 o' later count count' same (Ok t) stands =
-    record { answer = stands.answer; may = stands.may; stops = tt; number = stands.number ∙ same }
-stands_then {T = T} clients n' o o1 o' later count count' same (Err x) stands =
-    stands_on T T clients n' o o1 o' later count count' (Err x) x refl stands
+pub stands_then : {T : Type 0} (clients : Meaning) (n0 n n' : NodeValue) (o0 o o' : Outside)
+    → CallGoes n0 n o0 o → (count count' : ℕ) → count ≡ count' → (r : Result T NodeFault)
+    → StandsBy clients count n n' o o' r → StandsBy clients count' n0 n' o0 o' r
+stands_then {T = T} clients n0 n n' o0 o o' first count count' same (Ok t) stands = record {
+  goes = keeps_then n0 n n' o0 o o' first stands.goes;
+  answer = stands.answer;
+  may = stands.may;
+  stops = tt;
+  number = stands.number ∙ same;
+}
+stands_then {T = T} clients n0 n n' o0 o o' first count count' same (Err x) stands =
+    stands_on T T clients n0 n n' o0 o o' first count count' (Err x) x refl stands
 
 -- where a session could not begin
 pub attach_stops : (T H : Type 0) (clients : Meaning) (n n' : NodeValue) (host host' : H)

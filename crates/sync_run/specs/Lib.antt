@@ -5,7 +5,7 @@ pub mod Courses
 pub mod Causes
 pub mod Closed
 pub mod Parts
-pub mod SafeRuns
+pub mod Needs
 pub mod NodeStands
 pub mod Ran
 pub mod Leaving

@@ -3,10 +3,11 @@ ghost use Rattle.std.specs.Prelude.{◌≡◌, ◌+◌, ◌≤◌, [], false, le
 ghost use Rattle.std.specs.Prelude.{OnOk, Some};
 ghost use Rattle.std.specs.List.{All};
 ghost use Rattle.outside.specs.Files.{Two, File};
-ghost use Rattle.sync_rules.specs.Facts.{facts};
+ghost use Rattle.entry_codec.specs.declared.naming.Format.TheVariants as kind;
 ghost use Rattle.sync_rules.specs.Steps.{IsSettled};
 ghost use Rattle.sync_rules.specs.declared.limits.TheConstants.{MAX_SESSIONS};
 ghost use Rattle.sync_store.specs.Ready.{IsReady};
+ghost use Rattle.sync_store.specs.Store.{written_in};
 ghost use Rattle.sync_node.specs.Courses.{FitsWith};
 ghost use Rattle.sync_node.specs.Going.{LetsNothingFall};
 ghost use Rattle.sync_node.specs.Node.{MayRun};
@@ -14,25 +15,22 @@ ghost use Rattle.sync_node.specs.Output.{Journal};
 ghost use Rattle.outside.specs.declared.limits.TheConstants.{LINKS, MAX_JOURNAL};
 ghost use Rattle.sync_words.specs.Links.{AreLinks};
 ghost use Rattle.sync_run.specs.Causes.{FailsAlone, IsCaused, RunCaused};
-ghost use Rattle.sync_run.specs.Courses.{HaveSpecs, RunComes, TestsContacts, TestsWords};
-ghost use Rattle.sync_run.specs.Headline.{Headline};
+ghost use Rattle.sync_run.specs.Courses.{HaveSpecs, TestsContacts, TestsWords};
+ghost use Rattle.sync_run.specs.Headline.{Headline, LeavesFilesAtRest};
 ghost use Rattle.sync_run.specs.Leaving.{LeavesLinks, LinksCameTo, MayHangUp};
-ghost use Rattle.sync_node.specs.Calls.{CallGoes};
+ghost use Rattle.sync_run.specs.Needs.{AllMayBegin, HasRoomFor, IsKnown};
 ghost use Rattle.sync_run.specs.NodeStands.{StandsBy};
-ghost use Rattle.sync_run.specs.Parts.{RunsOver, RunsSessions, StopsRun, sessions_from};
+ghost use Rattle.sync_run.specs.Parts.{RanDialled, RanOnLinks, RanSettled, RunsSessions, StopsRun};
 ghost use Rattle.sync_run.specs.Ran.{RanTold};
-ghost use Rattle.sync_run.specs.SafeRuns.{AllMayBegin, AreUnused, HasRoomFor, IsKnown, RunsSafe};
-ghost use Rattle.sync_run.specs.SafeRuns.{RestsAndSends, WordsSafe};
 
 use crate::closing::close;
 use crate::dialling::{Dialled, dial_all, hang_up_all};
 use crate::sessions::{attach_all, make_turns};
 use outside::Host;
-use record_grammar::fronts_have_fronts;
 use std::alloc::Global;
 use std::hash::RandomState;
 use store_commands::{load_store, migrate_and_settle};
-use sync_course::laws::{all_is_sent, moments_stand, runs_end_quiet};
+use sync_course::laws::{all_is_sent, batches_suit_as_planned, moments_stand, runs_end_quiet};
 use sync_node::{Node, NodeFault};
 use sync_rules::{Clients, MAX_SESSIONS, Refused};
 use sync_store::Store;
@@ -80,6 +78,12 @@ pub fn sync_links<H: Host, C: Clients>(
     ensures caused { IsCaused links.now (H.tells host.old) (H.tells host.new) result }
     ensures leaves { LeavesLinks links.now (H.tells host.old) (H.tells host.new) result }
 {
+    // The laws of what was sent, of what a crash leaves at each moment, and of what stands at the end
+    // of a run that is over.
+    all_is_sent();
+    batches_suit_as_planned();
+    moments_stand();
+    runs_end_quiet();
     let store = load_store(alloc, hasher, host, clients)?;
     test_words(&store, links)?;
     let mut dialled = Vec::with_capacity(alloc, links.len())?;
@@ -134,13 +138,10 @@ fn run_links<H: Host, C: Clients>(
     requires empty { dialled.old.items ≡ [] }
     requires room { length words.now ≤ vec_capacity dialled.old }
     ensures dialled { MayHangUp dialled.new.items (H.tells host.new) }
-    ensures safe { WordsSafe (C.meaning clients.now) words.now store (H.tells host.old)
-        (H.tells host.new) }
-    ensures sends { RestsAndSends (C.meaning clients.now) store.state.facts.begun (H.tells host.old)
-        (H.tells host.new) result }
+    ensures rests { LeavesFilesAtRest (H.tells host.new).files result }
     ensures links { LinksCameTo words.now (H.tells host.old) (H.tells host.new) result }
-    ensures comes { (j : Journal) → FitsWith (C.meaning clients.now) store (H.tells host.old).files
-        j → RunComes (C.meaning clients.now) limits words.now j (H.tells host.old)
+    ensures ran { (j : Journal) → FitsWith (C.meaning clients.now) store (H.tells host.old).files j
+        → RanOnLinks (C.meaning clients.now) limits words.now j (H.tells host.old)
         (H.tells host.new) result }
 {
     match dial_all(host, words, dialled) {
@@ -157,7 +158,7 @@ fn dial_failed(link: usize) -> Result<LinkEnds, Outcome>
     Err(Outcome::LinkFailed(link as u8))
 }
 
-// Runs the sessions on links that were dialled.
+// Migrates and settles the journal, and runs the sessions on links that were dialled.
 fn run_dialled<H: Host, C: Clients>(
     alloc: Global,
     store: Store,
@@ -172,25 +173,40 @@ fn run_dialled<H: Host, C: Clients>(
     requires sessions { store.state.facts.begun + length links.now ≤ MAX_SESSIONS }
     requires few { length links.now ≤ LINKS }
     requires dialled { length links.now ≤ (H.tells host.old).links.dialled }
-    requires unused { AreUnused (H.tells host.old) }
-    ensures safe { RunsSafe (C.meaning clients.now) links.now store (H.tells host.old)
-        (H.tells host.new) }
-    ensures sends { RestsAndSends (C.meaning clients.now) store.state.facts.begun (H.tells host.old)
-        (H.tells host.new) result }
-    ensures run { LetsNothingFall (H.tells host.old) (H.tells host.new) }
+    ensures goes { LetsNothingFall (H.tells host.old) (H.tells host.new) }
+    ensures rests { LeavesFilesAtRest (H.tells host.new).files result }
     ensures caused { RunCaused (H.tells host.old) (H.tells host.new) result }
-    ensures course { (j : Journal) → FitsWith (C.meaning clients.now) store (H.tells host.old).files
-        j → RunsOver (C.meaning clients.now) limits (sessions_from (facts j).begun links.now) j
-        (H.tells host.old) (H.tells host.new) result }
+    ensures ran { RanDialled (C.meaning clients.now) limits links.now store (H.tells host.old)
+        (H.tells host.new) result }
 {
-    // The laws of what was sent, of what a crash leaves at each moment, and of what stands at the end
-    // of a run that is over.
-    all_is_sent();
-    moments_stand();
-    fronts_have_fronts();
-    runs_end_quiet();
     let mut store = store;
     migrate_and_settle(&mut store, host, clients)?;
+    run_settled(alloc, store, limits, links, host, clients)
+}
+
+// Runs them over a store that is settled, in format 2.
+fn run_settled<H: Host, C: Clients>(
+    alloc: Global,
+    store: Store,
+    limits: Limits,
+    links: &[Dialled],
+    host: &mut H,
+    clients: &C,
+) -> Result<LinkEnds, Outcome>
+    requires ready { IsReady (C.meaning clients.now) store (H.tells host.old).files }
+    requires settled { IsSettled (C.meaning clients.now) store.state.facts }
+    requires short { written_in store ≡ kind.Short }
+    requires limited { store.limit ≡ MAX_JOURNAL }
+    requires each { AllMayBegin store.state.facts.contacts links.now }
+    requires sessions { store.state.facts.begun + length links.now ≤ MAX_SESSIONS }
+    requires few { length links.now ≤ LINKS }
+    requires dialled { length links.now ≤ (H.tells host.old).links.dialled }
+    ensures goes { LetsNothingFall (H.tells host.old) (H.tells host.new) }
+    ensures rests { LeavesFilesAtRest (H.tells host.new).files result }
+    ensures caused { RunCaused (H.tells host.old) (H.tells host.new) result }
+    ensures ran { RanSettled (C.meaning clients.now) limits links.now store (H.tells host.old)
+        (H.tells host.new) result }
+{
     let mut node = Node::new(alloc, store)?;
     match run_node(&mut node, limits, links, host, clients) {
         Ok(over) => Ok(close(alloc, &node, links.len() as u8, over)?),
@@ -218,9 +234,8 @@ fn run_node<H: Host, C: Clients>(
     requires sessions { node.old.store.state.facts.begun + length links.now ≤ MAX_SESSIONS }
     requires few { length links.now ≤ LINKS }
     requires dialled { length links.now ≤ (H.tells host.old).links.dialled }
-    ensures stands { StandsBy (C.meaning clients.now) (length links.now) node.new (H.tells host.old)
-        (H.tells host.new) result }
-    ensures keeps { CallGoes node.old node.new (H.tells host.old) (H.tells host.new) }
+    ensures stands { StandsBy (C.meaning clients.now) (length links.now) node.old node.new
+        (H.tells host.old) (H.tells host.new) result }
     ensures went { IfOk result (RunsSessions (C.meaning clients.now) limits links.now node.new.links
         node.old.store node.new.store (H.tells host.old) (H.tells host.new)) }
     ensures stopped { IfErr result (StopsRun (C.meaning clients.now) limits links.now node.old.store

@@ -3,11 +3,13 @@ ghost use Rattle.std.specs.Prelude.{◌≡◌, ◌+◌, ◌≤◌, [], false, le
 ghost use Rattle.outside.specs.declared.limits.TheConstants.{LINKS};
 ghost use Rattle.sync_rules.specs.Steps.{IsSettled};
 ghost use Rattle.sync_rules.specs.declared.limits.TheConstants.{MAX_SESSIONS};
+ghost use Rattle.sync_node.specs.Courses.{AllRead};
 ghost use Rattle.sync_node.specs.Node.{IsNode, MayRun};
-ghost use Rattle.sync_node.specs.Calls.{CallGoes};
 ghost use Rattle.sync_run.specs.NodeStands.{StandsBy};
-ghost use Rattle.sync_run.specs.SafeRuns.{AllMayBegin};
-ghost use Rattle.sync_run.specs.Parts.{MakesTurns, SessionsBegin, SessionsStopped, TurnsStopped};
+ghost use Rattle.sync_run.specs.Needs.{AllMayBegin};
+ghost use Rattle.sync_run.specs.Courses.{terms_at};
+ghost use Rattle.sync_run.specs.Parts.{before_turns, EndsFrom, SessionsBegin, SessionsStopped};
+ghost use Rattle.sync_run.specs.Parts.{silent, StopsFrom};
 
 use crate::dialling::Dialled;
 use crate::run::Limits;
@@ -32,9 +34,8 @@ pub fn attach_all<H: Host, C: Clients>(
     requires sessions { node.old.store.state.facts.begun + length links.now ≤ MAX_SESSIONS }
     requires few { length links.now ≤ LINKS }
     requires dialled { length links.now ≤ (H.tells host.old).links.dialled }
-    ensures stands { StandsBy (C.meaning clients.now) (length links.now) node.new (H.tells host.old)
-        (H.tells host.new) result }
-    ensures keeps { CallGoes node.old node.new (H.tells host.old) (H.tells host.new) }
+    ensures stands { StandsBy (C.meaning clients.now) (length links.now) node.old node.new
+        (H.tells host.old) (H.tells host.new) result }
     ensures went { OnOk result (SessionsBegin (C.meaning clients.now) links.now node.new.links
         node.old.store node.new.store (H.tells host.old) (H.tells host.new)) }
     ensures stopped { IfErr result (SessionsStopped (C.meaning clients.now) links.now node.old.store
@@ -48,7 +49,8 @@ pub fn attach_all<H: Host, C: Clients>(
     Ok(())
 }
 
-/// Makes turns until the run is over or all were made, and answers whether it is over.
+/// Makes turns until the run is over or all were made, and answers whether it is over. Nothing was
+/// heard before on any link.
 pub fn make_turns<H: Host, C: Clients>(
     node: &mut Node,
     host: &mut H,
@@ -58,14 +60,16 @@ pub fn make_turns<H: Host, C: Clients>(
     requires still_open { node.old.closed ≡ false }
     requires may { MayRun (C.meaning clients.now) node.old (H.tells host.old) }
     requires node { IsNode node.old }
-    ensures stands { StandsBy (C.meaning clients.now) (length node.old.links) node.new
+    requires read { AllRead silent node.old.links }
+    ensures stands { StandsBy (C.meaning clients.now) (length node.old.links) node.old node.new
         (H.tells host.old) (H.tells host.new) result }
-    ensures keeps { CallGoes node.old node.new (H.tells host.old) (H.tells host.new) }
-    ensures went { IfOk result (MakesTurns (C.meaning clients.now) limits node.old.first
-        node.old.links node.new.links node.old.store node.new.store (H.tells host.old)
-        (H.tells host.new)) }
-    ensures stopped { IfErr result (TurnsStopped (C.meaning clients.now) limits node.old.first
-        node.old.links node.old.store node.new.store (H.tells host.old) (H.tells host.new)) }
+    ensures went { IfOk result (EndsFrom (C.meaning clients.now) limits node.old.first
+        (before_turns node.old.links silent node.old.store.state.facts) node.new.links
+        node.old.store node.new.store (H.tells host.old) (H.tells host.new)) }
+    ensures stopped { IfErr result (StopsFrom (C.meaning clients.now)
+        (terms_at limits node.old.first)
+        (before_turns node.old.links silent node.old.store.state.facts) node.old.store
+        node.new.store (H.tells host.old) (H.tells host.new)) }
 {
     let mut still = 0;
     'turns: for _ in 0..limits.turns {

@@ -1,19 +1,20 @@
 -- What an added entry leaves: it stands in the journal with settling behind it, or at most that does where the disk stopped.
 use Rattle.std.proofs.Common.{◌≡◌, ◌≢◌, ℕ, ◌+◌, ◌*◌, ◌<◌, length, length-append, arith, List, [], ◌∷◌, ◌++◌, refl, sym, ap, ◌∙◌, subst, Option, Some, Result, Ok, Err}
 use Rattle.std.specs.Option.{option_map}
-use Rattle.outside.specs.Files.{Two, File, read_files}
-use Rattle.outside.specs.Links.{Links, sent_of}
-use Rattle.outside.specs.Outside.{MakesAtMost, Moment, Outside}
+use Rattle.outside.specs.Files.{Two, File}
+use Rattle.outside.specs.Outside.{MakesAtMost, Outside}
 use Rattle.outside.specs.HostTold.{host_told}
-use Rattle.outside.specs.MemHost.{MemHostValue, upcoming_of}
+use Rattle.outside.specs.MemDisk.{disk_files, files_of}
+use Rattle.outside.specs.MemHost.{MemHostValue}
 use Rattle.client_basic.specs.Bodies.{bundle_meaning}
-use Rattle.entry_codec.specs.Standing.{stands, journal}
 use Rattle.sync_rules.specs.declared.entries.Entry.{Entry}
 use Rattle.sync_rules.specs.declared.entries.Entry.TheVariants as entry
 use Rattle.sync_rules.specs.Facts.{Facts, after_all, after_batches, facts}
 use Rattle.sync_rules.specs.Legal.{AllSettling}
 use Rattle.sync_rules.specs.Steps.{IsSettled}
 use Rattle.sync_store.specs.Commits.{needed}
+use Rattle.sync_store.specs.Fitting.{FitsFiles}
+use Rattle.sync_store.specs.Moments.{LeadsTo}
 use Rattle.sync_store.specs.Ready.{IsReady}
 use Rattle.sync_store.specs.Runs.{AddsBatch}
 use Rattle.sync_store.specs.Store.{StoreValue}
@@ -27,84 +28,57 @@ use Rattle.sync_node.specs.declared.fault.NodeFault.{NodeFault}
 use Rattle.sync_node.specs.declared.fault.NodeFault.TheVariants as node_fault
 use Rattle.sync_node.specs.declared.link.Link.{Link}
 use Rattle.sync_node.specs.Node.{NodeValue}
-use Rattle.world_devices.specs.Devices.{DeviceValue, HostGoesOn, IsAnew, IsRunning}
-use Rattle.world_devices.specs.Doing.{DeviceAddsEntry, BreaksOff, CameAdding, HasEntryAdded, HasAtMost, HoldsAtMost, IsAhead, KeepsOwn, KeepsRest, OfNode, StopsIn}
-use Rattle.world_devices.specs.Keeping.{Journal}
+use Rattle.world_devices.specs.Devices.{DeviceValue, IsAnew, IsRunning}
+use Rattle.world_devices.specs.Doing.{CameAdding, DeviceAddsEntry, EntryPassesLimit, HoldsSettled, KeepsOwn, KeepsRest}
+use Rattle.world_devices.specs.Keeping.{Journal, LeavesSome}
 use Rattle.world_devices.specs.Cited.{SettlingLeaves}
 use Rattle.world_devices.specs.Linking.{IsBare, WhenDone}
 use Rattle.world_devices.specs.Running.{HoldsAfterCrash}
 use Rattle.world_devices.specs.declared.stop.Ran.{Ran}
 use Rattle.world_devices.specs.declared.stop.Ran.TheVariants as ran
 use Rattle.world_devices.specs.declared.stop.StepFault.{StepFault}
-use Rattle.world_devices.proofs.HostLaws.{quiet_same, silent_linked, told_host}
+use Rattle.world_devices.proofs.HostLaws.{anew_linked}
+use Rattle.world_devices.proofs.KeepLaws.{holds_fits, leads_leave, same_files}
 use Rattle.world_devices.proofs.RunningLaws.{LeadsAdding, journal_of, open_of}
 use Rattle.world_devices.proofs.StartLaws.{fits_hold}
-
--- ---- the journal that files hold
-
--- a journal for which they stand as they read is the one that they hold
-same_held : (j j0 : Journal) (h : MemHostValue) (two : Two File) → (host_told h).files ≡ Some two → HoldsAfterCrash j h → stands bundle_meaning (read_files two) ≡ journal j0 → j0 ≡ j
-same_held j j0 h two is holds stood =
-    let reads : stands bundle_meaning (read_files two) ≡ journal j = holds.each two is (read_files two) ((host_told h).reads two is) in
-    let both : journal j0 ≡ journal j = sym stood ∙ reads in
-    cc
+use Rattle.world_devices.proofs.TurnLaws.{of_node}
 
 -- ---- it was added
-
-abbrev links_of : Option NodeValue → Option (List Link)
-links_of node = option_map (λ (n : NodeValue). n.links) node
-
-abbrev told_links : MemHostValue → Links
-told_links h = (host_told h).links
 
 -- the batch stands, and what was to be settled behind it
 has_one : (batch : List Entry) (more : List (List Entry)) (f : Facts) → AddsBatch bundle_meaning f batch more → more ≢ [] → (rest : List (List Entry)) × (more ≡ batch ∷ rest) × AllSettling bundle_meaning (after_all f batch) rest
 has_one batch [] f adds some = absurd (some refl)
 has_one batch (b ∷ rest) f adds some = (rest, ap (λ (x : List Entry). x ∷ rest) adds.0, adds.1)
 
-has_added : (e : Entry) (batch : List Entry) (s s' : StoreValue) (h h' : MemHostValue) (new : DeviceValue) → batch ≡ e ∷ [] → IsReady bundle_meaning s (host_told h).files → Added bundle_meaning batch s s' (host_told h) (host_told h') → new.host ≡ h'
-    → (j : Journal) → HoldsAfterCrash j h → HasEntryAdded e j new
-has_added e batch s s' h h' new is ready added at j holds =
+pub has_added : (e : Entry) (batch : List Entry) (s s' : StoreValue) (h h' : MemHostValue) → batch ≡ e ∷ [] → IsReady bundle_meaning s (host_told h).files → Added bundle_meaning batch s s' (host_told h) (host_told h')
+    → (j : Journal) → HoldsAfterCrash j h → HoldsSettled (AddsOne bundle_meaning j (e ∷ [])) h'
+has_added e batch s s' h h' is ready added j holds =
     let has = journal_of s h ready in
-    let same : has.whole ≡ j = same_held j has.whole h (told_host h).two (told_host h).files_are holds has.fits.stands_for in
-    let behind = added.by.did.fits has.whole ((told_host h).two, (told_host h).files_are, has.fits) in
+    let same : has.whole ≡ j = holds_fits s j has.whole h holds has.fits in
+    let behind = added.by.did.fits has.whole (files_of (disk_files h.disk), refl, has.fits) in
     let whole : List (List Entry) = has.whole ++ batches_in (commit_acts added.by.more) in
-    let now = journal_of s' h' added.by.ready in
+    let fits : FitsFiles bundle_meaning s' whole (files_of (disk_files h'.disk)) = subst (λ (t : Two File). FitsFiles bundle_meaning s' whole t) (sym (same_files h' behind.0 behind.1)) behind.2 in
     let one = has_one batch added.by.more s.state.facts added.by.adds added.some in
     let f : s.state.facts ≡ facts j = sym has.fits.facts_are ∙ ap facts same in
-    let stood : stands bundle_meaning (read_files (told_host h').two) ≡ journal whole =
-    (let both : Some behind.0 ≡ Some (told_host h').two = sym behind.1 ∙ (told_host h').files_are in
-    let two : behind.0 ≡ (told_host h').two = cc in
-    subst (λ (t : Two File). stands bundle_meaning (read_files t) ≡ journal whole) two behind.2.stands_for) in
-    let both : journal now.whole ≡ journal whole = sym now.fits.stands_for ∙ stood in
-    let are : now.whole ≡ whole = cc in
     record {
-      whole = now.whole;
-      adds = subst (λ (b : List Entry). AddsOne bundle_meaning j b now.whole) is (record {
+      whole = whole;
+      has = subst (λ (b : List Entry). AddsOne bundle_meaning j b whole) is (record {
         more = one.0;
         settling = subst (λ (g : Facts). AllSettling bundle_meaning (after_all g batch) one.0) f one.2;
         is =
-            are ∙ ap (λ (bs : List (List Entry)). has.whole ++ bs) (batches_in_commits added.by.more ∙ one.1)
+            ap (λ (bs : List (List Entry)). has.whole ++ bs) (batches_in_commits added.by.more ∙ one.1)
             ∙ ap (λ (k : Journal). k ++ (batch ∷ one.0)) same;
       });
-      settled = subst (λ (g : Facts). IsSettled bundle_meaning g) (sym now.fits.facts_are) added.settled;
-      holds = subst (λ (x : MemHostValue). HoldsAfterCrash now.whole x) (sym at) (fits_hold s' now.whole h' now.fits);
+      settled = subst (λ (g : Facts). IsSettled bundle_meaning g) (sym fits.facts_are) added.settled;
+      holds = fits_hold s' whole h' fits;
     }
 
-pub adds_done : (e : Entry) (batch : List Entry) (n n' : NodeValue) (h h' : MemHostValue) (links : ℕ) (d old new : DeviceValue) → d ≡ old → batch ≡ e ∷ [] → IsRunning n h links → Added bundle_meaning batch n.store n'.store (host_told h) (host_told h')
-    → (host_told h').links ≡ (host_told h).links
-    → d.host ≡ h → new.host ≡ h' → d.node ≡ Some n → new.node ≡ Some n' → n'.links ≡ n.links → new.clock ≡ d.clock → new.stop ≡ d.stop
-    → HostGoesOn d.host new.host → IsAhead new.stop new.host → KeepsOwn old new × ((j : Journal) → HoldsAfterCrash j old.host → HasEntryAdded e j new) × KeepsRest old new
-adds_done e batch n n' h h' linked d old new seen is run added same its its' was now links clock stop since ahead =
-    let P : DeviceValue → Type 0 = λ x. KeepsOwn x new × ((j : Journal) → HoldsAfterCrash j x.host → HasEntryAdded e j new) × KeepsRest x new in
-    subst P seen (
-      record { clock = clock; stop = stop; since = since; ahead = ahead },
-      λ j holds. has_added e batch n.store n'.store h h' new is (open_of n h linked run) added its' j (subst (λ (x : MemHostValue). HoldsAfterCrash j x) its holds),
-      record {
-        node = ap links_of now ∙ ap (λ (l : List Link). Some l) links ∙ sym (ap links_of was);
-        told = ap told_links its' ∙ same ∙ sym (ap told_links its);
-      },
-    )
+abbrev links_of : Option NodeValue → Option (List Link)
+links_of node = option_map (λ (n : NodeValue). n.links) node
+
+-- all but the journal is as it was
+pub rest_is : (n n' : NodeValue) (old new : DeviceValue) → old.node ≡ Some n → new.node ≡ Some n' → n'.links ≡ n.links → (host_told new.host).links ≡ (host_told old.host).links → KeepsRest old new
+rest_is n n' old new was now links told = record { node = ap links_of now ∙ ap (λ (l : List Link). Some l) links ∙ sym (ap links_of was); told = told }
 
 -- settling leaves all but what is judged: after a contact was added there is one more
 pub bare_added : SettlingLeaves → (contacts number : ℕ) (e : Entry) (batch : List Entry) (s s' : StoreValue) (o o' : Outside) → batch ≡ e ∷ [] → e ≡ entry.Contact number
@@ -121,24 +95,18 @@ bare_added laws contacts number e batch s s' o o' single is added bare =
           ∙ (kept.contacts ∙ (ap (λ (b : List Entry). (after_all s.state.facts b).contacts) contact ∙ ap (λ (k : ℕ). k + 1) bare.counted));
     }
 
--- ---- the disk stopped
+-- ---- it was broken off
 
-pub at_most : (e : Entry) (batch : List Entry) (n n' : NodeValue) (h h' : MemHostValue) (links : ℕ) → batch ≡ e ∷ [] → LeadsAdding batch n n' h h' → IsRunning n h links
-    → (j : Journal) → HoldsAfterCrash j h → HoldsAtMost e j h'
+-- a journal that fits has at most the batch behind one that was held
+at_most : (e : Entry) (batch : List Entry) (n n' : NodeValue) (h h' : MemHostValue) (links : ℕ) → batch ≡ e ∷ [] → LeadsAdding batch n n' h h' → IsRunning n h links
+    → (j : Journal) → HoldsAfterCrash j h → LeavesSome (AddsAtMost bundle_meaning j (e ∷ [])) (host_told h')
 at_most e batch n n' h h' links is leads run j holds =
     let has = journal_of n.store h (open_of n h links run) in
-    let same : has.whole ≡ j = same_held j has.whole h (told_host h).two (told_host h).files_are holds has.fits.stands_for in
-    let led = leads (told_host h).two (told_host h).files_are has.whole has.fits in
-    record {
-      each = λ two told left image.
-          let m : Moment = record { files = left; sent = sent_of (host_told h').links.told } in
-          let since = led.moments.each m ((host_told h').since (host_told h).clock m led.moments.later ((host_told h').is_now two m told (record { image = image; sent = refl }))) in
-          record {
-            whole = since.whole;
-            at_most = subst (λ (b : List Entry). AddsAtMost bundle_meaning j b since.whole) is (subst (λ (k : Journal). AddsAtMost bundle_meaning k batch since.whole) same since.has);
-            stands_for = since.stands_for;
-          };
-    }
+    let same : has.whole ≡ j = holds_fits n.store j has.whole h holds has.fits in
+    let led = leads (files_of (disk_files h.disk)) refl has.whole has.fits in
+    leads_leave (AddsAtMost bundle_meaning j (e ∷ [])) (AddsAtMost bundle_meaning j (e ∷ [])) n'.store (host_told h) (host_told h')
+    (subst (λ (k : Journal). LeadsTo bundle_meaning (AddsAtMost bundle_meaning k (e ∷ [])) (AddsAtMost bundle_meaning k (e ∷ [])) n'.store (host_told h) (host_told h')) same
+    (subst (λ (b : List Entry). LeadsTo bundle_meaning (AddsAtMost bundle_meaning has.whole b) (AddsAtMost bundle_meaning has.whole b) n'.store (host_told h) (host_told h')) is led))
 
 -- where it is full the journal would pass its limit
 pub adding_over : (batch : List Entry) (s s' : StoreValue) (o o' : Outside) (x : NodeFault) → x ≡ node_fault.Full → ByFault (AddStops bundle_meaning batch s s' o o') x → s.limit < needed s batch
@@ -180,40 +148,26 @@ adds_within batch s s' o o' node_fault.DiskFault by = record {
 }
 adds_within batch s s' o o' node_fault.Closed none = absurd none
 
--- of the node that a device has
-pub of_node : (P : NodeValue → Type 0) (n : NodeValue) (maybe : Option NodeValue) → maybe ≡ Some n → P n → OfNode P maybe
-of_node P n maybe is holds = subst (λ (x : Option NodeValue). OfNode P x) (sym is) holds
+-- adding came to this host
+pub came_adding : (e : Entry) (batch : List Entry) (n n' : NodeValue) (node : Option NodeValue) (h at : MemHostValue) (links : ℕ) → batch ≡ e ∷ [] → LeadsAdding batch n n' h at → IsRunning n h links → node ≡ Some n
+    → AddsWithin bundle_meaning batch n.store (host_told h) (host_told at) → CameAdding e node h at
+came_adding e batch n n' maybe h at links is leads run was within = (
+  at_most e batch n n' h at links is leads run,
+  of_node (λ (m : NodeValue). AddsWithin bundle_meaning (e ∷ []) m.store (host_told h) (host_told at)) n maybe was
+      (subst (λ (b : List Entry). AddsWithin bundle_meaning b n.store (host_told h) (host_told at)) is within),
+)
 
-pub adds_crashed : (e : Entry) (batch : List Entry) (n n' : NodeValue) (h h' : MemHostValue) (links : ℕ) (d old new : DeviceValue) → d ≡ old → batch ≡ e ∷ [] → LeadsAdding batch n n' h h' → IsRunning n h links
-    → d.host ≡ h → HostGoesOn d.host h' → BreaksOff d.stop h' new → new.clock ≡ d.clock → d.node ≡ Some n → AddsWithin bundle_meaning batch n.store (host_told h) (host_told h')
-    → StopsIn (λ at. HasAtMost e old at × CameAdding e old at) old new
-adds_crashed e batch n n' h h' links d old new seen is leads run its since off clock was within =
-    let P : DeviceValue → Type 0 = λ x. StopsIn (λ at. HasAtMost e x at × CameAdding e x at) x new in
-    let came : CameAdding e d h' = of_node (λ (m : NodeValue). AddsWithin bundle_meaning (e ∷ []) m.store (host_told d.host) (host_told h')) n d.node was
-    (subst (λ (x : MemHostValue). AddsWithin bundle_meaning (e ∷ []) n.store (host_told x) (host_told h')) (sym its)
-    (subst (λ (b : List Entry). AddsWithin bundle_meaning b n.store (host_told h) (host_told h')) is within)) in
-    subst P seen (record {
-      at = h';
-      since = since;
-      broken = (λ j holds. at_most e batch n n' h h' links is leads run j (subst (λ (x : MemHostValue). HoldsAfterCrash j x) its holds), came);
-      off = off;
-      clock = clock;
-    })
+-- of a node with whose entry the journal would pass its limit
+pub passes_limit : (e : Entry) (batch : List Entry) (n : NodeValue) (node : Option NodeValue) → node ≡ Some n → batch ≡ e ∷ [] → n.store.limit < needed n.store batch → EntryPassesLimit e node
+passes_limit e batch n maybe is single over =
+    subst (λ (x : Option NodeValue). EntryPassesLimit e x) (sym is) (subst (λ (b : List Entry). n.store.limit < needed n.store b) single over)
 
 -- ---- a host that is anew stays so
 
 pub anew_kept : (clock : ℕ) (old new : DeviceValue) → KeepsRest old new → IsAnew clock old.host → IsAnew clock new.host
-anew_kept clock old new rest anew =
-    let both : Some (upcoming_of new.host.clock) ≡ Some (upcoming_of old.host.clock) = ap (λ (l : Links). l.upcoming) rest.told in
-    let kept : upcoming_of new.host.clock ≡ upcoming_of old.host.clock = cc in
-    record {
-      dialled = ap (λ (l : Links). l.dialled) rest.told ∙ anew.dialled;
-      silent = silent_linked old.host new.host rest.told anew.silent;
-      quiet = quiet_same (host_told old.host) (host_told new.host) rest.told anew.quiet;
-      upcoming = kept ∙ anew.upcoming;
-    }
+anew_kept clock old new rest anew = anew_linked clock old.host new.host rest.told anew
 
 pub rest_kept : (e : Entry) (r : Result Ran StepFault) (old new : DeviceValue) → DeviceAddsEntry e r old new → WhenDone r (KeepsOwn old new × KeepsRest old new)
-rest_kept e (Ok ran.Done) old new adds = (adds.0, adds.2)
+rest_kept e (Ok ran.Done) old new adds = (adds.0, adds.1.1)
 rest_kept e (Ok ran.Crashed) old new adds = tt
 rest_kept e (Err f) old new adds = tt

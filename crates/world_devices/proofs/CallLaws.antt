@@ -1,8 +1,7 @@
 -- What a call of a device comes to: how its journal goes on, and what its links bring.
-use Rattle.std.proofs.Common.{◌≡◌, ◌⊎◌, ℕ, ◌+◌, ◌-◌, ◌<◌, Bool, true, false, cond, nat_eq, nat_le, nat_lt, List, [], ◌∷◌, ◌++◌, length, length-append, suc, refl, sym, ap, ◌∙◌, subst, inl, inr, arith, append-nil, append_assoc, Option, Some, None, is_some, Result, Ok, Err, OnOk, OnErr}
+use Rattle.std.proofs.Common.{◌≡◌, ◌⊎◌, ℕ, ◌+◌, ◌-◌, ◌<◌, Bool, true, false, cond, nat_eq, nat_le, nat_lt, List, [], ◌∷◌, ◌++◌, length, length-append, suc, refl, sym, ap, ◌∙◌, subst, inl, inr, arith, append-nil, append_assoc, Option, Some, None, is_some}
 use Rattle.std.proofs.lemmas.Bool.{and_from, cases_lt, le-leb, lt-ltb}
 use Rattle.outside.specs.Files.{Two, File, read_files}
-use Rattle.outside.specs.Outside.{Outside}
 use Rattle.outside.specs.Runs.{answers_at, heard_bytes}
 use Rattle.outside.specs.HostTold.{host_told}
 use Rattle.outside.specs.MemHost.{MemHostValue, plans_of}
@@ -40,8 +39,6 @@ use Rattle.sync_node.specs.Plans.{session_of}
 use Rattle.world_laws.specs.Worlds.{HasSession}
 use Rattle.sync_store.specs.Store.{StoreValue}
 use Rattle.sync_store.specs.Ready.{IsReady}
-use Rattle.sync_store.specs.Settling.{HasSettled}
-use Rattle.sync_store.specs.declared.fault.StoreFault.{StoreFault}
 use Rattle.sync_rules.specs.declared.entries.Entry.{Entry}
 use Rattle.sync_node.specs.Adding.{IsPlain}
 use Rattle.sync_node.specs.Batches.{AddStops, Added}
@@ -51,21 +48,20 @@ use Rattle.sync_node.specs.OnRuns.{BeginStopped, BeginWent, ByFault, RoundStoppe
 use Rattle.sync_node.specs.declared.fault.NodeFault.{NodeFault}
 use Rattle.sync_node.specs.declared.link.Link.{Link}
 use Rattle.sync_node.specs.Output.{heard_on, output}
-use Rattle.outside.specs.MemDisk.{disk_files, files_of}
-use Rattle.outside.specs.MemHost.{CrashesHost, fresh_host}
-use Rattle.outside.specs.declared.pick.Pick.{Pick}
-use Rattle.std.specs.declared.alloc.AllocError.{AllocError}
-use Rattle.world_devices.specs.Brought.{IsSilent, brought_on, bytes_of, planned_bytes}
-use Rattle.world_devices.specs.Linking.{AddsLink, KeepsLinks, LinksStand, PlansMore, first_of, number_of}
+use Rattle.world_devices.specs.Brought.{brought_on, bytes_of, planned_bytes}
+use Rattle.world_devices.specs.Linking.{AddsLink, HoldsSome, KeepsLinks, LinksStand, PlansMore, first_of, number_of}
 use Rattle.world_devices.specs.Cited.{DeviceLaws}
 use Rattle.world_devices.specs.Devices.{DeviceValue, IsReadyStore, IsRunning, MayAddEntry, MayBeRunning, links_made}
-use Rattle.world_devices.specs.Keeping.{Journal, KeepsOn, TellsSame}
-use Rattle.world_devices.specs.Running.{DeviceRuns, GoOnHearing, HoldsAfterCrash, IsStill, LeavesOn, MayLeave, ReadsAsJournal, is_session_of, records_for}
+use Rattle.world_devices.specs.Doing.{ComesOf}
+use Rattle.world_devices.specs.Keeping.{Journal, KeepsOn, LeavesSome}
+use Rattle.world_devices.specs.Running.{DeviceRuns, HoldsAfterCrash, IsStill, ReadsAsJournal, WentHearing, is_session_of, records_for}
 use Rattle.world_devices.specs.Running as running
 use Rattle.world_devices.proofs.BroughtLaws.{plans_bring, told_brings, told_heard}
 use Rattle.sync_course.proofs.HeardLaws.{bytes_by, bytes_of as event_bytes}
-use Rattle.world_devices.proofs.HostLaws.{crash_images, files_anew, silent_linked, silent_on, told_host}
-use Rattle.world_devices.proofs.LeaveLaws.{comes_still, leave_held, leave_same, leave_settling, still_fits}
+use Rattle.world_devices.proofs.HostLaws.{told_host}
+use Rattle.world_devices.proofs.KeepLaws.{crash_same, holds_fits, holds_some, same_files}
+use Rattle.world_devices.proofs.LeaveLaws.{comes_still, hears_none, still_fits}
+use Rattle.world_devices.proofs.StartLaws.{comes_hears, comes_keeps, fits_hold}
 use Rattle.world_devices.proofs.RunLaws.{CallDid, CallEnds, add_ends, add_stopped, all_sent_on, begin_ends, begin_stopped, call_keeps, call_takes, ended_did, place_adds, turn_ends, turn_stopped}
 use Rattle.world_devices.proofs.RunningLaws.{BringsAll, journal_of, open_of, running_of, silent_past}
 
@@ -75,13 +71,11 @@ use Rattle.world_devices.proofs.RunningLaws.{BringsAll, journal_of, open_of, run
 holds_reads : (j : Journal) (h : MemHostValue) → HoldsAfterCrash j h → ReadsAsJournal j h
 holds_reads j h holds = record { each = λ two is. holds.each two is (read_files two) ((host_told h).reads two is) }
 
-holds_files : (j : Journal) (h h' : MemHostValue) → (host_told h').files ≡ (host_told h).files → HoldsAfterCrash j h → HoldsAfterCrash j h'
-holds_files j h h' same holds = record { each = λ two is left image. holds.each two (sym same ∙ is) left image }
-
 pub runs_files : (old new : DeviceValue) → (host_told new.host).files ≡ (host_told old.host).files → DeviceRuns old new
 runs_files old new same = record {
   comes = λ j holds.
-      let whole : HoldsAfterCrash (j ++ []) new.host = subst (λ (k : Journal). HoldsAfterCrash k new.host) (sym (append-nil j)) (holds_files j old.host new.host same holds) in
+      let kept : HoldsAfterCrash j new.host = crash_same (λ left. stands bundle_meaning left ≡ journal j) (host_told old.host) (host_told new.host) same holds in
+      let whole : HoldsAfterCrash (j ++ []) new.host = subst (λ (k : Journal). HoldsAfterCrash k new.host) (sym (append-nil j)) kept in
       record { more = []; allowed = tt; plain = refl; all_heard = tt; reads = holds_reads (j ++ []) new.host whole; holds = λ _. whole };
 }
 
@@ -103,7 +97,7 @@ known_link n h links link run =
     no_plan_bytes [] b none = none
     no_plan_bytes (x ∷ a) b none = cc
 
-pub call_brings : (n : NodeValue) (h h' : MemHostValue) (links : ℕ) → IsRunning n h links → CallDid n (host_told h) (host_told h') → BringsAll h h'
+call_brings : (n : NodeValue) (h h' : MemHostValue) (links : ℕ) → IsRunning n h links → CallDid n (host_told h) (host_told h') → BringsAll h h'
 call_brings n h h' links run did link = told_brings (events_of did.acts) h h' link did.tells (known_link n h links link run)
 
 -- ---- what is taken
@@ -185,9 +179,6 @@ module _ (n n' : NodeValue) (h h' : MemHostValue) (links : ℕ) (run : IsRunning
   turn_done quiet is_node w =
       turn_ends n n' (host_told h) (host_told h') (told_host h) (silent_past n h links run) run.runs quiet (omega (arith, is_node.few, run.dialled)) w
 
-  pub turn_did : (quiet : Bool) → IsNode n' → RoundWent bundle_meaning n.first n.links n'.links n.store n'.store (host_told h) (host_told h') quiet → CallDid n (host_told h) (host_told h')
-  turn_did quiet is_node w = ended_did n n' (host_told h) (host_told h') (turn_done quiet is_node w)
-
   pub turn_broke : (x : NodeFault) → ByFault (RoundStopped bundle_meaning n.first n.links n'.links n.store n'.store (host_told h) (host_told h')) x → CallDid n (host_told h) (host_told h')
   turn_broke x stopped = turn_stopped n n' (host_told h) (host_told h') (told_host h) (silent_past n h links run) run.runs x stopped
 
@@ -196,10 +187,6 @@ module _ (n n' : NodeValue) (h h' : MemHostValue) (links : ℕ) (run : IsRunning
   begin_done session number is_node w =
       begin_ends n n' (host_told h) (host_told h') (told_host h) (silent_past n h links run) run.runs session (number ∙ (run.attached.attached run.unclosed).begun)
       (omega (arith, is_node.few, run.dialled)) w
-
-  pub begin_did : (session : Session) → session.number ≡ n.store.state.facts.begun → IsNode n' → BeginWent bundle_meaning session n.links n'.links n.store n'.store (host_told h) (host_told h')
-      → CallDid n (host_told h) (host_told h')
-  begin_did session number is_node w = ended_did n n' (host_told h) (host_told h') (begin_done session number is_node w)
 
   pub begin_broke : (session : Session) (x : NodeFault) → ByFault (BeginStopped bundle_meaning session n.links n'.links n.store n'.store (host_told h) (host_told h')) x → CallDid n (host_told h) (host_told h')
   begin_broke session x stopped = begin_stopped n n' (host_told h) (host_told h') (told_host h) (silent_past n h links run) run.runs session x stopped
@@ -216,94 +203,84 @@ module _ (n n' : NodeValue) (h h' : MemHostValue) (links : ℕ) (run : IsRunning
     add_done same added =
         add_ends n n' (host_told h) (host_told h') batch plain allowed (told_host h) (silent_past n h links run) run.runs (omega (arith, run.attached.few, run.dialled)) same added
 
-    pub add_did : n'.links ≡ n.links → Added bundle_meaning batch n.store n'.store (host_told h) (host_told h') → CallDid n (host_told h) (host_told h')
-    add_did same added = ended_did n n' (host_told h) (host_told h') (add_done same added)
-
     pub add_broke : (x : NodeFault) → ByFault (AddStops bundle_meaning batch n.store n'.store (host_told h) (host_told h')) x → CallDid n (host_told h) (host_told h')
     add_broke x stopped = add_stopped n n' (host_told h) (host_told h') batch plain allowed x stopped
 
 -- ---- what calls may leave
 
-pub call_keeps_on : DeviceLaws → (n : NodeValue) (h h' : MemHostValue) (links : ℕ) → IsRunning n h links → CallDid n (host_told h) (host_told h') → KeepsOn (host_told h) (host_told h')
-call_keeps_on laws n h h' links run did = call_keeps laws.moments n (host_told h) (host_told h') (told_host h) run.runs did
+-- what a call of its node leaves of a device: a journal that goes on from each before, and took only what its links brought
+pub record DeviceLeaves (node : Option NodeValue) (h at : MemHostValue) : Type 0 where
+  pub keeps : KeepsOn (host_told h) (host_told at)
+  pub hears : (j : Journal) → HoldsAfterCrash j h → LeavesSome (WentHearing (running.records_of node h) j) (host_told at)
 
-pub call_leaves : DeviceLaws → (n : NodeValue) (h h' : MemHostValue) (links : ℕ) → IsRunning n h links → CallDid n (host_told h) (host_told h')
-    → (j : Journal) → HoldsAfterCrash j h → MayLeave (running.records_of (Some n) h) j (host_told h')
-call_leaves laws n h h' links run did j holds =
-    call_takes laws.moments n (host_told h) (host_told h') (told_host h) run.runs did (running.records_of (Some n) h) j (was_brought laws.fronts n h h' links run did) (leave_held (running.records_of (Some n) h) j h holds)
+pub device_leaves : DeviceLaws → (node : Option NodeValue) (n : NodeValue) (h at : MemHostValue) (links : ℕ) → node ≡ Some n → IsRunning n h links → CallDid n (host_told h) (host_told at) → DeviceLeaves node h at
+device_leaves laws maybe n h at links is run did =
+    let taken : ℕ → List Record = running.records_of (Some n) h in
+    subst (λ (x : Option NodeValue). DeviceLeaves x h at) (sym is) (record {
+      keeps = call_keeps laws.moments n (host_told h) (host_told at) (told_host h) run.runs did;
+      hears = λ j holds.
+          call_takes laws.moments n (host_told h) (host_told at) (told_host h) run.runs did taken j (was_brought laws.fronts n h at links run did)
+          (holds_some (WentHearing taken j) j h (hears_none taken j) holds);
+    })
+
+-- and what comes of that
+pub leaves_on : (node : Option NodeValue) (h at new : MemHostValue) → DeviceLeaves node h at → ComesOf at new → DeviceLeaves node h new
+leaves_on node h at new leaves comes = record {
+  keeps = λ j k. comes_keeps at new comes j (leaves.keeps j k);
+  hears = λ j holds. comes_hears (running.records_of node h) j at new comes (leaves.hears j holds);
+}
+
+pub leaves_come : (node : Option NodeValue) (h at : MemHostValue) → ComesOf h at → DeviceLeaves node h at
+leaves_come node h at comes = record {
+  keeps = comes_keeps h at comes;
+  hears = λ j holds. comes_hears (running.records_of node h) j h at comes (holds_some (WentHearing (running.records_of node h) j) j h (hears_none (running.records_of node h) j) holds);
+}
+
+-- of a device that is another one by name
+pub leaves_keeps : (d old : DeviceValue) (at : MemHostValue) → d ≡ old → DeviceLeaves d.node d.host at → KeepsOn (host_told old.host) (host_told at)
+leaves_keeps d old at is leaves = subst (λ (x : DeviceValue). KeepsOn (host_told x.host) (host_told at)) is leaves.keeps
+
+pub leaves_runs : DeviceLaws → (d old new : DeviceValue) → d ≡ old → DeviceLeaves d.node d.host new.host → (is_some new.node ≡ true → IsStill new.host) → DeviceRuns old new
+leaves_runs laws d old new is leaves still =
+    subst (λ (x : DeviceValue). DeviceRuns x new) is (record { comes = λ j holds. comes_still laws.legal (records_for d) j new (leaves.hears j holds) still })
 
 -- a disk that fits a store is still
 pub ready_still : (s : StoreValue) (h : MemHostValue) → IsReady bundle_meaning s (host_told h).files → IsStill h
-ready_still s h ready = let has = journal_of s h ready in still_fits s has.whole h (told_host h).two (told_host h).files_are has.fits
+ready_still s h ready = let has = journal_of s h ready in still_fits s has.whole h has.fits
 
--- of a device that runs, by what a call of its node did
-module _ (laws : DeviceLaws) (maybe : Option NodeValue) (n : NodeValue) (h h' : MemHostValue) (links : ℕ) (is : maybe ≡ Some n)
-    (runs : MayBeRunning maybe h links) (did : IsRunning n h links → CallDid n (host_told h) (host_told h')) where
-  pub device_keeps : KeepsOn (host_told h) (host_told h')
-  device_keeps = let run = running_of maybe n h links is runs in call_keeps_on laws n h h' links run (did run)
+-- a call of its node that ended
+pub record DidWell (node : Option NodeValue) (n n' : NodeValue) (h h' : MemHostValue) (links : ℕ) : Type 0 where
+  pub run : IsRunning n h links
+  pub ends : CallEnds n n' (host_told h) (host_told h')
+  pub leaves : DeviceLeaves node h h'
+  pub brings : BringsAll h h'
+  pub still : IsStill h'
 
-  pub device_leaves : (j : Journal) → HoldsAfterCrash j h → MayLeave (running.records_of maybe h) j (host_told h')
-  device_leaves j holds =
-      let run = running_of maybe n h links is runs in
-      subst (λ (x : Option NodeValue). MayLeave (running.records_of x h) j (host_told h')) (sym is) (call_leaves laws n h h' links run (did run) j holds)
-
--- and the disk is still behind a call that ended
-pub may_still : (maybe : Option NodeValue) (n n' : NodeValue) (h h' : MemHostValue) (links : ℕ) → maybe ≡ Some n → MayBeRunning maybe h links
-    → (n.closed ≡ false → n'.closed ≡ false) → MayRun bundle_meaning n' (host_told h') → IsStill h'
-may_still maybe n n' h h' links is runs opened may = ready_still n'.store h' (may (opened (running_of maybe n h links is runs).unclosed)).ready
-
-pub settle_leaves : (s s' : StoreValue) (result : Result (Unit {0}) StoreFault) (h h' : MemHostValue) → IsReady bundle_meaning s (host_told h).files
-    → HasSettled bundle_meaning s s' result (host_told h) (host_told h') → LeavesOn (host_told h) (host_told h')
-settle_leaves s s' result h h' ready settled =
-    let has = journal_of s h ready in
-    leave_settling settled.more has.whole s s' (host_told h) (host_told h') (told_host h).two (told_host h).files_are has.fits settled.comes.settling
-    (settled.comes.leads (told_host h).two (told_host h).files_are has.whole has.fits)
-
--- of a device that is another one by name
-pub runs_by : DeviceLaws → (d old new : DeviceValue) → d ≡ old → ((j : Journal) → HoldsAfterCrash j d.host → MayLeave (records_for d) j (host_told new.host)) → (is_some new.node ≡ true → IsStill new.host) → DeviceRuns old new
-runs_by laws d old new is leaves still =
-    subst (λ (x : DeviceValue). DeviceRuns x new) is (record {
-      comes = λ j holds. comes_still laws.legal (records_for d) j new (told_host new.host).two (told_host new.host).files_are (leaves j holds) still;
-    })
-
--- ---- a device that starts anew
-
-pub crash_leaves : (pick : Pick) (h h' : MemHostValue) (result : Result (Unit {0}) AllocError) → OnOk result (CrashesHost pick h h') → OnErr result (h' ≡ h) → LeavesOn (host_told h) (host_told h')
-crash_leaves pick h h' (Ok u) ok err heard j k = record { each = crash_images (GoOnHearing heard j) pick h h' ok (λ left image. k.each (files_of (disk_files h.disk)) refl left image) }
-crash_leaves pick h h' (Err e) ok err heard j k = leave_same (host_told h) (host_told h') (ap (λ (x : MemHostValue). (host_told x).files) err) heard j k
-
-pub anew_leaves : (h h' : MemHostValue) (result : Result (Unit {0}) AllocError) → OnOk result (h' ≡ fresh_host h.disk) → OnErr result (h' ≡ h) → LeavesOn (host_told h) (host_told h')
-anew_leaves h h' (Ok u) ok err = leave_same (host_told h) (host_told h') (files_anew h h' ok)
-anew_leaves h h' (Err e) ok err = leave_same (host_told h) (host_told h') (ap (λ (x : MemHostValue). (host_told x).files) err)
-
-pub start_leaves : (h0 h1 h2 h3 : MemHostValue) → (host_told h1).files ≡ (host_told h0).files → TellsSame (host_told h1) (host_told h2) → LeavesOn (host_told h2) (host_told h3)
-    → LeavesOn (host_told h0) (host_told h3)
-start_leaves h0 h1 h2 h3 dialled set loaded heard j k = loaded heard j (leave_same (host_told h0) (host_told h2) (set.files ∙ dialled) heard j k)
-
--- of a host that is another one by name
-pub leaves_seen : (h h' : MemHostValue) (o : Outside) → h ≡ h' → LeavesOn (host_told h) o → LeavesOn (host_told h') o
-leaves_seen h h' o is leaves = subst (λ (x : MemHostValue). LeavesOn (host_told x) o) is leaves
-
-pub silent_seen : (h h' : MemHostValue) → h ≡ h' → IsSilent h' → IsSilent h
-silent_seen h h' is silent = subst (λ (x : MemHostValue). IsSilent x) (sym is) silent
-
-pub silent_started : (h0 h1 h2 h3 : MemHostValue) → h1.scripts ≡ h0.scripts → h2.scripts ≡ h1.scripts → (host_told h3).links ≡ (host_told h2).links → IsSilent h0 → IsSilent h3
-silent_started h0 h1 h2 h3 dialled set loaded silent = silent_linked h2 h3 loaded (silent_on h0 h2 (set ∙ dialled) silent)
+pub did_well : DeviceLaws → (node : Option NodeValue) (n n' : NodeValue) (h h' : MemHostValue) (links : ℕ) → node ≡ Some n → MayBeRunning node h links
+    → (IsRunning n h links → CallEnds n n' (host_told h) (host_told h')) → (n.closed ≡ false → n'.closed ≡ false) → MayRun bundle_meaning n' (host_told h') → DidWell node n n' h h' links
+did_well laws node n n' h h' links is runs ends opened may =
+    let run = running_of node n h links is runs in
+    let did = ended_did n n' (host_told h) (host_told h') (ends run) in
+    record {
+      run = run;
+      ends = ends run;
+      leaves = device_leaves laws node n h h' links is run did;
+      brings = call_brings n h h' links run did;
+      still = ready_still n'.store h' (may (opened run.unclosed)).ready;
+    }
 
 -- ---- links
 
 -- the links of a node that a call leaves
-pub keeps_links : (n n' : NodeValue) (old new : DeviceValue) → old.node ≡ Some n → new.node ≡ Some n' → n'.first ≡ n.first → length n'.links ≡ length n.links → new.links ≡ old.links → BringsAll old.host new.host
+pub keeps_links : (n n' : NodeValue) (d old new : DeviceValue) → d ≡ old → d.node ≡ Some n → new.node ≡ Some n' → n'.first ≡ n.first → length n'.links ≡ length n.links → new.links ≡ d.links → BringsAll d.host new.host
     → KeepsLinks old new
-keeps_links n n' old new was is first number links brings = record {
-  same_first = ap first_of is ∙ ap (λ (k : ℕ). Some k) first ∙ sym (ap first_of was);
-  same_number = ap number_of is ∙ ap (λ (k : ℕ). Some k) number ∙ sym (ap number_of was);
-  same_links = links;
-  brings = brings;
-}
-
-pub links_seen : (d old new : DeviceValue) → d ≡ old → KeepsLinks d new → KeepsLinks old new
-links_seen d old new is keeps = subst (λ (x : DeviceValue). KeepsLinks x new) is keeps
+keeps_links n n' d old new seen was is first number links brings =
+    subst (λ (x : DeviceValue). KeepsLinks x new) seen (record {
+      same_first = ap first_of is ∙ ap (λ (k : ℕ). Some k) first ∙ sym (ap first_of was);
+      same_number = ap number_of is ∙ ap (λ (k : ℕ). Some k) number ∙ sym (ap number_of was);
+      same_links = links;
+      brings = brings;
+    })
 
 -- ---- a session that began
 
@@ -318,13 +295,6 @@ session_new (y ∷ sessions) s none =
 none_begun : (f : Facts) → IsConsistent f → (o : Option Session) → session_at f.sessions f.begun ≡ o → o ≡ None
 none_begun f consistent None is = refl
 none_begun f consistent (Some s) is = absurd (omega (arith, (consistent.sessions.each f.begun s is).begun))
-
--- the journal that files hold is that which the store has
-pub holds_fits : (s : StoreValue) (j j0 : Journal) (h : MemHostValue) → HoldsAfterCrash j h → FitsFiles bundle_meaning s j0 (told_host h).two → j0 ≡ j
-holds_fits s j j0 h holds fits =
-    let reads = holds.each (told_host h).two (told_host h).files_are (read_files (told_host h).two) ((host_told h).reads (told_host h).two (told_host h).files_are) in
-    let both : journal j0 ≡ journal j = sym fits.stands_for ∙ reads in
-    cc
 
 pub holds_facts : (s : StoreValue) (j : Journal) (h : MemHostValue) → IsReady bundle_meaning s (host_told h).files → HoldsAfterCrash j h → facts j ≡ s.state.facts
 holds_facts s j h ready holds =
@@ -346,14 +316,14 @@ has_begun s s' h h' session ready ready' is numbered j holds =
     }
 
 -- a link more
-pub adds_link : (plan : Plan) (nonce : Option (List ℕ)) (n n' : NodeValue) (h h' : MemHostValue) (links : ℕ) (old new : DeviceValue) → IsRunning n h links → IsReady bundle_meaning n'.store (host_told h').files
+pub adds_link : (plan : Plan) (nonce : Option (List ℕ)) (session : ℕ) (n n' : NodeValue) (h h' : MemHostValue) (links : ℕ) (old new : DeviceValue) → session ≡ n.store.state.facts.begun → IsRunning n h links → IsReady bundle_meaning n'.store (host_told h').files
     → n'.first ≡ n.first → length n'.links ≡ length n.links + 1 → BringsAll h h'
     → n'.store.state.facts ≡ after_all n.store.state.facts (entry.Session (session_of n.store.state.facts.begun plan nonce) ∷ [])
-    → old.node ≡ Some n → new.node ≡ Some n' → old.host ≡ h → new.host ≡ h' → old.links ≡ links → new.links ≡ links + 1 → AddsLink plan.contact n.store.state.facts.begun old new
-adds_link plan nonce n n' h h' links old new run ready same_first one_more brings is was now its its' at at' =
+    → old.node ≡ Some n → new.node ≡ Some n' → old.host ≡ h → new.host ≡ h' → old.links ≡ links → new.links ≡ links + 1 → AddsLink plan.contact session old new
+adds_link plan nonce session n n' h h' links old new so run ready same_first one_more brings is was now its its' at at' =
     let brought : BringsAll old.host new.host = subst (λ (x : MemHostValue). BringsAll x new.host) (sym its) (subst (λ (x : MemHostValue). BringsAll h x) (sym its') brings) in
     let begun : n.store.state.facts.begun ≡ n.first + old.links = omega (arith, (run.attached.attached run.unclosed).begun, run.linked, at) in
-    record {
+    subst (λ (k : ℕ). AddsLink plan.contact k old new) (sym so) (record {
       same_first = ap first_of now ∙ ap (λ (k : ℕ). Some k) same_first ∙ sym (ap first_of was);
       number = ap number_of now ∙ ap (λ (k : ℕ). Some k) (omega (arith, one_more, run.linked, at));
       one_more = omega (arith, at, at');
@@ -362,7 +332,7 @@ adds_link plan nonce n n' h h' links old new run ready same_first one_more bring
       quiet = brought old.links ∙ ap (λ (x : MemHostValue). brought_on x old.links) its ∙ run.unused old.links (omega (arith, at));
       begun = λ j holds.
           has_begun n.store n'.store h h' (session_of n.store.state.facts.begun plan nonce) (open_of n h links run) ready is refl j (subst (λ (x : MemHostValue). HoldsAfterCrash j x) its' holds);
-    }
+    })
 
 -- the store that is ready is the node's
 pub ready_store : (maybe : Option NodeValue) (n : NodeValue) (s : StoreValue) → maybe ≡ Some n → IsReadyStore maybe s → s ≡ n.store
@@ -414,9 +384,9 @@ links_stand laws n d j run holds =
     let same = holds_fits n.store j has.whole d.host holds has.fits in
     let f = holds_facts n.store j d.host ready holds in
     let so_far : Journal = run.runs.begin ++ batches_in run.runs.acts in
-    let both : Some run.runs.fits.0 ≡ Some (told_host d.host).two = sym run.runs.fits.1 ∙ (told_host d.host).files_are in
-    let two : run.runs.fits.0 ≡ (told_host d.host).two = cc in
-    let is : so_far ≡ j = holds_fits n.store j so_far d.host holds (subst (λ (t : Two File). FitsFiles bundle_meaning n.store so_far t) two run.runs.fits.2) in
+    let is : so_far ≡ j =
+    holds_fits n.store j so_far d.host holds
+    (subst (λ (t : Two File). FitsFiles bundle_meaning n.store so_far t) (sym (same_files d.host run.runs.fits.0 run.runs.fits.1)) run.runs.fits.2) in
     record {
       facts_are = sym f;
       legal = subst (λ (k : Journal). Legal bundle_meaning k) same has.fits.legal;
@@ -437,21 +407,20 @@ links_stand laws n d j run holds =
 pub own_scripts : (h h' : MemHostValue) (scripts : List (List Planned)) → h' ≡ record h { scripts = scripts } → h' ≡ record h { scripts = h'.scripts }
 own_scripts h h' scripts is = is ∙ ap (λ (s : List (List Planned)). record h { scripts = s }) (sym (ap (λ (x : MemHostValue). x.scripts) is))
 
-pub plans_one : (link : ℕ) (answer : Answer) (d new : DeviceValue) → new.host ≡ record d.host { scripts = new.host.scripts } → host.PlansAnswer link answer d.host.scripts new.host.scripts → link < d.links
-    → new.node ≡ d.node → new.links ≡ d.links → PlansMore link answer d new
-plans_one link answer d new is plans within same links = record {
-  same_node = same;
-  same_links = links;
-  here = λ _. brings_more d.host new.host link answer is plans;
-  others = λ i how.
-      elim how [
-        | inl other ↦ brings_other d.host new.host link answer is plans i other
-        | inr past ↦ absurd (omega (arith, past, within))
-      ];
-}
+pub plans_one : (link : ℕ) (answer : Answer) (d old new : DeviceValue) → d ≡ old → new.host ≡ record d.host { scripts = new.host.scripts } → host.PlansAnswer link answer d.host.scripts new.host.scripts → link < d.links
+    → new.node ≡ d.node → new.links ≡ d.links → PlansMore link answer old new
+plans_one link answer d old new seen is plans within same links =
+    subst (λ (x : DeviceValue). PlansMore link answer x new) seen (record {
+      same_node = same;
+      same_links = links;
+      here = λ _. brings_more d.host new.host link answer is plans;
+      others = λ i how.
+          elim how [
+            | inl other ↦ brings_other d.host new.host link answer is plans i other
+            | inr past ↦ absurd (omega (arith, past, within))
+          ];
+    })
 
-pub plans_seen : (link : ℕ) (answer : Answer) (d old new : DeviceValue) → d ≡ old → PlansMore link answer d new → PlansMore link answer old new
-plans_seen link answer d old new is plans = subst (λ (x : DeviceValue). PlansMore link answer x new) is plans
-
-pub adds_seen : (contact number session : ℕ) (old new : DeviceValue) → session ≡ number → AddsLink contact number old new → AddsLink contact session old new
-adds_seen contact number session old new is adds = subst (λ (k : ℕ). AddsLink contact k old new) (sym is) adds
+-- what the files of a device that runs hold
+pub held_of : (n : NodeValue) (d : DeviceValue) → IsRunning n d.host d.links → HoldsSome d
+held_of n d run = let has = journal_of n.store d.host (open_of n d.host d.links run) in record { journal = has.whole; holds = fits_hold n.store has.whole d.host has.fits }

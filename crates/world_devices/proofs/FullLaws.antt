@@ -1,14 +1,17 @@
 -- Where a batch has no room: each link that has not failed by then has sent all output of its session.
-use Rattle.std.proofs.Common.{◌≡◌, ℕ, zero, suc, ◌+◌, true, false, List, [], ◌∷◌, ◌++◌, refl, sym, ap, ◌∙◌, subst, inl, inr, append_assoc, Some}
+use Rattle.std.specs.Prelude.{◌≢◌}
+use Rattle.std.proofs.Common.{◌≡◌, ℕ, zero, suc, ◌+◌, true, false, List, [], ◌∷◌, ◌++◌, refl, sym, ap, ◌∙◌, subst, inl, inr, append_assoc, Option, Some}
 use Rattle.std.specs.Prelude.{slice_get}
 use Rattle.outside.specs.Files.{Two, File, read_files}
+use Rattle.outside.specs.HostTold.{host_told}
+use Rattle.outside.specs.MemDisk.{disk_files, files_of}
+use Rattle.outside.specs.MemHost.{MemHostValue}
 use Rattle.outside.specs.Outside.{Outside}
 use Rattle.outside.specs.Runs.{TellsAll}
 use Rattle.client_basic.specs.Bodies.{bundle_meaning}
 use Rattle.record_grammar.specs.Spelling.{spelled}
 use Rattle.entry_codec.specs.Standing.{stands, journal}
 use Rattle.sync_rules.specs.declared.entries.Entry.{Entry}
-use Rattle.sync_rules.specs.declared.entries.Session.{Session}
 use Rattle.sync_rules.specs.Facts.{facts}
 use Rattle.sync_rules.specs.Output.{sent}
 use Rattle.sync_store.specs.Fitting.{FitsFiles}
@@ -35,9 +38,11 @@ use Rattle.sync_node.specs.Went.{StopsFull}
 use Rattle.sync_node.specs.declared.fault.NodeFault.{NodeFault}
 use Rattle.sync_node.specs.declared.fault.NodeFault.TheVariants as node_fault
 use Rattle.sync_node.specs.declared.link.Link.{Link}
+use Rattle.sync_node.specs.declared.node.Plan.{Plan}
 use Rattle.sync_node.proofs.EventLaws.{runs_of}
 use Rattle.world_devices.specs.Cited.{FullIsSent}
-use Rattle.world_devices.specs.Fulls.{FullBeginning, FullSent, FullTurn}
+use Rattle.world_devices.specs.Doing.{FullAtBeginning, FullInTurn, FullSent, next_session}
+use Rattle.world_devices.proofs.HostLaws.{told_host}
 use Rattle.world_devices.specs.Keeping.{IsRunSoFar, Journal, node_place}
 use Rattle.world_devices.proofs.RunLaws.{NodeSteps, acts_fail, begin_from, free_path, node_failed, node_terms, one_of, turn_from, whole_path}
 
@@ -132,15 +137,15 @@ module _ (law : FullIsSent) (n : NodeValue) (links' : List Link) (s' : StoreValu
       node_failed links' heard i
       (fails_then (node_terms n) p links' heard n.store s' o o' stops opens i ((acts_fail n o run stops.went.acts (owing_free stops.to) free_acts).stays i failed))
 
-  link_sent : (i : ℕ) → has_failure i (events_of all_acts) ≡ false → (told' : TellsAll o') (whole : Journal) → FitsFiles bundle_meaning s' whole told'.two
-      → sent_on o'.links i ≡ output whole (n.first + i)
+  link_sent : (i : ℕ) → has_failure i (events_of all_acts) ≡ false → (two : Two File) → o'.files ≡ Some two → (whole : Journal)
+      → FitsFiles bundle_meaning s' whole two → sent_on o'.links i ≡ output whole (n.first + i)
   unfolding output
-  link_sent i well told' whole fits =
+  link_sent i well two is_two whole fits =
       let so_far : Journal = run.begin ++ batches_in run.acts in
       let behind = stops.went.did.fits so_far run.fits in
-      let two : behind.0 ≡ told'.two = (let both : Some behind.0 ≡ Some told'.two = sym behind.1 ∙ told'.files_are in cc) in
-      let reads : stands bundle_meaning (read_files told'.two) ≡ journal (so_far ++ batches_in stops.went.acts) =
-      subst (λ (t : Two File). stands bundle_meaning (read_files t) ≡ journal (so_far ++ batches_in stops.went.acts)) two behind.2.stands_for in
+      let one : behind.0 ≡ two = (let both : Some behind.0 ≡ Some two = sym behind.1 ∙ is_two in cc) in
+      let reads : stands bundle_meaning (read_files two) ≡ journal (so_far ++ batches_in stops.went.acts) =
+      subst (λ (t : Two File). stands bundle_meaning (read_files t) ≡ journal (so_far ++ batches_in stops.went.acts)) one behind.2.stands_for in
       let both : journal (so_far ++ batches_in stops.went.acts) ≡ journal whole = sym reads ∙ fits.stands_for in
       let same : so_far ++ batches_in stops.went.acts ≡ whole = cc in
       let all : run.begin ++ batches_in all_acts ≡ whole =
@@ -153,45 +158,64 @@ module _ (law : FullIsSent) (n : NodeValue) (links' : List Link) (s' : StoreValu
       ∙ ap (λ (j : Journal). spelled (sent j ((facts run.begin).begun + i))) all
       ∙ ap (λ (k : ℕ). spelled (sent whole (k + i))) run.first
 
-  -- on whatever course: the links that have not failed have sent the whole
-  pub full_sent : (terms : Terms) (p1 : Place) (heard1 : ℕ → List ℕ) → HoldsOpen (forget p1).hold (forget p1).links → StopsAt terms p1 (links_from 0 links' heard1) n.store s' o o'
-      → FullSent bundle_meaning terms p1 n.first n.store s' o o'
+  -- on whatever course, a link that has not failed has sent the whole
+  unfailed_sent : (terms : Terms) (p1 : Place) (heard1 : ℕ → List ℕ) → HoldsOpen (forget p1).hold (forget p1).links
+      → (stops1 : StopsAt terms p1 (links_from 0 links' heard1) n.store s' o o') (i : ℕ) (x : course_links.Link)
+      → slice_get stops1.to.at.links i ≡ Some x → x.stands ≢ link_end.Failed → has_failure i (events_of all_acts) ≡ false
+  unfailed_sent terms p1 heard1 opens1 stops1 i x there unfailed =
+      elim (one_of (has_failure i (events_of all_acts))) [
+        | inl failed ↦
+            let at = has_failed i failed in
+            let so : LinkFailed stops1.to.at.links i =
+            failed_there terms p1 links' heard1 n.store s' o o' stops1 opens1 i (failed_from 0 i links' heard1 at.0 at.1 at.2) in
+            let both : Some so.link ≡ Some x = sym so.there ∙ there in
+            let same : so.link ≡ x = cc in
+            absurd (unfailed (sym (ap (λ (l : course_links.Link). l.stands) same) ∙ so.failed))
+        | inr well ↦ well
+      ]
+
+module _ (law : FullIsSent) (n : NodeValue) (links' : List Link) (s' : StoreValue) (h h' : MemHostValue) (run : IsRunSoFar n (host_told h))
+    (p : Place) (is : forget p ≡ node_place n (host_told h)) (opens : HoldsOpen (forget p).hold (forget p).links) (heard : ℕ → List ℕ)
+    (stops : StopsAt (node_terms n) p (links_from 0 links' heard) n.store s' (host_told h) (host_told h')) where
+  full_sent : (terms : Terms) (p1 : Place) (heard1 : ℕ → List ℕ) → HoldsOpen (forget p1).hold (forget p1).links
+      → StopsAt terms p1 (links_from 0 links' heard1) n.store s' (host_told h) (host_told h') → FullSent terms p1 n s' h h'
   unfolding full_there
   full_sent terms p1 heard1 opens1 stops1 = record {
-    full = full_there terms p1 (links_from 0 links' heard1) n.store s' o o' stops1;
-    sent = λ i x there unfailed.
-        elim (one_of (has_failure i (events_of all_acts))) [
-          | inl failed ↦
-              let at = has_failed i failed in
-              let so : LinkFailed stops1.to.at.links i =
-              failed_there terms p1 links' heard1 n.store s' o o' stops1 opens1 i (failed_from 0 i links' heard1 at.0 at.1 at.2) in
-              let both : Some so.link ≡ Some x = sym so.there ∙ there in
-              let same : so.link ≡ x = cc in
-              absurd (unfailed (sym (ap (λ (l : course_links.Link). l.stands) same) ∙ so.failed))
-          | inr well ↦ link_sent i well
-        ];
+    full = full_there terms p1 (links_from 0 links' heard1) n.store s' (host_told h) (host_told h') stops1;
+    sent = λ i x there unfailed whole fits.
+        link_sent law n links' s' (host_told h) (host_told h') (told_host h) run p is opens heard stops i
+        (unfailed_sent law n links' s' (host_told h) (host_told h') (told_host h) run p is opens heard stops terms p1 heard1 opens1 stops1 i x there unfailed)
+        (files_of (disk_files h'.disk)) refl whole fits;
   }
 
 -- ---- calls
 
-pub full_turn : FullIsSent → (n n' : NodeValue) (o o' : Outside) → TellsAll o → IsRunSoFar n o → (x : NodeFault) → x ≡ node_fault.Full
-    → ByFault (RoundStopped bundle_meaning n.first n.links n'.links n.store n'.store o o') x → FullTurn bundle_meaning n.first n.links n.store n'.store o o'
-full_turn law n n' o o' told run x is stopped =
-    let w = subst (λ (y : NodeFault). ByFault (RoundStopped bundle_meaning n.first n.links n'.links n.store n'.store o o') y) is stopped in
-    let own = w.stops (node_terms n) (heard_on o.links) false 0 0 refl run.has_read refl in
-    record {
-      fills = λ terms heard moved still made first read on.
-          let t = w.stops terms heard moved still made first read on in
-          full_sent law n n'.links n'.store o o' told run (turn_from n o) refl tt own.0 own.1 terms (place_at Between n.links heard moved still made n.store.state.facts) t.0 tt t.1;
-    }
+module _ (law : FullIsSent) (n n' : NodeValue) (h h' : MemHostValue) (run : IsRunSoFar n (host_told h)) (limit : n'.store.limit ≡ n.store.limit)
+    (x : NodeFault) (is : x ≡ node_fault.Full) where
+  pub full_turn : ByFault (RoundStopped bundle_meaning n.first n.links n'.links n.store n'.store (host_told h) (host_told h')) x → FullInTurn h h' n
+  full_turn stopped =
+      let w = subst (λ (y : NodeFault). ByFault (RoundStopped bundle_meaning n.first n.links n'.links n.store n'.store (host_told h) (host_told h')) y) is stopped in
+      let own = w.stops (node_terms n) (heard_on (host_told h).links) false 0 0 refl run.has_read refl in
+      record {
+        store = n'.store;
+        limit = limit;
+        fills = λ terms heard moved still made first read on.
+            let t = w.stops terms heard moved still made first read on in
+            full_sent law n n'.links n'.store h h' run (turn_from n (host_told h)) refl tt own.0 own.1 terms
+            (place_at Between n.links heard moved still made n.store.state.facts) t.0 tt t.1;
+      }
 
-pub full_beginning : FullIsSent → (session : Session) (n n' : NodeValue) (o o' : Outside) → TellsAll o → IsRunSoFar n o → (x : NodeFault) → x ≡ node_fault.Full
-    → ByFault (BeginStopped bundle_meaning session n.links n'.links n.store n'.store o o') x → FullBeginning bundle_meaning session n.first n.links n.store n'.store o o'
-full_beginning law session n n' o o' told run x is stopped =
-    let w = subst (λ (y : NodeFault). ByFault (BeginStopped bundle_meaning session n.links n'.links n.store n'.store o o') y) is stopped in
-    let own = w.stops (node_terms n) [] (heard_on o.links) false 0 0 in
-    record {
-      fills = λ terms left heard moved still made.
-          full_sent law n n'.links n'.store o o' told run (begin_from session n o) refl tt (heard_on o.links) own terms
-          (place_at (Attaches (session ∷ left)) n.links heard moved still made n.store.state.facts) heard tt (w.stops terms left heard moved still made);
-    }
+  pub full_beginning : (plan : Plan) (its_nonce : Option (List ℕ))
+      → ByFault (BeginStopped bundle_meaning (next_session plan its_nonce n) n.links n'.links n.store n'.store (host_told h) (host_told h')) x
+      → FullAtBeginning plan its_nonce h h' n
+  full_beginning plan its_nonce stopped =
+      let session = next_session plan its_nonce n in
+      let w = subst (λ (y : NodeFault). ByFault (BeginStopped bundle_meaning session n.links n'.links n.store n'.store (host_told h) (host_told h')) y) is stopped in
+      let own = w.stops (node_terms n) [] (heard_on (host_told h).links) false 0 0 in
+      record {
+        store = n'.store;
+        limit = limit;
+        fills = λ terms left heard moved still made.
+            full_sent law n n'.links n'.store h h' run (begin_from session n (host_told h)) refl tt (heard_on (host_told h).links) own terms
+            (place_at (Attaches (session ∷ left)) n.links heard moved still made n.store.state.facts) heard tt (w.stops terms left heard moved still made);
+      }

@@ -3,6 +3,7 @@ use Rattle.std.proofs.Common.{◌≡◌, ℕ, suc, ◌+◌, Bool, true, false, i
 use Rattle.std.specs.Result.{is_err}
 use Rattle.outside.specs.Files.{read_files}
 use Rattle.outside.specs.HostTold.{host_told}
+use Rattle.outside.specs.MemDisk.{disk_files, files_of}
 use Rattle.outside.specs.MemHost.{MemHostValue}
 use Rattle.client_basic.specs.Bodies.{bundle_meaning}
 use Rattle.entry_codec.specs.Standing.{stands, journal}
@@ -19,7 +20,7 @@ use Rattle.sync_store.specs.Refusals.{contact_answer}
 use Rattle.sync_store.specs.Store.{StoreValue}
 use Rattle.sync_node.specs.Node.{NodeValue}
 use Rattle.world_devices.specs.Cited.{SettlingLeaves}
-use Rattle.world_devices.specs.Devices.{DeviceValue, IsAnew, IsReadyStore, IsRunning, MayBeRunning}
+use Rattle.world_devices.specs.Devices.{DeviceValue, IsAnew, IsReadyStore, MayBeRunning}
 use Rattle.world_devices.specs.Doing.{DeviceAddsEntry, SettlesFrom}
 use Rattle.world_devices.specs.Linking.{IsBare, IsBareIn, IsNewDevice, IsUnlinked, KeepsLinks, LinksBy, WhenDone, new_journal}
 use Rattle.world_devices.proofs.NewJournals.{new_holds}
@@ -28,7 +29,7 @@ use Rattle.world_devices.specs.declared.starting.StartFault.{StartFault}
 use Rattle.world_devices.specs.declared.stop.Ran.{Ran}
 use Rattle.world_devices.specs.declared.stop.StepFault.{StepFault}
 use Rattle.world_devices.specs.declared.stop.Ran.TheVariants as ran
-use Rattle.world_devices.proofs.HostLaws.{told_host}
+use Rattle.world_devices.proofs.KeepLaws.{holds_fits}
 use Rattle.world_devices.proofs.RunningLaws.{journal_of, open_of}
 
 -- a store that was loaded of the empty journal
@@ -37,10 +38,10 @@ bare_of done s none are =
     let f : s.state.facts ≡ facts [] = sym are ∙ ap facts none in
     record { empty = ap (λ (g : Facts). g.held) f; counted = ap (λ (g : Facts). g.contacts) f }
 
-pub bare_loaded : (h : MemHostValue) (s : StoreValue) → HoldsAfterCrash [] h → StandsFor bundle_meaning (read_files (told_host h).two) s → IsBare 0 s
+pub bare_loaded : (h : MemHostValue) (s : StoreValue) → HoldsAfterCrash [] h → StandsFor bundle_meaning (read_files (files_of (disk_files h.disk))) s → IsBare 0 s
 bare_loaded h s holds so =
-    let two = (told_host h).two in
-    let is : stands bundle_meaning (read_files two) ≡ journal [] = holds.each two (told_host h).files_are (read_files two) ((host_told h).reads two (told_host h).files_are) in
+    let two = files_of (disk_files h.disk) in
+    let is : stands bundle_meaning (read_files two) ≡ journal [] = holds.each two refl (read_files two) ((host_told h).reads two refl) in
     let both : journal so.done ≡ journal [] = sym so.stands_for ∙ is in
     let none : so.done ≡ [] = cc in
     bare_of so.done s none so.facts_are
@@ -56,28 +57,20 @@ bare_settled laws contacts s s' more settling is bare =
     }
 
 -- what a bare device without links is
-new_of : (contacts : ℕ) (n : NodeValue) (d : DeviceValue) → d.node ≡ Some n → IsRunning n d.host d.links → HoldsAfterCrash (new_journal contacts) d.host → IsUnlinked d
-    → IsAnew d.clock d.host → d.stop ≡ None → IsNewDevice contacts d.clock d
-new_of contacts n d is run holds unlinked anew unstopped =
+pub new_device : (contacts : ℕ) (node : Option NodeValue) (d : DeviceValue) → d.node ≡ node → MayBeRunning node d.host d.links → IsBareIn contacts node → HoldsAfterCrash (new_journal contacts) d.host
+    → IsUnlinked d → IsAnew d.clock d.host → d.stop ≡ None → IsNewDevice contacts d.clock d
+new_device contacts None d is run bare holds unlinked anew unstopped = absurd bare
+new_device contacts (Some n) d is run bare holds unlinked anew unstopped =
     let has = journal_of n.store d.host (open_of n d.host d.links run) in
-    let reads : stands bundle_meaning (read_files (told_host d.host).two) ≡ journal (new_journal contacts) =
-    holds.each (told_host d.host).two (told_host d.host).files_are (read_files (told_host d.host).two) ((host_told d.host).reads (told_host d.host).two (told_host d.host).files_are) in
-    let both : journal has.whole ≡ journal (new_journal contacts) = sym has.fits.stands_for ∙ reads in
-    let same : has.whole ≡ new_journal contacts = cc in
     record {
       runs = ap is_some is;
       holds = holds;
-      legal = subst (Legal bundle_meaning) same has.fits.legal;
+      legal = subst (Legal bundle_meaning) (holds_fits n.store (new_journal contacts) has.whole d.host holds has.fits) has.fits.legal;
       unlinked = unlinked;
       clock_is = refl;
       anew = anew;
       unstopped = unstopped;
     }
-
-pub new_device : (contacts : ℕ) (node : Option NodeValue) (d : DeviceValue) → d.node ≡ node → MayBeRunning node d.host d.links → IsBareIn contacts node → HoldsAfterCrash (new_journal contacts) d.host
-    → IsUnlinked d → IsAnew d.clock d.host → d.stop ≡ None → IsNewDevice contacts d.clock d
-new_device contacts None d is run bare holds unlinked anew unstopped = absurd bare
-new_device contacts (Some n) d is run bare holds unlinked anew unstopped = new_of contacts n d is run holds unlinked anew unstopped
 
 -- ---- settling where no message is held
 
@@ -96,7 +89,7 @@ all_settled clients f (b ∷ bs) none settling = absurd (none_settles clients f 
 -- of a device that was started over empty files
 pub begun_journal : (h : MemHostValue) → SettlesFrom [] h → HoldsAfterCrash (new_journal 0) h
 begun_journal h from =
-    let is : from.whole ≡ [] = from.goes_on.is ∙ all_settled bundle_meaning (facts []) from.goes_on.more refl from.goes_on.settling in
+    let is : from.whole ≡ [] = from.has.is ∙ all_settled bundle_meaning (facts []) from.has.more refl from.has.settling in
     subst (λ (j : List (List Entry)). HoldsAfterCrash j h) is from.holds
 
 answered : (b : Bool) (number known : ℕ) → Ok number ≡ (if b then Ok known else Err refused.TooManyContacts) → number ≡ known
@@ -113,10 +106,10 @@ number_is contacts number (Some n) s ready is bare =
 pub new_journal_kept : (contacts number : ℕ) (r : Result Ran StepFault) (old new : DeviceValue) → number ≡ contacts → DeviceAddsEntry (entry.Contact number) r old new → HoldsAfterCrash (new_journal contacts) old.host
     → WhenDone r (HoldsAfterCrash (new_journal (contacts + 1)) new.host)
 new_journal_kept contacts number (Ok ran.Done) old new is adds holds =
-    let added = adds.1 (new_journal contacts) holds in
-    let none : added.adds.more ≡ [] = all_settled bundle_meaning (after_all (facts (new_journal contacts)) (entry.Contact number ∷ [])) added.adds.more (new_holds contacts) added.adds.settling in
+    let added = adds.1.0 (new_journal contacts) holds in
+    let none : added.has.more ≡ [] = all_settled bundle_meaning (after_all (facts (new_journal contacts)) (entry.Contact number ∷ [])) added.has.more (new_holds contacts) added.has.settling in
     let whole : added.whole ≡ new_journal contacts ++ ((entry.Contact contacts ∷ []) ∷ []) =
-    added.adds.is ∙ (ap (λ (more : List (List Entry)). new_journal contacts ++ ((entry.Contact number ∷ []) ∷ more)) none ∙ ap (λ (k : ℕ). new_journal contacts ++ ((entry.Contact k ∷ []) ∷ [])) is) in
+    added.has.is ∙ (ap (λ (more : List (List Entry)). new_journal contacts ++ ((entry.Contact number ∷ []) ∷ more)) none ∙ ap (λ (k : ℕ). new_journal contacts ++ ((entry.Contact k ∷ []) ∷ [])) is) in
     let one_more : suc contacts ≡ contacts + 1 = omega arith in
     subst (λ (k : ℕ). HoldsAfterCrash (new_journal k) new.host) one_more (subst (λ (j : List (List Entry)). HoldsAfterCrash j new.host) whole added.holds)
 new_journal_kept contacts number (Ok ran.Crashed) old new is adds holds = tt
@@ -135,9 +128,3 @@ pub unlinked_kept : (r : Ran) (old new : DeviceValue) → r ≡ ran.Done → Lin
 unlinked_kept r old new is links unlinked =
     let keeps : KeepsLinks old new = subst (λ (x : Ran). LinksBy (Ok x) old new) is links in
     record { none = keeps.same_links ∙ unlinked.none; unlinked = keeps.same_number ∙ unlinked.unlinked }
-
--- ---- files that are told the same
-
--- the files of a host that tells the same of them hold the same
-pub holds_on : (j : List (List Entry)) (h h' : MemHostValue) → (host_told h').files ≡ (host_told h).files → HoldsAfterCrash j h → HoldsAfterCrash j h'
-holds_on j h h' same holds = record { each = λ two is left image. holds.each two (sym same ∙ is) left image }

@@ -1,5 +1,5 @@
 -- What a device adds to its journal begins no brief account, so that its sessions are few.
-use Rattle.std.proofs.Common.{◌≡◌, ℕ, ◌+◌, ◌<◌, ◌≤◌, true, ◌&&◌, List, [], ◌∷◌, ◌++◌, length, refl, ap, ◌∙◌, subst, inl, inr, arith, append_assoc}
+use Rattle.std.proofs.Common.{◌≡◌, ℕ, ◌+◌, ◌<◌, ◌≤◌, true, ◌&&◌, List, [], ◌∷◌, ◌++◌, length, refl, ap, ◌∙◌, subst, inl, inr, arith, append-nil, append_assoc, sym}
 use Rattle.client_basic.specs.Bodies.{bundle_meaning}
 use Rattle.entry_codec.specs.declared.naming.Format.{Format}
 use Rattle.entry_codec.specs.declared.naming.Format.TheVariants as kind
@@ -12,13 +12,12 @@ use Rattle.sync_rules.specs.CountLaws.{AllBegunListed}
 use Rattle.sync_rules.specs.Facts.{Facts, after_all, facts}
 use Rattle.sync_rules.specs.Legal.{AllSettling, IsSettlingBatch, Legal}
 use Rattle.sync_rules.proofs.StepLaws.{next_is_settling}
-use Rattle.sync_store.specs.Moments.{IsBetween}
 use Rattle.sync_store.specs.Store.{IsStore, StoreValue, counts_to, written_in}
 use Rattle.sync_course.specs.Free.{IsPlain}
 use Rattle.sync_course.specs.Story.{AllSuitNode, IsOfCourse, SuitsNode}
 use Rattle.world_laws.specs.Worlds.{HasNoBrief, begins_no_brief}
 use Rattle.world_laws.proofs.PlainLaws.{plain_append, plain_listed}
-use Rattle.world_devices.specs.Keeping.{Journal}
+use Rattle.world_devices.specs.Keeping.{Journal, WentOn}
 
 -- ---- batches
 
@@ -32,13 +31,6 @@ settling_plain f [] settling = refl
 settling_plain f (b ∷ bs) settling =
     let here = settling_begins f b settling.0 in
     let later = settling_plain (after_all f b) bs settling.1 in
-    (λ i. here i && later i)
-
-pub some_settling_plain : (f : Facts) (front rest : Journal) → AllSettling bundle_meaning f (front ++ rest) → HasNoBrief front
-some_settling_plain f [] rest settling = refl
-some_settling_plain f (b ∷ front) rest settling =
-    let here = settling_begins f b settling.0 in
-    let later = some_settling_plain (after_all f b) front rest settling.1 in
     (λ i. here i && later i)
 
 added_begins : (b : List Entry) → IsPlain b → begins_no_brief b ≡ true
@@ -67,11 +59,8 @@ module _ (first : ℕ) (plans : List Session) (bytes : ℕ → List ℕ) where
 
 -- ---- journals that go on
 
--- a journal goes on from another by batches of which none begins a brief account
-pub record WentOn (j whole : Journal) : Type 0 where
-  pub more : Journal
-  pub plain : HasNoBrief more
-  pub is : whole ≡ j ++ more
+pub went_none : (j : Journal) → WentOn j j
+went_none j = record { more = []; plain = refl; is = sym (append-nil j) }
 
 pub went_then : (a b c : Journal) → WentOn a b → WentOn b c → WentOn a c
 went_then a b c first second = record {
@@ -79,12 +68,6 @@ went_then a b c first second = record {
   plain = plain_append first.more second.more first.plain second.plain;
   is = second.is ∙ (ap (λ (k : Journal). k ++ second.more) first.is ∙ append_assoc a first.more second.more);
 }
-
-pub went_between : (j0 more whole : Journal) → AllSettling bundle_meaning (facts j0) more → IsBetween j0 more whole → WentOn j0 whole
-went_between j0 more whole settling at =
-    let all : AllSettling bundle_meaning (facts j0) (at.front ++ at.rest) =
-    subst (λ (bs : Journal). AllSettling bundle_meaning (facts j0) bs) at.parts settling in
-    record { more = at.front; plain = some_settling_plain (facts j0) at.front at.rest all; is = at.is }
 
 -- ---- few sessions
 

@@ -52,21 +52,22 @@ use Rattle.sync_node.specs.Went.{StopsBroken, Went}
 use Rattle.sync_node.specs.declared.fault.NodeFault.{NodeFault}
 use Rattle.sync_node.specs.declared.fault.NodeFault.TheVariants as node_fault
 use Rattle.sync_node.specs.declared.link.Link.{Link}
+use Rattle.sync_node.proofs.DidLaws.{front_shift}
 use Rattle.sync_node.proofs.SentLaws.{from_at}
 use Rattle.world_devices.specs.Cited.{MomentsStand, WholeIsSent}
-use Rattle.world_devices.specs.Keeping.{AreLinksQuiet, IsRunSoFar, Journal, KeepsOn, TellsSame, node_place}
-use Rattle.world_devices.specs.Running.{MayLeave}
+use Rattle.world_devices.specs.Keeping.{AreLinksQuiet, IsRunSoFar, Journal, KeepsOn, LeavesSome, StandsForSome, TellsSame, WentOn, node_place}
+use Rattle.world_devices.specs.Running.{WentHearing}
 use Rattle.sync_course.proofs.HeardLaws.{bytes_of, events_tell, free_path_adds}
-use Rattle.world_devices.proofs.KeepLaws.{goes_on, keeps_by, went_fits}
-use Rattle.world_devices.proofs.LeaveLaws.{all_suit, leave_by, went, went_on}
+use Rattle.world_devices.proofs.KeepLaws.{crash_since, fits_some}
+use Rattle.world_devices.proofs.LeaveLaws.{all_suit, hears_on}
 use Rattle.world_devices.proofs.PlainLaws.{node_plain, went_then}
 
 -- ---- a node that begins, and one of which the same is told
 
 -- over a store, on a host on which nothing was sent or heard
-pub run_begun : (n : NodeValue) (s : StoreValue) (o : Outside) (told : TellsAll o) (j0 : Journal) → FitsFiles bundle_meaning s j0 told.two → n ≡ record { store = s; first = s.state.facts.begun; links = []; closed = false }
+pub run_begun : (n : NodeValue) (s : StoreValue) (o : Outside) (two : Two File) → o.files ≡ Some two → (j0 : Journal) → FitsFiles bundle_meaning s j0 two → n ≡ record { store = s; first = s.state.facts.begun; links = []; closed = false }
     → AreLinksQuiet o → IsRunSoFar n o
-run_begun n s o told j0 fits is quiet =
+run_begun n s o two told j0 fits is quiet =
     let P : NodeValue → Type 0 = λ m. IsRunSoFar m o in
     subst P (sym is) (record {
       begin = j0;
@@ -76,7 +77,7 @@ run_begun n s o told j0 fits is quiet =
       path = ap (λ (f : Facts). paid (first_free f)) (sym fits.facts_are);
       has_read = λ link l there. cc;
       sent = quiet.sent;
-      fits = (told.two, told.files_are, subst (λ (k : Journal). FitsFiles bundle_meaning s k told.two) (sym (append-nil j0)) fits);
+      fits = (two, told, subst (λ (k : Journal). FitsFiles bundle_meaning s k two) (sym (append-nil j0)) fits);
     })
 
 pub run_on : (n : NodeValue) (o o' : Outside) → TellsSame o o' → IsRunSoFar n o → IsRunSoFar n o'
@@ -197,25 +198,6 @@ all_sent_on law n o run link l there unfailed =
 
 -- ---- the moments of a call
 
--- in the middle of the acts of a call, in the middle of all
-front_behind : (before acts : List Act) (begin : Journal) (sent : ℕ → List ℕ) (m : Moment) → ((link : ℕ) → sent link ≡ sends_on link before)
-    → AtFront bundle_meaning acts (begin ++ batches_in before) sent m → AtFront bundle_meaning (before ++ acts) begin (λ link. []) m
-front_behind before acts begin sent m are at = record {
-  before = before ++ at.before;
-  behind = at.behind;
-  parts = ap (λ (l : List Act). before ++ l) at.parts ∙ sym (append_assoc before at.before at.behind);
-  stands_for =
-      at.stands_for
-      ∙ ap journal (append_assoc begin (batches_in before) (batches_in at.before)
-      ∙ ap (λ (l : Journal). begin ++ l) (sym (batches_in-append before at.before)));
-  part = at.part;
-  begun = at.begun;
-  has_sent = λ link.
-      at.has_sent link ∙ ap (λ (l : List ℕ). l ++ (sends_on link at.before ++ at.part link)) (are link)
-      ∙ sym (append_assoc (sends_on link before) (sends_on link at.before) (at.part link))
-      ∙ ap (λ (l : List ℕ). l ++ at.part link) (sym (sends_on-append link before at.before));
-}
-
 -- files that stand for a journal and batches behind it that suit a node
 record StandsBehind (first : ℕ) (plans : List Session) (heard : ℕ → List ℕ) (j : Journal) (files : Two (List ℕ)) : Type 0 where
   more : Journal
@@ -243,7 +225,7 @@ module _ (stand : MomentsStand) (n : NodeValue) (o o' : Outside) (told : TellsAl
 
   stands_behind : (m : Moment) → AtFront bundle_meaning now_done so_far (sent_on o.links) m → StandsBehind (facts run.begin).begun plans (heard_at did.to.at) so_far m.files
   stands_behind m at =
-      let front = front_behind run.acts now_done run.begin (sent_on o.links) m run.sent at in
+      let front = front_shift bundle_meaning run.acts now_done run.begin (λ link. []) (sent_on o.links) m run.sent at in
       let st = stand bundle_meaning run.begin (run.acts ++ now_done) did.to m run.legal (whole_path n o run now_done did.to did.path) front in
       let both : journal (run.begin ++ st.more) ≡ journal (so_far ++ batches_in at.before) = sym st.stands_for ∙ at.stands_for in
       let whole : run.begin ++ st.more ≡ so_far ++ batches_in at.before = cc in
@@ -270,35 +252,36 @@ module _ (stand : MomentsStand) (n : NodeValue) (o o' : Outside) (told : TellsAl
         | inr at ↦ inr (stands_behind m at)
       ]
 
-  -- whatever went on from a journal before goes on from it
-  pub call_keeps : KeepsOn o o'
-  call_keeps j k =
-      keeps_by j o o' since.later (λ m w.
+  -- a journal has what it had before, if the batches of a node keep that
+  call_leaves : (P : Journal → Type 0)
+      → ((more : Journal) → AllSuitNode bundle_meaning (facts run.begin).begun plans (heard_at did.to.at) (facts so_far) more → P so_far → P (so_far ++ more))
+      → LeavesSome P o → LeavesSome P o'
+  call_leaves P keeps k =
+      crash_since (StandsForSome P) o o' since.later (λ m w.
       elim (each_moment m w) [
         | inl image ↦ k.each run.fits.0 run.fits.1 m.files image
-        | inr b ↦
-            goes_on j (so_far ++ b.more) m.files
-            (went_then j so_far (so_far ++ b.more) (went_fits j so_far o n.store run.fits.0 run.fits.1 k run.fits.2)
-            (record { more = b.more; plain = node_plain (facts run.begin).begun plans (heard_at did.to.at) (facts so_far) b.more b.suits; is = refl }))
-            b.stands_for
+        | inr b ↦ record {
+          whole = so_far ++ b.more;
+          has = keeps b.more b.suits (fits_some P so_far o n.store run.fits.0 run.fits.1 k run.fits.2);
+          stands_for = b.stands_for;
+        }
       ])
+
+  -- whatever went on from a journal before goes on from it
+  pub call_keeps : KeepsOn o o'
+  call_keeps j =
+      call_leaves (WentOn j) (λ more suits went.
+      went_then j so_far (so_far ++ more) went (record { more = more; plain = node_plain (facts run.begin).begun plans (heard_at did.to.at) (facts so_far) more suits; is = refl }))
 
   -- and takes what was heard on the links
   pub call_takes : (heard : ℕ → List Record) (j : Journal)
       → ((session link : ℕ) (r : Record) → session ≡ n.first + link → In r (records (heard_at did.to.at link)) → In r (heard session))
-      → MayLeave heard j o → MayLeave heard j o'
-  call_takes heard j takes k =
-      let w = went heard j so_far o n.store run.fits.0 run.fits.1 k run.fits.2 in
-      leave_by heard j o o' since.later (λ m since.
-      elim (each_moment m since) [
-        | inl image ↦ k.each run.fits.0 run.fits.1 m.files image
-        | inr b ↦
-            went_on heard j so_far b.more m.files w
-            (node_plain (facts run.begin).begun plans (heard_at did.to.at) (facts so_far) b.more b.suits)
-            (all_suit heard (facts run.begin).begun plans (heard_at did.to.at)
-            (λ session link r on. takes session link r (on ∙ ap (λ (first : ℕ). first + link) run.first)) (facts so_far) b.more b.suits)
-            b.stands_for
-      ])
+      → LeavesSome (WentHearing heard j) o → LeavesSome (WentHearing heard j) o'
+  call_takes heard j takes =
+      call_leaves (WentHearing heard j) (λ more suits went.
+      hears_on heard j so_far more went (node_plain (facts run.begin).begun plans (heard_at did.to.at) (facts so_far) more suits)
+      (all_suit heard (facts run.begin).begun plans (heard_at did.to.at)
+      (λ session link r on. takes session link r (on ∙ ap (λ (first : ℕ). first + link) run.first)) (facts so_far) more suits))
 
 -- ---- what was heard
 

@@ -1,79 +1,154 @@
--- What a device comes to that starts again: its journal, settled, over its files or over what a crash left of them.
-use Rattle.std.proofs.Common.{◌≡◌, ◌+◌, ◌*◌, ◌≤◌, ℕ, List, length, arith, [], ◌∷◌, ◌++◌, refl, sym, ap, ◌∙◌, subst, inr, append-nil, Option, Some, None, Result, Ok, Err, OnOk}
-use Rattle.outside.specs.Files.{Two, File, IsImage, read_files, settled}
+-- What comes of the files of a host: what they stand for, with settling behind it. And a device that starts, over its files or over
+-- what a crash left of them.
+use Rattle.std.proofs.Common.{◌≡◌, ◌+◌, ◌*◌, ◌≤◌, ℕ, None, List, length, arith, [], ◌∷◌, ◌++◌, refl, sym, ap, ◌∙◌, subst, inl, inr, append-nil, append_assoc, Result, Ok, Err, OnOk, OnErr}
+use Rattle.std.specs.Result.{IsErrAnd}
+use Rattle.std.specs.declared.alloc.AllocError.{AllocError}
+use Rattle.outside.specs.Files.{Two, File, IsImage, read_files}
 use Rattle.outside.specs.HostTold.{host_told}
-use Rattle.outside.specs.Links.{Links, sent_of}
-use Rattle.outside.specs.MemDisk.{calls_of, fresh}
+use Rattle.outside.specs.MemDisk.{calls_of, disk_files, files_of}
 use Rattle.outside.proofs.CallCounts.{most_more, most_then}
-use Rattle.outside.proofs.CallSteps.{go_on_then}
-use Rattle.outside.specs.MemHost.{CrashesHost, MemHostValue, fresh_host, upcoming_of}
-use Rattle.outside.specs.Outside.{MakesAtMost, Moment, Outside}
+use Rattle.outside.proofs.CallSteps.{go_on_none, go_on_then}
+use Rattle.outside.specs.MemHost.{CrashesHost, MemHostValue, Readings, upcoming_of}
 use Rattle.outside.specs.declared.limits.TheConstants.{LINKS}
+use Rattle.outside.specs.Outside.{MakesAtMost}
 use Rattle.outside.specs.declared.pick.Pick.{Pick}
 use Rattle.frame_journal.specs.Gates.{AnyImage}
 use Rattle.client_basic.specs.Bodies.{bundle_meaning}
-use Rattle.entry_codec.specs.Standing.{stands}
-use Rattle.sync_rules.specs.Facts.{Facts, after_all, facts}
+use Rattle.entry_codec.specs.Standing.{stands, journal}
+use Rattle.sync_rules.proofs.Continuing.{facts-append}
+use Rattle.sync_rules.specs.Facts.{Facts, after_all, after_batches, facts}
 use Rattle.sync_rules.specs.Legal.{AllSettling}
 use Rattle.sync_rules.specs.Steps.{IsSettled}
+use Rattle.sync_ids.specs.declared.records.Record.{Record}
 use Rattle.sync_store.specs.Fitting.{FitsFiles}
 use Rattle.sync_store.specs.Loading.{LoadsIn}
+use Rattle.sync_store.specs.Moments.{IsBetween}
 use Rattle.sync_store.specs.Ready.{IsReady}
 use Rattle.sync_store.specs.Settling.{HasSettled}
 use Rattle.sync_store.specs.Store.{StoreValue}
 use Rattle.sync_store.specs.declared.fault.LoadFault.{LoadFault}
 use Rattle.sync_store.specs.declared.fault.StoreFault.{StoreFault}
+use Rattle.sync_node.specs.Adding.{GoesOnSettling}
 use Rattle.world_devices.specs.Brought.{IsSilent}
-use Rattle.world_devices.specs.Devices.{DeviceValue, HostGoesOn, IsAnew, links_made}
-use Rattle.world_devices.specs.Doing.{BreaksOff, CameStarting, CrashesTo, ComesOf, HoldsSettling, IsAhead, IsNotFull, DeviceRestarts, SettlesFrom, SettlesWithin, StandsSettling, StartsAgain, StartsWithin}
-use Rattle.world_devices.specs.Keeping.{AreLinksQuiet, Journal, TellsSame}
+use Rattle.world_devices.specs.Devices.{DeviceValue, HostGoesOn, IsAnew, LeavesDisk, links_made}
+use Rattle.world_devices.specs.Doing.{BreaksOff, CameStarting, ComesOf, ComesOfImage, CrashesTo, DeviceRestarts, IsAhead, IsNotFull, Settles, SettlesFrom, StartsAgain, load_calls}
+use Rattle.world_devices.specs.Keeping.{AreLinksQuiet, Journal, KeepsOn, LeavesSome, StandsForSome, WentOn}
 use Rattle.world_devices.specs.Linking.{IsUnlinked}
 use Rattle.world_devices.specs.Refusals.{IsNotRefused}
-use Rattle.world_devices.specs.Running.{HoldsAfterCrash}
-use Rattle.world_devices.specs.declared.stop.Stop.{Stop}
+use Rattle.world_devices.specs.Running.{HoldsAfterCrash, WentHearing}
 use Rattle.world_devices.specs.declared.stop.StepFault.{StepFault}
 use Rattle.world_devices.specs.declared.stop.StepFault.TheVariants as fault
-use Rattle.world_devices.proofs.CallLaws.{holds_fits, silent_started}
-use Rattle.world_devices.proofs.HostLaws.{calls_fresh, quiet_same, told_host}
-use Rattle.world_devices.proofs.KeepLaws.{settled_only}
-use Rattle.world_devices.proofs.LeaveLaws.{still_fits}
-use Rattle.world_devices.proofs.NewLaws.{holds_on}
-use Rattle.world_devices.proofs.RunningLaws.{journal_of, quiet_told}
+use Rattle.world_devices.proofs.HostLaws.{anew_clocked, anew_linked, calls_fresh, clock_disk, clock_told, crash_only, disk_then}
+use Rattle.world_devices.proofs.KeepLaws.{crash_looks, crash_same, crash_so, holds_fits, holds_some, leads_leave, same_files, still_holds}
+use Rattle.world_devices.proofs.LeaveLaws.{all_settling, hears_on, still_fits}
+use Rattle.world_devices.proofs.PlainLaws.{settling_plain, went_then}
+use Rattle.world_devices.proofs.RunningLaws.{journal_of}
 
--- ---- a store that is loaded and settled
+-- ---- settling
+
+settles_none : (j : Journal) → GoesOnSettling bundle_meaning j j
+settles_none j = record { more = []; settling = tt; is = sym (append-nil j) }
+
+both_settle : (f : Facts) (bs cs : Journal) → AllSettling bundle_meaning f bs → AllSettling bundle_meaning (after_batches f bs) cs → AllSettling bundle_meaning f (bs ++ cs)
+both_settle f [] cs first second = second
+both_settle f (b ∷ bs) cs first second = (first.0, both_settle (after_all f b) bs cs first.1 second)
+
+settles_then : (a b c : Journal) → GoesOnSettling bundle_meaning a b → GoesOnSettling bundle_meaning b c → GoesOnSettling bundle_meaning a c
+settles_then a b c first second = record {
+  more = first.more ++ second.more;
+  settling = both_settle (facts a) first.more second.more first.settling
+      (subst (λ (f : Facts). AllSettling bundle_meaning f second.more) (ap facts first.is ∙ facts-append a first.more) second.settling);
+  is = second.is ∙ (ap (λ (k : Journal). k ++ second.more) first.is ∙ append_assoc a first.more second.more);
+}
+
+-- a front of settling batches is settling
+settling_front : (f : Facts) (front rest : Journal) → AllSettling bundle_meaning f (front ++ rest) → AllSettling bundle_meaning f front
+settling_front f [] rest settling = tt
+settling_front f (b ∷ front) rest settling = (settling.0, settling_front (after_all f b) front rest settling.1)
+
+between_settles : (j more whole : Journal) → AllSettling bundle_meaning (facts j) more → IsBetween j more whole → GoesOnSettling bundle_meaning j whole
+between_settles j more whole all at = record {
+  more = at.front;
+  settling = settling_front (facts j) at.front at.rest (subst (λ (bs : Journal). AllSettling bundle_meaning (facts j) bs) at.parts all);
+  is = at.is;
+}
+
+-- ---- what comes of files
+
+none_comes : (j : Journal) (files : Two (List ℕ)) → stands bundle_meaning files ≡ journal j → StandsForSome (GoesOnSettling bundle_meaning j) files
+none_comes j files is = record { whole = j; has = settles_none j; stands_for = is }
+
+pub comes_files : (h h' : MemHostValue) → (host_told h').files ≡ (host_told h).files → ComesOf h h'
+comes_files h h' same = record {
+  each = λ two told left image. record {
+    before = left;
+    image = subst (λ (t : Two File). IsImage t left) (sym (same_files h two (sym same ∙ told))) image;
+    settles = λ j is. none_comes j left is;
+  };
+}
+
+pub comes_same : (h : MemHostValue) → ComesOf h h
+comes_same h = comes_files h h refl
+
+pub comes_then : (a b c : MemHostValue) → ComesOf a b → ComesOf b c → ComesOf a c
+comes_then a b c first second =
+    crash_so (ComesOfImage b) (ComesOfImage a) (host_told c) (λ left later.
+    let was = first.each (files_of (disk_files b.disk)) refl later.before later.image in
+    record {
+      before = was.before;
+      image = was.image;
+      settles = λ j is.
+          let one = was.settles j is in
+          let two = later.settles one.whole one.stands_for in
+          record { whole = two.whole; has = settles_then j one.whole two.whole one.has two.has; stands_for = two.stands_for };
+    }) second
+
+-- what settling keeps is kept
+comes_on : (P : Journal → Type 0) → ((a b : Journal) → P a → GoesOnSettling bundle_meaning a b → P b) → (a b : MemHostValue) → ComesOf a b → LeavesSome P (host_told a) → LeavesSome P (host_told b)
+comes_on P keeps a b comes k =
+    crash_so (ComesOfImage a) (StandsForSome P) (host_told b) (λ left later.
+    let was = k.each (files_of (disk_files a.disk)) refl later.before later.image in
+    let now = later.settles was.whole was.stands_for in
+    record { whole = now.whole; has = keeps was.whole now.whole was.has now.has; stands_for = now.stands_for }) comes
+
+pub comes_keeps : (a b : MemHostValue) → ComesOf a b → KeepsOn (host_told a) (host_told b)
+comes_keeps a b comes j =
+    comes_on (WentOn j) (λ x y went on. went_then j x y went (record { more = on.more; plain = settling_plain (facts x) on.more on.settling; is = on.is })) a b comes
+
+pub comes_hears : (heard : ℕ → List Record) (j : Journal) (a b : MemHostValue) → ComesOf a b → LeavesSome (WentHearing heard j) (host_told a) → LeavesSome (WentHearing heard j) (host_told b)
+comes_hears heard j a b comes =
+    comes_on (WentHearing heard j) (λ x y went on.
+    subst (λ (k : Journal). WentHearing heard j k) (sym on.is)
+    (hears_on heard j x on.more went (settling_plain (facts x) on.more on.settling) (all_settling heard (facts x) on.more on.settling))) a b comes
+
+comes_settling : (j : Journal) (a b : MemHostValue) → ComesOf a b → HoldsAfterCrash j a → LeavesSome (GoesOnSettling bundle_meaning j) (host_told b)
+comes_settling j a b comes holds = comes_on (GoesOnSettling bundle_meaning j) (λ x y. settles_then j x y) a b comes (holds_some (GoesOnSettling bundle_meaning j) j a (settles_none j) holds)
+
+-- a host that begins anew over an image, or does nothing
+pub comes_crash : (pick : Pick) (h h' : MemHostValue) (result : Result (Unit {0}) AllocError) → OnOk result (CrashesHost pick h h') → OnErr result (h' ≡ h) → ComesOf h h'
+comes_crash pick h h' (Ok u) ok err =
+    crash_so (λ left. ok.disk.start ≡ left) (ComesOfImage h) (host_told h')
+    (λ left is. record { before = ok.disk.start; image = ok.image; settles = λ j stood. none_comes j left (ap (stands bundle_meaning) (sym is) ∙ stood) })
+    (crash_only pick h h' ok)
+comes_crash pick h h' (Err e) ok err = comes_files h h' (ap (λ (x : MemHostValue). (host_told x).files) err)
+
+-- ---- a store that is settled
 
 -- a disk that fits a store holds its journal
-pub fits_hold : (s : StoreValue) (j : Journal) (h : MemHostValue) → FitsFiles bundle_meaning s j (told_host h).two → HoldsAfterCrash j h
-fits_hold s j h fits =
-    let still = still_fits s j h (told_host h).two (told_host h).files_are fits in
-    record {
-      each = λ two told left image.
-          let same : (told_host h).two ≡ two = (let both : Some (told_host h).two ≡ Some two = sym (told_host h).files_are ∙ told in cc) in
-          ap (stands bundle_meaning) (still.each two told left image) ∙ (ap (λ (t : Two File). stands bundle_meaning (read_files t)) (sym same) ∙ fits.stands_for);
-    }
-
--- what may be left after a look might have been left before
-pub holds_looks : (j : Journal) (h h' : MemHostValue) → AnyImage (host_told h) (host_told h') → HoldsAfterCrash j h → HoldsAfterCrash j h'
-holds_looks j h h' any holds =
-    let run = any (told_host h).two (told_host h).files_are in
-    record {
-      each = λ two is left image.
-          let m : Moment = record { files = left; sent = sent_of (host_told h').links.told } in
-          let w = (host_told h').since (host_told h).clock m run.later ((host_told h').is_now two m is (record { image = image; sent = refl })) in
-          holds.each (told_host h).two (told_host h).files_are left (run.each m w).image;
-    }
+pub fits_hold : (s : StoreValue) (j : Journal) (h : MemHostValue) → FitsFiles bundle_meaning s j (files_of (disk_files h.disk)) → HoldsAfterCrash j h
+fits_hold s j h fits = still_holds j h fits.stands_for (still_fits s j h fits)
 
 pub settles_from : (j : Journal) (s s' : StoreValue) (u : Unit {0}) (h h' : MemHostValue) → IsReady bundle_meaning s (host_told h).files
     → HasSettled bundle_meaning s s' (Ok u) (host_told h) (host_told h') → HoldsAfterCrash j h → SettlesFrom j h'
 settles_from j s s' u h h' ready settled holds =
     let has = journal_of s h ready in
     let same : has.whole ≡ j = holds_fits s j has.whole h holds has.fits in
-    let leads = settled.comes.leads (told_host h).two (told_host h).files_are has.whole has.fits in
-    let (whole, is, fits) = leads.ends settled.answer.0 (told_host h').two (told_host h').files_are in
+    let leads = settled.comes.leads (files_of (disk_files h.disk)) refl has.whole has.fits in
+    let (whole, is, fits) = leads.ends settled.answer.0 (files_of (disk_files h'.disk)) refl in
     let f : s.state.facts ≡ facts j = sym has.fits.facts_are ∙ ap facts same in
     record {
       whole = whole;
-      goes_on = record {
+      has = record {
         more = settled.more;
         settling = subst (λ (g : Facts). AllSettling bundle_meaning g settled.more) f settled.comes.settling;
         is = is ∙ ap (λ (k : Journal). k ++ settled.more) same;
@@ -82,150 +157,117 @@ settles_from j s s' u h h' ready settled holds =
       holds = fits_hold s' whole h' fits;
     }
 
--- a front of settling batches is settling
-settling_front : (f : Facts) (front rest : Journal) → AllSettling bundle_meaning f (front ++ rest) → AllSettling bundle_meaning f front
-settling_front f [] rest settling = tt
-settling_front f (b ∷ front) rest settling = (settling.0, settling_front (after_all f b) front rest settling.1)
-
--- by what moments since are
-settling_by : (j : Journal) (o : Outside) (h' : MemHostValue) → o.clock ≤ (host_told h').clock → ((m : Moment) → (host_told h').moments o.clock m → StandsSettling j m.files) → HoldsSettling j h'
-settling_by j o h' later by = record {
-  each = λ two is left image.
-      let m : Moment = record { files = left; sent = sent_of (host_told h').links.told } in
-      by m ((host_told h').since o.clock m later ((host_told h').is_now two m is (record { image = image; sent = refl })));
-}
-
-pub settles_at_most : (j : Journal) (s s' : StoreValue) (result : Result (Unit {0}) StoreFault) (h h' : MemHostValue) → IsReady bundle_meaning s (host_told h).files
-    → HasSettled bundle_meaning s s' result (host_told h) (host_told h') → HoldsAfterCrash j h → HoldsSettling j h'
-settles_at_most j s s' result h h' ready settled holds =
+-- whatever it answers
+pub settle_settles : (s s' : StoreValue) (result : Result (Unit {0}) StoreFault) (h h' : MemHostValue) → IsReady bundle_meaning s (host_told h).files
+    → HasSettled bundle_meaning s s' result (host_told h) (host_told h') → HostGoesOn h h' → Settles (λ j. 0) h h'
+settle_settles s s' result h h' ready settled calls =
     let has = journal_of s h ready in
-    let same : has.whole ≡ j = holds_fits s j has.whole h holds has.fits in
-    let leads = settled.comes.leads (told_host h).two (told_host h).files_are has.whole has.fits in
-    let f : s.state.facts ≡ facts j = sym has.fits.facts_are ∙ ap facts same in
-    let all : AllSettling bundle_meaning (facts j) settled.more = subst (λ (g : Facts). AllSettling bundle_meaning g settled.more) f settled.comes.settling in
-    settling_by j (host_told h) h' leads.moments.later (λ m since.
-    let at = leads.moments.each m since in
+    let two : Two File = files_of (disk_files h.disk) in
+    let all : AllSettling bundle_meaning (facts has.whole) settled.more = subst (λ (f : Facts). AllSettling bundle_meaning f settled.more) (sym has.fits.facts_are) settled.comes.settling in
     record {
-      whole = at.whole;
-      goes_on = record {
-        more = at.has.front;
-        settling = settling_front (facts j) at.has.front at.has.rest (subst (λ (bs : Journal). AllSettling bundle_meaning (facts j) bs) at.has.parts all);
-        is = at.has.is ∙ ap (λ (k : Journal). k ++ at.has.front) same;
+      calls = calls;
+      left =
+          crash_so (StandsForSome (IsBetween has.whole settled.more)) (ComesOfImage h) (host_told h') (λ left at. record {
+            before = read_files two;
+            image = (host_told h).reads two refl;
+            settles = λ j is.
+                let both : journal has.whole ≡ journal j = sym has.fits.stands_for ∙ is in
+                let same : has.whole ≡ j = cc in
+                record {
+                  whole = at.whole;
+                  has = subst (λ (k : Journal). GoesOnSettling bundle_meaning k at.whole) same (between_settles has.whole settled.more at.whole all at.has);
+                  stands_for = at.stands_for;
+                };
+          })
+          (leads_leave (IsBetween has.whole settled.more) (λ whole. whole ≡ has.whole ++ settled.more) s' (host_told h) (host_told h')
+          (settled.comes.leads two refl has.whole has.fits));
+      within = λ j holds. record {
+        more = settled.more;
+        settling = subst (λ (k : Journal). AllSettling bundle_meaning (facts k) settled.more) (holds_fits s j has.whole h holds has.fits) all;
+        most = most_more (4 * length settled.more) (0 + 4 * length settled.more) (host_told h) (host_told h') (omega arith) settled.comes.calls.most;
       };
-      stands_for = at.stands_for;
-    })
-
--- nothing was settled yet
-pub holds_settling : (j : Journal) (h : MemHostValue) → HoldsAfterCrash j h → HoldsSettling j h
-holds_settling j h holds = record {
-  each = λ two is left image. record {
-    whole = j;
-    goes_on = record { more = []; settling = tt; is = sym (append-nil j) };
-    stands_for = holds.each two is left image;
-  };
-}
-
--- ---- how many calls of the disk a start makes
-
--- no more than four for each settling batch
-pub settles_within : (j : Journal) (s s' : StoreValue) (result : Result (Unit {0}) StoreFault) (h h' : MemHostValue) → IsReady bundle_meaning s (host_told h).files
-    → HasSettled bundle_meaning s s' result (host_told h) (host_told h') → HoldsAfterCrash j h → SettlesWithin j (host_told h) (host_told h')
-settles_within j s s' result h h' ready settled holds =
-    let has = journal_of s h ready in
-    let same : has.whole ≡ j = holds_fits s j has.whole h holds has.fits in
-    let f : s.state.facts ≡ facts j = sym has.fits.facts_are ∙ ap facts same in
-    record {
-      more = settled.more;
-      settling = subst (λ (g : Facts). AllSettling bundle_meaning g settled.more) f settled.comes.settling;
-      most = settled.comes.calls.most;
     }
 
--- no more than the load of the journal takes
-load_most : (j : Journal) (result : Result StoreValue LoadFault) (h h' : MemHostValue) → LoadsIn bundle_meaning result (host_told h) (host_told h') → HoldsAfterCrash j h → MakesAtMost (2 * length j + 7) (host_told h) (host_told h')
-load_most j result h h' loads holds =
-    let two = (told_host h).two in
-    let told = (told_host h).files_are in
-    (loads two told j (holds.each two told (read_files two) ((host_told h).reads two told))).most
+-- ---- a store that is loaded
 
--- a load that failed
-pub load_within : (j : Journal) (result : Result StoreValue LoadFault) (h h' : MemHostValue) → LoadsIn bundle_meaning result (host_told h) (host_told h') → HoldsAfterCrash j h → StartsWithin j (host_told h) (host_told h')
-load_within j result h h' loads holds = record {
-  more = [];
-  settling = tt;
-  most = most_more (2 * length j + 7) (2 * length j + 7 + 4 * 0) (host_told h) (host_told h') (omega arith) (load_most j result h h' loads holds);
-}
+module _ (result : Result StoreValue LoadFault) (h h' : MemHostValue) (calls : HostGoesOn h h') (any : AnyImage (host_told h) (host_told h'))
+    (loads : LoadsIn bundle_meaning result (host_told h) (host_told h')) where
+  load_most : (j : Journal) → HoldsAfterCrash j h → MakesAtMost (load_calls j) (host_told h) (host_told h')
+  load_most j holds =
+      let two : Two File = files_of (disk_files h.disk) in
+      (loads two refl j (holds.each two refl (read_files two) ((host_told h).reads two refl))).most
 
--- a load, and settling behind it
-pub load_settles : (j : Journal) (result : Result StoreValue LoadFault) (h h' at : MemHostValue) → LoadsIn bundle_meaning result (host_told h) (host_told h') → HoldsAfterCrash j h → SettlesWithin j (host_told h') (host_told at)
-    → StartsWithin j (host_told h) (host_told at)
-load_settles j result h h' at loads holds within = record {
-  more = within.more;
-  settling = within.settling;
-  most = most_then (2 * length j + 7) (4 * length within.more) (host_told h) (host_told h') (host_told at) (load_most j result h h' loads holds) within.most;
-}
+  load_comes : ComesOf h h'
+  load_comes = crash_looks (ComesOfImage h) h h' any (comes_same h)
 
--- behind what makes no call of the disk
-pub within_then : (j : Journal) (h h' at : MemHostValue) → h'.disk.made ≡ h.disk.made → StartsWithin j (host_told h') (host_told at) → StartsWithin j (host_told h) (host_told at)
-within_then j h h' at same within = record {
-  more = within.more;
-  settling = within.settling;
-  most = record { made = subst (λ (n : ℕ). at.disk.made ≤ n + (2 * length j + 7 + 4 * length within.more)) same within.most.made };
-}
+  -- one that failed
+  pub load_settles : Settles load_calls h h'
+  load_settles = record {
+    calls = calls;
+    left = load_comes;
+    within = λ j holds. record {
+      more = [];
+      settling = tt;
+      most = most_more (load_calls j) (load_calls j + 4 * 0) (host_told h) (host_told h') (omega arith) (load_most j holds);
+    };
+  }
 
--- no call of the disk was made
-pub within_none : (j : Journal) (h at : MemHostValue) → at.disk.made ≡ h.disk.made → StartsWithin j (host_told h) (host_told at)
-within_none j h at same = record {
-  more = [];
-  settling = tt;
-  most = record { made = omega (arith, same) };
-}
+  pub load_holds : (j : Journal) → HoldsAfterCrash j h → HoldsAfterCrash j h'
+  load_holds j = crash_looks (λ left. stands bundle_meaning left ≡ journal j) h h' any
 
--- of a host that is another one by name
-pub within_seen : (j : Journal) (h h' at : MemHostValue) → h ≡ h' → (HoldsAfterCrash j h → StartsWithin j (host_told h) (host_told at)) → HoldsAfterCrash j h' → StartsWithin j (host_told h') (host_told at)
-within_seen j h h' at is within holds = subst (λ (x : MemHostValue). HoldsAfterCrash j x → StartsWithin j (host_told x) (host_told at)) is within holds
-
--- of a device that dialled its links and set its clock, and then loaded its store
-pub start_within : (j : Journal) (h h' at : MemHostValue) → (host_told h').files ≡ (host_told h).files → h'.disk.made ≡ h.disk.made → (HoldsAfterCrash j h' → StartsWithin j (host_told h') (host_told at))
-    → HoldsAfterCrash j h → StartsWithin j (host_told h) (host_told at)
-start_within j h h' at files same loaded holds = within_then j h h' at same (loaded (holds_on j h h' files holds))
+  -- one behind which the store was settled
+  pub load_then : (at : MemHostValue) → Settles (λ j. 0) h' at → Settles load_calls h at
+  load_then at settles = record {
+    calls = go_on_then (calls_of h.disk) (calls_of h'.disk) (calls_of at.disk) calls settles.calls;
+    left = comes_then h h' at load_comes settles.left;
+    within = λ j holds.
+        let w = settles.within j (load_holds j holds) in
+        record {
+          more = w.more;
+          settling = w.settling;
+          most =
+              most_more (load_calls j + (0 + 4 * length w.more)) (load_calls j + 4 * length w.more) (host_told h) (host_told at) (omega arith)
+              (most_then (load_calls j) (0 + 4 * length w.more) (host_told h) (host_told h') (host_told at) (load_most j holds) w.most);
+        };
+  }
 
 -- ---- a device that starts
 
-pub start_settling : (j : Journal) (h0 h2 h3 : MemHostValue) → (host_told h2).files ≡ (host_told h0).files → (HoldsAfterCrash j h2 → HoldsSettling j h3) → HoldsAfterCrash j h0 → HoldsSettling j h3
-start_settling j h0 h2 h3 same loaded holds = loaded (holds_on j h0 h2 same holds)
+-- behind what makes no call of the disk
+pub settles_after : (h h' at : MemHostValue) → LeavesDisk h h' → Settles load_calls h' at → Settles load_calls h at
+settles_after h h' at disk settles = record {
+  calls = go_on_then (calls_of h.disk) (calls_of h'.disk) (calls_of at.disk) disk.calls settles.calls;
+  left = comes_then h h' at (comes_files h h' disk.files) settles.left;
+  within = λ j holds.
+      let w = settles.within j (crash_same (λ left. stands bundle_meaning left ≡ journal j) (host_told h) (host_told h') disk.files holds) in
+      record {
+        more = w.more;
+        settling = w.settling;
+        most = record { made = subst (λ (n : ℕ). at.disk.made ≤ n + (load_calls j + 4 * length w.more)) disk.made w.most.made };
+      };
+}
 
-pub files_settling : (j : Journal) (h h' : MemHostValue) → (host_told h').files ≡ (host_told h).files → HoldsAfterCrash j h → HoldsSettling j h'
-files_settling j h h' same holds = holds_settling j h' (holds_on j h h' same holds)
+pub settles_still : (h h' : MemHostValue) → LeavesDisk h h' → Settles load_calls h h'
+settles_still h h' disk =
+    settles_after h h' h' disk (record {
+      calls = go_on_none (calls_of h'.disk);
+      left = comes_same h';
+      within = λ j holds. record { more = []; settling = tt; most = record { made = omega arith } };
+    })
 
--- of a host that is another one by name
-pub settling_seen : (j : Journal) (h h' at : MemHostValue) → h ≡ h' → (HoldsAfterCrash j h → HoldsSettling j at) → HoldsAfterCrash j h' → HoldsSettling j at
-settling_seen j h h' at is settling holds = subst (λ (x : MemHostValue). HoldsAfterCrash j x → HoldsSettling j at) is settling holds
+-- of a device that dialled its links and set its clock, and loaded its store
+module _ (old h0 h1 h2 : MemHostValue) (clock : Readings) (result : Result (Unit {0}) AllocError) (seen : h0 ≡ old)
+    (ok : OnOk result (h2 ≡ record h1 { clock = clock })) (err : OnErr result (h2 ≡ h1)) where
+  pub start_disk : LeavesDisk h0 h1 → LeavesDisk old h2
+  start_disk dialled = subst (λ (x : MemHostValue). LeavesDisk x h2) seen (disk_then h0 h1 h2 dialled (clock_disk h1 h2 clock result ok err))
 
-pub start_anew : (clock : ℕ) (h0 h1 h2 h3 : MemHostValue) → h1.scripts ≡ h0.scripts → h2.scripts ≡ h1.scripts → TellsSame (host_told h1) (host_told h2) → (host_told h3).links ≡ (host_told h2).links
-    → IsSilent h0 → links_made h1 ≡ LINKS → AreLinksQuiet (host_told h1) → upcoming_of h2.clock ≡ clock ∷ [] → IsAnew clock h3
-start_anew clock h0 h1 h2 h3 dial set same loaded silent dialled quiet upcoming =
-    let both : Some (upcoming_of h3.clock) ≡ Some (upcoming_of h2.clock) = ap (λ (l : Links). l.upcoming) loaded in
-    let kept : upcoming_of h3.clock ≡ upcoming_of h2.clock = cc in
-    record {
-      dialled = ap (λ (l : Links). l.dialled) loaded ∙ (same.dialled ∙ dialled);
-      silent = silent_started h0 h1 h2 h3 dial set loaded silent;
-      quiet = quiet_same (host_told h2) (host_told h3) loaded (quiet_told (host_told h1) (host_told h2) same quiet);
-      upcoming = kept ∙ upcoming;
-    }
+  pub start_anew : (at : ℕ) (h3 : MemHostValue) → h1.scripts ≡ h0.scripts → IsSilent old → links_made h1 ≡ LINKS → AreLinksQuiet (host_told h1)
+      → upcoming_of h2.clock ≡ at ∷ [] → (host_told h3).links ≡ (host_told h2).links → IsAnew at h3
+  start_anew at h3 dialled silent links quiet upcoming loaded =
+      anew_linked at h2 h3 loaded
+      (anew_clocked at h0 h1 h2 dialled (clock_told h1 h2 clock result ok err) (subst (λ (x : MemHostValue). IsSilent x) (sym seen) silent) links quiet upcoming)
 
 -- ---- a device that crashed
-
--- a host that begins anew over an image leaves that image alone
-pub crash_only : (pick : Pick) (h h' : MemHostValue) (crashes : CrashesHost pick h h') (two : Two File) → (host_told h').files ≡ Some two → (left : Two (List ℕ)) → IsImage two left → crashes.disk.start ≡ left
-crash_only pick h h' crashes two is left image =
-    let start = crashes.disk.start in
-    let anew : h' ≡ fresh_host (fresh start) = crashes.anew ∙ ap fresh_host crashes.pictured.fresh in
-    let only : Some (record { first = settled start.first; second = settled start.second }) ≡ Some two = sym (ap (λ (x : MemHostValue). (host_told x).files) anew) ∙ is in
-    let same : record { first = settled start.first; second = settled start.second } ≡ two = cc in
-    let there : IsImage (record { first = settled start.first; second = settled start.second }) left = subst (λ (t : Two File). IsImage t left) (sym same) image in
-    let first = settled_only start.first left.first there.first in
-    let second = settled_only start.second left.second there.second in
-    (λ i. record { first = sym first i; second = sym second i })
 
 pub crashes_to : (pick : Pick) (h at h' : MemHostValue) (new : DeviceValue) → h ≡ at → CrashesHost pick h h' → ((j : Journal) → HoldsAfterCrash j h' → SettlesFrom j new.host) → IsAnew new.clock new.host → IsUnlinked new → new.stop ≡ None → HostGoesOn h' new.host → CrashesTo pick at new
 crashes_to pick h at h' new seen crashes loads anew unlinked disarmed since =
@@ -233,7 +275,9 @@ crashes_to pick h at h' new seen crashes loads anew unlinked disarmed since =
       image = crashes.disk;
       pictured = crashes.pictured;
       since = go_on_then (calls_of crashes.disk) (calls_of h'.disk) (calls_of new.host.disk) (calls_fresh h' crashes.disk crashes.anew) since;
-      loads = λ j is. loads j (record { each = λ two told left image. ap (stands bundle_meaning) (sym (crash_only pick h h' crashes two told left image)) ∙ is });
+      loads = λ j is.
+          loads j (crash_so (λ left. crashes.disk.start ≡ left) (λ left. stands bundle_meaning left ≡ journal j) (host_told h')
+          (λ left same. ap (stands bundle_meaning) (sym same) ∙ is) (crash_only pick h h' crashes));
       anew = anew;
       unlinked = unlinked;
       disarmed = disarmed;
@@ -246,27 +290,49 @@ pub ok_anyway : {A E P : Type 0} (r : Result A E) → P → OnOk r P
 ok_anyway (Ok a) holds = holds
 ok_anyway (Err e) holds = tt
 
-pub starts_again : (d old new : DeviceValue) (h : MemHostValue) → d ≡ old → (host_told h).files ≡ (host_told d.host).files → ((j : Journal) → HoldsAfterCrash j h → SettlesFrom j new.host) → IsAnew new.clock new.host → IsUnlinked new → new.clock ≡ d.clock → new.stop ≡ d.stop
-    → HostGoesOn d.host new.host → IsAhead new.stop new.host → StartsAgain old new
-starts_again d old new h seen files loads anew unlinked clock stop since ahead =
-    subst (λ (x : DeviceValue). StartsAgain x new) seen (record {
-      own = record { clock = clock; stop = stop; since = since; ahead = ahead };
-      anew = anew;
-      unlinked = unlinked;
-      loads = λ j holds. loads j (holds_on j d.host h files holds);
-    })
+came_starting : (d : DeviceValue) (at : MemHostValue) → Settles load_calls d.host at → CameStarting d at
+came_starting d at settles j holds = (comes_settling j d.host at settles.left holds, settles.within j holds)
 
-pub restart_broken : (result : Result (Unit {0}) StepFault) (d old mid new : DeviceValue) → d ≡ old → HostGoesOn d.host mid.host → ((j : Journal) → HoldsAfterCrash j d.host → HoldsSettling j mid.host) → CameStarting d mid.host → mid.stop ≡ d.stop → mid.clock ≡ d.clock → new.clock ≡ mid.clock
-    → OnOk result (BreaksOff mid.stop mid.host new) → ComesOf mid.host new.host → IsNotRefused result → IsNotFull result → DeviceRestarts result old new
-restart_broken (Ok u) d old mid new seen since settling came stop clock went off left unrefused unfilled =
-    subst (λ (x : DeviceValue). DeviceRestarts (Ok u) x new) seen (inr (record {
-      at = mid.host;
-      since = since;
-      broken = (settling, came);
-      off = subst (λ (s : Option Stop). BreaksOff s mid.host new) stop off;
-      clock = went ∙ clock;
-    }))
-restart_broken (Err fault.Refused) d old mid new seen since settling came stop clock went off left unrefused unfilled = absurd unrefused
-restart_broken (Err fault.Full) d old mid new seen since settling came stop clock went off left unrefused unfilled = absurd unfilled
-restart_broken (Err fault.Memory) d old mid new seen since settling came stop clock went off left unrefused unfilled =
-    subst (λ (x : DeviceValue). DeviceRestarts (Err fault.Memory) x new) seen (record { at = mid.host; since = since; broken = settling; left = left })
+-- it found no memory, somewhere
+gave_up : (d new : DeviceValue) (at : MemHostValue) → Settles load_calls d.host at → ComesOf at new.host → DeviceRestarts (Err fault.Memory) d new
+gave_up d new at settles left = record { at = at; since = settles.calls; broken = came_starting d at settles; left = left }
+
+module _ (d old : DeviceValue) (seen : d ≡ old) where
+  pub restart_failed : (r : Result (Unit {0}) StepFault) (new : DeviceValue) (at : MemHostValue) → IsErrAnd r (λ x. x ≡ fault.Memory) → Settles load_calls d.host at → ComesOf at new.host → DeviceRestarts r old new
+  restart_failed (Ok u) new at is settles left = absurd is
+  restart_failed (Err x) new at is settles left =
+      subst (λ (y : DeviceValue). DeviceRestarts (Err x) y new) seen
+      (subst (λ (y : StepFault). DeviceRestarts (Err y) d new) (sym is) (gave_up d new at settles left))
+
+  pub restart_starved : (new : DeviceValue) → Settles load_calls d.host new.host → DeviceRestarts (Err fault.Memory) old new
+  restart_starved new settles = restart_failed (Err fault.Memory) new new.host refl settles (comes_same new.host)
+
+  -- it started, and no call was passed at which its disk is to stop; or one was
+  pub restart_ended : (r : Result (Unit {0}) StepFault) (new : DeviceValue) (h : MemHostValue) → LeavesDisk d.host h → ((j : Journal) → HoldsAfterCrash j h → SettlesFrom j new.host)
+      → Settles load_calls h new.host → IsAnew new.clock new.host → IsUnlinked new → new.clock ≡ d.clock → new.stop ≡ d.stop → OnOk r (IsAhead new.stop new.host) → IsNotRefused r → IsNotFull r → DeviceRestarts r old new
+  restart_ended (Ok u) new h disk loads settles anew unlinked clock stop ahead unrefused unfilled =
+      inl (subst (λ (x : DeviceValue). StartsAgain x new) seen (record {
+        own = record { clock = clock; stop = stop; since = (settles_after d.host h new.host disk settles).calls; ahead = ahead };
+        anew = anew;
+        unlinked = unlinked;
+        loads = λ j holds. loads j (crash_same (λ left. stands bundle_meaning left ≡ journal j) (host_told d.host) (host_told h) disk.files holds);
+      }))
+  restart_ended (Err fault.Refused) new h disk loads settles anew unlinked clock stop ahead unrefused unfilled = absurd unrefused
+  restart_ended (Err fault.Full) new h disk loads settles anew unlinked clock stop ahead unrefused unfilled = absurd unfilled
+  restart_ended (Err fault.Memory) new h disk loads settles anew unlinked clock stop ahead unrefused unfilled =
+      restart_starved new (settles_after d.host h new.host disk settles)
+
+  -- its disk failed
+  pub restart_broken : (r : Result (Unit {0}) StepFault) (mid new : DeviceValue) → Settles load_calls d.host mid.host → mid.stop ≡ d.stop → mid.clock ≡ d.clock → new.clock ≡ mid.clock
+      → OnOk r (BreaksOff mid.stop mid.host new) → ComesOf mid.host new.host → IsNotRefused r → IsNotFull r → DeviceRestarts r old new
+  restart_broken (Ok u) mid new settles stop clock went off left unrefused unfilled =
+      subst (λ (x : DeviceValue). DeviceRestarts (Ok u) x new) seen (inr (record {
+        at = mid.host;
+        since = settles.calls;
+        broken = came_starting d mid.host settles;
+        off = subst (λ (s : _). BreaksOff s mid.host new) stop off;
+        clock = went ∙ clock;
+      }))
+  restart_broken (Err fault.Refused) mid new settles stop clock went off left unrefused unfilled = absurd unrefused
+  restart_broken (Err fault.Full) mid new settles stop clock went off left unrefused unfilled = absurd unfilled
+  restart_broken (Err fault.Memory) mid new settles stop clock went off left unrefused unfilled = restart_failed (Err fault.Memory) new mid.host refl settles left

@@ -1,24 +1,21 @@
--- What a turn of a device does, and a session that begins on its next link.
-use Rattle.std.proofs.Common.{◌≡◌, ◌<◌, ℕ, Bool, false, arith, List, [], ◌∷◌, ◌++◌, refl, sym, ap, subst, inl, inr, Option, Some, None, Result, Ok, Err}
+-- What a call of the node of a device comes to: it was done, or it failed.
+use Rattle.std.proofs.Common.{◌≡◌, ◌+◌, ◌<◌, ◌∙◌, ℕ, Bool, false, List, length, arith, refl, sym, ap, subst, inl, inr, Option, Some, Result, Ok, Err}
 use Rattle.std.specs.Prelude.{◌||◌, nat_le}
 use Rattle.std.specs.Result.{IsErrAnd, IsErrOf}
 use Rattle.std.proofs.lemmas.Bool.Decides.{nat_tests}
 use Rattle.outside.specs.declared.limits.TheConstants.{LINKS}
 use denote.Enum.Bare.{sameb}
-use Rattle.outside.specs.Files.{Two, File}
 use Rattle.outside.specs.HostTold.{host_told}
+use Rattle.outside.specs.MemDisk.{disk_files, files_of}
 use Rattle.outside.specs.MemHost.{MemHostValue}
 use Rattle.outside.specs.Outside.{Outside}
 use Rattle.client_basic.specs.Bodies.{bundle_meaning}
-use Rattle.sync_course.specs.Events.{batches_of}
-use Rattle.sync_course.specs.Turns.{Place, Terms}
+use Rattle.sync_rules.specs.declared.entries.Session.{Session}
 use Rattle.sync_rules.specs.declared.entries.Entry.{Entry}
-use Rattle.sync_rules.specs.declared.entries.Entry.TheVariants as entry
-use Rattle.sync_rules.specs.Facts.{after_all}
-use Rattle.sync_store.specs.Store.{StoreValue}
-use Rattle.sync_node.specs.Courses.{BeginsNextSession, BreaksBeginning, BreaksTurn, FitsWith, MakesTurn, ReadsAs, RunBreaks, RunRuns, is_still}
+use Rattle.sync_node.specs.Courses.{BreaksBeginning, BreaksTurn, is_still}
+use Rattle.sync_node.specs.OnRuns.{BeginStopped, BeginWent, ByFault, RoundStopped}
+use Rattle.sync_node.proofs.NodeRuns.{beginning_breaks, run_went, turn_breaks}
 use Rattle.sync_node.specs.Node.{NodeValue}
-use Rattle.sync_node.specs.Plans.{session_of}
 use Rattle.sync_node.specs.declared.fault.NodeFault.{NodeFault}
 use Rattle.sync_node.specs.declared.fault.NodeFault.TheVariants as node_fault
 use Rattle.sync_node.specs.contracts.node.Turned.{the_type}
@@ -26,195 +23,103 @@ use Rattle.sync_node.specs.declared.node.Plan.{Plan}
 use Rattle.sync_node.specs.declared.node.Turned.{Turned}
 use Rattle.sync_node.specs.declared.node.Turned.TheVariants as turned_kind
 use Rattle.world_devices.specs.Devices.{DeviceValue, HostGoesOn}
-use Rattle.world_devices.specs.Fulls.{FullBeginning, FullTurn}
-use Rattle.world_devices.specs.Doing.{DeviceBeginsSession, BreaksOff, ComesOf, FullAtBeginning, FullInTurn, HasAttached, HasBegunOnLink, HasTurned, IsAhead, IsNotFull, OfNodes, DeviceMakesTurn, next_session}
+use Rattle.world_devices.specs.Doing.{ComesOf, DeviceAddsEntry, DeviceBeginsSession, DeviceCalls, DeviceMakesTurn, HasBegunOnLink, IsNotFull, OfNode, OfNodes, if_done, next_session}
 use Rattle.world_devices.specs.Refusals.{IsNotRefused, RefusedBy, refuses_link}
+use Rattle.world_devices.proofs.RunLaws.{by_any}
+use Rattle.world_devices.specs.declared.stop.Ran.{Ran}
+use Rattle.world_devices.specs.declared.stop.Ran.TheVariants as ran
 use Rattle.world_devices.specs.declared.stop.StepFault.{StepFault}
 use Rattle.world_devices.specs.declared.stop.StepFault.TheVariants as fault
-use Rattle.world_devices.proofs.AddLaws.{of_node}
-use Rattle.world_devices.proofs.GivingUpLaws.{comes_same}
 
 -- ---- of a device that runs
 
-of_nodes : (P : NodeValue → NodeValue → Type 0) (n n' : NodeValue) (old new : Option NodeValue) → old ≡ Some n → new ≡ Some n' → P n n' → OfNodes P old new
-of_nodes P n n' old new was is holds = subst (λ (x : Option NodeValue). OfNodes P x new) (sym was) (subst (λ (x : Option NodeValue). OfNodes P (Some n) x) (sym is) holds)
+pub of_node : (P : NodeValue → Type 0) (n : NodeValue) (maybe : Option NodeValue) → maybe ≡ Some n → P n → OfNode P maybe
+of_node P n maybe is holds = subst (λ (x : Option NodeValue). OfNode P x) (sym is) holds
 
--- ---- a turn
+pub of_nodes : (P : NodeValue → NodeValue → Type 0) (n n' : NodeValue) (old : Option NodeValue) → old ≡ Some n → P n n' → OfNodes P old (Some n')
+of_nodes P n n' old was holds = subst (λ (x : Option NodeValue). OfNodes P x (Some n')) (sym was) holds
+
+-- ---- what a call came to
+
+module _ {A : Type 0} (Done : A → Type 0) (Broken : MemHostValue → Type 0) (Full : Type 0) (d new : DeviceValue) where
+  -- an error that is passed on as it is
+  passed_on : (r : Result (Option A) StepFault) (e : StepFault) → IsErrAnd r (λ x. x ≡ e) → DeviceCalls Done Broken Full (Err e) d new → DeviceCalls Done Broken Full r d new
+  passed_on (Ok a) e is calls = absurd is
+  passed_on (Err x) e is calls = subst (λ (y : StepFault). DeviceCalls Done Broken Full (Err y) d new) (sym is) calls
+
+  -- it failed: it filled the journal, or found no memory
+  fails : (e : StepFault) (f : NodeFault) (at : MemHostValue) → IsNotRefused {A = Unit {0}} (Err e) → (IsErrOf {T = Unit {0}} (Err e) fault.Full → (f ≡ node_fault.Full) × (new.host ≡ at))
+      → (f ≡ node_fault.Full → new.host ≡ at → Full) → HostGoesOn d.host at → Broken at → ComesOf at new.host → DeviceCalls Done Broken Full (Err e) d new
+  fails fault.Refused f at unrefused full fills since broken left = absurd unrefused
+  fails fault.Full f at unrefused full fills since broken left = let both = full refl in fills both.0 both.1
+  fails fault.Memory f at unrefused full fills since broken left = inl (inr (record { at = at; since = since; broken = broken; left = left }))
+
+  pub call_failed : (r : Result (Option A) StepFault) (e : StepFault) (f : NodeFault) (at : MemHostValue) → IsErrAnd r (λ x. x ≡ e) → IsNotRefused {A = Unit {0}} (Err e)
+      → (IsErrOf {T = Unit {0}} (Err e) fault.Full → (f ≡ node_fault.Full) × (new.host ≡ at)) → (f ≡ node_fault.Full → new.host ≡ at → Full)
+      → HostGoesOn d.host at → Broken at → ComesOf at new.host → DeviceCalls Done Broken Full r d new
+  call_failed r e f at is unrefused full fills since broken left = passed_on r e is (fails e f at unrefused full fills since broken left)
+
+  -- it was done, but its links or its clock found no memory, or the call was passed at which its disk is to stop
+  starves : (e : StepFault) → IsNotRefused {A = Unit {0}} (Err e) → IsNotFull {A = Unit {0}} (Err e) → HostGoesOn d.host new.host → (a : A) → Done a → DeviceCalls Done Broken Full (Err e) d new
+  starves fault.Refused unrefused unfilled since a done = absurd unrefused
+  starves fault.Full unrefused unfilled since a done = absurd unfilled
+  starves fault.Memory unrefused unfilled since a done = inr (since, (a, done))
+
+  pub call_starved : (r : Result (Option A) StepFault) (e : StepFault) → IsErrAnd r (λ x. x ≡ e) → IsNotRefused {A = Unit {0}} (Err e) → IsNotFull {A = Unit {0}} (Err e)
+      → HostGoesOn d.host new.host → (a : A) → Done a → DeviceCalls Done Broken Full r d new
+  call_starved r e is unrefused unfilled since a done = passed_on r e is (starves e unrefused unfilled since a done)
+
+-- of a call that answers whether it was done
+pub done_err : (r : Result Ran StepFault) (e : StepFault) → IsErrAnd r (λ x. x ≡ e) → IsErrAnd (if_done r) (λ x. x ≡ e)
+done_err (Ok ran.Done) e is = absurd is
+done_err (Ok ran.Crashed) e is = absurd is
+done_err (Err x) e is = is
+
+-- ---- what the calls of a node came to on a course
+
+-- a session that began
+pub has_begun_on : (plan : Plan) (its_nonce : Option (List ℕ)) (session : ℕ) (n n' : NodeValue) (h h' : MemHostValue) → session ≡ n.store.state.facts.begun → n.store.state.facts.begun ≡ n.first + length n.links → n'.first ≡ n.first
+    → BeginWent bundle_meaning (next_session plan its_nonce n) n.links n'.links n.store n'.store (host_told h) (host_told h') → HasBegunOnLink plan its_nonce session h h' n n'
+has_begun_on plan its_nonce session n n' h h' number next first w = record {
+  number = number;
+  on_next = number ∙ next;
+  same_first = first;
+  has_read = w.has_read;
+  runs = λ terms left heard moved still made own quiet.
+      run_went bundle_meaning terms _ _ n.store n'.store (host_told h) (host_told h')
+      (w.went (files_of (disk_files h.disk)) refl terms left heard moved still made quiet (next ∙ ap (λ (k : ℕ). k + length n.links) (sym own)));
+  facts_are = w.facts;
+}
+
+pub turn_breaks_off : (n n' : NodeValue) (o o' : Outside) (x : NodeFault) → ByFault (RoundStopped bundle_meaning n.first n.links n'.links n.store n'.store o o') x
+    → BreaksTurn bundle_meaning n.first n.links n.store o o'
+turn_breaks_off n n' o o' x stopped =
+    by_any (RoundStopped bundle_meaning n.first n.links n'.links n.store n'.store o o') (BreaksTurn bundle_meaning n.first n.links n.store o o')
+    (λ e w. turn_breaks bundle_meaning n.first n.links n'.links n.store n'.store o o' e w) x stopped
+
+pub beginning_breaks_off : (session : Session) (n n' : NodeValue) (o o' : Outside) (x : NodeFault) → ByFault (BeginStopped bundle_meaning session n.links n'.links n.store n'.store o o') x
+    → BreaksBeginning bundle_meaning session n.links n.store o o'
+beginning_breaks_off session n n' o o' x stopped =
+    by_any (BeginStopped bundle_meaning session n.links n'.links n.store n'.store o o') (BreaksBeginning bundle_meaning session n.links n.store o o')
+    (λ e w. beginning_breaks bundle_meaning session n.links n'.links n.store n'.store o o' e w) x stopped
+
+-- ---- of a device that is another one by name
+
+pub adds_seen : (e : Entry) (r : Result Ran StepFault) (d old new : DeviceValue) → d ≡ old → DeviceAddsEntry e r d new → DeviceAddsEntry e r old new
+adds_seen e r d old new is adds = subst (λ (x : DeviceValue). DeviceAddsEntry e r x new) is adds
+
+pub attaches_seen : (plan : Plan) (its_nonce : Option (List ℕ)) (r : Result (Option ℕ) StepFault) (d old new : DeviceValue) → d ≡ old → DeviceBeginsSession plan its_nonce r d new → DeviceBeginsSession plan its_nonce r old new
+attaches_seen plan its_nonce r d old new is attaches = subst (λ (x : DeviceValue). DeviceBeginsSession plan its_nonce r x new) is attaches
 
 pub turns_seen : (r : Result (Option Bool) StepFault) (d old new : DeviceValue) → d ≡ old → DeviceMakesTurn r d new → DeviceMakesTurn r old new
 turns_seen r d old new is turns = subst (λ (x : DeviceValue). DeviceMakesTurn r x new) is turns
 
--- one that was made
-pub turn_made : (still quiet : Bool) (n n' : NodeValue) (old new : DeviceValue) → old.node ≡ Some n → new.node ≡ Some n' → new.clock ≡ old.clock → new.stop ≡ old.stop → HostGoesOn old.host new.host → IsAhead new.stop new.host → n'.first ≡ n.first → still ≡ quiet
-    → MakesTurn bundle_meaning n.first n.links n'.links n.store n'.store (host_told old.host) (host_told new.host) quiet → DeviceMakesTurn (Ok (Some still)) old new
-turn_made still quiet n n' old new was is clock stop since ahead first same turn = (
-  record { clock = clock; stop = stop; since = since; ahead = ahead },
-  of_nodes (λ m m'. HasTurned still old.host new.host m m') n n' old.node new.node was is (record {
-    same_first = first;
-    turn = subst (λ (b : Bool). MakesTurn bundle_meaning n.first n.links n'.links n.store n'.store (host_told old.host) (host_told new.host) b) (sym same) turn;
-  }),
-)
-
--- one that was broken off
-pub turn_broken : (n : NodeValue) (at : MemHostValue) (old new : DeviceValue) → old.node ≡ Some n → BreaksTurn bundle_meaning n.first n.links n.store (host_told old.host) (host_told at)
-    → HostGoesOn old.host at → BreaksOff old.stop at new → new.clock ≡ old.clock → DeviceMakesTurn (Ok None) old new
-turn_broken n at old new was breaks since off clock = record {
-  at = at;
-  since = since;
-  broken = of_node (λ m. BreaksTurn bundle_meaning m.first m.links m.store (host_told old.host) (host_told at)) n old.node was breaks;
-  off = off;
-  clock = clock;
-}
-
--- what fits a store stands for its journal as it reads
-reads_as : (s : StoreValue) (files : Option (Two File)) (j : List (List Entry)) → FitsWith bundle_meaning s files j → ReadsAs bundle_meaning files j
-reads_as s files j fits = (fits.0, fits.1, fits.2.stands_for)
-
--- a path that was gone to its end came to some place
-run_broken : (terms : Terms) (p q : Place) (s s' : StoreValue) (o o' : Outside) → RunRuns bundle_meaning terms p q s s' o o' → RunBreaks bundle_meaning terms p s o o'
-run_broken terms p q s s' o o' runs = record {
-  to = q;
-  next = [];
-  beyond = q;
-  goes_on = refl;
-  runs = record {
-    events = runs.events;
-    path = runs.path;
-    told = runs.told;
-    journal = λ j before. reads_as s' o'.files (j ++ batches_of runs.events) (runs.journal j before);
-    calls = runs.calls;
-  };
-}
-
-turn_stops : (n n' : NodeValue) (o o' : Outside) (quiet : Bool) → MakesTurn bundle_meaning n.first n.links n'.links n.store n'.store o o' quiet → BreaksTurn bundle_meaning n.first n.links n.store o o'
-turn_stops n n' o o' quiet turn = record {
-  stops = λ terms heard moved still made first read unended.
-      let whole = turn.leads terms heard moved still made first read unended in
-      run_broken terms _ _ n.store n'.store o o' whole.runs;
-}
-
--- one that failed: it filled the journal, or found no memory
-failed_turn : (r : Result (Unit {0}) StepFault) (e : StepFault) (f : NodeFault) (n : NodeValue) (store : StoreValue) (at : MemHostValue) (old new : DeviceValue) → r ≡ Err e → IsNotRefused r → old.node ≡ Some n
-    → (IsErrOf r fault.Full → (f ≡ node_fault.Full) × (new.host ≡ at))
-    → store.limit ≡ n.store.limit → (f ≡ node_fault.Full → FullTurn bundle_meaning n.first n.links n.store store (host_told old.host) (host_told at))
-    → BreaksTurn bundle_meaning n.first n.links n.store (host_told old.host) (host_told at) → ComesOf at new.host → HostGoesOn old.host at → DeviceMakesTurn (Err e) old new
-failed_turn r fault.Refused f n store at old new is unrefused was full limit fills breaks left since = subst (λ (x : Result (Unit {0}) StepFault). IsNotRefused x) is unrefused
-failed_turn r fault.Full f n store at old new is unrefused was full limit fills breaks left since =
-    let at_full = full is in
-    of_node (λ m. FullInTurn old.host new.host m) n old.node was (record {
-      store = store;
-      limit = limit;
-      fills = subst (λ (h : MemHostValue). FullTurn bundle_meaning n.first n.links n.store store (host_told old.host) (host_told h)) (sym at_full.1) (fills at_full.0);
-    })
-failed_turn r fault.Memory f n store at old new is unrefused was full limit fills breaks left since =
-    inr (record { at = at; since = since; broken = of_node (λ m. BreaksTurn bundle_meaning m.first m.links m.store (host_told old.host) (host_told at)) n old.node was breaks; left = left })
-
--- one whose links or clock found no memory, or that passed the call at which its disk is to stop
-starved_turn : (r : Result (Unit {0}) StepFault) (e : StepFault) (n n' : NodeValue) (quiet : Bool) (old new : DeviceValue) → r ≡ Err e → IsNotRefused r → IsNotFull r → old.node ≡ Some n
-    → MakesTurn bundle_meaning n.first n.links n'.links n.store n'.store (host_told old.host) (host_told new.host) quiet → HostGoesOn old.host new.host → DeviceMakesTurn (Err e) old new
-starved_turn r fault.Refused n n' quiet old new is unrefused unfilled was turn since = subst (λ (x : Result (Unit {0}) StepFault). IsNotRefused x) is unrefused
-starved_turn r fault.Full n n' quiet old new is unrefused unfilled was turn since = absurd (subst (λ (x : Result (Unit {0}) StepFault). IsNotFull x) is unfilled)
-starved_turn r fault.Memory n n' quiet old new is unrefused unfilled was turn since =
-    inr (record {
-      at = new.host;
-      since = since;
-      broken = of_node (λ m. BreaksTurn bundle_meaning m.first m.links m.store (host_told old.host) (host_told new.host)) n old.node was (turn_stops n n' (host_told old.host) (host_told new.host) quiet turn);
-      left = comes_same new.host;
-    })
-
--- an error that is passed on as it is
-pub turn_failed : (r : Result (Option Bool) StepFault) (e : StepFault) (f : NodeFault) (n : NodeValue) (store : StoreValue) (at : MemHostValue) (old new : DeviceValue) → IsErrAnd r (λ x. x ≡ e)
-    → IsNotRefused {A = Unit {0}} (Err e) → old.node ≡ Some n → (IsErrOf {T = Unit {0}} (Err e) fault.Full → (f ≡ node_fault.Full) × (new.host ≡ at))
-    → store.limit ≡ n.store.limit → (f ≡ node_fault.Full → FullTurn bundle_meaning n.first n.links n.store store (host_told old.host) (host_told at))
-    → BreaksTurn bundle_meaning n.first n.links n.store (host_told old.host) (host_told at) → ComesOf at new.host → HostGoesOn old.host at → DeviceMakesTurn r old new
-turn_failed (Ok a) e f n store at old new is unrefused was full limit fills breaks left since = absurd is
-turn_failed (Err x) e f n store at old new is unrefused was full limit fills breaks left since =
-    failed_turn (Err e) x f n store at old new (ap (λ (y : StepFault). Err y) (sym is)) unrefused was full limit fills breaks left since
-
-pub turn_starved : (r : Result (Option Bool) StepFault) (e : StepFault) (n n' : NodeValue) (quiet : Bool) (old new : DeviceValue) → IsErrAnd r (λ x. x ≡ e) → IsNotRefused {A = Unit {0}} (Err e) → IsNotFull {A = Unit {0}} (Err e)
-    → old.node ≡ Some n → MakesTurn bundle_meaning n.first n.links n'.links n.store n'.store (host_told old.host) (host_told new.host) quiet → HostGoesOn old.host new.host → DeviceMakesTurn r old new
-turn_starved (Ok a) e n n' quiet old new is unrefused unfilled was turn since = absurd is
-turn_starved (Err x) e n n' quiet old new is unrefused unfilled was turn since = starved_turn (Err e) x n n' quiet old new (ap (λ (y : StepFault). Err y) (sym is)) unrefused unfilled was turn since
+-- ---- what is answered
 
 -- what a device answers by the comparison of what its node answers
 pub still_by : (t : Turned) (b : Bool) → b ≡ sameb the_type t turned_kind.Still → b ≡ is_still t
 still_by turned_kind.Still b is = is
 still_by turned_kind.Moving b is = is
-
--- ---- a session that begins
-
-pub attaches_seen : (plan : Plan) (its_nonce : Option (List ℕ)) (r : Result (Option ℕ) StepFault) (d old new : DeviceValue) → d ≡ old → DeviceBeginsSession plan its_nonce r d new → DeviceBeginsSession plan its_nonce r old new
-attaches_seen plan its_nonce r d old new is attaches = subst (λ (x : DeviceValue). DeviceBeginsSession plan its_nonce r x new) is attaches
-
--- it began
-began : (plan : Plan) (its_nonce : Option (List ℕ)) (session : ℕ) (n n' : NodeValue) (old new : DeviceValue) → old.node ≡ Some n → new.node ≡ Some n'
-    → session ≡ n.store.state.facts.begun → n'.first ≡ n.first
-    → BeginsNextSession bundle_meaning (session_of n.store.state.facts.begun plan its_nonce) n.links n'.links n.store n'.store (host_told old.host) (host_told new.host)
-    → n'.store.state.facts ≡ after_all n.store.state.facts (entry.Session (session_of n.store.state.facts.begun plan its_nonce) ∷ []) → HasAttached plan its_nonce session old new
-began plan its_nonce session n n' old new was is number first begins facts_are =
-    of_nodes (λ m m'. HasBegunOnLink plan its_nonce session old.host new.host m m') n n' old.node new.node was is (record { number = number; same_first = first; begins = begins; facts_are = facts_are })
-
-pub session_begun : (plan : Plan) (its_nonce : Option (List ℕ)) (session : ℕ) (n n' : NodeValue) (old new : DeviceValue) → old.node ≡ Some n → new.node ≡ Some n' → new.clock ≡ old.clock → new.stop ≡ old.stop
-    → HostGoesOn old.host new.host → IsAhead new.stop new.host → session ≡ n.store.state.facts.begun → n'.first ≡ n.first
-    → BeginsNextSession bundle_meaning (session_of n.store.state.facts.begun plan its_nonce) n.links n'.links n.store n'.store (host_told old.host) (host_told new.host)
-    → n'.store.state.facts ≡ after_all n.store.state.facts (entry.Session (session_of n.store.state.facts.begun plan its_nonce) ∷ []) → DeviceBeginsSession plan its_nonce (Ok (Some session)) old new
-session_begun plan its_nonce session n n' old new was is clock stop since ahead number first begins facts_are =
-    (record { clock = clock; stop = stop; since = since; ahead = ahead }, began plan its_nonce session n n' old new was is number first begins facts_are)
-
-pub beginning_broken : (plan : Plan) (its_nonce : Option (List ℕ)) (n : NodeValue) (at : MemHostValue) (old new : DeviceValue) → old.node ≡ Some n
-    → BreaksBeginning bundle_meaning (session_of n.store.state.facts.begun plan its_nonce) n.links n.store (host_told old.host) (host_told at)
-    → HostGoesOn old.host at → BreaksOff old.stop at new → new.clock ≡ old.clock → DeviceBeginsSession plan its_nonce (Ok None) old new
-beginning_broken plan its_nonce n at old new was breaks since off clock = record {
-  at = at;
-  since = since;
-  broken = of_node (λ m. BreaksBeginning bundle_meaning (next_session plan its_nonce m) m.links m.store (host_told old.host) (host_told at)) n old.node was breaks;
-  off = off;
-  clock = clock;
-}
-
-failed_beginning : (plan : Plan) (its_nonce : Option (List ℕ)) (r : Result (Unit {0}) StepFault) (e : StepFault) (f : NodeFault) (n : NodeValue) (store : StoreValue) (at : MemHostValue) (old new : DeviceValue) → r ≡ Err e
-    → IsNotRefused r → old.node ≡ Some n → (IsErrOf r fault.Full → (f ≡ node_fault.Full) × (new.host ≡ at))
-    → store.limit ≡ n.store.limit → (f ≡ node_fault.Full → FullBeginning bundle_meaning (session_of n.store.state.facts.begun plan its_nonce) n.first n.links n.store store (host_told old.host) (host_told at))
-    → BreaksBeginning bundle_meaning (session_of n.store.state.facts.begun plan its_nonce) n.links n.store (host_told old.host) (host_told at) → ComesOf at new.host → HostGoesOn old.host at → DeviceBeginsSession plan its_nonce (Err e) old new
-failed_beginning plan its_nonce r fault.Refused f n store at old new is unrefused was full limit fills breaks left since = absurd (subst (λ (x : Result (Unit {0}) StepFault). IsNotRefused x) is unrefused)
-failed_beginning plan its_nonce r fault.Full f n store at old new is unrefused was full limit fills breaks left since =
-    let at_full = full is in
-    of_node (λ m. FullAtBeginning plan its_nonce old.host new.host m) n old.node was (record {
-      store = store;
-      limit = limit;
-      fills = subst (λ (h : MemHostValue). FullBeginning bundle_meaning (session_of n.store.state.facts.begun plan its_nonce) n.first n.links n.store store (host_told old.host) (host_told h)) (sym at_full.1) (fills at_full.0);
-    })
-failed_beginning plan its_nonce r fault.Memory f n store at old new is unrefused was full limit fills breaks left since =
-    inl (inr (record {
-      at = at;
-      since = since;
-      broken = of_node (λ m. BreaksBeginning bundle_meaning (next_session plan its_nonce m) m.links m.store (host_told old.host) (host_told at)) n old.node was breaks;
-      left = left;
-    }))
-
-starved_beginning : (plan : Plan) (its_nonce : Option (List ℕ)) (r : Result (Unit {0}) StepFault) (e : StepFault) (session : ℕ) (old new : DeviceValue) → r ≡ Err e → IsNotRefused r → IsNotFull r → HasAttached plan its_nonce session old new
-    → DeviceBeginsSession plan its_nonce (Err e) old new
-starved_beginning plan its_nonce r fault.Refused session old new is unrefused unfilled has = absurd (subst (λ (x : Result (Unit {0}) StepFault). IsNotRefused x) is unrefused)
-starved_beginning plan its_nonce r fault.Full session old new is unrefused unfilled has = absurd (subst (λ (x : Result (Unit {0}) StepFault). IsNotFull x) is unfilled)
-starved_beginning plan its_nonce r fault.Memory session old new is unrefused unfilled has = inr (session, has)
-
-pub beginning_failed : (plan : Plan) (its_nonce : Option (List ℕ)) (r : Result (Option ℕ) StepFault) (e : StepFault) (f : NodeFault) (n : NodeValue) (store : StoreValue) (at : MemHostValue) (old new : DeviceValue)
-    → IsErrAnd r (λ x. x ≡ e) → IsNotRefused {A = Unit {0}} (Err e) → old.node ≡ Some n → (IsErrOf {T = Unit {0}} (Err e) fault.Full → (f ≡ node_fault.Full) × (new.host ≡ at))
-    → store.limit ≡ n.store.limit → (f ≡ node_fault.Full → FullBeginning bundle_meaning (session_of n.store.state.facts.begun plan its_nonce) n.first n.links n.store store (host_told old.host) (host_told at))
-    → BreaksBeginning bundle_meaning (session_of n.store.state.facts.begun plan its_nonce) n.links n.store (host_told old.host) (host_told at) → ComesOf at new.host → HostGoesOn old.host at → DeviceBeginsSession plan its_nonce r old new
-beginning_failed plan its_nonce (Ok a) e f n store at old new is unrefused was full limit fills breaks left since = absurd is
-beginning_failed plan its_nonce (Err x) e f n store at old new is unrefused was full limit fills breaks left since =
-    failed_beginning plan its_nonce (Err e) x f n store at old new (ap (λ (y : StepFault). Err y) (sym is)) unrefused was full limit fills breaks left since
-
-pub beginning_starved : (plan : Plan) (its_nonce : Option (List ℕ)) (r : Result (Option ℕ) StepFault) (e : StepFault) (session : ℕ) (n n' : NodeValue) (old new : DeviceValue) → IsErrAnd r (λ x. x ≡ e) → IsNotRefused {A = Unit {0}} (Err e)
-    → IsNotFull {A = Unit {0}} (Err e) → old.node ≡ Some n → new.node ≡ Some n' → session ≡ n.store.state.facts.begun → n'.first ≡ n.first
-    → BeginsNextSession bundle_meaning (session_of n.store.state.facts.begun plan its_nonce) n.links n'.links n.store n'.store (host_told old.host) (host_told new.host)
-    → n'.store.state.facts ≡ after_all n.store.state.facts (entry.Session (session_of n.store.state.facts.begun plan its_nonce) ∷ []) → DeviceBeginsSession plan its_nonce r old new
-beginning_starved plan its_nonce (Ok a) e session n n' old new is unrefused unfilled was now number first begins facts_are = absurd is
-beginning_starved plan its_nonce (Err x) e session n n' old new is unrefused unfilled was now number first begins facts_are =
-    starved_beginning plan its_nonce (Err e) x session old new (ap (λ (y : StepFault). Err y) (sym is)) unrefused unfilled (began plan its_nonce session n n' old new was now number first begins facts_are)
-
--- ---- what is not refused
 
 not_refused : (e : StepFault) → IsNotRefused {A = Unit {0}} (Err e) → IsNotRefused {A = Option ℕ} (Err e)
 not_refused fault.Refused unrefused = unrefused
@@ -227,7 +132,7 @@ handed_unrefused (Err x) e is unrefused = subst (λ (y : StepFault). IsNotRefuse
 
 -- a link that a device may have, to a contact that is known
 link_allowed : (node : Option NodeValue) (n : NodeValue) (links contact : ℕ) → node ≡ Some n → links < LINKS → contact < n.store.state.facts.contacts → refuses_link node links contact ≡ false
-link_allowed node n links contact is within known =
+link_allowed maybe n links contact is within known =
     let both : (nat_le LINKS links || nat_le n.store.state.facts.contacts contact) ≡ false = grind (arith, nat_tests) in
     subst (λ (x : Option NodeValue). refuses_link x links contact ≡ false) (sym is) both
 

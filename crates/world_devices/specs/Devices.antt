@@ -51,6 +51,12 @@ pub record IsAnew (clock : ℕ) (host : MemHostValue) : Type 0 where
 abbrev pub HostGoesOn : MemHostValue → MemHostValue → Type 0
 HostGoesOn old new = CallsGoOn (calls_of old.disk) (calls_of new.disk)
 
+-- no call of its disk was made, and its files are as before
+pub record LeavesDisk (old new : MemHostValue) : Type 0 where
+  pub files : (host_told new).files ≡ (host_told old).files
+  pub made : new.disk.made ≡ old.disk.made
+  pub calls : HostGoesOn old new
+
 -- a store that was loaded and settled, with the greatest limit
 pub record IsStarted (s : StoreValue) (host : MemHostValue) : Type 0 where
   pub ready : IsReady bundle_meaning s (host_told host).files

@@ -1,7 +1,7 @@
 -- What calls of a device do: the entry that stands in its journal, a turn, and where a stop of its disk leads.
-use Rattle.std.specs.Prelude.{◌≡◌, ◌⊎◌, ℕ, ◌+◌, ◌*◌, ◌<◌, ◌≤◌, ◌^◌, Bool, if◌then◌else◌, nat_lt, List, [], ◌∷◌, ◌++◌, length, Option, Some, None, Result, Ok, Err}
+use Rattle.std.specs.Prelude.{◌≡◌, ◌≢◌, ◌⊎◌, ℕ, ◌+◌, ◌*◌, ◌<◌, ◌≤◌, ◌^◌, Bool, false, slice_get, if◌then◌else◌, nat_lt, List, [], ◌∷◌, ◌++◌, length, Option, Some, None, Result, Ok, Err}
 use Rattle.std.specs.Option.{option_map}
-use Rattle.outside.specs.Files.{Two, File, IsImage}
+use Rattle.outside.specs.Files.{Two, IsImage}
 use Rattle.outside.specs.HostTold.{host_told}
 use Rattle.outside.specs.Links.{Planned}
 use Rattle.outside.specs.Calls.{CallsGoOn}
@@ -20,14 +20,19 @@ use Rattle.sync_rules.specs.Legal.{AllSettling}
 use Rattle.sync_rules.specs.Steps.{IsSettled}
 use Rattle.sync_store.specs.Store.{StoreValue}
 use Rattle.sync_store.specs.Commits.{needed}
+use Rattle.sync_store.specs.Fitting.{FitsFiles}
 use Rattle.sync_node.specs.Adding.{AddsAtMost, AddsOne, AddsWithin, GoesOnSettling}
-use Rattle.sync_node.specs.Courses.{BeginsNextSession, BreaksBeginning, BreaksTurn, MakesTurn}
+use Rattle.sync_course.specs.Links as course_links
+use Rattle.sync_course.specs.Turns.{Attaches, Between, Place, Terms, is_at_end}
+use Rattle.sync_course.specs.declared.ends.LinkEnd.TheVariants as link_end
+use Rattle.sync_node.specs.Courses.{AllRead, BreaksBeginning, BreaksTurn, MakesTurn, RunRuns, place_at}
+use Rattle.sync_node.specs.Fulls.{RunFull}
 use Rattle.sync_node.specs.Node.{NodeValue}
+use Rattle.sync_node.specs.Output.{output, sent_on}
 use Rattle.sync_node.specs.Plans.{session_of}
 use Rattle.sync_node.specs.declared.node.Plan.{Plan}
 use Rattle.world_devices.specs.Devices.{DeviceValue, HostGoesOn, IsAnew}
-use Rattle.world_devices.specs.Fulls.{FullBeginning, FullTurn}
-use Rattle.world_devices.specs.Keeping.{Journal}
+use Rattle.world_devices.specs.Keeping.{AfterCrash, Journal, LeavesSome, StandsForSome}
 use Rattle.world_devices.specs.Linking.{IsUnlinked}
 use Rattle.world_devices.specs.Running.{HoldsAfterCrash}
 use Rattle.world_devices.specs.declared.stop.Ran.{Ran}
@@ -52,45 +57,43 @@ pub record KeepsOwn (old new : DeviceValue) : Type 0 where
 
 -- ---- a device that starts again
 
--- whatever a crash leaves of the files of a host stands for this journal with settling behind it, which is settled
-pub record SettlesFrom (j : Journal) (host : MemHostValue) : Type 0 where
+-- whatever a crash leaves of the files of a host stands for one journal that has this, which is settled
+pub record HoldsSettled (Has : Journal → Type 0) (host : MemHostValue) : Type 0 where
   pub whole : Journal
-  pub goes_on : GoesOnSettling bundle_meaning j whole
+  pub has : Has whole
   pub settled : IsSettled bundle_meaning (facts whole)
   pub holds : HoldsAfterCrash whole host
 
--- files that stand for this journal with settling behind it, as far as that had come
-pub record StandsSettling (j : Journal) (files : Two (List ℕ)) : Type 0 where
-  pub whole : Journal
-  pub goes_on : GoesOnSettling bundle_meaning j whole
-  pub stands_for : stands bundle_meaning files ≡ journal whole
-
--- whatever a crash leaves of the files of a host
-pub record HoldsSettling (j : Journal) (host : MemHostValue) : Type 0 where
-  pub each : (two : Two File) → (host_told host).files ≡ Some two → (left : Two (List ℕ)) → IsImage two left → StandsSettling j left
+-- it is this journal with settling behind it
+abbrev pub SettlesFrom : Journal → MemHostValue → Type 0
+SettlesFrom j host = HoldsSettled (GoesOnSettling bundle_meaning j) host
 
 -- files that a crash might have left of this host, or what came of these by settling
 pub record ComesOfImage (at : MemHostValue) (files : Two (List ℕ)) : Type 0 where
   pub before : Two (List ℕ)
   pub image : IsImage (files_of (disk_files at.disk)) before
-  pub settles : (j : Journal) → stands bundle_meaning before ≡ journal j → StandsSettling j files
+  pub settles : (j : Journal) → stands bundle_meaning before ≡ journal j → StandsForSome (GoesOnSettling bundle_meaning j) files
 
 -- so is whatever a crash leaves of the files of another host
-pub record ComesOf (at host : MemHostValue) : Type 0 where
-  pub each : (two : Two File) → (host_told host).files ≡ Some two → (left : Two (List ℕ)) → IsImage two left → ComesOfImage at left
+abbrev pub ComesOf : MemHostValue → MemHostValue → Type 0
+ComesOf at host = AfterCrash (ComesOfImage at) (host_told host)
 
--- Settling behind this journal came there by no more than four calls of the disk for each of some settling batches.
-pub record SettlesWithin (j : Journal) (old new : Outside) : Type 0 where
+-- Settling behind this journal came there by no more than so many calls of the disk, and four for each of some settling batches.
+pub record SettlesWithin (calls : ℕ) (j : Journal) (old new : Outside) : Type 0 where
   pub more : Journal
   pub settling : AllSettling bundle_meaning (facts j) more
-  pub most : MakesAtMost (4 * length more) old new
+  pub most : MakesAtMost (calls + 4 * length more) old new
 
--- A start over files that stand for this journal came there by no more calls of the disk than its load takes, and four for each of
--- some settling batches behind it.
-pub record StartsWithin (j : Journal) (old new : Outside) : Type 0 where
-  pub more : Journal
-  pub settling : AllSettling bundle_meaning (facts j) more
-  pub most : MakesAtMost (2 * length j + 7 + 4 * length more) old new
+-- as many calls as the load of this journal takes at most
+abbrev pub load_calls : Journal → ℕ
+load_calls j = 2 * length j + 7
+
+-- A host was settled as far as that had come: behind its calls of before no more were made of its disk than that takes, and a
+-- crash may leave what it might have left before, or what came of that by settling.
+pub record Settles (most : Journal → ℕ) (old new : MemHostValue) : Type 0 where
+  pub calls : HostGoesOn old new
+  pub left : ComesOf old new
+  pub within : (j : Journal) → HoldsAfterCrash j old → SettlesWithin (most j) j (host_told old) (host_told new)
 
 -- A device was started again over this image of the files of a host: what the image stands for was settled. It has no links, and
 -- no stop is left.
@@ -130,6 +133,18 @@ pub record GivesUp (Broken : MemHostValue → Type 0) (old new : DeviceValue) : 
 abbrev pub GivesUpIn : (MemHostValue → Type 0) → DeviceValue → DeviceValue → Type 0
 GivesUpIn Broken old new = (new ≡ old) ⊎ GivesUp Broken old new
 
+-- ---- a call of its node
+
+-- What came of it: it was done, with this answer, or the journal is full. Or it was broken off by the stop of the disk, or for want
+-- of memory, where it may have been done too.
+abbrev pub DeviceCalls : {A : Type 0} → (Done : A → Type 0) → (Broken : MemHostValue → Type 0) → (Full : Type 0)
+    → Result (Option A) StepFault → DeviceValue → DeviceValue → Type 0
+DeviceCalls Done Broken Full (Ok (Some a)) old new = KeepsOwn old new × Done a
+DeviceCalls Done Broken Full (Ok None) old new = StopsIn Broken old new
+DeviceCalls Done Broken Full (Err fault.Refused) old new = new ≡ old
+DeviceCalls Done Broken Full (Err fault.Full) old new = Full
+DeviceCalls {A} Done Broken Full (Err fault.Memory) old new = GivesUpIn Broken old new ⊎ (HostGoesOn old.host new.host × ((a : A) × Done a))
+
 -- ---- an entry
 
 -- of a device that runs, and of one that runs before and after a call
@@ -141,23 +156,6 @@ abbrev pub OfNodes : (NodeValue → NodeValue → Type 0) → Option NodeValue �
 OfNodes P (Some n) (Some n') = P n n'
 OfNodes P _ _ = ⊥
 
--- the journal with the entry and settling behind it
-pub record HasEntryAdded (e : Entry) (j : Journal) (new : DeviceValue) : Type 0 where
-  pub whole : Journal
-  pub adds : AddsOne bundle_meaning j (e ∷ []) whole
-  pub settled : IsSettled bundle_meaning (facts whole)
-  pub holds : HoldsAfterCrash whole new.host
-
--- files that stand for this journal, or for it with the entry and settling behind it
-pub record StandsAtMost (e : Entry) (j : Journal) (files : Two (List ℕ)) : Type 0 where
-  pub whole : Journal
-  pub at_most : AddsAtMost bundle_meaning j (e ∷ []) whole
-  pub stands_for : stands bundle_meaning files ≡ journal whole
-
--- whatever a crash leaves of the files of a host
-pub record HoldsAtMost (e : Entry) (j : Journal) (host : MemHostValue) : Type 0 where
-  pub each : (two : Two File) → (host_told host).files ≡ Some two → (left : Two (List ℕ)) → IsImage two left → StandsAtMost e j left
-
 -- with the entry the journal would pass its limit
 abbrev pub EntryPassesLimit : Entry → Option NodeValue → Type 0
 EntryPassesLimit e None = ⊥
@@ -168,59 +166,66 @@ pub record KeepsRest (old new : DeviceValue) : Type 0 where
   pub node : option_map (λ (n : NodeValue). n.links) new.node ≡ option_map (λ (n : NodeValue). n.links) old.node
   pub told : (host_told new.host).links ≡ (host_told old.host).links
 
--- at most the entry stands there in a journal that was held
-abbrev pub HasAtMost : Entry → DeviceValue → MemHostValue → Type 0
-HasAtMost e old at = (j : Journal) → HoldsAfterCrash j old.host → HoldsAtMost e j at
+-- Adding it came there: at most the entry, with settling behind it, stands in a journal that was held, and no more calls of the disk
+-- were made than four for its batch and for each settling batch.
+abbrev pub CameAdding : Entry → Option NodeValue → MemHostValue → MemHostValue → Type 0
+CameAdding e node h at =
+    ((j : Journal) → HoldsAfterCrash j h → LeavesSome (AddsAtMost bundle_meaning j (e ∷ [])) (host_told at))
+    × OfNode (λ n. AddsWithin bundle_meaning (e ∷ []) n.store (host_told h) (host_told at)) node
 
--- adding it came there, by at most four calls of the disk for its batch and for each settling batch behind it
-abbrev pub CameAdding : Entry → DeviceValue → MemHostValue → Type 0
-CameAdding e old at = OfNode (λ n. AddsWithin bundle_meaning (e ∷ []) n.store (host_told old.host) (host_told at)) old.node
+-- a call that answers Done, or that it crashed
+abbrev pub if_done : Result Ran StepFault → Result (Option (Unit {0})) StepFault
+if_done (Ok ran.Done) = Ok (Some tt)
+if_done (Ok ran.Crashed) = Ok None
+if_done (Err e) = Err e
 
 -- An entry is added: it stands in the journal, with settling behind it, and nothing else was done. Where the stop fell in it, at
--- most that stood in the files when the disk failed, and no more calls were made than that takes; no more stood there where it
--- found no memory. It is full where the journal
--- would pass its limit, and then its host is as before.
+-- most that stood in the files when the disk failed; so it is where it found no memory. It is full where the journal would pass
+-- its limit, and then its host is as before.
 abbrev pub DeviceAddsEntry : Entry → Result Ran StepFault → DeviceValue → DeviceValue → Type 0
-DeviceAddsEntry e (Ok ran.Done) old new = KeepsOwn old new × ((j : Journal) → HoldsAfterCrash j old.host → HasEntryAdded e j new) × KeepsRest old new
-DeviceAddsEntry e (Ok ran.Crashed) old new = StopsIn (λ at. HasAtMost e old at × CameAdding e old at) old new
-DeviceAddsEntry e (Err fault.Refused) old new = new ≡ old
-DeviceAddsEntry e (Err fault.Full) old new = EntryPassesLimit e old.node × (new.host ≡ old.host)
-DeviceAddsEntry e (Err fault.Memory) old new = GivesUpIn (HasAtMost e old) old new
+DeviceAddsEntry e r old new =
+    DeviceCalls (λ done. ((j : Journal) → HoldsAfterCrash j old.host → HoldsSettled (AddsOne bundle_meaning j (e ∷ [])) new.host) × KeepsRest old new)
+    (CameAdding e old.node old.host) (EntryPassesLimit e old.node × (new.host ≡ old.host)) (if_done r) old new
 
 -- ---- links
+
+-- A call led from this place to one from which the next step commits a batch with which the journal would pass its limit; and each
+-- link that has not failed there has sent all output of its session, by whatever journal fits the store then.
+pub record FullSent (terms : Terms) (p : Place) (n : NodeValue) (store : StoreValue) (h h' : MemHostValue) : Type 0 where
+  pub full : RunFull bundle_meaning terms p n.store store (host_told h) (host_told h')
+  pub sent : (i : ℕ) (l : course_links.Link) → slice_get full.to.links i ≡ Some l → l.stands ≢ link_end.Failed → (whole : Journal)
+      → FitsFiles bundle_meaning store whole (files_of (disk_files h'.disk)) → sent_on (host_told h').links i ≡ output whole (n.first + i)
 
 -- the next session of a node, by its plan
 abbrev pub next_session : Plan → Option (List ℕ) → NodeValue → Session
 next_session plan its_nonce n = session_of n.store.state.facts.begun plan its_nonce
 
--- the next session began on the next link, and greeted there, as a course has it; it stands in the journal
+-- The next session began on the next link, on which nothing was heard, and greeted there, as a course has it; it stands in the
+-- journal.
 pub record HasBegunOnLink (plan : Plan) (its_nonce : Option (List ℕ)) (session : ℕ) (h h' : MemHostValue) (n n' : NodeValue) : Type 0 where
   pub number : session ≡ n.store.state.facts.begun
+  pub on_next : session ≡ n.first + length n.links
   pub same_first : n'.first ≡ n.first
-  pub begins : BeginsNextSession bundle_meaning (next_session plan its_nonce n) n.links n'.links n.store n'.store (host_told h) (host_told h')
+  pub has_read : (heard : ℕ → List ℕ) → heard (length n.links) ≡ [] → AllRead heard n.links → AllRead heard n'.links
+  pub runs : (terms : Terms) (left : List Session) (heard : ℕ → List ℕ) (moved : Bool) (still made : ℕ) → terms.first ≡ n.first → heard (length n.links) ≡ []
+      → RunRuns bundle_meaning terms (place_at (Attaches (next_session plan its_nonce n ∷ left)) n.links heard moved still made n.store.state.facts)
+      (place_at (Attaches left) n'.links heard moved still made n'.store.state.facts) n.store n'.store (host_told h) (host_told h')
   pub facts_are : n'.store.state.facts ≡ after_all n.store.state.facts (entry.Session (next_session plan its_nonce n) ∷ [])
 
 -- the session's batch, which was next, would pass the limit of the journal
 pub record FullAtBeginning (plan : Plan) (its_nonce : Option (List ℕ)) (h h' : MemHostValue) (n : NodeValue) : Type 0 where
   pub store : StoreValue
   pub limit : store.limit ≡ n.store.limit
-  pub fills : FullBeginning bundle_meaning (next_session plan its_nonce n) n.first n.links n.store store (host_told h) (host_told h')
+  pub fills : (terms : Terms) (left : List Session) (heard : ℕ → List ℕ) (moved : Bool) (still made : ℕ)
+      → FullSent terms (place_at (Attaches (next_session plan its_nonce n ∷ left)) n.links heard moved still made n.store.state.facts) n store h h'
 
--- it had come to some place of a course, by no more calls of the disk than the batches of its path take and those that were next
-abbrev pub BreaksAttaching : Plan → Option (List ℕ) → DeviceValue → MemHostValue → Type 0
-BreaksAttaching plan its_nonce old at = OfNode (λ n. BreaksBeginning bundle_meaning (next_session plan its_nonce n) n.links n.store (host_told old.host) (host_told at)) old.node
-
--- the session began on its link
-abbrev pub HasAttached : Plan → Option (List ℕ) → ℕ → DeviceValue → DeviceValue → Type 0
-HasAttached plan its_nonce session old new = OfNodes (λ n n'. HasBegunOnLink plan its_nonce session old.host new.host n n') old.node new.node
-
--- a session begins on a link; where no memory was found it may have begun too
+-- A session begins on a link. Where it was broken off it had come to some place of a course, by no more calls of the disk than the
+-- batches of its path take and those that were next.
 abbrev pub DeviceBeginsSession : Plan → Option (List ℕ) → Result (Option ℕ) StepFault → DeviceValue → DeviceValue → Type 0
-DeviceBeginsSession plan its_nonce (Ok (Some session)) old new = KeepsOwn old new × HasAttached plan its_nonce session old new
-DeviceBeginsSession plan its_nonce (Ok None) old new = StopsIn (BreaksAttaching plan its_nonce old) old new
-DeviceBeginsSession plan its_nonce (Err fault.Refused) old new = new ≡ old
-DeviceBeginsSession plan its_nonce (Err fault.Full) old new = OfNode (λ n. FullAtBeginning plan its_nonce old.host new.host n) old.node
-DeviceBeginsSession plan its_nonce (Err fault.Memory) old new = GivesUpIn (BreaksAttaching plan its_nonce old) old new ⊎ ((session : ℕ) × HasAttached plan its_nonce session old new)
+DeviceBeginsSession plan its_nonce r old new =
+    DeviceCalls (λ session. OfNodes (HasBegunOnLink plan its_nonce session old.host new.host) old.node new.node)
+    (λ at. OfNode (λ n. BreaksBeginning bundle_meaning (next_session plan its_nonce n) n.links n.store (host_told old.host) (host_told at)) old.node)
+    (OfNode (FullAtBeginning plan its_nonce old.host new.host) old.node) r old new
 
 -- one turn of a course was made, in which all was still or not
 pub record HasTurned (still : Bool) (h h' : MemHostValue) (n n' : NodeValue) : Type 0 where
@@ -231,19 +236,16 @@ pub record HasTurned (still : Bool) (h h' : MemHostValue) (n n' : NodeValue) : T
 pub record FullInTurn (h h' : MemHostValue) (n : NodeValue) : Type 0 where
   pub store : StoreValue
   pub limit : store.limit ≡ n.store.limit
-  pub fills : FullTurn bundle_meaning n.first n.links n.store store (host_told h) (host_told h')
+  pub fills : (terms : Terms) (heard : ℕ → List ℕ) (moved : Bool) (still made : ℕ) → terms.first ≡ n.first → AllRead heard n.links
+      → is_at_end terms (place_at Between n.links heard moved still made n.store.state.facts) ≡ false
+      → FullSent terms (place_at Between n.links heard moved still made n.store.state.facts) n store h h'
 
--- it had come to some place of a course, by no more calls of the disk than the batches of its path take and those that were next
-abbrev pub BreaksTurning : DeviceValue → MemHostValue → Type 0
-BreaksTurning old at = OfNode (λ n. BreaksTurn bundle_meaning n.first n.links n.store (host_told old.host) (host_told at)) old.node
-
--- a turn: one of a course, or one that was broken off
+-- a turn of a course; where it was broken off the same holds as of a session
 abbrev pub DeviceMakesTurn : Result (Option Bool) StepFault → DeviceValue → DeviceValue → Type 0
-DeviceMakesTurn (Ok (Some still)) old new = KeepsOwn old new × OfNodes (λ n n'. HasTurned still old.host new.host n n') old.node new.node
-DeviceMakesTurn (Ok None) old new = StopsIn (BreaksTurning old) old new
-DeviceMakesTurn (Err fault.Refused) old new = ⊥
-DeviceMakesTurn (Err fault.Full) old new = OfNode (λ n. FullInTurn old.host new.host n) old.node
-DeviceMakesTurn (Err fault.Memory) old new = GivesUpIn (BreaksTurning old) old new
+DeviceMakesTurn r old new =
+    DeviceCalls (λ still. OfNodes (HasTurned still old.host new.host) old.node new.node)
+    (λ at. OfNode (λ n. BreaksTurn bundle_meaning n.first n.links n.store (host_told old.host) (host_told at)) old.node)
+    (OfNode (FullInTurn old.host new.host) old.node) r old new
 
 -- ---- a host that is told something
 
@@ -282,21 +284,19 @@ pub record StartsAgain (old new : DeviceValue) : Type 0 where
   pub unlinked : IsUnlinked new
   pub loads : (j : Journal) → HoldsAfterCrash j old.host → SettlesFrom j new.host
 
--- the files had come to some settling behind a journal that was held
-abbrev pub HasSettling : DeviceValue → MemHostValue → Type 0
-HasSettling old at = (j : Journal) → HoldsAfterCrash j old.host → HoldsSettling j at
-
--- it came there by no more calls of the disk than a start over such a journal takes
+-- some settling behind a journal that was held had come there, by no more calls of the disk than a start over such a journal takes
 abbrev pub CameStarting : DeviceValue → MemHostValue → Type 0
-CameStarting old at = (j : Journal) → HoldsAfterCrash j old.host → StartsWithin j (host_told old.host) (host_told at)
+CameStarting old at =
+    (j : Journal) → HoldsAfterCrash j old.host
+    → LeavesSome (GoesOnSettling bundle_meaning j) (host_told at) × SettlesWithin (load_calls j) j (host_told old.host) (host_told at)
 
 -- It starts again. Where its disk stopped in that, settling had come so far as it had, no more calls were made than that takes, and it
 -- starts once more.
 abbrev pub DeviceRestarts : Result (Unit {0}) StepFault → DeviceValue → DeviceValue → Type 0
-DeviceRestarts (Ok _) old new = StartsAgain old new ⊎ StopsIn (λ at. HasSettling old at × CameStarting old at) old new
+DeviceRestarts (Ok _) old new = StartsAgain old new ⊎ StopsIn (CameStarting old) old new
 DeviceRestarts (Err fault.Refused) old new = ⊥
 DeviceRestarts (Err fault.Full) old new = ⊥
-DeviceRestarts (Err fault.Memory) old new = GivesUp (HasSettling old) old new
+DeviceRestarts (Err fault.Memory) old new = GivesUp (CameStarting old) old new
 
 -- a call that answers something else than that a journal is full
 abbrev pub IsNotFull : {A : Type 0} → Result A StepFault → Type 0

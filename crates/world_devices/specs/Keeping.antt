@@ -20,25 +20,34 @@ use Rattle.world_laws.specs.Worlds.{HasNoBrief}
 abbrev pub Journal : Type 0
 Journal = List (List Entry)
 
--- files that stand for a journal which goes on from this one, by batches of which none begins a brief account
-pub record GoOnFrom (j : Journal) (files : Two (List ℕ)) : Type 0 where
+-- ---- what a crash leaves
+
+-- whatever a crash leaves now has this
+pub record AfterCrash (Has : Two (List ℕ) → Type 0) (o : Outside) : Type 0 where
+  pub each : (two : Two File) → o.files ≡ Some two → (left : Two (List ℕ)) → IsImage two left → Has left
+
+-- files that stand for a journal that has this
+pub record StandsForSome (Has : Journal → Type 0) (files : Two (List ℕ)) : Type 0 where
+  pub whole : Journal
+  pub has : Has whole
+  pub stands_for : stands bundle_meaning files ≡ journal whole
+
+abbrev pub LeavesSome : (Journal → Type 0) → Outside → Type 0
+LeavesSome Has o = AfterCrash (StandsForSome Has) o
+
+-- a journal goes on from another by batches of which none begins a brief account
+pub record WentOn (j whole : Journal) : Type 0 where
   pub more : Journal
   pub plain : HasNoBrief more
-  pub stands_for : stands bundle_meaning files ≡ journal (j ++ more)
+  pub is : whole ≡ j ++ more
 
 -- whatever a crash leaves now stands for a journal that goes on from this one
-pub record HoldsLaterJournal (j : Journal) (o : Outside) : Type 0 where
-  pub each : (two : Two File) → o.files ≡ Some two → (left : Two (List ℕ)) → IsImage two left → GoOnFrom j left
-
--- files that stand for a legal journal
-pub record StandLegal (files : Two (List ℕ)) : Type 0 where
-  pub whole : Journal
-  pub stands_for : stands bundle_meaning files ≡ journal whole
-  pub legal : Legal bundle_meaning whole
+abbrev pub HoldsLaterJournal : Journal → Outside → Type 0
+HoldsLaterJournal j o = LeavesSome (WentOn j) o
 
 -- whatever a crash leaves now stands for a legal journal
-pub record StandsLegal (o : Outside) : Type 0 where
-  pub each : (two : Two File) → o.files ≡ Some two → (left : Two (List ℕ)) → IsImage two left → StandLegal left
+abbrev pub StandsLegal : Outside → Type 0
+StandsLegal o = LeavesSome (Legal bundle_meaning) o
 
 -- from whatever journal: what went on from it before goes on from it
 abbrev pub KeepsOn : Outside → Outside → Type 0

@@ -5,5 +5,4 @@ pub mod Refusals
 pub mod Brought
 pub mod Running
 pub mod Linking
-pub mod Fulls
 pub mod Doing

@@ -34,9 +34,6 @@ first_of node = option_map (λ (n : NodeValue). n.first) node
 abbrev pub number_of : Option NodeValue → Option ℕ
 number_of node = option_map (λ (n : NodeValue). length n.links) node
 
-abbrev pub store_of : Option NodeValue → Option StoreValue
-store_of node = option_map (λ (n : NodeValue). n.store) node
-
 -- how a link stands, where the device runs and has it
 abbrev pub end_in : Option NodeValue → ℕ → Option LinkEnd
 end_in None link = None

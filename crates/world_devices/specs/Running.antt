@@ -1,8 +1,8 @@
 -- How the journal of a device goes on in a call, and which records it takes.
 use Rattle.std.specs.Prelude.{◌≡◌, ℕ, ◌+◌, ◌-◌, Bool, true, cond, ◌&&◌, nat_le, nat_lt, List, [], ◌++◌, length, Option, Some, None, is_some}
-use Rattle.outside.specs.Files.{Two, File, IsImage, read_files}
-use Rattle.outside.specs.Outside.{Outside}
+use Rattle.outside.specs.Files.{Two, File, read_files}
 use Rattle.outside.specs.HostTold.{host_told}
+use Rattle.outside.specs.MemDisk.{disk_files, files_of}
 use Rattle.outside.specs.MemHost.{MemHostValue}
 use Rattle.record_grammar.specs.Stream.{records}
 use Rattle.sync_ids.specs.declared.records.Record.{Record}
@@ -14,13 +14,13 @@ use Rattle.sync_node.specs.Node.{NodeValue}
 use Rattle.world_laws.specs.Worlds.{AllHeard, HasNoBrief}
 use Rattle.world_devices.specs.Brought.{brought_on}
 use Rattle.world_devices.specs.Devices.{DeviceValue}
-use Rattle.world_devices.specs.Keeping.{Journal}
+use Rattle.world_devices.specs.Keeping.{AfterCrash, Journal}
 
 -- ---- the journal
 
--- whatever a crash leaves of the files now stands for this journal
-pub record HoldsAfterCrash (j : Journal) (host : MemHostValue) : Type 0 where
-  pub each : (two : Two File) → (host_told host).files ≡ Some two → (left : Two (List ℕ)) → IsImage two left → stands bundle_meaning left ≡ journal j
+-- whatever a crash leaves of the files of a host stands for this journal
+abbrev pub HoldsAfterCrash : Journal → MemHostValue → Type 0
+HoldsAfterCrash j host = AfterCrash (λ left. stands bundle_meaning left ≡ journal j) (host_told host)
 
 -- the files as they read stand for this journal
 pub record ReadsAsJournal (j : Journal) (host : MemHostValue) : Type 0 where
@@ -42,25 +42,16 @@ records_for d session = records_of d.node d.host session
 
 -- ---- what a crash may leave
 
--- files that stand for a journal which went on from this one, by batches of which none begins a brief account, each record that it
--- took being one of these
-pub record GoOnHearing (heard : ℕ → List Record) (j : Journal) (files : Two (List ℕ)) : Type 0 where
+-- a journal went on from this one, by batches of which none begins a brief account, each record that it took being one of these
+pub record WentHearing (heard : ℕ → List Record) (j whole : Journal) : Type 0 where
   pub more : Journal
   pub plain : HasNoBrief more
   pub all_heard : AllHeard heard (facts j) more
-  pub stands_for : stands bundle_meaning files ≡ journal (j ++ more)
-
--- whatever a crash leaves now
-pub record MayLeave (heard : ℕ → List Record) (j : Journal) (o : Outside) : Type 0 where
-  pub each : (two : Two File) → o.files ≡ Some two → (left : Two (List ℕ)) → IsImage two left → GoOnHearing heard j left
-
--- from whatever journal, hearing whatever: what may be left afterwards might have been left before, or took no record more
-abbrev pub LeavesOn : Outside → Outside → Type 0
-LeavesOn o o' = (heard : ℕ → List Record) (j : Journal) → MayLeave heard j o → MayLeave heard j o'
+  pub is : whole ≡ j ++ more
 
 -- a crash leaves the files as they read
-pub record IsStill (host : MemHostValue) : Type 0 where
-  pub each : (two : Two File) → (host_told host).files ≡ Some two → (left : Two (List ℕ)) → IsImage two left → left ≡ read_files two
+abbrev pub IsStill : MemHostValue → Type 0
+IsStill host = AfterCrash (λ left. left ≡ read_files (files_of (disk_files host.disk))) (host_told host)
 
 -- ---- a call
 

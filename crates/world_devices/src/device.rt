@@ -5,7 +5,7 @@ ghost use Rattle.std.specs.Prelude.{None, OnErr, OnOk, option_copied, option_map
 ghost use Rattle.outside.specs.HostTold.{host_told};
 ghost use Rattle.sync_rules.specs.Legal.{suits_nonce};
 ghost use Rattle.sync_rules.specs.declared.entries.Entry.TheVariants as entry_kind;
-ghost use Rattle.world_devices.specs.Devices.{DeviceKeeps, HostGoesOn, IsAnew, IsReadyStore};
+ghost use Rattle.world_devices.specs.Devices.{DeviceKeeps, IsAnew, IsReadyStore};
 ghost use Rattle.world_devices.specs.Devices.{MayAddEntry, links_made};
 ghost use Rattle.world_devices.specs.Keeping.{Journal, StandsLegal};
 ghost use Rattle.world_devices.specs.Linking.{DeviceLinksStand, IsBareIn, IsNewDevice, IsUnlinked};
@@ -17,11 +17,11 @@ ghost use Rattle.world_devices.specs.Refusals.{IsNotRefused, RefusedBy, refuses_
 ghost use Rattle.world_devices.specs.Refusals.{refuses_group, refuses_level, refuses_link};
 ghost use Rattle.world_devices.specs.Refusals.{refuses_message};
 ghost use Rattle.world_devices.specs.Brought.{IsSilent, sent_by};
-ghost use Rattle.world_devices.specs.Running.{DeviceRuns, HoldsAfterCrash, IsStill, LeavesOn};
+ghost use Rattle.world_devices.specs.Running.{DeviceRuns, HoldsAfterCrash, IsStill};
 ghost use Rattle.world_devices.specs.Doing.{DeviceAddsEntry, DeviceBeginsSession, BreaksOff, ComesOf, CrashesTo};
-ghost use Rattle.world_devices.specs.Doing.{HoldsSettling, IsAhead, IsNotFull, KeepsOwn};
+ghost use Rattle.world_devices.specs.Doing.{IsAhead, IsNotFull, KeepsOwn, load_calls};
 ghost use Rattle.world_devices.specs.Doing.{KeepsRest, DeviceRestarts};
-ghost use Rattle.world_devices.specs.Doing.{SettlesFrom, StartsWithin, DeviceMakesTurn, clocked, stopped};
+ghost use Rattle.world_devices.specs.Doing.{Settles, SettlesFrom, DeviceMakesTurn, clocked, stopped};
 ghost use Rattle.world_devices.specs.Doing.{with_plan, with_stop};
 ghost use Rattle.outside.specs.Script.{planned_of};
 
@@ -227,8 +227,7 @@ impl Device {
     fn start(&mut self) -> Result<(), StartFault>
         requires links { links_made self.old.host ≡ 0 }
         requires silent { IsSilent self.old.host }
-        ensures keeps { DeviceKeeps self.old self.new }
-        ensures leaves { LeavesOn (host_told self.old.host) (host_told self.new.host) }
+        ensures starts { Settles load_calls self.old.host self.new.host }
         ensures still { is_some self.new.node ≡ true → IsStill self.new.host }
         ensures running { OnOk result (is_some self.new.node ≡ true) }
         ensures links { OnOk result (IsUnlinked self.new) }
@@ -238,11 +237,7 @@ impl Device {
         ensures stop { self.new.stop ≡ self.old.stop }
         ensures loads { (j : Journal) → HoldsAfterCrash j self.old.host
             → OnOk result (SettlesFrom j self.new.host) }
-        ensures settling { (j : Journal) → HoldsAfterCrash j self.old.host → HoldsSettling j self.new.host }
         ensures anew { OnOk result (IsAnew self.new.clock self.new.host) }
-        ensures calls { HostGoesOn self.old.host self.new.host }
-        ensures within { (j : Journal) → HoldsAfterCrash j self.old.host
-            → StartsWithin j (host_told self.old.host) (host_told self.new.host) }
     {
         self.node = None;
         self.links = 0;
@@ -257,8 +252,6 @@ impl Device {
     // falls at the last call that was made, since whoever meets a failing call makes no other.
     fn break_off(&mut self) -> Result<(), StepFault>
         requires { self.old.node ≡ None }
-        ensures keeps { DeviceKeeps self.old self.new }
-        ensures leaves { LeavesOn (host_told self.old.host) (host_told self.new.host) }
         ensures still { is_some self.new.node ≡ true → IsStill self.new.host }
         ensures running { OnOk result (is_some self.new.node ≡ true) }
         ensures links { OnOk result (IsUnlinked self.new) }
@@ -277,8 +270,6 @@ impl Device {
 
     // It begins anew over this image of its files.
     fn crash(&mut self, pick: Pick) -> Result<(), StepFault>
-        ensures keeps { DeviceKeeps self.old self.new }
-        ensures leaves { LeavesOn (host_told self.old.host) (host_told self.new.host) }
         ensures still { is_some self.new.node ≡ true → IsStill self.new.host }
         ensures running { OnOk result (is_some self.new.node ≡ true) }
         ensures links { OnOk result (IsUnlinked self.new) }
@@ -300,8 +291,6 @@ impl Device {
     // A call of its node failed: where its disk stopped it crashes.
     fn fail(&mut self, fault: NodeFault) -> Result<(), StepFault>
         requires { self.old.node ≡ None }
-        ensures keeps { DeviceKeeps self.old self.new }
-        ensures leaves { LeavesOn (host_told self.old.host) (host_told self.new.host) }
         ensures still { is_some self.new.node ≡ true → IsStill self.new.host }
         ensures running { OnOk result (is_some self.new.node ≡ true) }
         ensures links { OnOk result (IsUnlinked self.new) }

@@ -4,14 +4,13 @@ ghost use Rattle.client_basic.specs.Bodies.{bundle_meaning};
 ghost use Rattle.outside.specs.HostTold.{host_told};
 ghost use Rattle.outside.specs.declared.limits.TheConstants.{MAX_JOURNAL};
 ghost use Rattle.sync_store.specs.Ready.{IsReady};
-ghost use Rattle.world_devices.specs.Devices.{HostGoesOn, IsStarted, links_made};
+ghost use Rattle.world_devices.specs.Devices.{IsStarted, LeavesDisk, links_made};
 ghost use Rattle.world_devices.specs.Brought.{IsSilent};
 ghost use Rattle.world_devices.specs.Cited.{DeviceLaws};
-ghost use Rattle.world_devices.specs.Doing.{HoldsSettling, SettlesFrom};
-ghost use Rattle.world_devices.specs.Doing.{SettlesWithin, StartsWithin};
-ghost use Rattle.world_devices.specs.Keeping.{AreLinksQuiet, Journal, HoldsLaterJournal, KeepsOn};
+ghost use Rattle.world_devices.specs.Doing.{Settles, SettlesFrom, load_calls};
+ghost use Rattle.world_devices.specs.Keeping.{AreLinksQuiet, Journal};
 ghost use Rattle.world_devices.specs.Linking.{IsBare};
-ghost use Rattle.world_devices.specs.Running.{HoldsAfterCrash, LeavesOn};
+ghost use Rattle.world_devices.specs.Running.{HoldsAfterCrash};
 ghost use Rattle.world_devices.specs.declared.starting.StartFault.TheVariants as start_fault;
 
 use client_basic::Bundle;
@@ -44,7 +43,6 @@ impl From<AllocError> for StartFault {
 /// A host without links over a fresh disk with an empty store.
 pub(crate) fn begin(alloc: Global) -> Result<MemHost, StartFault>
     ensures links { IfOk result (λ host. links_made host ≡ 0) }
-    ensures keeps { IfOk result (λ host. HoldsLaterJournal [] (host_told host)) }
     ensures holds { IfOk result (HoldsAfterCrash []) }
     ensures silent { IfOk result IsSilent }
 {
@@ -65,10 +63,8 @@ pub(crate) fn dial_all(host: &mut MemHost) -> Result<(), StartFault>
     requires { links_made host.old ≡ 0 }
     ensures dialled { OnOk result (links_made host.new ≡ LINKS) }
     ensures quiet { OnOk result (AreLinksQuiet (host_told host.new)) }
-    ensures files { (host_told host.new).files ≡ (host_told host.old).files }
     ensures scripts { host.new.scripts ≡ host.old.scripts }
-    ensures calls { HostGoesOn host.old host.new }
-    ensures uncalled { host.new.disk.made ≡ host.old.disk.made }
+    ensures disk { LeavesDisk host.old host.new }
 {
     'links: for _link in 0..LINKS {
         match host.dial("tcp:world") {
@@ -87,14 +83,9 @@ pub(crate) fn load(
 ) -> Result<Store, StartFault>
     ensures started { IfOk result (λ store. IsStarted store host.new) }
     ensures links { (host_told host.new).links ≡ (host_told host.old).links }
-    ensures calls { HostGoesOn host.old host.new }
-    ensures keeps { KeepsOn (host_told host.old) (host_told host.new) }
-    ensures leaves { LeavesOn (host_told host.old) (host_told host.new) }
+    ensures settling { Settles load_calls host.old host.new }
     ensures bare { HoldsAfterCrash [] host.old → IfOk result (IsBare 0) }
     ensures loads { (j : Journal) → HoldsAfterCrash j host.old → OnOk result (SettlesFrom j host.new) }
-    ensures settling { (j : Journal) → HoldsAfterCrash j host.old → HoldsSettling j host.new }
-    ensures within { (j : Journal) → HoldsAfterCrash j host.old
-        → StartsWithin j (host_told host.old) (host_told host.new) }
 {
     match Store::load(alloc, hasher, host, &Bundle::new(), MAX_JOURNAL) {
         Ok(store) => settle(store, host),
@@ -109,14 +100,9 @@ fn settle(store: Store, host: &mut MemHost) -> Result<Store, StartFault>
     requires limit { store.limit ≡ MAX_JOURNAL }
     ensures started { IfOk result (λ store. IsStarted store host.new) }
     ensures links { (host_told host.new).links ≡ (host_told host.old).links }
-    ensures calls { HostGoesOn host.old host.new }
-    ensures keeps { KeepsOn (host_told host.old) (host_told host.new) }
-    ensures leaves { LeavesOn (host_told host.old) (host_told host.new) }
+    ensures settling { Settles (λ j. 0) host.old host.new }
     ensures bare { (contacts : ℕ) → IsBare contacts store → IfOk result (IsBare contacts) }
     ensures settles { (j : Journal) → HoldsAfterCrash j host.old → OnOk result (SettlesFrom j host.new) }
-    ensures settling { (j : Journal) → HoldsAfterCrash j host.old → HoldsSettling j host.new }
-    ensures within { (j : Journal) → HoldsAfterCrash j host.old
-        → SettlesWithin j (host_told host.old) (host_told host.new) }
 {
     cite_laws();
     let mut store = store;

@@ -1,7 +1,7 @@
 use Rattle.std.proofs.Common.{List, [], ◌∷◌, ◌++◌, ap, refl, ◌∙◌}
 use Rattle.sync_node.specs.declared.link.Link.{Link}
 use Rattle.sync_node.specs.declared.fault.Fault.TheVariants as fault
-use Rattle.sync_node.proofs.CauseLaws.{links_go_none, links_go_push, links_go_same}
+use Rattle.sync_node.proofs.CauseLaws.{links_go_push, links_go_same}
 use Rattle.sync_node.proofs.KeepLaws.{pushes_none, starts_none}
 use Rattle.sync_node.proofs.SafeLaws.{goes_none}
 use Rattle.sync_node.proofs.StartActs.{start_no_memory}
@@ -41,7 +41,7 @@ returns-clause-keeps g c = record {
 
 pub returns-in_err-reader-clause-keeps : goal.returns-in_err-reader-clause-keeps
 returns-in_err-reader-clause-keeps g c = record {
-  go = links_go_none _ _;
+  go = links_go_same _ _ _ _ refl (goes_none _);
   same_limit = refl;
   same_format = refl;
   pushes = pushes_none _ _ _ _ c.from_residual.ensures.1 refl;

@@ -13,11 +13,11 @@ send_on-requires-then-not-is_empty g c =
 
 pub returns-then-not-is_empty-clause-run : goal.returns-then-not-is_empty-clause-run
 returns-then-not-is_empty-clause-run g c =
-    link_then _ _ _ _ _ _ _ (link_sent _ _ _ _ _ _ c.send_on.ensures)
-    (link_sent _ _ _ _ _ _ c.send_on-then-not-is_empty.ensures)
+    link_then (link_sent c.send_on.ensures)
+    (link_sent c.send_on-then-not-is_empty.ensures)
 
 pub returns-else-may_send-clause-run : goal.returns-else-may_send-clause-run
-returns-else-may_send-clause-run g c = link_sent _ _ _ _ _ _ c.send_on.ensures
+returns-else-may_send-clause-run g c = link_sent c.send_on.ensures
 
 pub returns-then-not-is_empty-clause-went : goal.returns-then-not-is_empty-clause-went
 returns-then-not-is_empty-clause-went g c =

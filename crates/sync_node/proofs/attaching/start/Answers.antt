@@ -2,7 +2,7 @@ use Rattle.session_core.proofs.Unknown.{unknown}
 use Rattle.std.proofs.Common.{arith, refl, sym, ◌∙◌, subst}
 use Rattle.record_stream.specs.Reading.{AwaitsBytes, ReaderState}
 use Rattle.sync_node.specs.declared.fault.Fault.TheVariants as fault
-use Rattle.sync_node.proofs.KeepLaws.{commit_goes, commit_keeps, has_begun, start_stops, starts_none}
+use Rattle.sync_node.proofs.KeepLaws.{commit_left, has_begun, start_stops, starts_none}
 use Rattle.sync_node.proofs.SafeLaws.{goes_none}
 use Rattle.sync_node.proofs.StartActs.{start_no_memory, start_stopped, start_went}
 use Rattle.sync_node.proofs.StartLaws.{allowed_as, first_bytes, kind_as, own_as, session_found}
@@ -76,12 +76,11 @@ returns-clause-begun g c =
 
 pub returns-in_err-commit-clause-keeps : goal.returns-in_err-commit-clause-keeps
 returns-in_err-commit-clause-keeps g c =
-    let keeps = commit_keeps (Unit {0}) (g.C.Clients.meaning c.args.clients.now) c.in_ok-batch.batch c.args.store.now c.commit.new.store (g.H.Disk.tells c.args.host.now) (g.H.Disk.tells c.commit.new.host) c.in_err-commit.field-0.0 c.in_err-commit.ensures.stopped in
-    record {
-      goes = commit_goes (g.C.Clients.meaning c.args.clients.now) c.in_ok-batch.batch c.args.store.now c.commit.new.store _ _ c.in_err-commit.field-0.0 c.in_err-commit.ensures.stopped;
-      same_limit = keeps.same_limit;
-      same_format = keeps.same_format;
-    }
+    let left =
+    commit_left (g.C.Clients.meaning c.args.clients.now) c.in_ok-batch.batch c.args.store.now
+    c.commit.new.store (g.H.Disk.tells c.args.host.now) (g.H.Disk.tells c.commit.new.host)
+    c.in_err-commit.field-0.0 c.in_err-commit.ensures.stopped in
+    record { goes = left.goes; same_limit = left.same_limit; same_format = left.same_format }
 
 pub returns-clause-keeps : goal.returns-clause-keeps
 returns-clause-keeps g c = record {

@@ -1,8 +1,8 @@
-use Rattle.std.proofs.Common.{true, false, refl, sym, ap, ◌∙◌, arith}
+use Rattle.std.proofs.Common.{refl, sym, ap, ◌∙◌, arith}
 use Rattle.sync_course.specs.Links.{stands_ended}
 use Rattle.sync_node.proofs.CauseLaws.{ended_unfailed, link_failed, link_kept, link_unfailed}
 use Rattle.sync_node.proofs.HearActs.{hear_ended, hear_failed, hear_idle, hear_piece, hear_stops}
-use Rattle.sync_node.proofs.KeepLaws.{work_link, work_ok, work_then, work_was}
+use Rattle.sync_node.proofs.KeepLaws.{work_link, work_then, work_was}
 use Rattle.sync_node.proofs.Undone.{if_err_was}
 use Rattle.sync_node.proofs.WorkLaws.{able_calm, ended_not_going, goes_heard}
 use Rattle.sync_node.proofs.hearing.receive_on.Goals as goal
@@ -62,22 +62,29 @@ returns-in-Failed-clause-went g c =
 
 pub returns-in_err-take_piece-in-Got-clause-keeps : goal.returns-in_err-take_piece-in-Got-clause-keeps
 returns-in_err-take_piece-in-Got-clause-keeps g c =
-    work_was _ _ _ _ _ _ _ _ _ c.in_err-take_piece-in-Got.field-0.0 c.from_residual.ensures.1
-    (work_then _ _ _ _ _ _ _ _ _ _ _ _ _ (work_link _ _ _ _ _ _ _ true (link_kept _ _ _ _ _ (goes_heard _ _ _ _ _ c.recv.ensures.call c.recv.ensures.links) refl refl) c.recv.ensures.call.same_files c.requires.able.able) c.in_err-take_piece-in-Got.ensures.keeps)
+    work_was _ c.in_err-take_piece-in-Got.field-0.0 c.from_residual.ensures.1
+    (work_then (work_link (link_kept (goes_heard _ _ _ _ _ c.recv.ensures.call c.recv.ensures.links)
+    refl refl) c.recv.ensures.call.same_files c.requires.able.able)
+    c.in_err-take_piece-in-Got.ensures.keeps)
 
 pub returns-in_ok-take_piece-in-Got-clause-keeps : goal.returns-in_ok-take_piece-in-Got-clause-keeps
 returns-in_ok-take_piece-in-Got-clause-keeps g c =
-    work_ok _ _ _ _ _ _ _ _ _ false
-    (work_then _ _ _ _ _ _ _ _ _ _ _ _ _ (work_link _ _ _ _ _ _ _ true (link_kept _ _ _ _ _ (goes_heard _ _ _ _ _ c.recv.ensures.call c.recv.ensures.links) refl refl) c.recv.ensures.call.same_files c.requires.able.able) c.in_ok-take_piece-in-Got.ensures.keeps)
+    (work_then (work_link (link_kept (goes_heard _ _ _ _ _ c.recv.ensures.call c.recv.ensures.links)
+    refl refl) c.recv.ensures.call.same_files c.requires.able.able)
+    c.in_ok-take_piece-in-Got.ensures.keeps)
 
 pub returns-in-Idle-clause-keeps : goal.returns-in-Idle-clause-keeps
 returns-in-Idle-clause-keeps g c =
-    work_link _ _ _ _ _ _ _ true (link_kept _ _ _ _ _ (goes_heard _ _ _ _ _ c.recv.ensures.call c.recv.ensures.links) refl refl) c.recv.ensures.call.same_files c.requires.able.able
+    work_link (link_kept (goes_heard _ _ _ _ _ c.recv.ensures.call c.recv.ensures.links) refl refl)
+    c.recv.ensures.call.same_files c.requires.able.able
 
 pub returns-in-End-clause-keeps : goal.returns-in-End-clause-keeps
 returns-in-End-clause-keeps g c =
-    work_link _ _ _ _ _ _ _ false (link_unfailed _ _ _ _ _ (goes_heard _ _ _ _ _ c.recv.ensures.call c.recv.ensures.links) refl (λ failed. ended_unfailed _ (sym c.ended-link.ensures ∙ failed))) c.recv.ensures.call.same_files c.requires.able.able
+    work_link (link_unfailed (goes_heard _ _ _ _ _ c.recv.ensures.call c.recv.ensures.links) refl
+    (λ failed. ended_unfailed _ (sym c.ended-link.ensures ∙ failed)))
+    c.recv.ensures.call.same_files c.requires.able.able
 
 pub returns-in-Failed-clause-keeps : goal.returns-in-Failed-clause-keeps
 returns-in-Failed-clause-keeps g c =
-    work_link _ _ _ _ _ _ _ false (link_failed _ _ _ _ _ (goes_heard _ _ _ _ _ c.recv.ensures.call c.recv.ensures.links) refl c.in-Failed.ensures.answer) c.recv.ensures.call.same_files c.requires.able.able
+    work_link (link_failed (goes_heard _ _ _ _ _ c.recv.ensures.call c.recv.ensures.links) refl
+    c.in-Failed.ensures.answer) c.recv.ensures.call.same_files c.requires.able.able

@@ -1,8 +1,8 @@
-use Rattle.std.proofs.Common.{refl, ap, length, arith, true, false}
+use Rattle.std.proofs.Common.{refl, ap, length, arith}
 use Rattle.record_stream.specs.Reading.{ReaderState}
 use Rattle.sync_node.specs.declared.fault.Fault.TheVariants as fault
 use Rattle.sync_node.proofs.CauseLaws.{learnt_unfailed, link_kept, link_unfailed}
-use Rattle.sync_node.proofs.KeepLaws.{store_ok, store_was, work_memory, work_none}
+use Rattle.sync_node.proofs.KeepLaws.{store_was, work_memory, work_none}
 use Rattle.sync_node.proofs.PieceActs.{item_bad, item_more, item_no_memory, item_one, item_skipped, item_stops}
 use Rattle.sync_node.proofs.SafeLaws.{goes_none}
 use Rattle.sync_node.proofs.TakeLaws.{open_for}
@@ -65,27 +65,33 @@ returns-in-Bad-clause-went g c =
 
 pub returns-in_err-place-clause-keeps : goal.returns-in_err-place-clause-keeps
 returns-in_err-place-clause-keeps g c =
-    work_memory _ _ _ _ _ _ _ c.from_residual.ensures.1 (link_kept _ _ _ _ _ (goes_none _) refl refl)
+    work_memory _ c.from_residual.ensures.1 (link_kept (goes_none _) refl refl)
     c.requires.able.ready
 
 pub returns-in_err-take_one-in-One-clause-keeps : goal.returns-in_err-take_one-in-One-clause-keeps
 returns-in_err-take_one-in-One-clause-keeps g c = record {
-  link = link_unfailed _ _ _ _ _ c.take_one.ensures.goes c.learn.ensures.same_session (learnt_unfailed c.in-One.place c.in-One.rec _ _ c.learn.ensures c.requires.asked);
-  store = store_was _ _ _ _ _ _ _ _ c.in_err-take_one-in-One.field-0.0 c.from_residual-in_err-take_one-in-One.ensures.1 c.in_err-take_one-in-One.ensures.keeps;
+  link =
+      link_unfailed c.take_one.ensures.goes c.learn.ensures.same_session
+      (learnt_unfailed c.in-One.place c.in-One.rec _ _ c.learn.ensures c.requires.asked);
+  store =
+      store_was _ _ _ _ _ _ _ c.in_err-take_one-in-One.field-0.0
+      c.from_residual-in_err-take_one-in-One.ensures.1 c.in_err-take_one-in-One.ensures.keeps;
 }
 
 pub returns-in_ok-take_one-in-One-clause-keeps : goal.returns-in_ok-take_one-in-One-clause-keeps
 returns-in_ok-take_one-in-One-clause-keeps g c = record {
-  link = link_unfailed _ _ _ _ _ c.take_one.ensures.goes c.learn.ensures.same_session (learnt_unfailed c.in-One.place c.in-One.rec _ _ c.learn.ensures c.requires.asked);
-  store = store_ok _ _ _ _ _ _ _ true c.in_ok-take_one-in-One.ensures.keeps;
+  link =
+      link_unfailed c.take_one.ensures.goes c.learn.ensures.same_session
+      (learnt_unfailed c.in-One.place c.in-One.rec _ _ c.learn.ensures c.requires.asked);
+  store = c.in_ok-take_one-in-One.ensures.keeps;
 }
 
 pub returns-in-Skipped-clause-keeps : goal.returns-in-Skipped-clause-keeps
-returns-in-Skipped-clause-keeps g c = work_none _ _ _ _ _ _ true (link_kept _ _ _ _ _ (goes_none _) refl refl) c.requires.able
+returns-in-Skipped-clause-keeps g c = work_none (link_kept (goes_none _) refl refl) c.requires.able
 
 pub returns-in-More-clause-keeps : goal.returns-in-More-clause-keeps
-returns-in-More-clause-keeps g c = work_none _ _ _ _ _ _ false (link_kept _ _ _ _ _ (goes_none _) refl refl) c.requires.able
+returns-in-More-clause-keeps g c = work_none (link_kept (goes_none _) refl refl) c.requires.able
 
 pub returns-in-Bad-clause-keeps : goal.returns-in-Bad-clause-keeps
 returns-in-Bad-clause-keeps g c =
-    work_none _ _ _ _ _ _ false (link_unfailed _ _ _ _ _ (goes_none _) refl (λ failed. cc)) c.requires.able
+    work_none (link_unfailed (goes_none _) refl (λ failed. cc)) c.requires.able

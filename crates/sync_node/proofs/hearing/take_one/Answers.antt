@@ -2,8 +2,10 @@ use Rattle.std.proofs.Common.{refl}
 use Rattle.session_core.specs.Taking.{take_of}
 use Rattle.sync_node.specs.declared.fault.Fault.TheVariants as fault
 use Rattle.sync_node.proofs.CourseTakes.{take_named}
-use Rattle.sync_node.proofs.KeepLaws.{commit_goes, commit_keeps, settle_goes, settle_keeps, store_memory, store_was, take_keeps}
-use Rattle.sync_node.proofs.LinkActs.{record_no_memory, record_stops_at_commit, record_stops_at_settle, record_taken}
+use Rattle.sync_node.proofs.KeepLaws.{commit_left, keeps_left, settle_goes, settle_keeps}
+use Rattle.sync_node.proofs.KeepLaws.{store_memory, store_was, take_keeps}
+use Rattle.sync_node.proofs.LinkActs.{record_no_memory, record_stops_at_commit}
+use Rattle.sync_node.proofs.LinkActs.{record_stops_at_settle, record_taken}
 use Rattle.sync_node.proofs.SafeLaws.{goes_none}
 use Rattle.sync_node.proofs.StateLaws.{takes_told}
 use Rattle.sync_node.proofs.TakeLaws.{take_allowed, take_is, take_kind, take_own}
@@ -75,7 +77,9 @@ pub returns-in_err-known-clause-goes : goal.returns-in_err-known-clause-goes
 returns-in_err-known-clause-goes g c = goes_none _
 
 pub returns-in_err-commit-clause-goes : goal.returns-in_err-commit-clause-goes
-returns-in_err-commit-clause-goes g c = commit_goes _ c.in_ok-known.known.0 _ _ _ _ c.in_err-commit.field-0.0 c.in_err-commit.ensures.stopped
+returns-in_err-commit-clause-goes g c =
+    (commit_left _ c.in_ok-known.known.0 _ _ _ _ c.in_err-commit.field-0.0
+    c.in_err-commit.ensures.stopped).goes
 
 pub returns-clause-goes : goal.returns-clause-goes
 returns-clause-goes g c =
@@ -87,8 +91,10 @@ returns-in_err-known-clause-keeps g c = store_memory _ _ _ _ _ _ c.from_residual
 
 pub returns-in_err-commit-clause-keeps : goal.returns-in_err-commit-clause-keeps
 returns-in_err-commit-clause-keeps g c =
-    store_was _ _ _ _ _ _ _ _ c.in_err-commit.field-0.0 c.from_residual-in_err-commit.ensures.1
-    (commit_keeps (Unit {0}) _ c.in_ok-known.known.0 _ _ _ _ c.in_err-commit.field-0.0 c.in_err-commit.ensures.stopped)
+    store_was _ _ _ _ _ _ _ c.in_err-commit.field-0.0 c.from_residual-in_err-commit.ensures.1
+    (keeps_left _ _ _ _ _ _ c.in_err-commit.field-0.0
+    (commit_left _ c.in_ok-known.known.0 _ _ _ _ c.in_err-commit.field-0.0
+    c.in_err-commit.ensures.stopped))
 
 pub returns-clause-keeps : goal.returns-clause-keeps
 returns-clause-keeps g c =

@@ -1,34 +1,34 @@
 use Rattle.sync_node.proofs.CauseLaws.{link_none}
-use Rattle.sync_node.proofs.KeepLaws.{able_kept, work_none, work_ok, work_then, work_was}
+use Rattle.sync_node.proofs.KeepLaws.{able_kept, work_none, work_then, work_was}
 use Rattle.sync_node.proofs.PieceActs.{items_closed, items_none, items_stop, items_taken, items_then}
 use Rattle.sync_node.proofs.Undone.{if_err_was}
 use Rattle.sync_node.proofs.hearing.take_piece.Goals as goal
 
 pub items-init : goal.items-init
 items-init g c = record {
-  keeps = work_none _ _ _ _ _ _ tt (link_none _ _ _) c.requires.able;
+  keeps = work_none link_none c.requires.able;
   went = items_none _ _ _ _ _ _ c.requires.asked;
 }
 
 pub take_next-requires-clause-able : goal.take_next-requires-clause-able
-take_next-requires-clause-able g c = able_kept _ _ _ _ _ _ _ _ tt c.requires.able c.items.invariant.keeps
+take_next-requires-clause-able g c = able_kept c.requires.able c.items.invariant.keeps
 
 pub items-preserved : goal.items-preserved
 items-preserved g c = record {
-  keeps = work_ok _ _ _ _ _ _ _ _ _ tt (work_then _ _ _ _ _ _ _ _ _ _ _ tt _ c.items.invariant.keeps c.in_ok-take_next.ensures.keeps);
+  keeps =
+      work_then c.items.invariant.keeps c.in_ok-take_next.ensures.keeps;
   went = items_then _ _ _ _ _ _ _ _ _ _ c.items.invariant.keeps.link.same_session (c.is_asked.ensures.0 c.items-test.true) c.items.invariant.went _ _ _ _
       (rw c.if-not-branch.false at c.in_ok-take_next.ensures.went);
 }
 
 pub returns-then-not-branch-clause-keeps : goal.returns-then-not-branch-clause-keeps
 returns-then-not-branch-clause-keeps g c =
-    work_ok _ _ _ _ _ _ _ _ _ tt
-    (work_then _ _ _ _ _ _ _ _ _ _ _ tt _ c.items.invariant.keeps c.in_ok-take_next.ensures.keeps)
+    work_then c.items.invariant.keeps c.in_ok-take_next.ensures.keeps
 
 pub returns-in_err-take_next-clause-keeps : goal.returns-in_err-take_next-clause-keeps
 returns-in_err-take_next-clause-keeps g c =
-    work_was _ _ _ _ _ _ _ _ _ c.in_err-take_next.field-0.0 c.from_residual.ensures.1
-    (work_then _ _ _ _ _ _ _ _ _ _ _ tt _ c.items.invariant.keeps c.in_err-take_next.ensures.keeps)
+    work_was _ c.in_err-take_next.field-0.0 c.from_residual.ensures.1
+    (work_then c.items.invariant.keeps c.in_err-take_next.ensures.keeps)
 
 pub returns-clause-keeps : goal.returns-clause-keeps
 returns-clause-keeps g c = c.items.invariant.keeps

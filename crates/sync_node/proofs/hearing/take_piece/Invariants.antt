@@ -1,12 +1,14 @@
-use Rattle.std.proofs.Common.{◌+◌, length, Ok}
+use Rattle.std.proofs.Common.{◌+◌, length, true, None}
 use Rattle.sync_node.specs.Keeps.{LinkKeeps}
-use Rattle.sync_node.specs.OnLinks.{ItemsWent}
+use Rattle.sync_node.specs.OnLinks.{NextWent}
 use Rattle.sync_node.proofs.hearing.take_piece.Given as goal
 
 abbrev pub invariant-items : goal.invariant-items
 invariant-items g l = record {
-  keeps : LinkKeeps {T = Unit {0}} (g.C.Clients.meaning l.clients) l.number l.initial.link l.link l.initial.store l.store (g.H.Disk.tells l.initial.host) (g.H.Disk.tells l.host) (Ok tt);
-  went : ItemsWent (g.C.Clients.meaning l.clients) l.number l.initial.piece l.piece l.initial.link l.link l.initial.store l.store (g.H.Disk.tells l.initial.host) (g.H.Disk.tells l.host);
+  keeps : LinkKeeps (g.C.Clients.meaning l.clients) l.number l.initial.link l.link l.initial.store
+      l.store (g.H.Disk.tells l.initial.host) (g.H.Disk.tells l.host) None;
+  went : NextWent (g.C.Clients.meaning l.clients) l.number l.initial.piece l.piece l.initial.link
+      l.link l.initial.store l.store (g.H.Disk.tells l.initial.host) (g.H.Disk.tells l.host) true;
 }
 
 abbrev pub decreases-items : goal.decreases-items

@@ -44,10 +44,12 @@ returns-clause-went g c =
     c.send_on.ensures
 
 pub returns-in_err-bytes-clause-keeps : goal.returns-in_err-bytes-clause-keeps
-returns-in_err-bytes-clause-keeps g c = work_memory _ _ _ _ _ _ _ c.from_residual.ensures.1 (link_none _ _ _) c.requires.able.able.ready
+returns-in_err-bytes-clause-keeps g c =
+    work_memory _ c.from_residual.ensures.1 link_none c.requires.able.able.ready
 
 pub returns-in_err-batch-clause-keeps : goal.returns-in_err-batch-clause-keeps
-returns-in_err-batch-clause-keeps g c = work_memory _ _ _ _ _ _ _ c.from_residual-in_err-batch.ensures.1 (link_none _ _ _) c.requires.able.able.ready
+returns-in_err-batch-clause-keeps g c =
+    work_memory _ c.from_residual-in_err-batch.ensures.1 link_none c.requires.able.able.ready
 
 pub returns-in_err-commit-clause-keeps : goal.returns-in_err-commit-clause-keeps
 returns-in_err-commit-clause-keeps g c =
@@ -56,5 +58,5 @@ returns-in_err-commit-clause-keeps g c =
 
 pub returns-clause-keeps : goal.returns-clause-keeps
 returns-clause-keeps g c =
-    put_keeps _ _ c.args.now c.args.out _ _ _ _ _ _ _ _ c.in_ok-batch.batch _ c.in_ok-batch.ensures
+    put_keeps _ _ c.args.now c.args.out _ _ _ _ _ _ _ _ c.in_ok-batch.batch c.in_ok-batch.ensures
     c.requires.able.able c.in_ok-commit.ensures.went c.send_on.ensures

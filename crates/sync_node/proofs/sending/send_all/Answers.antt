@@ -3,7 +3,7 @@ use Rattle.std.proofs.lemmas.Bool.{false≢true}
 use Rattle.sync_node.specs.declared.fault.Fault.TheVariants as fault
 use Rattle.sync_node.proofs.CauseLaws.{link_none}
 use Rattle.sync_node.proofs.CourseTurns.{full, may_end, may_not_end, none_due, option_none}
-use Rattle.sync_node.proofs.KeepLaws.{may_kept, work_halts, work_none, work_ok, work_then, work_was}
+use Rattle.sync_node.proofs.KeepLaws.{may_kept, work_halts, work_none, work_then, work_was}
 use Rattle.sync_node.proofs.OutLaws.{may_unfailed}
 use Rattle.sync_node.proofs.SendActs.{due_end, due_no_memory, due_none, due_stops, due_then}
 use Rattle.sync_node.proofs.StateLaws.{allowed_told, due_told}
@@ -12,14 +12,14 @@ use Rattle.sync_node.proofs.sending.send_all.Goals as goal
 
 pub outs-init : goal.outs-init
 outs-init g c = record {
-  keeps = work_none _ _ _ _ _ _ tt (link_none _ _ _) c.requires.able.able;
+  keeps = work_none link_none c.requires.able.able;
   waits = c.requires.able.waits;
   went = due_none _ _ _ _ _ _;
 }
 
 pub put_out-requires-clause-able : goal.put_out-requires-clause-able
 put_out-requires-clause-able g c =
-    may_kept _ _ _ _ _ _ _ _ tt c.requires.able c.outs.invariant.keeps c.outs.invariant.waits
+    may_kept c.requires.able c.outs.invariant.keeps c.outs.invariant.waits
 
 pub returns-in_default-clause-waits : goal.returns-in_default-clause-waits
 returns-in_default-clause-waits g c = c.outs.invariant.waits
@@ -46,8 +46,9 @@ returns-in_err-out-clause-stopped g c = λ may.
 pub returns-in_err-put_out-clause-stopped : goal.returns-in_err-put_out-clause-stopped
 returns-in_err-put_out-clause-stopped g c = λ may.
     if_err_was _ c.in_err-put_out.field-0.0 _ c.from_residual-in_err-put_out.ensures.1
-    (due_stops _ _ _ _ _ _ _ _ _ _ c.outs.invariant.went (may_end _ (c.may_send.ensures.0 c.if-may_send.true)) _ _ _ _
-    c.outs-test.true c.in_err-put_out.ensures.stopped)
+    (due_stops _ _ _ _ _ _ _ _ _ _ c.outs.invariant.went
+    (may_end _ (c.may_send.ensures.0 c.if-may_send.true)) c.outs-test.true _ _ _ _
+    c.in_err-put_out.ensures.stopped)
 
 pub returns-in_default-clause-went : goal.returns-in_default-clause-went
 returns-in_default-clause-went g c = λ may.
@@ -66,25 +67,28 @@ returns-after-outs-clause-went g c = λ may.
 
 pub outs-preserved : goal.outs-preserved
 outs-preserved g c = record {
-  keeps = work_ok _ _ _ _ _ _ _ _ _ tt (work_then _ _ _ _ _ _ _ _ _ _ _ tt _ c.outs.invariant.keeps c.in_ok-put_out.ensures.keeps);
+  keeps = work_then c.outs.invariant.keeps c.in_ok-put_out.ensures.keeps;
   waits = c.in_ok-put_out.ensures.waits;
-  went = due_then _ _ _ _ _ _ _ _ _ _ c.outs.invariant.went (may_end _ (c.may_send.ensures.0 c.if-may_send.true)) _ _ _ c.outs-test.true c.in_ok-put_out.ensures.went;
+  went =
+      due_then _ _ _ _ _ _ _ _ _ _ c.outs.invariant.went
+      (may_end _ (c.may_send.ensures.0 c.if-may_send.true)) c.outs-test.true _ _ _
+      c.in_ok-put_out.ensures.went;
 }
 
 pub returns-in_err-out-clause-keeps : goal.returns-in_err-out-clause-keeps
 returns-in_err-out-clause-keeps g c =
-    work_halts _ _ _ _ _ _ _ _ tt _ c.from_residual.ensures.1 c.outs.invariant.keeps
+    work_halts _ c.from_residual.ensures.1 c.outs.invariant.keeps
 
 pub returns-in_err-put_out-clause-keeps : goal.returns-in_err-put_out-clause-keeps
 returns-in_err-put_out-clause-keeps g c =
-    work_was _ _ _ _ _ _ _ _ _ c.in_err-put_out.field-0.0 c.from_residual-in_err-put_out.ensures.1
-    (work_then _ _ _ _ _ _ _ _ _ _ _ tt _ c.outs.invariant.keeps c.in_err-put_out.ensures.keeps)
+    work_was _ c.in_err-put_out.field-0.0 c.from_residual-in_err-put_out.ensures.1
+    (work_then c.outs.invariant.keeps c.in_err-put_out.ensures.keeps)
 
 pub returns-in_default-clause-keeps : goal.returns-in_default-clause-keeps
-returns-in_default-clause-keeps g c = work_ok _ _ _ _ _ _ _ _ tt _ c.outs.invariant.keeps
+returns-in_default-clause-keeps g c = c.outs.invariant.keeps
 
 pub returns-else-may_send-clause-keeps : goal.returns-else-may_send-clause-keeps
-returns-else-may_send-clause-keeps g c = work_ok _ _ _ _ _ _ _ _ tt _ c.outs.invariant.keeps
+returns-else-may_send-clause-keeps g c = c.outs.invariant.keeps
 
 pub returns-after-outs-clause-keeps : goal.returns-after-outs-clause-keeps
-returns-after-outs-clause-keeps g c = work_ok _ _ _ _ _ _ _ _ tt _ c.outs.invariant.keeps
+returns-after-outs-clause-keeps g c = c.outs.invariant.keeps

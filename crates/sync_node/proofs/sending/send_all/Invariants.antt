@@ -1,4 +1,4 @@
-use Rattle.std.proofs.Common.{◌-◌, Ok}
+use Rattle.std.proofs.Common.{◌-◌, None}
 use Rattle.sync_course.specs.declared.TheConstants.{MAX_OUTPUTS}
 use Rattle.sync_node.specs.Keeps.{LinkKeeps}
 use Rattle.sync_node.specs.OnLinks.{OutsWent}
@@ -7,7 +7,8 @@ use Rattle.sync_node.proofs.sending.send_all.Given as goal
 
 abbrev pub invariant-outs : goal.invariant-outs
 invariant-outs g l = record {
-  keeps : LinkKeeps {T = Unit {0}} (g.C.Clients.meaning l.clients) l.number l.initial.link l.link l.initial.store l.store (g.H.Disk.tells l.initial.host) (g.H.Disk.tells l.host) (Ok tt);
+  keeps : LinkKeeps (g.C.Clients.meaning l.clients) l.number l.initial.link l.link l.initial.store
+      l.store (g.H.Disk.tells l.initial.host) (g.H.Disk.tells l.host) None;
   waits : HasGivenItems l.link;
   went : OutsWent (g.C.Clients.meaning l.clients) l.number l.now l.made l.initial.link l.link l.initial.store l.store (g.H.Disk.tells l.initial.host) (g.H.Disk.tells l.host);
 }

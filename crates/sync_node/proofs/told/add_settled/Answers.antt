@@ -1,13 +1,15 @@
 use Rattle.std.proofs.Common.{Err, ap, ◌∙◌}
-use Rattle.sync_node.proofs.AddLaws.{extended_leads, plain_kind, plain_own}
+use Rattle.sync_node.proofs.AddLaws.{extended_leads, plain_of}
 use Rattle.sync_node.proofs.BatchLaws.{add_breaks, add_by, add_did, add_full}
 use Rattle.sync_node.proofs.told.add_settled.Goals as goal
 
 pub extend-requires-clause-kind : goal.extend-requires-clause-kind
-extend-requires-clause-kind g c = plain_kind c.args.batch c.requires.plain
+extend-requires-clause-kind g c =
+    (plain_of c.args.store.now.state.facts c.args.batch c.requires.plain).kind
 
 pub extend-requires-clause-plain : goal.extend-requires-clause-plain
-extend-requires-clause-plain g c = plain_own c.args.batch c.requires.plain
+extend-requires-clause-plain g c =
+    (plain_of c.args.store.now.state.facts c.args.batch c.requires.plain).own
 
 pub unreachable-requires : goal.unreachable-requires
 unreachable-requires g c =

@@ -1,4 +1,3 @@
-use Rattle.std.proofs.Common.{true}
 use Rattle.sync_node.proofs.CauseLaws.{link_none}
 use Rattle.sync_node.proofs.HearActs.{hear_nothing}
 use Rattle.sync_node.proofs.KeepLaws.{work_none}
@@ -21,7 +20,7 @@ pub returns-clause-stopped : goal.returns-clause-stopped
 returns-clause-stopped g c = c.receive_on.ensures.stopped
 
 pub returns-then-not-is_asked-clause-keeps : goal.returns-then-not-is_asked-clause-keeps
-returns-then-not-is_asked-clause-keeps g c = work_none _ _ _ _ _ _ true (link_none _ _ _) c.requires.able.able
+returns-then-not-is_asked-clause-keeps g c = work_none link_none c.requires.able.able
 
 pub returns-clause-keeps : goal.returns-clause-keeps
 returns-clause-keeps g c = c.receive_on.ensures.keeps

@@ -1,4 +1,4 @@
-use Rattle.std.proofs.Common.{true, refl}
+use Rattle.std.proofs.Common.{refl}
 use Rattle.sync_node.proofs.CauseLaws.{link_kept, link_none}
 use Rattle.sync_node.proofs.CourseTurns.{if_ok_then}
 use Rattle.sync_node.proofs.KeepLaws.{work_link, work_none, work_then}
@@ -36,8 +36,9 @@ send_all-requires g c =
     record { able = record { able = able_calm _ _ _ _ _ _ _ c.now-now.ensures.call c.now-now.ensures.links.same_dialled c.requires.able.able; waits = c.requires.able.waits } }
 
 pub returns-then-not-may_send-clause-keeps : goal.returns-then-not-may_send-clause-keeps
-returns-then-not-may_send-clause-keeps g c = work_none _ _ _ _ _ _ _ (link_none _ _ _) c.requires.able.able
+returns-then-not-may_send-clause-keeps g c = work_none link_none c.requires.able.able
 
 pub returns-clause-keeps : goal.returns-clause-keeps
 returns-clause-keeps g c =
-    work_then _ _ _ _ _ _ _ _ _ _ _ _ _ (work_link _ _ _ _ _ _ _ true (link_kept _ _ _ _ _ (goes_read _ _ _ c.now-now.ensures.call c.now-now.ensures.links) refl refl) c.now-now.ensures.call.same_files c.requires.able.able) c.send_all.ensures.keeps
+    work_then (work_link (link_kept (goes_read _ _ _ c.now-now.ensures.call c.now-now.ensures.links)
+    refl refl) c.now-now.ensures.call.same_files c.requires.able.able) c.send_all.ensures.keeps

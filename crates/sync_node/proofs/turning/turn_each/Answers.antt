@@ -1,16 +1,17 @@
-use Rattle.std.proofs.Common.{◌≡◌, ◌+◌, ◌&&◌, refl, arith, ◌∙◌, length}
+use Rattle.std.proofs.Common.{◌≡◌, ◌+◌, ◌&&◌, refl, arith, ◌∙◌, length, None, Some}
 use Rattle.std.proofs.lemmas.Option.{slice_get-get_or}
+use Rattle.sync_node.specs.Keeps.{LinksKeep}
 use Rattle.sync_node.proofs.CourseRuns.{still_else, still_then}
 use Rattle.sync_node.proofs.NodeLaws.{link_able}
 use Rattle.sync_node.proofs.RunActLaws.{links_all, links_next, links_none as links_idle, links_stop as links_halt}
-use Rattle.sync_node.proofs.TurnKeeps.{links_keep_next, links_keep_none, links_keep_ok, links_keep_stop}
-use Rattle.sync_node.proofs.Undone.{if_err_was}
+use Rattle.sync_node.proofs.TurnKeeps.{links_keep_next, links_keep_none}
+use Rattle.sync_node.proofs.Undone.{if_err_was, was}
 use Rattle.sync_node.proofs.turning.turn_each.Goals as goal
 use Rattle.sync_node.proofs.turning.turn_each.Goals.{else-still, then-still}
 
 pub links-init : goal.links-init
 links-init g c = record {
-  keeps = links_keep_none _ _ _ _ tt c.requires.may;
+  keeps = links_keep_none _ _ _ _ c.requires.may;
   went = λ first attached. links_idle _ first _ _ _;
   whole = c.requires.whole;
 }
@@ -28,7 +29,10 @@ pub links-preserved : goal.links-preserved
 links-preserved g c =
     let here = slice_get-get_or c.links.links c.links.place c.index-links-place.result (omega (arith, c.links-test.true, c.links.auto.links)) in
     record {
-      keeps = links_keep_next _ c.links.place _ c.links.links _ c.turn_link.new.link _ _ _ _ _ _ tt _ tt c.links.invariant.keeps here c.in_ok-quiet.ensures.keeps c.in_ok-quiet.ensures.waits;
+      keeps =
+          links_keep_next _ c.links.place _ c.links.links _ c.turn_link.new.link _ _ _ _ _ _ None
+          c.links.invariant.keeps here c.in_ok-quiet.ensures.keeps (λ _.
+          c.in_ok-quiet.ensures.waits);
       went = λ first attached.
           let now = c.links.invariant.keeps.store.answered.attached first attached in
           let is : c.if-still.still ≡ (c.links.still && c.in_ok-quiet.quiet) =
@@ -44,11 +48,15 @@ links-preserved g c =
 
 pub returns-in_err-quiet-clause-keeps : goal.returns-in_err-quiet-clause-keeps
 returns-in_err-quiet-clause-keeps g c =
-    links_keep_stop _ c.links.place _ c.links.links _ c.turn_link.new.link _ _ _ _ _ _ tt _ c.in_err-quiet.field-0.0 c.from_residual.ensures.1
-    c.links.invariant.keeps (slice_get-get_or c.links.links c.links.place c.index-links-place.result (omega (arith, c.links-test.true, c.links.auto.links))) c.in_err-quiet.ensures.keeps
+    let here = slice_get-get_or c.links.links c.links.place c.index-links-place.result
+    (omega (arith, c.links-test.true, c.links.auto.links)) in
+    was _ c.in_err-quiet.field-0.0 (LinksKeep _ _ _ _ _ _ _) c.from_residual.ensures.1
+    (links_keep_next _ c.links.place _ c.links.links _ c.turn_link.new.link _ _ _ _ _ _
+    (Some c.in_err-quiet.field-0.0) c.links.invariant.keeps here c.in_err-quiet.ensures.keeps
+    (λ none going. cc))
 
 pub returns-clause-keeps : goal.returns-clause-keeps
-returns-clause-keeps g c = links_keep_ok _ _ _ _ _ _ _ tt _ c.links.invariant.keeps
+returns-clause-keeps g c = c.links.invariant.keeps
 
 pub returns-in_err-quiet-clause-stopped : goal.returns-in_err-quiet-clause-stopped
 returns-in_err-quiet-clause-stopped g c = λ first attached.

@@ -1,4 +1,4 @@
-use Rattle.sync_node.proofs.KeepLaws.{may_kept, work_ok, work_then, work_was}
+use Rattle.sync_node.proofs.KeepLaws.{may_kept, work_then, work_was}
 use Rattle.sync_node.proofs.TurnActs.{turned_loud, turned_quiet, turned_stops}
 use Rattle.sync_node.proofs.Undone.{if_err_was}
 use Rattle.sync_node.proofs.turning.turn_link.Goals as goal
@@ -32,23 +32,23 @@ returns-else-quiet-clause-went g c =
 
 pub send_now-requires : goal.send_now-requires
 send_now-requires g c =
-    record { able = may_kept _ _ _ _ _ _ _ _ _ c.requires.able c.in_ok-quiet.ensures.keeps c.in_ok-quiet.ensures.waits }
+    record {
+      able = may_kept c.requires.able c.in_ok-quiet.ensures.keeps c.in_ok-quiet.ensures.waits;
+    }
 
 pub returns-in_err-quiet-clause-keeps : goal.returns-in_err-quiet-clause-keeps
 returns-in_err-quiet-clause-keeps g c =
-    work_was _ _ _ _ _ _ _ _ _ c.in_err-quiet.field-0.0 c.from_residual.ensures.1 c.in_err-quiet.ensures.keeps
+    work_was _ c.in_err-quiet.field-0.0 c.from_residual.ensures.1 c.in_err-quiet.ensures.keeps
 
 pub returns-in_err-made-clause-keeps : goal.returns-in_err-made-clause-keeps
 returns-in_err-made-clause-keeps g c =
-    work_was _ _ _ _ _ _ _ _ _ c.in_err-made.field-0.0 c.from_residual-in_err-made.ensures.1
-    (work_then _ _ _ _ _ _ _ _ _ _ _ _ _ c.in_ok-quiet.ensures.keeps c.in_err-made.ensures.keeps)
+    work_was _ c.in_err-made.field-0.0 c.from_residual-in_err-made.ensures.1
+    (work_then c.in_ok-quiet.ensures.keeps c.in_err-made.ensures.keeps)
 
 pub returns-then-quiet-clause-keeps : goal.returns-then-quiet-clause-keeps
 returns-then-quiet-clause-keeps g c =
-    work_ok _ _ _ _ _ _ _ _ _ _
-    (work_then _ _ _ _ _ _ _ _ _ _ _ _ _ c.in_ok-quiet.ensures.keeps c.in_ok-made.ensures.keeps)
+    work_then c.in_ok-quiet.ensures.keeps c.in_ok-made.ensures.keeps
 
 pub returns-else-quiet-clause-keeps : goal.returns-else-quiet-clause-keeps
 returns-else-quiet-clause-keeps g c =
-    work_ok _ _ _ _ _ _ _ _ _ _
-    (work_then _ _ _ _ _ _ _ _ _ _ _ _ _ c.in_ok-quiet.ensures.keeps c.in_ok-made.ensures.keeps)
+    work_then c.in_ok-quiet.ensures.keeps c.in_ok-made.ensures.keeps

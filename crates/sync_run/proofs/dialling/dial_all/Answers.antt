@@ -4,7 +4,8 @@ use Rattle.std.proofs.lemmas.Option.{slice_get_read}
 use Rattle.outside.specs.declared.failed.Failed.{Failed}
 use Rattle.sync_run.specs.declared.dialling.Dialled.{Dialled}
 use Rattle.sync_run.specs.Dialling.{AreDialled, DialsAll}
-use Rattle.sync_run.proofs.SafeCalm.{calms_then, dial_stops, dialled_push, err_is, makes_next, pushed}
+use Rattle.sync_run.proofs.RunActs.{passed}
+use Rattle.sync_run.proofs.DialLaws.{calms_then, dial_stops, dialled_push, makes_next, pushed}
 use Rattle.sync_run.proofs.dialling.dial_all.Goals as goal
 
 pub returns-in_err-nonce-clause-dials : goal.returns-in_err-nonce-clause-dials
@@ -16,7 +17,8 @@ returns-in_err-nonce-clause-dials g c =
     let e = c.in_err-nonce.field-0.0 in
     let o0 = g.H.Disk.tells c.args.host.now in
     let o2 = g.H.Disk.tells c.dial_one.new.host in
-    subst (λ (r : Result (Unit {0}) Failed). DialsAll words c.links.to.items r o0 o2) (sym (err_is c.from_residual.result e c.from_residual.ensures.1))
+    passed (λ (r : Result (Unit {0}) Failed). DialsAll words c.links.to.items r o0 o2)
+    c.from_residual.result e c.from_residual.ensures.1
     (dial_stops words c.links.to.items i (i + 1) c.words-item.result e o0 (g.H.Disk.tells c.links.host) o2 c.requires.unused c.links.invariant.count refl there within c.links.invariant.dialled c.links.invariant.makes
     (omega (arith, length-take i words, within)) (omega (arith, length-take (i + 1) words, within)) c.in_err-nonce.ensures.makes)
 

@@ -1,5 +1,5 @@
 use Rattle.std.proofs.Common.{◌∷◌, [], inr}
-use Rattle.sync_run.proofs.SafeCalm.{calms_dial, calms_nonce, calms_stills, calms_then, makes_asked, makes_dialled, makes_stilled, rose_then, stills_call}
+use Rattle.sync_run.proofs.DialLaws.{calms_dial, calms_nonce, calms_stills, calms_then, makes_asked, makes_dialled, makes_stilled, rose_then, stills_call}
 use Rattle.sync_run.proofs.dialling.dial_one.Goals as goal
 
 pub returns-then-not-has_nonce-clause-makes : goal.returns-then-not-has_nonce-clause-makes

@@ -1,4 +1,4 @@
-use Rattle.sync_run.proofs.SafeCalm.{stills_call, stills_none, stills_then}
+use Rattle.sync_run.proofs.DialLaws.{stills_call, stills_none, stills_then}
 use Rattle.sync_run.proofs.dialling.hang_up_all.Goals as goal
 
 pub links-init : goal.links-init

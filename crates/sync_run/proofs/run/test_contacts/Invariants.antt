@@ -1,7 +1,7 @@
 use Rattle.std.proofs.Common.{◌≡◌, ℕ, ◌<◌, drop, slice_index_or}
 use Rattle.sync_words.specs.declared.link_words.LinkWords.{LinkWords}
 use Rattle.sync_run.specs.Courses.{is_unknown}
-use Rattle.sync_run.specs.SafeRuns.{IsKnown}
+use Rattle.sync_run.specs.Needs.{IsKnown}
 use Rattle.sync_run.proofs.run.test_contacts.Given as goal
 
 abbrev pub invariant-links : goal.invariant-links

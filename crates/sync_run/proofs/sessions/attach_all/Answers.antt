@@ -54,16 +54,13 @@ pub returns-in_err-attach-clause-stands : goal.returns-in_err-attach-clause-stan
 returns-in_err-attach-clause-stands g c =
     let l = c.links.invariant in
     let e = c.in_err-attach.ensures in
-    stands_stopped (Unit {0}) _ _ c.attach.new.self (g.H.Disk.tells c.args.host.now) (g.H.Disk.tells c.links.host)
-    (g.H.Disk.tells c.attach.new.host) l.keeps.goes.later _ c.from_residual.result
-    c.in_err-attach.field-0.0 c.from_residual.ensures.1 (e.answers.opened l.still_open) e.may
+    stands_stopped (Unit {0}) _ _ c.args.node.now c.links.node c.attach.new.self
+    (g.H.Disk.tells c.args.host.now)
+    (g.H.Disk.tells c.links.host) (g.H.Disk.tells c.attach.new.host) l.keeps _
+    c.from_residual.result
+    c.in_err-attach.field-0.0 c.from_residual.ensures.1 e.goes (e.answers.opened l.still_open) e.may
     (attach_stops (Unit {0}) _ _ c.links.node c.attach.new.self c.links.host c.attach.new.host
     (g.H.Disk.tells c.links.host) (g.H.Disk.tells c.attach.new.host) c.in_err-attach.field-0.0 (e.stops l.still_open))
-
-pub returns-in_err-attach-clause-keeps : goal.returns-in_err-attach-clause-keeps
-returns-in_err-attach-clause-keeps g c =
-    let e = c.in_err-attach.ensures in
-    keeps_then c.args.node.now c.links.node c.attach.new.self _ _ _ c.links.invariant.keeps e.goes
 
 pub returns-in_err-attach-clause-stopped : goal.returns-in_err-attach-clause-stopped
 returns-in_err-attach-clause-stopped g c =
@@ -78,15 +75,13 @@ returns-in_err-attach-clause-stopped g c =
 
 pub returns-clause-stands : goal.returns-clause-stands
 returns-clause-stands g c = record {
+  goes = c.links.invariant.keeps;
   answer = c.links.invariant.still_open;
   may = c.links.invariant.may;
   stops = tt;
   number =
       omega (arith, c.links.invariant.numbered, c.links.invariant.count, c.links-test.false, c.links.auto.link-index-end);
 }
-
-pub returns-clause-keeps : goal.returns-clause-keeps
-returns-clause-keeps g c = c.links.invariant.keeps
 
 pub returns-clause-went : goal.returns-clause-went
 returns-clause-went g c =

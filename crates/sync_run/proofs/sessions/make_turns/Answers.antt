@@ -2,14 +2,15 @@ use Rattle.std.proofs.Common.{◌+◌, true, false, arith, refl, sym, ◌∙◌,
 use Rattle.std.proofs.lemmas.Bool.{le-leb}
 use Rattle.sync_node.specs.declared.node.Turned.{Turned}
 use Rattle.sync_node.specs.Node.{asked_among}
-use Rattle.sync_run.proofs.CourseParts.{CountsStill, few_behind, if_err_was, no_turn_yet, over_asked, still_behind, turn_more, turns_end, turns_stopped}
+use Rattle.sync_run.specs.Parts.{silent}
+use Rattle.sync_run.proofs.CourseParts.{CountsStill, few_behind, if_err_was, no_turn_yet, over_asked, still_behind, turn_more, turn_stopped, turns_end}
 use Rattle.sync_run.proofs.StandsLaws.{keeps_none, keeps_then, same_number, stands_stopped}
 use Rattle.sync_run.proofs.sessions.make_turns.Goals as goal
 use Rattle.sync_run.proofs.sessions.make_turns.Goals.{in-Still, in-Moving}
 
 pub turns-init : goal.turns-init
 turns-init g c = record {
-  went = λ heard read. no_turn_yet _ c.args.limits c.args.node.now.first _ _ _ heard read;
+  went = no_turn_yet _ c.args.limits c.args.node.now.first _ _ _ silent c.requires.read;
   goes_on = refl;
   keeps = keeps_none _ (g.H.Disk.tells c.args.host.now) c.requires.node;
   number = refl;
@@ -28,8 +29,8 @@ turns-preserved g c =
     let branch : CountsStill c.in_ok-turn.field-0 c.turns.still c.match-branch-2.still =
     elim c.match-branch-2.branch [ in-Still w ↦ inl (w.in-Still.is, w.still-is) | in-Moving w ↦ inr (w.in-Moving.is, w.still-is) ] in
     record {
-      went = λ heard read.
-          turn_more _ c.args.limits c.args.node.now.first _ _ _ _ _ _ _ _ (l.went heard read) l.goes_on
+      went =
+          turn_more _ c.args.limits c.args.node.now.first _ _ _ _ _ _ _ _ l.went l.goes_on
           c.turns-test.true _ _ _ _ _ c.match-branch-2.still (c.turns.counter + 1) l.keeps.same_first
           (still_behind c.in_ok-turn.field-0 c.turns.still c.match-branch-2.still branch) refl
           (e.went l.still_open);
@@ -52,27 +53,26 @@ pub returns-in_err-turn-clause-stands : goal.returns-in_err-turn-clause-stands
 returns-in_err-turn-clause-stands g c =
     let l = c.turns.invariant in
     let e = c.in_err-turn.ensures in
-    stands_stopped Turned _ _ c.turn.new.self (g.H.Disk.tells c.args.host.now) (g.H.Disk.tells c.turns.host)
-    (g.H.Disk.tells c.turn.new.host) l.keeps.goes.later _ c.from_residual.result
-    c.in_err-turn.field-0.0 c.from_residual.ensures.1 (e.answers.opened l.still_open) e.may
+    stands_stopped Turned _ _ c.args.node.now c.turns.node c.turn.new.self
+    (g.H.Disk.tells c.args.host.now)
+    (g.H.Disk.tells c.turns.host) (g.H.Disk.tells c.turn.new.host) l.keeps _ c.from_residual.result
+    c.in_err-turn.field-0.0 c.from_residual.ensures.1 e.goes (e.answers.opened l.still_open) e.may
     (e.stops l.still_open)
-
-pub returns-in_err-turn-clause-keeps : goal.returns-in_err-turn-clause-keeps
-returns-in_err-turn-clause-keeps g c =
-    let e = c.in_err-turn.ensures in
-    keeps_then c.args.node.now c.turns.node c.turn.new.self _ _ _ c.turns.invariant.keeps e.goes
 
 pub returns-in_err-turn-clause-stopped : goal.returns-in_err-turn-clause-stopped
 returns-in_err-turn-clause-stopped g c =
     let l = c.turns.invariant in
     if_err_was c.from_residual.result c.in_err-turn.field-0.0 _ c.from_residual.ensures.1
-    (turns_stopped _ c.args.limits c.args.node.now.first c.args.node.now.links c.turns.node.links
-    c.turn.new.self.links c.args.node.now.store c.turns.node.store c.turn.new.self.store _ _
-    (g.H.Disk.tells c.turn.new.host) c.turns.still c.turns.counter c.in_err-turn.field-0.0 l.went
-    l.goes_on c.turns-test.true _ l.keeps.same_first (c.in_err-turn.ensures.stopped l.still_open))
+    (turn_stopped _ c.args.limits c.args.node.now.first _ c.turns.node.links c.args.node.now.store
+    c.turns.node.store _ _ c.turns.still c.turns.counter l.went l.goes_on c.turns-test.true _
+    c.turn.new.self.links c.turn.new.self.store (g.H.Disk.tells c.turn.new.host)
+    c.in_err-turn.field-0.0 l.keeps.same_first (c.in_err-turn.ensures.stopped l.still_open))
 
 pub returns-then-is_over-clause-stands : goal.returns-then-is_over-clause-stands
 returns-then-is_over-clause-stands g c = record {
+  goes =
+      keeps_then c.args.node.now c.turns.node c.turn.new.self _ _ _ c.turns.invariant.keeps
+      c.in_ok-turn.ensures.goes;
   answer = c.in_ok-turn.ensures.answers.opened c.turns.invariant.still_open;
   may = c.in_ok-turn.ensures.may;
   stops = tt;
@@ -81,43 +81,30 @@ returns-then-is_over-clause-stands g c = record {
       ∙ c.turns.invariant.number;
 }
 
-pub returns-then-is_over-clause-keeps : goal.returns-then-is_over-clause-keeps
-returns-then-is_over-clause-keeps g c =
-    let e = c.in_ok-turn.ensures in
-    keeps_then c.args.node.now c.turns.node c.turn.new.self _ _ _ c.turns.invariant.keeps e.goes
-
 pub returns-then-is_over-clause-went : goal.returns-then-is_over-clause-went
 returns-then-is_over-clause-went g c =
     let l = c.turns.invariant in
     let branch : CountsStill c.in_ok-turn.field-0 c.turns.still c.match-branch-2.still =
     elim c.match-branch-2.branch [ in-Still w ↦ inl (w.in-Still.is, w.still-is) | in-Moving w ↦ inr (w.in-Moving.is, w.still-is) ] in
-    record {
-      ends = λ heard read.
-          let so = turn_more _ c.args.limits c.args.node.now.first _ _ _ _ _ _ _ _ (l.went heard read)
-          l.goes_on c.turns-test.true _ _ _ _ _ c.match-branch-2.still (c.turns.counter + 1)
-          l.keeps.same_first
-          (still_behind c.in_ok-turn.field-0 c.turns.still c.match-branch-2.still branch) refl
-          (c.in_ok-turn.ensures.went l.still_open) in
-          turns_end _ c.args.limits c.args.node.now.first _ _ _ _ _ _ _ _ so true
-          (sym c.if-is_over.true ∙ over_asked _ _ c.args.limits.quiet _ _ (asked_among
-          c.turn.new.self.links) c.is_over.ensures c.from.ensures c.asked.ensures) refl;
-    }
+    let so = turn_more _ c.args.limits c.args.node.now.first _ _ _ _ _ _ _ _ l.went l.goes_on
+    c.turns-test.true _ _ _ _ _ c.match-branch-2.still (c.turns.counter + 1) l.keeps.same_first
+    (still_behind c.in_ok-turn.field-0 c.turns.still c.match-branch-2.still branch) refl
+    (c.in_ok-turn.ensures.went l.still_open) in
+    turns_end _ c.args.limits c.args.node.now.first _ _ _ _ _ _ _ _ so true
+    (sym c.if-is_over.true
+    ∙ over_asked _ _ c.args.limits.quiet _ _ (asked_among c.turn.new.self.links)
+    c.is_over.ensures c.from.ensures c.asked.ensures) refl
 
 pub returns-clause-stands : goal.returns-clause-stands
 returns-clause-stands g c = record {
+  goes = c.turns.invariant.keeps;
   answer = c.turns.invariant.still_open;
   may = c.turns.invariant.may;
   stops = tt;
   number = c.turns.invariant.number;
 }
 
-pub returns-clause-keeps : goal.returns-clause-keeps
-returns-clause-keeps g c = c.turns.invariant.keeps
-
 pub returns-clause-went : goal.returns-clause-went
-returns-clause-went g c = record {
-  ends = λ heard read.
-      turns_end _ c.args.limits c.args.node.now.first _ _ _ _ _ _ _ _
-      (c.turns.invariant.went heard read) false (sym c.turns.invariant.goes_on)
-      (le-leb c.args.limits.turns c.turns.counter c.turns-test.false);
-}
+returns-clause-went g c =
+    turns_end _ c.args.limits c.args.node.now.first _ _ _ _ _ _ _ _ c.turns.invariant.went false
+    (sym c.turns.invariant.goes_on) (le-leb c.args.limits.turns c.turns.counter c.turns-test.false)

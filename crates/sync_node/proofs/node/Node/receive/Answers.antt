@@ -1,40 +1,30 @@
-use Rattle.std.proofs.Common.{Bool, true, ◌<◌, List, ℕ, arith, refl, ap, sym, subst, ◌∙◌, length, Some}
-use Rattle.std.specs.List.{slice_get}
-use Rattle.std.proofs.lemmas.Option.{slice_get-get_or}
-use Rattle.sync_node.specs.Node.{IsNode, NodeValue}
-use Rattle.sync_node.proofs.CallLaws.{answers_closed, answers_fault, answers_ok, goes_call, goes_same, kept_call, stops_call}
-use Rattle.sync_node.proofs.CauseLaws.{links_go_none, links_go_set, sessions_set}
-use Rattle.sync_node.proofs.NodeActs.{node_asked, node_asking_stopped}
-use Rattle.sync_node.proofs.NodeLaws.{all_attached, is_closed_node, is_node, kept_long, length_set, link_able, links_go_on, node_may, true≢false}
+use Rattle.std.proofs.Common.{Bool, List, ℕ, None, Some, arith, refl, ap, length, ◌∙◌}
+use Rattle.sync_node.specs.Node.{NodeValue}
+use Rattle.sync_node.specs.OnRuns.{AskingStopped}
+use Rattle.sync_node.proofs.CallLaws.{closed_node, leaves_closed, link_there, never, node_may}
+use Rattle.sync_node.proofs.CallLaws.{node_works, works_fault, works_node, works_ok}
+use Rattle.sync_node.proofs.NodeActs.{by_fault}
+use Rattle.sync_node.proofs.NodeLaws.{kept_long, link_able}
 use Rattle.sync_node.proofs.RunActLaws.{asking_stopped, asking_went}
 use Rattle.sync_node.proofs.node.Node.receive.Goals as goal
 
 pub same-self : goal.same-self
 same-self g c = refl
 
-pub returns-then-self-clause-answers : goal.returns-then-self-clause-answers
-returns-then-self-clause-answers g c = answers_closed _ _ (let yes = ap (λ (n : NodeValue). n.closed) c.self.view_is in let is = c.if-self.true in cc)
-
-pub returns-then-self-clause-may : goal.returns-then-self-clause-may
-returns-then-self-clause-may g c = c.requires.may
-
-pub returns-then-self-clause-goes : goal.returns-then-self-clause-goes
-returns-then-self-clause-goes g c = goes_same _ _ (subst (λ (n : NodeValue). IsNode n) c.self.view_is c.self.invariant.1)
-
-pub returns-then-self-clause-stops : goal.returns-then-self-clause-stops
-returns-then-self-clause-stops g c =
-    λ opened. absurd (let yes = ap (λ (n : NodeValue). n.closed) c.self.view_is in let is = c.if-self.true in cc)
-
-pub returns-then-self-clause-went : goal.returns-then-self-clause-went
-returns-then-self-clause-went g c =
-    λ opened. absurd (let yes = ap (λ (n : NodeValue). n.closed) c.self.view_is in let is = c.if-self.true in cc)
-
-pub returns-then-self-clause-stopped : goal.returns-then-self-clause-stopped
-returns-then-self-clause-stopped g c =
-    λ opened. absurd (let yes = ap (λ (n : NodeValue). n.closed) c.self.view_is in let is = c.if-self.true in cc)
-
-pub returns-then-self-clause-kept : goal.returns-then-self-clause-kept
-returns-then-self-clause-kept g c = record { same_first = refl; same_sessions = refl }
+pub returns-then-self : goal.returns-then-self
+returns-then-self g c =
+    let leaves =
+    leaves_closed Bool (g.C.Clients.meaning c.args.clients.now) _ c.args.host.now
+    (g.H.Disk.tells c.args.host.now) c.self.invariant.1 c.if-self.true in
+    rw (← c.self.view_is) (record {
+      answers = leaves.answers;
+      may = leaves.may;
+      goes = leaves.goes;
+      kept = record { same_first = refl; same_sessions = refl };
+      stops = never _ c.if-self.true;
+      went = never _ c.if-self.true;
+      stopped = never _ c.if-self.true;
+    })
 
 pub index_mut-requires : goal.index_mut-requires
 index_mut-requires g c =
@@ -42,97 +32,91 @@ index_mut-requires g c =
 
 pub receive_on-requires-clause-able : goal.receive_on-requires-clause-able
 receive_on-requires-clause-able g c =
-    let within : c.args.link < length c.self.inside.links.items = omega (arith, c.requires.attached, ap (λ (n : NodeValue). length n.links) c.self.view_is) in
-    let here = slice_get-get_or c.self.inside.links.items c.args.link c.index_mut.result.now within ∙ ap Some (sym c.index_mut.ensures.value) in
-    link_able _ c.self.inside.first c.args.link c.self.inside.links.items _ _ _ (node_may _ _ c.self.inside.first _ c.self.inside.closed _ _ c.self.view_is c.requires.may c.if-self.false)
-    (c.self.invariant.1.attached c.if-self.false) here
+    link_able _ c.self.inside.first c.args.link _ _ _ _
+    (node_may _ _ _ _ c.self.view_is c.requires.may c.if-self.false)
+    (c.self.invariant.1.attached c.if-self.false)
+    (link_there _ _ c.self.view_is c.args.link _ c.requires.attached c.index_mut.ensures.value)
 
 pub receive_on-requires-clause-asked : goal.receive_on-requires-clause-asked
 receive_on-requires-clause-asked g c =
-    let within : c.args.link < length c.self.inside.links.items = omega (arith, c.requires.attached, ap (λ (n : NodeValue). length n.links) c.self.view_is) in
-    let here = slice_get-get_or c.self.inside.links.items c.args.link c.index_mut.result.now within ∙ ap Some (sym c.index_mut.ensures.value) in
-    c.requires.asked _ (ap (λ (n : NodeValue). slice_get n.links c.args.link) (sym c.self.view_is) ∙ here)
+    (rw (← c.self.view_is) at c.requires.asked) _
+    (link_there _ _ c.self.view_is c.args.link _ c.requires.attached c.index_mut.ensures.value)
 
 pub receive_on-requires-clause-whole : goal.receive_on-requires-clause-whole
-receive_on-requires-clause-whole g c = ap (λ (b : List ℕ). length b) c.as_mut_slice.ensures.value ∙ c.self.invariant.0
+receive_on-requires-clause-whole g c =
+    ap (λ (b : List ℕ). length b) c.as_mut_slice.ensures.value ∙ c.self.invariant.0
 
 pub invariant_of-self : goal.invariant_of-self
 invariant_of-self g c =
-    let within : c.args.link < length c.self.inside.links.items = omega (arith, c.requires.attached, ap (λ (n : NodeValue). length n.links) c.self.view_is) in
-    let here = slice_get-get_or c.self.inside.links.items c.args.link c.index_mut.result.now within ∙ ap Some (sym c.index_mut.ensures.value) in (
-      kept_long c.self.inside.buffer.len _ c.self.inside.buffer.items c.receive_on.new.buffer c.self.invariant.0 (omega (arith, c.as_mut_slice.ensures.len, ap (λ (b : List ℕ). length b) c.as_mut_slice.ensures.value))
-          (omega (arith, c.receive_on.auto.buffer, ap (λ (b : List ℕ). length b) c.as_mut_slice.ensures.value)),
-      is_node _ _ _ _ (omega (arith, c.self.invariant.1.few, length_set c.self.inside.links.items c.args.link c.receive_on.new.link)) (all_attached _ c.self.inside.first c.args.link c.self.inside.links.items _ c.receive_on.new.link _ _ _ _ _ (c.self.invariant.1.attached c.if-self.false) here c.in-Ok.ensures.keeps c.in-Ok.ensures.waits),
+    let keeps =
+    node_works _ _ _ _ _ None c.self.view_is c.requires.may c.if-self.false c.args.link _
+    c.receive_on.new.link _ c.requires.attached c.index_mut.ensures.value c.in-Ok.ensures.keeps
+    (λ _. c.in-Ok.ensures.waits) in (
+      kept_long _ _ _ _ _ c.self.invariant.0 (omega (arith, c.as_mut_slice.ensures.len))
+          c.as_mut_slice.ensures.value (omega (arith, c.receive_on.auto.buffer)),
+      works_node _ _ _ _ _ c.self.invariant.1 c.if-self.false refl keeps,
     )
 
 pub invariant_of-self-in-Err : goal.invariant_of-self-in-Err
-invariant_of-self-in-Err g c = (
-  kept_long c.self.inside.buffer.len _ c.self.inside.buffer.items c.receive_on.new.buffer c.self.invariant.0 (omega (arith, c.as_mut_slice.ensures.len, ap (λ (b : List ℕ). length b) c.as_mut_slice.ensures.value))
-      (omega (arith, c.receive_on.auto.buffer, ap (λ (b : List ℕ). length b) c.as_mut_slice.ensures.value)),
-  is_closed_node _ _ _ _ c.close.ensures.closed (omega (arith, c.self.invariant.1.few, length_set c.self.inside.links.items c.args.link c.receive_on.new.link)),
-)
+invariant_of-self-in-Err g c =
+    let keeps =
+    node_works _ _ _ _ _ (Some c.in-Err.fault) c.self.view_is c.requires.may c.if-self.false
+    c.args.link _ c.receive_on.new.link _ c.requires.attached c.index_mut.ensures.value
+    c.in-Err.ensures.keeps (λ none going. cc) in (
+      kept_long _ _ _ _ _ c.self.invariant.0 (omega (arith, c.as_mut_slice.ensures.len))
+          c.as_mut_slice.ensures.value (omega (arith, c.receive_on.auto.buffer)),
+      closed_node _ _ _ _ _ _ c.self.invariant.1 c.close.ensures.closed keeps,
+    )
 
-pub returns-in-Ok-clause-answers : goal.returns-in-Ok-clause-answers
-returns-in-Ok-clause-answers g c =
-    answers_ok _ c.self.inside.first _ c.self.inside.closed _ _ _ _ c.in-Ok.idle c.self.view_is c.if-self.false c.if-self.false
-
-pub returns-in-Ok-clause-may : goal.returns-in-Ok-clause-may
-returns-in-Ok-clause-may g c = λ opened.
-    links_go_on _ c.args.link c.self.inside.links.items _ _ c.receive_on.new.link _ _ _ _ _ (node_may _ _ c.self.inside.first _ c.self.inside.closed _ _ c.self.view_is c.requires.may c.if-self.false)
-    (length_set c.self.inside.links.items c.args.link c.receive_on.new.link) c.in-Ok.ensures.keeps
-
-pub returns-in-Ok-clause-went : goal.returns-in-Ok-clause-went
-returns-in-Ok-clause-went g c = λ opened.
-    let within : c.args.link < length c.self.inside.links.items = omega (arith, c.requires.attached, ap (λ (n : NodeValue). length n.links) c.self.view_is) in
-    let here = slice_get-get_or c.self.inside.links.items c.args.link c.index_mut.result.now within ∙ ap Some (sym c.index_mut.ensures.value) in
+pub returns-in-Ok : goal.returns-in-Ok
+returns-in-Ok g c =
+    let keeps =
+    node_works _ _ _ _ _ None c.self.view_is c.requires.may c.if-self.false c.args.link _
+    c.receive_on.new.link _ c.requires.attached c.index_mut.ensures.value c.in-Ok.ensures.keeps
+    (λ _. c.in-Ok.ensures.waits) in
+    let here =
+    link_there _ _ c.self.view_is c.args.link _ c.requires.attached c.index_mut.ensures.value in
     let numbered = ((c.self.invariant.1.attached c.if-self.false).each c.args.link _ here).numbered in
-    node_asked _ _ c.self.inside.first _ c.self.inside.closed _ _ _ c.self.view_is c.args.link _ _ c.in-Ok.idle
-    (asking_went _ c.self.inside.first c.args.link c.self.inside.links.items _ _ _ here numbered c.receive_on.new.link _ _ c.in-Ok.idle c.in-Ok.ensures.went)
+    let works =
+    works_ok Bool _ _ _ c.args.host.now c.receive_on.new.host _ _ c.if-self.false
+    (invariant_of-self g c).1 refl
+    c.in-Ok.idle c.if-self.false keeps in
+    rw (← c.self.view_is) (record {
+      answers = works.leaves.answers;
+      may = works.leaves.may;
+      goes = works.leaves.goes;
+      kept = works.kept;
+      stops = λ opened. tt;
+      went = λ opened.
+          asking_went _ c.self.inside.first c.args.link _ _ _ _ here numbered c.receive_on.new.link
+          _ _ c.in-Ok.idle
+          c.in-Ok.ensures.went;
+      stopped = λ opened. tt;
+    })
 
-pub returns-in-Err-clause-answers : goal.returns-in-Err-clause-answers
-returns-in-Err-clause-answers g c =
-    answers_fault _ c.self.inside.first _ c.self.inside.closed _ _ _ _ c.in-Err.fault _ c.self.view_is c.if-self.false c.close.ensures.fault c.close.ensures.closed
-
-pub returns-in-Err-clause-may : goal.returns-in-Err-clause-may
-returns-in-Err-clause-may g c = λ opened. absurd (true≢false _ c.close.ensures.closed opened)
-
-pub returns-in-Err-clause-stopped : goal.returns-in-Err-clause-stopped
-returns-in-Err-clause-stopped g c = λ opened.
-    let within : c.args.link < length c.self.inside.links.items = omega (arith, c.requires.attached, ap (λ (n : NodeValue). length n.links) c.self.view_is) in
-    let here = slice_get-get_or c.self.inside.links.items c.args.link c.index_mut.result.now within ∙ ap Some (sym c.index_mut.ensures.value) in
+pub returns-in-Err : goal.returns-in-Err
+returns-in-Err g c =
+    let keeps =
+    node_works _ _ _ _ _ (Some c.in-Err.fault) c.self.view_is c.requires.may c.if-self.false
+    c.args.link _ c.receive_on.new.link _ c.requires.attached c.index_mut.ensures.value
+    c.in-Err.ensures.keeps (λ none going. cc) in
+    let here =
+    link_there _ _ c.self.view_is c.args.link _ c.requires.attached c.index_mut.ensures.value in
     let numbered = ((c.self.invariant.1.attached c.if-self.false).each c.args.link _ here).numbered in
-    node_asking_stopped _ _ c.self.inside.first _ c.self.inside.closed _ _ _ c.self.view_is c.args.link _ _ c.in-Err.fault _ c.close.ensures.fault
-    (asking_stopped _ c.self.inside.first c.args.link c.self.inside.links.items _ _ _ here numbered c.receive_on.new.link _ _ _ c.in-Err.ensures.stopped)
-
-pub returns-in-Ok-clause-goes : goal.returns-in-Ok-clause-goes
-returns-in-Ok-clause-goes g c =
-    let within : c.args.link < length c.self.inside.links.items = omega (arith, c.requires.attached, ap (λ (n : NodeValue). length n.links) c.self.view_is) in
-    let here = slice_get-get_or c.self.inside.links.items c.args.link c.index_mut.result.now within ∙ ap Some (sym c.index_mut.ensures.value) in
-    goes_call _ _ c.self.inside.first c.self.inside.links.items _ c.self.inside.closed _ _ _ _ c.self.view_is (invariant_of-self g c).1
-    (links_go_set c.args.link _ c.self.inside.links.items _ c.receive_on.new.link _ _ _ (links_go_none _ _) here c.in-Ok.ensures.keeps.link) c.in-Ok.ensures.keeps.store.same_limit c.in-Ok.ensures.keeps.store.same_format
-
-pub returns-in-Ok-clause-kept : goal.returns-in-Ok-clause-kept
-returns-in-Ok-clause-kept g c =
-    let within : c.args.link < length c.self.inside.links.items = omega (arith, c.requires.attached, ap (λ (n : NodeValue). length n.links) c.self.view_is) in
-    let here = slice_get-get_or c.self.inside.links.items c.args.link c.index_mut.result.now within ∙ ap Some (sym c.index_mut.ensures.value) in
-    kept_call _ _ c.self.inside.first c.self.inside.links.items _ c.self.inside.closed _ _ c.self.view_is
-    (sessions_set c.args.link c.self.inside.links.items _ c.receive_on.new.link here c.in-Ok.ensures.keeps.link.same_session)
-
-pub returns-in-Err-clause-goes : goal.returns-in-Err-clause-goes
-returns-in-Err-clause-goes g c =
-    let within : c.args.link < length c.self.inside.links.items = omega (arith, c.requires.attached, ap (λ (n : NodeValue). length n.links) c.self.view_is) in
-    let here = slice_get-get_or c.self.inside.links.items c.args.link c.index_mut.result.now within ∙ ap Some (sym c.index_mut.ensures.value) in
-    goes_call _ _ c.self.inside.first c.self.inside.links.items _ c.self.inside.closed _ _ _ _ c.self.view_is (invariant_of-self-in-Err g c).1
-    (links_go_set c.args.link _ c.self.inside.links.items _ c.receive_on.new.link _ _ _ (links_go_none _ _) here c.in-Err.ensures.keeps.link) c.in-Err.ensures.keeps.store.same_limit c.in-Err.ensures.keeps.store.same_format
-
-pub returns-in-Err-clause-kept : goal.returns-in-Err-clause-kept
-returns-in-Err-clause-kept g c =
-    let within : c.args.link < length c.self.inside.links.items = omega (arith, c.requires.attached, ap (λ (n : NodeValue). length n.links) c.self.view_is) in
-    let here = slice_get-get_or c.self.inside.links.items c.args.link c.index_mut.result.now within ∙ ap Some (sym c.index_mut.ensures.value) in
-    kept_call _ _ c.self.inside.first c.self.inside.links.items _ c.self.inside.closed _ _ c.self.view_is
-    (sessions_set c.args.link c.self.inside.links.items _ c.receive_on.new.link here c.in-Err.ensures.keeps.link.same_session)
-
-pub returns-in-Err-clause-stops : goal.returns-in-Err-clause-stops
-returns-in-Err-clause-stops g c = λ opened.
-    stops_call Bool (g.C.Clients.meaning c.args.clients.now) c.receive_on.new.store c.self.inside.first c.self.inside.links.items true
-    (g.H.Disk.tells c.args.host.now) (g.H.Disk.tells c.receive_on.new.host) c.in-Err.fault _ c.close.ensures.fault c.in-Err.ensures.keeps.store.answered
+    let works =
+    works_fault Bool _ _ _ c.args.host.now c.receive_on.new.host _ _ c.if-self.false
+    (invariant_of-self-in-Err g c).1 refl c.in-Err.fault c.close.result c.close.ensures.fault
+    c.close.ensures.closed keeps in
+    rw (← c.self.view_is) (record {
+      answers = works.leaves.answers;
+      may = works.leaves.may;
+      goes = works.leaves.goes;
+      kept = works.kept;
+      stops = λ opened. works.stops;
+      went = λ opened. tt;
+      stopped = λ opened.
+          by_fault (AskingStopped _ _ _ _ _ _ _ _ _) c.in-Err.fault _ c.close.ensures.fault
+          (asking_stopped _ c.self.inside.first c.args.link _ _ _ _ here numbered
+          c.receive_on.new.link _ _ _
+          c.in-Err.ensures.stopped);
+    })

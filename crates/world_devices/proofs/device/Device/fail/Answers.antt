@@ -1,4 +1,4 @@
-use Rattle.world_devices.proofs.GivingUpLaws.{comes_same}
+use Rattle.world_devices.proofs.StartLaws.{comes_same}
 use Rattle.world_devices.proofs.device.Device.fail.Goals as goal
 
 pub returns-in-Full-clause-left : goal.returns-in-Full-clause-left

@@ -1,8 +1,7 @@
 use Rattle.std.proofs.Common.{subst}
 use Rattle.world_devices.specs.Devices.{DeviceValue}
 use Rattle.world_devices.specs.Linking.{DeviceLinksStand}
-use Rattle.world_devices.proofs.CallLaws.{links_stand}
-use Rattle.world_devices.proofs.HeldLaws.{held_of}
+use Rattle.world_devices.proofs.CallLaws.{held_of, links_stand}
 use Rattle.world_devices.proofs.RunningLaws.{running_of}
 use Rattle.world_devices.proofs.device.Device.links_stand.Goals as goal
 

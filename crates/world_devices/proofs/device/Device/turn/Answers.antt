@@ -1,15 +1,16 @@
-use Rattle.std.proofs.Common.{[], ap, arith, refl, sym, ◌∙◌, Some, None, Ok}
+use Rattle.std.proofs.Common.{Bool, [], ap, arith, refl, rules, sym, subst, ◌∙◌, Some, None, Ok}
 use Rattle.outside.specs.HostTold.{host_told}
+use Rattle.outside.specs.MemHost.{MemHostValue}
 use Rattle.client_basic.specs.Bodies.{bundle_meaning}
+use Rattle.sync_node.specs.Courses.{BreaksTurn, MakesTurn}
+use Rattle.sync_node.specs.Node.{NodeValue}
 use Rattle.sync_node.proofs.NodeRuns as runs
 use Rattle.world_devices.specs.Devices.{DeviceValue}
-use Rattle.world_devices.proofs.CallLaws.{call_brings, call_keeps_on, device_keeps, device_leaves, keeps_links, links_seen, may_still, runs_by, runs_files, same_number, turn_broke, turn_did, turn_done}
-use Rattle.world_devices.proofs.CourseLaws.{turn_breaks_off}
+use Rattle.world_devices.specs.Doing.{FullInTurn, HasTurned}
+use Rattle.world_devices.proofs.CallLaws.{device_leaves, did_well, keeps_links, leaves_keeps, leaves_on, leaves_runs, runs_files, same_number, turn_broke, turn_done}
 use Rattle.world_devices.proofs.FullLaws.{full_turn}
-use Rattle.world_devices.proofs.HostLaws.{told_host}
-use Rattle.world_devices.proofs.RunLaws.{ended_did}
-use Rattle.world_devices.proofs.RunningLaws.{call_running, keeps_seen, running_of}
-use Rattle.world_devices.proofs.TurnLaws.{still_by, turn_broken, turn_failed, turn_made, turn_starved, turns_seen}
+use Rattle.world_devices.proofs.RunningLaws.{call_running, running_of}
+use Rattle.world_devices.proofs.TurnLaws.{call_failed, call_starved, of_node, of_nodes, still_by, turn_breaks_off, turns_seen}
 use Rattle.world_devices.proofs.device.Device.turn.Goals as goal
 
 pub invariant_of-self-in-Ok : goal.invariant_of-self-in-Ok
@@ -19,139 +20,130 @@ invariant_of-self-in-Ok c =
     let h = c.self.inside.host in
     let h' = c.turn.new.host in
     let links = c.self.inside.links in
-    let run = running_of c.self.inside.node n h links c.in-Some.is c.self.invariant.0 in
-    let ends = turn_done n n' h h' links run _ c.turn.ensures.goes.node (c.in-Ok.ensures.went run.unclosed) in
-    let did = ended_did n n' (host_told h) (host_told h') ends in (
-      call_running n n' h h' links links ends c.in-Ok.ensures.kept.same_first c.turn.ensures.may (c.in-Ok.ensures.answers.opened run.unclosed) c.turn.ensures.goes.node (call_brings n h h' links run did) (run.linked ∙ sym (same_number n n' c.in-Ok.ensures.kept)) (omega arith) run,
-      call_keeps_on c.cite_laws.ensures n h h' links run did [] c.self.invariant.1,
+    let did = did_well c.cite_laws.ensures c.self.inside.node n n' h h' links c.in-Some.is c.self.invariant.0
+    (λ run. turn_done n n' h h' links run _ c.turn.ensures.goes.node (c.in-Ok.ensures.went run.unclosed)) c.in-Ok.ensures.answers.opened c.turn.ensures.may in (
+      call_running n n' h h' links links did.ends c.in-Ok.ensures.kept.same_first c.turn.ensures.may (c.in-Ok.ensures.answers.opened did.run.unclosed) c.turn.ensures.goes.node did.brings
+          (did.run.linked ∙ sym (same_number n n' c.in-Ok.ensures.kept)) (omega arith) did.run,
+      did.leaves.keeps [] c.self.invariant.1,
       c.self.invariant.2,
     )
 
 pub invariant_of-self-in-Err : goal.invariant_of-self-in-Err
-invariant_of-self-in-Err c = (
-  tt,
-  device_keeps c.cite_laws.ensures c.self.inside.node c.in-Some.node c.self.inside.host c.turn.new.host c.self.inside.links c.in-Some.is c.self.invariant.0
-      (λ run. turn_broke c.in-Some.node c.turn.new.self c.self.inside.host c.turn.new.host c.self.inside.links run _ (c.in-Err.ensures.stopped run.unclosed)) [] c.self.invariant.1,
-  c.self.invariant.2,
-)
-
-pub returns-in_err-test_done-in-Ok-clause-keeps : goal.returns-in_err-test_done-in-Ok-clause-keeps
-returns-in_err-test_done-in-Ok-clause-keeps c =
-    keeps_seen c.self.inside.host c.args.self.now.host (host_told c.turn.new.host) (ap (λ (d : DeviceValue). d.host) c.self.view_is)
-    (device_keeps c.cite_laws.ensures c.self.inside.node c.in-Some.node c.self.inside.host c.turn.new.host c.self.inside.links c.in-Some.is c.self.invariant.0
-    (λ run. turn_did c.in-Some.node c.turn.new.self c.self.inside.host c.turn.new.host c.self.inside.links run _ c.turn.ensures.goes.node (c.in-Ok.ensures.went run.unclosed)))
-
-pub returns-in_err-test_done-in-Ok-clause-runs : goal.returns-in_err-test_done-in-Ok-clause-runs
-returns-in_err-test_done-in-Ok-clause-runs c =
-    runs_by c.cite_laws.ensures _ c.args.self.now _ c.self.view_is
-    (device_leaves c.cite_laws.ensures c.self.inside.node c.in-Some.node c.self.inside.host c.turn.new.host c.self.inside.links c.in-Some.is c.self.invariant.0
-    (λ run. turn_did c.in-Some.node c.turn.new.self c.self.inside.host c.turn.new.host c.self.inside.links run _ c.turn.ensures.goes.node (c.in-Ok.ensures.went run.unclosed)))
-    (λ _. may_still c.self.inside.node c.in-Some.node c.turn.new.self c.self.inside.host c.turn.new.host c.self.inside.links c.in-Some.is c.self.invariant.0 c.in-Ok.ensures.answers.opened c.turn.ensures.may)
-
-pub returns-in_ok-test_done-in-Ok-clause-keeps : goal.returns-in_ok-test_done-in-Ok-clause-keeps
-returns-in_ok-test_done-in-Ok-clause-keeps c =
-    keeps_seen c.self.inside.host c.args.self.now.host (host_told c.turn.new.host) (ap (λ (d : DeviceValue). d.host) c.self.view_is)
-    (device_keeps c.cite_laws.ensures c.self.inside.node c.in-Some.node c.self.inside.host c.turn.new.host c.self.inside.links c.in-Some.is c.self.invariant.0
-    (λ run. turn_did c.in-Some.node c.turn.new.self c.self.inside.host c.turn.new.host c.self.inside.links run _ c.turn.ensures.goes.node (c.in-Ok.ensures.went run.unclosed)))
-
-pub returns-in_ok-test_done-in-Ok-clause-runs : goal.returns-in_ok-test_done-in-Ok-clause-runs
-returns-in_ok-test_done-in-Ok-clause-runs c =
-    runs_by c.cite_laws.ensures _ c.args.self.now _ c.self.view_is
-    (device_leaves c.cite_laws.ensures c.self.inside.node c.in-Some.node c.self.inside.host c.turn.new.host c.self.inside.links c.in-Some.is c.self.invariant.0
-    (λ run. turn_did c.in-Some.node c.turn.new.self c.self.inside.host c.turn.new.host c.self.inside.links run _ c.turn.ensures.goes.node (c.in-Ok.ensures.went run.unclosed)))
-    (λ _. may_still c.self.inside.node c.in-Some.node c.turn.new.self c.self.inside.host c.turn.new.host c.self.inside.links c.in-Some.is c.self.invariant.0 c.in-Ok.ensures.answers.opened c.turn.ensures.may)
-
-pub returns-in_err-fail-in-Err-clause-keeps : goal.returns-in_err-fail-in-Err-clause-keeps
-returns-in_err-fail-in-Err-clause-keeps c =
-    keeps_seen c.self.inside.host c.args.self.now.host (host_told c.fail.new.self.host) (ap (λ (d : DeviceValue). d.host) c.self.view_is)
-    (λ j k. c.fail.ensures.keeps j (device_keeps c.cite_laws.ensures c.self.inside.node c.in-Some.node c.self.inside.host c.turn.new.host c.self.inside.links c.in-Some.is c.self.invariant.0
-    (λ run. turn_broke c.in-Some.node c.turn.new.self c.self.inside.host c.turn.new.host c.self.inside.links run _ (c.in-Err.ensures.stopped run.unclosed)) j k))
-
-pub returns-in_err-fail-in-Err-clause-runs : goal.returns-in_err-fail-in-Err-clause-runs
-returns-in_err-fail-in-Err-clause-runs c =
-    runs_by c.cite_laws.ensures _ c.args.self.now _ c.self.view_is
-    (λ j holds. c.fail.ensures.leaves _ j (device_leaves c.cite_laws.ensures c.self.inside.node c.in-Some.node c.self.inside.host c.turn.new.host c.self.inside.links c.in-Some.is c.self.invariant.0
-    (λ run. turn_broke c.in-Some.node c.turn.new.self c.self.inside.host c.turn.new.host c.self.inside.links run _ (c.in-Err.ensures.stopped run.unclosed)) j holds)) c.fail.ensures.still
-
-pub returns-in_ok-fail-in-Err-clause-keeps : goal.returns-in_ok-fail-in-Err-clause-keeps
-returns-in_ok-fail-in-Err-clause-keeps c =
-    keeps_seen c.self.inside.host c.args.self.now.host (host_told c.fail.new.self.host) (ap (λ (d : DeviceValue). d.host) c.self.view_is)
-    (λ j k. c.fail.ensures.keeps j (device_keeps c.cite_laws.ensures c.self.inside.node c.in-Some.node c.self.inside.host c.turn.new.host c.self.inside.links c.in-Some.is c.self.invariant.0
-    (λ run. turn_broke c.in-Some.node c.turn.new.self c.self.inside.host c.turn.new.host c.self.inside.links run _ (c.in-Err.ensures.stopped run.unclosed)) j k))
-
-pub returns-in_ok-fail-in-Err-clause-runs : goal.returns-in_ok-fail-in-Err-clause-runs
-returns-in_ok-fail-in-Err-clause-runs c =
-    runs_by c.cite_laws.ensures _ c.args.self.now _ c.self.view_is
-    (λ j holds. c.fail.ensures.leaves _ j (device_leaves c.cite_laws.ensures c.self.inside.node c.in-Some.node c.self.inside.host c.turn.new.host c.self.inside.links c.in-Some.is c.self.invariant.0
-    (λ run. turn_broke c.in-Some.node c.turn.new.self c.self.inside.host c.turn.new.host c.self.inside.links run _ (c.in-Err.ensures.stopped run.unclosed)) j holds)) c.fail.ensures.still
-
-pub returns-in_ok-test_done-in-Ok-clause-links : goal.returns-in_ok-test_done-in-Ok-clause-links
-returns-in_ok-test_done-in-Ok-clause-links c =
+invariant_of-self-in-Err c =
     let n = c.in-Some.node in
-    let n' = c.turn.new.self in
     let h = c.self.inside.host in
-    let h' = c.turn.new.host in
-    let links = c.self.inside.links in
-    let run = running_of c.self.inside.node n h links c.in-Some.is c.self.invariant.0 in
-    let ends = turn_done n n' h h' links run _ c.turn.ensures.goes.node (c.in-Ok.ensures.went run.unclosed) in
-    let did = ended_did n n' (host_told h) (host_told h') ends in
-    links_seen _ c.args.self.now _ c.self.view_is
-    (keeps_links n n' _ _ c.in-Some.is refl c.in-Ok.ensures.kept.same_first (same_number n n' c.in-Ok.ensures.kept) refl (call_brings n h h' links run did))
-
-pub returns-in_ok-fail-in-Err-clause-running : goal.returns-in_ok-fail-in-Err-clause-running
-returns-in_ok-fail-in-Err-clause-running c = c.in_ok-fail-in-Err.ensures.running
-
-pub returns-in_ok-fail-in-Err-clause-links : goal.returns-in_ok-fail-in-Err-clause-links
-returns-in_ok-fail-in-Err-clause-links c = c.in_ok-fail-in-Err.ensures.links
+    let run = running_of c.self.inside.node n h c.self.inside.links c.in-Some.is c.self.invariant.0 in
+    let did = turn_broke n c.turn.new.self h c.turn.new.host c.self.inside.links run _ (c.in-Err.ensures.stopped run.unclosed) in
+    (tt, (device_leaves c.cite_laws.ensures c.self.inside.node n h c.turn.new.host c.self.inside.links c.in-Some.is run did).keeps [] c.self.invariant.1, c.self.invariant.2)
 
 pub returns-in_default-clause-runs : goal.returns-in_default-clause-runs
 returns-in_default-clause-runs c = runs_files c.args.self.now _ (ap (λ (d : DeviceValue). (host_told d.host).files) c.self.view_is)
 
-pub returns-in_err-fail-in-Err-clause-turns : goal.returns-in_err-fail-in-Err-clause-turns
-returns-in_err-fail-in-Err-clause-turns c =
+-- the turn was made
+pub returns-in_ok-test_done-in-Ok : goal.returns-in_ok-test_done-in-Ok
+returns-in_ok-test_done-in-Ok c =
     let n = c.in-Some.node in
     let n' = c.turn.new.self in
     let h = c.self.inside.host in
     let h' = c.turn.new.host in
-    let links = c.self.inside.links in
-    let run = running_of c.self.inside.node n h links c.in-Some.is c.self.invariant.0 in
-    turns_seen _ _ c.args.self.now _ c.self.view_is
-    (turn_failed _ c.in_err-fail-in-Err.field-0.0 c.in-Err.fault n n'.store h' _ _ c.from_residual-in_err-fail-in-Err.ensures.1 c.in_err-fail-in-Err.ensures.unrefused c.in-Some.is
-    c.in_err-fail-in-Err.ensures.full c.turn.ensures.goes.same_limit
-    (λ is. full_turn c.cite_laws.ensures.full n n' (host_told h) (host_told h') (told_host h) run.runs c.in-Err.fault is (c.in-Err.ensures.stopped run.unclosed))
-    (turn_breaks_off n n' (host_told h) (host_told h') c.in-Err.fault (c.in-Err.ensures.stopped run.unclosed)) c.fail.ensures.left c.turn.ensures.goes.goes.calls)
+    let did = did_well c.cite_laws.ensures c.self.inside.node n n' h h' c.self.inside.links c.in-Some.is c.self.invariant.0
+    (λ run. turn_done n n' h h' c.self.inside.links run _ c.turn.ensures.goes.node (c.in-Ok.ensures.went run.unclosed)) c.in-Ok.ensures.answers.opened c.turn.ensures.may in
+    record {
+      keeps = leaves_keeps _ c.args.self.now h' c.self.view_is did.leaves;
+      runs = leaves_runs c.cite_laws.ensures _ c.args.self.now _ c.self.view_is did.leaves (λ _. did.still);
+      running = refl;
+      links =
+          keeps_links n n' _ c.args.self.now _ c.self.view_is c.in-Some.is refl c.in-Ok.ensures.kept.same_first (same_number n n' c.in-Ok.ensures.kept) refl did.brings;
+      unrefused = tt;
+      turns =
+          turns_seen (Ok (Some c.eq.result)) _ c.args.self.now _ c.self.view_is (
+            record { clock = refl; stop = refl; since = c.turn.ensures.goes.goes.calls; ahead = c.in_ok-test_done-in-Ok.ensures.ahead },
+            of_nodes (HasTurned c.eq.result h h') n n' c.self.inside.node c.in-Some.is (record {
+              same_first = c.in-Ok.ensures.kept.same_first;
+              turn =
+                  subst (λ (b : Bool). MakesTurn bundle_meaning n.first n.links n'.links n.store n'.store (host_told h) (host_told h') b) (sym (still_by c.in-Ok.turned c.eq.result c.eq.ensures))
+                  (runs.turn_made bundle_meaning n.first n.links n'.links n.store n'.store (host_told h) (host_told h') _ (c.in-Ok.ensures.went did.run.unclosed));
+            }),
+          );
+    }
 
-pub returns-in_err-test_done-in-Ok-clause-turns : goal.returns-in_err-test_done-in-Ok-clause-turns
-returns-in_err-test_done-in-Ok-clause-turns c =
+-- it was made, but its links or its clock found no memory
+pub returns-in_err-test_done-in-Ok : goal.returns-in_err-test_done-in-Ok
+returns-in_err-test_done-in-Ok c =
     let n = c.in-Some.node in
     let n' = c.turn.new.self in
     let h = c.self.inside.host in
     let h' = c.turn.new.host in
-    let links = c.self.inside.links in
-    let run = running_of c.self.inside.node n h links c.in-Some.is c.self.invariant.0 in
-    turns_seen _ _ c.args.self.now _ c.self.view_is
-    (turn_starved _ c.in_err-test_done-in-Ok.field-0.0 n n' _ _ _ c.from_residual.ensures.1 c.in_err-test_done-in-Ok.ensures.unrefused c.in_err-test_done-in-Ok.ensures.unfilled c.in-Some.is
-    (runs.turn_made bundle_meaning n.first n.links n'.links n.store n'.store (host_told h) (host_told h') _ (c.in-Ok.ensures.went run.unclosed)) c.turn.ensures.goes.goes.calls)
+    let did = did_well c.cite_laws.ensures c.self.inside.node n n' h h' c.self.inside.links c.in-Some.is c.self.invariant.0
+    (λ run. turn_done n n' h h' c.self.inside.links run _ c.turn.ensures.goes.node (c.in-Ok.ensures.went run.unclosed)) c.in-Ok.ensures.answers.opened c.turn.ensures.may in
+    record {
+      keeps = leaves_keeps _ c.args.self.now h' c.self.view_is did.leaves;
+      runs = leaves_runs c.cite_laws.ensures _ c.args.self.now _ c.self.view_is did.leaves (λ _. did.still);
+      running = search rules;
+      links = search rules;
+      unrefused = search rules;
+      turns =
+          turns_seen _ _ c.args.self.now _ c.self.view_is
+          (call_starved _ _ _ _ _ _ c.in_err-test_done-in-Ok.field-0.0 c.from_residual.ensures.1 c.in_err-test_done-in-Ok.ensures.unrefused c.in_err-test_done-in-Ok.ensures.unfilled
+          c.turn.ensures.goes.goes.calls _ (of_nodes (HasTurned _ h h') n n' c.self.inside.node c.in-Some.is (record {
+            same_first = c.in-Ok.ensures.kept.same_first;
+            turn = runs.turn_made bundle_meaning n.first n.links n'.links n.store n'.store (host_told h) (host_told h') _ (c.in-Ok.ensures.went did.run.unclosed);
+          })));
+    }
 
-pub returns-in_ok-test_done-in-Ok-clause-turns : goal.returns-in_ok-test_done-in-Ok-clause-turns
-returns-in_ok-test_done-in-Ok-clause-turns c =
+-- its disk stopped in it
+pub returns-in_ok-fail-in-Err : goal.returns-in_ok-fail-in-Err
+returns-in_ok-fail-in-Err c =
     let n = c.in-Some.node in
     let n' = c.turn.new.self in
     let h = c.self.inside.host in
     let h' = c.turn.new.host in
-    let links = c.self.inside.links in
-    let run = running_of c.self.inside.node n h links c.in-Some.is c.self.invariant.0 in
-    turns_seen (Ok (Some c.eq.result)) _ c.args.self.now _ c.self.view_is
-    (turn_made c.eq.result _ n n' _ _ c.in-Some.is refl refl refl c.turn.ensures.goes.goes.calls c.in_ok-test_done-in-Ok.ensures.ahead c.in-Ok.ensures.kept.same_first (still_by c.in-Ok.turned c.eq.result c.eq.ensures)
-    (runs.turn_made bundle_meaning n.first n.links n'.links n.store n'.store (host_told h) (host_told h') _ (c.in-Ok.ensures.went run.unclosed)))
+    let run = running_of c.self.inside.node n h c.self.inside.links c.in-Some.is c.self.invariant.0 in
+    let stopped = c.in-Err.ensures.stopped run.unclosed in
+    let leaves = leaves_on c.self.inside.node h h' c.fail.new.self.host
+    (device_leaves c.cite_laws.ensures c.self.inside.node n h h' c.self.inside.links c.in-Some.is run (turn_broke n n' h h' c.self.inside.links run _ stopped)) c.fail.ensures.left in
+    record {
+      keeps = leaves_keeps _ c.args.self.now c.fail.new.self.host c.self.view_is leaves;
+      runs = leaves_runs c.cite_laws.ensures _ c.args.self.now _ c.self.view_is leaves c.fail.ensures.still;
+      running = c.in_ok-fail-in-Err.ensures.running;
+      links = c.in_ok-fail-in-Err.ensures.links;
+      unrefused = tt;
+      turns =
+          turns_seen (Ok None) _ c.args.self.now _ c.self.view_is (record {
+            at = h';
+            since = c.turn.ensures.goes.goes.calls;
+            broken =
+                of_node (λ (m : NodeValue). BreaksTurn bundle_meaning m.first m.links m.store (host_told h) (host_told h')) n c.self.inside.node c.in-Some.is
+                (turn_breaks_off n n' (host_told h) (host_told h') c.in-Err.fault stopped);
+            off = c.in_ok-fail-in-Err.ensures.to;
+            clock = c.in_ok-fail-in-Err.ensures.clock;
+          });
+    }
 
-pub returns-in_ok-fail-in-Err-clause-turns : goal.returns-in_ok-fail-in-Err-clause-turns
-returns-in_ok-fail-in-Err-clause-turns c =
+-- it failed in another way
+pub returns-in_err-fail-in-Err : goal.returns-in_err-fail-in-Err
+returns-in_err-fail-in-Err c =
     let n = c.in-Some.node in
     let n' = c.turn.new.self in
     let h = c.self.inside.host in
     let h' = c.turn.new.host in
-    let links = c.self.inside.links in
-    let run = running_of c.self.inside.node n h links c.in-Some.is c.self.invariant.0 in
-    turns_seen (Ok None) _ c.args.self.now _ c.self.view_is
-    (turn_broken n h' _ _ c.in-Some.is (turn_breaks_off n n' (host_told h) (host_told h') c.in-Err.fault (c.in-Err.ensures.stopped run.unclosed)) c.turn.ensures.goes.goes.calls c.in_ok-fail-in-Err.ensures.to c.in_ok-fail-in-Err.ensures.clock)
+    let run = running_of c.self.inside.node n h c.self.inside.links c.in-Some.is c.self.invariant.0 in
+    let stopped = c.in-Err.ensures.stopped run.unclosed in
+    let leaves = leaves_on c.self.inside.node h h' c.fail.new.self.host
+    (device_leaves c.cite_laws.ensures c.self.inside.node n h h' c.self.inside.links c.in-Some.is run (turn_broke n n' h h' c.self.inside.links run _ stopped)) c.fail.ensures.left in
+    record {
+      keeps = leaves_keeps _ c.args.self.now c.fail.new.self.host c.self.view_is leaves;
+      runs = leaves_runs c.cite_laws.ensures _ c.args.self.now _ c.self.view_is leaves c.fail.ensures.still;
+      running = search rules;
+      links = search rules;
+      unrefused = search rules;
+      turns =
+          turns_seen _ _ c.args.self.now _ c.self.view_is
+          (call_failed _ _ _ _ _ _ c.in_err-fail-in-Err.field-0.0 c.in-Err.fault h' c.from_residual-in_err-fail-in-Err.ensures.1 c.in_err-fail-in-Err.ensures.unrefused
+          c.in_err-fail-in-Err.ensures.full
+          (λ is same. of_node (FullInTurn h c.fail.new.self.host) n c.self.inside.node c.in-Some.is
+          (subst (λ (x : MemHostValue). FullInTurn h x n) (sym same) (full_turn c.cite_laws.ensures.full n n' h h' run.runs c.turn.ensures.goes.same_limit c.in-Err.fault is stopped)))
+          c.turn.ensures.goes.goes.calls
+          (of_node (λ (m : NodeValue). BreaksTurn bundle_meaning m.first m.links m.store (host_told h) (host_told h')) n c.self.inside.node c.in-Some.is
+          (turn_breaks_off n n' (host_told h) (host_told h') c.in-Err.fault stopped)) c.fail.ensures.left);
+    }

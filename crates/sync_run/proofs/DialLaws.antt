@@ -1,6 +1,5 @@
 -- Calls that make links, ask for nonces and end links: they change no file and send nothing.
 use Rattle.std.proofs.Common.{◌≡◌, ℕ, zero, suc, ◌+◌, ◌<◌, ◌≤◌, List, [], ◌∷◌, ◌++◌, length, take, drop, refl, sym, ap, ◌∙◌, subst, inl, inr, arith, Option, None, Some, Result, Ok, Err, is_some, slice_index_or, append-nil, append_assoc}
-use Rattle.std.specs.Prelude.{IsErrAnd}
 use Rattle.std.specs.Bool.{if◌then◌else◌}
 use Rattle.std.specs.Result.{is_ok}
 use Rattle.std.specs.List.{slice_get}
@@ -230,11 +229,6 @@ dial_stops words links i n w e o0 o1 o2 none long is there within are makes len 
         all = (few, rose);
       }
     ]
-
--- the error that is handed on
-pub err_is : {T E : Type 0} (r : Result T E) (e : E) → IsErrAnd r (λ x. x ≡ e) → r ≡ Err e
-err_is (Ok t) e is = absurd is
-err_is (Err x) e is = ap (λ y. Err y) is
 
 -- a value that was put behind others
 pub pushed : {A T E : Type 0} (r : Result T E) (t : T) (new xs ys : List A) → r ≡ Ok t → new ≡ (if is_ok r then ys else xs) → new ≡ ys

@@ -1,0 +1,59 @@
+-- Files at rest: nothing is pending in them, so that a crash leaves what a read gives.
+use Rattle.std.proofs.Common.{◌≡◌, ℕ, List, refl, sym, ap, ◌∙◌, subst, arith, Option, None, Some, Result, Err}
+use Rattle.std.proofs.lemmas.Grind.{same_number_lists}
+use Rattle.outside.specs.Disk.{RelatesTold}
+use Rattle.outside.specs.Files.{Two, File, IsFileImage, IsImage, NothingPending, read_files, settled}
+use Rattle.frame_journal.specs.Gates.{SyncsBoth}
+use Rattle.sync_rules.specs.Clients.{Meaning}
+use Rattle.sync_store.specs.Store.{StoreValue}
+use Rattle.sync_store.specs.Ready.{IsReady}
+use Rattle.store_commands.specs.Commit as commits
+use Rattle.store_commands.specs.Load.{LoadLeavesSettled}
+use Rattle.sync_course.specs.Closing.{Closing}
+use Rattle.sync_words.specs.declared.outcome.Outcome.{Outcome}
+use Rattle.sync_words.specs.declared.outcome.Outcome.TheVariants as outcome
+use Rattle.sync_run.specs.Headline.{AtRest, LeavesFilesAtRest}
+
+settled_only : (bytes c : List ℕ) → IsFileImage (settled bytes) c → c ≡ bytes
+settled_only bytes c image = same_number_lists c bytes (omega (arith, image.no_shorter, image.no_longer)) (λ k below. image.kept k (omega (arith, image.no_longer)) refl)
+
+abbrev two_of : List ℕ → List ℕ → Two (List ℕ)
+two_of first second = record { first = first; second = second }
+
+two_are : (x y : Two (List ℕ)) → x.first ≡ y.first → x.second ≡ y.second → x ≡ y
+two_are x y first second = ap (λ (b : List ℕ). two_of b x.second) first ∙ ap (λ (b : List ℕ). two_of y.first b) second
+
+-- a crash leaves what a read gives
+pub image_read : (two : Two File) (left : Two (List ℕ)) → NothingPending two 0 → NothingPending two 1 → IsImage two left → left ≡ read_files two
+image_read two left first second image =
+    two_are left (read_files two) (settled_only two.first.now left.first (subst (λ (f : File). IsFileImage f left.first) first image.first))
+    (settled_only two.second.now left.second (subst (λ (f : File). IsFileImage f left.second) second image.second))
+
+-- ---- by what calls answered
+
+pub rests_ready : (clients : Meaning) (s : StoreValue) (files : Option (Two File)) → IsReady clients s files → AtRest files
+rests_ready clients s files ready two told left image =
+    let fit = (ready.fits two told).1 in
+    image_read two left fit.first_settled fit.second_settled image
+
+pub rests_at : (files : Option (Two File)) (r : Result Closing Outcome) → AtRest files → LeavesFilesAtRest files r
+rests_at files (Err outcome.DiskFault) rest = tt
+rests_at files _ rest = rest
+
+-- files in which nothing is pending
+pub rests_settled : (old new : Option (Two File)) → RelatesTold SyncsBoth old new → AtRest new
+rests_settled None None becomes two told left image = cc
+rests_settled None (Some new) becomes two told left image = absurd becomes
+rests_settled (Some old) None becomes two told left image = absurd becomes
+rests_settled (Some old) (Some new) becomes two told left image =
+    let same : two ≡ record { first = settled old.first.now; second = settled old.second.now } = let is : two ≡ new = cc in is ∙ becomes in
+    image_read two left (ap (λ (t : Two File). t.first) same ∙ ap (λ (t : Two File). settled t.first.now) (sym same))
+    (ap (λ (t : Two File). t.second) same ∙ ap (λ (t : Two File). settled t.second.now) (sym same)) image
+
+pub rests_stays : (clients : Meaning) (s : StoreValue) (files : Option (Two File)) (e : Outcome) → commits.StoreStaysReady clients s files (Err e) → LeavesFilesAtRest files (Err e)
+rests_stays clients s files outcome.DiskFault stays = tt
+rests_stays clients s files _ stays = rests_ready clients s files stays
+
+pub load_rests : (old new : Option (Two File)) (e : Outcome) → LoadLeavesSettled old new (Err e) → LeavesFilesAtRest new (Err e)
+load_rests old new outcome.DiskFault leaves = tt
+load_rests old new _ leaves = rests_settled old new leaves
