@@ -163,18 +163,10 @@ module _ (clients : Meaning) (limits : Limits) (links : List Dialled) (s t s' : 
 
     -- but how its links ended was not written down
     pub ran_unclosed : RanSettled clients limits links s o o' (Err outcome.Memory)
+    unfolding ran_whole
     ran_unclosed j fit =
-        let here =
-        subst (λ (x : StoreValue). RunsSessions clients limits links nodes x s' o o' over) made
-        runs in
-        let end = here.ends fit.0 fit.1 in
-        let last : Place = place_at Ended nodes end.heard end.moved end.still end.made
-        s'.state.facts in
-        record {
-          did = did_whole clients at_first at_links j s s' o o' fit (paid last) end.went;
-          told = end.went.did.tells;
-          answer = tt;
-        }
+        let whole = ran_whole (closed_by over nodes) refl j fit in
+        record { did = whole.did; told = whole.told; answer = tt }
 
   -- it was broken off
   module _ (x : NodeFault) (stops : StopsRun clients limits links t s' o o' x) where

@@ -1,4 +1,4 @@
-use Rattle.std.proofs.Common.{◌≡◌, ℕ, ◌+◌, false, List, length, arith, refl, sym, ap, ◌∙◌}
+use Rattle.std.proofs.Common.{◌≡◌, ℕ, ◌+◌, false, List, length, arith, rules, refl, sym, ap, ◌∙◌}
 use Rattle.sync_rules.specs.Facts.{Facts}
 use Rattle.sync_node.specs.declared.link.Link.{Link}
 use Rattle.sync_node.specs.Node.{IsNode, NodeValue}
@@ -50,71 +50,72 @@ links-preserved g c =
       same_contacts = ap (λ (f : Facts). f.contacts) begins.facts ∙ l.same_contacts;
     }
 
-pub returns-in_err-attach-clause-stands : goal.returns-in_err-attach-clause-stands
-returns-in_err-attach-clause-stands g c =
+pub returns-in_err-attach : goal.returns-in_err-attach
+returns-in_err-attach g c =
     let l = c.links.invariant in
     let e = c.in_err-attach.ensures in
-    stands_stopped (Unit {0}) _ _ c.args.node.now c.links.node c.attach.new.self
-    (g.H.Disk.tells c.args.host.now)
-    (g.H.Disk.tells c.links.host) (g.H.Disk.tells c.attach.new.host) l.keeps _
-    c.from_residual.result
-    c.in_err-attach.field-0.0 c.from_residual.ensures.1 e.goes (e.answers.opened l.still_open) e.may
-    (attach_stops (Unit {0}) _ _ c.links.node c.attach.new.self c.links.host c.attach.new.host
-    (g.H.Disk.tells c.links.host) (g.H.Disk.tells c.attach.new.host) c.in_err-attach.field-0.0 (e.stops l.still_open))
+    let x = c.in_err-attach.field-0.0 in
+    let old = g.H.Disk.tells c.links.host in
+    let new = g.H.Disk.tells c.attach.new.host in
+    record {
+      stands =
+          stands_stopped (Unit {0}) _ _ c.args.node.now c.links.node c.attach.new.self
+          (g.H.Disk.tells c.args.host.now) old new l.keeps _ c.from_residual.result x
+          c.from_residual.ensures.1 e.goes (e.answers.opened l.still_open) e.may
+          (attach_stops (Unit {0}) _ _ c.links.node c.attach.new.self c.links.host c.attach.new.host
+          old
+          new x (e.stops l.still_open));
+      went = search rules;
+      stopped =
+          if_err_was c.from_residual.result x _ c.from_residual.ensures.1
+          (attaching_stopped _ c.args.links.now c.links.link-index c.link-item.result _ _ _ _ _
+          (begun_at _ c.args.node.now c.links.number c.links.link-index l.keeps.node l.still_open
+          l.keeps.same_first c.requires.first l.numbered l.count) c.links-test.true c.link-item.is
+          (omega (arith, l.numbered, l.count)) l.went c.attach.new.self.links
+          c.attach.new.self.store
+          new x (e.stopped l.still_open));
+    }
 
-pub returns-in_err-attach-clause-stopped : goal.returns-in_err-attach-clause-stopped
-returns-in_err-attach-clause-stopped g c =
+pub returns : goal.returns
+returns g c =
     let l = c.links.invariant in
-    if_err_was c.from_residual.result c.in_err-attach.field-0.0 _ c.from_residual.ensures.1
-    (attaching_stopped _ c.args.links.now c.links.link-index c.link-item.result _ _ _ _ _
-    (begun_at _ c.args.node.now c.links.number c.links.link-index l.keeps.node l.still_open
-    l.keeps.same_first c.requires.first l.numbered l.count) c.links-test.true c.link-item.is
-    (omega (arith, l.numbered, l.count)) l.went c.attach.new.self.links c.attach.new.self.store
-    (g.H.Disk.tells c.attach.new.host) c.in_err-attach.field-0.0
-    (c.in_err-attach.ensures.stopped l.still_open))
+    record {
+      stands = record {
+        goes = l.keeps;
+        answer = l.still_open;
+        may = l.may;
+        stops = tt;
+        number =
+            omega (arith, l.numbered, l.count, c.links-test.false, c.links.auto.link-index-end);
+      };
+      went =
+          attached_all _ c.args.links.now c.links.link-index _ _ _ _ _ c.links-test.false l.went;
+      stopped = tt;
+    }
 
-pub returns-clause-stands : goal.returns-clause-stands
-returns-clause-stands g c = record {
-  goes = c.links.invariant.keeps;
-  answer = c.links.invariant.still_open;
-  may = c.links.invariant.may;
-  stops = tt;
-  number =
-      omega (arith, c.links.invariant.numbered, c.links.invariant.count, c.links-test.false, c.links.auto.link-index-end);
-}
-
-pub returns-clause-went : goal.returns-clause-went
-returns-clause-went g c =
-    attached_all _ c.args.links.now c.links.link-index _ _ _ _ _ c.links-test.false
-    c.links.invariant.went
-
-pub attach-requires-clause-may : goal.attach-requires-clause-may
-attach-requires-clause-may g c = c.links.invariant.may
-
-pub attach-requires-clause-settled : goal.attach-requires-clause-settled
-attach-requires-clause-settled g c = λ opened. c.links.invariant.settled
-
-pub attach-requires-clause-begun : goal.attach-requires-clause-begun
-attach-requires-clause-begun g c =
+pub attach-requires : goal.attach-requires
+attach-requires g c =
     let l = c.links.invariant in
-    omega (
-      arith,
-      begun_at c.links.node c.args.node.now c.links.number c.links.link-index l.keeps.node
-          l.still_open l.keeps.same_first c.requires.first l.numbered l.count,
-      c.links-test.true,
-      c.requires.sessions,
-    )
-
-pub attach-requires-clause-contact : goal.attach-requires-clause-contact
-attach-requires-clause-contact g c =
-    omega (arith, (item_may _ c.args.links.now c.links.link-index c.link-item.result c.requires.each c.links-test.true c.link-item.is).known, c.links.invariant.same_contacts)
-
-pub attach-requires-clause-latency : goal.attach-requires-clause-latency
-attach-requires-clause-latency g c =
-    (item_may _ c.args.links.now c.links.link-index c.link-item.result c.requires.each
-    c.links-test.true c.link-item.is).latency
-
-pub attach-requires-clause-nonce : goal.attach-requires-clause-nonce
-attach-requires-clause-nonce g c =
-    (item_may _ c.args.links.now c.links.link-index c.link-item.result c.requires.each
-    c.links-test.true c.link-item.is).suited
+    let item =
+    item_may _ c.args.links.now c.links.link-index c.link-item.result c.requires.each
+    c.links-test.true
+    c.link-item.is in
+    record {
+      may = l.may;
+      settled = λ opened. l.settled;
+      begun =
+          omega (
+            arith,
+            begun_at c.links.node c.args.node.now c.links.number c.links.link-index l.keeps.node
+                l.still_open l.keeps.same_first c.requires.first l.numbered l.count,
+            c.links-test.true,
+            c.requires.sessions,
+          );
+      contact = omega (arith, item.known, l.same_contacts);
+      latency = item.latency;
+      nonce = item.suited;
+      next = l.numbered;
+      few = omega (arith, l.count, c.links-test.true, c.requires.few);
+      dialled =
+          omega (arith, l.count, c.links-test.true, c.requires.dialled, l.keeps.goes.same_dialled);
+    }

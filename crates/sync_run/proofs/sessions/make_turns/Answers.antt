@@ -1,4 +1,4 @@
-use Rattle.std.proofs.Common.{◌+◌, true, false, arith, refl, sym, ◌∙◌, inl, inr}
+use Rattle.std.proofs.Common.{◌+◌, true, false, arith, rules, refl, sym, ◌∙◌, inl, inr}
 use Rattle.std.proofs.lemmas.Bool.{le-leb}
 use Rattle.sync_node.specs.declared.node.Turned.{Turned}
 use Rattle.sync_node.specs.Node.{asked_among}
@@ -49,62 +49,71 @@ turns-preserved g c =
       may = e.may;
     }
 
-pub returns-in_err-turn-clause-stands : goal.returns-in_err-turn-clause-stands
-returns-in_err-turn-clause-stands g c =
+pub returns-in_err-turn : goal.returns-in_err-turn
+returns-in_err-turn g c =
     let l = c.turns.invariant in
     let e = c.in_err-turn.ensures in
-    stands_stopped Turned _ _ c.args.node.now c.turns.node c.turn.new.self
-    (g.H.Disk.tells c.args.host.now)
-    (g.H.Disk.tells c.turns.host) (g.H.Disk.tells c.turn.new.host) l.keeps _ c.from_residual.result
-    c.in_err-turn.field-0.0 c.from_residual.ensures.1 e.goes (e.answers.opened l.still_open) e.may
-    (e.stops l.still_open)
+    let x = c.in_err-turn.field-0.0 in
+    let new = g.H.Disk.tells c.turn.new.host in
+    record {
+      stands =
+          stands_stopped Turned _ _ c.args.node.now c.turns.node c.turn.new.self
+          (g.H.Disk.tells c.args.host.now) (g.H.Disk.tells c.turns.host) new l.keeps _
+          c.from_residual.result x c.from_residual.ensures.1 e.goes (e.answers.opened l.still_open)
+          e.may
+          (e.stops l.still_open);
+      went = search rules;
+      stopped =
+          if_err_was c.from_residual.result x _ c.from_residual.ensures.1
+          (turn_stopped _ c.args.limits c.args.node.now.first _ c.turns.node.links
+          c.args.node.now.store
+          c.turns.node.store _ _ c.turns.still c.turns.counter l.went l.goes_on c.turns-test.true _
+          c.turn.new.self.links c.turn.new.self.store new x l.keeps.same_first
+          (e.stopped l.still_open));
+    }
 
-pub returns-in_err-turn-clause-stopped : goal.returns-in_err-turn-clause-stopped
-returns-in_err-turn-clause-stopped g c =
+pub returns-then-is_over : goal.returns-then-is_over
+returns-then-is_over g c =
     let l = c.turns.invariant in
-    if_err_was c.from_residual.result c.in_err-turn.field-0.0 _ c.from_residual.ensures.1
-    (turn_stopped _ c.args.limits c.args.node.now.first _ c.turns.node.links c.args.node.now.store
-    c.turns.node.store _ _ c.turns.still c.turns.counter l.went l.goes_on c.turns-test.true _
-    c.turn.new.self.links c.turn.new.self.store (g.H.Disk.tells c.turn.new.host)
-    c.in_err-turn.field-0.0 l.keeps.same_first (c.in_err-turn.ensures.stopped l.still_open))
-
-pub returns-then-is_over-clause-stands : goal.returns-then-is_over-clause-stands
-returns-then-is_over-clause-stands g c = record {
-  goes =
-      keeps_then c.args.node.now c.turns.node c.turn.new.self _ _ _ c.turns.invariant.keeps
-      c.in_ok-turn.ensures.goes;
-  answer = c.in_ok-turn.ensures.answers.opened c.turns.invariant.still_open;
-  may = c.in_ok-turn.ensures.may;
-  stops = tt;
-  number =
-      same_number c.turns.node.links c.turn.new.self.links c.in_ok-turn.ensures.kept.same_sessions
-      ∙ c.turns.invariant.number;
-}
-
-pub returns-then-is_over-clause-went : goal.returns-then-is_over-clause-went
-returns-then-is_over-clause-went g c =
-    let l = c.turns.invariant in
+    let e = c.in_ok-turn.ensures in
     let branch : CountsStill c.in_ok-turn.field-0 c.turns.still c.match-branch-2.still =
     elim c.match-branch-2.branch [ in-Still w ↦ inl (w.in-Still.is, w.still-is) | in-Moving w ↦ inr (w.in-Moving.is, w.still-is) ] in
     let so = turn_more _ c.args.limits c.args.node.now.first _ _ _ _ _ _ _ _ l.went l.goes_on
     c.turns-test.true _ _ _ _ _ c.match-branch-2.still (c.turns.counter + 1) l.keeps.same_first
     (still_behind c.in_ok-turn.field-0 c.turns.still c.match-branch-2.still branch) refl
-    (c.in_ok-turn.ensures.went l.still_open) in
-    turns_end _ c.args.limits c.args.node.now.first _ _ _ _ _ _ _ _ so true
-    (sym c.if-is_over.true
-    ∙ over_asked _ _ c.args.limits.quiet _ _ (asked_among c.turn.new.self.links)
-    c.is_over.ensures c.from.ensures c.asked.ensures) refl
+    (e.went l.still_open) in
+    record {
+      stands = record {
+        goes = keeps_then c.args.node.now c.turns.node c.turn.new.self _ _ _ l.keeps e.goes;
+        answer = e.answers.opened l.still_open;
+        may = e.may;
+        stops = tt;
+        number =
+            same_number c.turns.node.links c.turn.new.self.links e.kept.same_sessions ∙ l.number;
+      };
+      went =
+          turns_end _ c.args.limits c.args.node.now.first _ _ _ _ _ _ _ _ so true
+          (sym c.if-is_over.true ∙ over_asked _ _ c.args.limits.quiet _ _
+          (asked_among c.turn.new.self.links) c.is_over.ensures c.from.ensures c.asked.ensures)
+          refl;
+      stopped = tt;
+    }
 
-pub returns-clause-stands : goal.returns-clause-stands
-returns-clause-stands g c = record {
-  goes = c.turns.invariant.keeps;
-  answer = c.turns.invariant.still_open;
-  may = c.turns.invariant.may;
-  stops = tt;
-  number = c.turns.invariant.number;
-}
-
-pub returns-clause-went : goal.returns-clause-went
-returns-clause-went g c =
-    turns_end _ c.args.limits c.args.node.now.first _ _ _ _ _ _ _ _ c.turns.invariant.went false
-    (sym c.turns.invariant.goes_on) (le-leb c.args.limits.turns c.turns.counter c.turns-test.false)
+pub returns : goal.returns
+returns g c =
+    let l = c.turns.invariant in
+    record {
+      stands =
+          record {
+            goes = l.keeps;
+            answer = l.still_open;
+            may = l.may;
+            stops = tt;
+            number = l.number;
+          };
+      went =
+          turns_end _ c.args.limits c.args.node.now.first _ _ _ _ _ _ _ _ l.went false
+          (sym l.goes_on)
+          (le-leb c.args.limits.turns c.turns.counter c.turns-test.false);
+      stopped = tt;
+    }
