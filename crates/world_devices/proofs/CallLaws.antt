@@ -53,7 +53,7 @@ use Rattle.world_devices.specs.Linking.{AddsLink, HoldsSome, KeepsLinks, LinksSt
 use Rattle.world_devices.specs.Cited.{DeviceLaws}
 use Rattle.world_devices.specs.Devices.{DeviceValue, IsReadyStore, IsRunning, MayAddEntry, MayBeRunning, links_made}
 use Rattle.world_devices.specs.Doing.{ComesOf}
-use Rattle.world_devices.specs.Keeping.{Journal, KeepsOn, LeavesSome}
+use Rattle.world_devices.specs.Keeping.{Journal, KeepsOn, LeavesSome, StandsForSome, WentOn}
 use Rattle.world_devices.specs.Running.{DeviceRuns, HoldsAfterCrash, IsStill, ReadsAsJournal, WentHearing, is_session_of, records_for}
 use Rattle.world_devices.specs.Running as running
 use Rattle.world_devices.proofs.BroughtLaws.{plans_bring, told_brings, told_heard}
@@ -77,6 +77,7 @@ runs_files old new same = record {
       let kept : HoldsAfterCrash j new.host = crash_same (λ left. stands bundle_meaning left ≡ journal j) (host_told old.host) (host_told new.host) same holds in
       let whole : HoldsAfterCrash (j ++ []) new.host = subst (λ (k : Journal). HoldsAfterCrash k new.host) (sym (append-nil j)) kept in
       record { more = []; allowed = tt; plain = refl; all_heard = tt; reads = holds_reads (j ++ []) new.host whole; holds = λ _. whole };
+  keeps = λ j. crash_same (StandsForSome (WentOn j)) (host_told old.host) (host_told new.host) same;
 }
 
 pub runs_none : (d : DeviceValue) → DeviceRuns d d
@@ -237,12 +238,9 @@ leaves_come node h at comes = record {
 }
 
 -- of a device that is another one by name
-pub leaves_keeps : (d old : DeviceValue) (at : MemHostValue) → d ≡ old → DeviceLeaves d.node d.host at → KeepsOn (host_told old.host) (host_told at)
-leaves_keeps d old at is leaves = subst (λ (x : DeviceValue). KeepsOn (host_told x.host) (host_told at)) is leaves.keeps
-
 pub leaves_runs : DeviceLaws → (d old new : DeviceValue) → d ≡ old → DeviceLeaves d.node d.host new.host → (is_some new.node ≡ true → IsStill new.host) → DeviceRuns old new
 leaves_runs laws d old new is leaves still =
-    subst (λ (x : DeviceValue). DeviceRuns x new) is (record { comes = λ j holds. comes_still laws.legal (records_for d) j new (leaves.hears j holds) still })
+    subst (λ (x : DeviceValue). DeviceRuns x new) is (record { comes = λ j holds. comes_still laws.legal (records_for d) j new (leaves.hears j holds) still; keeps = leaves.keeps })
 
 -- a disk that fits a store is still
 pub ready_still : (s : StoreValue) (h : MemHostValue) → IsReady bundle_meaning s (host_told h).files → IsStill h

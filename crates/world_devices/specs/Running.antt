@@ -14,7 +14,7 @@ use Rattle.sync_node.specs.Node.{NodeValue}
 use Rattle.world_laws.specs.Worlds.{AllHeard, HasNoBrief}
 use Rattle.world_devices.specs.Brought.{brought_on}
 use Rattle.world_devices.specs.Devices.{DeviceValue}
-use Rattle.world_devices.specs.Keeping.{AfterCrash, Journal}
+use Rattle.world_devices.specs.Keeping.{AfterCrash, Journal, KeepsOn}
 
 -- ---- the journal
 
@@ -66,7 +66,8 @@ pub record JournalWentOn (heard : ℕ → List Record) (j : Journal) (new : Devi
   pub reads : ReadsAsJournal (j ++ more) new.host
   pub holds : is_some new.node ≡ true → HoldsAfterCrash (j ++ more) new.host
 
--- a call of a device: from each journal that its files held, its journal went on, and each record that it took is one that its
--- links brought by then
+-- A call of a device: from each journal that its files held, its journal went on, and each record that it took is one that its
+-- links brought by then. Whatever a crash may leave then stands for a journal that goes on from each that it went on from before.
 pub record DeviceRuns (old new : DeviceValue) : Type 0 where
   pub comes : (j : Journal) → HoldsAfterCrash j old.host → JournalWentOn (records_for old) j new
+  pub keeps : KeepsOn (host_told old.host) (host_told new.host)

@@ -5,7 +5,7 @@ use Rattle.world_devices.specs.Devices.{DeviceValue}
 use Rattle.world_devices.specs.Linking.{IsBareIn}
 use Rattle.world_devices.specs.declared.stop.Ran.TheVariants as ran
 use Rattle.world_devices.proofs.AddLaws.{add_undone, adding_over, adds_within, bare_added, came_adding, has_added, passes_limit, rest_is}
-use Rattle.world_devices.proofs.CallLaws.{add_broke, add_done, device_leaves, did_well, keeps_links, leaves_keeps, leaves_on, leaves_runs, runs_files, runs_none}
+use Rattle.world_devices.proofs.CallLaws.{add_broke, add_done, device_leaves, did_well, keeps_links, leaves_on, leaves_runs, runs_files, runs_none}
 use Rattle.world_devices.proofs.HostLaws.{brings_linked}
 use Rattle.world_devices.proofs.RunningLaws.{call_running, open_of, running_of}
 use Rattle.world_devices.proofs.TurnLaws.{adds_seen, call_failed, call_starved, done_err}
@@ -53,7 +53,6 @@ returns-in_ok-test_done-in-Ok c =
     let did = did_well c.cite_laws.ensures c.self.inside.node n n' h h' links c.in-Some.is c.self.invariant.0
     (λ run. add_done n n' h h' links run c.args.self.now.node c.args.entry c.in_ok-batch.batch was c.requires c.in_ok-batch.ensures c.add.ensures.links c.in-Ok.ensures.went) c.in-Ok.ensures.answers.opened c.add.ensures.may in
     record {
-      keeps = leaves_keeps _ c.args.self.now h' c.self.view_is did.leaves;
       runs = leaves_runs c.cite_laws.ensures _ c.args.self.now _ c.self.view_is did.leaves (λ _. did.still);
       running = refl;
       links =
@@ -85,7 +84,6 @@ returns-in_err-test_done-in-Ok c =
     let did = did_well c.cite_laws.ensures c.self.inside.node n n' h h' links c.in-Some.is c.self.invariant.0
     (λ run. add_done n n' h h' links run c.args.self.now.node c.args.entry c.in_ok-batch.batch was c.requires c.in_ok-batch.ensures c.add.ensures.links c.in-Ok.ensures.went) c.in-Ok.ensures.answers.opened c.add.ensures.may in
     record {
-      keeps = leaves_keeps _ c.args.self.now h' c.self.view_is did.leaves;
       runs = leaves_runs c.cite_laws.ensures _ c.args.self.now _ c.self.view_is did.leaves (λ _. did.still);
       running = search rules;
       links = search rules;
@@ -115,7 +113,6 @@ returns-in_ok-fail-in-Err c =
     let leaves = leaves_on c.self.inside.node h h' c.fail.new.self.host
     (device_leaves c.cite_laws.ensures c.self.inside.node n h h' c.self.inside.links c.in-Some.is run did) c.fail.ensures.left in
     record {
-      keeps = leaves_keeps _ c.args.self.now c.fail.new.self.host c.self.view_is leaves;
       runs = leaves_runs c.cite_laws.ensures _ c.args.self.now _ c.self.view_is leaves c.fail.ensures.still;
       running = search rules;
       links = search rules;
@@ -148,7 +145,6 @@ returns-in_err-fail-in-Err c =
     let leaves = leaves_on c.self.inside.node h h' c.fail.new.self.host
     (device_leaves c.cite_laws.ensures c.self.inside.node n h h' c.self.inside.links c.in-Some.is run did) c.fail.ensures.left in
     record {
-      keeps = leaves_keeps _ c.args.self.now c.fail.new.self.host c.self.view_is leaves;
       runs = leaves_runs c.cite_laws.ensures _ c.args.self.now _ c.self.view_is leaves c.fail.ensures.still;
       running = search rules;
       links = search rules;

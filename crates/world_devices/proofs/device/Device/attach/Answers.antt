@@ -8,7 +8,7 @@ use Rattle.sync_node.specs.Courses.{BreaksBeginning}
 use Rattle.sync_node.specs.Node.{NodeValue}
 use Rattle.world_devices.specs.Devices.{DeviceValue}
 use Rattle.world_devices.specs.Doing.{FullAtBeginning, HasBegunOnLink, next_session}
-use Rattle.world_devices.proofs.CallLaws.{adds_link, begin_broke, begin_done, device_leaves, did_well, leaves_keeps, leaves_on, leaves_runs, one_longer, ready_store, runs_none}
+use Rattle.world_devices.proofs.CallLaws.{adds_link, begin_broke, begin_done, device_leaves, did_well, leaves_on, leaves_runs, one_longer, ready_store, runs_none}
 use Rattle.world_devices.proofs.FullLaws.{full_beginning}
 use Rattle.world_devices.proofs.RunningLaws.{begun_few, call_running, running_of}
 use Rattle.world_devices.proofs.TurnLaws.{attaches_seen, beginning_breaks_off, call_failed, call_starved, has_begun_on, link_unrefused, of_node, of_nodes}
@@ -64,7 +64,6 @@ returns-in_ok-test_done-in-Ok c =
     let was = sym (ap (λ (d : DeviceValue). d.node) c.self.view_is) ∙ c.in-Some-node.is in
     let number = c.sessions-session.ensures ∙ ap (λ (s : StoreValue). s.state.facts.begun) (ready_store c.args.self.now.node n c.in-Some.store.now was c.in-Some.ensures) in
     record {
-      keeps = leaves_keeps _ c.args.self.now h' c.self.view_is did.leaves;
       runs = leaves_runs c.cite_laws.ensures _ c.args.self.now _ c.self.view_is did.leaves (λ _. did.still);
       running = refl;
       links =
@@ -95,7 +94,6 @@ returns-in_err-test_done-in-Ok c =
     let was = sym (ap (λ (d : DeviceValue). d.node) c.self.view_is) ∙ c.in-Some-node.is in
     let number = c.sessions-session.ensures ∙ ap (λ (s : StoreValue). s.state.facts.begun) (ready_store c.args.self.now.node n c.in-Some.store.now was c.in-Some.ensures) in
     record {
-      keeps = leaves_keeps _ c.args.self.now h' c.self.view_is did.leaves;
       runs = leaves_runs c.cite_laws.ensures _ c.args.self.now _ c.self.view_is did.leaves (λ _. did.still);
       running = search rules;
       links = search rules;
@@ -122,7 +120,6 @@ returns-in_ok-fail-in-Err c =
     let leaves = leaves_on c.self.inside.node h h' c.fail.new.self.host
     (device_leaves c.cite_laws.ensures c.self.inside.node n h h' c.self.inside.links c.in-Some-node.is run (begin_broke n n' h h' c.self.inside.links run session _ stopped)) c.fail.ensures.left in
     record {
-      keeps = leaves_keeps _ c.args.self.now c.fail.new.self.host c.self.view_is leaves;
       runs = leaves_runs c.cite_laws.ensures _ c.args.self.now _ c.self.view_is leaves c.fail.ensures.still;
       running = c.in_ok-fail-in-Err.ensures.running;
       links = c.in_ok-fail-in-Err.ensures.links;
@@ -157,7 +154,6 @@ returns-in_err-fail-in-Err c =
     let within : c.args.self.now.links < LINKS = omega (arith, c.if-self-ge-LINKS.false, ap (λ (d : DeviceValue). d.links) c.self.view_is) in
     let known : c.args.plan.now.contact < n.store.state.facts.contacts = omega (arith, c.if-self-ge-LINKS.false, ap (λ (s : StoreValue). s.state.facts.contacts) own) in
     record {
-      keeps = leaves_keeps _ c.args.self.now c.fail.new.self.host c.self.view_is leaves;
       runs = leaves_runs c.cite_laws.ensures _ c.args.self.now _ c.self.view_is leaves c.fail.ensures.still;
       running = search rules;
       links = search rules;

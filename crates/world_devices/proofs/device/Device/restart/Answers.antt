@@ -1,5 +1,5 @@
 use Rattle.std.proofs.Common.{[], rules}
-use Rattle.world_devices.proofs.CallLaws.{leaves_come, leaves_keeps, leaves_runs}
+use Rattle.world_devices.proofs.CallLaws.{leaves_come, leaves_runs}
 use Rattle.world_devices.proofs.HostLaws.{anew_disk, disk_none, silent_fresh}
 use Rattle.world_devices.proofs.StartLaws.{comes_files, comes_keeps, comes_then, ok_anyway, restart_broken, restart_ended, restart_failed, restart_starved, settles_after, settles_still}
 use Rattle.world_devices.proofs.device.Device.restart.Goals as goal
@@ -24,7 +24,6 @@ returns-in_err-restart c =
     let comes = comes_files c.self.inside.host c.restart.new.self anew.files in
     let leaves = leaves_come c.self.inside.node c.self.inside.host c.restart.new.self comes in
     record {
-      keeps = leaves_keeps _ c.args.self.now c.restart.new.self c.self.view_is leaves;
       runs = leaves_runs c.cite_laws.ensures _ c.args.self.now _ c.self.view_is leaves (λ up. cc);
       running = search rules;
       links = search rules;
@@ -41,7 +40,6 @@ returns-in-Ok c =
     let settles = settles_after c.self.inside.host c.restart.new.self c.start.new.self.host anew c.start.ensures.starts in
     let leaves = leaves_come c.self.inside.node c.self.inside.host c.start.new.self.host settles.left in
     record {
-      keeps = leaves_keeps _ c.args.self.now c.start.new.self.host c.self.view_is leaves;
       runs = leaves_runs c.cite_laws.ensures _ c.args.self.now _ c.self.view_is leaves c.start.ensures.still;
       running = ok_anyway c.test_done.result c.in-Ok.ensures.running;
       links = ok_anyway c.test_done.result c.in-Ok.ensures.links;
@@ -59,7 +57,6 @@ returns-in-Err-DiskFault c =
     let comes = comes_then c.self.inside.host c.start.new.self.host c.break_off.new.self.host settles.left c.break_off.ensures.left in
     let leaves = leaves_come c.self.inside.node c.self.inside.host c.break_off.new.self.host comes in
     record {
-      keeps = leaves_keeps _ c.args.self.now c.break_off.new.self.host c.self.view_is leaves;
       runs = leaves_runs c.cite_laws.ensures _ c.args.self.now _ c.self.view_is leaves c.break_off.ensures.still;
       running = search rules;
       links = search rules;
@@ -76,7 +73,6 @@ returns-in-Err-Memory c =
     let settles = settles_after c.self.inside.host c.restart.new.self c.start.new.self.host anew c.start.ensures.starts in
     let leaves = leaves_come c.self.inside.node c.self.inside.host c.start.new.self.host settles.left in
     record {
-      keeps = leaves_keeps _ c.args.self.now c.start.new.self.host c.self.view_is leaves;
       runs = leaves_runs c.cite_laws.ensures _ c.args.self.now _ c.self.view_is leaves c.start.ensures.still;
       running = search rules;
       links = search rules;

@@ -7,7 +7,7 @@ use Rattle.sync_node.specs.Node.{NodeValue}
 use Rattle.sync_node.proofs.NodeRuns as runs
 use Rattle.world_devices.specs.Devices.{DeviceValue}
 use Rattle.world_devices.specs.Doing.{FullInTurn, HasTurned}
-use Rattle.world_devices.proofs.CallLaws.{device_leaves, did_well, keeps_links, leaves_keeps, leaves_on, leaves_runs, runs_files, same_number, turn_broke, turn_done}
+use Rattle.world_devices.proofs.CallLaws.{device_leaves, did_well, keeps_links, leaves_on, leaves_runs, runs_files, same_number, turn_broke, turn_done}
 use Rattle.world_devices.proofs.FullLaws.{full_turn}
 use Rattle.world_devices.proofs.RunningLaws.{call_running, running_of}
 use Rattle.world_devices.proofs.TurnLaws.{call_failed, call_starved, of_node, of_nodes, still_by, turn_breaks_off, turns_seen}
@@ -49,7 +49,6 @@ returns-in_ok-test_done-in-Ok c =
     let did = did_well c.cite_laws.ensures c.self.inside.node n n' h h' c.self.inside.links c.in-Some.is c.self.invariant.0
     (λ run. turn_done n n' h h' c.self.inside.links run _ c.turn.ensures.goes.node (c.in-Ok.ensures.went run.unclosed)) c.in-Ok.ensures.answers.opened c.turn.ensures.may in
     record {
-      keeps = leaves_keeps _ c.args.self.now h' c.self.view_is did.leaves;
       runs = leaves_runs c.cite_laws.ensures _ c.args.self.now _ c.self.view_is did.leaves (λ _. did.still);
       running = refl;
       links =
@@ -77,7 +76,6 @@ returns-in_err-test_done-in-Ok c =
     let did = did_well c.cite_laws.ensures c.self.inside.node n n' h h' c.self.inside.links c.in-Some.is c.self.invariant.0
     (λ run. turn_done n n' h h' c.self.inside.links run _ c.turn.ensures.goes.node (c.in-Ok.ensures.went run.unclosed)) c.in-Ok.ensures.answers.opened c.turn.ensures.may in
     record {
-      keeps = leaves_keeps _ c.args.self.now h' c.self.view_is did.leaves;
       runs = leaves_runs c.cite_laws.ensures _ c.args.self.now _ c.self.view_is did.leaves (λ _. did.still);
       running = search rules;
       links = search rules;
@@ -103,7 +101,6 @@ returns-in_ok-fail-in-Err c =
     let leaves = leaves_on c.self.inside.node h h' c.fail.new.self.host
     (device_leaves c.cite_laws.ensures c.self.inside.node n h h' c.self.inside.links c.in-Some.is run (turn_broke n n' h h' c.self.inside.links run _ stopped)) c.fail.ensures.left in
     record {
-      keeps = leaves_keeps _ c.args.self.now c.fail.new.self.host c.self.view_is leaves;
       runs = leaves_runs c.cite_laws.ensures _ c.args.self.now _ c.self.view_is leaves c.fail.ensures.still;
       running = c.in_ok-fail-in-Err.ensures.running;
       links = c.in_ok-fail-in-Err.ensures.links;
@@ -132,7 +129,6 @@ returns-in_err-fail-in-Err c =
     let leaves = leaves_on c.self.inside.node h h' c.fail.new.self.host
     (device_leaves c.cite_laws.ensures c.self.inside.node n h h' c.self.inside.links c.in-Some.is run (turn_broke n n' h h' c.self.inside.links run _ stopped)) c.fail.ensures.left in
     record {
-      keeps = leaves_keeps _ c.args.self.now c.fail.new.self.host c.self.view_is leaves;
       runs = leaves_runs c.cite_laws.ensures _ c.args.self.now _ c.self.view_is leaves c.fail.ensures.still;
       running = search rules;
       links = search rules;
