@@ -4,8 +4,10 @@ use Rattle.sync_node.specs.Node.{NodeValue}
 use Rattle.world_devices.specs.Devices.{DeviceValue}
 use Rattle.world_devices.specs.Linking.{IsBareIn}
 use Rattle.world_devices.specs.declared.stop.Ran.TheVariants as ran
-use Rattle.world_devices.proofs.AddLaws.{add_undone, adding_over, adds_within, bare_added, came_adding, has_added, passes_limit, rest_is}
-use Rattle.world_devices.proofs.CallLaws.{add_broke, add_done, device_leaves, did_well, keeps_links, leaves_on, leaves_runs, runs_files, runs_none}
+use Rattle.world_devices.proofs.AddLaws.{add_undone, adding_over, adds_within, bare_added}
+use Rattle.world_devices.proofs.AddLaws.{came_adding, has_added, passes_limit, rest_is}
+use Rattle.world_devices.proofs.CallLaws.{add_broke, add_done, device_leaves, did_well, keeps_links}
+use Rattle.world_devices.proofs.CallLaws.{leaves_on, leaves_runs, runs_files, runs_none}
 use Rattle.world_devices.proofs.HostLaws.{brings_linked}
 use Rattle.world_devices.proofs.RunningLaws.{call_running, open_of, running_of}
 use Rattle.world_devices.proofs.TurnLaws.{adds_seen, call_failed, call_starved, done_err}
@@ -19,9 +21,14 @@ invariant_of-self-in-Ok c =
     let h' = c.add.new.host in
     let links = c.self.inside.links in
     let was = sym (ap (λ (d : DeviceValue). d.node) c.self.view_is) ∙ c.in-Some.is in
-    let did = did_well c.cite_laws.ensures c.self.inside.node n n' h h' links c.in-Some.is c.self.invariant.0
-    (λ run. add_done n n' h h' links run c.args.self.now.node c.args.entry c.in_ok-batch.batch was c.requires c.in_ok-batch.ensures c.add.ensures.links c.in-Ok.ensures.went) c.in-Ok.ensures.answers.opened c.add.ensures.may in (
-      call_running n n' h h' links links did.ends c.add.ensures.goes.same_first c.add.ensures.may (c.in-Ok.ensures.answers.opened did.run.unclosed) c.add.ensures.goes.node did.brings (did.run.linked ∙ sym (ap length c.add.ensures.links)) (omega arith) did.run,
+    let did = did_well c.cite_laws.ensures c.self.inside.node n n' h h' links c.in-Some.is
+    c.self.invariant.0
+    (λ run. add_done n n' h h' links run c.args.self.now.node c.args.entry c.in_ok-batch.batch was
+    c.requires c.in_ok-batch.ensures c.add.ensures.links c.in-Ok.ensures.went)
+    c.in-Ok.ensures.answers.opened c.add.ensures.may in (
+      call_running n n' h h' links links did.ends c.add.ensures.goes.same_first c.add.ensures.may
+          (c.in-Ok.ensures.answers.opened did.run.unclosed) c.add.ensures.goes.node did.brings
+          (did.run.linked ∙ sym (ap length c.add.ensures.links)) (omega arith) did.run,
       did.leaves.keeps [] c.self.invariant.1,
       c.self.invariant.2,
     )
@@ -29,10 +36,14 @@ invariant_of-self-in-Ok c =
 pub invariant_of-self-in-Err : goal.invariant_of-self-in-Err
 invariant_of-self-in-Err c =
     let n = c.in-Some.node in
-    let run = running_of c.self.inside.node n c.self.inside.host c.self.inside.links c.in-Some.is c.self.invariant.0 in
+    let run = running_of c.self.inside.node n c.self.inside.host c.self.inside.links c.in-Some.is
+    c.self.invariant.0 in
     let was = sym (ap (λ (d : DeviceValue). d.node) c.self.view_is) ∙ c.in-Some.is in
-    let did = add_broke n c.add.new.self c.self.inside.host c.add.new.host c.self.inside.links run c.args.self.now.node c.args.entry c.in_ok-batch.batch was c.requires c.in_ok-batch.ensures _ (c.in-Err.ensures.stopped run.unclosed) in
-    let leaves = device_leaves c.cite_laws.ensures c.self.inside.node n c.self.inside.host c.add.new.host c.self.inside.links c.in-Some.is run did in
+    let did = add_broke n c.add.new.self c.self.inside.host c.add.new.host c.self.inside.links run
+    c.args.self.now.node c.args.entry c.in_ok-batch.batch was c.requires c.in_ok-batch.ensures _
+    (c.in-Err.ensures.stopped run.unclosed) in
+    let leaves = device_leaves c.cite_laws.ensures c.self.inside.node n c.self.inside.host
+    c.add.new.host c.self.inside.links c.in-Some.is run did in
     (tt, leaves.keeps [] c.self.invariant.1, c.self.invariant.2)
 
 pub returns-in_err-batch-clause-runs : goal.returns-in_err-batch-clause-runs
@@ -50,25 +61,40 @@ returns-in_ok-test_done-in-Ok c =
     let h' = c.add.new.host in
     let links = c.self.inside.links in
     let was = sym (ap (λ (d : DeviceValue). d.node) c.self.view_is) ∙ c.in-Some.is in
-    let did = did_well c.cite_laws.ensures c.self.inside.node n n' h h' links c.in-Some.is c.self.invariant.0
-    (λ run. add_done n n' h h' links run c.args.self.now.node c.args.entry c.in_ok-batch.batch was c.requires c.in_ok-batch.ensures c.add.ensures.links c.in-Ok.ensures.went) c.in-Ok.ensures.answers.opened c.add.ensures.may in
+    let did = did_well c.cite_laws.ensures c.self.inside.node n n' h h' links c.in-Some.is
+    c.self.invariant.0
+    (λ run. add_done n n' h h' links run c.args.self.now.node c.args.entry c.in_ok-batch.batch was
+    c.requires c.in_ok-batch.ensures c.add.ensures.links c.in-Ok.ensures.went)
+    c.in-Ok.ensures.answers.opened c.add.ensures.may in
     record {
-      runs = leaves_runs c.cite_laws.ensures _ c.args.self.now _ c.self.view_is did.leaves (λ _. did.still);
+      runs = leaves_runs c.cite_laws.ensures _ c.args.self.now _ c.self.view_is did.leaves (λ _.
+          did.still);
       running = refl;
       links =
-          keeps_links n n' _ c.args.self.now _ c.self.view_is c.in-Some.is refl c.add.ensures.goes.same_first (ap length c.add.ensures.links) refl (λ link. brings_linked h h' link c.in-Ok.ensures.went.same_links);
+          keeps_links n n' _ c.args.self.now _ c.self.view_is c.in-Some.is refl
+          c.add.ensures.goes.same_first (ap length c.add.ensures.links) refl (λ link.
+          brings_linked h h' link c.in-Ok.ensures.went.same_links);
       unrefused = tt;
       adds =
           adds_seen c.args.entry (Ok ran.Done) _ c.args.self.now _ c.self.view_is (
-            record { clock = refl; stop = refl; since = c.add.ensures.goes.goes.calls; ahead = c.in_ok-test_done-in-Ok.ensures.ahead },
+            record {
+              clock = refl;
+              stop = refl;
+              since = c.add.ensures.goes.goes.calls;
+              ahead = c.in_ok-test_done-in-Ok.ensures.ahead;
+            },
             (
-              has_added c.args.entry c.in_ok-batch.batch n.store n'.store h h' c.in_ok-batch.ensures (open_of n h links did.run) c.in-Ok.ensures.went,
-              rest_is n n' _ _ c.in-Some.is refl c.add.ensures.links c.in-Ok.ensures.went.same_links,
+              has_added c.args.entry c.in_ok-batch.batch n.store n'.store h h' c.in_ok-batch.ensures
+                  (open_of n h links did.run) c.in-Ok.ensures.went,
+              rest_is n n' _ _ c.in-Some.is refl c.add.ensures.links
+                  c.in-Ok.ensures.went.same_links,
             ),
           );
       bare = λ contacts number is bare.
-          bare_added c.cite_laws.ensures.settling contacts number c.args.entry c.in_ok-batch.batch n.store n'.store (host_told h) (host_told h')
-          c.in_ok-batch.ensures is c.in-Ok.ensures.went (subst (λ (x : Option NodeValue). IsBareIn contacts x) was bare);
+          bare_added c.cite_laws.ensures.settling contacts number c.args.entry c.in_ok-batch.batch
+          n.store n'.store (host_told h) (host_told h')
+          c.in_ok-batch.ensures is c.in-Ok.ensures.went
+          (subst (λ (x : Option NodeValue). IsBareIn contacts x) was bare);
       clock = search rules;
     }
 
@@ -81,18 +107,26 @@ returns-in_err-test_done-in-Ok c =
     let h' = c.add.new.host in
     let links = c.self.inside.links in
     let was = sym (ap (λ (d : DeviceValue). d.node) c.self.view_is) ∙ c.in-Some.is in
-    let did = did_well c.cite_laws.ensures c.self.inside.node n n' h h' links c.in-Some.is c.self.invariant.0
-    (λ run. add_done n n' h h' links run c.args.self.now.node c.args.entry c.in_ok-batch.batch was c.requires c.in_ok-batch.ensures c.add.ensures.links c.in-Ok.ensures.went) c.in-Ok.ensures.answers.opened c.add.ensures.may in
+    let did = did_well c.cite_laws.ensures c.self.inside.node n n' h h' links c.in-Some.is
+    c.self.invariant.0
+    (λ run. add_done n n' h h' links run c.args.self.now.node c.args.entry c.in_ok-batch.batch was
+    c.requires c.in_ok-batch.ensures c.add.ensures.links c.in-Ok.ensures.went)
+    c.in-Ok.ensures.answers.opened c.add.ensures.may in
     record {
-      runs = leaves_runs c.cite_laws.ensures _ c.args.self.now _ c.self.view_is did.leaves (λ _. did.still);
+      runs = leaves_runs c.cite_laws.ensures _ c.args.self.now _ c.self.view_is did.leaves (λ _.
+          did.still);
       running = search rules;
       links = search rules;
       unrefused = search rules;
       adds =
           adds_seen c.args.entry _ _ c.args.self.now _ c.self.view_is
-          (call_starved _ _ _ _ _ _ c.in_err-test_done-in-Ok.field-0.0 (done_err _ _ c.from_residual-in_err-test_done-in-Ok.ensures.1) c.in_err-test_done-in-Ok.ensures.unrefused c.in_err-test_done-in-Ok.ensures.unfilled
+          (call_starved _ _ _ _ _ _ c.in_err-test_done-in-Ok.field-0.0
+          (done_err _ _ c.from_residual-in_err-test_done-in-Ok.ensures.1)
+          c.in_err-test_done-in-Ok.ensures.unrefused
+          c.in_err-test_done-in-Ok.ensures.unfilled
           c.add.ensures.goes.goes.calls tt (
-            has_added c.args.entry c.in_ok-batch.batch n.store n'.store h h' c.in_ok-batch.ensures (open_of n h links did.run) c.in-Ok.ensures.went,
+            has_added c.args.entry c.in_ok-batch.batch n.store n'.store h h' c.in_ok-batch.ensures
+                (open_of n h links did.run) c.in-Ok.ensures.went,
             rest_is n n' _ _ c.in-Some.is refl c.add.ensures.links c.in-Ok.ensures.went.same_links,
           ));
       bare = search rules;
@@ -106,14 +140,18 @@ returns-in_ok-fail-in-Err c =
     let n' = c.add.new.self in
     let h = c.self.inside.host in
     let h' = c.add.new.host in
-    let run = running_of c.self.inside.node n h c.self.inside.links c.in-Some.is c.self.invariant.0 in
+    let run = running_of c.self.inside.node n h c.self.inside.links c.in-Some.is
+    c.self.invariant.0 in
     let stopped = c.in-Err.ensures.stopped run.unclosed in
     let was = sym (ap (λ (d : DeviceValue). d.node) c.self.view_is) ∙ c.in-Some.is in
-    let did = add_broke n n' h h' c.self.inside.links run c.args.self.now.node c.args.entry c.in_ok-batch.batch was c.requires c.in_ok-batch.ensures _ stopped in
+    let did = add_broke n n' h h' c.self.inside.links run c.args.self.now.node c.args.entry
+    c.in_ok-batch.batch was c.requires c.in_ok-batch.ensures _ stopped in
     let leaves = leaves_on c.self.inside.node h h' c.fail.new.self.host
-    (device_leaves c.cite_laws.ensures c.self.inside.node n h h' c.self.inside.links c.in-Some.is run did) c.fail.ensures.left in
+    (device_leaves c.cite_laws.ensures c.self.inside.node n h h' c.self.inside.links c.in-Some.is
+    run did) c.fail.ensures.left in
     record {
-      runs = leaves_runs c.cite_laws.ensures _ c.args.self.now _ c.self.view_is leaves c.fail.ensures.still;
+      runs = leaves_runs c.cite_laws.ensures _ c.args.self.now _ c.self.view_is leaves
+          c.fail.ensures.still;
       running = search rules;
       links = search rules;
       unrefused = tt;
@@ -122,8 +160,11 @@ returns-in_ok-fail-in-Err c =
             at = h';
             since = c.add.ensures.goes.goes.calls;
             broken =
-                came_adding c.args.entry c.in_ok-batch.batch n n' c.self.inside.node h h' c.self.inside.links c.in_ok-batch.ensures (c.add.ensures.leads run.unclosed) run c.in-Some.is
-                (adds_within c.in_ok-batch.batch n.store n'.store (host_told h) (host_told h') c.in-Err.fault stopped);
+                came_adding c.args.entry c.in_ok-batch.batch n n' c.self.inside.node h h'
+                c.self.inside.links c.in_ok-batch.ensures (c.add.ensures.leads run.unclosed) run
+                c.in-Some.is
+                (adds_within c.in_ok-batch.batch n.store n'.store (host_told h) (host_told h')
+                c.in-Err.fault stopped);
             off = c.in_ok-fail-in-Err.ensures.to;
             clock = c.fail.ensures.clock;
           });
@@ -138,28 +179,40 @@ returns-in_err-fail-in-Err c =
     let n' = c.add.new.self in
     let h = c.self.inside.host in
     let h' = c.add.new.host in
-    let run = running_of c.self.inside.node n h c.self.inside.links c.in-Some.is c.self.invariant.0 in
+    let run = running_of c.self.inside.node n h c.self.inside.links c.in-Some.is
+    c.self.invariant.0 in
     let stopped = c.in-Err.ensures.stopped run.unclosed in
     let was = sym (ap (λ (d : DeviceValue). d.node) c.self.view_is) ∙ c.in-Some.is in
-    let did = add_broke n n' h h' c.self.inside.links run c.args.self.now.node c.args.entry c.in_ok-batch.batch was c.requires c.in_ok-batch.ensures _ stopped in
+    let did = add_broke n n' h h' c.self.inside.links run c.args.self.now.node c.args.entry
+    c.in_ok-batch.batch was c.requires c.in_ok-batch.ensures _ stopped in
     let leaves = leaves_on c.self.inside.node h h' c.fail.new.self.host
-    (device_leaves c.cite_laws.ensures c.self.inside.node n h h' c.self.inside.links c.in-Some.is run did) c.fail.ensures.left in
+    (device_leaves c.cite_laws.ensures c.self.inside.node n h h' c.self.inside.links c.in-Some.is
+    run did) c.fail.ensures.left in
     record {
-      runs = leaves_runs c.cite_laws.ensures _ c.args.self.now _ c.self.view_is leaves c.fail.ensures.still;
+      runs = leaves_runs c.cite_laws.ensures _ c.args.self.now _ c.self.view_is leaves
+          c.fail.ensures.still;
       running = search rules;
       links = search rules;
       unrefused = search rules;
       adds =
           adds_seen c.args.entry _ _ c.args.self.now _ c.self.view_is
-          (call_failed _ _ _ _ _ _ c.in_err-fail-in-Err.field-0.0 c.in-Err.fault h' (done_err _ _ c.from_residual-in_err-fail-in-Err.ensures.1) c.in_err-fail-in-Err.ensures.unrefused
+          (call_failed _ _ _ _ _ _ c.in_err-fail-in-Err.field-0.0 c.in-Err.fault h'
+          (done_err _ _ c.from_residual-in_err-fail-in-Err.ensures.1)
+          c.in_err-fail-in-Err.ensures.unrefused
           c.in_err-fail-in-Err.ensures.full
           (λ is same. (
-            passes_limit c.args.entry c.in_ok-batch.batch n c.self.inside.node c.in-Some.is c.in_ok-batch.ensures
-                (adding_over c.in_ok-batch.batch n.store n'.store (host_told h) (host_told h') c.in-Err.fault is stopped),
-            same ∙ add_undone n n' h h' (host_told h) (host_told h') c.in-Err.fault is (c.in-Err.ensures.stops run.unclosed),
+            passes_limit c.args.entry c.in_ok-batch.batch n c.self.inside.node c.in-Some.is
+                c.in_ok-batch.ensures
+                (adding_over c.in_ok-batch.batch n.store n'.store (host_told h) (host_told h')
+                c.in-Err.fault is stopped),
+            same ∙ add_undone n n' h h' (host_told h) (host_told h') c.in-Err.fault is
+                (c.in-Err.ensures.stops run.unclosed),
           )) c.add.ensures.goes.goes.calls
-          (came_adding c.args.entry c.in_ok-batch.batch n n' c.self.inside.node h h' c.self.inside.links c.in_ok-batch.ensures (c.add.ensures.leads run.unclosed) run c.in-Some.is
-          (adds_within c.in_ok-batch.batch n.store n'.store (host_told h) (host_told h') c.in-Err.fault stopped)) c.fail.ensures.left);
+          (came_adding c.args.entry c.in_ok-batch.batch n n' c.self.inside.node h h'
+          c.self.inside.links c.in_ok-batch.ensures (c.add.ensures.leads run.unclosed) run
+          c.in-Some.is
+          (adds_within c.in_ok-batch.batch n.store n'.store (host_told h) (host_told h')
+          c.in-Err.fault stopped)) c.fail.ensures.left);
       bare = search rules;
       clock = search rules;
     }
