@@ -13,10 +13,10 @@ use Rattle.outside.specs.Outside.{Outside}
 use Rattle.client_basic.specs.Bodies.{bundle_meaning}
 use Rattle.sync_rules.specs.declared.entries.Session.{Session}
 use Rattle.sync_rules.specs.declared.entries.Entry.{Entry}
-use Rattle.sync_node.specs.Courses.{BreaksBeginning, BreaksTurn, is_still}
-use Rattle.sync_node.specs.OnRuns.{BeginStopped, BeginWent, ByFault, RoundStopped}
+use Rattle.sync_node.specs.Courses.{BreaksBeginning, BreaksTurn, MakesTurn, is_still}
+use Rattle.sync_node.specs.OnRuns.{BeginStopped, BeginWent, ByFault, RoundStopped, RoundWent}
 use Rattle.sync_node.proofs.Halts.{beginning_breaks, turn_breaks}
-use Rattle.sync_node.proofs.NodeRuns.{beginning_halts, run_went, turn_halts}
+use Rattle.sync_node.proofs.NodeRuns.{beginning_halts, run_went, turn_halts, turn_made}
 use Rattle.sync_node.specs.Node.{NodeValue}
 use Rattle.sync_node.specs.declared.fault.NodeFault.{NodeFault}
 use Rattle.sync_node.specs.declared.fault.NodeFault.TheVariants as node_fault
@@ -26,7 +26,7 @@ use Rattle.sync_node.specs.declared.node.Turned.{Turned}
 use Rattle.sync_node.specs.declared.node.Turned.TheVariants as turned_kind
 use Rattle.world_devices.specs.Devices.{DeviceValue, HostGoesOn}
 use Rattle.world_devices.specs.Doing.{ComesOf, DeviceAddsEntry, DeviceBeginsSession, DeviceCalls}
-use Rattle.world_devices.specs.Doing.{DeviceMakesTurn, HasBegunOnLink, IsNotFull, OfNode, OfNodes}
+use Rattle.world_devices.specs.Doing.{DeviceMakesTurn, HasBegunOnLink, HasTurned, IsNotFull, OfNode, OfNodes}
 use Rattle.world_devices.specs.Doing.{if_done, next_session}
 use Rattle.world_devices.specs.Refusals.{IsNotRefused, RefusedBy, refuses_link}
 use Rattle.world_devices.proofs.RunLaws.{by_any}
@@ -98,6 +98,20 @@ done_err (Ok ran.Crashed) e is = absurd is
 done_err (Err x) e is = is
 
 -- ---- what the calls of a node came to on a course
+
+-- a turn that was made
+pub has_turned : (still quiet : Bool) (n n' : NodeValue) (h h' : MemHostValue) → n'.first ≡ n.first
+    → quiet ≡ still
+    → RoundWent bundle_meaning n.first n.links n'.links n.store n'.store (host_told h) (host_told h')
+    quiet → HasTurned still h h' n n'
+has_turned still quiet n n' h h' first same w = record {
+  same_first = first;
+  turn =
+      subst (λ (b : Bool). MakesTurn bundle_meaning n.first n.links n'.links n.store n'.store
+      (host_told h) (host_told h') b) same
+      (turn_made bundle_meaning n.first n.links n'.links n.store n'.store (host_told h)
+      (host_told h') quiet w);
+}
 
 -- a session that began
 pub has_begun_on : (plan : Plan) (its_nonce : Option (List ℕ)) (session : ℕ) (n n' : NodeValue)
