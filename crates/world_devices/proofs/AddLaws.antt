@@ -2,7 +2,8 @@
 use Rattle.std.proofs.Common.{◌≡◌, ◌≢◌, ℕ, ◌+◌, ◌*◌, ◌<◌, length, length-append, arith, List, [], ◌∷◌, ◌++◌, refl, sym, ap, ◌∙◌, subst, Option, Some, Result, Ok, Err}
 use Rattle.std.specs.Option.{option_map}
 use Rattle.outside.specs.Files.{Two, File}
-use Rattle.outside.specs.Outside.{MakesAtMost, Outside}
+use Rattle.outside.proofs.CallCounts.{most_more}
+use Rattle.outside.specs.Outside.{Outside}
 use Rattle.outside.specs.HostTold.{host_told}
 use Rattle.outside.specs.MemDisk.{disk_files, files_of}
 use Rattle.outside.specs.MemHost.{MemHostValue}
@@ -29,7 +30,8 @@ use Rattle.sync_node.specs.declared.fault.NodeFault.TheVariants as node_fault
 use Rattle.sync_node.specs.declared.link.Link.{Link}
 use Rattle.sync_node.specs.Node.{NodeValue}
 use Rattle.world_devices.specs.Devices.{DeviceValue, IsAnew, IsRunning}
-use Rattle.world_devices.specs.Doing.{CameAdding, DeviceAddsEntry, EntryPassesLimit, HoldsSettled, KeepsOwn, KeepsRest}
+use Rattle.world_devices.specs.Doing.{CameAdding, DeviceAddsEntry, EntryPassesLimit, HoldsSettled}
+use Rattle.world_devices.specs.Doing.{KeepsOwn, KeepsRest}
 use Rattle.world_devices.specs.Keeping.{Journal, LeavesSome}
 use Rattle.world_devices.specs.Cited.{SettlingLeaves}
 use Rattle.world_devices.specs.Linking.{IsBare, WhenDone}
@@ -50,14 +52,18 @@ has_one : (batch : List Entry) (more : List (List Entry)) (f : Facts) → AddsBa
 has_one batch [] f adds some = absurd (some refl)
 has_one batch (b ∷ rest) f adds some = (rest, ap (λ (x : List Entry). x ∷ rest) adds.0, adds.1)
 
-pub has_added : (e : Entry) (batch : List Entry) (s s' : StoreValue) (h h' : MemHostValue) → batch ≡ e ∷ [] → IsReady bundle_meaning s (host_told h).files → Added bundle_meaning batch s s' (host_told h) (host_told h')
+pub has_added : (e : Entry) (batch : List Entry) (s s' : StoreValue) (h h' : MemHostValue)
+    → batch ≡ e ∷ [] → IsReady bundle_meaning s (host_told h).files
+    → Added bundle_meaning batch s s' (host_told h) (host_told h')
     → (j : Journal) → HoldsAfterCrash j h → HoldsSettled (AddsOne bundle_meaning j (e ∷ [])) h'
 has_added e batch s s' h h' is ready added j holds =
     let has = journal_of s h ready in
     let same : has.whole ≡ j = holds_fits s j has.whole h holds has.fits in
     let behind = added.by.did.fits has.whole (files_of (disk_files h.disk), refl, has.fits) in
     let whole : List (List Entry) = has.whole ++ batches_in (commit_acts added.by.more) in
-    let fits : FitsFiles bundle_meaning s' whole (files_of (disk_files h'.disk)) = subst (λ (t : Two File). FitsFiles bundle_meaning s' whole t) (sym (same_files h' behind.0 behind.1)) behind.2 in
+    let fits : FitsFiles bundle_meaning s' whole (files_of (disk_files h'.disk)) =
+    subst (λ (t : Two File). FitsFiles bundle_meaning s' whole t)
+    (sym (same_files h' behind.0 behind.1)) behind.2 in
     let one = has_one batch added.by.more s.state.facts added.by.adds added.some in
     let f : s.state.facts ≡ facts j = sym has.fits.facts_are ∙ ap facts same in
     record {
@@ -66,10 +72,12 @@ has_added e batch s s' h h' is ready added j holds =
         more = one.0;
         settling = subst (λ (g : Facts). AllSettling bundle_meaning (after_all g batch) one.0) f one.2;
         is =
-            ap (λ (bs : List (List Entry)). has.whole ++ bs) (batches_in_commits added.by.more ∙ one.1)
+            ap (λ (bs : List (List Entry)). has.whole ++ bs) (batches_in_commits added.by.more
+            ∙ one.1)
             ∙ ap (λ (k : Journal). k ++ (batch ∷ one.0)) same;
       });
-      settled = subst (λ (g : Facts). IsSettled bundle_meaning g) (sym fits.facts_are) added.settled;
+      settled =
+          subst (λ (g : Facts). IsSettled bundle_meaning g) (sym fits.facts_are) added.settled;
       holds = fits_hold s' whole h' fits;
     }
 
@@ -77,8 +85,14 @@ abbrev links_of : Option NodeValue → Option (List Link)
 links_of node = option_map (λ (n : NodeValue). n.links) node
 
 -- all but the journal is as it was
-pub rest_is : (n n' : NodeValue) (old new : DeviceValue) → old.node ≡ Some n → new.node ≡ Some n' → n'.links ≡ n.links → (host_told new.host).links ≡ (host_told old.host).links → KeepsRest old new
-rest_is n n' old new was now links told = record { node = ap links_of now ∙ ap (λ (l : List Link). Some l) links ∙ sym (ap links_of was); told = told }
+pub rest_is : (n n' : NodeValue) (old new : DeviceValue) → old.node ≡ Some n → new.node ≡ Some n'
+    → n'.links ≡ n.links → (host_told new.host).links ≡ (host_told old.host).links
+    → KeepsRest old new
+rest_is n n' old new was now links told =
+    record {
+      node = ap links_of now ∙ ap (λ (l : List Link). Some l) links ∙ sym (ap links_of was);
+      told = told;
+    }
 
 -- settling leaves all but what is judged: after a contact was added there is one more
 pub bare_added : SettlingLeaves → (contacts number : ℕ) (e : Entry) (batch : List Entry) (s s' : StoreValue) (o o' : Outside) → batch ≡ e ∷ [] → e ≡ entry.Contact number
@@ -98,15 +112,22 @@ bare_added laws contacts number e batch s s' o o' single is added bare =
 -- ---- it was broken off
 
 -- a journal that fits has at most the batch behind one that was held
-at_most : (e : Entry) (batch : List Entry) (n n' : NodeValue) (h h' : MemHostValue) (links : ℕ) → batch ≡ e ∷ [] → LeadsAdding batch n n' h h' → IsRunning n h links
-    → (j : Journal) → HoldsAfterCrash j h → LeavesSome (AddsAtMost bundle_meaning j (e ∷ [])) (host_told h')
+at_most : (e : Entry) (batch : List Entry) (n n' : NodeValue) (h h' : MemHostValue) (links : ℕ)
+    → batch ≡ e ∷ [] → LeadsAdding batch n n' h h' → IsRunning n h links
+    → (j : Journal) → HoldsAfterCrash j h
+    → LeavesSome (AddsAtMost bundle_meaning j (e ∷ [])) (host_told h')
 at_most e batch n n' h h' links is leads run j holds =
     let has = journal_of n.store h (open_of n h links run) in
     let same : has.whole ≡ j = holds_fits n.store j has.whole h holds has.fits in
     let led = leads (files_of (disk_files h.disk)) refl has.whole has.fits in
-    leads_leave (AddsAtMost bundle_meaning j (e ∷ [])) (AddsAtMost bundle_meaning j (e ∷ [])) n'.store (host_told h) (host_told h')
-    (subst (λ (k : Journal). LeadsTo bundle_meaning (AddsAtMost bundle_meaning k (e ∷ [])) (AddsAtMost bundle_meaning k (e ∷ [])) n'.store (host_told h) (host_told h')) same
-    (subst (λ (b : List Entry). LeadsTo bundle_meaning (AddsAtMost bundle_meaning has.whole b) (AddsAtMost bundle_meaning has.whole b) n'.store (host_told h) (host_told h')) is led))
+    leads_leave (AddsAtMost bundle_meaning j (e ∷ [])) (AddsAtMost bundle_meaning j (e ∷ []))
+    n'.store (host_told h) (host_told h')
+    (subst (λ (k : Journal).
+    LeadsTo bundle_meaning (AddsAtMost bundle_meaning k (e ∷ []))
+    (AddsAtMost bundle_meaning k (e ∷ [])) n'.store (host_told h) (host_told h')) same
+    (subst (λ (b : List Entry).
+    LeadsTo bundle_meaning (AddsAtMost bundle_meaning has.whole b)
+    (AddsAtMost bundle_meaning has.whole b) n'.store (host_told h) (host_told h')) is led))
 
 -- where it is full the journal would pass its limit
 pub adding_over : (batch : List Entry) (s s' : StoreValue) (o o' : Outside) (x : NodeFault) → x ≡ node_fault.Full → ByFault (AddStops bundle_meaning batch s s' o o') x → s.limit < needed s batch
@@ -121,9 +142,6 @@ add_undone n n' h h' o o' x is stops =
     full.undone.same_host
 
 -- adding came so far as that
-as_many : (count k : ℕ) (o o' : Outside) → k ≡ count → MakesAtMost (4 * k) o o' → MakesAtMost (4 * count) o o'
-as_many count k o o' same calls = subst (λ (m : ℕ). MakesAtMost (4 * m) o o') same calls
-
 all_long : (more : List (List Entry)) → length (batches_in (commit_acts more)) ≡ length more
 all_long more = ap length (batches_in_commits more)
 
@@ -136,29 +154,39 @@ pub adds_within : (batch : List Entry) (s s' : StoreValue) (o o' : Outside) (x :
 adds_within batch s s' o o' node_fault.Memory by = record {
   more = by.more;
   adds = by.adds;
-  calls = as_many (length by.more) (length (batches_in (commit_acts by.more))) o o' (all_long by.more) by.did.calls;
+  calls =
+      most_more (4 * length (batches_in (commit_acts by.more))) (4 * length by.more) o o'
+      (omega (arith, all_long by.more)) by.did.calls;
 }
 adds_within batch s s' o o' node_fault.Full full = record { more = []; adds = tt; calls = full.idle.did.calls }
 adds_within batch s s' o o' node_fault.DiskFault by = record {
   more = by.more;
   adds = by.adds;
   calls =
-      as_many (length by.more) (length (by.breaks.others ++ batches_in (commit_acts by.breaks.front))) o o'
-      (parts_long by.breaks.front by.breaks.others by.more by.breaks.parts) by.breaks.did.calls;
+      most_more (4 * length (by.breaks.others ++ batches_in (commit_acts by.breaks.front)))
+      (4 * length by.more) o o'
+      (omega (arith, parts_long by.breaks.front by.breaks.others by.more by.breaks.parts))
+      by.breaks.did.calls;
 }
 adds_within batch s s' o o' node_fault.Closed none = absurd none
 
 -- adding came to this host
-pub came_adding : (e : Entry) (batch : List Entry) (n n' : NodeValue) (node : Option NodeValue) (h at : MemHostValue) (links : ℕ) → batch ≡ e ∷ [] → LeadsAdding batch n n' h at → IsRunning n h links → node ≡ Some n
+pub came_adding : (e : Entry) (batch : List Entry) (n n' : NodeValue) (node : Option NodeValue)
+    (h at : MemHostValue) (links : ℕ) → batch ≡ e ∷ [] → LeadsAdding batch n n' h at
+    → IsRunning n h links → node ≡ Some n
     → AddsWithin bundle_meaning batch n.store (host_told h) (host_told at) → CameAdding e node h at
 came_adding e batch n n' maybe h at links is leads run was within = (
   at_most e batch n n' h at links is leads run,
-  of_node (λ (m : NodeValue). AddsWithin bundle_meaning (e ∷ []) m.store (host_told h) (host_told at)) n maybe was
-      (subst (λ (b : List Entry). AddsWithin bundle_meaning b n.store (host_told h) (host_told at)) is within),
+  of_node (λ (m : NodeValue).
+      AddsWithin bundle_meaning (e ∷ []) m.store (host_told h) (host_told at)) n maybe was
+      (subst (λ (b : List Entry). AddsWithin bundle_meaning b n.store (host_told h) (host_told at))
+      is within),
 )
 
 -- of a node with whose entry the journal would pass its limit
-pub passes_limit : (e : Entry) (batch : List Entry) (n : NodeValue) (node : Option NodeValue) → node ≡ Some n → batch ≡ e ∷ [] → n.store.limit < needed n.store batch → EntryPassesLimit e node
+pub passes_limit : (e : Entry) (batch : List Entry) (n : NodeValue) (node : Option NodeValue)
+    → node ≡ Some n → batch ≡ e ∷ [] → n.store.limit < needed n.store batch
+    → EntryPassesLimit e node
 passes_limit e batch n maybe is single over =
     subst (λ (x : Option NodeValue). EntryPassesLimit e x) (sym is) (subst (λ (b : List Entry). n.store.limit < needed n.store b) single over)
 

@@ -1,5 +1,8 @@
 -- What a call of a device comes to: how its journal goes on, and what its links bring.
-use Rattle.std.proofs.Common.{◌≡◌, ◌⊎◌, ℕ, ◌+◌, ◌-◌, ◌<◌, Bool, true, false, cond, nat_eq, nat_le, nat_lt, List, [], ◌∷◌, ◌++◌, length, length-append, suc, refl, sym, ap, ◌∙◌, subst, inl, inr, arith, append-nil, append_assoc, Option, Some, None, is_some}
+use Rattle.std.proofs.Common.{◌≡◌, ◌⊎◌, ℕ, ◌+◌, ◌-◌, ◌<◌, Bool, true, false, cond, nat_eq, nat_le}
+use Rattle.std.proofs.Common.{nat_lt, List, [], ◌∷◌, ◌++◌, length, length-append, suc, refl, sym}
+use Rattle.std.proofs.Common.{ap, ◌∙◌, subst, inl, inr, arith, append-nil, append_assoc, Option}
+use Rattle.std.proofs.Common.{Some, None, is_some}
 use Rattle.std.proofs.lemmas.Bool.{and_from, cases_lt, le-leb, lt-ltb}
 use Rattle.outside.specs.Files.{Two, File, read_files}
 use Rattle.outside.specs.Runs.{answers_at, heard_bytes}
@@ -49,12 +52,14 @@ use Rattle.sync_node.specs.declared.fault.NodeFault.{NodeFault}
 use Rattle.sync_node.specs.declared.link.Link.{Link}
 use Rattle.sync_node.specs.Output.{heard_on, output}
 use Rattle.world_devices.specs.Brought.{brought_on, bytes_of, planned_bytes}
-use Rattle.world_devices.specs.Linking.{AddsLink, HoldsSome, KeepsLinks, LinksStand, PlansMore, first_of, number_of}
+use Rattle.world_devices.specs.Linking.{AddsLink, HoldsSome, KeepsLinks, LinksStand, PlansMore}
+use Rattle.world_devices.specs.Linking.{first_of, number_of}
 use Rattle.world_devices.specs.Cited.{DeviceLaws}
 use Rattle.world_devices.specs.Devices.{DeviceValue, IsReadyStore, IsRunning, MayAddEntry, MayBeRunning, links_made}
 use Rattle.world_devices.specs.Doing.{ComesOf}
-use Rattle.world_devices.specs.Keeping.{Journal, KeepsOn, LeavesSome}
-use Rattle.world_devices.specs.Running.{DeviceRuns, HoldsAfterCrash, IsStill, ReadsAsJournal, WentHearing, is_session_of, records_for}
+use Rattle.world_devices.specs.Keeping.{Journal, KeepsOn, LeavesSome, StandsForSome, WentOn}
+use Rattle.world_devices.specs.Running.{DeviceRuns, HoldsAfterCrash, IsStill, ReadsAsJournal}
+use Rattle.world_devices.specs.Running.{WentHearing, is_session_of, records_for}
 use Rattle.world_devices.specs.Running as running
 use Rattle.world_devices.proofs.BroughtLaws.{plans_bring, told_brings, told_heard}
 use Rattle.sync_course.proofs.HeardLaws.{bytes_by, bytes_of as event_bytes}
@@ -74,9 +79,13 @@ holds_reads j h holds = record { each = λ two is. holds.each two is (read_files
 pub runs_files : (old new : DeviceValue) → (host_told new.host).files ≡ (host_told old.host).files → DeviceRuns old new
 runs_files old new same = record {
   comes = λ j holds.
-      let kept : HoldsAfterCrash j new.host = crash_same (λ left. stands bundle_meaning left ≡ journal j) (host_told old.host) (host_told new.host) same holds in
-      let whole : HoldsAfterCrash (j ++ []) new.host = subst (λ (k : Journal). HoldsAfterCrash k new.host) (sym (append-nil j)) kept in
+      let kept : HoldsAfterCrash j new.host =
+      crash_same (λ left. stands bundle_meaning left ≡ journal j) (host_told old.host)
+      (host_told new.host) same holds in
+      let whole : HoldsAfterCrash (j ++ []) new.host =
+      subst (λ (k : Journal). HoldsAfterCrash k new.host) (sym (append-nil j)) kept in
       record { more = []; allowed = tt; plain = refl; all_heard = tt; reads = holds_reads (j ++ []) new.host whole; holds = λ _. whole };
+  keeps = λ j. crash_same (StandsForSome (WentOn j)) (host_told old.host) (host_told new.host) same;
 }
 
 pub runs_none : (d : DeviceValue) → DeviceRuns d d
@@ -97,7 +106,8 @@ known_link n h links link run =
     no_plan_bytes [] b none = none
     no_plan_bytes (x ∷ a) b none = cc
 
-call_brings : (n : NodeValue) (h h' : MemHostValue) (links : ℕ) → IsRunning n h links → CallDid n (host_told h) (host_told h') → BringsAll h h'
+call_brings : (n : NodeValue) (h h' : MemHostValue) (links : ℕ) → IsRunning n h links
+    → CallDid n (host_told h) (host_told h') → BringsAll h h'
 call_brings n h h' links run did link = told_brings (events_of did.acts) h h' link did.tells (known_link n h links link run)
 
 -- ---- what is taken
@@ -208,56 +218,73 @@ module _ (n n' : NodeValue) (h h' : MemHostValue) (links : ℕ) (run : IsRunning
 
 -- ---- what calls may leave
 
--- what a call of its node leaves of a device: a journal that goes on from each before, and took only what its links brought
+-- what a call of its node leaves of a device: a journal that goes on from each before, and took
+-- only what its links brought
 pub record DeviceLeaves (node : Option NodeValue) (h at : MemHostValue) : Type 0 where
   pub keeps : KeepsOn (host_told h) (host_told at)
-  pub hears : (j : Journal) → HoldsAfterCrash j h → LeavesSome (WentHearing (running.records_of node h) j) (host_told at)
+  pub hears : (j : Journal) → HoldsAfterCrash j h → LeavesSome
+      (WentHearing (running.records_of node h) j) (host_told at)
 
-pub device_leaves : DeviceLaws → (node : Option NodeValue) (n : NodeValue) (h at : MemHostValue) (links : ℕ) → node ≡ Some n → IsRunning n h links → CallDid n (host_told h) (host_told at) → DeviceLeaves node h at
+pub device_leaves : DeviceLaws → (node : Option NodeValue) (n : NodeValue) (h at : MemHostValue)
+    (links : ℕ) → node ≡ Some n → IsRunning n h links → CallDid n (host_told h) (host_told at)
+    → DeviceLeaves node h at
 device_leaves laws maybe n h at links is run did =
     let taken : ℕ → List Record = running.records_of (Some n) h in
     subst (λ (x : Option NodeValue). DeviceLeaves x h at) (sym is) (record {
       keeps = call_keeps laws.moments n (host_told h) (host_told at) (told_host h) run.runs did;
       hears = λ j holds.
-          call_takes laws.moments n (host_told h) (host_told at) (told_host h) run.runs did taken j (was_brought laws.fronts n h at links run did)
+          call_takes laws.moments n (host_told h) (host_told at) (told_host h) run.runs did taken j
+          (was_brought laws.fronts n h at links run did)
           (holds_some (WentHearing taken j) j h (hears_none taken j) holds);
     })
 
 -- and what comes of that
-pub leaves_on : (node : Option NodeValue) (h at new : MemHostValue) → DeviceLeaves node h at → ComesOf at new → DeviceLeaves node h new
+pub leaves_on : (node : Option NodeValue) (h at new : MemHostValue) → DeviceLeaves node h at
+    → ComesOf at new → DeviceLeaves node h new
 leaves_on node h at new leaves comes = record {
   keeps = λ j k. comes_keeps at new comes j (leaves.keeps j k);
   hears = λ j holds. comes_hears (running.records_of node h) j at new comes (leaves.hears j holds);
 }
 
-pub leaves_come : (node : Option NodeValue) (h at : MemHostValue) → ComesOf h at → DeviceLeaves node h at
+pub leaves_come : (node : Option NodeValue) (h at : MemHostValue) → ComesOf h at
+    → DeviceLeaves node h at
 leaves_come node h at comes = record {
   keeps = comes_keeps h at comes;
-  hears = λ j holds. comes_hears (running.records_of node h) j h at comes (holds_some (WentHearing (running.records_of node h) j) j h (hears_none (running.records_of node h) j) holds);
+  hears = λ j holds. comes_hears (running.records_of node h) j h at comes
+      (holds_some (WentHearing (running.records_of node h) j) j h
+      (hears_none (running.records_of node h) j) holds);
 }
 
 -- of a device that is another one by name
-pub leaves_keeps : (d old : DeviceValue) (at : MemHostValue) → d ≡ old → DeviceLeaves d.node d.host at → KeepsOn (host_told old.host) (host_told at)
-leaves_keeps d old at is leaves = subst (λ (x : DeviceValue). KeepsOn (host_told x.host) (host_told at)) is leaves.keeps
-
-pub leaves_runs : DeviceLaws → (d old new : DeviceValue) → d ≡ old → DeviceLeaves d.node d.host new.host → (is_some new.node ≡ true → IsStill new.host) → DeviceRuns old new
+pub leaves_runs : DeviceLaws → (d old new : DeviceValue) → d ≡ old
+    → DeviceLeaves d.node d.host new.host → (is_some new.node ≡ true → IsStill new.host)
+    → DeviceRuns old new
 leaves_runs laws d old new is leaves still =
-    subst (λ (x : DeviceValue). DeviceRuns x new) is (record { comes = λ j holds. comes_still laws.legal (records_for d) j new (leaves.hears j holds) still })
+    subst (λ (x : DeviceValue). DeviceRuns x new) is
+    (record {
+      comes =
+          λ j holds. comes_still laws.legal (records_for d) j new (leaves.hears j holds) still;
+      keeps = leaves.keeps;
+    })
 
 -- a disk that fits a store is still
 pub ready_still : (s : StoreValue) (h : MemHostValue) → IsReady bundle_meaning s (host_told h).files → IsStill h
 ready_still s h ready = let has = journal_of s h ready in still_fits s has.whole h has.fits
 
 -- a call of its node that ended
-pub record DidWell (node : Option NodeValue) (n n' : NodeValue) (h h' : MemHostValue) (links : ℕ) : Type 0 where
+pub record DidWell (node : Option NodeValue) (n n' : NodeValue) (h h' : MemHostValue)
+    (links : ℕ) : Type 0 where
   pub run : IsRunning n h links
   pub ends : CallEnds n n' (host_told h) (host_told h')
   pub leaves : DeviceLeaves node h h'
   pub brings : BringsAll h h'
   pub still : IsStill h'
 
-pub did_well : DeviceLaws → (node : Option NodeValue) (n n' : NodeValue) (h h' : MemHostValue) (links : ℕ) → node ≡ Some n → MayBeRunning node h links
-    → (IsRunning n h links → CallEnds n n' (host_told h) (host_told h')) → (n.closed ≡ false → n'.closed ≡ false) → MayRun bundle_meaning n' (host_told h') → DidWell node n n' h h' links
+pub did_well : DeviceLaws → (node : Option NodeValue) (n n' : NodeValue) (h h' : MemHostValue)
+    (links : ℕ) → node ≡ Some n → MayBeRunning node h links
+    → (IsRunning n h links → CallEnds n n' (host_told h) (host_told h'))
+    → (n.closed ≡ false → n'.closed ≡ false) → MayRun bundle_meaning n' (host_told h')
+    → DidWell node n n' h h' links
 did_well laws node n n' h h' links is runs ends opened may =
     let run = running_of node n h links is runs in
     let did = ended_did n n' (host_told h) (host_told h') (ends run) in
@@ -272,7 +299,9 @@ did_well laws node n n' h h' links is runs ends opened may =
 -- ---- links
 
 -- the links of a node that a call leaves
-pub keeps_links : (n n' : NodeValue) (d old new : DeviceValue) → d ≡ old → d.node ≡ Some n → new.node ≡ Some n' → n'.first ≡ n.first → length n'.links ≡ length n.links → new.links ≡ d.links → BringsAll d.host new.host
+pub keeps_links : (n n' : NodeValue) (d old new : DeviceValue) → d ≡ old → d.node ≡ Some n
+    → new.node ≡ Some n' → n'.first ≡ n.first → length n'.links ≡ length n.links
+    → new.links ≡ d.links → BringsAll d.host new.host
     → KeepsLinks old new
 keeps_links n n' d old new seen was is first number links brings =
     subst (λ (x : DeviceValue). KeepsLinks x new) seen (record {
@@ -316,11 +345,15 @@ has_begun s s' h h' session ready ready' is numbered j holds =
     }
 
 -- a link more
-pub adds_link : (plan : Plan) (nonce : Option (List ℕ)) (session : ℕ) (n n' : NodeValue) (h h' : MemHostValue) (links : ℕ) (old new : DeviceValue) → session ≡ n.store.state.facts.begun → IsRunning n h links → IsReady bundle_meaning n'.store (host_told h').files
+pub adds_link : (plan : Plan) (nonce : Option (List ℕ)) (session : ℕ) (n n' : NodeValue)
+    (h h' : MemHostValue) (links : ℕ) (old new : DeviceValue) → session ≡ n.store.state.facts.begun
+    → IsRunning n h links → IsReady bundle_meaning n'.store (host_told h').files
     → n'.first ≡ n.first → length n'.links ≡ length n.links + 1 → BringsAll h h'
     → n'.store.state.facts ≡ after_all n.store.state.facts (entry.Session (session_of n.store.state.facts.begun plan nonce) ∷ [])
-    → old.node ≡ Some n → new.node ≡ Some n' → old.host ≡ h → new.host ≡ h' → old.links ≡ links → new.links ≡ links + 1 → AddsLink plan.contact session old new
-adds_link plan nonce session n n' h h' links old new so run ready same_first one_more brings is was now its its' at at' =
+    → old.node ≡ Some n → new.node ≡ Some n' → old.host ≡ h → new.host ≡ h' → old.links ≡ links
+    → new.links ≡ links + 1 → AddsLink plan.contact session old new
+adds_link plan nonce session n n' h h' links old new so run ready same_first one_more brings is was
+    now its its' at at' =
     let brought : BringsAll old.host new.host = subst (λ (x : MemHostValue). BringsAll x new.host) (sym its) (subst (λ (x : MemHostValue). BringsAll h x) (sym its') brings) in
     let begun : n.store.state.facts.begun ≡ n.first + old.links = omega (arith, (run.attached.attached run.unclosed).begun, run.linked, at) in
     subst (λ (k : ℕ). AddsLink plan.contact k old new) (sym so) (record {
@@ -386,7 +419,8 @@ links_stand laws n d j run holds =
     let so_far : Journal = run.runs.begin ++ batches_in run.runs.acts in
     let is : so_far ≡ j =
     holds_fits n.store j so_far d.host holds
-    (subst (λ (t : Two File). FitsFiles bundle_meaning n.store so_far t) (sym (same_files d.host run.runs.fits.0 run.runs.fits.1)) run.runs.fits.2) in
+    (subst (λ (t : Two File). FitsFiles bundle_meaning n.store so_far t)
+    (sym (same_files d.host run.runs.fits.0 run.runs.fits.1)) run.runs.fits.2) in
     record {
       facts_are = sym f;
       legal = subst (λ (k : Journal). Legal bundle_meaning k) same has.fits.legal;
@@ -407,7 +441,9 @@ links_stand laws n d j run holds =
 pub own_scripts : (h h' : MemHostValue) (scripts : List (List Planned)) → h' ≡ record h { scripts = scripts } → h' ≡ record h { scripts = h'.scripts }
 own_scripts h h' scripts is = is ∙ ap (λ (s : List (List Planned)). record h { scripts = s }) (sym (ap (λ (x : MemHostValue). x.scripts) is))
 
-pub plans_one : (link : ℕ) (answer : Answer) (d old new : DeviceValue) → d ≡ old → new.host ≡ record d.host { scripts = new.host.scripts } → host.PlansAnswer link answer d.host.scripts new.host.scripts → link < d.links
+pub plans_one : (link : ℕ) (answer : Answer) (d old new : DeviceValue) → d ≡ old
+    → new.host ≡ record d.host { scripts = new.host.scripts }
+    → host.PlansAnswer link answer d.host.scripts new.host.scripts → link < d.links
     → new.node ≡ d.node → new.links ≡ d.links → PlansMore link answer old new
 plans_one link answer d old new seen is plans within same links =
     subst (λ (x : DeviceValue). PlansMore link answer x new) seen (record {
@@ -423,4 +459,5 @@ plans_one link answer d old new seen is plans within same links =
 
 -- what the files of a device that runs hold
 pub held_of : (n : NodeValue) (d : DeviceValue) → IsRunning n d.host d.links → HoldsSome d
-held_of n d run = let has = journal_of n.store d.host (open_of n d.host d.links run) in record { journal = has.whole; holds = fits_hold n.store has.whole d.host has.fits }
+held_of n d run = let has = journal_of n.store d.host (open_of n d.host d.links run) in
+    record { journal = has.whole; holds = fits_hold n.store has.whole d.host has.fits }

@@ -1,6 +1,7 @@
 -- Where a batch has no room: each link that has not failed by then has sent all output of its session.
 use Rattle.std.specs.Prelude.{◌≢◌}
-use Rattle.std.proofs.Common.{◌≡◌, ℕ, zero, suc, ◌+◌, true, false, List, [], ◌∷◌, ◌++◌, refl, sym, ap, ◌∙◌, subst, inl, inr, append_assoc, Option, Some}
+use Rattle.std.proofs.Common.{◌≡◌, ℕ, zero, suc, ◌+◌, true, false, List, [], ◌∷◌, ◌++◌, refl, sym}
+use Rattle.std.proofs.Common.{ap, ◌∙◌, subst, inl, inr, append_assoc, Option, Some}
 use Rattle.std.specs.Prelude.{slice_get}
 use Rattle.outside.specs.Files.{Two, File, read_files}
 use Rattle.outside.specs.HostTold.{host_told}
@@ -137,15 +138,19 @@ module _ (law : FullIsSent) (n : NodeValue) (links' : List Link) (s' : StoreValu
       node_failed links' heard i
       (fails_then (node_terms n) p links' heard n.store s' o o' stops opens i ((acts_fail n o run stops.went.acts (owing_free stops.to) free_acts).stays i failed))
 
-  link_sent : (i : ℕ) → has_failure i (events_of all_acts) ≡ false → (two : Two File) → o'.files ≡ Some two → (whole : Journal)
+  link_sent : (i : ℕ) → has_failure i (events_of all_acts) ≡ false → (two : Two File)
+      → o'.files ≡ Some two → (whole : Journal)
       → FitsFiles bundle_meaning s' whole two → sent_on o'.links i ≡ output whole (n.first + i)
   unfolding output
   link_sent i well two is_two whole fits =
       let so_far : Journal = run.begin ++ batches_in run.acts in
       let behind = stops.went.did.fits so_far run.fits in
-      let one : behind.0 ≡ two = (let both : Some behind.0 ≡ Some two = sym behind.1 ∙ is_two in cc) in
-      let reads : stands bundle_meaning (read_files two) ≡ journal (so_far ++ batches_in stops.went.acts) =
-      subst (λ (t : Two File). stands bundle_meaning (read_files t) ≡ journal (so_far ++ batches_in stops.went.acts)) one behind.2.stands_for in
+      let one : behind.0 ≡ two = (let both : Some behind.0 ≡ Some two = sym behind.1 ∙ is_two in
+      cc) in
+      let reads : stands bundle_meaning (read_files two)
+      ≡ journal (so_far ++ batches_in stops.went.acts) =
+      subst (λ (t : Two File). stands bundle_meaning (read_files t)
+      ≡ journal (so_far ++ batches_in stops.went.acts)) one behind.2.stands_for in
       let both : journal (so_far ++ batches_in stops.went.acts) ≡ journal whole = sym reads ∙ fits.stands_for in
       let same : so_far ++ batches_in stops.went.acts ≡ whole = cc in
       let all : run.begin ++ batches_in all_acts ≡ whole =
@@ -159,9 +164,12 @@ module _ (law : FullIsSent) (n : NodeValue) (links' : List Link) (s' : StoreValu
       ∙ ap (λ (k : ℕ). spelled (sent whole (k + i))) run.first
 
   -- on whatever course, a link that has not failed has sent the whole
-  unfailed_sent : (terms : Terms) (p1 : Place) (heard1 : ℕ → List ℕ) → HoldsOpen (forget p1).hold (forget p1).links
-      → (stops1 : StopsAt terms p1 (links_from 0 links' heard1) n.store s' o o') (i : ℕ) (x : course_links.Link)
-      → slice_get stops1.to.at.links i ≡ Some x → x.stands ≢ link_end.Failed → has_failure i (events_of all_acts) ≡ false
+  unfailed_sent : (terms : Terms) (p1 : Place) (heard1 : ℕ → List ℕ) → HoldsOpen (forget p1).hold
+      (forget p1).links
+      → (stops1 : StopsAt terms p1 (links_from 0 links' heard1) n.store s' o o') (i : ℕ)
+      (x : course_links.Link)
+      → slice_get stops1.to.at.links i ≡ Some x → x.stands ≢ link_end.Failed
+      → has_failure i (events_of all_acts) ≡ false
   unfailed_sent terms p1 heard1 opens1 stops1 i x there unfailed =
       elim (one_of (has_failure i (events_of all_acts))) [
         | inl failed ↦
@@ -174,48 +182,69 @@ module _ (law : FullIsSent) (n : NodeValue) (links' : List Link) (s' : StoreValu
         | inr well ↦ well
       ]
 
-module _ (law : FullIsSent) (n : NodeValue) (links' : List Link) (s' : StoreValue) (h h' : MemHostValue) (run : IsRunSoFar n (host_told h))
-    (p : Place) (is : forget p ≡ node_place n (host_told h)) (opens : HoldsOpen (forget p).hold (forget p).links) (heard : ℕ → List ℕ)
-    (stops : StopsAt (node_terms n) p (links_from 0 links' heard) n.store s' (host_told h) (host_told h')) where
-  full_sent : (terms : Terms) (p1 : Place) (heard1 : ℕ → List ℕ) → HoldsOpen (forget p1).hold (forget p1).links
-      → StopsAt terms p1 (links_from 0 links' heard1) n.store s' (host_told h) (host_told h') → FullSent terms p1 n s' h h'
+module _ (law : FullIsSent) (n : NodeValue) (links' : List Link) (s' : StoreValue)
+    (h h' : MemHostValue) (run : IsRunSoFar n (host_told h))
+    (p : Place) (is : forget p ≡ node_place n (host_told h))
+    (opens : HoldsOpen (forget p).hold (forget p).links) (heard : ℕ → List ℕ)
+    (stops : StopsAt (node_terms n) p (links_from 0 links' heard) n.store s' (host_told h)
+    (host_told h')) where
+  full_sent : (terms : Terms) (p1 : Place) (heard1 : ℕ → List ℕ) → HoldsOpen (forget p1).hold
+      (forget p1).links
+      → StopsAt terms p1 (links_from 0 links' heard1) n.store s' (host_told h) (host_told h')
+      → FullSent terms p1 n s' h h'
   unfolding full_there
   full_sent terms p1 heard1 opens1 stops1 = record {
-    full = full_there terms p1 (links_from 0 links' heard1) n.store s' (host_told h) (host_told h') stops1;
+    full = full_there terms p1 (links_from 0 links' heard1) n.store s' (host_told h) (host_told h')
+        stops1;
     sent = λ i x there unfailed whole fits.
-        link_sent law n links' s' (host_told h) (host_told h') (told_host h) run p is opens heard stops i
-        (unfailed_sent law n links' s' (host_told h) (host_told h') (told_host h) run p is opens heard stops terms p1 heard1 opens1 stops1 i x there unfailed)
+        link_sent law n links' s' (host_told h) (host_told h') (told_host h) run p is opens heard
+        stops i
+        (unfailed_sent law n links' s' (host_told h) (host_told h') (told_host h) run p is opens
+        heard stops terms p1 heard1 opens1 stops1 i x there unfailed)
         (files_of (disk_files h'.disk)) refl whole fits;
   }
 
 -- ---- calls
 
-module _ (law : FullIsSent) (n n' : NodeValue) (h h' : MemHostValue) (run : IsRunSoFar n (host_told h)) (limit : n'.store.limit ≡ n.store.limit)
+module _ (law : FullIsSent) (n n' : NodeValue) (h h' : MemHostValue)
+    (run : IsRunSoFar n (host_told h)) (limit : n'.store.limit ≡ n.store.limit)
     (x : NodeFault) (is : x ≡ node_fault.Full) where
-  pub full_turn : ByFault (RoundStopped bundle_meaning n.first n.links n'.links n.store n'.store (host_told h) (host_told h')) x → FullInTurn h h' n
+  pub full_turn : ByFault
+      (RoundStopped bundle_meaning n.first n.links n'.links n.store n'.store (host_told h)
+      (host_told h')) x → FullInTurn h h' n
   full_turn stopped =
-      let w = subst (λ (y : NodeFault). ByFault (RoundStopped bundle_meaning n.first n.links n'.links n.store n'.store (host_told h) (host_told h')) y) is stopped in
-      let own = w.stops (node_terms n) (heard_on (host_told h).links) false 0 0 refl run.has_read refl in
+      let w =
+      subst (λ (y : NodeFault).
+      ByFault (RoundStopped bundle_meaning n.first n.links n'.links n.store n'.store
+      (host_told h) (host_told h')) y) is stopped in
+      let own = w.stops (node_terms n) (heard_on (host_told h).links) false 0 0 refl run.has_read
+      refl in
       record {
         store = n'.store;
         limit = limit;
         fills = λ terms heard moved still made first read on.
             let t = w.stops terms heard moved still made first read on in
-            full_sent law n n'.links n'.store h h' run (turn_from n (host_told h)) refl tt own.0 own.1 terms
+            full_sent law n n'.links n'.store h h' run (turn_from n (host_told h)) refl tt own.0
+            own.1 terms
             (place_at Between n.links heard moved still made n.store.state.facts) t.0 tt t.1;
       }
 
   pub full_beginning : (plan : Plan) (its_nonce : Option (List ℕ))
-      → ByFault (BeginStopped bundle_meaning (next_session plan its_nonce n) n.links n'.links n.store n'.store (host_told h) (host_told h')) x
+      → ByFault (BeginStopped bundle_meaning (next_session plan its_nonce n) n.links n'.links
+      n.store n'.store (host_told h) (host_told h')) x
       → FullAtBeginning plan its_nonce h h' n
   full_beginning plan its_nonce stopped =
       let session = next_session plan its_nonce n in
-      let w = subst (λ (y : NodeFault). ByFault (BeginStopped bundle_meaning session n.links n'.links n.store n'.store (host_told h) (host_told h')) y) is stopped in
+      let w =
+      subst (λ (y : NodeFault).
+      ByFault (BeginStopped bundle_meaning session n.links n'.links n.store n'.store
+      (host_told h) (host_told h')) y) is stopped in
       let own = w.stops (node_terms n) [] (heard_on (host_told h).links) false 0 0 in
       record {
         store = n'.store;
         limit = limit;
         fills = λ terms left heard moved still made.
-            full_sent law n n'.links n'.store h h' run (begin_from session n (host_told h)) refl tt (heard_on (host_told h).links) own terms
+            full_sent law n n'.links n'.store h h' run (begin_from session n (host_told h)) refl tt
+            (heard_on (host_told h).links) own terms
             (place_at (Attaches (session ∷ left)) n.links heard moved still made n.store.state.facts) heard tt (w.stops terms left heard moved still made);
       }

@@ -1,5 +1,7 @@
 -- What a host in memory tells, over its own calls.
-use Rattle.std.proofs.Common.{◌≡◌, ℕ, zero, suc, List, [], ◌∷◌, ◌++◌, length, refl, sym, ap, ◌∙◌, subst, arith, Option, Some, Result, Ok, Err, OnOk, OnErr, replicate, slice_index, slice_index_or}
+use Rattle.std.proofs.Common.{◌≡◌, ℕ, zero, suc, List, [], ◌∷◌, ◌++◌, length, refl, sym, ap, ◌∙◌}
+use Rattle.std.proofs.Common.{subst, arith, Option, Some, Result, Ok, Err, OnOk, OnErr, replicate}
+use Rattle.std.proofs.Common.{slice_index, slice_index_or}
 use Rattle.std.specs.declared.alloc.AllocError.{AllocError}
 use Rattle.outside.specs.declared.failed.Failed.{Failed}
 use Rattle.outside.specs.Files.{Two, File, IsImage, settled}
@@ -12,7 +14,8 @@ use Rattle.outside.specs.Calls.{CallsGoOn}
 use Rattle.outside.proofs.CallSteps.{go_on_none, go_on_then}
 use Rattle.outside.specs.Changes.{Change, hosted}
 use Rattle.outside.specs.MemDisk.{MemDiskValue, calls_of, KeptFile, kept_after, changed, both_kept, disk_files, files_of, fresh, links_after, answers_after}
-use Rattle.outside.specs.MemHost.{MemHostValue, Readings, CrashesHost, fresh_host, plans_of, upcoming_of}
+use Rattle.outside.specs.MemHost.{MemHostValue, Readings, CrashesHost, fresh_host, plans_of}
+use Rattle.outside.specs.MemHost.{upcoming_of}
 use Rattle.outside.specs.declared.limits.TheConstants.{LINKS}
 use Rattle.outside.specs.HostTold.{host_told}
 use Rattle.outside.specs.LinksTold.{heard_on}
@@ -34,7 +37,9 @@ told_host h = record {
 }
 
 -- by what came of a call that did nothing where it found no memory
-pub either : (P : MemHostValue → Type 0) (h h' to : MemHostValue) (result : Result (Unit {0}) AllocError) → OnOk result (h' ≡ to) → OnErr result (h' ≡ h) → P to → P h → P h'
+pub either : (P : MemHostValue → Type 0) (h h' to : MemHostValue)
+    (result : Result (Unit {0}) AllocError) → OnOk result (h' ≡ to) → OnErr result (h' ≡ h) → P to
+    → P h → P h'
 either P h h' to (Ok u) ok err done same = subst P (sym ok) done
 either P h h' to (Err e) ok err done same = subst P (sym err) same
 
@@ -43,16 +48,30 @@ either P h h' to (Err e) ok err done same = subst P (sym err) same
 abbrev SameAs : MemHostValue → MemHostValue → Type 0
 SameAs h h' = TellsSame (host_told h) (host_told h')
 
-tells_own : (h : MemHostValue) (clock : Readings) (scripts : List (List Planned)) (failing : List ℕ) (stop : Option ℕ)
-    → SameAs h (record h { clock = clock; scripts = scripts; disk = record h.disk { failing = failing; stop = stop } })
-tells_own h clock scripts failing stop = record { files = refl; told = refl; heard = refl; clock = refl; moments = λ t m w. w; dialled = refl }
+tells_own : (h : MemHostValue) (clock : Readings) (scripts : List (List Planned)) (failing : List ℕ)
+    (stop : Option ℕ)
+    → SameAs h (record h {
+      clock = clock;
+      scripts = scripts;
+      disk = record h.disk { failing = failing; stop = stop };
+    })
+tells_own h clock scripts failing stop =
+    record {
+      files = refl;
+      told = refl;
+      heard = refl;
+      clock = refl;
+      moments = λ t m w. w;
+      dialled = refl;
+    }
 
 tells_same : (h : MemHostValue) → SameAs h h
 tells_same h = tells_own h h.clock h.scripts h.disk.failing h.disk.stop
 
 pub script_same : (h h' : MemHostValue) (scripts : List (List Planned)) (result : Result (Unit {0}) AllocError) → OnOk result (h' ≡ record h { scripts = scripts }) → OnErr result (h' ≡ h) → SameAs h h'
 script_same h h' scripts result ok err =
-    either (SameAs h) h h' (record h { scripts = scripts }) result ok err (tells_own h h.clock scripts h.disk.failing h.disk.stop) (tells_same h)
+    either (SameAs h) h h' (record h { scripts = scripts }) result ok err
+    (tells_own h h.clock scripts h.disk.failing h.disk.stop) (tells_same h)
 
 -- nor anything that is planned
 pub record LeavesTold (h h' : MemHostValue) : Type 0 where
@@ -73,22 +92,32 @@ told_then a b c first second = record {
 }
 
 -- the time, and the calls that are to fail
-own_told : (h : MemHostValue) (clock : Readings) (failing : List ℕ) (stop : Option ℕ) → LeavesTold h (record h { clock = clock; disk = record h.disk { failing = failing; stop = stop } })
-own_told h clock failing stop = record { same = tells_own h clock h.scripts failing stop; scripts = refl }
+own_told : (h : MemHostValue) (clock : Readings) (failing : List ℕ) (stop : Option ℕ) → LeavesTold h
+    (record h { clock = clock; disk = record h.disk { failing = failing; stop = stop } })
+own_told h clock failing stop =
+    record { same = tells_own h clock h.scripts failing stop; scripts = refl }
 
 none_told : (h : MemHostValue) → LeavesTold h h
 none_told h = own_told h h.clock h.disk.failing h.disk.stop
 
-pub clock_told : (h h' : MemHostValue) (clock : Readings) (result : Result (Unit {0}) AllocError) → OnOk result (h' ≡ record h { clock = clock }) → OnErr result (h' ≡ h) → LeavesTold h h'
-clock_told h h' clock result ok err = either (LeavesTold h) h h' (record h { clock = clock }) result ok err (own_told h clock h.disk.failing h.disk.stop) (none_told h)
+pub clock_told : (h h' : MemHostValue) (clock : Readings) (result : Result (Unit {0}) AllocError)
+    → OnOk result (h' ≡ record h { clock = clock }) → OnErr result (h' ≡ h) → LeavesTold h h'
+clock_told h h' clock result ok err =
+    either (LeavesTold h) h h' (record h { clock = clock }) result ok err
+    (own_told h clock h.disk.failing h.disk.stop) (none_told h)
 
-pub failing_told : (h h' : MemHostValue) (failing : List ℕ) (stop : Option ℕ) → h' ≡ record h { disk = record h.disk { failing = failing; stop = stop } } → LeavesTold h h'
-failing_told h h' failing stop is = subst (λ (x : MemHostValue). LeavesTold h x) (sym is) (own_told h h.clock failing stop)
+pub failing_told : (h h' : MemHostValue) (failing : List ℕ) (stop : Option ℕ)
+    → h' ≡ record h { disk = record h.disk { failing = failing; stop = stop } } → LeavesTold h h'
+failing_told h h' failing stop is =
+    subst (λ (x : MemHostValue). LeavesTold h x) (sym is) (own_told h h.clock failing stop)
 
-pub fails_told : (h h' : MemHostValue) (call : ℕ) (result : Result (Unit {0}) AllocError) → OnOk result (h' ≡ record h { disk = record h.disk { failing = h.disk.failing ++ call ∷ [] } }) → OnErr result (h' ≡ h)
+pub fails_told : (h h' : MemHostValue) (call : ℕ) (result : Result (Unit {0}) AllocError)
+    → OnOk result (h' ≡ record h { disk = record h.disk { failing = h.disk.failing ++ call ∷ [] } })
+    → OnErr result (h' ≡ h)
     → LeavesTold h h'
 fails_told h h' call result ok err =
-    either (LeavesTold h) h h' (record h { disk = record h.disk { failing = h.disk.failing ++ call ∷ [] } }) result ok err
+    either (LeavesTold h) h h'
+    (record h { disk = record h.disk { failing = h.disk.failing ++ call ∷ [] } }) result ok err
     (own_told h h.clock (h.disk.failing ++ call ∷ []) h.disk.stop) (none_told h)
 
 -- ---- calls that make none of the disk
@@ -103,9 +132,11 @@ disk_then a b c first second = record {
   calls = go_on_then (calls_of a.disk) (calls_of b.disk) (calls_of c.disk) first.calls second.calls;
 }
 
-pub clock_disk : (h h' : MemHostValue) (clock : Readings) (result : Result (Unit {0}) AllocError) → OnOk result (h' ≡ record h { clock = clock }) → OnErr result (h' ≡ h) → LeavesDisk h h'
+pub clock_disk : (h h' : MemHostValue) (clock : Readings) (result : Result (Unit {0}) AllocError)
+    → OnOk result (h' ≡ record h { clock = clock }) → OnErr result (h' ≡ h) → LeavesDisk h h'
 clock_disk h h' clock result ok err =
-    either (LeavesDisk h) h h' (record h { clock = clock }) result ok err (record { files = refl; made = refl; calls = go_on_none (calls_of h.disk) }) (disk_none h)
+    either (LeavesDisk h) h h' (record h { clock = clock }) result ok err
+    (record { files = refl; made = refl; calls = go_on_none (calls_of h.disk) }) (disk_none h)
 
 -- ---- a host that begins anew
 
@@ -119,10 +150,13 @@ calls_fresh h disk is =
     subst (λ (x : MemHostValue). CallsGoOn (calls_of disk) (calls_of x.disk)) (sym is)
     (record { same_start = refl; same_failing = refl; same_stop = refl; more = hosted ∷ []; grown = refl; later = omega arith })
 
-pub anew_disk : (h h' : MemHostValue) (result : Result (Unit {0}) AllocError) → OnOk result (h' ≡ fresh_host h.disk) → OnErr result (h' ≡ h) → LeavesDisk h h'
+pub anew_disk : (h h' : MemHostValue) (result : Result (Unit {0}) AllocError) → OnOk result
+    (h' ≡ fresh_host h.disk) → OnErr result (h' ≡ h) → LeavesDisk h h'
 anew_disk h h' result ok err =
     either (LeavesDisk h) h h' (fresh_host h.disk) result ok err (record {
-      files = ap (λ (k : Two KeptFile). Some (files_of k)) (hosted_same (both_kept h.disk.start) h.disk.calls);
+      files =
+          ap (λ (k : Two KeptFile). Some (files_of k))
+          (hosted_same (both_kept h.disk.start) h.disk.calls);
       made = refl;
       calls = calls_fresh (fresh_host h.disk) h.disk refl;
     }) (disk_none h)
@@ -130,14 +164,16 @@ anew_disk h h' result ok err =
 -- ---- a host over an image
 
 -- it begins anew over that image alone
-pub crash_only : (pick : Pick) (h h' : MemHostValue) (crashes : CrashesHost pick h h') → AfterCrash (λ left. crashes.disk.start ≡ left) (host_told h')
+pub crash_only : (pick : Pick) (h h' : MemHostValue) (crashes : CrashesHost pick h h') → AfterCrash
+    (λ left. crashes.disk.start ≡ left) (host_told h')
 crash_only pick h h' crashes = record {
   each = λ two is left image.
       let start = crashes.disk.start in
       let anew : h' ≡ fresh_host (fresh start) = crashes.anew ∙ ap fresh_host crashes.pictured.fresh in
       let only : Some (record { first = settled start.first; second = settled start.second }) ≡ Some two = sym (ap (λ (x : MemHostValue). (host_told x).files) anew) ∙ is in
       let same : record { first = settled start.first; second = settled start.second } ≡ two = cc in
-      sym (still_files (record { first = settled start.first; second = settled start.second }) left refl refl (subst (λ (t : Two File). IsImage t left) (sym same) image));
+      sym (still_files (record { first = settled start.first; second = settled start.second }) left
+      refl refl (subst (λ (t : Two File). IsImage t left) (sym same) image));
 }
 
 -- ---- links on which nothing was sent
@@ -169,7 +205,8 @@ quiet_dialled spec result o o' dials quiet = record {
   heard = λ link. (others_dial (suc link) spec result o.links o'.links dials).answers link (λ same. omega (arith, same)) ∙ quiet.heard link;
 }
 
-pub quiet_told : (o o' : Outside) → o'.links.told ≡ o.links.told → o'.links.heard ≡ o.links.heard → AreLinksQuiet o → AreLinksQuiet o'
+pub quiet_told : (o o' : Outside) → o'.links.told ≡ o.links.told → o'.links.heard ≡ o.links.heard
+    → AreLinksQuiet o → AreLinksQuiet o'
 quiet_told o o' told heard quiet = record {
   sent = λ link. ap (λ (t : Option (List ToldLink)). sent_at t link) told ∙ quiet.sent link;
   heard = λ link. ap (λ (t : Option (List HeardOn)). answers_at t link) heard ∙ quiet.heard link;
@@ -186,8 +223,11 @@ brings_same h h' link heard plan =
     ap (λ (l : List ℕ). l ++ planned_bytes (plans_of h'.scripts link)) (heard_of h h' link heard)
     ∙ ap (λ (p : List Planned). heard_bytes (answers_at (host_told h).links.heard link) ++ planned_bytes p) plan
 
-pub brings_on : (h h' : MemHostValue) (link : ℕ) → LeavesTold h h' → brought_on h' link ≡ brought_on h link
-brings_on h h' link leaves = brings_same h h' link leaves.same.heard (ap (λ (s : List (List Planned)). plans_of s link) leaves.scripts)
+pub brings_on : (h h' : MemHostValue) (link : ℕ) → LeavesTold h h'
+    → brought_on h' link ≡ brought_on h link
+brings_on h h' link leaves =
+    brings_same h h' link leaves.same.heard
+    (ap (λ (s : List (List Planned)). plans_of s link) leaves.scripts)
 
 -- where nothing is planned and nothing was heard, nothing is brought
 pub brings_none : (h : MemHostValue) (link : ℕ) → IsSilent h → AreLinksQuiet (host_told h) → brought_on h link ≡ []
@@ -207,34 +247,44 @@ pub silent_fresh : (h : MemHostValue) (disk : MemDiskValue) → h ≡ fresh_host
 silent_fresh h disk is = subst (λ (x : MemHostValue). IsSilent x) (sym is) (record { plans = λ link. no_plan LINKS link })
 
 -- the plans of links that stay so
-pub plans_linked : (h h' : MemHostValue) → (host_told h').links ≡ (host_told h).links → (link : ℕ) → plans_of h'.scripts link ≡ plans_of h.scripts link
+pub plans_linked : (h h' : MemHostValue) → (host_told h').links ≡ (host_told h).links → (link : ℕ)
+    → plans_of h'.scripts link ≡ plans_of h.scripts link
 plans_linked h h' same link =
     let both : Some (plans_of h'.scripts) ≡ Some (plans_of h.scripts) = ap (λ (l : Links). l.planned) same in
     let plans : plans_of h'.scripts ≡ plans_of h.scripts = cc in
     ap (λ (p : ℕ → List Planned). p link) plans
 
 pub brings_linked : (h h' : MemHostValue) (link : ℕ) → (host_told h').links ≡ (host_told h).links → brought_on h' link ≡ brought_on h link
-brings_linked h h' link same = brings_same h h' link (ap (λ (l : Links). l.heard) same) (plans_linked h h' same link)
+brings_linked h h' link same =
+    brings_same h h' link (ap (λ (l : Links). l.heard) same) (plans_linked h h' same link)
 
 -- ---- a host that is anew
 
 -- it stays so while its links stay as they are
-pub anew_linked : (clock : ℕ) (h h' : MemHostValue) → (host_told h').links ≡ (host_told h).links → IsAnew clock h → IsAnew clock h'
+pub anew_linked : (clock : ℕ) (h h' : MemHostValue) → (host_told h').links ≡ (host_told h).links
+    → IsAnew clock h → IsAnew clock h'
 anew_linked clock h h' same anew =
-    let both : Some (upcoming_of h'.clock) ≡ Some (upcoming_of h.clock) = ap (λ (l : Links). l.upcoming) same in
+    let both : Some (upcoming_of h'.clock) ≡ Some (upcoming_of h.clock) =
+    ap (λ (l : Links). l.upcoming) same in
     let kept : upcoming_of h'.clock ≡ upcoming_of h.clock = cc in
     record {
       dialled = ap (λ (l : Links). l.dialled) same ∙ anew.dialled;
       silent = record { plans = λ link. plans_linked h h' same link ∙ anew.silent.plans link };
-      quiet = quiet_told (host_told h) (host_told h') (ap (λ (l : Links). l.told) same) (ap (λ (l : Links). l.heard) same) anew.quiet;
+      quiet = quiet_told (host_told h) (host_told h') (ap (λ (l : Links). l.told) same)
+          (ap (λ (l : Links). l.heard) same) anew.quiet;
       upcoming = kept ∙ anew.upcoming;
     }
 
 -- after all links were dialled and the clock was set
-pub anew_clocked : (clock : ℕ) (h0 h1 h2 : MemHostValue) → h1.scripts ≡ h0.scripts → LeavesTold h1 h2 → IsSilent h0 → links_made h1 ≡ LINKS → AreLinksQuiet (host_told h1) → upcoming_of h2.clock ≡ clock ∷ [] → IsAnew clock h2
+pub anew_clocked : (clock : ℕ) (h0 h1 h2 : MemHostValue) → h1.scripts ≡ h0.scripts
+    → LeavesTold h1 h2 → IsSilent h0 → links_made h1 ≡ LINKS → AreLinksQuiet (host_told h1)
+    → upcoming_of h2.clock ≡ clock ∷ [] → IsAnew clock h2
 anew_clocked clock h0 h1 h2 dialled set silent links quiet upcoming = record {
   dialled = set.same.dialled ∙ links;
-  silent = record { plans = λ link. ap (λ (s : List (List Planned)). plans_of s link) (set.scripts ∙ dialled) ∙ silent.plans link };
+  silent = record {
+    plans = λ link. ap (λ (s : List (List Planned)). plans_of s link) (set.scripts ∙ dialled)
+        ∙ silent.plans link;
+  };
   quiet = quiet_told (host_told h1) (host_told h2) set.same.told set.same.heard quiet;
   upcoming = upcoming;
 }

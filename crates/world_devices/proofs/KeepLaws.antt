@@ -1,7 +1,9 @@
--- What a crash may leave: files that stand for a journal that has something, over calls that look, settle or change nothing.
+-- What a crash may leave: files that stand for a journal that has something, over calls that look,
+-- settle or change nothing.
 use Rattle.std.proofs.Common.{◌≡◌, ℕ, ◌≤◌, List, refl, sym, ap, ◌∙◌, subst, arith, Some}
 use Rattle.std.proofs.lemmas.List.{ext_get_or}
-use Rattle.outside.specs.Files.{Two, File, IsFileImage, IsImage, NothingPending, read_files, settled}
+use Rattle.outside.specs.Files.{Two, File, IsFileImage, IsImage, NothingPending, read_files}
+use Rattle.outside.specs.Files.{settled}
 use Rattle.outside.specs.HostTold.{host_told}
 use Rattle.outside.specs.Links.{sent_of}
 use Rattle.outside.specs.MemDisk.{disk_files, files_of}
@@ -24,7 +26,8 @@ settled_only bytes left image =
     ext_get_or 0 left bytes (omega (arith, image.no_shorter, image.no_longer))
     (λ i below. image.kept i (omega (arith, image.no_shorter, image.no_longer)) refl)
 
-pub still_files : (two : Two File) (left : Two (List ℕ)) → NothingPending two 0 → NothingPending two 1 → IsImage two left → left ≡ read_files two
+pub still_files : (two : Two File) (left : Two (List ℕ)) → NothingPending two 0
+    → NothingPending two 1 → IsImage two left → left ≡ read_files two
 still_files two left first second image =
     let one = settled_only two.first.now left.first (subst (λ (f : File). IsFileImage f left.first) first image.first) in
     let other = settled_only two.second.now left.second (subst (λ (f : File). IsFileImage f left.second) second image.second) in
@@ -34,10 +37,12 @@ still_files two left first second image =
 
 module _ (Has : Two (List ℕ) → Type 0) where
   pub crash_same : (o o' : Outside) → o'.files ≡ o.files → AfterCrash Has o → AfterCrash Has o'
-  crash_same o o' same k = record { each = λ two is left image. k.each two (sym same ∙ is) left image }
+  crash_same o o' same k =
+      record { each = λ two is left image. k.each two (sym same ∙ is) left image }
 
   -- by what moments since are
-  pub crash_since : (o o' : Outside) → o.clock ≤ o'.clock → ((m : Moment) → o'.moments o.clock m → Has m.files) → AfterCrash Has o'
+  pub crash_since : (o o' : Outside) → o.clock ≤ o'.clock
+      → ((m : Moment) → o'.moments o.clock m → Has m.files) → AfterCrash Has o'
   crash_since o o' later by = record {
     each = λ two is left image.
         let m : Moment = record { files = left; sent = sent_of o'.links.told } in
@@ -45,30 +50,44 @@ module _ (Has : Two (List ℕ) → Type 0) where
   }
 
   -- what may be left after a look might have been left before
-  pub crash_looks : (h h' : MemHostValue) → AnyImage (host_told h) (host_told h') → AfterCrash Has (host_told h) → AfterCrash Has (host_told h')
+  pub crash_looks : (h h' : MemHostValue) → AnyImage (host_told h) (host_told h') → AfterCrash Has
+      (host_told h) → AfterCrash Has (host_told h')
   crash_looks h h' any k =
       let run = any (files_of (disk_files h.disk)) refl in
-      crash_since (host_told h) (host_told h') run.later (λ m w. k.each (files_of (disk_files h.disk)) refl m.files (run.each m w).image)
+      crash_since (host_told h) (host_told h') run.later (λ m w.
+      k.each (files_of (disk_files h.disk)) refl m.files (run.each m w).image)
 
-pub crash_so : (P Q : Two (List ℕ) → Type 0) (o : Outside) → ((left : Two (List ℕ)) → P left → Q left) → AfterCrash P o → AfterCrash Q o
+pub crash_so : (P Q : Two (List ℕ) → Type 0) (o : Outside)
+    → ((left : Two (List ℕ)) → P left → Q left) → AfterCrash P o → AfterCrash Q o
 crash_so P Q o so k = record { each = λ two is left image. so left (k.each two is left image) }
 
 -- files that are told are the ones that a host has
-pub same_files : (h : MemHostValue) (two : Two File) → (host_told h).files ≡ Some two → files_of (disk_files h.disk) ≡ two
+pub same_files : (h : MemHostValue) (two : Two File) → (host_told h).files ≡ Some two
+    → files_of (disk_files h.disk) ≡ two
 same_files h two told = let both : Some (files_of (disk_files h.disk)) ≡ Some two = told in cc
 
 -- files that read as they stood, and that are still, hold the journal
-pub still_holds : (j : Journal) (h : MemHostValue) → stands bundle_meaning (read_files (files_of (disk_files h.disk))) ≡ journal j → IsStill h → HoldsAfterCrash j h
-still_holds j h stood still = record { each = λ two is left image. ap (stands bundle_meaning) (still.each two is left image) ∙ stood }
+pub still_holds : (j : Journal) (h : MemHostValue) → stands bundle_meaning
+    (read_files (files_of (disk_files h.disk))) ≡ journal j → IsStill h → HoldsAfterCrash j h
+still_holds j h stood still =
+    record {
+      each = λ two is left image. ap (stands bundle_meaning) (still.each two is left image) ∙ stood;
+    }
 
 -- ---- journals
 
 module _ (P : Journal → Type 0) where
-  pub holds_some : (j : Journal) (h : MemHostValue) → P j → HoldsAfterCrash j h → LeavesSome P (host_told h)
-  holds_some j h has holds = record { each = λ two is left image. record { whole = j; has = has; stands_for = holds.each two is left image } }
+  pub holds_some : (j : Journal) (h : MemHostValue) → P j → HoldsAfterCrash j h → LeavesSome P
+      (host_told h)
+  holds_some j h has holds =
+      record {
+        each = λ two is left image.
+            record { whole = j; has = has; stands_for = holds.each two is left image };
+      }
 
   -- a journal that the disk fits has it
-  pub fits_some : (j : Journal) (o : Outside) (s : StoreValue) (two : Two File) → o.files ≡ Some two → LeavesSome P o → FitsFiles bundle_meaning s j two → P j
+  pub fits_some : (j : Journal) (o : Outside) (s : StoreValue) (two : Two File) → o.files ≡ Some two
+      → LeavesSome P o → FitsFiles bundle_meaning s j two → P j
   fits_some j o s two is k fits =
       let reads = k.each two is (read_files two) (o.reads two is) in
       let both : journal reads.whole ≡ journal j = sym reads.stands_for ∙ fits.stands_for in
@@ -76,12 +95,16 @@ module _ (P : Journal → Type 0) where
       subst P same reads.has
 
   -- what calls of a store lead to a crash may leave
-  pub leads_leave : (Q : Journal → Type 0) (s : StoreValue) (o o' : Outside) → LeadsTo bundle_meaning P Q s o o' → LeavesSome P o'
+  pub leads_leave : (Q : Journal → Type 0) (s : StoreValue) (o o' : Outside)
+      → LeadsTo bundle_meaning P Q s o o' → LeavesSome P o'
   leads_leave Q s o o' leads =
       crash_since (StandsForSome P) o o' leads.moments.later (λ m w.
       let at = leads.moments.each m w in
       record { whole = at.whole; has = at.has; stands_for = at.stands_for })
 
 -- the journal that files hold is that which the disk fits
-pub holds_fits : (s : StoreValue) (j j0 : Journal) (h : MemHostValue) → HoldsAfterCrash j h → FitsFiles bundle_meaning s j0 (files_of (disk_files h.disk)) → j0 ≡ j
-holds_fits s j j0 h holds fits = fits_some (λ (k : Journal). k ≡ j) j0 (host_told h) s (files_of (disk_files h.disk)) refl (holds_some (λ (k : Journal). k ≡ j) j h refl holds) fits
+pub holds_fits : (s : StoreValue) (j j0 : Journal) (h : MemHostValue) → HoldsAfterCrash j h
+    → FitsFiles bundle_meaning s j0 (files_of (disk_files h.disk)) → j0 ≡ j
+holds_fits s j j0 h holds fits =
+    fits_some (λ (k : Journal). k ≡ j) j0 (host_told h) s (files_of (disk_files h.disk)) refl
+    (holds_some (λ (k : Journal). k ≡ j) j h refl holds) fits

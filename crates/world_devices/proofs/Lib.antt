@@ -1,6 +1,5 @@
 pub mod BroughtLaws
 pub mod AllowedLaws
-pub mod PlainLaws
 pub mod KeepLaws
 pub mod LeaveLaws
 pub mod HostLaws

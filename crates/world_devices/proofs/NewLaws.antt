@@ -38,10 +38,12 @@ bare_of done s none are =
     let f : s.state.facts ≡ facts [] = sym are ∙ ap facts none in
     record { empty = ap (λ (g : Facts). g.held) f; counted = ap (λ (g : Facts). g.contacts) f }
 
-pub bare_loaded : (h : MemHostValue) (s : StoreValue) → HoldsAfterCrash [] h → StandsFor bundle_meaning (read_files (files_of (disk_files h.disk))) s → IsBare 0 s
+pub bare_loaded : (h : MemHostValue) (s : StoreValue) → HoldsAfterCrash [] h
+    → StandsFor bundle_meaning (read_files (files_of (disk_files h.disk))) s → IsBare 0 s
 bare_loaded h s holds so =
     let two = files_of (disk_files h.disk) in
-    let is : stands bundle_meaning (read_files two) ≡ journal [] = holds.each two refl (read_files two) ((host_told h).reads two refl) in
+    let is : stands bundle_meaning (read_files two) ≡ journal [] =
+    holds.each two refl (read_files two) ((host_told h).reads two refl) in
     let both : journal so.done ≡ journal [] = sym so.stands_for ∙ is in
     let none : so.done ≡ [] = cc in
     bare_of so.done s none so.facts_are
@@ -65,7 +67,10 @@ new_device contacts (Some n) d is run bare holds unlinked anew unstopped =
     record {
       runs = ap is_some is;
       holds = holds;
-      legal = subst (Legal bundle_meaning) (holds_fits n.store (new_journal contacts) has.whole d.host holds has.fits) has.fits.legal;
+      legal =
+          subst (Legal bundle_meaning)
+          (holds_fits n.store (new_journal contacts) has.whole d.host holds has.fits)
+          has.fits.legal;
       unlinked = unlinked;
       clock_is = refl;
       anew = anew;
@@ -89,7 +94,8 @@ all_settled clients f (b ∷ bs) none settling = absurd (none_settles clients f 
 -- of a device that was started over empty files
 pub begun_journal : (h : MemHostValue) → SettlesFrom [] h → HoldsAfterCrash (new_journal 0) h
 begun_journal h from =
-    let is : from.whole ≡ [] = from.has.is ∙ all_settled bundle_meaning (facts []) from.has.more refl from.has.settling in
+    let is : from.whole ≡ [] =
+    from.has.is ∙ all_settled bundle_meaning (facts []) from.has.more refl from.has.settling in
     subst (λ (j : List (List Entry)). HoldsAfterCrash j h) is from.holds
 
 answered : (b : Bool) (number known : ℕ) → Ok number ≡ (if b then Ok known else Err refused.TooManyContacts) → number ≡ known
@@ -107,9 +113,15 @@ pub new_journal_kept : (contacts number : ℕ) (r : Result Ran StepFault) (old n
     → WhenDone r (HoldsAfterCrash (new_journal (contacts + 1)) new.host)
 new_journal_kept contacts number (Ok ran.Done) old new is adds holds =
     let added = adds.1.0 (new_journal contacts) holds in
-    let none : added.has.more ≡ [] = all_settled bundle_meaning (after_all (facts (new_journal contacts)) (entry.Contact number ∷ [])) added.has.more (new_holds contacts) added.has.settling in
+    let none : added.has.more ≡ [] =
+    all_settled bundle_meaning
+    (after_all (facts (new_journal contacts)) (entry.Contact number ∷ [])) added.has.more
+    (new_holds contacts) added.has.settling in
     let whole : added.whole ≡ new_journal contacts ++ ((entry.Contact contacts ∷ []) ∷ []) =
-    added.has.is ∙ (ap (λ (more : List (List Entry)). new_journal contacts ++ ((entry.Contact number ∷ []) ∷ more)) none ∙ ap (λ (k : ℕ). new_journal contacts ++ ((entry.Contact k ∷ []) ∷ [])) is) in
+    added.has.is
+    ∙ (ap (λ (more : List (List Entry)).
+    new_journal contacts ++ ((entry.Contact number ∷ []) ∷ more)) none
+    ∙ ap (λ (k : ℕ). new_journal contacts ++ ((entry.Contact k ∷ []) ∷ [])) is) in
     let one_more : suc contacts ≡ contacts + 1 = omega arith in
     subst (λ (k : ℕ). HoldsAfterCrash (new_journal k) new.host) one_more (subst (λ (j : List (List Entry)). HoldsAfterCrash j new.host) whole added.holds)
 new_journal_kept contacts number (Ok ran.Crashed) old new is adds holds = tt

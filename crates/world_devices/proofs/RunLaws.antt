@@ -55,17 +55,19 @@ use Rattle.sync_node.specs.declared.link.Link.{Link}
 use Rattle.sync_node.proofs.DidLaws.{front_shift}
 use Rattle.sync_node.proofs.SentLaws.{from_at}
 use Rattle.world_devices.specs.Cited.{MomentsStand, WholeIsSent}
-use Rattle.world_devices.specs.Keeping.{AreLinksQuiet, IsRunSoFar, Journal, KeepsOn, LeavesSome, StandsForSome, TellsSame, WentOn, node_place}
+use Rattle.world_devices.specs.Keeping.{AreLinksQuiet, IsRunSoFar, Journal, KeepsOn, LeavesSome}
+use Rattle.world_devices.specs.Keeping.{StandsForSome, TellsSame, WentOn, node_place}
 use Rattle.world_devices.specs.Running.{WentHearing}
 use Rattle.sync_course.proofs.HeardLaws.{bytes_of, events_tell, free_path_adds}
 use Rattle.world_devices.proofs.KeepLaws.{crash_since, fits_some}
-use Rattle.world_devices.proofs.LeaveLaws.{all_suit, hears_on}
-use Rattle.world_devices.proofs.PlainLaws.{node_plain, went_then}
+use Rattle.world_devices.proofs.LeaveLaws.{all_suit, hears_on, node_plain, went_then}
 
 -- ---- a node that begins, and one of which the same is told
 
 -- over a store, on a host on which nothing was sent or heard
-pub run_begun : (n : NodeValue) (s : StoreValue) (o : Outside) (two : Two File) → o.files ≡ Some two → (j0 : Journal) → FitsFiles bundle_meaning s j0 two → n ≡ record { store = s; first = s.state.facts.begun; links = []; closed = false }
+pub run_begun : (n : NodeValue) (s : StoreValue) (o : Outside) (two : Two File) → o.files ≡ Some two
+    → (j0 : Journal) → FitsFiles bundle_meaning s j0 two
+    → n ≡ record { store = s; first = s.state.facts.begun; links = []; closed = false }
     → AreLinksQuiet o → IsRunSoFar n o
 run_begun n s o two told j0 fits is quiet =
     let P : NodeValue → Type 0 = λ m. IsRunSoFar m o in
@@ -77,7 +79,12 @@ run_begun n s o two told j0 fits is quiet =
       path = ap (λ (f : Facts). paid (first_free f)) (sym fits.facts_are);
       has_read = λ link l there. cc;
       sent = quiet.sent;
-      fits = (two, told, subst (λ (k : Journal). FitsFiles bundle_meaning s k two) (sym (append-nil j0)) fits);
+      fits = (
+        two,
+        told,
+        subst (λ (k : Journal). FitsFiles bundle_meaning s k two)
+            (sym (append-nil j0)) fits,
+      );
     })
 
 pub run_on : (n : NodeValue) (o o' : Outside) → TellsSame o o' → IsRunSoFar n o → IsRunSoFar n o'
@@ -225,7 +232,8 @@ module _ (stand : MomentsStand) (n : NodeValue) (o o' : Outside) (told : TellsAl
 
   stands_behind : (m : Moment) → AtFront bundle_meaning now_done so_far (sent_on o.links) m → StandsBehind (facts run.begin).begun plans (heard_at did.to.at) so_far m.files
   stands_behind m at =
-      let front = front_shift bundle_meaning run.acts now_done run.begin (λ link. []) (sent_on o.links) m run.sent at in
+      let front = front_shift bundle_meaning run.acts now_done run.begin (λ link.
+      []) (sent_on o.links) m run.sent at in
       let st = stand bundle_meaning run.begin (run.acts ++ now_done) did.to m run.legal (whole_path n o run now_done did.to did.path) front in
       let both : journal (run.begin ++ st.more) ≡ journal (so_far ++ batches_in at.before) = sym st.stands_for ∙ at.stands_for in
       let whole : run.begin ++ st.more ≡ so_far ++ batches_in at.before = cc in
@@ -254,7 +262,9 @@ module _ (stand : MomentsStand) (n : NodeValue) (o o' : Outside) (told : TellsAl
 
   -- a journal has what it had before, if the batches of a node keep that
   call_leaves : (P : Journal → Type 0)
-      → ((more : Journal) → AllSuitNode bundle_meaning (facts run.begin).begun plans (heard_at did.to.at) (facts so_far) more → P so_far → P (so_far ++ more))
+      → ((more : Journal)
+      → AllSuitNode bundle_meaning (facts run.begin).begun plans (heard_at did.to.at)
+      (facts so_far) more → P so_far → P (so_far ++ more))
       → LeavesSome P o → LeavesSome P o'
   call_leaves P keeps k =
       crash_since (StandsForSome P) o o' since.later (λ m w.
@@ -262,7 +272,9 @@ module _ (stand : MomentsStand) (n : NodeValue) (o o' : Outside) (told : TellsAl
         | inl image ↦ k.each run.fits.0 run.fits.1 m.files image
         | inr b ↦ record {
           whole = so_far ++ b.more;
-          has = keeps b.more b.suits (fits_some P so_far o n.store run.fits.0 run.fits.1 k run.fits.2);
+          has =
+              keeps b.more b.suits
+              (fits_some P so_far o n.store run.fits.0 run.fits.1 k run.fits.2);
           stands_for = b.stands_for;
         }
       ])
@@ -271,7 +283,13 @@ module _ (stand : MomentsStand) (n : NodeValue) (o o' : Outside) (told : TellsAl
   pub call_keeps : KeepsOn o o'
   call_keeps j =
       call_leaves (WentOn j) (λ more suits went.
-      went_then j so_far (so_far ++ more) went (record { more = more; plain = node_plain (facts run.begin).begun plans (heard_at did.to.at) (facts so_far) more suits; is = refl }))
+      went_then j so_far (so_far ++ more) went
+      (record {
+        more = more;
+        plain = node_plain (facts run.begin).begun plans (heard_at did.to.at) (facts so_far)
+            more suits;
+        is = refl;
+      }))
 
   -- and takes what was heard on the links
   pub call_takes : (heard : ℕ → List Record) (j : Journal)
@@ -279,9 +297,11 @@ module _ (stand : MomentsStand) (n : NodeValue) (o o' : Outside) (told : TellsAl
       → LeavesSome (WentHearing heard j) o → LeavesSome (WentHearing heard j) o'
   call_takes heard j takes =
       call_leaves (WentHearing heard j) (λ more suits went.
-      hears_on heard j so_far more went (node_plain (facts run.begin).begun plans (heard_at did.to.at) (facts so_far) more suits)
+      hears_on heard j so_far more went
+      (node_plain (facts run.begin).begun plans (heard_at did.to.at) (facts so_far) more suits)
       (all_suit heard (facts run.begin).begun plans (heard_at did.to.at)
-      (λ session link r on. takes session link r (on ∙ ap (λ (first : ℕ). first + link) run.first)) (facts so_far) more suits))
+      (λ session link r on. takes session link r (on ∙ ap (λ (first : ℕ). first + link) run.first))
+      (facts so_far) more suits))
 
 -- ---- what was heard
 

@@ -1,5 +1,6 @@
 -- What keeps a device running.
-use Rattle.std.proofs.Common.{◌≡◌, ℕ, ◌<◌, ◌≤◌, false, List, [], ◌∷◌, ◌++◌, length, refl, sym, ◌∙◌, subst, arith, Option, Some, None, Ok}
+use Rattle.std.proofs.Common.{◌≡◌, ℕ, ◌<◌, ◌≤◌, false, List, [], ◌∷◌, ◌++◌, length, refl, sym, ◌∙◌}
+use Rattle.std.proofs.Common.{subst, arith, Option, Some, None, Ok}
 use Rattle.outside.specs.Files.{Two, File}
 use Rattle.outside.specs.Outside.{Outside}
 use Rattle.outside.specs.HostTold.{host_told}
@@ -24,12 +25,15 @@ use Rattle.sync_node.specs.Node.{IsNode, NodeValue, MayRun}
 use Rattle.sync_node.specs.Output.{heard_on}
 use Rattle.world_laws.specs.Worlds.{HasNoBrief}
 use Rattle.world_devices.specs.Brought.{brought_on}
-use Rattle.world_devices.specs.Devices.{IsAnew, IsDevice, IsReadyStore, IsRunning, IsStarted, MayAddEntry, MayBeRunning}
-use Rattle.world_devices.specs.Keeping.{Journal, HoldsLaterJournal, StandsForSome, TellsSame, WentOn}
-use Rattle.world_devices.proofs.AllowedLaws.{contact_allowed, group_allowed, level_allowed, author_allowed}
+use Rattle.world_devices.specs.Devices.{IsAnew, IsDevice, IsReadyStore, IsRunning, IsStarted}
+use Rattle.world_devices.specs.Devices.{MayAddEntry, MayBeRunning}
+use Rattle.world_devices.specs.Keeping.{Journal, HoldsLaterJournal, StandsForSome, TellsSame}
+use Rattle.world_devices.specs.Keeping.{WentOn}
+use Rattle.world_devices.proofs.LeaveLaws.{few_begun}
+use Rattle.world_devices.proofs.AllowedLaws.{contact_allowed, group_allowed, level_allowed}
+use Rattle.world_devices.proofs.AllowedLaws.{author_allowed}
 use Rattle.world_devices.proofs.HostLaws.{LeavesTold, brings_none, brings_on, told_host}
 use Rattle.world_devices.proofs.KeepLaws.{crash_same, fits_some}
-use Rattle.world_devices.proofs.PlainLaws.{few_begun}
 use Rattle.world_devices.proofs.RunLaws.{CallEnds, run_after, run_begun, run_on}
 
 -- over the same files, with as many links at least, a node may go on
@@ -64,12 +68,18 @@ maybe_on : (o : Option NodeValue) (h h' : MemHostValue) (links : ℕ) → TellsS
 maybe_on None h h' links same brings running = tt
 maybe_on (Some n) h h' links same brings running = running_on n h h' links same brings running
 
-pub device_on : (o : Option NodeValue) (h h' : MemHostValue) (links : ℕ) → TellsSame (host_told h) (host_told h') → BringsSame links h h' → IsDevice o h links → IsDevice o h' links
-device_on o h h' links same brings device =
-    (maybe_on o h h' links same brings device.0, crash_same (StandsForSome (WentOn [])) (host_told h) (host_told h') same.files device.1, device.2)
+pub device_on : (o : Option NodeValue) (h h' : MemHostValue) (links : ℕ) → TellsSame (host_told h)
+    (host_told h') → BringsSame links h h' → IsDevice o h links → IsDevice o h' links
+device_on o h h' links same brings device = (
+  maybe_on o h h' links same brings device.0,
+  crash_same (StandsForSome (WentOn [])) (host_told h) (host_told h') same.files device.1,
+  device.2,
+)
 
-pub device_told : (o : Option NodeValue) (h h' : MemHostValue) (links : ℕ) → LeavesTold h h' → IsDevice o h links → IsDevice o h' links
-device_told o h h' links leaves device = device_on o h h' links leaves.same (λ link _. brings_on h h' link leaves) device
+pub device_told : (o : Option NodeValue) (h h' : MemHostValue) (links : ℕ) → LeavesTold h h'
+    → IsDevice o h links → IsDevice o h' links
+device_told o h h' links leaves device =
+    device_on o h h' links leaves.same (λ link _. brings_on h h' link leaves) device
 
 pub running_of : (o : Option NodeValue) (n : NodeValue) (h : MemHostValue) (links : ℕ) → o ≡ Some n → MayBeRunning o h links → IsRunning n h links
 running_of o n h links is running = subst (λ (x : Option NodeValue). MayBeRunning x h links) is running
@@ -79,37 +89,54 @@ pub record HasJournal (s : StoreValue) (h : MemHostValue) : Type 0 where
   pub whole : Journal
   pub fits : FitsFiles bundle_meaning s whole (files_of (disk_files h.disk))
 
-pub journal_of : (s : StoreValue) (h : MemHostValue) → IsReady bundle_meaning s (host_told h).files → HasJournal s h
-journal_of s h ready = let fit = ready.fits (files_of (disk_files h.disk)) refl in record { whole = fit.0; fits = fit.1 }
+pub journal_of : (s : StoreValue) (h : MemHostValue) → IsReady bundle_meaning s (host_told h).files
+    → HasJournal s h
+journal_of s h ready = let fit =
+    ready.fits (files_of (disk_files h.disk)) refl in record { whole = fit.0; fits = fit.1 }
 
 pub open_of : (n : NodeValue) (h : MemHostValue) (links : ℕ) → IsRunning n h links → IsReady bundle_meaning n.store (host_told h).files
 open_of n h links running = (running.may running.unclosed).ready
 
 -- fewer sessions of a device that runs have begun than one may have
-pub begun_few : (n : NodeValue) (h : MemHostValue) (links : ℕ) → IsStore n.store → HoldsLaterJournal [] (host_told h) → IsRunning n h links → n.store.state.facts.begun < MAX_SESSIONS
+pub begun_few : (n : NodeValue) (h : MemHostValue) (links : ℕ) → IsStore n.store
+    → HoldsLaterJournal [] (host_told h) → IsRunning n h links
+    → n.store.state.facts.begun < MAX_SESSIONS
 begun_few n h links store keeps running =
     let has = journal_of n.store h (open_of n h links running) in
-    let went = fits_some (WentOn []) has.whole (host_told h) n.store (files_of (disk_files h.disk)) refl keeps has.fits in
-    few_begun n.store has.whole store has.fits.facts_are has.fits.legal (subst HasNoBrief (sym went.is) went.plain)
+    let went = fits_some (WentOn []) has.whole (host_told h) n.store (files_of (disk_files h.disk))
+    refl keeps has.fits in
+    few_begun n.store has.whole store has.fits.facts_are has.fits.legal
+    (subst HasNoBrief (sym went.is) went.plain)
 
 -- on every link the same is brought
 abbrev pub BringsAll : MemHostValue → MemHostValue → Type 0
 BringsAll h h' = (link : ℕ) → brought_on h' link ≡ brought_on h link
 
 -- a node over a store that was loaded and settled
-pub begins_running : (n : NodeValue) (s : StoreValue) (clock : ℕ) (h : MemHostValue) → n ≡ record { store = s; first = s.state.facts.begun; links = []; closed = false }
+pub begins_running : (n : NodeValue) (s : StoreValue) (clock : ℕ) (h : MemHostValue)
+    → n ≡ record { store = s; first = s.state.facts.begun; links = []; closed = false }
     → IsStarted s h → IsAnew clock h → IsRunning n h 0
 begins_running n s clock h is started anew =
     let P : NodeValue → Type 0 = λ m. IsRunning m h 0 in
     let has = journal_of s h started.ready in
     subst P (sym is) (record {
       unclosed = refl;
-      runs = run_begun (record { store = s; first = s.state.facts.begun; links = []; closed = false }) s (host_told h) (files_of (disk_files h.disk)) refl has.whole has.fits refl anew.quiet;
-      may = λ _. record { ready = started.ready; settled = λ _. started.settled; dialled = omega (arith) };
+      runs =
+          run_begun (record { store = s; first = s.state.facts.begun; links = []; closed = false })
+          s (host_told h) (files_of (disk_files h.disk)) refl has.whole has.fits refl
+          anew.quiet;
+      may = λ _. record {
+        ready = started.ready;
+        settled = λ _. started.settled;
+        dialled = omega (arith);
+      };
       limit = started.limit;
       linked = refl;
       dialled = omega (arith, anew.dialled);
-      attached = record { few = omega arith; attached = λ _. record { begun = omega arith; each = λ number l there. cc } };
+      attached = record {
+        few = omega arith;
+        attached = λ _. record { begun = omega arith; each = λ number l there. cc };
+      };
       unused = λ link _. brings_none h link anew.silent anew.quiet;
     })
 

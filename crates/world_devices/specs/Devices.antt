@@ -16,7 +16,7 @@ use Rattle.sync_store.specs.Ready.{IsReady}
 use Rattle.sync_node.specs.Adding.{IsPlain}
 use Rattle.sync_node.specs.Node.{IsNode, NodeValue, node_code, MayRun}
 use Rattle.world_devices.specs.Brought.{IsSilent, brought_on}
-use Rattle.world_devices.specs.Keeping.{AreLinksQuiet, IsRunSoFar, HoldsLaterJournal, KeepsOn}
+use Rattle.world_devices.specs.Keeping.{AreLinksQuiet, IsRunSoFar, HoldsLaterJournal}
 use Rattle.world_devices.specs.declared.stop.Stop.{Stop}
 use Rattle.world_devices.specs.contracts.stop.Stop as stop
 
@@ -84,10 +84,6 @@ MayBeRunning (Some n) host links = IsRunning n host links
 -- and it has had no more links than it may get.
 abbrev pub IsDevice : Option NodeValue → MemHostValue → ℕ → Type 0
 IsDevice node host links = MayBeRunning node host links × HoldsLaterJournal [] (host_told host) × (links ≤ LINKS)
-
--- a call of a device: whatever a crash may leave then stands for a journal that goes on from each that it went on from before
-abbrev pub DeviceKeeps : DeviceValue → DeviceValue → Type 0
-DeviceKeeps old new = KeepsOn (host_told old.host) (host_told new.host)
 
 -- where the device runs and its node is open, an entry may follow its journal, and it is none of a session
 pub record MayAddTo (n : NodeValue) (e : Entry) : Type 0 where

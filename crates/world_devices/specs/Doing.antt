@@ -1,5 +1,8 @@
--- What calls of a device do: the entry that stands in its journal, a turn, and where a stop of its disk leads.
-use Rattle.std.specs.Prelude.{◌≡◌, ◌≢◌, ◌⊎◌, ℕ, ◌+◌, ◌*◌, ◌<◌, ◌≤◌, ◌^◌, Bool, false, slice_get, if◌then◌else◌, nat_lt, List, [], ◌∷◌, ◌++◌, length, Option, Some, None, Result, Ok, Err}
+-- What calls of a device do: the entry that stands in its journal, a turn, and where a stop of its
+-- disk leads.
+use Rattle.std.specs.Prelude.{◌≡◌, ◌≢◌, ◌⊎◌, ℕ, ◌+◌, ◌*◌, ◌<◌, ◌≤◌, ◌^◌, Bool, false, slice_get}
+use Rattle.std.specs.Prelude.{if◌then◌else◌, nat_lt, List, [], ◌∷◌, ◌++◌, length, Option, Some}
+use Rattle.std.specs.Prelude.{None, Result, Ok, Err}
 use Rattle.std.specs.Option.{option_map}
 use Rattle.outside.specs.Files.{Two, IsImage}
 use Rattle.outside.specs.HostTold.{host_told}
@@ -25,7 +28,8 @@ use Rattle.sync_node.specs.Adding.{AddsAtMost, AddsOne, AddsWithin, GoesOnSettli
 use Rattle.sync_course.specs.Links as course_links
 use Rattle.sync_course.specs.Turns.{Attaches, Between, Place, Terms, is_at_end}
 use Rattle.sync_course.specs.declared.ends.LinkEnd.TheVariants as link_end
-use Rattle.sync_node.specs.Courses.{AllRead, BreaksBeginning, BreaksTurn, MakesTurn, RunRuns, place_at}
+use Rattle.sync_node.specs.Courses.{AllRead, BreaksBeginning, BreaksTurn, MakesTurn, RunRuns}
+use Rattle.sync_node.specs.Courses.{place_at}
 use Rattle.sync_node.specs.Fulls.{RunFull}
 use Rattle.sync_node.specs.Node.{NodeValue}
 use Rattle.sync_node.specs.Output.{output, sent_on}
@@ -57,7 +61,8 @@ pub record KeepsOwn (old new : DeviceValue) : Type 0 where
 
 -- ---- a device that starts again
 
--- whatever a crash leaves of the files of a host stands for one journal that has this, which is settled
+-- whatever a crash leaves of the files of a host stands for one journal that has this, which is
+-- settled
 pub record HoldsSettled (Has : Journal → Type 0) (host : MemHostValue) : Type 0 where
   pub whole : Journal
   pub has : Has whole
@@ -72,13 +77,15 @@ SettlesFrom j host = HoldsSettled (GoesOnSettling bundle_meaning j) host
 pub record ComesOfImage (at : MemHostValue) (files : Two (List ℕ)) : Type 0 where
   pub before : Two (List ℕ)
   pub image : IsImage (files_of (disk_files at.disk)) before
-  pub settles : (j : Journal) → stands bundle_meaning before ≡ journal j → StandsForSome (GoesOnSettling bundle_meaning j) files
+  pub settles : (j : Journal) → stands bundle_meaning before ≡ journal j → StandsForSome
+      (GoesOnSettling bundle_meaning j) files
 
 -- so is whatever a crash leaves of the files of another host
 abbrev pub ComesOf : MemHostValue → MemHostValue → Type 0
 ComesOf at host = AfterCrash (ComesOfImage at) (host_told host)
 
--- Settling behind this journal came there by no more than so many calls of the disk, and four for each of some settling batches.
+-- Settling behind this journal came there by no more than so many calls of the disk, and four for
+-- each of some settling batches.
 pub record SettlesWithin (calls : ℕ) (j : Journal) (old new : Outside) : Type 0 where
   pub more : Journal
   pub settling : AllSettling bundle_meaning (facts j) more
@@ -88,12 +95,14 @@ pub record SettlesWithin (calls : ℕ) (j : Journal) (old new : Outside) : Type 
 abbrev pub load_calls : Journal → ℕ
 load_calls j = 2 * length j + 7
 
--- A host was settled as far as that had come: behind its calls of before no more were made of its disk than that takes, and a
--- crash may leave what it might have left before, or what came of that by settling.
+-- A host was settled as far as that had come: behind its calls of before no more were made of its
+-- disk than that takes, and a crash may leave what it might have left before, or what came of that
+-- by settling.
 pub record Settles (most : Journal → ℕ) (old new : MemHostValue) : Type 0 where
   pub calls : HostGoesOn old new
   pub left : ComesOf old new
-  pub within : (j : Journal) → HoldsAfterCrash j old → SettlesWithin (most j) j (host_told old) (host_told new)
+  pub within : (j : Journal) → HoldsAfterCrash j old → SettlesWithin (most j) j (host_told old)
+      (host_told new)
 
 -- A device was started again over this image of the files of a host: what the image stands for was settled. It has no links, and
 -- no stop is left.
@@ -135,15 +144,17 @@ GivesUpIn Broken old new = (new ≡ old) ⊎ GivesUp Broken old new
 
 -- ---- a call of its node
 
--- What came of it: it was done, with this answer, or the journal is full. Or it was broken off by the stop of the disk, or for want
--- of memory, where it may have been done too.
-abbrev pub DeviceCalls : {A : Type 0} → (Done : A → Type 0) → (Broken : MemHostValue → Type 0) → (Full : Type 0)
+-- What came of it: it was done, with this answer, or the journal is full. Or it was broken off by
+-- the stop of the disk, or for want of memory, where it may have been done too.
+abbrev pub DeviceCalls : {A : Type 0} → (Done : A → Type 0) → (Broken : MemHostValue → Type 0)
+    → (Full : Type 0)
     → Result (Option A) StepFault → DeviceValue → DeviceValue → Type 0
 DeviceCalls Done Broken Full (Ok (Some a)) old new = KeepsOwn old new × Done a
 DeviceCalls Done Broken Full (Ok None) old new = StopsIn Broken old new
 DeviceCalls Done Broken Full (Err fault.Refused) old new = new ≡ old
 DeviceCalls Done Broken Full (Err fault.Full) old new = Full
-DeviceCalls {A} Done Broken Full (Err fault.Memory) old new = GivesUpIn Broken old new ⊎ (HostGoesOn old.host new.host × ((a : A) × Done a))
+DeviceCalls {A} Done Broken Full (Err fault.Memory) old new =
+    GivesUpIn Broken old new ⊎ (HostGoesOn old.host new.host × ((a : A) × Done a))
 
 -- ---- an entry
 
@@ -166,11 +177,13 @@ pub record KeepsRest (old new : DeviceValue) : Type 0 where
   pub node : option_map (λ (n : NodeValue). n.links) new.node ≡ option_map (λ (n : NodeValue). n.links) old.node
   pub told : (host_told new.host).links ≡ (host_told old.host).links
 
--- Adding it came there: at most the entry, with settling behind it, stands in a journal that was held, and no more calls of the disk
--- were made than four for its batch and for each settling batch.
+-- Adding it came there: at most the entry, with settling behind it, stands in a journal that was
+-- held, and no more calls of the disk were made than four for its batch and for each settling
+-- batch.
 abbrev pub CameAdding : Entry → Option NodeValue → MemHostValue → MemHostValue → Type 0
 CameAdding e node h at =
-    ((j : Journal) → HoldsAfterCrash j h → LeavesSome (AddsAtMost bundle_meaning j (e ∷ [])) (host_told at))
+    ((j : Journal) → HoldsAfterCrash j h
+    → LeavesSome (AddsAtMost bundle_meaning j (e ∷ [])) (host_told at))
     × OfNode (λ n. AddsWithin bundle_meaning (e ∷ []) n.store (host_told h) (host_told at)) node
 
 -- a call that answers Done, or that it crashed
@@ -179,52 +192,73 @@ if_done (Ok ran.Done) = Ok (Some tt)
 if_done (Ok ran.Crashed) = Ok None
 if_done (Err e) = Err e
 
--- An entry is added: it stands in the journal, with settling behind it, and nothing else was done. Where the stop fell in it, at
--- most that stood in the files when the disk failed; so it is where it found no memory. It is full where the journal would pass
--- its limit, and then its host is as before.
+-- An entry is added: it stands in the journal, with settling behind it, and nothing else was done.
+-- Where the stop fell in it, at most that stood in the files when the disk failed; so it is where
+-- it found no memory. It is full where the journal would pass its limit, and then its host is as
+-- before.
 abbrev pub DeviceAddsEntry : Entry → Result Ran StepFault → DeviceValue → DeviceValue → Type 0
 DeviceAddsEntry e r old new =
-    DeviceCalls (λ done. ((j : Journal) → HoldsAfterCrash j old.host → HoldsSettled (AddsOne bundle_meaning j (e ∷ [])) new.host) × KeepsRest old new)
-    (CameAdding e old.node old.host) (EntryPassesLimit e old.node × (new.host ≡ old.host)) (if_done r) old new
+    DeviceCalls (λ done. ((j : Journal) → HoldsAfterCrash j old.host
+    → HoldsSettled (AddsOne bundle_meaning j (e ∷ [])) new.host) × KeepsRest old new)
+    (CameAdding e old.node old.host) (EntryPassesLimit e old.node × (new.host ≡ old.host))
+    (if_done r) old new
 
 -- ---- links
 
--- A call led from this place to one from which the next step commits a batch with which the journal would pass its limit; and each
--- link that has not failed there has sent all output of its session, by whatever journal fits the store then.
-pub record FullSent (terms : Terms) (p : Place) (n : NodeValue) (store : StoreValue) (h h' : MemHostValue) : Type 0 where
+-- A call led from this place to one from which the next step commits a batch with which the journal
+-- would pass its limit; and each link that has not failed there has sent all output of its session,
+-- by whatever journal fits the store then.
+pub record FullSent (terms : Terms) (p : Place) (n : NodeValue) (store : StoreValue)
+    (h h' : MemHostValue) : Type 0 where
   pub full : RunFull bundle_meaning terms p n.store store (host_told h) (host_told h')
-  pub sent : (i : ℕ) (l : course_links.Link) → slice_get full.to.links i ≡ Some l → l.stands ≢ link_end.Failed → (whole : Journal)
-      → FitsFiles bundle_meaning store whole (files_of (disk_files h'.disk)) → sent_on (host_told h').links i ≡ output whole (n.first + i)
+  pub sent : (i : ℕ) (l : course_links.Link) → slice_get full.to.links i ≡ Some l
+      → l.stands ≢ link_end.Failed → (whole : Journal)
+      → FitsFiles bundle_meaning store whole (files_of (disk_files h'.disk))
+      → sent_on (host_told h').links i ≡ output whole (n.first + i)
 
 -- the next session of a node, by its plan
 abbrev pub next_session : Plan → Option (List ℕ) → NodeValue → Session
 next_session plan its_nonce n = session_of n.store.state.facts.begun plan its_nonce
 
--- The next session began on the next link, on which nothing was heard, and greeted there, as a course has it; it stands in the
--- journal.
-pub record HasBegunOnLink (plan : Plan) (its_nonce : Option (List ℕ)) (session : ℕ) (h h' : MemHostValue) (n n' : NodeValue) : Type 0 where
+-- The next session began on the next link, on which nothing was heard, and greeted there, as a
+-- course has it; it stands in the journal.
+pub record HasBegunOnLink (plan : Plan) (its_nonce : Option (List ℕ)) (session : ℕ)
+    (h h' : MemHostValue) (n n' : NodeValue) : Type 0 where
   pub number : session ≡ n.store.state.facts.begun
   pub on_next : session ≡ n.first + length n.links
   pub same_first : n'.first ≡ n.first
-  pub has_read : (heard : ℕ → List ℕ) → heard (length n.links) ≡ [] → AllRead heard n.links → AllRead heard n'.links
-  pub runs : (terms : Terms) (left : List Session) (heard : ℕ → List ℕ) (moved : Bool) (still made : ℕ) → terms.first ≡ n.first → heard (length n.links) ≡ []
-      → RunRuns bundle_meaning terms (place_at (Attaches (next_session plan its_nonce n ∷ left)) n.links heard moved still made n.store.state.facts)
-      (place_at (Attaches left) n'.links heard moved still made n'.store.state.facts) n.store n'.store (host_told h) (host_told h')
-  pub facts_are : n'.store.state.facts ≡ after_all n.store.state.facts (entry.Session (next_session plan its_nonce n) ∷ [])
+  pub has_read : (heard : ℕ → List ℕ) → heard (length n.links) ≡ [] → AllRead heard n.links
+      → AllRead heard n'.links
+  pub runs : (terms : Terms) (left : List Session) (heard : ℕ → List ℕ) (moved : Bool)
+      (still made : ℕ) → terms.first ≡ n.first → heard (length n.links) ≡ []
+      → RunRuns bundle_meaning terms
+      (place_at (Attaches (next_session plan its_nonce n ∷ left)) n.links heard moved still made
+      n.store.state.facts)
+      (place_at (Attaches left) n'.links heard moved still made n'.store.state.facts) n.store
+      n'.store (host_told h) (host_told h')
+  pub facts_are : n'.store.state.facts ≡ after_all n.store.state.facts
+      (entry.Session (next_session plan its_nonce n) ∷ [])
 
 -- the session's batch, which was next, would pass the limit of the journal
-pub record FullAtBeginning (plan : Plan) (its_nonce : Option (List ℕ)) (h h' : MemHostValue) (n : NodeValue) : Type 0 where
+pub record FullAtBeginning (plan : Plan) (its_nonce : Option (List ℕ)) (h h' : MemHostValue)
+    (n : NodeValue) : Type 0 where
   pub store : StoreValue
   pub limit : store.limit ≡ n.store.limit
-  pub fills : (terms : Terms) (left : List Session) (heard : ℕ → List ℕ) (moved : Bool) (still made : ℕ)
-      → FullSent terms (place_at (Attaches (next_session plan its_nonce n ∷ left)) n.links heard moved still made n.store.state.facts) n store h h'
+  pub fills : (terms : Terms) (left : List Session) (heard : ℕ → List ℕ) (moved : Bool)
+      (still made : ℕ)
+      → FullSent terms (place_at (Attaches (next_session plan its_nonce n ∷ left)) n.links heard
+      moved still made n.store.state.facts) n store h h'
 
--- A session begins on a link. Where it was broken off it had come to some place of a course, by no more calls of the disk than the
--- batches of its path take and those that were next.
-abbrev pub DeviceBeginsSession : Plan → Option (List ℕ) → Result (Option ℕ) StepFault → DeviceValue → DeviceValue → Type 0
+-- A session begins on a link. Where it was broken off it had come to some place of a course, by no
+-- more calls of the disk than the batches of its path take and those that were next.
+abbrev pub DeviceBeginsSession : Plan → Option (List ℕ) → Result (Option ℕ) StepFault → DeviceValue
+    → DeviceValue → Type 0
 DeviceBeginsSession plan its_nonce r old new =
-    DeviceCalls (λ session. OfNodes (HasBegunOnLink plan its_nonce session old.host new.host) old.node new.node)
-    (λ at. OfNode (λ n. BreaksBeginning bundle_meaning (next_session plan its_nonce n) n.links n.store (host_told old.host) (host_told at)) old.node)
+    DeviceCalls (λ session.
+    OfNodes (HasBegunOnLink plan its_nonce session old.host new.host) old.node new.node)
+    (λ at.
+    OfNode (λ n. BreaksBeginning bundle_meaning (next_session plan its_nonce n) n.links n.store
+    (host_told old.host) (host_told at)) old.node)
     (OfNode (FullAtBeginning plan its_nonce old.host new.host) old.node) r old new
 
 -- one turn of a course was made, in which all was still or not
@@ -236,15 +270,20 @@ pub record HasTurned (still : Bool) (h h' : MemHostValue) (n n' : NodeValue) : T
 pub record FullInTurn (h h' : MemHostValue) (n : NodeValue) : Type 0 where
   pub store : StoreValue
   pub limit : store.limit ≡ n.store.limit
-  pub fills : (terms : Terms) (heard : ℕ → List ℕ) (moved : Bool) (still made : ℕ) → terms.first ≡ n.first → AllRead heard n.links
-      → is_at_end terms (place_at Between n.links heard moved still made n.store.state.facts) ≡ false
-      → FullSent terms (place_at Between n.links heard moved still made n.store.state.facts) n store h h'
+  pub fills : (terms : Terms) (heard : ℕ → List ℕ) (moved : Bool) (still made : ℕ)
+      → terms.first ≡ n.first → AllRead heard n.links
+      → is_at_end terms (place_at Between n.links heard moved still made n.store.state.facts)
+      ≡ false
+      → FullSent terms (place_at Between n.links heard moved still made n.store.state.facts) n store
+      h h'
 
 -- a turn of a course; where it was broken off the same holds as of a session
 abbrev pub DeviceMakesTurn : Result (Option Bool) StepFault → DeviceValue → DeviceValue → Type 0
 DeviceMakesTurn r old new =
     DeviceCalls (λ still. OfNodes (HasTurned still old.host new.host) old.node new.node)
-    (λ at. OfNode (λ n. BreaksTurn bundle_meaning n.first n.links n.store (host_told old.host) (host_told at)) old.node)
+    (λ at.
+    OfNode (λ n. BreaksTurn bundle_meaning n.first n.links n.store (host_told old.host)
+    (host_told at)) old.node)
     (OfNode (FullInTurn old.host new.host) old.node) r old new
 
 -- ---- a host that is told something
@@ -284,11 +323,13 @@ pub record StartsAgain (old new : DeviceValue) : Type 0 where
   pub unlinked : IsUnlinked new
   pub loads : (j : Journal) → HoldsAfterCrash j old.host → SettlesFrom j new.host
 
--- some settling behind a journal that was held had come there, by no more calls of the disk than a start over such a journal takes
+-- some settling behind a journal that was held had come there, by no more calls of the disk than a
+-- start over such a journal takes
 abbrev pub CameStarting : DeviceValue → MemHostValue → Type 0
 CameStarting old at =
     (j : Journal) → HoldsAfterCrash j old.host
-    → LeavesSome (GoesOnSettling bundle_meaning j) (host_told at) × SettlesWithin (load_calls j) j (host_told old.host) (host_told at)
+    → LeavesSome (GoesOnSettling bundle_meaning j) (host_told at)
+    × SettlesWithin (load_calls j) j (host_told old.host) (host_told at)
 
 -- It starts again. Where its disk stopped in that, settling had come so far as it had, no more calls were made than that takes, and it
 -- starts once more.

@@ -24,7 +24,8 @@ Journal = List (List Entry)
 
 -- whatever a crash leaves now has this
 pub record AfterCrash (Has : Two (List ℕ) → Type 0) (o : Outside) : Type 0 where
-  pub each : (two : Two File) → o.files ≡ Some two → (left : Two (List ℕ)) → IsImage two left → Has left
+  pub each : (two : Two File) → o.files ≡ Some two → (left : Two (List ℕ)) → IsImage two left
+      → Has left
 
 -- files that stand for a journal that has this
 pub record StandsForSome (Has : Journal → Type 0) (files : Two (List ℕ)) : Type 0 where

@@ -14,13 +14,14 @@ use Rattle.sync_node.specs.Node.{NodeValue}
 use Rattle.world_laws.specs.Worlds.{AllHeard, HasNoBrief}
 use Rattle.world_devices.specs.Brought.{brought_on}
 use Rattle.world_devices.specs.Devices.{DeviceValue}
-use Rattle.world_devices.specs.Keeping.{AfterCrash, Journal}
+use Rattle.world_devices.specs.Keeping.{AfterCrash, Journal, KeepsOn}
 
 -- ---- the journal
 
 -- whatever a crash leaves of the files of a host stands for this journal
 abbrev pub HoldsAfterCrash : Journal → MemHostValue → Type 0
-HoldsAfterCrash j host = AfterCrash (λ left. stands bundle_meaning left ≡ journal j) (host_told host)
+HoldsAfterCrash j host =
+    AfterCrash (λ left. stands bundle_meaning left ≡ journal j) (host_told host)
 
 -- the files as they read stand for this journal
 pub record ReadsAsJournal (j : Journal) (host : MemHostValue) : Type 0 where
@@ -42,7 +43,8 @@ records_for d session = records_of d.node d.host session
 
 -- ---- what a crash may leave
 
--- a journal went on from this one, by batches of which none begins a brief account, each record that it took being one of these
+-- a journal went on from this one, by batches of which none begins a brief account, each record
+-- that it took being one of these
 pub record WentHearing (heard : ℕ → List Record) (j whole : Journal) : Type 0 where
   pub more : Journal
   pub plain : HasNoBrief more
@@ -51,7 +53,8 @@ pub record WentHearing (heard : ℕ → List Record) (j whole : Journal) : Type 
 
 -- a crash leaves the files as they read
 abbrev pub IsStill : MemHostValue → Type 0
-IsStill host = AfterCrash (λ left. left ≡ read_files (files_of (disk_files host.disk))) (host_told host)
+IsStill host =
+    AfterCrash (λ left. left ≡ read_files (files_of (disk_files host.disk))) (host_told host)
 
 -- ---- a call
 
@@ -66,7 +69,9 @@ pub record JournalWentOn (heard : ℕ → List Record) (j : Journal) (new : Devi
   pub reads : ReadsAsJournal (j ++ more) new.host
   pub holds : is_some new.node ≡ true → HoldsAfterCrash (j ++ more) new.host
 
--- a call of a device: from each journal that its files held, its journal went on, and each record that it took is one that its
--- links brought by then
+-- A call of a device: from each journal that its files held, its journal went on, and each record
+-- that it took is one that its links brought by then. Whatever a crash may leave then stands for a
+-- journal that goes on from each that it went on from before.
 pub record DeviceRuns (old new : DeviceValue) : Type 0 where
   pub comes : (j : Journal) → HoldsAfterCrash j old.host → JournalWentOn (records_for old) j new
+  pub keeps : KeepsOn (host_told old.host) (host_told new.host)

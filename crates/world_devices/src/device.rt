@@ -5,7 +5,7 @@ ghost use Rattle.std.specs.Prelude.{None, OnErr, OnOk, option_copied, option_map
 ghost use Rattle.outside.specs.HostTold.{host_told};
 ghost use Rattle.sync_rules.specs.Legal.{suits_nonce};
 ghost use Rattle.sync_rules.specs.declared.entries.Entry.TheVariants as entry_kind;
-ghost use Rattle.world_devices.specs.Devices.{DeviceKeeps, IsAnew, IsReadyStore};
+ghost use Rattle.world_devices.specs.Devices.{IsAnew, IsReadyStore};
 ghost use Rattle.world_devices.specs.Devices.{MayAddEntry, links_made};
 ghost use Rattle.world_devices.specs.Keeping.{Journal, StandsLegal};
 ghost use Rattle.world_devices.specs.Linking.{DeviceLinksStand, IsBareIn, IsNewDevice, IsUnlinked};
@@ -166,7 +166,6 @@ impl Device {
 
     /// Its time, in milliseconds, until it is set anew.
     pub fn set_clock(&mut self, at: u64) -> Result<(), AllocError>
-        ensures keeps { DeviceKeeps self.old self.new }
         ensures runs { DeviceRuns self.old self.new }
         ensures links { KeepsLinks self.old self.new }
         ensures node { self.new.node ≡ self.old.node }
@@ -186,7 +185,6 @@ impl Device {
     /// # Errors
     /// For want of memory: then no stop is left.
     pub fn stop_at(&mut self, calls: u64, pick: Pick) -> Result<(), AllocError>
-        ensures keeps { DeviceKeeps self.old self.new }
         ensures runs { DeviceRuns self.old self.new }
         ensures links { KeepsLinks self.old self.new }
         ensures node { self.new.node ≡ self.old.node }
@@ -205,7 +203,6 @@ impl Device {
 
     /// It is started again over its files.
     pub fn restart(&mut self) -> Result<(), StepFault>
-        ensures keeps { DeviceKeeps self.old self.new }
         ensures runs { DeviceRuns self.old self.new }
         ensures running { OnOk result (is_some self.new.node ≡ true) }
         ensures links { OnOk result (IsUnlinked self.new) }
@@ -337,7 +334,6 @@ impl Device {
 impl Device {
     // Adds the next contact.
     fn add_contact(&mut self) -> Result<Ran, StepFault>
-        ensures keeps { DeviceKeeps self.old self.new }
         ensures runs { DeviceRuns self.old self.new }
         ensures running { OnOk result (is_some self.new.node ≡ true) }
         ensures links { LinksBy result self.old self.new }
@@ -362,7 +358,6 @@ impl Device {
 
     /// Adds a group.
     pub fn add_group(&mut self, def: GroupDef) -> Result<Ran, StepFault>
-        ensures keeps { DeviceKeeps self.old self.new }
         ensures runs { DeviceRuns self.old self.new }
         ensures running { OnOk result (is_some self.new.node ≡ true) }
         ensures links { LinksBy result self.old self.new }
@@ -386,7 +381,6 @@ impl Device {
         group: &GroupId,
         level: Level,
     ) -> Result<Ran, StepFault>
-        ensures keeps { DeviceKeeps self.old self.new }
         ensures runs { DeviceRuns self.old self.new }
         ensures running { OnOk result (is_some self.new.node ≡ true) }
         ensures links { LinksBy result self.old self.new }
@@ -405,7 +399,6 @@ impl Device {
 
     /// Writes a message.
     pub fn author(&mut self, message: Message) -> Result<Ran, StepFault>
-        ensures keeps { DeviceKeeps self.old self.new }
         ensures runs { DeviceRuns self.old self.new }
         ensures running { OnOk result (is_some self.new.node ≡ true) }
         ensures links { LinksBy result self.old self.new }
@@ -426,7 +419,6 @@ impl Device {
     // Commits an entry and settles.
     fn add(&mut self, entry: Entry) -> Result<Ran, StepFault>
         requires { MayAddEntry self.old.node entry }
-        ensures keeps { DeviceKeeps self.old self.new }
         ensures runs { DeviceRuns self.old self.new }
         ensures running { OnOk result (is_some self.new.node ≡ true) }
         ensures links { LinksBy result self.old self.new }
@@ -463,7 +455,6 @@ impl Device {
     pub fn attach(&mut self, plan: &Plan, nonce: Option<Nonce>) -> Result<Option<u32>, StepFault>
         requires latency { 1 ≤ plan.now.latency }
         requires nonce { suits_nonce plan.now.mode nonce ≡ true }
-        ensures keeps { DeviceKeeps self.old self.new }
         ensures runs { DeviceRuns self.old self.new }
         ensures running { OnOk result (is_some self.new.node ≡ true) }
         ensures links { LinksByAttach plan.now.contact result self.old self.new }
@@ -523,7 +514,6 @@ impl Device {
 
     /// Plans what a link is to answer next. A link that it has not had is left.
     pub fn plan(&mut self, link: u8, answer: Answer) -> Result<(), AllocError>
-        ensures keeps { DeviceKeeps self.old self.new }
         ensures runs { DeviceRuns self.old self.new }
         ensures links { LinksByPlan link answer result self.old self.new }
         ensures files { (host_told self.new.host).files ≡ (host_told self.old.host).files }
@@ -545,7 +535,6 @@ impl Device {
 
     /// Makes a turn. Answers whether all links were still, or nothing where the device crashed.
     pub fn turn(&mut self) -> Result<Option<bool>, StepFault>
-        ensures keeps { DeviceKeeps self.old self.new }
         ensures runs { DeviceRuns self.old self.new }
         ensures running { OnOk result (is_some self.new.node ≡ true) }
         ensures links { LinksByTurn result self.old self.new }

@@ -6,21 +6,27 @@ use Rattle.world_devices.proofs.starting.load.Goals as goal
 
 pub returns-in-Ok-clause-settling : goal.returns-in-Ok-clause-settling
 returns-in-Ok-clause-settling c =
-    load_then c.load.result c.args.host.now c.load.new.disk c.load.ensures.run.calls c.load.ensures.any_moment c.load.ensures.calls c.settle.new.host c.settle.ensures.settling
+    load_then c.load.result c.args.host.now c.load.new.disk c.load.ensures.run.calls
+    c.load.ensures.any_moment c.load.ensures.calls c.settle.new.host c.settle.ensures.settling
 
 pub returns-in-Err-DiskFault-clause-settling : goal.returns-in-Err-DiskFault-clause-settling
 returns-in-Err-DiskFault-clause-settling c =
-    load_settles c.load.result c.args.host.now c.load.new.disk c.load.ensures.run.calls c.load.ensures.any_moment c.load.ensures.calls
+    load_settles c.load.result c.args.host.now c.load.new.disk c.load.ensures.run.calls
+    c.load.ensures.any_moment c.load.ensures.calls
 
 pub returns-in-Err-clause-settling : goal.returns-in-Err-clause-settling
 returns-in-Err-clause-settling c =
-    load_settles c.load.result c.args.host.now c.load.new.disk c.load.ensures.run.calls c.load.ensures.any_moment c.load.ensures.calls
+    load_settles c.load.result c.args.host.now c.load.new.disk c.load.ensures.run.calls
+    c.load.ensures.any_moment c.load.ensures.calls
 
 pub returns-in-Ok-clause-bare : goal.returns-in-Ok-clause-bare
 returns-in-Ok-clause-bare c = λ holds.
-    c.settle.ensures.bare 0 (bare_loaded c.args.host.now c.in-Ok.store holds (c.in-Ok.ensures.answer (files_of (disk_files c.args.host.now.disk)) refl))
+    c.settle.ensures.bare 0
+    (bare_loaded c.args.host.now c.in-Ok.store holds
+    (c.in-Ok.ensures.answer (files_of (disk_files c.args.host.now.disk)) refl))
 
 pub returns-in-Ok-clause-loads : goal.returns-in-Ok-clause-loads
 returns-in-Ok-clause-loads c = λ j holds.
     c.settle.ensures.settles j
-    (load_holds c.load.result c.args.host.now c.load.new.disk c.load.ensures.run.calls c.load.ensures.any_moment c.load.ensures.calls j holds)
+    (load_holds c.load.result c.args.host.now c.load.new.disk c.load.ensures.run.calls
+    c.load.ensures.any_moment c.load.ensures.calls j holds)

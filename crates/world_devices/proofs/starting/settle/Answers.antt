@@ -5,15 +5,21 @@ use Rattle.world_devices.proofs.starting.settle.Goals as goal
 
 pub returns-in-Ok-clause-settling : goal.returns-in-Ok-clause-settling
 returns-in-Ok-clause-settling c =
-    settle_settles c.args.store c.settle.new.self c.settle.result c.args.host.now c.settle.new.disk c.requires.ready (c.settle.ensures.settled c.requires.ready.still_open) c.settle.ensures.run.calls
+    settle_settles c.args.store c.settle.new.self c.settle.result c.args.host.now c.settle.new.disk
+    c.requires.ready (c.settle.ensures.settled c.requires.ready.still_open)
+    c.settle.ensures.run.calls
 
 pub returns-in-Err-DiskFault-clause-settling : goal.returns-in-Err-DiskFault-clause-settling
 returns-in-Err-DiskFault-clause-settling c =
-    settle_settles c.args.store c.settle.new.self c.settle.result c.args.host.now c.settle.new.disk c.requires.ready (c.settle.ensures.settled c.requires.ready.still_open) c.settle.ensures.run.calls
+    settle_settles c.args.store c.settle.new.self c.settle.result c.args.host.now c.settle.new.disk
+    c.requires.ready (c.settle.ensures.settled c.requires.ready.still_open)
+    c.settle.ensures.run.calls
 
 pub returns-clause-settling : goal.returns-clause-settling
 returns-clause-settling c =
-    settle_settles c.args.store c.settle.new.self c.settle.result c.args.host.now c.settle.new.disk c.requires.ready (c.settle.ensures.settled c.requires.ready.still_open) c.settle.ensures.run.calls
+    settle_settles c.args.store c.settle.new.self c.settle.result c.args.host.now c.settle.new.disk
+    c.requires.ready (c.settle.ensures.settled c.requires.ready.still_open)
+    c.settle.ensures.run.calls
 
 pub returns-in-Ok-clause-bare : goal.returns-in-Ok-clause-bare
 returns-in-Ok-clause-bare c = λ contacts bare.

@@ -4,8 +4,10 @@ use Rattle.sync_node.specs.Node.{NodeValue}
 use Rattle.world_devices.specs.Devices.{DeviceValue}
 use Rattle.world_devices.specs.Linking.{IsBareIn}
 use Rattle.world_devices.specs.declared.stop.Ran.TheVariants as ran
-use Rattle.world_devices.proofs.AddLaws.{add_undone, adding_over, adds_within, bare_added, came_adding, has_added, passes_limit, rest_is}
-use Rattle.world_devices.proofs.CallLaws.{add_broke, add_done, device_leaves, did_well, keeps_links, leaves_keeps, leaves_on, leaves_runs, runs_files, runs_none}
+use Rattle.world_devices.proofs.AddLaws.{add_undone, adding_over, adds_within, bare_added}
+use Rattle.world_devices.proofs.AddLaws.{came_adding, has_added, passes_limit, rest_is}
+use Rattle.world_devices.proofs.CallLaws.{add_broke, add_done, device_leaves, did_well, keeps_links}
+use Rattle.world_devices.proofs.CallLaws.{leaves_on, leaves_runs, runs_files, runs_none}
 use Rattle.world_devices.proofs.HostLaws.{brings_linked}
 use Rattle.world_devices.proofs.RunningLaws.{call_running, open_of, running_of}
 use Rattle.world_devices.proofs.TurnLaws.{adds_seen, call_failed, call_starved, done_err}
@@ -13,27 +15,30 @@ use Rattle.world_devices.proofs.device.Device.add.Goals as goal
 
 pub invariant_of-self-in-Ok : goal.invariant_of-self-in-Ok
 invariant_of-self-in-Ok c =
-    let n = c.in-Some.node in
     let n' = c.add.new.self in
-    let h = c.self.inside.host in
     let h' = c.add.new.host in
-    let links = c.self.inside.links in
     let was = sym (ap (λ (d : DeviceValue). d.node) c.self.view_is) ∙ c.in-Some.is in
-    let did = did_well c.cite_laws.ensures c.self.inside.node n n' h h' links c.in-Some.is c.self.invariant.0
-    (λ run. add_done n n' h h' links run c.args.self.now.node c.args.entry c.in_ok-batch.batch was c.requires c.in_ok-batch.ensures c.add.ensures.links c.in-Ok.ensures.went) c.in-Ok.ensures.answers.opened c.add.ensures.may in (
-      call_running n n' h h' links links did.ends c.add.ensures.goes.same_first c.add.ensures.may (c.in-Ok.ensures.answers.opened did.run.unclosed) c.add.ensures.goes.node did.brings (did.run.linked ∙ sym (ap length c.add.ensures.links)) (omega arith) did.run,
+    let did = did_well c.cite_laws.ensures _ _ n' _ h' _ c.in-Some.is c.self.invariant.0
+    (λ run. add_done _ n' _ h' _ run _ c.args.entry _ was c.requires c.in_ok-batch.ensures
+    c.add.ensures.links c.in-Ok.ensures.went) c.in-Ok.ensures.answers.opened c.add.ensures.may in
+    let goes = c.add.ensures.goes in (
+      call_running _ n' _ h' _ _ did.ends goes.same_first c.add.ensures.may
+          (c.in-Ok.ensures.answers.opened did.run.unclosed) goes.node did.brings
+          (did.run.linked ∙ sym (ap length c.add.ensures.links)) (omega arith) did.run,
       did.leaves.keeps [] c.self.invariant.1,
       c.self.invariant.2,
     )
 
 pub invariant_of-self-in-Err : goal.invariant_of-self-in-Err
 invariant_of-self-in-Err c =
-    let n = c.in-Some.node in
-    let run = running_of c.self.inside.node n c.self.inside.host c.self.inside.links c.in-Some.is c.self.invariant.0 in
+    let n' = c.add.new.self in
+    let h' = c.add.new.host in
     let was = sym (ap (λ (d : DeviceValue). d.node) c.self.view_is) ∙ c.in-Some.is in
-    let did = add_broke n c.add.new.self c.self.inside.host c.add.new.host c.self.inside.links run c.args.self.now.node c.args.entry c.in_ok-batch.batch was c.requires c.in_ok-batch.ensures _ (c.in-Err.ensures.stopped run.unclosed) in
-    let leaves = device_leaves c.cite_laws.ensures c.self.inside.node n c.self.inside.host c.add.new.host c.self.inside.links c.in-Some.is run did in
-    (tt, leaves.keeps [] c.self.invariant.1, c.self.invariant.2)
+    let run = running_of _ _ _ _ c.in-Some.is c.self.invariant.0 in
+    let stopped = c.in-Err.ensures.stopped run.unclosed in
+    let at = device_leaves c.cite_laws.ensures _ _ _ h' _ c.in-Some.is run
+    (add_broke _ n' _ h' _ run _ c.args.entry _ was c.requires c.in_ok-batch.ensures _ stopped) in
+    (tt, at.keeps [] c.self.invariant.1, c.self.invariant.2)
 
 pub returns-in_err-batch-clause-runs : goal.returns-in_err-batch-clause-runs
 returns-in_err-batch-clause-runs c = runs_none c.args.self.now
@@ -44,58 +49,72 @@ returns-in_default-clause-runs c = runs_files c.args.self.now _ (ap (λ (d : Dev
 -- it was added
 pub returns-in_ok-test_done-in-Ok : goal.returns-in_ok-test_done-in-Ok
 returns-in_ok-test_done-in-Ok c =
-    let n = c.in-Some.node in
     let n' = c.add.new.self in
-    let h = c.self.inside.host in
     let h' = c.add.new.host in
-    let links = c.self.inside.links in
     let was = sym (ap (λ (d : DeviceValue). d.node) c.self.view_is) ∙ c.in-Some.is in
-    let did = did_well c.cite_laws.ensures c.self.inside.node n n' h h' links c.in-Some.is c.self.invariant.0
-    (λ run. add_done n n' h h' links run c.args.self.now.node c.args.entry c.in_ok-batch.batch was c.requires c.in_ok-batch.ensures c.add.ensures.links c.in-Ok.ensures.went) c.in-Ok.ensures.answers.opened c.add.ensures.may in
+    let did = did_well c.cite_laws.ensures _ _ n' _ h' _ c.in-Some.is c.self.invariant.0
+    (λ run. add_done _ n' _ h' _ run _ c.args.entry _ was c.requires c.in_ok-batch.ensures
+    c.add.ensures.links c.in-Ok.ensures.went) c.in-Ok.ensures.answers.opened c.add.ensures.may in
     record {
-      keeps = leaves_keeps _ c.args.self.now h' c.self.view_is did.leaves;
-      runs = leaves_runs c.cite_laws.ensures _ c.args.self.now _ c.self.view_is did.leaves (λ _. did.still);
+      runs =
+          leaves_runs c.cite_laws.ensures _ c.args.self.now _ c.self.view_is did.leaves
+          (λ _. did.still);
       running = refl;
       links =
-          keeps_links n n' _ c.args.self.now _ c.self.view_is c.in-Some.is refl c.add.ensures.goes.same_first (ap length c.add.ensures.links) refl (λ link. brings_linked h h' link c.in-Ok.ensures.went.same_links);
+          keeps_links c.in-Some.node n' _ c.args.self.now _ c.self.view_is c.in-Some.is refl
+          c.add.ensures.goes.same_first (ap length c.add.ensures.links) refl
+          (λ link. brings_linked c.self.inside.host h' link c.in-Ok.ensures.went.same_links);
       unrefused = tt;
       adds =
           adds_seen c.args.entry (Ok ran.Done) _ c.args.self.now _ c.self.view_is (
-            record { clock = refl; stop = refl; since = c.add.ensures.goes.goes.calls; ahead = c.in_ok-test_done-in-Ok.ensures.ahead },
+            record {
+              clock = refl;
+              stop = refl;
+              since = c.add.ensures.goes.goes.calls;
+              ahead = c.in_ok-test_done-in-Ok.ensures.ahead;
+            },
             (
-              has_added c.args.entry c.in_ok-batch.batch n.store n'.store h h' c.in_ok-batch.ensures (open_of n h links did.run) c.in-Ok.ensures.went,
-              rest_is n n' _ _ c.in-Some.is refl c.add.ensures.links c.in-Ok.ensures.went.same_links,
+              has_added c.args.entry _ _ n'.store c.self.inside.host h' c.in_ok-batch.ensures
+                  (open_of _ _ _ did.run)
+                  c.in-Ok.ensures.went,
+              rest_is c.in-Some.node n' _ _ c.in-Some.is refl c.add.ensures.links
+                  c.in-Ok.ensures.went.same_links,
             ),
           );
       bare = λ contacts number is bare.
-          bare_added c.cite_laws.ensures.settling contacts number c.args.entry c.in_ok-batch.batch n.store n'.store (host_told h) (host_told h')
-          c.in_ok-batch.ensures is c.in-Ok.ensures.went (subst (λ (x : Option NodeValue). IsBareIn contacts x) was bare);
+          bare_added c.cite_laws.ensures.settling contacts number c.args.entry _ _ n'.store _ _
+          c.in_ok-batch.ensures is c.in-Ok.ensures.went
+          (subst (λ (x : Option NodeValue). IsBareIn contacts x) was bare);
       clock = search rules;
     }
 
 -- it was added, but its links or its clock found no memory
 pub returns-in_err-test_done-in-Ok : goal.returns-in_err-test_done-in-Ok
 returns-in_err-test_done-in-Ok c =
-    let n = c.in-Some.node in
     let n' = c.add.new.self in
-    let h = c.self.inside.host in
     let h' = c.add.new.host in
-    let links = c.self.inside.links in
     let was = sym (ap (λ (d : DeviceValue). d.node) c.self.view_is) ∙ c.in-Some.is in
-    let did = did_well c.cite_laws.ensures c.self.inside.node n n' h h' links c.in-Some.is c.self.invariant.0
-    (λ run. add_done n n' h h' links run c.args.self.now.node c.args.entry c.in_ok-batch.batch was c.requires c.in_ok-batch.ensures c.add.ensures.links c.in-Ok.ensures.went) c.in-Ok.ensures.answers.opened c.add.ensures.may in
+    let did = did_well c.cite_laws.ensures _ _ n' _ h' _ c.in-Some.is c.self.invariant.0
+    (λ run. add_done _ n' _ h' _ run _ c.args.entry _ was c.requires c.in_ok-batch.ensures
+    c.add.ensures.links c.in-Ok.ensures.went) c.in-Ok.ensures.answers.opened c.add.ensures.may in
+    let starved = c.in_err-test_done-in-Ok in
     record {
-      keeps = leaves_keeps _ c.args.self.now h' c.self.view_is did.leaves;
-      runs = leaves_runs c.cite_laws.ensures _ c.args.self.now _ c.self.view_is did.leaves (λ _. did.still);
+      runs =
+          leaves_runs c.cite_laws.ensures _ c.args.self.now _ c.self.view_is did.leaves
+          (λ _. did.still);
       running = search rules;
       links = search rules;
       unrefused = search rules;
       adds =
           adds_seen c.args.entry _ _ c.args.self.now _ c.self.view_is
-          (call_starved _ _ _ _ _ _ c.in_err-test_done-in-Ok.field-0.0 (done_err _ _ c.from_residual-in_err-test_done-in-Ok.ensures.1) c.in_err-test_done-in-Ok.ensures.unrefused c.in_err-test_done-in-Ok.ensures.unfilled
-          c.add.ensures.goes.goes.calls tt (
-            has_added c.args.entry c.in_ok-batch.batch n.store n'.store h h' c.in_ok-batch.ensures (open_of n h links did.run) c.in-Ok.ensures.went,
-            rest_is n n' _ _ c.in-Some.is refl c.add.ensures.links c.in-Ok.ensures.went.same_links,
+          (call_starved _ _ _ _ _ _ starved.field-0.0
+          (done_err _ _ c.from_residual-in_err-test_done-in-Ok.ensures.1)
+          starved.ensures.unrefused starved.ensures.unfilled c.add.ensures.goes.goes.calls tt (
+            has_added c.args.entry _ _ n'.store c.self.inside.host h' c.in_ok-batch.ensures
+                (open_of _ _ _ did.run)
+                c.in-Ok.ensures.went,
+            rest_is c.in-Some.node n' _ _ c.in-Some.is refl c.add.ensures.links
+                c.in-Ok.ensures.went.same_links,
           ));
       bare = search rules;
       clock = search rules;
@@ -104,19 +123,18 @@ returns-in_err-test_done-in-Ok c =
 -- its disk stopped in it
 pub returns-in_ok-fail-in-Err : goal.returns-in_ok-fail-in-Err
 returns-in_ok-fail-in-Err c =
-    let n = c.in-Some.node in
     let n' = c.add.new.self in
-    let h = c.self.inside.host in
     let h' = c.add.new.host in
-    let run = running_of c.self.inside.node n h c.self.inside.links c.in-Some.is c.self.invariant.0 in
-    let stopped = c.in-Err.ensures.stopped run.unclosed in
     let was = sym (ap (λ (d : DeviceValue). d.node) c.self.view_is) ∙ c.in-Some.is in
-    let did = add_broke n n' h h' c.self.inside.links run c.args.self.now.node c.args.entry c.in_ok-batch.batch was c.requires c.in_ok-batch.ensures _ stopped in
-    let leaves = leaves_on c.self.inside.node h h' c.fail.new.self.host
-    (device_leaves c.cite_laws.ensures c.self.inside.node n h h' c.self.inside.links c.in-Some.is run did) c.fail.ensures.left in
+    let run = running_of _ _ _ _ c.in-Some.is c.self.invariant.0 in
+    let stopped = c.in-Err.ensures.stopped run.unclosed in
+    let at = device_leaves c.cite_laws.ensures _ _ _ h' _ c.in-Some.is run
+    (add_broke _ n' _ h' _ run _ c.args.entry _ was c.requires c.in_ok-batch.ensures _ stopped) in
+    let leaves = leaves_on _ _ h' c.fail.new.self.host at c.fail.ensures.left in
     record {
-      keeps = leaves_keeps _ c.args.self.now c.fail.new.self.host c.self.view_is leaves;
-      runs = leaves_runs c.cite_laws.ensures _ c.args.self.now _ c.self.view_is leaves c.fail.ensures.still;
+      runs =
+          leaves_runs c.cite_laws.ensures _ c.args.self.now _ c.self.view_is leaves
+          c.fail.ensures.still;
       running = search rules;
       links = search rules;
       unrefused = tt;
@@ -125,8 +143,9 @@ returns-in_ok-fail-in-Err c =
             at = h';
             since = c.add.ensures.goes.goes.calls;
             broken =
-                came_adding c.args.entry c.in_ok-batch.batch n n' c.self.inside.node h h' c.self.inside.links c.in_ok-batch.ensures (c.add.ensures.leads run.unclosed) run c.in-Some.is
-                (adds_within c.in_ok-batch.batch n.store n'.store (host_told h) (host_told h') c.in-Err.fault stopped);
+                came_adding c.args.entry _ _ n' _ _ h' _ c.in_ok-batch.ensures
+                (c.add.ensures.leads run.unclosed) run c.in-Some.is
+                (adds_within _ _ n'.store _ _ c.in-Err.fault stopped);
             off = c.in_ok-fail-in-Err.ensures.to;
             clock = c.fail.ensures.clock;
           });
@@ -137,33 +156,37 @@ returns-in_ok-fail-in-Err c =
 -- it failed in another way
 pub returns-in_err-fail-in-Err : goal.returns-in_err-fail-in-Err
 returns-in_err-fail-in-Err c =
-    let n = c.in-Some.node in
     let n' = c.add.new.self in
-    let h = c.self.inside.host in
     let h' = c.add.new.host in
-    let run = running_of c.self.inside.node n h c.self.inside.links c.in-Some.is c.self.invariant.0 in
-    let stopped = c.in-Err.ensures.stopped run.unclosed in
     let was = sym (ap (λ (d : DeviceValue). d.node) c.self.view_is) ∙ c.in-Some.is in
-    let did = add_broke n n' h h' c.self.inside.links run c.args.self.now.node c.args.entry c.in_ok-batch.batch was c.requires c.in_ok-batch.ensures _ stopped in
-    let leaves = leaves_on c.self.inside.node h h' c.fail.new.self.host
-    (device_leaves c.cite_laws.ensures c.self.inside.node n h h' c.self.inside.links c.in-Some.is run did) c.fail.ensures.left in
+    let run = running_of _ _ _ _ c.in-Some.is c.self.invariant.0 in
+    let stopped = c.in-Err.ensures.stopped run.unclosed in
+    let at = device_leaves c.cite_laws.ensures _ _ _ h' _ c.in-Some.is run
+    (add_broke _ n' _ h' _ run _ c.args.entry _ was c.requires c.in_ok-batch.ensures _ stopped) in
+    let leaves = leaves_on _ _ h' c.fail.new.self.host at c.fail.ensures.left in
+    let failed = c.in_err-fail-in-Err in
     record {
-      keeps = leaves_keeps _ c.args.self.now c.fail.new.self.host c.self.view_is leaves;
-      runs = leaves_runs c.cite_laws.ensures _ c.args.self.now _ c.self.view_is leaves c.fail.ensures.still;
+      runs =
+          leaves_runs c.cite_laws.ensures _ c.args.self.now _ c.self.view_is leaves
+          c.fail.ensures.still;
       running = search rules;
       links = search rules;
       unrefused = search rules;
       adds =
           adds_seen c.args.entry _ _ c.args.self.now _ c.self.view_is
-          (call_failed _ _ _ _ _ _ c.in_err-fail-in-Err.field-0.0 c.in-Err.fault h' (done_err _ _ c.from_residual-in_err-fail-in-Err.ensures.1) c.in_err-fail-in-Err.ensures.unrefused
-          c.in_err-fail-in-Err.ensures.full
-          (λ is same. (
-            passes_limit c.args.entry c.in_ok-batch.batch n c.self.inside.node c.in-Some.is c.in_ok-batch.ensures
-                (adding_over c.in_ok-batch.batch n.store n'.store (host_told h) (host_told h') c.in-Err.fault is stopped),
-            same ∙ add_undone n n' h h' (host_told h) (host_told h') c.in-Err.fault is (c.in-Err.ensures.stops run.unclosed),
+          (call_failed _ _ _ _ _ _ failed.field-0.0 c.in-Err.fault h'
+          (done_err _ _ c.from_residual-in_err-fail-in-Err.ensures.1) failed.ensures.unrefused
+          failed.ensures.full (λ is same. (
+            passes_limit c.args.entry _ _ _ c.in-Some.is c.in_ok-batch.ensures
+                (adding_over _ _ n'.store _ _ c.in-Err.fault is stopped),
+            same ∙ add_undone c.in-Some.node n' c.self.inside.host h' (host_told c.self.inside.host)
+                (host_told h') c.in-Err.fault is
+                (c.in-Err.ensures.stops run.unclosed),
           )) c.add.ensures.goes.goes.calls
-          (came_adding c.args.entry c.in_ok-batch.batch n n' c.self.inside.node h h' c.self.inside.links c.in_ok-batch.ensures (c.add.ensures.leads run.unclosed) run c.in-Some.is
-          (adds_within c.in_ok-batch.batch n.store n'.store (host_told h) (host_told h') c.in-Err.fault stopped)) c.fail.ensures.left);
+          (came_adding c.args.entry _ _ n' _ _ h' _ c.in_ok-batch.ensures
+          (c.add.ensures.leads run.unclosed) run c.in-Some.is
+          (adds_within _ _ n'.store _ _ c.in-Err.fault stopped))
+          c.fail.ensures.left);
       bare = search rules;
       clock = search rules;
     }

@@ -10,7 +10,8 @@ use Rattle.world_devices.proofs.device.Device.files_stand.Goals as goal
 pub returns : goal.returns
 returns c =
     subst (λ (d : DeviceValue). StandsLegal (host_told d.host)) c.self.view_is
-    (crash_so (StandsForSome (WentOn [])) (StandsForSome (Legal bundle_meaning)) (host_told c.self.inside.host) (λ left stood. record {
+    (crash_so (StandsForSome (WentOn [])) (StandsForSome (Legal bundle_meaning))
+    (host_told c.self.inside.host) (λ left stood. record {
       whole = stood.whole;
       has = c.standing_is_legal.ensures bundle_meaning left stood.whole stood.stands_for;
       stands_for = stood.stands_for;

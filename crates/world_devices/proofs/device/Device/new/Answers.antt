@@ -3,14 +3,15 @@ use Rattle.std.specs.Result.{is_err}
 use Rattle.world_devices.specs.Devices.{IsAnew}
 use Rattle.world_devices.specs.Doing.{KeepsOwn, KeepsRest}
 use Rattle.world_devices.specs.Keeping.{WentOn}
+use Rattle.world_devices.proofs.LeaveLaws.{went_none}
 use Rattle.world_devices.proofs.AddLaws.{anew_kept}
 use Rattle.world_devices.proofs.KeepLaws.{holds_some}
 use Rattle.world_devices.proofs.NewLaws.{begun_journal, unlinked_kept, when_begun, when_done}
-use Rattle.world_devices.proofs.PlainLaws.{went_none}
 use Rattle.world_devices.proofs.device.Device.new.Goals as goal
 
 pub invariant_of-device : goal.invariant_of-device
-invariant_of-device c = (tt, holds_some (WentOn []) [] c.in-Ok.host (went_none []) c.in-Ok.ensures.holds, omega arith)
+invariant_of-device c =
+    (tt, holds_some (WentOn []) [] c.in-Ok.host (went_none []) c.in-Ok.ensures.holds, omega arith)
 
 pub contacts-init : goal.contacts-init
 contacts-init c =

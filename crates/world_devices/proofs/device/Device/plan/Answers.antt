@@ -1,7 +1,8 @@
 use Rattle.std.proofs.Common.{ap, refl, ◌∙◌, arith}
 use Rattle.outside.specs.HostTold.{host_told}
 use Rattle.world_devices.specs.Devices.{DeviceValue}
-use Rattle.world_devices.proofs.CallLaws.{brings_other, own_scripts, plans_one, runs_files, runs_none}
+use Rattle.world_devices.proofs.CallLaws.{brings_other, own_scripts, plans_one, runs_files}
+use Rattle.world_devices.proofs.CallLaws.{runs_none}
 use Rattle.world_devices.proofs.HostLaws.{script_same}
 use Rattle.world_devices.proofs.RunningLaws.{device_on}
 use Rattle.world_devices.proofs.device.Device.plan.Goals as goal
@@ -27,7 +28,9 @@ returns-in_ok-script-clause-runs c =
 
 pub returns-in_ok-script-clause-links : goal.returns-in_ok-script-clause-links
 returns-in_ok-script-clause-links c =
-    plans_one c.args.link c.args.answer _ c.args.self.now _ c.self.view_is (own_scripts c.self.inside.host c.script.new.self _ c.in_ok-script.ensures.ok) c.in_ok-script.ensures.planned c.if-link-self.true refl refl
+    plans_one c.args.link c.args.answer _ c.args.self.now _ c.self.view_is
+    (own_scripts c.self.inside.host c.script.new.self _ c.in_ok-script.ensures.ok)
+    c.in_ok-script.ensures.planned c.if-link-self.true refl refl
 
 pub returns-else-link-self-clause-runs : goal.returns-else-link-self-clause-runs
 returns-else-link-self-clause-runs c = runs_none c.args.self.now

@@ -9,33 +9,45 @@ use Rattle.world_devices.proofs.device.Device.stop_at.Goals as goal
 pub invariant_of-self : goal.invariant_of-self
 invariant_of-self c =
     let none = failing_told c.self.inside.host c.fail_none.new.self [] None c.fail_none.ensures in
-    let call = fails_told c.fail_none.new.self c.fail_at.new.self c.in-Some.call c.fail_at.result c.fail_at.ensures.ok c.fail_at.ensures.err in
-    device_told c.self.inside.node c.self.inside.host c.fail_at.new.self c.self.inside.links (told_then c.self.inside.host c.fail_none.new.self c.fail_at.new.self none call) c.self.invariant
+    let call = fails_told c.fail_none.new.self c.fail_at.new.self c.in-Some.call c.fail_at.result
+    c.fail_at.ensures.ok c.fail_at.ensures.err in
+    device_told c.self.inside.node c.self.inside.host c.fail_at.new.self c.self.inside.links
+    (told_then c.self.inside.host c.fail_none.new.self c.fail_at.new.self none call)
+    c.self.invariant
 
 pub invariant_of-self-in-Some : goal.invariant_of-self-in-Some
 invariant_of-self-in-Some c =
     let none = failing_told c.self.inside.host c.fail_none.new.self [] None c.fail_none.ensures in
-    let call = fails_told c.fail_none.new.self c.fail_at.new.self c.in-Some.call c.fail_at.result c.fail_at.ensures.ok c.fail_at.ensures.err in
-    device_told c.self.inside.node c.self.inside.host c.fail_at.new.self c.self.inside.links (told_then c.self.inside.host c.fail_none.new.self c.fail_at.new.self none call) c.self.invariant
+    let call = fails_told c.fail_none.new.self c.fail_at.new.self c.in-Some.call c.fail_at.result
+    c.fail_at.ensures.ok c.fail_at.ensures.err in
+    device_told c.self.inside.node c.self.inside.host c.fail_at.new.self c.self.inside.links
+    (told_then c.self.inside.host c.fail_none.new.self c.fail_at.new.self none call)
+    c.self.invariant
 
 pub invariant_of-self-in_default : goal.invariant_of-self-in_default
 invariant_of-self-in_default c =
     device_told c.self.inside.node c.self.inside.host c.fail_none.new.self c.self.inside.links
-    (failing_told c.self.inside.host c.fail_none.new.self [] None c.fail_none.ensures) c.self.invariant
+    (failing_told c.self.inside.host c.fail_none.new.self [] None c.fail_none.ensures)
+    c.self.invariant
 
 pub returns-in_err-fail_at-clause-runs : goal.returns-in_err-fail_at-clause-runs
 returns-in_err-fail_at-clause-runs c =
     let none = failing_told c.self.inside.host c.fail_none.new.self [] None c.fail_none.ensures in
-    let call = fails_told c.fail_none.new.self c.fail_at.new.self c.in-Some.call c.fail_at.result c.fail_at.ensures.ok c.fail_at.ensures.err in
-    runs_files c.args.self.now _ (call.same.files ∙ none.same.files ∙ ap (λ (d : DeviceValue). (host_told d.host).files) c.self.view_is)
+    let call = fails_told c.fail_none.new.self c.fail_at.new.self c.in-Some.call c.fail_at.result
+    c.fail_at.ensures.ok c.fail_at.ensures.err in
+    runs_files c.args.self.now _ (call.same.files ∙ none.same.files
+    ∙ ap (λ (d : DeviceValue). (host_told d.host).files) c.self.view_is)
 
 pub returns-in_ok-fail_at-clause-runs : goal.returns-in_ok-fail_at-clause-runs
 returns-in_ok-fail_at-clause-runs c =
     let none = failing_told c.self.inside.host c.fail_none.new.self [] None c.fail_none.ensures in
-    let call = fails_told c.fail_none.new.self c.fail_at.new.self c.in-Some.call c.fail_at.result c.fail_at.ensures.ok c.fail_at.ensures.err in
-    runs_files c.args.self.now _ (call.same.files ∙ none.same.files ∙ ap (λ (d : DeviceValue). (host_told d.host).files) c.self.view_is)
+    let call = fails_told c.fail_none.new.self c.fail_at.new.self c.in-Some.call c.fail_at.result
+    c.fail_at.ensures.ok c.fail_at.ensures.err in
+    runs_files c.args.self.now _ (call.same.files ∙ none.same.files
+    ∙ ap (λ (d : DeviceValue). (host_told d.host).files) c.self.view_is)
 
 pub returns-in_default-clause-runs : goal.returns-in_default-clause-runs
 returns-in_default-clause-runs c =
     runs_files c.args.self.now _
-    ((failing_told c.self.inside.host c.fail_none.new.self [] None c.fail_none.ensures).same.files ∙ ap (λ (d : DeviceValue). (host_told d.host).files) c.self.view_is)
+    ((failing_told c.self.inside.host c.fail_none.new.self [] None c.fail_none.ensures).same.files
+    ∙ ap (λ (d : DeviceValue). (host_told d.host).files) c.self.view_is)
