@@ -39,7 +39,7 @@ use Rattle.store_commands.proofs.Stood.{fits_format, last_here, spent_here}
 use Rattle.mailbox_commands.specs.Errands.{Errand, ErrandOn, IsErrandCutShort, IsRun, MayBeginWith}
 use Rattle.mailbox_commands.specs.Errands.{mailbox_test}
 use Rattle.mailbox_commands.specs.Running.{DoesErrand, DoesSo, ErrandBy, ErrandEnds, ErrandTold}
-use Rattle.mailbox_commands.specs.Running.{FilesRun, MayRunErrand, PrintsOut, RunsErrand, is_whole}
+use Rattle.mailbox_commands.specs.Running.{FilesRun, PrintsOut, RunsErrand, is_whole}
 
 -- ---- causes
 
@@ -417,15 +417,13 @@ ends_first : (clients : Meaning) (errand : Errand) (j : List (List Entry))
     (came : Outcome) → read_files two1 ≡ read_files two
     → ErrandEnds clients errand j two1 two2 out out' came
     → ErrandEnds clients errand j two two2 out out' came
-ends_first clients errand j two two1 two2 out out' outcome.Done same ends = ends
-ends_first clients errand j two two1 two2 out out' (outcome.Inside place) same ends = ends
-ends_first clients errand j two two1 two2 out out' (outcome.Bad place why) same ends = ends
-ends_first clients errand j two two1 two2 out out' (outcome.NoVersion place) same ends = ends
 ends_first clients errand j two two1 two2 out out' outcome.WriteFault same ends = ends
 ends_first clients errand j two two1 two2 out out' outcome.Full same (inl cut) = inl cut
 ends_first clients errand j two two1 two2 out out' outcome.Full same (inr spent) =
     inr (subst HasLastGeneration same spent.0, spent.1 ∙ same)
-ends_first clients errand j two two1 two2 out out' _ same ends = tt
+ends_first clients errand j two two1 two2 out out' outcome.Memory same ends = tt
+ends_first clients errand j two two1 two2 out out' outcome.DiskFault same ends = tt
+ends_first clients errand j two two1 two2 out out' _ same ends = ends
 
 -- a store was loaded over which the tests hold, perhaps the clock was read, and the errand was run
 pub errand_loaded : (clients : Meaning) (contact : ℕ) (errand : Errand) (o o1 o2 : Outside)

@@ -32,12 +32,12 @@ use Rattle.sync_words.specs.declared.outcome.Outcome.{Outcome}
 use Rattle.sync_words.specs.declared.outcome.Outcome.TheVariants as outcome
 use Rattle.sync_words.specs.Outcomes.{came_to}
 use Rattle.store_commands.specs.Commit.{SettlesAnew}
-use Rattle.store_commands.specs.Load.{LoadKeeps, LoadedBy, MayExtend}
+use Rattle.store_commands.specs.Load.{LoadKeeps, MayExtend}
 use Rattle.store_commands.specs.Show.{PrintsText, LeavesFilesSo}
 use Rattle.mailbox_commands.specs.declared.sending.Sending.{Sending}
 use Rattle.mailbox_commands.specs.Errands.{mailbox_test}
-use Rattle.mailbox_commands.specs.Running.{DoesErrand, LacksRoom, RunsErrand, StopsEarly}
-use Rattle.mailbox_commands.specs.Sending.{HasSentMail, SendsMail, SendsNextBatch, TellsSent}
+use Rattle.mailbox_commands.specs.Running.{DoesErrand, LacksRoom, RunsErrand}
+use Rattle.mailbox_commands.specs.Sending.{HasSentMail, SendsNextBatch, TellsSent}
 use Rattle.mailbox_commands.specs.Sending.{WritesAll, WritesWhole, out_errand}
 use Rattle.mailbox_commands.proofs.Errands.{errand_loaded, errand_printed, loaded_as_is, read_as_is}
 use Rattle.mailbox_commands.proofs.Taken.{prints_plain}
@@ -207,22 +207,6 @@ module _ (clients : Meaning) (asked : Sending) (old new : Outside) (out out' : S
   abbrev Mailed : Outcome → Type 0
   Mailed came = HasSentMail clients asked old new out out' came
 
-  pub mailed_none : (came : Outcome) → LoadedBy old new (Err came)
-      → StopsEarly clients asked.contact old new out out' came → Mailed came
-  mailed_none outcome.NoStore by early = early
-  mailed_none (outcome.Damaged place) by early = early
-  mailed_none outcome.DiskFault by early = inl early
-  mailed_none outcome.Memory by early = inl early
-  mailed_none _ by early = absurd by
-
-  mailed_late : (came : Outcome) → SendsMail clients asked old new out out' came → Mailed came
-  mailed_late outcome.NoStore sends = absurd sends.did.by
-  mailed_late (outcome.Damaged place) sends = absurd sends.did.by
-  mailed_late (outcome.Refused why) sends = absurd sends.did.by
-  mailed_late outcome.DiskFault sends = inr sends
-  mailed_late outcome.Memory sends = inr sends
-  mailed_late _ sends = sends
-
   pub mailed_on : (r : Result (Unit {0}) Outcome) (x : Outcome) → IsErrAnd r (λ e. e ≡ x) → Mailed x
       → Mailed (came_to r)
   mailed_on (Ok u) x is mailed = absurd is
@@ -240,7 +224,7 @@ pub mailed_read : (clients : Meaning) (asked : Sending) (now : ℕ) (o o1 oc o2 
     → HasSentMail clients asked o o2 out out' came
 mailed_read clients asked now o o1 oc o2 out out' s came run rests opened tested call clock ran =
     let later : o.disk_faults ≤ oc.disk_faults = omega (arith, run.later, call.same_faults) in
-    mailed_late clients asked o o2 out out' came (record {
+    inr (record {
       now = now;
       reads = record {
         clock =

@@ -6,7 +6,7 @@ use Rattle.std.specs.Global.{Vec}
 use Rattle.std.specs.Io.KnownBytes.{Appends}
 use Rattle.outside.specs.declared.limits.TheConstants.{MAX_JOURNAL}
 use Rattle.outside.specs.Faults.{CountRose}
-use Rattle.outside.specs.Files.{Two, File}
+use Rattle.outside.specs.Files.{Two, File, read_files}
 use Rattle.outside.specs.Outside.{DiskRun, Outside}
 use Rattle.outside.specs.Streams.{Stream, IsIdle}
 use Rattle.outside.proofs.CallSteps.{run_then}
@@ -37,14 +37,16 @@ use Rattle.sync_words.specs.declared.outcome.Outcome.{Outcome}
 use Rattle.sync_words.specs.declared.outcome.Outcome.TheVariants as outcome
 use Rattle.sync_words.specs.Outcomes.{came_to}
 use Rattle.store_commands.specs.Commit.{SettlesAnew}
-use Rattle.store_commands.specs.Load.{LoadKeeps, LoadedBy, MayExtend}
+use Rattle.entry_codec.specs.Standing.{stands}
+use Rattle.store_commands.specs.Load.{HasFacts, LoadKeeps, MayExtend}
 use Rattle.store_commands.specs.Show.{PrintsText, LeavesFilesSo}
+use Rattle.store_commands.proofs.Stopped.{stops_memory, stops_too_much, stops_unread}
 use Rattle.mailbox_commands.specs.Errands.{mailbox_test}
 use Rattle.mailbox_commands.specs.Laws.{MailIsBoxed}
 use Rattle.mailbox_commands.specs.Running.{DoesErrand, FailsToPrint, LacksRoom, PrintsOut}
-use Rattle.mailbox_commands.specs.Running.{RunsErrand, StopsEarly}
+use Rattle.mailbox_commands.specs.Running.{RunsErrand}
 use Rattle.mailbox_commands.specs.Taking.{HasTakenMail, IsInput, IsMail, IsNextTake, ReadsNextBatch}
-use Rattle.mailbox_commands.specs.Taking.{TakesMail, TellsEnd, in_errand, outcome_at, taken_text}
+use Rattle.mailbox_commands.specs.Taking.{TellsEnd, in_errand, outcome_at, taken_text}
 use Rattle.mailbox_commands.proofs.Errands.{errand_loaded, errand_printed, loaded_as_is}
 
 abbrev Batches : Type 0
@@ -281,34 +283,23 @@ module _ (clients : Meaning) (contact : ℕ) (old new : Outside)
   abbrev Taken : Outcome → Type 0
   Taken came = HasTakenMail clients contact old new input input' out out' came
 
-  pub taken_none : (came : Outcome) → LoadedBy old new (Err came)
-      → StopsEarly clients contact old new out out' came
-      → IsIdle input input' → Taken came
-  taken_none outcome.NoStore by early idle = (early, idle)
-  taken_none (outcome.Damaged place) by early idle = (early, idle)
-  taken_none outcome.DiskFault by early idle = inl (early, idle)
-  taken_none outcome.Memory by early idle = inl early
-  taken_none _ by early idle = absurd by
-
-  pub taken_unread : (came : Outcome) → IsInput input input' (Err came)
-      → StopsEarly clients contact old new out out' outcome.ReadFault
-      → StopsEarly clients contact old new out out' outcome.TooMuch
-      → StopsEarly clients contact old new out out' outcome.Memory → Taken came
-  taken_unread outcome.ReadFault reads fault much memory = (fault, reads)
-  taken_unread outcome.TooMuch reads fault much memory = (much, reads)
-  taken_unread outcome.Memory reads fault much memory = inl memory
-  taken_unread _ reads fault much memory = absurd reads
-
-  pub taken_late : (came : Outcome) → TakesMail clients contact old new input input' out out' came
-      → Taken came
-  taken_late outcome.NoStore takes = absurd takes.did.by
-  taken_late (outcome.Damaged place) takes = absurd takes.did.by
-  taken_late (outcome.Refused why) takes = absurd takes.did.by
-  taken_late outcome.ReadFault takes = absurd takes.did.by
-  taken_late outcome.TooMuch takes = absurd takes.did.by
-  taken_late outcome.DiskFault takes = inr takes
-  taken_late outcome.Memory takes = inr takes
-  taken_late _ takes = takes
+  -- the input was not read whole
+  pub taken_unread : (came : Outcome) → IsInput input input' (Err came) → (s : StoreValue)
+      → DiskRun old new
+      → ((two : Two File) → old.files ≡ Some two
+      → LeavesFilesSo (LoadKeeps (Ok s) two) two old new)
+      → ((two : Two File) → old.files ≡ Some two → HasFacts (stands clients (read_files two)) s)
+      → mailbox_test s.state.facts contact ≡ None → IsIdle out out' → Taken came
+  taken_unread outcome.ReadFault reads s run rests loaded tested idle =
+      inl (stops_unread clients (λ f. mailbox_test f contact) _ old new out out' run idle s rests
+      loaded tested reads)
+  taken_unread outcome.TooMuch reads s run rests loaded tested idle =
+      inl (stops_too_much clients (λ f. mailbox_test f contact) _ old new out out' run idle s rests
+      loaded tested reads)
+  taken_unread outcome.Memory reads s run rests loaded tested idle =
+      inl (stops_memory clients (λ f. mailbox_test f contact) _ old new out out' run idle s rests
+      loaded tt)
+  taken_unread _ reads s run rests loaded tested idle = absurd reads
 
   pub taken_on : (r : Result (Unit {0}) Outcome) (x : Outcome) → IsErrAnd r (λ e. e ≡ x) → Taken x
       → Taken (came_to r)
@@ -371,7 +362,7 @@ pub taken_read : (clients : Meaning) (contact : ℕ) (o o1 o2 : Outside)
     → HasTakenMail clients contact o o2 input input' out out' came
 taken_read clients contact o o1 o2 input input' out out' s items bytes came run rests opened tested
     mail is ran =
-    taken_late clients contact o o2 input input' out out' came (record {
+    inr (record {
       bytes = bytes;
       reads = subst (IsMail input input') (sym is) mail;
       run = run_then o o1 o2 run ran.run;

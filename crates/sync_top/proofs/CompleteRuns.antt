@@ -35,7 +35,8 @@ use Rattle.sync_run.specs.Causes.{FailuresRose, IsCaused}
 use Rattle.sync_run.specs.Courses.{RunComesTo, RanToEnd, WasFull, run_test}
 use Rattle.sync_run.specs.Ends.{LacksVersion, StandsByHeard}
 use Rattle.sync_run.specs.Ran.{HasRun}
-use Rattle.sync_top.specs.Complete.{AllHeardWell, CourseDecides, HeardWell, MaySync, is_unfailed}
+use Rattle.sync_top.specs.Complete.{AllHeardWell, CourseDecides, HeardWell, is_unfailed}
+use Rattle.sync_top.specs.Serving.{MaySync}
 
 -- ---- the status of links
 
@@ -178,10 +179,10 @@ module _ (clients : Meaning) (limits : Limits) (words : List LinkWords) (old new
     abbrev stood : Standing
     stood = stands clients (read_files may.stood.0)
 
-    same_begin : (j : List (List Entry)) → stood ≡ journal j → j ≡ may.begin
-    same_begin j is = let both : journal j ≡ journal may.begin = sym is ∙ may.stood.2 in cc
+    same_begin : (j : List (List Entry)) → stood ≡ journal j → j ≡ may.before
+    same_begin j is = let both : journal j ≡ journal may.before = sym is ∙ may.stood.2 in cc
 
-    not_full : WasFull clients limits words may.begin old new → ⊥
+    not_full : WasFull clients limits words may.before old new → ⊥
     not_full (inl over) =
         let room = may.room over.run over.batch over.next over.steps in
         omega (arith, room, over.over)
@@ -190,26 +191,26 @@ module _ (clients : Meaning) (limits : Limits) (words : List LinkWords) (old new
     result_comes : (r : Result Closing Outcome) (came : Outcome) → came ≡ links_came_to r
         → IsCaused words old new r → RunComesTo clients limits words stood old new r → ComesOut came
     result_comes (Ok lines) came is caused comes =
-        let ran : RanToEnd clients limits words may.begin old new lines =
+        let ran : RanToEnd clients limits words may.before old new lines =
         subst (λ (j : List (List Entry)). RanToEnd clients limits words j old new lines)
         (same_begin comes.begin comes.began) comes.has in
-        subst ComesOut (sym is) (inl (course_decides may.begin lines caused ran may.stood))
+        subst ComesOut (sym is) (inl (course_decides may.before lines caused ran may.stood))
     result_comes (Err (outcome.LinkFailed link)) came is caused comes =
         absurd (links link caused.rose)
     result_comes (Err outcome.DiskFault) came is caused comes = absurd (disk caused)
     result_comes (Err outcome.Memory) came is caused comes = inr (ap status_of is)
     result_comes (Err outcome.NoStore) came is caused comes =
-        let both : no_store ≡ journal may.begin = sym comes ∙ may.stood.2 in cc
+        let both : no_store ≡ journal may.before = sym comes ∙ may.stood.2 in cc
     result_comes (Err (outcome.Damaged place)) came is caused comes =
-        let both : damaged place.file place.at ≡ journal may.begin = sym comes ∙ may.stood.2 in cc
+        let both : damaged place.file place.at ≡ journal may.before = sym comes ∙ may.stood.2 in cc
     result_comes (Err (outcome.Refused why)) came is caused comes =
-        let fails : run_test (facts may.begin) words ≡ Some why =
+        let fails : run_test (facts may.before) words ≡ Some why =
         subst (λ (j : List (List Entry)). run_test (facts j) words ≡ Some why)
         (same_begin comes.begin comes.began) comes.tested in
         let both : Some why ≡ None = sym fails ∙ may.tested in
         cc
     result_comes (Err outcome.Full) came is caused comes =
-        let full : WasFull clients limits words may.begin old new =
+        let full : WasFull clients limits words may.before old new =
         subst (λ (j : List (List Entry)). WasFull clients limits words j old new)
         (same_begin comes.begin comes.began) comes.has in
         absurd (not_full full)
