@@ -5,7 +5,7 @@ use Rattle.std.proofs.Common.{Some}
 use Rattle.std.specs.Prelude.{IsErrAnd, Option}
 use Rattle.outside.specs.declared.limits.TheConstants.{MAX_JOURNAL}
 use Rattle.outside.specs.Faults.{CountRose}
-use Rattle.outside.specs.Files.{Two, File}
+use Rattle.outside.specs.Files.{Two, File, read_files}
 use Rattle.outside.specs.Host.{ReadsClock}
 use Rattle.outside.specs.Links.{Links}
 use Rattle.outside.specs.Outside.{DiskRun, Outside, QuietCall}
@@ -32,8 +32,11 @@ use Rattle.sync_words.specs.declared.outcome.Outcome.{Outcome}
 use Rattle.sync_words.specs.declared.outcome.Outcome.TheVariants as outcome
 use Rattle.sync_words.specs.Outcomes.{came_to}
 use Rattle.store_commands.specs.Commit.{SettlesAnew}
-use Rattle.store_commands.specs.Load.{LoadKeeps, MayExtend}
+use Rattle.entry_codec.specs.Standing.{stands}
+use Rattle.store_commands.specs.Load.{IsLoaded, LoadKeeps, LoadedBy, MayExtend}
 use Rattle.store_commands.specs.Show.{PrintsText, LeavesFilesSo}
+use Rattle.store_commands.specs.Stopping.{NeverReads}
+use Rattle.store_commands.proofs.Stopped.{never_read, stops_none}
 use Rattle.mailbox_commands.specs.declared.sending.Sending.{Sending}
 use Rattle.mailbox_commands.specs.Errands.{mailbox_test}
 use Rattle.mailbox_commands.specs.Running.{DoesErrand, LacksRoom, RunsErrand}
@@ -206,6 +209,18 @@ sent_printed law clients asked now s s1 s2 o o1 o2 out out' u v to to' given cam
 module _ (clients : Meaning) (asked : Sending) (old new : Outside) (out out' : Stream) where
   abbrev Mailed : Outcome → Type 0
   Mailed came = HasSentMail clients asked old new out out' came
+
+  -- no store was loaded
+  pub mailed_none : (came : Outcome) → DiskRun old new
+      → ((two : Two File) → old.files ≡ Some two
+      → LeavesFilesSo (LoadKeeps (Err came) two) two old new)
+      → LoadedBy old new (Err came)
+      → ((two : Two File) → old.files ≡ Some two
+      → IsLoaded (stands clients (read_files two)) (Err came))
+      → IsIdle out out' → Mailed came
+  mailed_none came run rests by loaded idle =
+      inl (stops_none clients (λ f. mailbox_test f asked.contact) NeverReads old new out out' run idle
+      came rests by loaded (never_read old new came by))
 
   pub mailed_on : (r : Result (Unit {0}) Outcome) (x : Outcome) → IsErrAnd r (λ e. e ≡ x) → Mailed x
       → Mailed (came_to r)

@@ -38,9 +38,10 @@ use Rattle.sync_words.specs.declared.outcome.Outcome.TheVariants as outcome
 use Rattle.sync_words.specs.Outcomes.{came_to}
 use Rattle.store_commands.specs.Commit.{SettlesAnew}
 use Rattle.entry_codec.specs.Standing.{stands}
-use Rattle.store_commands.specs.Load.{HasFacts, LoadKeeps, MayExtend}
+use Rattle.store_commands.specs.Load.{HasFacts, IsLoaded, LoadKeeps, LoadedBy, MayExtend}
 use Rattle.store_commands.specs.Show.{PrintsText, LeavesFilesSo}
-use Rattle.store_commands.proofs.Stopped.{stops_memory, stops_too_much, stops_unread}
+use Rattle.store_commands.proofs.Stopped.{input_unread, stops_memory, stops_none, stops_too_much}
+use Rattle.store_commands.proofs.Stopped.{stops_unread}
 use Rattle.mailbox_commands.specs.Errands.{mailbox_test}
 use Rattle.mailbox_commands.specs.Laws.{MailIsBoxed}
 use Rattle.mailbox_commands.specs.Running.{DoesErrand, FailsToPrint, LacksRoom, PrintsOut}
@@ -282,6 +283,18 @@ module _ (clients : Meaning) (contact : ℕ) (old new : Outside)
     (input input' out out' : Stream) where
   abbrev Taken : Outcome → Type 0
   Taken came = HasTakenMail clients contact old new input input' out out' came
+
+  -- no store was loaded
+  pub taken_none : (came : Outcome) → DiskRun old new
+      → ((two : Two File) → old.files ≡ Some two
+      → LeavesFilesSo (LoadKeeps (Err came) two) two old new)
+      → LoadedBy old new (Err came)
+      → ((two : Two File) → old.files ≡ Some two
+      → IsLoaded (stands clients (read_files two)) (Err came))
+      → IsIdle input input' → IsIdle out out' → Taken came
+  taken_none came run rests by loaded unread idle =
+      inl (stops_none clients (λ f. mailbox_test f contact) _ old new out out' run idle came rests by
+      loaded (input_unread _ old new input input' came unread by))
 
   -- the input was not read whole
   pub taken_unread : (came : Outcome) → IsInput input input' (Err came) → (s : StoreValue)

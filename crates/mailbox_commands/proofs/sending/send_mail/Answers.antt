@@ -1,8 +1,8 @@
 use Rattle.std.proofs.Common.{refl, sym, ◌∙◌, ◌≡◌, inl, subst, Option}
-use Rattle.store_commands.proofs.Stopped.{never_read, stops_none, stops_refused}
+use Rattle.store_commands.proofs.Stopped.{stops_refused}
 use Rattle.mailbox_commands.specs.Errands.{mailbox_test}
 use Rattle.mailbox_commands.proofs.Early.{tested_begins}
-use Rattle.mailbox_commands.proofs.Sent.{ready_still, mailed_on, mailed_read}
+use Rattle.mailbox_commands.proofs.Sent.{ready_still, mailed_none, mailed_on, mailed_read}
 use Rattle.mailbox_commands.proofs.sending.send_mail.Goals as goal
 
 pub returns-in_err-store : goal.returns-in_err-store
@@ -11,9 +11,8 @@ returns-in_err-store g c =
     let came = c.in_err-store.field-0.0 in
     let e = c.in_err-store.ensures in
     mailed_on clients c.args.asked _ _ _ _ c.from_residual.result came c.from_residual.ensures.1
-    (inl (stops_none clients (λ f. mailbox_test f c.args.asked.contact) _ _ _ _ _ e.run
-    (record { same = refl; same_faults = refl }) came e.rests e.by e.loaded
-    (never_read _ _ came e.by)))
+    (mailed_none clients c.args.asked _ _ _ _ came e.run e.rests e.by e.loaded
+    (record { same = refl; same_faults = refl }))
 
 pub returns-in-Some : goal.returns-in-Some
 returns-in-Some g c =

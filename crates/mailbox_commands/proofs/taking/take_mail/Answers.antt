@@ -1,8 +1,8 @@
 use Rattle.std.proofs.Common.{refl, sym, ◌∙◌, inl}
-use Rattle.store_commands.proofs.Stopped.{input_unread, stops_none, stops_refused}
+use Rattle.store_commands.proofs.Stopped.{stops_refused}
 use Rattle.mailbox_commands.specs.Errands.{mailbox_test}
 use Rattle.mailbox_commands.proofs.Early.{tested_begins}
-use Rattle.mailbox_commands.proofs.Taken.{taken_on, taken_read, taken_unread}
+use Rattle.mailbox_commands.proofs.Taken.{taken_none, taken_on, taken_read, taken_unread}
 use Rattle.mailbox_commands.proofs.taking.take_mail.Goals as goal
 
 pub returns-in_err-store : goal.returns-in_err-store
@@ -12,9 +12,8 @@ returns-in_err-store g c =
     let e = c.in_err-store.ensures in
     taken_on clients c.args.contact _ _ _ _ _ _ c.from_residual.result came
     c.from_residual.ensures.1
-    (inl (stops_none clients (λ f. mailbox_test f c.args.contact) _ _ _ _ _ e.run
-    (record { same = refl; same_faults = refl }) came e.rests e.by e.loaded
-    (input_unread _ _ _ _ _ came (record { same = refl; same_faults = refl }) e.by)))
+    (taken_none clients c.args.contact _ _ _ _ _ _ came e.run e.rests e.by e.loaded
+    (record { same = refl; same_faults = refl }) (record { same = refl; same_faults = refl }))
 
 pub returns-in-Some : goal.returns-in-Some
 returns-in-Some g c =
