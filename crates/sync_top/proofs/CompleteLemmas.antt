@@ -10,16 +10,14 @@ use Rattle.outside.specs.Faults.{CountRose}
 use Rattle.outside.specs.Files.{Two, File, read_files}
 use Rattle.outside.specs.Outside.{Outside}
 use Rattle.outside.proofs.CallSteps.{told_on}
-use Rattle.outside.specs.Streams.{IsIdle, Stream}
+use Rattle.outside.specs.Streams.{Stream}
 use Rattle.record_grammar.specs.Stream.{ending}
-use Rattle.record_grammar.specs.declared.stream.Ending.{Ending}
-use Rattle.record_grammar.specs.declared.stream.Ending.TheVariants as ends
 use Rattle.record_grammar.specs.declared.stream.Item.{Item}
 use Rattle.sync_rules.specs.declared.entries.Entry.{Entry}
 use Rattle.sync_rules.specs.declared.states.Refused.{Refused}
 use Rattle.sync_rules.specs.declared.states.Refused.TheVariants as refused
 use Rattle.sync_rules.specs.Clients.{Meaning}
-use Rattle.sync_rules.specs.Facts.{Facts, Id, facts, group_at}
+use Rattle.sync_rules.specs.Facts.{Facts, Id, facts}
 use Rattle.entry_codec.specs.Standing.{Standing, damaged, journal, no_store, stands}
 use Rattle.sync_store.specs.Begin.{has_open}
 use Rattle.sync_words.specs.declared.outcome.Outcome.{Outcome}
@@ -33,22 +31,19 @@ use Rattle.commands.specs.declared.command.Command.{Command}
 use Rattle.commands.specs.declared.command.Command.TheVariants as command
 use Rattle.store_commands.specs.declared.commit.Settling.{Settling}
 use Rattle.store_commands.specs.declared.commit.Settling.TheVariants as settling
-use Rattle.store_commands.specs.declared.listing.Listing.TheVariants as listing
 use Rattle.store_commands.specs.Commit.{IsFull, MayMigrate, WasSpent, needed_by}
 use Rattle.store_commands.specs.Compact.{HasCompacted, IsBriefFull, MayRenew, brief_len}
 use Rattle.store_commands.specs.Entries.{HasAdded}
 use Rattle.store_commands.specs.Init.{HasBegun}
-use Rattle.store_commands.specs.Plans.{Plan, adds, contact_plan, group_plan, level_plan, refuses}
+use Rattle.store_commands.specs.Plans.{Plan, adds, refuses}
 use Rattle.store_commands.specs.Post.{HasPosted, PostStops, PostsBody, group_test}
 use Rattle.store_commands.specs.Show.{HasLooked}
 use Rattle.store_commands.specs.Stopping.{InputStops, NeverReads, StopsEarly}
-use Rattle.store_commands.specs.Shown.{Showing, body_shown, denies, listing_shown, shows}
-use Rattle.tree_commands.specs.Trees.{tree_shown}
+use Rattle.store_commands.specs.Shown.{Showing, denies, shows}
 use Rattle.audit_commands.specs.Audits.{HasAudited}
 use Rattle.sync_node.specs.Courses.{ReadsAs}
 use Rattle.sharing_commands.specs.Agreeing.{EachFoundRoom, HasAgreed, IsAgreementCut}
 use Rattle.sharing_commands.specs.Agreement.{agree_test, agreed_batches}
-use Rattle.sharing_commands.specs.Sayings.{say_plan}
 use Rattle.sharing_commands.proofs.Fronts.{room_at}
 use Rattle.mailbox_core.specs.Files.{box_ending}
 use Rattle.mailbox_commands.specs.declared.sending.Sending.{Sending}
@@ -62,8 +57,8 @@ use Rattle.store_commands.proofs.Stood.{last_lacks}
 use Rattle.sync_top.specs.declared.input.TheConstants.{MAX_INPUT}
 use Rattle.sync_top.specs.Complete.{ComesOut, Complete, MailDecides, NothingFails, ServesCommand}
 use Rattle.sync_top.specs.Complete.{StreamDecides}
-use Rattle.sync_top.specs.Duties.{def_of, duty_of, sending_of, speech_of, to_send, to_take}
-use Rattle.sync_top.specs.Run.{WordsComeTo, ComesOfStore, ReadsStream, ReadsWhole, ReportsOutcome}
+use Rattle.sync_top.specs.Duties.{duty_of, sending_of, to_send, to_take}
+use Rattle.sync_top.specs.Run.{WordsComeTo, ReadsStream, ReadsWhole, ReportsOutcome}
 use Rattle.sync_top.specs.Run.{Streams, TriesClient, outcome_of}
 use Rattle.sync_top.specs.Serving.{HoweverSettled, MayAddPlanned, MayAudit, MayCompact, MayPost}
 use Rattle.sync_top.specs.Serving.{MayShow}
@@ -531,11 +526,38 @@ module _ (clients : Meaning) (old new : Outside) (input input' out out' : Stream
   posted_done group timestamp came (inl did) may = post_stopped group timestamp came did may
   posted_done group timestamp came (inr did) may = body_done group timestamp came did may
 
-  -- a command of a store, which may have wanted for memory before it began
-  store_done : (did : Outcome → Type 0) (came : Outcome) → (did came → Done came)
-      → ComesOfStore did old new input input' out out' came → Done came
-  store_done did came done (inl so) = done so
-  store_done did came done (inr none) = inr (ap status_of none.0)
+  -- by the command
+  duty_comes_out : (asked : Command) (came : Outcome)
+      → (duty_of clients asked).comes old new input input' out out' came
+      → (duty_of clients asked).serves old new input input'
+      → ComesOut clients asked old new input input' (status_of came)
+      ⊎ (status_of came ≡ status.Memory)
+  duty_comes_out command.Init came did serves =
+      begun_done came did.0 serves.0 serves.1 serves.2
+  duty_comes_out command.Contact came did serves = added_done _ _ came did.0 serves
+  duty_comes_out (command.Group name major descriptor) came did serves =
+      added_done _ _ came did.0 serves
+  duty_comes_out (command.Share contact group level) came did serves =
+      added_done _ _ came did.0 serves
+  duty_comes_out (command.Post group timestamp) came did serves =
+      posted_done group timestamp came did serves
+  duty_comes_out command.Show came did serves = looked_done _ came did.0 serves
+  duty_comes_out command.Inbox came did serves = looked_done _ came did.0 serves
+  duty_comes_out (command.Body id) came did serves = looked_done _ came did.0 serves
+  duty_comes_out (command.Tree group from count) came did serves = looked_done _ came did.0 serves
+  duty_comes_out command.Audit came did serves = audited_done came did.0 serves
+  duty_comes_out (command.Say group timestamp join name major descriptor) came did serves =
+      added_done _ _ came did.0 serves
+  duty_comes_out (command.Agree contact group) came did serves =
+      agreed_done contact group came did.0 serves
+  duty_comes_out command.Compact came did serves = compacted_done came did.0 serves
+  duty_comes_out (command.MailboxIn contact) came did serves = taken_done contact came did serves
+  duty_comes_out (command.MailboxOut contact latency count) came did serves =
+      mailed_done (sending_of contact latency count) came did.0 serves
+  duty_comes_out (command.Sync turns quiet links) came did serves =
+      run_comes_out clients (record { turns = turns; quiet = quiet }) links old new fails.disk
+      fails.links came did.0 serves
+  duty_comes_out _ came did serves = absurd did.0
 
 -- ---- all commands
 
@@ -553,105 +575,10 @@ command_comes_out clients (command.Try name descriptor) old new input input' out
     comes fails.source fails.sink
 command_comes_out clients command.Records old new input input' out out' came comes serves fails =
     streams_decide input input' out out' came _ comes fails.source fails.sink
-command_comes_out clients command.Init old new input input' out out' came comes serves fails =
-    store_done clients old new input input' out out' fails (λ (o : Outcome).
-    HasBegun old new out out' o × IsIdle input input') came (λ did.
-    begun_done clients old new input input' out out' fails came did.0 serves.0 serves.1
-    serves.2) comes
-command_comes_out clients command.Contact old new input input' out out' came comes serves fails =
-    store_done clients old new input input' out out' fails (λ (o : Outcome).
-    HasAdded clients contact_plan settling.Before old new out out' o × IsIdle input input') came
-    (λ did. added_done clients old new input input' out out' fails contact_plan
-    settling.Before came did.0 serves) comes
-command_comes_out clients (command.Group name major descriptor) old new input input' out out' came
-    comes serves fails =
-    store_done clients old new input input' out out' fails (λ (o : Outcome).
-    HasAdded clients (λ f.
-    group_plan clients f (record { name = name; major = major; descriptor = descriptor }))
-    settling.Before old new out out' o × IsIdle input input') came
-    (λ did. added_done clients old new input input' out out' fails (λ f.
-    group_plan clients f (record { name = name; major = major; descriptor = descriptor }))
-    settling.Before came did.0 serves) comes
-command_comes_out clients (command.Share contact group level) old new input input' out out' came
-    comes serves fails =
-    store_done clients old new input input' out out' fails (λ (o : Outcome).
-    HasAdded clients (λ f. level_plan f contact group level) settling.Before old new out out' o
-    × IsIdle input input') came
-    (λ did. added_done clients old new input input' out out' fails (λ f.
-    level_plan f contact group level) settling.Before came did.0 serves) comes
-command_comes_out clients (command.Post group timestamp) old new input input' out out' came comes
-    serves fails =
-    store_done clients old new input input' out out' fails (λ (o : Outcome).
-    HasPosted clients group timestamp old new input input' out out' o) came (λ did.
-    posted_done clients old new input input' out out' fails group timestamp came did serves)
-    comes
-command_comes_out clients command.Show old new input input' out out' came comes serves fails =
-    store_done clients old new input input' out out' fails (λ (o : Outcome).
-    HasLooked clients (listing_shown listing.Store) old new out out' o
-    × IsIdle input input') came (λ did.
-    looked_done clients old new input input' out out' fails
-    (listing_shown listing.Store) came did.0 serves) comes
-command_comes_out clients command.Inbox old new input input' out out' came comes serves fails =
-    store_done clients old new input input' out out' fails (λ (o : Outcome).
-    HasLooked clients (listing_shown listing.Inbox) old new out out' o
-    × IsIdle input input') came (λ did.
-    looked_done clients old new input input' out out' fails
-    (listing_shown listing.Inbox) came did.0 serves) comes
-command_comes_out clients (command.Body id) old new input input' out out' came comes serves fails =
-    store_done clients old new input input' out out' fails (λ (o : Outcome).
-    HasLooked clients (body_shown id) old new out out' o × IsIdle input input') came (λ did.
-    looked_done clients old new input input' out out' fails (body_shown id) came did.0
-    serves) comes
-command_comes_out clients (command.Tree group from count) old new input input' out out' came comes
-    serves fails =
-    store_done clients old new input input' out out' fails
-    (λ (o : Outcome). HasLooked clients
-    (tree_shown clients (record { group = group; from = from; count = count })) old new out out'
-    o × IsIdle input input') came
-    (λ did. looked_done clients old new input input' out out' fails
-    (tree_shown clients (record { group = group; from = from; count = count }))
-    came did.0 serves) comes
-command_comes_out clients command.Audit old new input input' out out' came comes serves fails =
-    store_done clients old new input input' out out' fails
-    (λ (o : Outcome). HasAudited clients old new out out' o × IsIdle input input') came
-    (λ did. audited_done clients old new input input' out out' fails came did.0 serves) comes
-command_comes_out clients (command.Say group timestamp join name major descriptor) old new input
-    input' out out' came comes serves fails =
-    let plan = say_plan clients (speech_of group timestamp join (def_of name major descriptor)) in
-    store_done clients old new input input' out out' fails (λ (o : Outcome).
-    HasAdded clients plan settling.BeforeAndAfter old new out out' o × IsIdle input input') came
-    (λ did. added_done clients old new input input' out out' fails plan settling.BeforeAndAfter came
-    did.0 serves) comes
-command_comes_out clients (command.Agree contact group) old new input input' out out' came comes
-    serves fails =
-    store_done clients old new input input' out out' fails (λ (o : Outcome).
-    HasAgreed clients contact group old new out out' o × IsIdle input input') came
-    (λ did. agreed_done clients old new input input' out out' fails contact group came did.0 serves)
-    comes
-command_comes_out clients command.Compact old new input input' out out' came comes serves fails =
-    store_done clients old new input input' out out' fails (λ (o : Outcome).
-    HasCompacted clients old new out out' o × IsIdle input input') came
-    (λ did. compacted_done clients old new input input' out out' fails came did.0 serves) comes
-command_comes_out clients (command.MailboxIn contact) old new input input' out out' came comes
-    serves fails =
-    elim comes [
-      | inl did ↦ taken_done clients old new input input' out out' fails contact came did serves
-      | inr none ↦ inr (ap status_of none.0)
-    ]
-command_comes_out clients (command.MailboxOut contact latency count) old new input input' out out'
-    came comes serves fails =
-    store_done clients old new input input' out out' fails
-    (λ (o : Outcome). HasSentMail clients (sending_of contact latency count) old new out out' o
-    × IsIdle input input') came
-    (λ did. mailed_done clients old new input input' out out' fails
-    (sending_of contact latency count) came did.0 serves) comes
-command_comes_out clients (command.Sync turns quiet links) old new input input' out out' came comes
-    serves fails =
-    elim comes [
-      | inl did ↦ run_comes_out clients (record { turns = turns; quiet = quiet }) links old new
-          fails.disk fails.links came did.0 serves
-      | inr none ↦ inr (ap status_of none.0)
-    ]
+command_comes_out clients asked old new input input' out out' came (inl did) serves fails =
+    duty_comes_out clients old new input input' out out' fails asked came did serves
+command_comes_out clients asked old new input input' out out' came (inr none) serves fails =
+    inr (ap status_of none.0)
 
 comes_out : (clients : Meaning) (words : Asked) (old new : Outside) (input input' out out' : Stream)
     (came : Outcome) → WordsComeTo clients words old new input input' out out' came

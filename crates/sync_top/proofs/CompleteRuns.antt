@@ -1,13 +1,12 @@
 -- A run of sessions comes to what its course decides: each other outcome has a cause.
-use Rattle.std.proofs.Common.{◌≡◌, ℕ, zero, suc, ◌≤◌, Bool, true, false, List, [], ◌∷◌, ◌++◌, refl}
+use Rattle.std.proofs.Common.{◌≡◌, ℕ, zero, suc, Bool, true, false, List, [], ◌∷◌, ◌++◌, refl}
 use Rattle.std.proofs.Common.{sym, ◌∙◌, ap, subst, inl, inr, arith, None, Some, Result, Ok, Err}
 use Rattle.std.specs.Prelude.{◌⊎◌, slice_get, map, ◌||◌}
 use Rattle.std.specs.List.{list_any}
-use Rattle.outside.specs.declared.limits.TheConstants.{MAX_JOURNAL}
 use Rattle.outside.specs.Faults.{CountRose}
 use Rattle.outside.specs.Files.{read_files}
 use Rattle.outside.specs.Outside.{Outside}
-use Rattle.record_grammar.specs.Stream.{ending, records, records_of}
+use Rattle.record_grammar.specs.Stream.{records, records_of}
 use Rattle.record_grammar.specs.declared.stream.Ending.TheVariants as ends
 use Rattle.record_grammar.specs.declared.stream.Item.{Item}
 use Rattle.record_grammar.specs.declared.stream.Item.TheVariants as item
@@ -18,7 +17,6 @@ use Rattle.sync_rules.specs.Facts.{facts}
 use Rattle.entry_codec.specs.Standing.{Standing, damaged, journal, no_store, stands}
 use Rattle.sync_course.specs.declared.ends.LinkEnd.{LinkEnd}
 use Rattle.sync_course.specs.declared.ends.LinkEnd.TheVariants as end
-use Rattle.sync_course.specs.Events.{batches_of}
 use Rattle.sync_course.specs.Links.{Link, closes}
 use Rattle.sync_course.specs.Turns.{is_over}
 use Rattle.sync_node.specs.Courses.{ReadsAs}
@@ -59,14 +57,8 @@ first_unfailed s t first rest = cc
 end_unfailed : (over : Bool) (e : LinkEnd) → (e ≡ end.Failed → ⊥) → is_unfailed
     (link_status over e) ≡ true
 end_unfailed over end.Failed fails = absurd (fails refl)
-end_unfailed true end.Going fails = refl
-end_unfailed false end.Going fails = refl
-end_unfailed true end.Clean fails = refl
-end_unfailed false end.Clean fails = refl
-end_unfailed over end.Redundant fails = refl
-end_unfailed over (end.Inside place) fails = refl
-end_unfailed over (end.Bad place why) fails = refl
-end_unfailed over (end.NoVersion place) fails = refl
+end_unfailed true _ fails = refl
+end_unfailed false _ fails = refl
 
 all_unfailed : (over : Bool) (ends : List LinkEnd)
     → ((i : ℕ) (e : LinkEnd) → slice_get ends i ≡ Some e → e ≡ end.Failed → ⊥)

@@ -6,7 +6,7 @@ use Rattle.outside.specs.Files.{Two, File, IsImage, read_files}
 use Rattle.outside.specs.Frames.{generation_in, is_open, journal_file}
 use Rattle.outside.specs.Outside.{Outside, Moment, MomentsAre, IsNow}
 use Rattle.outside.proofs.CallSteps.{moments_map, moments_none}
-use Rattle.outside.specs.Streams.{IsIdle, Stream}
+use Rattle.outside.specs.Streams.{Stream}
 use Rattle.sync_rules.specs.declared.states.Refused.{Refused}
 use Rattle.sync_rules.specs.declared.states.Refused.TheVariants as refused
 use Rattle.sync_rules.specs.Clients.{Meaning}
@@ -17,31 +17,28 @@ use Rattle.sync_words.specs.declared.outcome.Outcome.{Outcome}
 use Rattle.sync_words.specs.declared.outcome.Outcome.TheVariants as outcome
 use Rattle.commands.specs.Reading.{Asked}
 use Rattle.commands.specs.Reading.Asked.{Usage, Do}
+use Rattle.commands.specs.declared.command.Command.{Command}
 use Rattle.commands.specs.declared.command.Command.TheVariants as command
 use Rattle.store_commands.specs.declared.commit.Settling.{Settling}
-use Rattle.store_commands.specs.declared.commit.Settling.TheVariants as settling
-use Rattle.store_commands.specs.declared.listing.Listing.TheVariants as listing
 use Rattle.store_commands.specs.Compact.{HasCompacted, compacting}
 use Rattle.store_commands.specs.Entries.{HasAdded, adding}
 use Rattle.store_commands.specs.Init.{HasBegun}
-use Rattle.store_commands.specs.Plans.{Plan, contact_plan, group_plan, level_plan}
+use Rattle.store_commands.specs.Plans.{Plan}
 use Rattle.store_commands.specs.Post.{HasPosted, PostStops, PostsBody}
 use Rattle.store_commands.specs.Show.{HasLooked}
 use Rattle.store_commands.specs.Stopping.{StopsEarly, TestsHold}
-use Rattle.store_commands.specs.Shown.{Showing, body_shown, listing_shown}
+use Rattle.store_commands.specs.Shown.{Showing}
 use Rattle.store_commands.specs.Works.{HasWorked, Work}
-use Rattle.tree_commands.specs.Trees.{tree_shown}
 use Rattle.audit_commands.specs.Audits.{HasAudited}
 use Rattle.sharing_commands.specs.Agreeing.{HasAgreed, agreeing}
-use Rattle.sharing_commands.specs.Sayings.{say_plan}
 use Rattle.mailbox_commands.specs.declared.sending.Sending.{Sending}
 use Rattle.mailbox_commands.specs.Errands.{Errand, ErrandOn, mailbox_test}
 use Rattle.mailbox_commands.specs.Running.{FilesRun}
 use Rattle.mailbox_commands.specs.Sending.{HasSentMail, out_errand}
 use Rattle.mailbox_commands.specs.Taking.{HasTakenMail, in_errand}
 use Rattle.sync_store.specs.Moments.{JournalMoment}
-use Rattle.sync_top.specs.Duties.{def_of, sending_of, speech_of}
-use Rattle.sync_top.specs.Run.{WordsComeTo, ComesOfStore, Covered, KeepsHost}
+use Rattle.sync_top.specs.Duties.{duty_of, sending_of}
+use Rattle.sync_top.specs.Run.{AsksSync, WordsComeTo, ComesOfStore, Covered, KeepsHost}
 use Rattle.sync_top.specs.Undamaged.{NeverDamaged, RunUndamaged, StandsForSome, Undamaged}
 use Rattle.sync_run.specs.Headline.{Headline}
 use Rattle.sync_words.specs.declared.link_words.LinkWords.{LinkWords}
@@ -206,6 +203,36 @@ module _ (clients : Meaning) (old new : Outside) where
   of_store did input input' out out' came of_did (inr none) =
       of_now (λ two files. (none.1.rests two files).moments)
 
+  -- by the command; that of a run is told of apart
+  of_duty : (asked : Command) (input input' out out' : Stream) (came : Outcome)
+      → (AsksSync (Do asked) → ⊥)
+      → (duty_of clients asked).comes old new input input' out out' came → Undamaged clients old new
+  of_duty command.Init input input' out out' came other did = of_begun out out' came did.0
+  of_duty command.Contact input input' out out' came other did = of_added _ _ out out' came did.0
+  of_duty (command.Group name major descriptor) input input' out out' came other did =
+      of_added _ _ out out' came did.0
+  of_duty (command.Share contact group level) input input' out out' came other did =
+      of_added _ _ out out' came did.0
+  of_duty (command.Post group timestamp) input input' out out' came other did =
+      of_posted group timestamp input input' out out' came did
+  of_duty command.Show input input' out out' came other did = of_looked _ out out' came did.0
+  of_duty command.Inbox input input' out out' came other did = of_looked _ out out' came did.0
+  of_duty (command.Body id) input input' out out' came other did = of_looked _ out out' came did.0
+  of_duty (command.Tree group from count) input input' out out' came other did =
+      of_looked _ out out' came did.0
+  of_duty command.Audit input input' out out' came other did = of_audited out out' came did.0
+  of_duty (command.Say group timestamp join name major descriptor) input input' out out' came other
+      did = of_added _ _ out out' came did.0
+  of_duty (command.Agree contact group) input input' out out' came other did =
+      of_agreed contact group out out' came did.0
+  of_duty command.Compact input input' out out' came other did = of_compacted out out' came did.0
+  of_duty (command.MailboxIn contact) input input' out out' came other did =
+      of_taken contact input input' out out' came did
+  of_duty (command.MailboxOut contact latency count) input input' out out' came other did =
+      of_mailed (sending_of contact latency count) out out' came did.0
+  of_duty (command.Sync turns quiet links) input input' out out' came other did = absurd (other tt)
+  of_duty _ input input' out out' came other did = absurd did.0
+
 -- ---- all commands
 
 nothing_done : (clients : Meaning) (o : Outside) → Undamaged clients o o
@@ -226,87 +253,10 @@ module _ {H : Type 0} (tells : H → Outside) (clients : Meaning) (h h' : H)
   undamaged (Usage place) comes keeps covered = kept keeps
   undamaged (Do (command.Try name descriptor)) comes keeps covered = kept keeps
   undamaged (Do command.Records) comes keeps covered = kept keeps
-  undamaged (Do command.Init) comes keeps covered =
-      of_store clients (tells h) (tells h') (λ o. HasBegun (tells h) (tells h') out out' o
-      × IsIdle input input') input input' out out' came (λ did.
-      of_begun clients (tells h) (tells h') out out' came did.0) comes
-  undamaged (Do command.Contact) comes keeps covered =
-      of_store clients (tells h) (tells h') (λ o.
-      HasAdded clients contact_plan settling.Before (tells h) (tells h') out out' o
-      × IsIdle input input') input input' out out' came (λ did.
-      of_added clients (tells h) (tells h') _ _ out out' came did.0) comes
-  undamaged (Do (command.Group name major descriptor)) comes keeps covered =
-      of_store clients (tells h) (tells h') (λ o.
-      HasAdded clients (λ f.
-      group_plan clients f (record { name = name; major = major; descriptor = descriptor }))
-      settling.Before (tells h) (tells h') out out' o × IsIdle input input') input
-      input' out out' came (λ did.
-      of_added clients (tells h) (tells h') _ _ out out' came did.0) comes
-  undamaged (Do (command.Share contact group level)) comes keeps covered =
-      of_store clients (tells h) (tells h') (λ o.
-      HasAdded clients (λ f. level_plan f contact group level) settling.Before (tells h)
-      (tells h') out out' o × IsIdle input input') input input' out out' came (λ did.
-      of_added clients (tells h) (tells h') _ _ out out' came did.0) comes
-  undamaged (Do (command.Post group timestamp)) comes keeps covered =
-      of_store clients (tells h) (tells h') (λ o.
-      HasPosted clients group timestamp (tells h) (tells h') input input' out out' o) input
-      input' out out' came
-      (λ did. of_posted clients (tells h) (tells h') group timestamp input input' out out' came did)
-      comes
-  undamaged (Do command.Show) comes keeps covered =
-      of_store clients (tells h) (tells h') (λ o.
-      HasLooked clients (listing_shown listing.Store) (tells h) (tells h') out out' o
-      × IsIdle input input') input input' out out' came (λ did.
-      of_looked clients (tells h) (tells h') _ out out' came did.0) comes
-  undamaged (Do command.Inbox) comes keeps covered =
-      of_store clients (tells h) (tells h') (λ o.
-      HasLooked clients (listing_shown listing.Inbox) (tells h) (tells h') out out' o
-      × IsIdle input input') input input' out out' came (λ did.
-      of_looked clients (tells h) (tells h') _ out out' came did.0) comes
-  undamaged (Do (command.Body id)) comes keeps covered =
-      of_store clients (tells h) (tells h') (λ o.
-      HasLooked clients (body_shown id) (tells h) (tells h') out out' o
-      × IsIdle input input') input input' out out' came (λ did.
-      of_looked clients (tells h) (tells h') _ out out' came did.0) comes
-  undamaged (Do (command.Tree group from count)) comes keeps covered =
-      of_store clients (tells h) (tells h')
-      (λ o. HasLooked clients
-      (tree_shown clients (record { group = group; from = from; count = count })) (tells h)
-      (tells h') out out' o × IsIdle input input') input
-      input' out out' came (λ did. of_looked clients (tells h) (tells h') _ out out' came did.0)
-      comes
-  undamaged (Do command.Audit) comes keeps covered =
-      of_store clients (tells h) (tells h')
-      (λ o. HasAudited clients (tells h) (tells h') out out' o × IsIdle input input') input input'
-      out out' came (λ did. of_audited clients (tells h) (tells h') out out' came did.0) comes
-  undamaged (Do (command.Say group timestamp join name major descriptor)) comes keeps covered =
-      of_store clients (tells h) (tells h')
-      (λ o.
-      HasAdded clients (say_plan clients (speech_of group timestamp join (def_of name major descriptor)))
-      settling.BeforeAndAfter (tells h) (tells h') out out' o × IsIdle input input')
-      input input' out out' came (λ did.
-      of_added clients (tells h) (tells h') _ _ out out' came did.0) comes
-  undamaged (Do (command.Agree contact group)) comes keeps covered =
-      of_store clients (tells h) (tells h')
-      (λ o. HasAgreed clients contact group (tells h) (tells h') out out' o × IsIdle input input')
-      input input' out out' came (λ did.
-      of_agreed clients (tells h) (tells h') contact group out out' came did.0) comes
-  undamaged (Do command.Compact) comes keeps covered =
-      of_store clients (tells h) (tells h') (λ o.
-      HasCompacted clients (tells h) (tells h') out out' o × IsIdle input input') input input'
-      out out' came
-      (λ did. of_compacted clients (tells h) (tells h') out out' came did.0) comes
-  undamaged (Do (command.MailboxIn contact)) comes keeps covered =
-      of_store clients (tells h) (tells h')
-      (λ o. HasTakenMail clients contact (tells h) (tells h') input input' out out' o)
-      input input' out out' came (λ did.
-      of_taken clients (tells h) (tells h') contact input input' out out' came did) comes
-  undamaged (Do (command.MailboxOut contact latency count)) comes keeps covered =
-      of_store clients (tells h) (tells h')
-      (λ o. HasSentMail clients (sending_of contact latency count) (tells h) (tells h') out out' o
-      × IsIdle input input')
-      input input' out out' came (λ did.
-      of_mailed clients (tells h) (tells h') (sending_of contact latency count) out out' came
-      did.0) comes
   undamaged (Do (command.Sync turns quiet links)) comes keeps covered =
       of_run clients (tells h) (tells h') links covered
+  undamaged (Do asked) comes keeps covered =
+      of_store clients (tells h) (tells h')
+      ((duty_of clients asked).comes (tells h) (tells h') input input' out out') input input' out
+      out' came
+      (of_duty clients (tells h) (tells h') asked input input' out out' came (λ sync. sync)) comes

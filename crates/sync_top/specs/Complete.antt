@@ -2,57 +2,36 @@
 -- call fails, unless memory is wanting; but that the bytes decide for `try` and `records`, and the
 -- course for `sync`.
 use Rattle.std.specs.Prelude.{◌≡◌, ◌⊎◌, ℕ, ◌+◌, ◌≤◌, Bool, true, false, if◌then◌else◌, nat_lt, List}
-use Rattle.std.specs.Prelude.{[], ◌∷◌, ◌++◌, length, Option, None, Some, is_some, slice_get}
+use Rattle.std.specs.Prelude.{length, Some, is_some, slice_get}
 use Rattle.std.specs.Io.KnownBytes.{Consumes, IsAtEnd}
 use Rattle.std.specs.List.{list_any}
-use Rattle.outside.specs.declared.limits.TheConstants.{MAX_JOURNAL}
 use Rattle.outside.specs.Faults.{CountRose}
-use Rattle.outside.specs.Files.{Two, File}
-use Rattle.outside.specs.Host.{ReadsClock}
 use Rattle.outside.specs.Links.{HeardOn}
 use Rattle.outside.specs.Outside.{Outside}
 use Rattle.outside.specs.Streams.{Stream}
 use Rattle.record_grammar.specs.Stream.{ending, records}
-use Rattle.record_grammar.specs.declared.stream.Ending.{Ending}
 use Rattle.record_grammar.specs.declared.stream.Ending.TheVariants as ends
 use Rattle.sync_rules.specs.declared.entries.Entry.{Entry}
 use Rattle.sync_rules.specs.Clients.{Meaning}
-use Rattle.sync_rules.specs.Facts.{Facts, Id, after_batches, facts, group_at}
-use Rattle.sync_rules.specs.Legal.{AllSettling}
-use Rattle.sync_rules.specs.Steps.{IsSettled}
-use Rattle.sync_store.specs.Begin.{has_open}
-use Rattle.sync_course.specs.Events.{Commit, batches_of}
 use Rattle.sync_course.specs.Links.{Link, closes}
-use Rattle.sync_course.specs.Turns.{Place, RunStep, is_over}
+use Rattle.sync_course.specs.Turns.{Place, is_over}
 use Rattle.sync_node.specs.Courses.{ReadsAs}
 use Rattle.sync_node.specs.Output.{heard_on}
 use Rattle.commands.specs.declared.command.Command.{Command}
 use Rattle.commands.specs.declared.command.Command.TheVariants as command
 use Rattle.sync_words.specs.declared.link_words.LinkWords.{LinkWords}
 use Rattle.sync_course.specs.Closing.{Closing}
+use Rattle.sync_words.specs.declared.outcome.Outcome.{Outcome}
 use Rattle.sync_words.specs.declared.status.Status.{Status}
 use Rattle.sync_words.specs.declared.status.Status.TheVariants as status
 use Rattle.sync_words.specs.Outcomes.{links_status, status_of}
 use Rattle.commands.specs.Reading.{Asked}
 use Rattle.commands.specs.Reading.Asked.{Usage, Do}
-use Rattle.store_commands.specs.declared.listing.Listing.TheVariants as listing
-use Rattle.store_commands.specs.Commit.{MayMigrate, needed_by}
-use Rattle.store_commands.specs.Compact.{MayRenew, brief_len}
-use Rattle.store_commands.specs.Plans.{Plan, adds, contact_plan, group_plan, level_plan, post_plan}
-use Rattle.store_commands.specs.Post.{IsBody, message_of}
-use Rattle.store_commands.specs.Shown.{Showing, body_shown, listing_shown, shows}
 use Rattle.sync_run.specs.declared.run.Limits.{Limits}
-use Rattle.sync_run.specs.Courses.{RanToEnd, WasBroken, run_test, terms_of}
-use Rattle.tree_commands.specs.Trees.{tree_shown}
-use Rattle.sharing_commands.specs.Agreeing.{EachFoundRoom}
-use Rattle.sharing_commands.specs.Agreement.{agree_test, agreed_batches}
-use Rattle.sharing_commands.specs.Sayings.{say_plan}
+use Rattle.sync_run.specs.Courses.{RanToEnd}
 use Rattle.mailbox_core.specs.Files.{box_ending}
-use Rattle.mailbox_commands.specs.declared.sending.Sending.{Sending}
 use Rattle.mailbox_commands.specs.declared.taking.TheConstants.{MAX_MAIL}
-use Rattle.mailbox_commands.specs.Errands.{HasErrandRoom, mailbox_test}
-use Rattle.mailbox_commands.specs.Sending.{out_errand}
-use Rattle.mailbox_commands.specs.Taking.{IsMail, in_errand, outcome_at}
+use Rattle.mailbox_commands.specs.Taking.{outcome_at}
 use Rattle.sync_top.specs.Duties.{duty_of}
 use Rattle.sync_top.specs.Run.{outcome_of}
 use Rattle.sync_top.specs.declared.input.TheConstants.{MAX_INPUT}
