@@ -4,10 +4,10 @@ use Rattle.std.specs.Prelude.{◌≡◌, ℕ, List, Option, Some, Result, Ok, Er
 use Rattle.std.specs.Io.KnownBytes.{Appends}
 use Rattle.outside.specs.Disk.{RelatesTold}
 use Rattle.outside.specs.Faults.{CountRose}
-use Rattle.outside.specs.Files.{Two, File, read_files}
+use Rattle.outside.specs.Files.{Two, File}
 use Rattle.outside.specs.Outside.{DiskRun, Outside}
-use Rattle.outside.specs.Streams.{Stream, IsIdle, GetsFront}
-use Rattle.entry_codec.specs.Standing.{Standing, damaged, no_store, stands}
+use Rattle.outside.specs.Streams.{Stream, GetsFront}
+use Rattle.entry_codec.specs.Standing.{Standing, damaged, no_store}
 use Rattle.sync_rules.specs.Clients.{Meaning}
 use Rattle.journal_audit.specs.declared.report.Report.{Report}
 use Rattle.journal_audit.specs.Answers.{IsAuditOf}

@@ -1,10 +1,11 @@
--- Which commands use the files of a store, which may write them, and which read the body of a message.
+-- Which commands use the files of a store, which may write them, and which read the body of a
+-- message.
 use Rattle.std.specs.Prelude.{Bool, true, false}
 use Rattle.commands.specs.declared.command.Command.{Command}
 use Rattle.commands.specs.declared.command.Command.TheVariants as command
 
--- all but those that read a stream or show what a store holds: they make a store, add to it or write
--- it anew
+-- all but those that read a stream or show what a store holds: they make a store, add to it or
+-- write it anew
 abbrev pub may_write : Command → Bool
 may_write (command.Try name descriptor) = false
 may_write command.Records = false

@@ -1,5 +1,5 @@
 -- A file that is written, as an errand; and a run of the command that writes it.
-use Rattle.std.proofs.Common.{◌≡◌, ◌⊎◌, ℕ, ◌+◌, ◌<◌, ◌≤◌, false, arith, is_some, List, [], ◌∷◌}
+use Rattle.std.proofs.Common.{◌≡◌, ℕ, ◌+◌, ◌≤◌, arith, is_some, List, []}
 use Rattle.std.proofs.Common.{◌++◌, refl, sym, ap, ◌∙◌, subst, inl, inr, Result, Ok, Err, None}
 use Rattle.std.proofs.Common.{Some}
 use Rattle.std.specs.Prelude.{IsErrAnd, Option}
@@ -12,7 +12,6 @@ use Rattle.outside.specs.Outside.{DiskRun, Outside, QuietCall}
 use Rattle.outside.specs.Streams.{Stream, IsIdle}
 use Rattle.outside.proofs.CallSteps.{calls_link, calls_then}
 use Rattle.record_grammar.specs.Spelling.{spelled}
-use Rattle.sync_ids.specs.declared.records.Record.{Record}
 use Rattle.sync_rules.specs.declared.entries.Entry.{Entry}
 use Rattle.sync_rules.specs.declared.entries.Entry.TheVariants as entry
 use Rattle.sync_rules.specs.Clients.{Meaning}
@@ -25,7 +24,7 @@ use Rattle.sync_store.specs.Store.{StoreValue}
 use Rattle.sync_store.specs.declared.fault.StoreFault.{StoreFault}
 use Rattle.sync_store.specs.declared.fault.StoreFault.TheVariants as fault
 use Rattle.mailbox_core.specs.Laws.{OutputsAreSent}
-use Rattle.mailbox_core.specs.Sending.{HasWrittenBox, SendsAll, SendsUntilFull, WritesSome}
+use Rattle.mailbox_core.specs.Sending.{HasWrittenBox, SendsAll, WritesSome}
 use Rattle.mailbox_core.specs.Sending.{WritesUntilFull, batch_session, out_batch}
 use Rattle.mailbox_core.specs.Taking.{BeginsThen, first_batch}
 use Rattle.sync_words.specs.declared.outcome.Outcome.{Outcome}
@@ -39,9 +38,9 @@ use Rattle.store_commands.specs.Stopping.{NeverReads}
 use Rattle.store_commands.proofs.Stopped.{never_read, stops_none}
 use Rattle.mailbox_commands.specs.declared.sending.Sending.{Sending}
 use Rattle.mailbox_commands.specs.Errands.{mailbox_test}
-use Rattle.mailbox_commands.specs.Running.{DoesErrand, LacksRoom, RunsErrand}
-use Rattle.mailbox_commands.specs.Sending.{HasSentMail, SendsNextBatch, TellsSent}
-use Rattle.mailbox_commands.specs.Sending.{WritesAll, WritesWhole, out_errand}
+use Rattle.mailbox_commands.specs.Running.{LacksRoom, RunsErrand}
+use Rattle.mailbox_commands.specs.Sending.{HasSentMail, TellsSent}
+use Rattle.mailbox_commands.specs.Sending.{WritesWhole, out_errand}
 use Rattle.mailbox_commands.proofs.Errands.{errand_loaded, errand_printed, loaded_as_is, read_as_is}
 use Rattle.mailbox_commands.proofs.Taken.{prints_plain}
 
@@ -219,7 +218,8 @@ module _ (clients : Meaning) (asked : Sending) (old new : Outside) (out out' : S
       → IsLoaded (stands clients (read_files two)) (Err came))
       → IsIdle out out' → Mailed came
   mailed_none came run rests by loaded idle =
-      inl (stops_none clients (λ f. mailbox_test f asked.contact) NeverReads old new out out' run idle
+      inl (stops_none clients (λ f. mailbox_test f asked.contact) NeverReads old new out out' run
+      idle
       came rests by loaded (never_read old new came by))
 
   pub mailed_on : (r : Result (Unit {0}) Outcome) (x : Outcome) → IsErrAnd r (λ e. e ≡ x) → Mailed x

@@ -1,8 +1,7 @@
 -- A file that is read, as an errand; and a run of the command that reads it.
-use Rattle.std.proofs.Common.{◌≡◌, ◌⊎◌, ℕ, ◌+◌, ◌<◌, false, List, [], ◌∷◌, ◌++◌, length, refl, sym}
-use Rattle.std.proofs.Common.{ap, ◌∙◌, subst, inl, inr, append_assoc, Result, Ok, Err, None, Some}
+use Rattle.std.proofs.Common.{◌≡◌, ℕ, ◌+◌, ◌<◌, List, [], ◌∷◌, ◌++◌, length, refl, sym}
+use Rattle.std.proofs.Common.{subst, inl, inr, append_assoc, Result, Ok, Err, None, Some}
 use Rattle.std.specs.Prelude.{IsErrAnd}
-use Rattle.std.specs.Global.{Vec}
 use Rattle.std.specs.Io.KnownBytes.{Appends}
 use Rattle.outside.specs.declared.limits.TheConstants.{MAX_JOURNAL}
 use Rattle.outside.specs.Faults.{CountRose}
@@ -14,15 +13,12 @@ use Rattle.sync_ids.specs.declared.records.Record.{Record}
 use Rattle.sync_rules.specs.declared.entries.Entry.{Entry}
 use Rattle.sync_rules.specs.declared.entries.Entry.TheVariants as entry
 use Rattle.sync_rules.specs.Clients.{Meaning}
-use Rattle.sync_rules.specs.Facts.{Facts, after, after_all, after_batches, facts, takes_of}
-use Rattle.sync_rules.specs.Hearing.{SettlesJournal}
-use Rattle.sync_rules.specs.Legal.{AllSettling}
+use Rattle.sync_rules.specs.Facts.{Facts, after, after_batches, facts, takes_of}
 use Rattle.sync_rules.specs.Steps.{IsSettled}
 use Rattle.sync_rules.proofs.Continuing.{facts-append, legal-append}
 use Rattle.sync_rules.proofs.WorkLaws.{settles_then, settling_goes_on}
 use Rattle.sync_store.specs.Commits.{needed}
 use Rattle.sync_store.specs.Store.{StoreValue}
-use Rattle.sync_store.specs.declared.fault.StoreFault.{StoreFault}
 use Rattle.sync_store.specs.declared.fault.StoreFault.TheVariants as fault
 use Rattle.mailbox_laws.specs.Boxes.{HearsAll, box_session, with_box}
 use Rattle.mailbox_core.specs.declared.ends.BoxEnd.{BoxEnd}
@@ -293,7 +289,8 @@ module _ (clients : Meaning) (contact : ℕ) (old new : Outside)
       → IsLoaded (stands clients (read_files two)) (Err came))
       → IsIdle input input' → IsIdle out out' → Taken came
   taken_none came run rests by loaded unread idle =
-      inl (stops_none clients (λ f. mailbox_test f contact) _ old new out out' run idle came rests by
+      inl (stops_none clients (λ f. mailbox_test f contact) _ old new out out' run idle came rests
+      by
       loaded (input_unread _ old new input input' came unread by))
 
   -- the input was not read whole

@@ -1,6 +1,6 @@
 -- What `mailbox out` does: it commits what is due to a contact, and writes the bytes of all that
 -- the session sends.
-use Rattle.std.specs.Prelude.{◌≡◌, ◌⊎◌, ℕ, ◌<◌, ◌≤◌, List, [], ◌∷◌, ◌++◌, length, is_some, Result}
+use Rattle.std.specs.Prelude.{◌≡◌, ◌⊎◌, ℕ, ◌<◌, ◌≤◌, List, [], ◌++◌, length, is_some, Result}
 use Rattle.std.specs.Prelude.{Ok, Err}
 use Rattle.outside.specs.Calls.{CallsGoOn}
 use Rattle.outside.specs.Disk.{RelatesTold}

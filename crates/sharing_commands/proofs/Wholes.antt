@@ -1,13 +1,12 @@
 -- An agreement, from the loaded store to the text.
-use Rattle.std.proofs.Common.{◌≡◌, ◌⊎◌, ℕ, ◌<◌, ◌≤◌, true, false, List, [], ◌∷◌, ◌++◌, refl, sym}
+use Rattle.std.proofs.Common.{◌≡◌, ◌⊎◌, ℕ, ◌<◌, true, false, List, [], ◌∷◌, ◌++◌, refl, sym}
 use Rattle.std.proofs.Common.{ap, ◌∙◌}
 use Rattle.std.proofs.Common.{subst, inl, inr, append_assoc, append-nil, arith, Some, None, Result}
 use Rattle.std.proofs.Common.{Ok, Err}
 use Rattle.outside.specs.declared.limits.TheConstants.{MAX_JOURNAL}
-use Rattle.outside.specs.Faults.{CountRose}
 use Rattle.outside.specs.Files.{Two, File, read_files}
 use Rattle.outside.specs.Links.{Links, sent_of}
-use Rattle.outside.specs.Outside.{DiskRun, IsNow, MomentsAre, Outside}
+use Rattle.outside.specs.Outside.{DiskRun, MomentsAre, Outside}
 use Rattle.outside.specs.Streams.{Stream, IsIdle}
 use Rattle.outside.proofs.CallSteps.{moments_map, moments_then, run_then, told_on}
 use Rattle.sync_rules.specs.declared.entries.Entry.{Entry}

@@ -1,22 +1,18 @@
 -- What `agree` does: it migrates the journal and settles it, adds what the targets ask for, each
 -- entry a batch of its own, and prints a line for each group.
-use Rattle.std.specs.Prelude.{◌≡◌, ◌⊎◌, ℕ, ◌<◌, ◌≤◌, false, true, List, [], ◌∷◌, ◌++◌, Some, None}
-use Rattle.std.specs.Io.KnownBytes.{Appends}
+use Rattle.std.specs.Prelude.{◌≡◌, ◌⊎◌, ℕ, ◌<◌, ◌≤◌, List, [], ◌∷◌, ◌++◌, Some}
 use Rattle.outside.specs.declared.limits.TheConstants.{MAX_JOURNAL}
 use Rattle.outside.specs.Files.{Two, File, read_files, NothingPending}
-use Rattle.outside.specs.Links.{sent_of}
-use Rattle.outside.specs.Outside.{Outside, DiskRun, IsNow, Moment, MomentsAre}
-use Rattle.outside.specs.Streams.{Stream, GetsFront}
+use Rattle.outside.specs.Outside.{Outside}
+use Rattle.outside.specs.Streams.{Stream}
 use Rattle.sync_rules.specs.declared.entries.Entry.{Entry}
-use Rattle.sync_rules.specs.declared.states.Refused.{Refused}
 use Rattle.sync_rules.specs.Clients.{Meaning}
 use Rattle.sync_rules.specs.Facts.{Facts, Id, after_batches, facts}
 use Rattle.sync_rules.specs.Legal.{AllSettling}
 use Rattle.sync_rules.specs.Steps.{IsSettled}
-use Rattle.entry_codec.specs.Standing.{Standing, no_store, damaged, journal, stands}
+use Rattle.entry_codec.specs.Standing.{journal, stands}
 use Rattle.sync_store.specs.Moments.{IsBetween, JournalMoment}
 use Rattle.sync_words.specs.declared.outcome.Outcome.{Outcome}
-use Rattle.sync_words.specs.declared.outcome.Outcome.TheVariants as outcome
 use Rattle.entry_codec.specs.declared.naming.Format.TheVariants as kind
 use Rattle.store_commands.specs.Commit.{HasLastGeneration, IsInFormat, WasSpent, needed_by}
 use Rattle.store_commands.specs.Causes.{CausedBy}
@@ -93,7 +89,8 @@ agreeing clients contact group = record {
       TestsHold (λ f. agree_test f contact group) standing (λ j.
       IsAgreementCut clients contact group j two' ⊎ WasSpent two two');
   done = λ standing two' P.
-      TestsHold (λ f. agree_test f contact group) standing (λ j. IsAgreed clients contact group j two' P);
+      TestsHold (λ f. agree_test f contact group) standing (λ j.
+      IsAgreed clients contact group j two' P);
   spent = HasLastGeneration;
 }
 

@@ -6,7 +6,7 @@ use Rattle.std.specs.Prelude.{IsErrAnd}
 use Rattle.outside.specs.declared.limits.TheConstants.{MAX_JOURNAL}
 use Rattle.outside.specs.Files.{Two, File, read_files}
 use Rattle.outside.specs.Links.{Links, sent_of}
-use Rattle.outside.specs.Outside.{DiskRun, IsNow, MomentsAre, Outside}
+use Rattle.outside.specs.Outside.{DiskRun, MomentsAre, Outside}
 use Rattle.outside.specs.Streams.{Stream, GetsFront, IsIdle}
 use Rattle.outside.proofs.CallSteps.{moments_map, moments_then, run_then, told_on}
 use Rattle.sync_rules.specs.declared.entries.Entry.{Entry}
@@ -44,7 +44,7 @@ use Rattle.store_commands.proofs.Adds.{settles_from}
 use Rattle.store_commands.proofs.Working.{caused_before, failed_caused, failed_late, failed_unadded}
 use Rattle.store_commands.proofs.Working.{none_caused, printed_caused, printed_late, rest_moments}
 use Rattle.store_commands.proofs.Working.{same_journal, worked_none}
-use Rattle.store_commands.proofs.Stood.{fits_format, lacked_here, lacks_here, last_here, last_lacks}
+use Rattle.store_commands.proofs.Stood.{fits_format, lacked_here, lacks_here, last_here}
 
 -- ---- settling
 

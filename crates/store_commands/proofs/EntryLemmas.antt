@@ -1,10 +1,9 @@
 -- An entry that is added, from the loaded store to the line.
-use Rattle.std.proofs.Common.{◌≡◌, ◌⊎◌, ℕ, ◌≤◌, Bool, false, true, List, [], ◌∷◌, sym, ap, ◌∙◌}
-use Rattle.std.proofs.Common.{subst, refl, inl, inr, arith, Some, Ok, Err}
-use Rattle.outside.specs.Faults.{CountRose}
+use Rattle.std.proofs.Common.{◌≡◌, true, List, [], ◌∷◌, sym, ap, ◌∙◌}
+use Rattle.std.proofs.Common.{subst, inl, inr, Some, Ok, Err}
 use Rattle.outside.specs.Files.{Two, File, read_files}
 use Rattle.outside.specs.Links.{Links, sent_of}
-use Rattle.outside.specs.Outside.{Outside, Moment, MomentsAre, IsNow, DiskRun}
+use Rattle.outside.specs.Outside.{Outside, DiskRun}
 use Rattle.outside.proofs.CallSteps.{moments_map, moments_then, run_then, told_on}
 use Rattle.sync_rules.specs.declared.entries.Entry.{Entry}
 use Rattle.sync_rules.specs.declared.states.Refused.{Refused}
@@ -12,7 +11,6 @@ use Rattle.sync_rules.specs.Clients.{Meaning}
 use Rattle.sync_rules.specs.Facts.{Facts, facts}
 use Rattle.entry_codec.specs.Standing.{Standing, journal, stands}
 use Rattle.sync_store.specs.Store.{StoreValue}
-use Rattle.sync_store.specs.Fitting.{FitsFiles}
 use Rattle.sync_store.specs.Moments.{JournalMoment}
 use Rattle.sync_words.specs.declared.outcome.Outcome.{Outcome}
 use Rattle.sync_words.specs.declared.outcome.Outcome.TheVariants as outcome
@@ -25,7 +23,7 @@ use Rattle.store_commands.specs.declared.commit.Settling.{Settling}
 use Rattle.store_commands.specs.Commit.{GoesOnByBatch, HasLastGeneration, IsFull}
 use Rattle.outside.specs.Streams.{Stream, IsIdle}
 use Rattle.store_commands.specs.Load.{HasFacts, IsLoaded, LoadedBy, LoadKeeps, MayExtend}
-use Rattle.store_commands.specs.Show.{KeepsFiles, LeavesFilesSo}
+use Rattle.store_commands.specs.Show.{LeavesFilesSo}
 use Rattle.store_commands.specs.Plans.{Plan, adds, refuses}
 
 -- ---- before the entry
@@ -110,7 +108,8 @@ added_entry clients plan settling o o1 o2 out out' s e came run rests ready plan
       record {
         moments =
             moments_then o o1 o2 _
-            (rest_moments (adding clients plan settling) (stands clients (read_files two)) came _ two o
+            (rest_moments (adding clients plan settling) (stands clients (read_files two)) came _
+            two o
             o1 rest)
             (moments_map o1 o2 _ _ (λ m w. inr (
               added.late,

@@ -3,7 +3,6 @@ use Rattle.std.proofs.Common.{◌≡◌, ℕ, ◌+◌, Bool, true, false, List, 
 use Rattle.std.proofs.Common.{◌∙◌, inl, inr, arith, length-append, Some, None, Ok, Err}
 use Rattle.std.specs.Prelude.{◌==◌, nat_lt, is_some, if◌then◌else◌}
 use Rattle.std.specs.List.{list_all}
-use Rattle.outside.specs.Faults.{CountRose}
 use Rattle.outside.specs.Files.{Two, File, read_files}
 use Rattle.outside.specs.Outside.{Outside, DiskRun}
 use Rattle.outside.specs.Input.{ReadsAll, ReadsTooMuch}
@@ -20,7 +19,7 @@ use Rattle.sync_rules.specs.declared.states.Refused.TheVariants as refused
 use Rattle.sync_rules.specs.Clients.{Meaning}
 use Rattle.sync_rules.specs.Facts.{Facts, Id, group_at, held_at}
 use Rattle.sync_rules.specs.Steps.{is_served, verdict_in}
-use Rattle.entry_codec.specs.Standing.{Standing, stands}
+use Rattle.entry_codec.specs.Standing.{stands}
 use Rattle.sync_store.specs.Refusals.{judged_answer, post_answer}
 use Rattle.sync_store.specs.Store.{StoreValue}
 use Rattle.sync_words.specs.declared.outcome.Outcome.{Outcome}
@@ -30,7 +29,7 @@ use Rattle.store_commands.specs.Causes.{is_late}
 use Rattle.store_commands.specs.Entries.{EntryAdded, HasAdded}
 use Rattle.store_commands.specs.Load.{HasFacts, IsLoaded, LoadedBy, LoadKeeps, MayExtend}
 use Rattle.store_commands.specs.Show.{LeavesFilesSo}
-use Rattle.store_commands.specs.Plans.{Plan, adds, refuses, body_plan, message_plan, planned}
+use Rattle.store_commands.specs.Plans.{adds, refuses, body_plan, message_plan, planned}
 use Rattle.store_commands.specs.Plans.{post_plan}
 use Rattle.store_commands.specs.Post.{HasPosted, IsBody, IsPlanOfPost, IsBodyRead, PostStops}
 use Rattle.store_commands.specs.Post.{PostsBody, group_test, message_of}
@@ -185,7 +184,8 @@ module _ (clients : Meaning) (group : Id) (timestamp : ℕ) (old new : Outside)
   pub posted_unknown : is_some (group_at s.state.facts.groups group) ≡ false → IsIdle input input'
       → Posted (outcome.Refused refused.UnknownGroup)
   posted_unknown unknown idle =
-      stops_refused clients (group_test group) (InputStops ⊥ input input') old new out out' run quiet
+      stops_refused clients (group_test group) (InputStops ⊥ input input') old new out out' run
+      quiet
       s rests loaded refused.UnknownGroup (group_answers s.state.facts group false unknown) idle
 
   -- memory was wanting for the message
@@ -214,10 +214,12 @@ module _ (clients : Meaning) (group : Id) (timestamp : ℕ) (old new : Outside)
         refused_body read.0 refused.BodyTooLong read.1
         (plan_long clients s.state.facts (message_of group timestamp read.0) known read.2)
     posted_unread outcome.ReadFault read =
-        inl (stops_unread clients (group_test group) (InputStops ⊥ input input') old new out out' run
+        inl (stops_unread clients (group_test group) (InputStops ⊥ input input') old new out out'
+        run
         quiet s rests loaded (group_answers s.state.facts group true known) read)
     posted_unread outcome.Memory read =
-        inl (stops_memory clients (group_test group) (InputStops ⊥ input input') old new out out' run
+        inl (stops_memory clients (group_test group) (InputStops ⊥ input input') old new out out'
+        run
         quiet s rests loaded tt)
     posted_unread _ read = absurd read
 

@@ -1,6 +1,6 @@
 -- A command that stopped before its work: no store was loaded, a test failed over it, or the input
 -- was not read.
-use Rattle.std.proofs.Common.{◌≡◌, List, ap, ◌∙◌, Some, None, Ok, Err}
+use Rattle.std.proofs.Common.{◌≡◌, ap, ◌∙◌, Some, None, Ok, Err}
 use Rattle.std.specs.Prelude.{Option}
 use Rattle.outside.specs.Files.{Two, File, read_files}
 use Rattle.outside.specs.Outside.{DiskRun, Outside}
@@ -106,7 +106,8 @@ module _ (clients : Meaning) (test : Facts → Option Refused) (input_is : Outco
       by = tt;
       reads = reads;
       quiet = idle;
-      told = λ two files. record { rests = rests two files; ends = tested_so None tested two files };
+      told =
+          λ two files. record { rests = rests two files; ends = tested_so None tested two files };
     }
 
     -- or it is too long
@@ -117,7 +118,8 @@ module _ (clients : Meaning) (test : Facts → Option Refused) (input_is : Outco
       by = tt;
       reads = reads;
       quiet = idle;
-      told = λ two files. record { rests = rests two files; ends = tested_so None tested two files };
+      told =
+          λ two files. record { rests = rests two files; ends = tested_so None tested two files };
     }
 
     -- or memory was wanting for it

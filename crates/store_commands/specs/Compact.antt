@@ -4,12 +4,11 @@ use Rattle.std.specs.Prelude.{◌≡◌, ◌⊎◌, ℕ, ◌+◌, ◌-◌, ◌^�
 use Rattle.std.specs.Prelude.{Some, Result, Ok, Err}
 use Rattle.std.specs.Io.KnownBytes.{Appends}
 use Rattle.outside.specs.declared.limits.TheConstants.{MAX_JOURNAL}
-use Rattle.outside.specs.Faults.{CountRose}
 use Rattle.outside.specs.Files.{Two, File, file_of, read_files, NothingPending}
 use Rattle.outside.specs.Frames.{format_in, generation_in, journal_file}
 use Rattle.outside.specs.Links.{sent_of}
-use Rattle.outside.specs.Outside.{Outside, DiskRun, IsNow, Moment, MomentsAre}
-use Rattle.outside.specs.Streams.{Stream, IsIdle, GetsFront}
+use Rattle.outside.specs.Outside.{Outside, DiskRun, MomentsAre}
+use Rattle.outside.specs.Streams.{Stream, GetsFront}
 use Rattle.sync_rules.specs.declared.entries.Entry.{Entry}
 use Rattle.sync_rules.specs.Clients.{Meaning}
 use Rattle.sync_rules.specs.Facts.{facts, after_batches}
@@ -20,7 +19,7 @@ use Rattle.entry_codec.specs.declared.naming.Format.{Format}
 use Rattle.entry_codec.specs.declared.naming.Format.TheVariants as kind
 use Rattle.entry_codec.specs.Naming.{format_of}
 use Rattle.entry_codec.specs.Payloads.{journal_end}
-use Rattle.entry_codec.specs.Standing.{Standing, no_store, damaged, journal, room_of, stands}
+use Rattle.entry_codec.specs.Standing.{journal, room_of, stands}
 use Rattle.sync_store.specs.Compactions.{IsOrBrief, IsTooLong, ShortensJournal}
 use Rattle.sync_store.specs.Fitting.{FitsFiles}
 use Rattle.sync_store.specs.Moments.{JournalMoment, LeadsTo}

@@ -1,17 +1,16 @@
 -- What a command that adds to a journal does: it migrates the journal and settles it, adds its one
 -- entry, and prints its line.
-use Rattle.std.specs.Prelude.{◌≡◌, ◌⊎◌, ℕ, Bool, true, false, List, [], ◌∷◌, Some}
+use Rattle.std.specs.Prelude.{◌≡◌, true, false, List, [], ◌∷◌, Some}
 use Rattle.std.specs.Io.KnownBytes.{Appends}
-use Rattle.outside.specs.Faults.{CountRose}
 use Rattle.outside.specs.Files.{Two, File, read_files}
 use Rattle.outside.specs.Links.{sent_of}
-use Rattle.outside.specs.Outside.{Outside, Moment, MomentsAre, IsNow, DiskRun}
-use Rattle.outside.specs.Streams.{Stream, IsIdle, GetsFront}
+use Rattle.outside.specs.Outside.{Outside, MomentsAre, DiskRun}
+use Rattle.outside.specs.Streams.{Stream, GetsFront}
 use Rattle.sync_rules.specs.declared.entries.Entry.{Entry}
 use Rattle.sync_rules.specs.declared.states.Refused.{Refused}
 use Rattle.sync_rules.specs.Clients.{Meaning}
 use Rattle.sync_rules.specs.Facts.{Facts, facts}
-use Rattle.entry_codec.specs.Standing.{Standing, no_store, damaged, journal, stands}
+use Rattle.entry_codec.specs.Standing.{Standing, journal}
 use Rattle.sync_store.specs.Store.{StoreValue}
 use Rattle.sync_store.specs.Fitting.{FitsFiles}
 use Rattle.sync_store.specs.Moments.{JournalMoment}
@@ -21,7 +20,6 @@ use Rattle.store_commands.specs.declared.commit.Settling.{Settling}
 use Rattle.store_commands.specs.Causes.{CausedBy, is_added, is_late}
 use Rattle.store_commands.specs.Commit.{GoesOnByBatch, HasLastGeneration, IsAdded, IsFull}
 use Rattle.store_commands.specs.Plans.{Plan, refuses, adds}
-use Rattle.store_commands.specs.Show.{FilesReadSame}
 use Rattle.store_commands.specs.Shown.{added_text}
 use Rattle.store_commands.specs.Works.{HasWorked, Work}
 
@@ -43,8 +41,8 @@ pub record IsPlanRefused (plan : Facts → Plan) (standing : Standing) (why : Re
   pub planned : plan (facts before) ≡ refuses why
 
 -- The work of adding what is planned. At a moment once batches are added the files stand for the
--- journal with settling and at most the one entry. A journal of format 1 with the last generation is
--- not added to.
+-- journal with settling and at most the one entry. A journal of format 1 with the last generation
+-- is not added to.
 abbrev pub adding : Meaning → (Facts → Plan) → Settling → Work
 adding clients plan settling = record {
   by = CausedBy;

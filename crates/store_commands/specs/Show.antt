@@ -1,6 +1,6 @@
 -- What a command that only looks does: it writes nothing to the files, and shows a text of the
 -- journal that they stand for.
-use Rattle.std.specs.Prelude.{◌≡◌, ℕ, List, Option, Some}
+use Rattle.std.specs.Prelude.{◌≡◌, ℕ, List, Some}
 use Rattle.std.specs.Io.KnownBytes.{Appends}
 use Rattle.outside.specs.Faults.{CountRose}
 use Rattle.outside.specs.Files.{Two, File, read_files}
@@ -85,5 +85,6 @@ pub record HasLooked (clients : Meaning) (shown : Facts → Showing) (old new : 
   pub run : DiskRun old new
   pub by : LooksBy old new out out' came
   pub told : (two : Two File) → old.files ≡ Some two
-      → LeavesTold clients (KeepsFiles came) (λ standing. LooksEnds shown standing out out' came) two
+      → LeavesTold clients (KeepsFiles came) (λ standing. LooksEnds shown standing out out' came)
+      two
       old new

@@ -21,10 +21,10 @@ pub record StoodFor (standing : Standing) (P : List (List Entry) → Type 0) : T
   pub stood : standing ≡ journal before
   pub leads : P before
 
--- What such a command says of its work, by what the files stood for: the causes of its outcomes; why
--- it is refused; a moment once batches are added, nothing more being sent; that there was no room,
--- by the files before and now; that the work is done, by the files now and by what is so of its
--- text; and that the files have no generation left for it.
+-- What such a command says of its work, by what the files stood for: the causes of its outcomes;
+-- why it is refused; a moment once batches are added, nothing more being sent; that there was no
+-- room, by the files before and now; that the work is done, by the files now and by what is so of
+-- its text; and that the files have no generation left for it.
 pub record Work : Type 1 where
   pub by : (old new : Outside) → (out out' : Stream) → Outcome → Type 0
   pub refused : Standing → Refused → Type 0
@@ -49,8 +49,8 @@ WorkEnds work standing two two' out out' outcome.WriteFault =
     work.done standing two' (GetsFront out out')
 WorkEnds work standing two two' out out' _ = Unit {0}
 
--- What is so where the files are told: each moment is as a crash might have left them before, or has
--- batches added; there is none of the latter where the command was refused or ended earlier.
+-- What is so where the files are told: each moment is as a crash might have left them before, or
+-- has batches added; there is none of the latter where the command was refused or ended earlier.
 pub record WorkTold (work : Work) (standing : Standing) (two : Two File) (old new : Outside)
     (out out' : Stream) (came : Outcome) : Type 0 where
   pub moments : MomentsAre old new

@@ -375,7 +375,8 @@ module _ (clients : Meaning) (old new : Outside) (input input' out out' : Stream
   mailed_done : (asked : Sending) (came : Outcome) → HasSentMail clients asked old new out out' came
       → (to_send clients asked).serves old new input input' → Done came
   mailed_done asked came (inl did) may =
-      elim (stopped_done (λ f. mailbox_test f asked.contact) NeverReads came may.before did may.stood
+      elim (stopped_done (λ f. mailbox_test f asked.contact) NeverReads came may.before did
+      may.stood
       may.tested (λ never. never)) [
         | inl much ↦ absurd (subst NeverReads much did.reads)
         | inr memory ↦ inr (ap status_of memory)
@@ -506,7 +507,8 @@ module _ (clients : Meaning) (old new : Outside) (input input' out out' : Stream
       → PostStops clients group old new input input' out out' came
       → MayPost clients group timestamp old.files input input' → Done came
   post_stopped group timestamp came did may =
-      elim (stopped_done (group_test group) (InputStops ⊥ input input') came may.before did may.stood
+      elim (stopped_done (group_test group) (InputStops ⊥ input input') came may.before did
+      may.stood
       (ap (λ (b : Bool). if b then None else Some refused.UnknownGroup) may.known) fails.source) [
         | inl much ↦ absurd (subst (InputStops ⊥ input input') much did.reads)
         | inr memory ↦ inr (ap status_of memory)

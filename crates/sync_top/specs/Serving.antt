@@ -30,8 +30,8 @@ HoweverSettled clients j P =
     → IsSettled clients (after_batches (facts j) first)
     → P (j ++ first) (after_batches (facts j) first)
 
--- The files stand for a journal over which these tests hold, and which has this room; where they are
--- in format 1, a generation is left.
+-- The files stand for a journal over which these tests hold, and which has this room; where they
+-- are in format 1, a generation is left.
 pub record MayWork (clients : Meaning) (tests : Facts → Type 0)
     (has_room : List (List Entry) → Type 0) (files : Option (Two File)) : Type 0 where
   pub before : List (List Entry)
@@ -81,8 +81,8 @@ pub record MayAudit (clients : Meaning) (files : Option (Two File)) : Type 0 whe
   pub of : List (List Entry)
   pub stood : ReadsAs clients files of
 
--- the tests of the words hold, and there is room for each batch that comes next in a course over what
--- was heard
+-- the tests of the words hold, and there is room for each batch that comes next in a course over
+-- what was heard
 abbrev pub MaySync : Meaning → Limits → List LinkWords → (old new : Outside) → Type 0
 MaySync clients limits words old new =
     MayWork clients (λ f. run_test f words ≡ None) (λ begin.

@@ -3,7 +3,9 @@ use Rattle.std.specs.Prelude.{ℕ, suc, Bool, true, false, List, [], ◌∷◌, 
 use Rattle.sync_course.specs.Closing.{Closing}
 use Rattle.sync_course.specs.declared.ends.LinkEnd.{LinkEnd}
 use Rattle.sync_course.specs.declared.ends.LinkEnd.TheVariants as end
-use Rattle.sync_words.specs.ErrorTexts.{bad_record_text, damaged_text, inside_text, link_text, no_version_text, plain_text, refused_text, script_text, usage_text}
+use Rattle.sync_words.specs.ErrorTexts.{bad_record_text, damaged_text, inside_text, link_text}
+use Rattle.sync_words.specs.ErrorTexts.{no_version_text, plain_text, refused_text, script_text}
+use Rattle.sync_words.specs.ErrorTexts.{usage_text}
 use Rattle.sync_words.specs.declared.outcome.Outcome.{Outcome}
 use Rattle.sync_words.specs.declared.outcome.Outcome.TheVariants as outcome
 use Rattle.sync_words.specs.declared.status.Status.{Status}
@@ -67,8 +69,8 @@ status_of outcome.WriteFault = status.WriteFault
 status_of outcome.TooMuch = status.TooMuch
 status_of (outcome.BadScript line) = status.BadScript
 
--- what the error output gets: a line, with its line feed; nothing where all was done, and a line for
--- each link of a command that has links
+-- what the error output gets: a line, with its line feed; nothing where all was done, and a line
+-- for each link of a command that has links
 abbrev pub text_of : Outcome → List ℕ
 text_of (outcome.Usage place) = usage_text place
 text_of (outcome.Refused why) = refused_text why

@@ -1,4 +1,4 @@
-use Rattle.std.proofs.Common.{refl, sym, ◌∙◌, ◌≡◌, inl, subst, Option}
+use Rattle.std.proofs.Common.{refl, sym, ◌∙◌, inl}
 use Rattle.store_commands.proofs.Stopped.{stops_refused}
 use Rattle.mailbox_commands.specs.Errands.{mailbox_test}
 use Rattle.mailbox_commands.proofs.Early.{tested_begins}
