@@ -4,15 +4,15 @@ use Rattle.std.specs.Prelude.{◌≡◌, ℕ, List, Option, Some, Result, Ok, Er
 use Rattle.std.specs.Io.KnownBytes.{Appends}
 use Rattle.outside.specs.Disk.{RelatesTold}
 use Rattle.outside.specs.Faults.{CountRose}
-use Rattle.outside.specs.Files.{Two, File, read_files}
+use Rattle.outside.specs.Files.{Two, File}
 use Rattle.outside.specs.Outside.{DiskRun, Outside}
-use Rattle.outside.specs.Streams.{Stream, IsIdle, GetsFront}
-use Rattle.entry_codec.specs.Standing.{Standing, damaged, no_store, stands}
+use Rattle.outside.specs.Streams.{Stream, GetsFront}
+use Rattle.entry_codec.specs.Standing.{Standing, damaged, no_store}
 use Rattle.sync_rules.specs.Clients.{Meaning}
 use Rattle.journal_audit.specs.declared.report.Report.{Report}
 use Rattle.journal_audit.specs.Answers.{IsAuditOf}
 use Rattle.journal_audit.specs.Files.{SyncsBoth}
-use Rattle.store_commands.specs.Show.{FilesReadSame, LeavesFilesSo}
+use Rattle.store_commands.specs.Show.{FilesReadSame, LeavesTold, LooksBy}
 use Rattle.sync_words.specs.declared.outcome.Outcome.{Outcome}
 use Rattle.sync_words.specs.declared.outcome.Outcome.TheVariants as outcome
 use Rattle.audit_commands.specs.Texts.{legal_text}
@@ -43,17 +43,10 @@ LeavesSynced old new (Err _) = RelatesTold SyncsBoth old new
 
 -- ---- the command
 
--- the causes of an outcome, whatever the disk tells: a fault comes only where its count rose, and
--- nothing is written but the line
+-- the causes of an outcome: no test refuses the command
 abbrev pub PrintsBy : (old new : Outside) (out out' : Stream) → Outcome → Type 0
-PrintsBy old new out out' outcome.Done = Unit {0}
-PrintsBy old new out out' outcome.WriteFault = CountRose out.faults out'.faults
-PrintsBy old new out out' outcome.DiskFault =
-    CountRose old.disk_faults new.disk_faults × IsIdle out out'
-PrintsBy old new out out' outcome.NoStore = IsIdle out out'
-PrintsBy old new out out' (outcome.Damaged place) = IsIdle out out'
-PrintsBy old new out out' outcome.Memory = IsIdle out out'
-PrintsBy old new out out' _ = ⊥
+PrintsBy old new out out' (outcome.Refused why) = ⊥
+PrintsBy old new out out' came = LooksBy old new out out' came
 
 -- the files stand for a legal journal, and so much of the line of its report is printed
 pub record PrintsReport (clients : Meaning) (standing : Standing) (P : List ℕ → Type 0) : Type 0
@@ -70,24 +63,18 @@ AuditEnds clients standing out out' outcome.WriteFault =
     PrintsReport clients standing (GetsFront out out')
 AuditEnds clients standing out out' outcome.NoStore = standing ≡ no_store
 AuditEnds clients standing out out' (outcome.Damaged place) = standing ≡ damaged place.file place.at
-AuditEnds clients standing out out' outcome.DiskFault = Unit {0}
-AuditEnds clients standing out out' outcome.Memory = Unit {0}
-AuditEnds clients standing out out' _ = ⊥
+AuditEnds clients standing out out' _ = Unit {0}
 
 -- the files read as before; and but for a fault of the disk nothing is pending in them
 abbrev pub KeepsSynced : Outcome → (two two' : Two File) → Type 0
 KeepsSynced outcome.DiskFault two two' = FilesReadSame two two'
 KeepsSynced came two two' = SyncsBoth two two'
 
--- what is so where the files are told
-pub record AuditTold (clients : Meaning) (two : Two File) (old new : Outside) (out out' : Stream)
-    (came : Outcome) : Type 0 where
-  pub rests : LeavesFilesSo (KeepsSynced came two) two old new
-  pub ends : AuditEnds clients (stands clients (read_files two)) out out' came
-
 -- an audit
 pub record HasAudited (clients : Meaning) (old new : Outside) (out out' : Stream)
     (came : Outcome) : Type 0 where
   pub run : DiskRun old new
   pub by : PrintsBy old new out out' came
-  pub told : (two : Two File) → old.files ≡ Some two → AuditTold clients two old new out out' came
+  pub told : (two : Two File) → old.files ≡ Some two
+      → LeavesTold clients (KeepsSynced came) (λ standing. AuditEnds clients standing out out' came)
+      two old new

@@ -1,5 +1,5 @@
 -- An errand, from the loaded store to the text, and from the files.
-use Rattle.std.proofs.Common.{◌≡◌, ◌⊎◌, ℕ, ◌+◌, ◌<◌, ◌≤◌, true, false, List, ◌++◌, refl, sym, ap}
+use Rattle.std.proofs.Common.{◌≡◌, ℕ, ◌+◌, ◌<◌, ◌≤◌, false, List, ◌++◌, refl, sym, ap}
 use Rattle.std.proofs.Common.{◌∙◌}
 use Rattle.std.proofs.Common.{subst, inl, inr, arith, Some, None, Result, Ok, Err}
 use Rattle.std.specs.Prelude.{IsErrAnd}
@@ -8,7 +8,7 @@ use Rattle.outside.specs.Faults.{CountRose}
 use Rattle.outside.specs.Files.{Two, File, read_files}
 use Rattle.outside.specs.Host.{ReadsClock}
 use Rattle.outside.specs.Links.{Links, sent_of}
-use Rattle.outside.specs.Outside.{DiskRun, IsNow, Moment, MomentsAre, Outside, QuietCall}
+use Rattle.outside.specs.Outside.{DiskRun, IsNow, MomentsAre, Outside, QuietCall}
 use Rattle.outside.specs.Streams.{Stream, IsIdle}
 use Rattle.outside.proofs.CallSteps.{moments_during, moments_map, moments_then, run_then, told_on}
 use Rattle.sync_rules.specs.declared.entries.Entry.{Entry}
@@ -20,10 +20,10 @@ use Rattle.sync_rules.proofs.StepKinds.{all_settling_only}
 use Rattle.entry_codec.specs.declared.naming.Format.{Format}
 use Rattle.entry_codec.specs.declared.naming.Format.TheVariants as kind
 use Rattle.entry_codec.specs.Payloads.{journal_end, payload_len}
-use Rattle.entry_codec.specs.Standing.{Standing, journal, room_of, stands}
+use Rattle.entry_codec.specs.Standing.{journal, room_of, stands}
 use Rattle.sync_store.specs.Commits.{needed}
 use Rattle.sync_store.specs.Fitting.{FitsFiles}
-use Rattle.sync_store.specs.Moments.{IsBetween, JournalMoment}
+use Rattle.sync_store.specs.Moments.{JournalMoment}
 use Rattle.sync_store.specs.Runs.{LeadsBy}
 use Rattle.sync_store.specs.Store.{StoreValue, format_meant, written_in}
 use Rattle.sync_store.proofs.Runs.{leads_both}
@@ -32,14 +32,14 @@ use Rattle.sync_words.specs.declared.outcome.Outcome.TheVariants as outcome
 use Rattle.sync_words.specs.Outcomes.{came_to}
 use Rattle.mailbox_core.specs.Rooms.{AreRoomy}
 use Rattle.store_commands.specs.Commit.{ComesAnew, ExtendsBy, HasLastGeneration, SettledAnew}
-use Rattle.store_commands.specs.Commit.{SettlesAnew, WasSpent, needed_by}
+use Rattle.store_commands.specs.Commit.{SettlesAnew, needed_by}
 use Rattle.store_commands.specs.Load.{MayExtend}
 use Rattle.store_commands.specs.Show.{FilesReadSame, LeavesFilesSo}
 use Rattle.store_commands.proofs.Stood.{fits_format, last_here, spent_here}
 use Rattle.mailbox_commands.specs.Errands.{Errand, ErrandOn, IsErrandCutShort, IsRun, MayBeginWith}
 use Rattle.mailbox_commands.specs.Errands.{mailbox_test}
-use Rattle.mailbox_commands.specs.Running.{DoesErrand, DoesSo, ErrandBy, ErrandEnds, ErrandTold}
-use Rattle.mailbox_commands.specs.Running.{FilesRun, MayRunErrand, PrintsOut, RunsErrand, is_whole}
+use Rattle.mailbox_commands.specs.Running.{DoesErrand, ErrandBy, ErrandEnds}
+use Rattle.mailbox_commands.specs.Running.{FilesRun, PrintsOut, RunsErrand, is_whole}
 
 -- ---- causes
 
@@ -417,15 +417,13 @@ ends_first : (clients : Meaning) (errand : Errand) (j : List (List Entry))
     (came : Outcome) → read_files two1 ≡ read_files two
     → ErrandEnds clients errand j two1 two2 out out' came
     → ErrandEnds clients errand j two two2 out out' came
-ends_first clients errand j two two1 two2 out out' outcome.Done same ends = ends
-ends_first clients errand j two two1 two2 out out' (outcome.Inside place) same ends = ends
-ends_first clients errand j two two1 two2 out out' (outcome.Bad place why) same ends = ends
-ends_first clients errand j two two1 two2 out out' (outcome.NoVersion place) same ends = ends
 ends_first clients errand j two two1 two2 out out' outcome.WriteFault same ends = ends
 ends_first clients errand j two two1 two2 out out' outcome.Full same (inl cut) = inl cut
 ends_first clients errand j two two1 two2 out out' outcome.Full same (inr spent) =
     inr (subst HasLastGeneration same spent.0, spent.1 ∙ same)
-ends_first clients errand j two two1 two2 out out' _ same ends = tt
+ends_first clients errand j two two1 two2 out out' outcome.Memory same ends = tt
+ends_first clients errand j two two1 two2 out out' outcome.DiskFault same ends = tt
+ends_first clients errand j two two1 two2 out out' _ same ends = ends
 
 -- a store was loaded over which the tests hold, perhaps the clock was read, and the errand was run
 pub errand_loaded : (clients : Meaning) (contact : ℕ) (errand : Errand) (o o1 o2 : Outside)

@@ -1,18 +1,17 @@
 -- A file that is written, as an errand; and a run of the command that writes it.
-use Rattle.std.proofs.Common.{◌≡◌, ◌⊎◌, ℕ, ◌+◌, ◌<◌, ◌≤◌, false, arith, is_some, List, [], ◌∷◌}
+use Rattle.std.proofs.Common.{◌≡◌, ℕ, ◌+◌, ◌≤◌, arith, is_some, List, []}
 use Rattle.std.proofs.Common.{◌++◌, refl, sym, ap, ◌∙◌, subst, inl, inr, Result, Ok, Err, None}
 use Rattle.std.proofs.Common.{Some}
 use Rattle.std.specs.Prelude.{IsErrAnd, Option}
 use Rattle.outside.specs.declared.limits.TheConstants.{MAX_JOURNAL}
 use Rattle.outside.specs.Faults.{CountRose}
-use Rattle.outside.specs.Files.{Two, File}
+use Rattle.outside.specs.Files.{Two, File, read_files}
 use Rattle.outside.specs.Host.{ReadsClock}
 use Rattle.outside.specs.Links.{Links}
 use Rattle.outside.specs.Outside.{DiskRun, Outside, QuietCall}
 use Rattle.outside.specs.Streams.{Stream, IsIdle}
 use Rattle.outside.proofs.CallSteps.{calls_link, calls_then}
 use Rattle.record_grammar.specs.Spelling.{spelled}
-use Rattle.sync_ids.specs.declared.records.Record.{Record}
 use Rattle.sync_rules.specs.declared.entries.Entry.{Entry}
 use Rattle.sync_rules.specs.declared.entries.Entry.TheVariants as entry
 use Rattle.sync_rules.specs.Clients.{Meaning}
@@ -25,20 +24,23 @@ use Rattle.sync_store.specs.Store.{StoreValue}
 use Rattle.sync_store.specs.declared.fault.StoreFault.{StoreFault}
 use Rattle.sync_store.specs.declared.fault.StoreFault.TheVariants as fault
 use Rattle.mailbox_core.specs.Laws.{OutputsAreSent}
-use Rattle.mailbox_core.specs.Sending.{HasWrittenBox, SendsAll, SendsUntilFull, WritesSome}
+use Rattle.mailbox_core.specs.Sending.{HasWrittenBox, SendsAll, WritesSome}
 use Rattle.mailbox_core.specs.Sending.{WritesUntilFull, batch_session, out_batch}
 use Rattle.mailbox_core.specs.Taking.{BeginsThen, first_batch}
 use Rattle.sync_words.specs.declared.outcome.Outcome.{Outcome}
 use Rattle.sync_words.specs.declared.outcome.Outcome.TheVariants as outcome
 use Rattle.sync_words.specs.Outcomes.{came_to}
 use Rattle.store_commands.specs.Commit.{SettlesAnew}
-use Rattle.store_commands.specs.Load.{LoadKeeps, LoadedBy, MayExtend}
+use Rattle.entry_codec.specs.Standing.{stands}
+use Rattle.store_commands.specs.Load.{IsLoaded, LoadKeeps, LoadedBy, MayExtend}
 use Rattle.store_commands.specs.Show.{PrintsText, LeavesFilesSo}
+use Rattle.store_commands.specs.Stopping.{NeverReads}
+use Rattle.store_commands.proofs.Stopped.{never_read, stops_none}
 use Rattle.mailbox_commands.specs.declared.sending.Sending.{Sending}
 use Rattle.mailbox_commands.specs.Errands.{mailbox_test}
-use Rattle.mailbox_commands.specs.Running.{DoesErrand, LacksRoom, RunsErrand, StopsEarly}
-use Rattle.mailbox_commands.specs.Sending.{HasSentMail, SendsMail, SendsNextBatch, TellsSent}
-use Rattle.mailbox_commands.specs.Sending.{WritesAll, WritesWhole, out_errand}
+use Rattle.mailbox_commands.specs.Running.{LacksRoom, RunsErrand}
+use Rattle.mailbox_commands.specs.Sending.{HasSentMail, TellsSent}
+use Rattle.mailbox_commands.specs.Sending.{WritesWhole, out_errand}
 use Rattle.mailbox_commands.proofs.Errands.{errand_loaded, errand_printed, loaded_as_is, read_as_is}
 use Rattle.mailbox_commands.proofs.Taken.{prints_plain}
 
@@ -207,21 +209,18 @@ module _ (clients : Meaning) (asked : Sending) (old new : Outside) (out out' : S
   abbrev Mailed : Outcome → Type 0
   Mailed came = HasSentMail clients asked old new out out' came
 
-  pub mailed_none : (came : Outcome) → LoadedBy old new (Err came)
-      → StopsEarly clients asked.contact old new out out' came → Mailed came
-  mailed_none outcome.NoStore by early = early
-  mailed_none (outcome.Damaged place) by early = early
-  mailed_none outcome.DiskFault by early = inl early
-  mailed_none outcome.Memory by early = inl early
-  mailed_none _ by early = absurd by
-
-  mailed_late : (came : Outcome) → SendsMail clients asked old new out out' came → Mailed came
-  mailed_late outcome.NoStore sends = absurd sends.did.by
-  mailed_late (outcome.Damaged place) sends = absurd sends.did.by
-  mailed_late (outcome.Refused why) sends = absurd sends.did.by
-  mailed_late outcome.DiskFault sends = inr sends
-  mailed_late outcome.Memory sends = inr sends
-  mailed_late _ sends = sends
+  -- no store was loaded
+  pub mailed_none : (came : Outcome) → DiskRun old new
+      → ((two : Two File) → old.files ≡ Some two
+      → LeavesFilesSo (LoadKeeps (Err came) two) two old new)
+      → LoadedBy old new (Err came)
+      → ((two : Two File) → old.files ≡ Some two
+      → IsLoaded (stands clients (read_files two)) (Err came))
+      → IsIdle out out' → Mailed came
+  mailed_none came run rests by loaded idle =
+      inl (stops_none clients (λ f. mailbox_test f asked.contact) NeverReads old new out out' run
+      idle
+      came rests by loaded (never_read old new came by))
 
   pub mailed_on : (r : Result (Unit {0}) Outcome) (x : Outcome) → IsErrAnd r (λ e. e ≡ x) → Mailed x
       → Mailed (came_to r)
@@ -240,7 +239,7 @@ pub mailed_read : (clients : Meaning) (asked : Sending) (now : ℕ) (o o1 oc o2 
     → HasSentMail clients asked o o2 out out' came
 mailed_read clients asked now o o1 oc o2 out out' s came run rests opened tested call clock ran =
     let later : o.disk_faults ≤ oc.disk_faults = omega (arith, run.later, call.same_faults) in
-    mailed_late clients asked o o2 out out' came (record {
+    inr (record {
       now = now;
       reads = record {
         clock =

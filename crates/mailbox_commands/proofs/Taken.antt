@@ -1,12 +1,11 @@
 -- A file that is read, as an errand; and a run of the command that reads it.
-use Rattle.std.proofs.Common.{◌≡◌, ◌⊎◌, ℕ, ◌+◌, ◌<◌, false, List, [], ◌∷◌, ◌++◌, length, refl, sym}
-use Rattle.std.proofs.Common.{ap, ◌∙◌, subst, inl, inr, append_assoc, Result, Ok, Err, None, Some}
+use Rattle.std.proofs.Common.{◌≡◌, ℕ, ◌+◌, ◌<◌, List, [], ◌∷◌, ◌++◌, length, refl, sym}
+use Rattle.std.proofs.Common.{subst, inl, inr, append_assoc, Result, Ok, Err, None, Some}
 use Rattle.std.specs.Prelude.{IsErrAnd}
-use Rattle.std.specs.Global.{Vec}
 use Rattle.std.specs.Io.KnownBytes.{Appends}
 use Rattle.outside.specs.declared.limits.TheConstants.{MAX_JOURNAL}
 use Rattle.outside.specs.Faults.{CountRose}
-use Rattle.outside.specs.Files.{Two, File}
+use Rattle.outside.specs.Files.{Two, File, read_files}
 use Rattle.outside.specs.Outside.{DiskRun, Outside}
 use Rattle.outside.specs.Streams.{Stream, IsIdle}
 use Rattle.outside.proofs.CallSteps.{run_then}
@@ -14,15 +13,12 @@ use Rattle.sync_ids.specs.declared.records.Record.{Record}
 use Rattle.sync_rules.specs.declared.entries.Entry.{Entry}
 use Rattle.sync_rules.specs.declared.entries.Entry.TheVariants as entry
 use Rattle.sync_rules.specs.Clients.{Meaning}
-use Rattle.sync_rules.specs.Facts.{Facts, after, after_all, after_batches, facts, takes_of}
-use Rattle.sync_rules.specs.Hearing.{SettlesJournal}
-use Rattle.sync_rules.specs.Legal.{AllSettling}
+use Rattle.sync_rules.specs.Facts.{Facts, after, after_batches, facts, takes_of}
 use Rattle.sync_rules.specs.Steps.{IsSettled}
 use Rattle.sync_rules.proofs.Continuing.{facts-append, legal-append}
 use Rattle.sync_rules.proofs.WorkLaws.{settles_then, settling_goes_on}
 use Rattle.sync_store.specs.Commits.{needed}
 use Rattle.sync_store.specs.Store.{StoreValue}
-use Rattle.sync_store.specs.declared.fault.StoreFault.{StoreFault}
 use Rattle.sync_store.specs.declared.fault.StoreFault.TheVariants as fault
 use Rattle.mailbox_laws.specs.Boxes.{HearsAll, box_session, with_box}
 use Rattle.mailbox_core.specs.declared.ends.BoxEnd.{BoxEnd}
@@ -37,14 +33,17 @@ use Rattle.sync_words.specs.declared.outcome.Outcome.{Outcome}
 use Rattle.sync_words.specs.declared.outcome.Outcome.TheVariants as outcome
 use Rattle.sync_words.specs.Outcomes.{came_to}
 use Rattle.store_commands.specs.Commit.{SettlesAnew}
-use Rattle.store_commands.specs.Load.{LoadKeeps, LoadedBy, MayExtend}
+use Rattle.entry_codec.specs.Standing.{stands}
+use Rattle.store_commands.specs.Load.{HasFacts, IsLoaded, LoadKeeps, LoadedBy, MayExtend}
 use Rattle.store_commands.specs.Show.{PrintsText, LeavesFilesSo}
+use Rattle.store_commands.proofs.Stopped.{input_unread, stops_memory, stops_none, stops_too_much}
+use Rattle.store_commands.proofs.Stopped.{stops_unread}
 use Rattle.mailbox_commands.specs.Errands.{mailbox_test}
 use Rattle.mailbox_commands.specs.Laws.{MailIsBoxed}
 use Rattle.mailbox_commands.specs.Running.{DoesErrand, FailsToPrint, LacksRoom, PrintsOut}
-use Rattle.mailbox_commands.specs.Running.{RunsErrand, StopsEarly}
+use Rattle.mailbox_commands.specs.Running.{RunsErrand}
 use Rattle.mailbox_commands.specs.Taking.{HasTakenMail, IsInput, IsMail, IsNextTake, ReadsNextBatch}
-use Rattle.mailbox_commands.specs.Taking.{TakesMail, TellsEnd, in_errand, outcome_at, taken_text}
+use Rattle.mailbox_commands.specs.Taking.{TellsEnd, in_errand, outcome_at, taken_text}
 use Rattle.mailbox_commands.proofs.Errands.{errand_loaded, errand_printed, loaded_as_is}
 
 abbrev Batches : Type 0
@@ -281,34 +280,36 @@ module _ (clients : Meaning) (contact : ℕ) (old new : Outside)
   abbrev Taken : Outcome → Type 0
   Taken came = HasTakenMail clients contact old new input input' out out' came
 
-  pub taken_none : (came : Outcome) → LoadedBy old new (Err came)
-      → StopsEarly clients contact old new out out' came
-      → IsIdle input input' → Taken came
-  taken_none outcome.NoStore by early idle = (early, idle)
-  taken_none (outcome.Damaged place) by early idle = (early, idle)
-  taken_none outcome.DiskFault by early idle = inl (early, idle)
-  taken_none outcome.Memory by early idle = inl early
-  taken_none _ by early idle = absurd by
+  -- no store was loaded
+  pub taken_none : (came : Outcome) → DiskRun old new
+      → ((two : Two File) → old.files ≡ Some two
+      → LeavesFilesSo (LoadKeeps (Err came) two) two old new)
+      → LoadedBy old new (Err came)
+      → ((two : Two File) → old.files ≡ Some two
+      → IsLoaded (stands clients (read_files two)) (Err came))
+      → IsIdle input input' → IsIdle out out' → Taken came
+  taken_none came run rests by loaded unread idle =
+      inl (stops_none clients (λ f. mailbox_test f contact) _ old new out out' run idle came rests
+      by
+      loaded (input_unread _ old new input input' came unread by))
 
-  pub taken_unread : (came : Outcome) → IsInput input input' (Err came)
-      → StopsEarly clients contact old new out out' outcome.ReadFault
-      → StopsEarly clients contact old new out out' outcome.TooMuch
-      → StopsEarly clients contact old new out out' outcome.Memory → Taken came
-  taken_unread outcome.ReadFault reads fault much memory = (fault, reads)
-  taken_unread outcome.TooMuch reads fault much memory = (much, reads)
-  taken_unread outcome.Memory reads fault much memory = inl memory
-  taken_unread _ reads fault much memory = absurd reads
-
-  pub taken_late : (came : Outcome) → TakesMail clients contact old new input input' out out' came
-      → Taken came
-  taken_late outcome.NoStore takes = absurd takes.did.by
-  taken_late (outcome.Damaged place) takes = absurd takes.did.by
-  taken_late (outcome.Refused why) takes = absurd takes.did.by
-  taken_late outcome.ReadFault takes = absurd takes.did.by
-  taken_late outcome.TooMuch takes = absurd takes.did.by
-  taken_late outcome.DiskFault takes = inr takes
-  taken_late outcome.Memory takes = inr takes
-  taken_late _ takes = takes
+  -- the input was not read whole
+  pub taken_unread : (came : Outcome) → IsInput input input' (Err came) → (s : StoreValue)
+      → DiskRun old new
+      → ((two : Two File) → old.files ≡ Some two
+      → LeavesFilesSo (LoadKeeps (Ok s) two) two old new)
+      → ((two : Two File) → old.files ≡ Some two → HasFacts (stands clients (read_files two)) s)
+      → mailbox_test s.state.facts contact ≡ None → IsIdle out out' → Taken came
+  taken_unread outcome.ReadFault reads s run rests loaded tested idle =
+      inl (stops_unread clients (λ f. mailbox_test f contact) _ old new out out' run idle s rests
+      loaded tested reads)
+  taken_unread outcome.TooMuch reads s run rests loaded tested idle =
+      inl (stops_too_much clients (λ f. mailbox_test f contact) _ old new out out' run idle s rests
+      loaded tested reads)
+  taken_unread outcome.Memory reads s run rests loaded tested idle =
+      inl (stops_memory clients (λ f. mailbox_test f contact) _ old new out out' run idle s rests
+      loaded tt)
+  taken_unread _ reads s run rests loaded tested idle = absurd reads
 
   pub taken_on : (r : Result (Unit {0}) Outcome) (x : Outcome) → IsErrAnd r (λ e. e ≡ x) → Taken x
       → Taken (came_to r)
@@ -371,7 +372,7 @@ pub taken_read : (clients : Meaning) (contact : ℕ) (o o1 o2 : Outside)
     → HasTakenMail clients contact o o2 input input' out out' came
 taken_read clients contact o o1 o2 input input' out out' s items bytes came run rests opened tested
     mail is ran =
-    taken_late clients contact o o2 input input' out out' came (record {
+    inr (record {
       bytes = bytes;
       reads = subst (IsMail input input') (sym is) mail;
       run = run_then o o1 o2 run ran.run;

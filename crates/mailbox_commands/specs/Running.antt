@@ -1,27 +1,26 @@
 -- What the running of an errand comes to: from a loaded store, and from the files.
-use Rattle.std.specs.Prelude.{◌≡◌, ◌⊎◌, ℕ, ◌<◌, Bool, true, false, List, Option, Some, None, Result}
+use Rattle.std.specs.Prelude.{◌≡◌, ◌⊎◌, ℕ, ◌<◌, Bool, true, false, List, Some, Result}
 use Rattle.std.specs.Prelude.{Ok, Err}
 use Rattle.std.specs.Io.KnownBytes.{Appends}
 use Rattle.outside.specs.Faults.{CountRose}
 use Rattle.outside.specs.Files.{Two, File, read_files}
 use Rattle.outside.specs.Links.{sent_of}
-use Rattle.outside.specs.Outside.{DiskRun, IsNow, Moment, MomentsAre, Outside}
+use Rattle.outside.specs.Outside.{DiskRun, IsNow, MomentsAre, Outside}
 use Rattle.outside.specs.Streams.{Stream, IsIdle, GetsFront}
 use Rattle.sync_rules.specs.declared.entries.Entry.{Entry}
-use Rattle.sync_rules.specs.declared.states.Refused.{Refused}
 use Rattle.sync_rules.specs.Clients.{Meaning}
 use Rattle.sync_rules.specs.Facts.{Facts, facts}
 use Rattle.sync_rules.specs.Steps.{IsSettled}
-use Rattle.entry_codec.specs.Standing.{Standing, no_store, damaged, journal, stands}
+use Rattle.entry_codec.specs.Standing.{stands}
 use Rattle.sync_store.specs.Commits.{needed}
 use Rattle.sync_store.specs.Fitting.{FitsFiles}
 use Rattle.sync_store.specs.Moments.{JournalMoment}
-use Rattle.sync_store.specs.Store.{IsStore, StoreValue}
+use Rattle.sync_store.specs.Store.{StoreValue}
 use Rattle.sync_words.specs.declared.outcome.Outcome.{Outcome}
 use Rattle.sync_words.specs.declared.outcome.Outcome.TheVariants as outcome
 use Rattle.mailbox_core.specs.Rooms.{StoreComesTo}
 use Rattle.store_commands.specs.Commit.{ExtendsBy, HasLastGeneration, WasSpent}
-use Rattle.store_commands.specs.Show.{KeepsFiles, LeavesFilesSo}
+use Rattle.store_commands.specs.Stopping.{TestsHold}
 use Rattle.mailbox_commands.specs.Errands.{Errand, ErrandOn, IsErrandCutShort, IsRun, mailbox_test}
 
 -- ---- an errand on a settled store
@@ -115,19 +114,14 @@ is_whole _ = false
 -- by the outcome
 abbrev pub ErrandEnds : Meaning → Errand → List (List Entry) → Two File → Two File
     → (out out' : Stream) → Outcome → Type 0
-ErrandEnds clients errand j two two' out out' outcome.Done =
-    IsRun clients errand j two' (Appends out.bytes out'.bytes)
-ErrandEnds clients errand j two two' out out' (outcome.Inside place) =
-    IsRun clients errand j two' (Appends out.bytes out'.bytes)
-ErrandEnds clients errand j two two' out out' (outcome.Bad place why) =
-    IsRun clients errand j two' (Appends out.bytes out'.bytes)
-ErrandEnds clients errand j two two' out out' (outcome.NoVersion place) =
-    IsRun clients errand j two' (Appends out.bytes out'.bytes)
 ErrandEnds clients errand j two two' out out' outcome.WriteFault =
     IsRun clients errand j two' (GetsFront out out')
 ErrandEnds clients errand j two two' out out' outcome.Full =
     IsErrandCutShort clients errand j two' ⊎ WasSpent two two'
-ErrandEnds clients errand j two two' out out' _ = Unit {0}
+ErrandEnds clients errand j two two' out out' outcome.Memory = Unit {0}
+ErrandEnds clients errand j two two' out out' outcome.DiskFault = Unit {0}
+ErrandEnds clients errand j two two' out out' came =
+    IsRun clients errand j two' (Appends out.bytes out'.bytes)
 
 -- Each moment stands for the journal with settling and some of the errand, and in the end the files
 -- are so, which were `two` before. Where they had no generation left the errand is not done.
@@ -152,30 +146,16 @@ pub record RunsErrand (clients : Meaning) (errand : Errand) (s : StoreValue) (ol
 
 -- ---- from the files that were told
 
--- the files stood for a journal over which the tests answer so
-pub record IsTested (contact : ℕ) (standing : Standing) (answer : Option Refused) : Type 0 where
-  pub before : List (List Entry)
-  pub stood : standing ≡ journal before
-  pub tested : mailbox_test (facts before) contact ≡ answer
-
--- they hold over it, and it has this
-pub record MayRunErrand (contact : ℕ) (standing : Standing)
-    (P : List (List Entry) → Type 0) : Type 0 where
-  pub before : List (List Entry)
-  pub stood : standing ≡ journal before
-  pub tested : mailbox_test (facts before) contact ≡ None
-  pub leads : P before
-
 -- each moment is as a crash might have left the files before, or has batches of the errand
 pub record FilesTold (clients : Meaning) (contact : ℕ) (errand : Errand) (two : Two File)
     (old new : Outside)
     (out out' : Stream) (came : Outcome) : Type 0 where
   pub moments : MomentsAre old new
       (λ m. IsNow two old.links m
-      ⊎ MayRunErrand contact (stands clients (read_files two))
+      ⊎ TestsHold (λ f. mailbox_test f contact) (stands clients (read_files two))
       (λ j. JournalMoment clients (ErrandOn clients errand j) (sent_of old.links.told) m))
   pub ends : (two' : Two File) → new.files ≡ Some two'
-      → MayRunErrand contact (stands clients (read_files two)) (λ j.
+      → TestsHold (λ f. mailbox_test f contact) (stands clients (read_files two)) (λ j.
       ErrandEnds clients errand j two two' out out' came)
   pub spent : HasLastGeneration (read_files two) → is_whole came ≡ false
 
@@ -186,40 +166,3 @@ pub record FilesRun (clients : Meaning) (contact : ℕ) (errand : Errand) (old n
   pub by : ErrandBy errand.comes old new out out' came
   pub told : (two : Two File) → old.files ≡ Some two
       → FilesTold clients contact errand two old new out out' came
-
--- ---- a command that ended before its errand
-
--- the causes
-abbrev pub ErrandStopsBy : (old new : Outside) → Outcome → Type 0
-ErrandStopsBy old new outcome.NoStore = Unit {0}
-ErrandStopsBy old new (outcome.Damaged place) = Unit {0}
-ErrandStopsBy old new (outcome.Refused why) = Unit {0}
-ErrandStopsBy old new outcome.DiskFault = CountRose old.disk_faults new.disk_faults
-ErrandStopsBy old new outcome.Memory = Unit {0}
-ErrandStopsBy old new outcome.ReadFault = Unit {0}
-ErrandStopsBy old new outcome.TooMuch = Unit {0}
-ErrandStopsBy old new _ = ⊥
-
--- by what the files stood for
-abbrev pub ErrandStopsWhere : Standing → ℕ → Outcome → Type 0
-ErrandStopsWhere standing contact outcome.NoStore = standing ≡ no_store
-ErrandStopsWhere standing contact (outcome.Damaged place) = standing ≡ damaged place.file place.at
-ErrandStopsWhere standing contact (outcome.Refused why) = IsTested contact standing (Some why)
-ErrandStopsWhere standing contact outcome.ReadFault = IsTested contact standing None
-ErrandStopsWhere standing contact outcome.TooMuch = IsTested contact standing None
-ErrandStopsWhere standing contact _ = Unit {0}
-
--- what is so where the files are told: nothing was taken or sent
-pub record ErrandStopsTold (clients : Meaning) (contact : ℕ) (two : Two File) (old new : Outside)
-    (came : Outcome) : Type 0 where
-  pub rests : LeavesFilesSo (KeepsFiles came two) two old new
-  pub ends : ErrandStopsWhere (stands clients (read_files two)) contact came
-
--- nothing was taken or sent, and nothing printed
-pub record StopsEarly (clients : Meaning) (contact : ℕ) (old new : Outside) (out out' : Stream)
-    (came : Outcome) : Type 0 where
-  pub run : DiskRun old new
-  pub by : ErrandStopsBy old new came
-  pub quiet : IsIdle out out'
-  pub told : (two : Two File) → old.files ≡ Some two
-      → ErrandStopsTold clients contact two old new came

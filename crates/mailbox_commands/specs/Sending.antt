@@ -1,6 +1,6 @@
 -- What `mailbox out` does: it commits what is due to a contact, and writes the bytes of all that
 -- the session sends.
-use Rattle.std.specs.Prelude.{◌≡◌, ◌⊎◌, ℕ, ◌<◌, ◌≤◌, List, [], ◌∷◌, ◌++◌, length, is_some, Result}
+use Rattle.std.specs.Prelude.{◌≡◌, ◌⊎◌, ℕ, ◌<◌, ◌≤◌, List, [], ◌++◌, length, is_some, Result}
 use Rattle.std.specs.Prelude.{Ok, Err}
 use Rattle.outside.specs.Calls.{CallsGoOn}
 use Rattle.outside.specs.Disk.{RelatesTold}
@@ -21,8 +21,9 @@ use Rattle.mailbox_core.specs.Taking.{BeginsThen, first_batch}
 use Rattle.sync_words.specs.declared.outcome.Outcome.{Outcome}
 use Rattle.sync_words.specs.declared.outcome.Outcome.TheVariants as outcome
 use Rattle.mailbox_commands.specs.declared.sending.Sending.{Sending}
-use Rattle.mailbox_commands.specs.Errands.{Errand}
-use Rattle.mailbox_commands.specs.Running.{DoesErrand, FilesRun, StopsEarly}
+use Rattle.store_commands.specs.Stopping.{NeverReads, StopsEarly}
+use Rattle.mailbox_commands.specs.Errands.{Errand, mailbox_test}
+use Rattle.mailbox_commands.specs.Running.{DoesErrand, FilesRun}
 
 -- ---- the errand
 
@@ -102,16 +103,6 @@ pub record SendsMail (clients : Meaning) (asked : Sending) (old new : Outside) (
 -- tests hold.
 abbrev pub HasSentMail : Meaning → Sending → (old new : Outside) → (out out' : Stream) → Outcome
     → Type 0
-HasSentMail clients asked old new out out' outcome.NoStore =
-    StopsEarly clients asked.contact old new out out' outcome.NoStore
-HasSentMail clients asked old new out out' (outcome.Damaged place) =
-    StopsEarly clients asked.contact old new out out' (outcome.Damaged place)
-HasSentMail clients asked old new out out' (outcome.Refused why) =
-    StopsEarly clients asked.contact old new out out' (outcome.Refused why)
-HasSentMail clients asked old new out out' outcome.DiskFault =
-    StopsEarly clients asked.contact old new out out' outcome.DiskFault
-    ⊎ SendsMail clients asked old new out out' outcome.DiskFault
-HasSentMail clients asked old new out out' outcome.Memory =
-    StopsEarly clients asked.contact old new out out' outcome.Memory
-    ⊎ SendsMail clients asked old new out out' outcome.Memory
-HasSentMail clients asked old new out out' came = SendsMail clients asked old new out out' came
+HasSentMail clients asked old new out out' came =
+    StopsEarly clients (λ f. mailbox_test f asked.contact) NeverReads old new out out' came
+    ⊎ SendsMail clients asked old new out out' came

@@ -6,7 +6,7 @@ use Rattle.std.specs.Global.{Vec}
 use Rattle.std.specs.Io.KnownBytes.{Consumes, IsAtEnd}
 use Rattle.outside.specs.Faults.{CountRose}
 use Rattle.outside.specs.Outside.{DiskRun, Outside}
-use Rattle.outside.specs.Streams.{Stream, IsIdle}
+use Rattle.outside.specs.Streams.{Stream}
 use Rattle.sync_ids.specs.declared.records.Record.{Record}
 use Rattle.sync_rules.specs.declared.entries.Entry.{Entry}
 use Rattle.sync_rules.specs.Clients.{Meaning}
@@ -21,8 +21,9 @@ use Rattle.mailbox_core.specs.Taking.{AllTaken, first_batch, next_take}
 use Rattle.sync_words.specs.declared.outcome.Outcome.{Outcome}
 use Rattle.sync_words.specs.declared.outcome.Outcome.TheVariants as outcome
 use Rattle.mailbox_commands.specs.declared.taking.TheConstants.{MAX_MAIL}
-use Rattle.mailbox_commands.specs.Errands.{Errand}
-use Rattle.mailbox_commands.specs.Running.{FilesRun, StopsEarly}
+use Rattle.store_commands.specs.Stopping.{InputStops, StopsEarly}
+use Rattle.mailbox_commands.specs.Errands.{Errand, mailbox_test}
+use Rattle.mailbox_commands.specs.Running.{FilesRun}
 
 -- ---- the errand
 
@@ -102,22 +103,7 @@ pub record TakesMail (clients : Meaning) (contact : ℕ) (old new : Outside)
 -- read once the tests hold.
 abbrev pub HasTakenMail : Meaning → ℕ → (old new : Outside) → (input input' out out' : Stream)
     → Outcome → Type 0
-HasTakenMail clients contact old new input input' out out' outcome.NoStore =
-    StopsEarly clients contact old new out out' outcome.NoStore × IsIdle input input'
-HasTakenMail clients contact old new input input' out out' (outcome.Damaged place) =
-    StopsEarly clients contact old new out out' (outcome.Damaged place) × IsIdle input input'
-HasTakenMail clients contact old new input input' out out' (outcome.Refused why) =
-    StopsEarly clients contact old new out out' (outcome.Refused why) × IsIdle input input'
-HasTakenMail clients contact old new input input' out out' outcome.ReadFault =
-    StopsEarly clients contact old new out out' outcome.ReadFault
-    × CountRose input.faults input'.faults
-HasTakenMail clients contact old new input input' out out' outcome.TooMuch =
-    StopsEarly clients contact old new out out' outcome.TooMuch × IsTooMuch input input'
-HasTakenMail clients contact old new input input' out out' outcome.DiskFault =
-    (StopsEarly clients contact old new out out' outcome.DiskFault × IsIdle input input')
-    ⊎ TakesMail clients contact old new input input' out out' outcome.DiskFault
-HasTakenMail clients contact old new input input' out out' outcome.Memory =
-    StopsEarly clients contact old new out out' outcome.Memory
-    ⊎ TakesMail clients contact old new input input' out out' outcome.Memory
 HasTakenMail clients contact old new input input' out out' came =
-    TakesMail clients contact old new input input' out out' came
+    StopsEarly clients (λ f. mailbox_test f contact)
+    (InputStops (IsTooMuch input input') input input') old new out out' came
+    ⊎ TakesMail clients contact old new input input' out out' came

@@ -1,13 +1,12 @@
 -- An agreement, from the loaded store to the text.
-use Rattle.std.proofs.Common.{◌≡◌, ◌⊎◌, ℕ, ◌<◌, ◌≤◌, true, false, List, [], ◌∷◌, ◌++◌, refl, sym}
+use Rattle.std.proofs.Common.{◌≡◌, ◌⊎◌, ℕ, ◌<◌, true, false, List, [], ◌∷◌, ◌++◌, refl, sym}
 use Rattle.std.proofs.Common.{ap, ◌∙◌}
 use Rattle.std.proofs.Common.{subst, inl, inr, append_assoc, append-nil, arith, Some, None, Result}
 use Rattle.std.proofs.Common.{Ok, Err}
 use Rattle.outside.specs.declared.limits.TheConstants.{MAX_JOURNAL}
-use Rattle.outside.specs.Faults.{CountRose}
 use Rattle.outside.specs.Files.{Two, File, read_files}
 use Rattle.outside.specs.Links.{Links, sent_of}
-use Rattle.outside.specs.Outside.{DiskRun, IsNow, MomentsAre, Outside}
+use Rattle.outside.specs.Outside.{DiskRun, MomentsAre, Outside}
 use Rattle.outside.specs.Streams.{Stream, IsIdle}
 use Rattle.outside.proofs.CallSteps.{moments_map, moments_then, run_then, told_on}
 use Rattle.sync_rules.specs.declared.entries.Entry.{Entry}
@@ -35,77 +34,21 @@ use Rattle.sharing_commands.specs.Sayings.{sharing_test}
 use Rattle.store_commands.specs.Commit.{ComesAnew, ExtendsBy, HasLastGeneration, SettledAnew}
 use Rattle.store_commands.specs.Commit.{SettlesAnew, WasSpent, needed_by}
 use Rattle.store_commands.proofs.Stood.{fits_format, last_here, spent_here}
-use Rattle.store_commands.specs.Entries.{AddsBy, is_added, is_late}
+use Rattle.store_commands.specs.Causes.{is_late}
+use Rattle.store_commands.specs.Works.{WorkEnds}
+use Rattle.store_commands.proofs.Adds.{caused_later, same_told, settles_from}
+use Rattle.store_commands.proofs.Working.{caused_before, failed_caused, failed_late, failed_unadded}
+use Rattle.store_commands.proofs.Working.{none_caused, printed_caused, printed_late, rest_moments}
+use Rattle.store_commands.proofs.Working.{same_journal, worked_none, worked_refused}
 use Rattle.store_commands.specs.Load.{HasFacts, IsLoaded, LoadedBy, LoadKeeps, MayExtend}
-use Rattle.store_commands.specs.Show.{KeepsFiles, PrintsText, LeavesFilesSo}
+use Rattle.store_commands.specs.Show.{PrintsText, LeavesFilesSo}
 use Rattle.sharing_commands.specs.Adding.{AddsFront, AddsSo, AgreedEnds, AgreesLevels, IsFrontAdded}
-use Rattle.sharing_commands.specs.Agreeing.{AgreesEnds, AgreesMoment, AgreesOn, EachFoundRoom}
-use Rattle.sharing_commands.specs.Agreeing.{HasAgreed, IsAgreed, IsAgreementCut}
+use Rattle.sharing_commands.specs.Agreeing.{AgreesOn, EachFoundRoom, HasAgreed, IsAgreed}
+use Rattle.sharing_commands.specs.Agreeing.{IsAgreementCut, agreeing}
 use Rattle.sharing_commands.specs.Agreement.{agree_test, agreed_batches, agreed_text}
 use Rattle.sharing_commands.proofs.Fronts.{weighed}
 
--- ---- causes
-
-rose_before : (a b c : ℕ) → a ≤ b → CountRose b c → CountRose a c
-rose_before a b c later rose = omega arith
-
-failed_by : (o o2 : Outside) (out out' : Stream) (came : Outcome) → IsIdle out out' → ExtendsBy o o2
-    (Err came) → AddsBy o o2 out out' came
-failed_by o o2 out out' outcome.Full idle by = idle
-failed_by o o2 out out' outcome.DiskFault idle by = (by, idle)
-failed_by o o2 out out' outcome.Memory idle by = idle
-failed_by o o2 out out' _ idle by = absurd by
-
-failed_late : (o o2 : Outside) (came : Outcome) → ExtendsBy o o2 (Err came) → is_late came ≡ true
-failed_late o o2 outcome.Full by = refl
-failed_late o o2 outcome.DiskFault by = refl
-failed_late o o2 outcome.Memory by = refl
-failed_late o o2 _ by = absurd by
-
-failed_unadded : (o o2 : Outside) (came : Outcome) → ExtendsBy o o2 (Err came)
-    → is_added came ≡ false
-failed_unadded o o2 outcome.Full by = refl
-failed_unadded o o2 outcome.DiskFault by = refl
-failed_unadded o o2 outcome.Memory by = refl
-failed_unadded o o2 _ by = absurd by
-
-caused_later : (o o1 o2 : Outside) (came : Outcome) → o.disk_faults ≤ o1.disk_faults
-    → ExtendsBy o1 o2 (Err came) → ExtendsBy o o2 (Err came)
-caused_later o o1 o2 outcome.DiskFault later by =
-    rose_before o.disk_faults o1.disk_faults o2.disk_faults later by
-caused_later o o1 o2 outcome.Full later by = tt
-caused_later o o1 o2 outcome.Memory later by = tt
-caused_later o o1 o2 _ later by = absurd by
-
-printed_by : (o o2 : Outside) (out out' : Stream) (text : List ℕ) (came : Outcome)
-    → PrintsText text out out' came → AddsBy o o2 out out' came
-printed_by o o2 out out' text outcome.Done p = tt
-printed_by o o2 out out' text outcome.WriteFault p = p.0
-printed_by o o2 out out' text outcome.Memory p = p
-printed_by o o2 out out' text _ p = absurd p
-
-printed_late : (out out' : Stream) (text : List ℕ) (came : Outcome) → PrintsText text out out' came
-    → is_late came ≡ true
-printed_late out out' text outcome.Done p = refl
-printed_late out out' text outcome.WriteFault p = refl
-printed_late out out' text outcome.Memory p = refl
-printed_late out out' text _ p = absurd p
-
 -- ---- settling
-
-settles_from : (clients : Meaning) (s : StoreValue) (two : Two File) (j more : List (List Entry))
-    → FitsFiles clients s j two → AllSettling clients s.state.facts more
-    → AllSettling clients (facts j) more
-settles_from clients s two j more fits settling =
-    subst (λ (g : Facts). AllSettling clients g more) (sym fits.facts_are) settling
-
--- files that are told of one outside read alike
-one_told : (o o1 : Outside) (two two1 : Two File) → o1 ≡ o → o.files ≡ Some two
-    → o1.files ≡ Some two1 → read_files two1 ≡ read_files two
-one_told o o1 two two1 same files files1 =
-    let both : Some two1 ≡ Some two = sym files1 ∙ ap (λ (x : Outside). x.files) same ∙ files in
-    let one : two1 ≡ two = cc in
-    ap read_files one
 
 not_settled_ends : (clients : Meaning) (contact : ℕ) (group : Id) (j : List (List Entry))
     (s s1 : StoreValue) (out out' : Stream) (came : Outcome) (two two1 : Two File)
@@ -128,7 +71,7 @@ pub agrees_unsettled : (clients : Meaning) (contact : ℕ) (group : Id) (s s1 : 
     → AgreesLevels clients contact group s o o1 out out' came
 agrees_unsettled clients contact group s s1 o o1 out out' came idle run by still settled = record {
   run = run;
-  by = failed_by o o1 out out' came idle by;
+  by = failed_caused o o1 out out' came idle by;
   late = failed_late o o1 came by;
   told = λ two files j fits. record {
     moments = moments_map o o1 _ _ (λ m w. record {
@@ -143,7 +86,7 @@ agrees_unsettled clients contact group s s1 o o1 out out' came idle run by still
     }) (settled.comes.leads two files j fits).moments;
     ends = λ two1 files1.
         not_settled_ends clients contact group j s s1 out out' came two two1 fits (λ is.
-        one_told o o1 two two1 (still is) files files1) settled.answer;
+        same_told o o1 two two1 (still is) files files1) settled.answer;
     spent = λ last. failed_unadded o o1 came by;
   };
 }
@@ -338,10 +281,10 @@ pub agrees_stopped : (clients : Meaning) (contact : ℕ) (group : Id) (s s1 s2 :
     → AgreesLevels clients contact group s o o2 out out' came
 agrees_stopped clients contact group s s1 s2 o o1 o2 out out' u came idle limited run settled added
     by =
-    let whole = caused_later o o1 o2 came run.later by in
+    let whole = caused_later o o1 o2 (Err came) run.later by in
     record {
       run = run_then o o1 o2 run added.runs.run;
-      by = failed_by o o2 out out' came idle whole;
+      by = failed_caused o o2 out out' came idle whole;
       late = failed_late o o2 came whole;
       told = λ two files j fits. record {
         moments = agreed_moments clients contact group s s1 s2 o o1 o2 u (Err came) run settled
@@ -374,7 +317,7 @@ pub agrees_printed : (clients : Meaning) (contact : ℕ) (group : Id) (s s1 s2 :
 agrees_printed clients contact group s s1 s2 o o1 o2 out out' u v text came limited run settled
     added is printed = record {
       run = run_then o o1 o2 run added.runs.run;
-      by = printed_by o o2 out out' text came printed;
+      by = printed_caused o o2 out out' text came printed;
       late = printed_late out out' text came printed;
       told = λ two files j fits. record {
         moments =
@@ -391,43 +334,6 @@ agrees_printed clients contact group s s1 s2 o o1 o2 out out' u v text came limi
 
 -- ---- from the files
 
-rest_moments : (clients : Meaning) (contact : ℕ) (group : Id) (standing : Standing) (came : Outcome)
-    (P : Two File → Type 0) (two : Two File) (o o1 : Outside) → LeavesFilesSo P two o o1
-    → MomentsAre o o1 (λ m. IsNow two o.links m
-    ⊎ AgreesMoment clients contact group standing came (sent_of o.links.told) m)
-rest_moments clients contact group standing came P two o o1 rests =
-    moments_map o o1 _ _ (λ m w. inl w) rests.moments
-
-none_by : (old new : Outside) (out out' : Stream) (came : Outcome) → IsIdle out out'
-    → LoadedBy old new (Err came) → AddsBy old new out out' came
-none_by old new out out' outcome.DiskFault idle by = (by, idle)
-none_by old new out out' outcome.NoStore idle by = idle
-none_by old new out out' (outcome.Damaged place) idle by = idle
-none_by old new out out' outcome.Memory idle by = idle
-none_by old new out out' _ idle by = absurd by
-
-none_ends : (clients : Meaning) (contact : ℕ) (group : Id) (standing : Standing)
-    (two two' : Two File) (old new : Outside) (out out' : Stream) (came : Outcome)
-    → LoadedBy old new (Err came) → IsLoaded standing (Err came) → KeepsFiles came two two'
-    → AgreesEnds clients contact group standing two two' out out' came
-none_ends clients contact group standing two two' old new out out' outcome.DiskFault by loaded
-    same = tt
-none_ends clients contact group standing two two' old new out out' outcome.NoStore by loaded same =
-    (loaded, same)
-none_ends clients contact group standing two two' old new out out' (outcome.Damaged place) by loaded
-    same = (loaded, same)
-none_ends clients contact group standing two two' old new out out' outcome.Memory by loaded same =
-    tt
-none_ends clients contact group standing two two' old new out out' _ by loaded same = absurd by
-
-none_unadded : (old new : Outside) (came : Outcome) → LoadedBy old new (Err came)
-    → is_added came ≡ false
-none_unadded old new outcome.DiskFault by = refl
-none_unadded old new outcome.NoStore by = refl
-none_unadded old new (outcome.Damaged place) by = refl
-none_unadded old new outcome.Memory by = refl
-none_unadded old new _ by = absurd by
-
 pub agreed_none : (clients : Meaning) (contact : ℕ) (group : Id) (old new : Outside)
     (out out' : Stream) (came : Outcome) → DiskRun old new
     → ((two : Two File) → old.files ≡ Some two
@@ -435,18 +341,9 @@ pub agreed_none : (clients : Meaning) (contact : ℕ) (group : Id) (old new : Ou
     → ((two : Two File) → old.files ≡ Some two
     → IsLoaded (stands clients (read_files two)) (Err came)) → IsIdle out out'
     → HasAgreed clients contact group old new out out' came
-agreed_none clients contact group old new out out' came run rests by loaded idle = record {
-  run = run;
-  by = none_by old new out out' came idle by;
-  told = λ two told. record {
-    moments = rest_moments clients contact group (stands clients (read_files two)) came _ two old
-        new (rests two told);
-    ends = λ two' told'.
-        none_ends clients contact group (stands clients (read_files two)) two two' old new out out'
-        came by (loaded two told) ((rests two told).kept two' told');
-    spent = λ last. none_unadded old new came by;
-  };
-}
+agreed_none clients contact group old new out out' came run rests by loaded idle =
+    worked_none clients (agreeing clients contact group) old new out out' came run rests by loaded
+    (none_caused old new out out' came idle by)
 
 pub agreed_refused : (clients : Meaning) (contact : ℕ) (group : Id) (old new : Outside)
     (out out' : Stream) (s : StoreValue) (why : Refused) → DiskRun old new
@@ -454,24 +351,13 @@ pub agreed_refused : (clients : Meaning) (contact : ℕ) (group : Id) (old new :
     → ((two : Two File) → old.files ≡ Some two → HasFacts (stands clients (read_files two)) s)
     → agree_test s.state.facts contact group ≡ Some why → IsIdle out out'
     → HasAgreed clients contact group old new out out' (outcome.Refused why)
-agreed_refused clients contact group old new out out' s why run rests loaded tested idle = record {
-  run = run;
-  by = idle;
-  told = λ two told. record {
-    moments = rest_moments clients contact group (stands clients (read_files two))
-        (outcome.Refused why) _ two old new (rests two told);
-    ends = λ two' told'.
-        let has = loaded two told in (
-          record {
-            before = has.of;
-            stood = has.stood;
-            tested = ap (λ (f : Facts). agree_test f contact group) has.are ∙ tested;
-          },
-          (rests two told).kept two' told',
-        );
-    spent = λ last. refl;
-  };
-}
+agreed_refused clients contact group old new out out' s why run rests loaded tested idle =
+    worked_refused clients (agreeing clients contact group) old new out out' s why run rests
+    (λ two told. let has = loaded two told in record {
+      before = has.of;
+      stood = has.stood;
+      tested = ap (λ (f : Facts). agree_test f contact group) has.are ∙ tested;
+    }) idle
 
 -- the files before the agreement read as those before the load
 cut_first : (clients : Meaning) (contact : ℕ) (group : Id) (j : List (List Entry))
@@ -487,7 +373,7 @@ whole_ends : (clients : Meaning) (contact : ℕ) (group : Id) (standing : Standi
     → read_files two1 ≡ read_files two → is_late came ≡ true → standing ≡ journal j
     → agree_test (facts j) contact group ≡ None
     → AgreedEnds clients contact group j out out' came two1 two2
-    → AgreesEnds clients contact group standing two two2 out out' came
+    → WorkEnds (agreeing clients contact group) standing two two2 out out' came
 whole_ends clients contact group standing two two1 two2 out out' j outcome.Done same late stood
     tested ends = record { before = j; stood = stood; tested = tested; leads = ends }
 whole_ends clients contact group standing two two1 two2 out out' j outcome.WriteFault same late
@@ -507,25 +393,6 @@ whole_ends clients contact group standing two two1 two2 out out' j outcome.DiskF
 whole_ends clients contact group standing two two1 two2 out out' j _ same late stood tested ends =
     cc
 
-by_later : (o o1 o2 : Outside) (out out' : Stream) (came : Outcome) → o.disk_faults ≤ o1.disk_faults
-    → AddsBy o1 o2 out out' came → AddsBy o o2 out out' came
-by_later o o1 o2 out out' outcome.DiskFault later by =
-    (rose_before o.disk_faults o1.disk_faults o2.disk_faults later by.0, by.1)
-by_later o o1 o2 out out' outcome.Done later by = by
-by_later o o1 o2 out out' outcome.WriteFault later by = by
-by_later o o1 o2 out out' outcome.Full later by = by
-by_later o o1 o2 out out' outcome.Memory later by = by
-by_later o o1 o2 out out' outcome.NoStore later by = by
-by_later o o1 o2 out out' (outcome.Refused why) later by = by
-by_later o o1 o2 out out' (outcome.Damaged place) later by = by
-by_later o o1 o2 out out' _ later by = absurd by
-
--- the journal that the disk fits is the one that the files stood for
-same_journal : (clients : Meaning) (s : StoreValue) (two two1 : Two File) (j : List (List Entry))
-    → read_files two1 ≡ read_files two → FitsFiles clients s j two1
-    → stands clients (read_files two) ≡ journal j
-same_journal clients s two two1 j same fits = ap (stands clients) (sym same) ∙ fits.stands_for
-
 pub agreed_loaded : (clients : Meaning) (contact : ℕ) (group : Id) (o o1 o2 : Outside)
     (out out' : Stream) (s : StoreValue) (came : Outcome) → DiskRun o o1
     → ((two : Two File) → o.files ≡ Some two → LeavesFilesSo (LoadKeeps (Ok s) two) two o o1)
@@ -534,7 +401,7 @@ pub agreed_loaded : (clients : Meaning) (contact : ℕ) (group : Id) (o o1 o2 : 
     → HasAgreed clients contact group o o2 out out' came
 agreed_loaded clients contact group o o1 o2 out out' s came run rests ready tested agreed = record {
   run = run_then o o1 o2 run agreed.run;
-  by = by_later o o1 o2 out out' came run.later agreed.by;
+  by = caused_before o o1 o2 out out' came run.later agreed.by;
   told = λ two told.
       let rest = rests two told in
       let told1 = told_on o o1 two run.same_told told in
@@ -546,8 +413,8 @@ agreed_loaded clients contact group o o1 o2 out out' s came run rests ready test
       record {
         moments =
             moments_then o o1 o2 _
-            (rest_moments clients contact group (stands clients (read_files two)) came _ two o
-            o1 rest)
+            (rest_moments (agreeing clients contact group) (stands clients (read_files two)) came _
+            two o o1 rest)
             (moments_map o1 o2 _ _ (λ m w. inr (
               agreed.late,
               record {

@@ -16,7 +16,7 @@ use Rattle.sync_store.specs.Commits.{needed}
 use Rattle.sync_store.specs.Fitting.{FitsFiles}
 use Rattle.sync_store.specs.Moments.{JournalMoment}
 use Rattle.store_commands.specs.Commit.{HasLastGeneration, WasSpent}
-use Rattle.store_commands.specs.Entries.{AddsBy, is_added, is_late}
+use Rattle.store_commands.specs.Causes.{CausedBy, is_added, is_late}
 use Rattle.sync_store.specs.Ready.{IsReady}
 use Rattle.sync_store.specs.Runs.{RunsBy}
 use Rattle.sync_store.specs.Store.{IsStore, StoreValue, written_in}
@@ -91,7 +91,7 @@ pub record AgreedTold (clients : Meaning) (contact : ℕ) (group : Id) (j : List
 pub record AgreesLevels (clients : Meaning) (contact : ℕ) (group : Id) (s : StoreValue)
     (old new : Outside) (out out' : Stream) (came : Outcome) : Type 0 where
   pub run : DiskRun old new
-  pub by : AddsBy old new out out' came
+  pub by : CausedBy old new out out' came
   pub late : is_late came ≡ true
   pub told : (two : Two File) → old.files ≡ Some two → (j : List (List Entry))
       → FitsFiles clients s j two → AgreedTold clients contact group j two old new out out' came

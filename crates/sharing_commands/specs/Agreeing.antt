@@ -1,26 +1,23 @@
 -- What `agree` does: it migrates the journal and settles it, adds what the targets ask for, each
 -- entry a batch of its own, and prints a line for each group.
-use Rattle.std.specs.Prelude.{◌≡◌, ◌⊎◌, ℕ, ◌<◌, ◌≤◌, false, true, List, [], ◌∷◌, ◌++◌, Some, None}
-use Rattle.std.specs.Io.KnownBytes.{Appends}
+use Rattle.std.specs.Prelude.{◌≡◌, ◌⊎◌, ℕ, ◌<◌, ◌≤◌, List, [], ◌∷◌, ◌++◌, Some}
 use Rattle.outside.specs.declared.limits.TheConstants.{MAX_JOURNAL}
 use Rattle.outside.specs.Files.{Two, File, read_files, NothingPending}
-use Rattle.outside.specs.Links.{sent_of}
-use Rattle.outside.specs.Outside.{Outside, DiskRun, IsNow, Moment, MomentsAre}
-use Rattle.outside.specs.Streams.{Stream, GetsFront}
+use Rattle.outside.specs.Outside.{Outside}
+use Rattle.outside.specs.Streams.{Stream}
 use Rattle.sync_rules.specs.declared.entries.Entry.{Entry}
-use Rattle.sync_rules.specs.declared.states.Refused.{Refused}
 use Rattle.sync_rules.specs.Clients.{Meaning}
 use Rattle.sync_rules.specs.Facts.{Facts, Id, after_batches, facts}
 use Rattle.sync_rules.specs.Legal.{AllSettling}
 use Rattle.sync_rules.specs.Steps.{IsSettled}
-use Rattle.entry_codec.specs.Standing.{Standing, no_store, damaged, journal, stands}
+use Rattle.entry_codec.specs.Standing.{journal, stands}
 use Rattle.sync_store.specs.Moments.{IsBetween, JournalMoment}
 use Rattle.sync_words.specs.declared.outcome.Outcome.{Outcome}
-use Rattle.sync_words.specs.declared.outcome.Outcome.TheVariants as outcome
 use Rattle.entry_codec.specs.declared.naming.Format.TheVariants as kind
 use Rattle.store_commands.specs.Commit.{HasLastGeneration, IsInFormat, WasSpent, needed_by}
-use Rattle.store_commands.specs.Entries.{AddsBy, is_added, is_late}
-use Rattle.store_commands.specs.Show.{FilesReadSame}
+use Rattle.store_commands.specs.Causes.{CausedBy}
+use Rattle.store_commands.specs.Stopping.{IsTested, TestsHold}
+use Rattle.store_commands.specs.Works.{HasWorked, Work}
 use Rattle.sharing_commands.specs.Agreement.{agree_test, agreed_batches, agreed_text}
 
 -- ---- journals
@@ -79,64 +76,25 @@ pub record IsAgreementCut (clients : Meaning) (contact : ℕ) (group : Id) (j : 
 
 -- ---- from the files that were told
 
--- the files stood for a journal over which the tests hold
-pub record MayAgree (contact : ℕ) (group : Id) (standing : Standing)
-    (P : List (List Entry) → Type 0) : Type 0 where
-  pub before : List (List Entry)
-  pub stood : standing ≡ journal before
-  pub tested : agree_test (facts before) contact group ≡ None
-  pub leads : P before
-
--- the files stood for a journal over which this test fails
-pub record IsDenied (contact : ℕ) (group : Id) (standing : Standing) (why : Refused) : Type 0 where
-  pub before : List (List Entry)
-  pub stood : standing ≡ journal before
-  pub tested : agree_test (facts before) contact group ≡ Some why
-
--- a moment once batches are added; there is none where the command was refused or ended earlier
-abbrev pub AgreesMoment : Meaning → ℕ → Id → Standing → Outcome → List (List ℕ) → Moment → Type 0
-AgreesMoment clients contact group standing came sent m =
-    (is_late came ≡ true)
-    × MayAgree contact group standing (λ j.
-    JournalMoment clients (AgreesOn clients contact group j) sent m)
-
--- the outcome by what the files stood for
-abbrev pub AgreesEnds : Meaning → ℕ → Id → Standing → Two File → Two File → (out out' : Stream)
-    → Outcome → Type 0
-AgreesEnds clients contact group standing two two' out out' outcome.NoStore =
-    (standing ≡ no_store) × FilesReadSame two two'
-AgreesEnds clients contact group standing two two' out out' (outcome.Damaged place) =
-    (standing ≡ damaged place.file place.at) × FilesReadSame two two'
-AgreesEnds clients contact group standing two two' out out' (outcome.Refused why) =
-    IsDenied contact group standing why × FilesReadSame two two'
-AgreesEnds clients contact group standing two two' out out' outcome.Full =
-    MayAgree contact group standing (λ j. IsAgreementCut clients contact group j two'
-    ⊎ WasSpent two two')
-AgreesEnds clients contact group standing two two' out out' outcome.Done =
-    MayAgree contact group standing (λ j.
-    IsAgreed clients contact group j two' (Appends out.bytes out'.bytes))
-AgreesEnds clients contact group standing two two' out out' outcome.WriteFault =
-    MayAgree contact group standing (λ j.
-    IsAgreed clients contact group j two' (GetsFront out out'))
-AgreesEnds clients contact group standing two two' out out' _ = Unit {0}
-
--- what is so where the files are told: each moment is as a crash might have left them before, or
--- has batches added
-pub record AgreesTold (clients : Meaning) (contact : ℕ) (group : Id) (two : Two File)
-    (old new : Outside) (out out' : Stream) (came : Outcome) : Type 0 where
-  pub moments : MomentsAre old new
-      (λ m. IsNow two old.links m
-      ⊎ AgreesMoment clients contact group (stands clients (read_files two)) came
-      (sent_of old.links.told) m)
-  pub ends : (two' : Two File) → new.files ≡ Some two' → AgreesEnds clients contact group
-      (stands clients (read_files two)) two two' out out' came
-  -- a journal of format 1 with the last generation is not added to
-  pub spent : HasLastGeneration (read_files two) → is_added came ≡ false
+-- The work of setting the levels that two people agreed on. A journal of format 1 with the last
+-- generation is not added to.
+abbrev pub agreeing : Meaning → ℕ → Id → Work
+agreeing clients contact group = record {
+  by = CausedBy;
+  refused = λ standing why. IsTested (λ f. agree_test f contact group) standing (Some why);
+  moment = λ standing sent m.
+      TestsHold (λ f. agree_test f contact group) standing (λ j.
+      JournalMoment clients (AgreesOn clients contact group j) sent m);
+  full = λ standing two two'.
+      TestsHold (λ f. agree_test f contact group) standing (λ j.
+      IsAgreementCut clients contact group j two' ⊎ WasSpent two two');
+  done = λ standing two' P.
+      TestsHold (λ f. agree_test f contact group) standing (λ j.
+      IsAgreed clients contact group j two' P);
+  spent = HasLastGeneration;
+}
 
 -- a command that sets the levels that two people agreed on
-pub record HasAgreed (clients : Meaning) (contact : ℕ) (group : Id) (old new : Outside)
-    (out out' : Stream) (came : Outcome) : Type 0 where
-  pub run : DiskRun old new
-  pub by : AddsBy old new out out' came
-  pub told : (two : Two File) → old.files ≡ Some two
-      → AgreesTold clients contact group two old new out out' came
+abbrev pub HasAgreed : Meaning → ℕ → Id → (old new : Outside) → (out out' : Stream) → Outcome
+    → Type 0
+HasAgreed clients contact group = HasWorked clients (agreeing clients contact group)

@@ -1,5 +1,5 @@
 -- From the batch that is added to the entry and its line.
-use Rattle.std.proofs.Common.{◌≡◌, ℕ, ◌<◌, false, true, List, [], ◌∷◌, ◌++◌, length, refl, sym, ap}
+use Rattle.std.proofs.Common.{◌≡◌, ℕ, ◌<◌, List, [], ◌∷◌, length, refl, sym, ap}
 use Rattle.std.proofs.Common.{◌∙◌, subst, inl, arith, append-nil, Some, Result, Ok, Err}
 use Rattle.std.proofs.lemmas.List.{ext_get_or}
 use Rattle.outside.specs.Files.{Two, File, IsFileImage, IsImage, NothingPending, read_files}
@@ -18,9 +18,11 @@ use Rattle.sync_words.specs.declared.outcome.Outcome.{Outcome}
 use Rattle.sync_words.specs.declared.outcome.Outcome.TheVariants as outcome
 use Rattle.store_commands.specs.declared.commit.Settling.{Settling}
 use Rattle.store_commands.specs.Commit.{ExtendsBy, ExtendsEnds, ExtendsTold, GoesOnByBatch, IsAdded}
-use Rattle.store_commands.specs.Entries.{AddsBy, EntryAdded, EntryEnds, is_added, is_late}
+use Rattle.store_commands.specs.Entries.{EntryAdded, EntryEnds}
 use Rattle.store_commands.specs.Show.{PrintsText}
 use Rattle.store_commands.specs.Shown.{added_text}
+use Rattle.store_commands.proofs.Working.{failed_caused, failed_late, failed_unadded}
+use Rattle.store_commands.proofs.Working.{printed_caused, printed_late}
 
 -- ---- no call was made
 
@@ -79,20 +81,6 @@ entry_none clients settling s e o out out' came is idle =
 
 -- ---- the line
 
-printed_by : (o o2 : Outside) (out out' : Stream) (text : List ℕ) (came : Outcome)
-    → PrintsText text out out' came → AddsBy o o2 out out' came
-printed_by o o2 out out' text outcome.Done p = tt
-printed_by o o2 out out' text outcome.WriteFault p = p.0
-printed_by o o2 out out' text outcome.Memory p = p
-printed_by o o2 out out' text _ p = absurd p
-
-printed_late : (out out' : Stream) (text : List ℕ) (came : Outcome) → PrintsText text out out' came
-    → is_late came ≡ true
-printed_late out out' text outcome.Done p = refl
-printed_late out out' text outcome.WriteFault p = refl
-printed_late out out' text outcome.Memory p = refl
-printed_late out out' text _ p = absurd p
-
 printed_ends : (clients : Meaning) (settling : Settling) (j : List (List Entry)) (e : Entry)
     (out out' : Stream) (came : Outcome) (two two' : Two File)
     → IsAdded clients settling j (e ∷ []) two'
@@ -123,7 +111,7 @@ entry_printed clients settling s e o o2 out out' text batch u came is line run t
     subst (λ (t : List ℕ). PrintsText t out out' came) line printed in
     record {
       run = run;
-      by = printed_by o o2 out out' (added_text e) came p;
+      by = printed_caused o o2 out out' (added_text e) came p;
       late = printed_late out out' (added_text e) came p;
       told = λ two files j fits.
           let went = of_entry clients settling two o o2 j e batch (Ok u) is
@@ -138,19 +126,6 @@ entry_printed clients settling s e o o2 out out' text batch u came is line run t
 
 -- ---- the batch was not added
 
-failed_by : (o o2 : Outside) (out out' : Stream) (came : Outcome) → IsIdle out out' → ExtendsBy o o2
-    (Err came) → AddsBy o o2 out out' came
-failed_by o o2 out out' outcome.Full idle by = idle
-failed_by o o2 out out' outcome.DiskFault idle by = (by, idle)
-failed_by o o2 out out' outcome.Memory idle by = idle
-failed_by o o2 out out' _ idle by = absurd by
-
-failed_late : (o o2 : Outside) (came : Outcome) → ExtendsBy o o2 (Err came) → is_late came ≡ true
-failed_late o o2 outcome.Full by = refl
-failed_late o o2 outcome.DiskFault by = refl
-failed_late o o2 outcome.Memory by = refl
-failed_late o o2 _ by = absurd by
-
 failed_ends : (clients : Meaning) (settling : Settling) (o o2 : Outside) (j : List (List Entry))
     (e : Entry) (out out' : Stream) (came : Outcome) (two two' : Two File)
     → ExtendsBy o o2 (Err came) → ExtendsEnds clients settling j (e ∷ []) (Err came) two two'
@@ -160,13 +135,6 @@ failed_ends clients settling o o2 j e out out' outcome.DiskFault two two' by end
 failed_ends clients settling o o2 j e out out' outcome.Memory two two' by ends = tt
 failed_ends clients settling o o2 j e out out' _ two two' by ends = absurd by
 
-failed_unadded : (o o2 : Outside) (came : Outcome) → ExtendsBy o o2 (Err came)
-    → is_added came ≡ false
-failed_unadded o o2 outcome.Full by = refl
-failed_unadded o o2 outcome.DiskFault by = refl
-failed_unadded o o2 outcome.Memory by = refl
-failed_unadded o o2 _ by = absurd by
-
 pub entry_failed : (clients : Meaning) (settling : Settling) (s : StoreValue) (e : Entry)
     (o o2 : Outside) (out out' : Stream) (batch : List Entry) (came : Outcome)
     → batch ≡ e ∷ [] → IsIdle out out' → DiskRun o o2 → ExtendsBy o o2 (Err came)
@@ -175,7 +143,7 @@ pub entry_failed : (clients : Meaning) (settling : Settling) (s : StoreValue) (e
     → EntryAdded clients settling s e o o2 out out' came
 entry_failed clients settling s e o o2 out out' batch came is idle run by told = record {
   run = run;
-  by = failed_by o o2 out out' came idle by;
+  by = failed_caused o o2 out out' came idle by;
   late = failed_late o o2 came by;
   told = λ two files j fits.
       let went = of_entry clients settling two o o2 j e batch (Err came) is

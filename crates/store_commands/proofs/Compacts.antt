@@ -4,10 +4,9 @@ use Rattle.std.proofs.Common.{sym, ap, ◌∙◌, subst, inl, inr, arith, Some, 
 use Rattle.std.specs.Io.KnownBytes.{Appends}
 use Rattle.std.specs.Prelude.{IsErrAnd}
 use Rattle.outside.specs.declared.limits.TheConstants.{MAX_JOURNAL}
-use Rattle.outside.specs.Faults.{CountRose}
 use Rattle.outside.specs.Files.{Two, File, read_files}
 use Rattle.outside.specs.Links.{Links, sent_of}
-use Rattle.outside.specs.Outside.{DiskRun, IsNow, MomentsAre, Outside}
+use Rattle.outside.specs.Outside.{DiskRun, MomentsAre, Outside}
 use Rattle.outside.specs.Streams.{Stream, GetsFront, IsIdle}
 use Rattle.outside.proofs.CallSteps.{moments_map, moments_then, run_then, told_on}
 use Rattle.sync_rules.specs.declared.entries.Entry.{Entry}
@@ -32,62 +31,20 @@ use Rattle.sync_words.specs.declared.outcome.Outcome.{Outcome}
 use Rattle.sync_words.specs.declared.outcome.Outcome.TheVariants as outcome
 use Rattle.store_commands.specs.Commit.{ExtendsBy, HasLastGeneration, SettledAnew, SettlesAnew}
 use Rattle.store_commands.specs.Commit.{next_generation}
-use Rattle.store_commands.specs.Compact.{BriefEnds, CompactsAs, CompactsBy, CompactsEnds}
-use Rattle.store_commands.specs.Compact.{CompactsMoment, GoesBrief, HasCompacted, IsBriefFull}
+use Rattle.store_commands.specs.Causes.{CausedBy, is_late}
+use Rattle.store_commands.specs.Compact.{BriefEnds, CompactsAs, CompactsBy, GoesBrief, HasCompacted}
+use Rattle.store_commands.specs.Compact.{IsBriefFull, compacting}
 use Rattle.store_commands.specs.Compact.{AreFilesCompacted, IsUncompacted, LacksGeneration}
 use Rattle.store_commands.specs.Compact.{MakesBrief, OnceSettled, brief_len}
-use Rattle.store_commands.specs.Entries.{is_added, is_late}
 use Rattle.store_commands.specs.Load.{IsLoaded, LoadKeeps, LoadedBy, MayExtend}
-use Rattle.store_commands.specs.Show.{KeepsFiles, PrintsText, LeavesFilesSo}
-use Rattle.store_commands.proofs.Adds.{front_of, same_told, sent_before, settled_fits, settles_from}
-use Rattle.store_commands.proofs.Stood.{fits_format, lacked_here, lacks_here, last_here, last_lacks}
-
--- ---- causes
-
-rose_before : (a b c : ℕ) → a ≤ b → CountRose b c → CountRose a c
-rose_before a b c later rose = omega arith
-
-failed_by : (o o2 : Outside) (out out' : Stream) (came : Outcome) → IsIdle out out' → ExtendsBy o o2
-    (Err came) → CompactsBy o o2 out out' came
-failed_by o o2 out out' outcome.Full idle by = idle
-failed_by o o2 out out' outcome.DiskFault idle by = (by, idle)
-failed_by o o2 out out' outcome.Memory idle by = idle
-failed_by o o2 out out' _ idle by = absurd by
-
-failed_late : (o o2 : Outside) (came : Outcome) → ExtendsBy o o2 (Err came) → is_late came ≡ true
-failed_late o o2 outcome.Full by = refl
-failed_late o o2 outcome.DiskFault by = refl
-failed_late o o2 outcome.Memory by = refl
-failed_late o o2 _ by = absurd by
-
-failed_unadded : (o o2 : Outside) (came : Outcome) → ExtendsBy o o2 (Err came)
-    → is_added came ≡ false
-failed_unadded o o2 outcome.Full by = refl
-failed_unadded o o2 outcome.DiskFault by = refl
-failed_unadded o o2 outcome.Memory by = refl
-failed_unadded o o2 _ by = absurd by
-
-caused_later : (o o1 o2 : Outside) (came : Outcome) → o.disk_faults ≤ o1.disk_faults
-    → ExtendsBy o1 o2 (Err came) → ExtendsBy o o2 (Err came)
-caused_later o o1 o2 outcome.DiskFault later by =
-    rose_before o.disk_faults o1.disk_faults o2.disk_faults later by
-caused_later o o1 o2 outcome.Full later by = tt
-caused_later o o1 o2 outcome.Memory later by = tt
-caused_later o o1 o2 _ later by = absurd by
-
-printed_by : (o o2 : Outside) (out out' : Stream) (text : List ℕ) (came : Outcome)
-    → PrintsText text out out' came → CompactsBy o o2 out out' came
-printed_by o o2 out out' text outcome.Done p = tt
-printed_by o o2 out out' text outcome.WriteFault p = p.0
-printed_by o o2 out out' text outcome.Memory p = p
-printed_by o o2 out out' text _ p = absurd p
-
-printed_late : (out out' : Stream) (text : List ℕ) (came : Outcome) → PrintsText text out out' came
-    → is_late came ≡ true
-printed_late out out' text outcome.Done p = refl
-printed_late out out' text outcome.WriteFault p = refl
-printed_late out out' text outcome.Memory p = refl
-printed_late out out' text _ p = absurd p
+use Rattle.store_commands.specs.Show.{PrintsText, LeavesFilesSo}
+use Rattle.store_commands.specs.Works.{WorkEnds}
+use Rattle.store_commands.proofs.Adds.{caused_later, front_of, same_told, sent_before, settled_fits}
+use Rattle.store_commands.proofs.Adds.{settles_from}
+use Rattle.store_commands.proofs.Working.{caused_before, failed_caused, failed_late, failed_unadded}
+use Rattle.store_commands.proofs.Working.{none_caused, printed_caused, printed_late, rest_moments}
+use Rattle.store_commands.proofs.Working.{same_journal, worked_none}
+use Rattle.store_commands.proofs.Stood.{fits_format, lacked_here, lacks_here, last_here}
 
 -- ---- settling
 
@@ -128,7 +85,7 @@ pub brief_unsettled : (clients : Meaning) (s s1 : StoreValue) (o o1 : Outside) (
     → MakesBrief clients s o o1 out out' came
 brief_unsettled clients s s1 o o1 out out' came idle run by still settled = record {
   run = run;
-  by = failed_by o o1 out out' came idle by;
+  by = failed_caused o o1 out out' came idle by;
   late = failed_late o o1 came by;
   told = λ two files j fits. record {
     moments = settling_moments clients s s1 o o1 (Err came) two j files fits settled;
@@ -312,10 +269,10 @@ pub brief_stopped : BriefIsByFacts → (clients : Meaning) (s s1 s2 : StoreValue
     → MakesBrief clients s o o2 out out' came
 brief_stopped law clients s s1 s2 o o1 o2 u out out' came idle limited run settled run2 by
     compacted =
-    let caused = caused_later o o1 o2 came run.later by in
+    let caused = caused_later o o1 o2 (Err came) run.later by in
     record {
       run = run_then o o1 o2 run run2;
-      by = failed_by o o2 out out' came idle caused;
+      by = failed_caused o o2 out out' came idle caused;
       late = failed_late o o2 came caused;
       told = λ two files j fits. record {
         moments = brief_moments clients s s1 s2 o o1 o2 u (Err came) run settled compacted two files
@@ -350,7 +307,7 @@ pub brief_printed : BriefIsByFacts → (clients : Meaning) (s s1 s2 : StoreValue
 brief_printed law clients s s1 s2 o o1 o2 u v out out' came old new limited run settled run2
     compacted first last printed = record {
       run = run_then o o1 o2 run run2;
-      by = printed_by o o2 out out' (compacted_text old new) came printed;
+      by = printed_caused o o2 out out' (compacted_text old new) came printed;
       late = printed_late out out' (compacted_text old new) came printed;
       told = λ two files j fits.
           let next = compacted.answer.may.generation in
@@ -370,40 +327,6 @@ brief_printed law clients s s1 s2 o o1 o2 u v out out' came old new limited run 
 
 -- ---- no store was loaded
 
-rest_moments : (clients : Meaning) (standing : Standing) (came : Outcome) (P : Two File → Type 0)
-    (two : Two File) (o o1 : Outside) → LeavesFilesSo P two o o1
-    → MomentsAre o o1 (λ m. IsNow two o.links m
-    ⊎ CompactsMoment clients standing came (sent_of o.links.told) m)
-rest_moments clients standing came P two o o1 rests =
-    moments_map o o1 _ _ (λ m w. inl w) rests.moments
-
-none_by : (old new : Outside) (out out' : Stream) (came : Outcome) → IsIdle out out'
-    → LoadedBy old new (Err came) → CompactsBy old new out out' came
-none_by old new out out' outcome.DiskFault idle by = (by, idle)
-none_by old new out out' outcome.NoStore idle by = idle
-none_by old new out out' (outcome.Damaged place) idle by = idle
-none_by old new out out' outcome.Memory idle by = idle
-none_by old new out out' _ idle by = absurd by
-
-none_ends : (clients : Meaning) (standing : Standing) (two two' : Two File) (old new : Outside)
-    (out out' : Stream) (came : Outcome) → LoadedBy old new (Err came)
-    → IsLoaded standing (Err came)
-    → KeepsFiles came two two' → CompactsEnds clients standing two two' out out' came
-none_ends clients standing two two' old new out out' outcome.DiskFault by loaded same = tt
-none_ends clients standing two two' old new out out' outcome.NoStore by loaded same = (loaded, same)
-none_ends clients standing two two' old new out out' (outcome.Damaged place) by loaded same =
-    (loaded, same)
-none_ends clients standing two two' old new out out' outcome.Memory by loaded same = tt
-none_ends clients standing two two' old new out out' _ by loaded same = absurd by
-
-none_unadded : (old new : Outside) (came : Outcome) → LoadedBy old new (Err came)
-    → is_added came ≡ false
-none_unadded old new outcome.DiskFault by = refl
-none_unadded old new outcome.NoStore by = refl
-none_unadded old new (outcome.Damaged place) by = refl
-none_unadded old new outcome.Memory by = refl
-none_unadded old new _ by = absurd by
-
 pub brief_none : (clients : Meaning) (old new : Outside) (out out' : Stream) (came : Outcome)
     → DiskRun old new
     → ((two : Two File) → old.files ≡ Some two
@@ -411,18 +334,19 @@ pub brief_none : (clients : Meaning) (old new : Outside) (out out' : Stream) (ca
     → ((two : Two File) → old.files ≡ Some two
     → IsLoaded (stands clients (read_files two)) (Err came)) → IsIdle out out'
     → HasCompacted clients old new out out' came
-brief_none clients old new out out' came run rests by loaded idle = record {
-  run = run;
-  by = none_by old new out out' came idle by;
-  told = λ two told. record {
-    moments =
-        rest_moments clients (stands clients (read_files two)) came _ two old new (rests two told);
-    ends = λ two' told'.
-        none_ends clients (stands clients (read_files two)) two two' old new out out' came by
-        (loaded two told) ((rests two told).kept two' told');
-    spent = λ lacks. none_unadded old new came by;
-  };
-}
+brief_none clients old new out out' came run rests by loaded idle =
+    worked_none clients (compacting clients) old new out out' came run rests by loaded
+    (not_refused old new out out' came by (none_caused old new out out' came idle by))
+  where
+    not_refused : (old new : Outside) (out out' : Stream) (came : Outcome)
+        → LoadedBy old new (Err came) → CausedBy old new out out' came
+        → CompactsBy old new out out' came
+    not_refused old new out out' (outcome.Refused why) by caused = absurd by
+    not_refused old new out out' outcome.DiskFault by caused = caused
+    not_refused old new out out' outcome.NoStore by caused = caused
+    not_refused old new out out' (outcome.Damaged place) by caused = caused
+    not_refused old new out out' outcome.Memory by caused = caused
+    not_refused old new out out' _ by caused = absurd by
 
 -- ---- from the loaded store
 
@@ -451,7 +375,7 @@ uncompacted_first clients j two two1 two2 same (inr spent) =
 whole_ends : (clients : Meaning) (standing : Standing) (two two1 two2 : Two File)
     (out out' : Stream) (j : List (List Entry)) (came : Outcome) → read_files two1 ≡ read_files two
     → is_late came ≡ true → standing ≡ journal j → BriefEnds clients j out out' came two1 two2
-    → CompactsEnds clients standing two two2 out out' came
+    → WorkEnds (compacting clients) standing two two2 out out' came
 whole_ends clients standing two two1 two2 out out' j outcome.Done same late stood ends =
     record { before = j; stood = stood; leads = ends }
 whole_ends clients standing two two1 two2 out out' j outcome.WriteFault same late stood ends =
@@ -466,17 +390,17 @@ whole_ends clients standing two two1 two2 out out' j outcome.Memory same late st
 whole_ends clients standing two two1 two2 out out' j outcome.DiskFault same late stood ends = tt
 whole_ends clients standing two two1 two2 out out' j _ same late stood ends = cc
 
-by_later : (o o1 o2 : Outside) (out out' : Stream) (came : Outcome) → o.disk_faults ≤ o1.disk_faults
-    → CompactsBy o1 o2 out out' came → CompactsBy o o2 out out' came
-by_later o o1 o2 out out' outcome.DiskFault later by =
-    (rose_before o.disk_faults o1.disk_faults o2.disk_faults later by.0, by.1)
-by_later o o1 o2 out out' outcome.Done later by = by
-by_later o o1 o2 out out' outcome.WriteFault later by = by
-by_later o o1 o2 out out' outcome.Full later by = by
-by_later o o1 o2 out out' outcome.Memory later by = by
-by_later o o1 o2 out out' outcome.NoStore later by = by
-by_later o o1 o2 out out' (outcome.Damaged place) later by = by
-by_later o o1 o2 out out' _ later by = absurd by
+-- an outcome that comes late is no refusal
+late_caused : (o o1 o2 : Outside) (out out' : Stream) (came : Outcome)
+    → o.disk_faults ≤ o1.disk_faults → is_late came ≡ true → CausedBy o1 o2 out out' came
+    → CompactsBy o o2 out out' came
+late_caused o o1 o2 out out' outcome.DiskFault later late by =
+    caused_before o o1 o2 out out' outcome.DiskFault later by
+late_caused o o1 o2 out out' outcome.Done later late by = by
+late_caused o o1 o2 out out' outcome.WriteFault later late by = by
+late_caused o o1 o2 out out' outcome.Full later late by = by
+late_caused o o1 o2 out out' outcome.Memory later late by = by
+late_caused o o1 o2 out out' _ later late by = cc
 
 pub brief_loaded : (clients : Meaning) (o o1 o2 : Outside) (out out' : Stream) (s : StoreValue)
     (came : Outcome) → DiskRun o o1
@@ -485,19 +409,19 @@ pub brief_loaded : (clients : Meaning) (o o1 o2 : Outside) (out out' : Stream) (
     → HasCompacted clients o o2 out out' came
 brief_loaded clients o o1 o2 out out' s came run rests ready made = record {
   run = run_then o o1 o2 run made.run;
-  by = by_later o o1 o2 out out' came run.later made.by;
+  by = late_caused o o1 o2 out out' came run.later made.late made.by;
   told = λ two told.
       let rest = rests two told in
       let told1 = told_on o o1 two run.same_told told in
       let fit = ready.ready.fits told1.0 told1.1 in
       let same : read_files told1.0 ≡ read_files two = rest.kept told1.0 told1.1 in
-      let stood : stands clients (read_files two) ≡ journal fit.0 = ap (stands clients) (sym same)
-      ∙ fit.1.stands_for in
+      let stood = same_journal clients s two told1.0 fit.0 same fit.1 in
       let went = made.told told1.0 told1.1 fit.0 fit.1 in
       record {
         moments =
             moments_then o o1 o2 _
-            (rest_moments clients (stands clients (read_files two)) came _ two o o1 rest)
+            (rest_moments (compacting clients) (stands clients (read_files two)) came _ two o o1
+            rest)
             (moments_map o1 o2 _ _ (λ m w. inr (
               made.late,
               record {

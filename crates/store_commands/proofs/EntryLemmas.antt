@@ -1,10 +1,9 @@
 -- An entry that is added, from the loaded store to the line.
-use Rattle.std.proofs.Common.{◌≡◌, ◌⊎◌, ℕ, ◌≤◌, Bool, false, true, List, [], ◌∷◌, sym, ap, ◌∙◌}
-use Rattle.std.proofs.Common.{subst, refl, inl, inr, arith, Some, Ok, Err}
-use Rattle.outside.specs.Faults.{CountRose}
+use Rattle.std.proofs.Common.{◌≡◌, true, List, [], ◌∷◌, sym, ap, ◌∙◌}
+use Rattle.std.proofs.Common.{subst, inl, inr, Some, Ok, Err}
 use Rattle.outside.specs.Files.{Two, File, read_files}
 use Rattle.outside.specs.Links.{Links, sent_of}
-use Rattle.outside.specs.Outside.{Outside, Moment, MomentsAre, IsNow, DiskRun}
+use Rattle.outside.specs.Outside.{Outside, DiskRun}
 use Rattle.outside.proofs.CallSteps.{moments_map, moments_then, run_then, told_on}
 use Rattle.sync_rules.specs.declared.entries.Entry.{Entry}
 use Rattle.sync_rules.specs.declared.states.Refused.{Refused}
@@ -12,58 +11,22 @@ use Rattle.sync_rules.specs.Clients.{Meaning}
 use Rattle.sync_rules.specs.Facts.{Facts, facts}
 use Rattle.entry_codec.specs.Standing.{Standing, journal, stands}
 use Rattle.sync_store.specs.Store.{StoreValue}
-use Rattle.sync_store.specs.Fitting.{FitsFiles}
 use Rattle.sync_store.specs.Moments.{JournalMoment}
 use Rattle.sync_words.specs.declared.outcome.Outcome.{Outcome}
 use Rattle.sync_words.specs.declared.outcome.Outcome.TheVariants as outcome
-use Rattle.store_commands.specs.Entries.{AddsBy, AddsEnds, AddsMoment, EntryAdded, EntryEnds}
-use Rattle.store_commands.specs.Entries.{HasAdded, is_added, is_late}
+use Rattle.store_commands.specs.Causes.{is_late}
+use Rattle.store_commands.specs.Entries.{EntryAdded, EntryEnds, HasAdded, adding}
+use Rattle.store_commands.specs.Works.{WorkEnds}
+use Rattle.store_commands.proofs.Working.{caused_before, none_caused, rest_moments, same_journal}
+use Rattle.store_commands.proofs.Working.{worked_none, worked_refused}
 use Rattle.store_commands.specs.declared.commit.Settling.{Settling}
 use Rattle.store_commands.specs.Commit.{GoesOnByBatch, HasLastGeneration, IsFull}
 use Rattle.outside.specs.Streams.{Stream, IsIdle}
 use Rattle.store_commands.specs.Load.{HasFacts, IsLoaded, LoadedBy, LoadKeeps, MayExtend}
-use Rattle.store_commands.specs.Show.{KeepsFiles, LeavesFilesSo}
+use Rattle.store_commands.specs.Show.{LeavesFilesSo}
 use Rattle.store_commands.specs.Plans.{Plan, adds, refuses}
 
--- moments of loading alone
-rest_moments : (clients : Meaning) (plan : Facts → Plan) (standing : Standing) (came : Outcome)
-    (P : Two File → Type 0) (two : Two File) (o o1 : Outside) → LeavesFilesSo P two o o1
-    → MomentsAre o o1 (λ m. IsNow two o.links m
-    ⊎ AddsMoment clients plan standing came (sent_of o.links.told) m)
-rest_moments clients plan standing came P two o o1 rests =
-    moments_map o o1 _ _ (λ m w. inl w) rests.moments
-
--- ---- no store was loaded
-
-none_by : (old new : Outside) (out out' : Stream) (came : Outcome) → IsIdle out out'
-    → LoadedBy old new (Err came) → AddsBy old new out out' came
-none_by old new out out' outcome.DiskFault idle by = (by, idle)
-none_by old new out out' outcome.NoStore idle by = idle
-none_by old new out out' (outcome.Damaged place) idle by = idle
-none_by old new out out' outcome.Memory idle by = idle
-none_by old new out out' _ idle by = absurd by
-
-none_ends : (clients : Meaning) (plan : Facts → Plan) (settling : Settling) (standing : Standing)
-    (two two' : Two File) (old new : Outside) (out out' : Stream) (came : Outcome)
-    → LoadedBy old new (Err came) → IsLoaded standing (Err came) → KeepsFiles came two two'
-    → AddsEnds clients plan settling standing two two' out out' came
-none_ends clients plan settling standing two two' old new out out' outcome.DiskFault by loaded
-    same = tt
-none_ends clients plan settling standing two two' old new out out' outcome.NoStore by loaded same =
-    (loaded, same)
-none_ends clients plan settling standing two two' old new out out' (outcome.Damaged place) by loaded
-    same = (loaded, same)
-none_ends clients plan settling standing two two' old new out out' outcome.Memory by loaded same =
-    tt
-none_ends clients plan settling standing two two' old new out out' _ by loaded same = absurd by
-
-none_unadded : (old new : Outside) (came : Outcome) → LoadedBy old new (Err came)
-    → is_added came ≡ false
-none_unadded old new outcome.DiskFault by = refl
-none_unadded old new outcome.NoStore by = refl
-none_unadded old new (outcome.Damaged place) by = refl
-none_unadded old new outcome.Memory by = refl
-none_unadded old new _ by = absurd by
+-- ---- before the entry
 
 pub added_none : (clients : Meaning) (plan : Facts → Plan) (settling : Settling) (old new : Outside)
     (out out' : Stream) (came : Outcome) → DiskRun old new
@@ -72,20 +35,9 @@ pub added_none : (clients : Meaning) (plan : Facts → Plan) (settling : Settlin
     → ((two : Two File) → old.files ≡ Some two
     → IsLoaded (stands clients (read_files two)) (Err came)) → IsIdle out out'
     → HasAdded clients plan settling old new out out' came
-added_none clients plan settling old new out out' came run rests by loaded idle = record {
-  run = run;
-  by = none_by old new out out' came idle by;
-  told = λ two told. record {
-    moments = rest_moments clients plan (stands clients (read_files two)) came _ two old new
-        (rests two told);
-    ends = λ two' told'.
-        none_ends clients plan settling (stands clients (read_files two)) two two' old new out out'
-        came by (loaded two told) ((rests two told).kept two' told');
-    spent = λ last. none_unadded old new came by;
-  };
-}
-
--- ---- the command is refused
+added_none clients plan settling old new out out' came run rests by loaded idle =
+    worked_none clients (adding clients plan settling) old new out out' came run rests by loaded
+    (none_caused old new out out' came idle by)
 
 pub added_refused : (clients : Meaning) (plan : Facts → Plan) (settling : Settling)
     (old new : Outside) (out out' : Stream) (s : StoreValue) (why : Refused) → DiskRun old new
@@ -93,20 +45,10 @@ pub added_refused : (clients : Meaning) (plan : Facts → Plan) (settling : Sett
     → ((two : Two File) → old.files ≡ Some two → HasFacts (stands clients (read_files two)) s)
     → plan s.state.facts ≡ refuses why → IsIdle out out'
     → HasAdded clients plan settling old new out out' (outcome.Refused why)
-added_refused clients plan settling old new out out' s why run rests loaded planned idle = record {
-  run = run;
-  by = idle;
-  told = λ two told. record {
-    moments = rest_moments clients plan (stands clients (read_files two)) (outcome.Refused why) _
-        two old new (rests two told);
-    ends = λ two' told'.
-        let has = loaded two told in (
-          record { before = has.of; stood = has.stood; planned = ap plan has.are ∙ planned },
-          (rests two told).kept two' told',
-        );
-    spent = λ last. refl;
-  };
-}
+added_refused clients plan settling old new out out' s why run rests loaded planned idle =
+    worked_refused clients (adding clients plan settling) old new out out' s why run rests
+    (λ two told. let has = loaded two told in
+    record { before = has.of; stood = has.stood; planned = ap plan has.are ∙ planned }) idle
 
 -- ---- the entry is added
 
@@ -123,7 +65,7 @@ entry_ends : (clients : Meaning) (plan : Facts → Plan) (settling : Settling) (
     (came : Outcome)
     → read_files two1 ≡ read_files two → is_late came ≡ true → standing ≡ journal j
     → plan (facts j) ≡ adds e → EntryEnds clients settling j e out out' came two1 two'
-    → AddsEnds clients plan settling standing two two' out out' came
+    → WorkEnds (adding clients plan settling) standing two two' out out' came
 entry_ends clients plan settling standing two two1 two' out out' j e outcome.Done same late stood
     planned ends =
     record { before = j; entry = e; stood = stood; planned = planned; leads = ends }
@@ -146,28 +88,6 @@ entry_ends clients plan settling standing two two1 two' out out' j e outcome.Dis
 entry_ends clients plan settling standing two two1 two' out out' j e _ same late stood planned
     ends = cc
 
-rose_before : (a b c : ℕ) → a ≤ b → CountRose b c → CountRose a c
-rose_before a b c later rose = omega arith
-
-by_later : (o o1 o2 : Outside) (out out' : Stream) (came : Outcome) → o.disk_faults ≤ o1.disk_faults
-    → AddsBy o1 o2 out out' came → AddsBy o o2 out out' came
-by_later o o1 o2 out out' outcome.DiskFault later by =
-    (rose_before o.disk_faults o1.disk_faults o2.disk_faults later by.0, by.1)
-by_later o o1 o2 out out' outcome.Done later by = by
-by_later o o1 o2 out out' outcome.WriteFault later by = by
-by_later o o1 o2 out out' outcome.Full later by = by
-by_later o o1 o2 out out' outcome.Memory later by = by
-by_later o o1 o2 out out' outcome.NoStore later by = by
-by_later o o1 o2 out out' (outcome.Refused why) later by = by
-by_later o o1 o2 out out' (outcome.Damaged place) later by = by
-by_later o o1 o2 out out' _ later by = absurd by
-
--- the journal that the disk fits is the one that the files stood for
-same_journal : (clients : Meaning) (s : StoreValue) (two two1 : Two File) (j : List (List Entry))
-    → read_files two1 ≡ read_files two → FitsFiles clients s j two1
-    → stands clients (read_files two) ≡ journal j
-same_journal clients s two two1 j same fits = ap (stands clients) (sym same) ∙ fits.stands_for
-
 pub added_entry : (clients : Meaning) (plan : Facts → Plan) (settling : Settling)
     (o o1 o2 : Outside) (out out' : Stream) (s : StoreValue) (e : Entry) (came : Outcome)
     → DiskRun o o1
@@ -177,7 +97,7 @@ pub added_entry : (clients : Meaning) (plan : Facts → Plan) (settling : Settli
     → HasAdded clients plan settling o o2 out out' came
 added_entry clients plan settling o o1 o2 out out' s e came run rests ready planned added = record {
   run = run_then o o1 o2 run added.run;
-  by = by_later o o1 o2 out out' came run.later added.by;
+  by = caused_before o o1 o2 out out' came run.later added.by;
   told = λ two told.
       let rest = rests two told in
       let told1 = told_on o o1 two run.same_told told in
@@ -188,7 +108,9 @@ added_entry clients plan settling o o1 o2 out out' s e came run rests ready plan
       record {
         moments =
             moments_then o o1 o2 _
-            (rest_moments clients plan (stands clients (read_files two)) came _ two o o1 rest)
+            (rest_moments (adding clients plan settling) (stands clients (read_files two)) came _
+            two o
+            o1 rest)
             (moments_map o1 o2 _ _ (λ m w. inr (
               added.late,
               record {

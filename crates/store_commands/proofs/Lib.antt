@@ -2,6 +2,8 @@ pub mod Lines
 pub mod Passing
 pub mod Looks
 pub mod Adds
+pub mod Working
+pub mod Stopped
 pub mod Follow
 pub mod EntryLemmas
 pub mod Commits

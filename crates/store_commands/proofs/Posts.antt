@@ -1,9 +1,8 @@
 -- A post, from its body to its outcome.
 use Rattle.std.proofs.Common.{◌≡◌, ℕ, ◌+◌, Bool, true, false, List, [], ◌∷◌, ◌++◌, length, sym, ap}
-use Rattle.std.proofs.Common.{◌∙◌, inl, inr, arith, length-append, Some, Ok, Err}
+use Rattle.std.proofs.Common.{◌∙◌, inl, inr, arith, length-append, Some, None, Ok, Err}
 use Rattle.std.specs.Prelude.{◌==◌, nat_lt, is_some, if◌then◌else◌}
 use Rattle.std.specs.List.{list_all}
-use Rattle.outside.specs.Faults.{CountRose}
 use Rattle.outside.specs.Files.{Two, File, read_files}
 use Rattle.outside.specs.Outside.{Outside, DiskRun}
 use Rattle.outside.specs.Input.{ReadsAll, ReadsTooMuch}
@@ -20,20 +19,24 @@ use Rattle.sync_rules.specs.declared.states.Refused.TheVariants as refused
 use Rattle.sync_rules.specs.Clients.{Meaning}
 use Rattle.sync_rules.specs.Facts.{Facts, Id, group_at, held_at}
 use Rattle.sync_rules.specs.Steps.{is_served, verdict_in}
-use Rattle.entry_codec.specs.Standing.{Standing, stands}
+use Rattle.entry_codec.specs.Standing.{stands}
 use Rattle.sync_store.specs.Refusals.{judged_answer, post_answer}
 use Rattle.sync_store.specs.Store.{StoreValue}
 use Rattle.sync_words.specs.declared.outcome.Outcome.{Outcome}
 use Rattle.sync_words.specs.declared.outcome.Outcome.TheVariants as outcome
 use Rattle.store_commands.specs.declared.commit.Settling.TheVariants as settling
-use Rattle.store_commands.specs.Entries.{EntryAdded, HasAdded, is_late}
+use Rattle.store_commands.specs.Causes.{is_late}
+use Rattle.store_commands.specs.Entries.{EntryAdded, HasAdded}
 use Rattle.store_commands.specs.Load.{HasFacts, IsLoaded, LoadedBy, LoadKeeps, MayExtend}
 use Rattle.store_commands.specs.Show.{LeavesFilesSo}
-use Rattle.store_commands.specs.Plans.{Plan, adds, refuses, body_plan, message_plan, planned}
+use Rattle.store_commands.specs.Plans.{adds, refuses, body_plan, message_plan, planned}
 use Rattle.store_commands.specs.Plans.{post_plan}
-use Rattle.store_commands.specs.Post.{HasPosted, IsBody, IsPlanOfPost, IsBodyRead, PostsBody}
-use Rattle.store_commands.specs.Post.{PostStopsBy, PostStopsWhere, StopsShort, message_of}
+use Rattle.store_commands.specs.Post.{HasPosted, IsBody, IsPlanOfPost, IsBodyRead, PostStops}
+use Rattle.store_commands.specs.Post.{PostsBody, group_test, message_of}
+use Rattle.store_commands.specs.Stopping.{InputStops}
 use Rattle.store_commands.proofs.EntryLemmas.{added_entry, added_none, added_refused}
+use Rattle.store_commands.proofs.Stopped.{input_unread, stops_memory, stops_none, stops_refused}
+use Rattle.store_commands.proofs.Stopped.{stops_unread}
 
 -- ---- plans
 
@@ -134,43 +137,25 @@ post_id clients f m id is = by_group (is_some (group_at f.groups m.group)) is wh
 
 -- ---- the command stopped before its body was read
 
-stops_by : (old new : Outside) (input input' : Stream) (came : Outcome) → IsIdle input input'
-    → LoadedBy old new (Err came) → PostStopsBy old new input input' came
-stops_by old new input input' outcome.DiskFault idle by = (by, idle)
-stops_by old new input input' outcome.NoStore idle by = idle
-stops_by old new input input' (outcome.Damaged place) idle by = idle
-stops_by old new input input' outcome.Memory idle by = tt
-stops_by old new input input' _ idle by = absurd by
+-- the test of the group
+group_answers : (f : Facts) (group : Id) (known : Bool)
+    → is_some (group_at f.groups group) ≡ known
+    → group_test group f ≡ (if known then None else Some refused.UnknownGroup)
+group_answers f group known is = ap (λ b. if b then None else Some refused.UnknownGroup) is
 
-stops_ends : (old new : Outside) (standing : Standing) (group : Id) (came : Outcome)
-    → LoadedBy old new (Err came) → IsLoaded standing (Err came)
-    → PostStopsWhere standing group came
-stops_ends old new standing group outcome.DiskFault by loaded = tt
-stops_ends old new standing group outcome.NoStore by loaded = loaded
-stops_ends old new standing group (outcome.Damaged place) by loaded = loaded
-stops_ends old new standing group outcome.Memory by loaded = tt
-stops_ends old new standing group _ by loaded = absurd by
+by_outcome : (clients : Meaning) (group : Id) (timestamp : ℕ) (old new : Outside)
+    (input input' out out' : Stream) (came : Outcome) → LoadedBy old new (Err came)
+    → PostStops clients group old new input input' out out' came
+    → HasPosted clients group timestamp old new input input' out out' came
+by_outcome clients group timestamp old new input input' out out' outcome.DiskFault by stops =
+    inl stops
+by_outcome clients group timestamp old new input input' out out' outcome.NoStore by stops = stops
+by_outcome clients group timestamp old new input input' out out' (outcome.Damaged place) by stops =
+    stops
+by_outcome clients group timestamp old new input input' out out' outcome.Memory by stops = inl stops
+by_outcome clients group timestamp old new input input' out out' _ by stops = absurd by
 
 -- no store was loaded
-not_loaded : (clients : Meaning) (group : Id) (old new : Outside) (input input' out out' : Stream)
-    (came : Outcome) → DiskRun old new
-    → ((two : Two File) → old.files ≡ Some two
-    → LeavesFilesSo (LoadKeeps (Err came) two) two old new) → LoadedBy old new (Err came)
-    → ((two : Two File) → old.files ≡ Some two
-    → IsLoaded (stands clients (read_files two)) (Err came)) → IsIdle input input'
-    → IsIdle out out'
-    → StopsShort clients group old new input input' out out' came
-not_loaded clients group old new input input' out out' came run rests by loaded idle quiet =
-    record {
-      run = run;
-      by = stops_by old new input input' came idle by;
-      quiet = quiet;
-      told = λ two told. record {
-        rests = rests two told;
-        ends = stops_ends old new (stands clients (read_files two)) group came by (loaded two told);
-      };
-    }
-
 pub posted_none : (clients : Meaning) (group : Id) (timestamp : ℕ) (old new : Outside)
     (input input' out out' : Stream) (came : Outcome) → DiskRun old new
     → ((two : Two File) → old.files ≡ Some two
@@ -179,24 +164,11 @@ pub posted_none : (clients : Meaning) (group : Id) (timestamp : ℕ) (old new : 
     → IsLoaded (stands clients (read_files two)) (Err came)) → IsIdle input input'
     → IsIdle out out'
     → HasPosted clients group timestamp old new input input' out out' came
-posted_none clients group timestamp old new input input' out out' outcome.DiskFault run rests by
-    loaded idle quiet =
-    inl (not_loaded clients group old new input input' out out' outcome.DiskFault run rests by
-    loaded idle quiet)
-posted_none clients group timestamp old new input input' out out' outcome.NoStore run rests by
-    loaded idle quiet =
-    not_loaded clients group old new input input' out out' outcome.NoStore run rests by loaded idle
-    quiet
-posted_none clients group timestamp old new input input' out out' (outcome.Damaged place) run rests
-    by loaded idle quiet =
-    not_loaded clients group old new input input' out out' (outcome.Damaged place) run rests by
-    loaded idle quiet
-posted_none clients group timestamp old new input input' out out' outcome.Memory run rests by loaded
-    idle quiet =
-    inl (not_loaded clients group old new input input' out out' outcome.Memory run rests by loaded
-    idle quiet)
-posted_none clients group timestamp old new input input' out out' _ run rests by loaded idle quiet =
-    absurd by
+posted_none clients group timestamp old new input input' out out' came run rests by loaded idle
+    quiet =
+    by_outcome clients group timestamp old new input input' out out' came by
+    (stops_none clients (group_test group) (InputStops ⊥ input input') old new out out' run quiet
+    came rests by loaded (input_unread ⊥ old new input input' came idle by))
 
 -- what is known of a store that was loaded
 module _ (clients : Meaning) (group : Id) (timestamp : ℕ) (old new : Outside)
@@ -211,21 +183,10 @@ module _ (clients : Meaning) (group : Id) (timestamp : ℕ) (old new : Outside)
   -- the group is not known
   pub posted_unknown : is_some (group_at s.state.facts.groups group) ≡ false → IsIdle input input'
       → Posted (outcome.Refused refused.UnknownGroup)
-  posted_unknown unknown idle = record {
-    run = run;
-    by = idle;
-    quiet = quiet;
-    told = λ two told.
-        let has = loaded two told in
-        record {
-          rests = rests two told;
-          ends = record {
-            of = has.of;
-            stood = has.stood;
-            known = ap (λ (f : Facts). is_some (group_at f.groups group)) has.are ∙ unknown;
-          };
-        };
-  }
+  posted_unknown unknown idle =
+      stops_refused clients (group_test group) (InputStops ⊥ input input') old new out out' run
+      quiet
+      s rests loaded refused.UnknownGroup (group_answers s.state.facts group false unknown) idle
 
   -- memory was wanting for the message
   added_memory : (body : List ℕ) → HasAdded clients
@@ -252,27 +213,14 @@ module _ (clients : Meaning) (group : Id) (timestamp : ℕ) (old new : Outside)
     posted_unread (outcome.Refused refused.BodyTooLong) read =
         refused_body read.0 refused.BodyTooLong read.1
         (plan_long clients s.state.facts (message_of group timestamp read.0) known read.2)
-    posted_unread outcome.ReadFault read = record {
-      run = run;
-      by = read;
-      quiet = quiet;
-      told = λ two told.
-          let has = loaded two told in
-          record {
-            rests = rests two told;
-            ends = record {
-              of = has.of;
-              stood = has.stood;
-              known = ap (λ (f : Facts). is_some (group_at f.groups group)) has.are ∙ known;
-            };
-          };
-    }
-    posted_unread outcome.Memory read = inl (record {
-      run = run;
-      by = tt;
-      quiet = quiet;
-      told = λ two told. record { rests = rests two told; ends = tt };
-    })
+    posted_unread outcome.ReadFault read =
+        inl (stops_unread clients (group_test group) (InputStops ⊥ input input') old new out out'
+        run
+        quiet s rests loaded (group_answers s.state.facts group true known) read)
+    posted_unread outcome.Memory read =
+        inl (stops_memory clients (group_test group) (InputStops ⊥ input input') old new out out'
+        run
+        quiet s rests loaded tt)
     posted_unread _ read = absurd read
 
     -- the message is refused
@@ -298,10 +246,12 @@ posted_late : (clients : Meaning) (group : Id) (timestamp : ℕ) (old new : Outs
     (input input' out out' : Stream) (came : Outcome) → is_late came ≡ true
     → PostsBody clients group timestamp old new input input' out out' came
     → HasPosted clients group timestamp old new input input' out out' came
-posted_late clients group timestamp old new input input' out out' outcome.Done late posts = posts
+posted_late clients group timestamp old new input input' out out' outcome.Done late posts =
+    inr posts
 posted_late clients group timestamp old new input input' out out' outcome.WriteFault late posts =
-    posts
-posted_late clients group timestamp old new input input' out out' outcome.Full late posts = posts
+    inr posts
+posted_late clients group timestamp old new input input' out out' outcome.Full late posts =
+    inr posts
 posted_late clients group timestamp old new input input' out out' outcome.DiskFault late posts =
     inr posts
 posted_late clients group timestamp old new input input' out out' outcome.Memory late posts =

@@ -4,12 +4,11 @@ use Rattle.std.specs.Prelude.{◌≡◌, ◌⊎◌, ℕ, ◌+◌, ◌-◌, ◌^�
 use Rattle.std.specs.Prelude.{Some, Result, Ok, Err}
 use Rattle.std.specs.Io.KnownBytes.{Appends}
 use Rattle.outside.specs.declared.limits.TheConstants.{MAX_JOURNAL}
-use Rattle.outside.specs.Faults.{CountRose}
 use Rattle.outside.specs.Files.{Two, File, file_of, read_files, NothingPending}
 use Rattle.outside.specs.Frames.{format_in, generation_in, journal_file}
 use Rattle.outside.specs.Links.{sent_of}
-use Rattle.outside.specs.Outside.{Outside, DiskRun, IsNow, Moment, MomentsAre}
-use Rattle.outside.specs.Streams.{Stream, IsIdle, GetsFront}
+use Rattle.outside.specs.Outside.{Outside, DiskRun, MomentsAre}
+use Rattle.outside.specs.Streams.{Stream, GetsFront}
 use Rattle.sync_rules.specs.declared.entries.Entry.{Entry}
 use Rattle.sync_rules.specs.Clients.{Meaning}
 use Rattle.sync_rules.specs.Facts.{facts, after_batches}
@@ -20,7 +19,7 @@ use Rattle.entry_codec.specs.declared.naming.Format.{Format}
 use Rattle.entry_codec.specs.declared.naming.Format.TheVariants as kind
 use Rattle.entry_codec.specs.Naming.{format_of}
 use Rattle.entry_codec.specs.Payloads.{journal_end}
-use Rattle.entry_codec.specs.Standing.{Standing, no_store, damaged, journal, room_of, stands}
+use Rattle.entry_codec.specs.Standing.{journal, room_of, stands}
 use Rattle.sync_store.specs.Compactions.{IsOrBrief, IsTooLong, ShortensJournal}
 use Rattle.sync_store.specs.Fitting.{FitsFiles}
 use Rattle.sync_store.specs.Moments.{JournalMoment, LeadsTo}
@@ -29,8 +28,8 @@ use Rattle.sync_words.specs.EntryTexts.{compacted_text}
 use Rattle.sync_words.specs.declared.outcome.Outcome.{Outcome}
 use Rattle.sync_words.specs.declared.outcome.Outcome.TheVariants as outcome
 use Rattle.store_commands.specs.Commit.{IsInFormat, WasSpent, short_generation}
-use Rattle.store_commands.specs.Entries.{is_added, is_late}
-use Rattle.store_commands.specs.Show.{FilesReadSame}
+use Rattle.store_commands.specs.Causes.{CausedBy, is_added, is_late}
+use Rattle.store_commands.specs.Works.{HasWorked, StoodFor, Work}
 
 -- ---- journals
 
@@ -98,73 +97,31 @@ abbrev pub IsBriefFull : Meaning → List (List Entry) → (two two' : Two File)
 IsBriefFull clients j two two' =
     OnceSettled clients j (λ settled. IsUncompacted clients settled two two') ⊎ WasSpent two two'
 
--- ---- from the files that were told
+-- ---- the command
 
--- the files stood for a journal of which this is so
-pub record StoodFor (standing : Standing) (P : List (List Entry) → Type 0) : Type 0 where
-  pub before : List (List Entry)
-  pub stood : standing ≡ journal before
-  pub leads : P before
-
--- a moment once the journal is settled or written anew, nothing more being sent; there is none
--- where the command ended earlier
-abbrev pub CompactsMoment : Meaning → Standing → Outcome → List (List ℕ) → Moment → Type 0
-CompactsMoment clients standing came sent m =
-    (is_late came ≡ true)
-    × StoodFor standing (λ j. JournalMoment clients (GoesBrief clients j) sent m)
-
--- the outcome by what the files stood for
-abbrev pub CompactsEnds : Meaning → Standing → Two File → Two File → (out out' : Stream) → Outcome
-    → Type 0
-CompactsEnds clients standing two two' out out' outcome.NoStore =
-    (standing ≡ no_store) × FilesReadSame two two'
-CompactsEnds clients standing two two' out out' (outcome.Damaged place) =
-    (standing ≡ damaged place.file place.at) × FilesReadSame two two'
-CompactsEnds clients standing two two' out out' outcome.Full =
-    StoodFor standing (λ j. IsBriefFull clients j two two')
-CompactsEnds clients standing two two' out out' outcome.Done =
-    StoodFor standing (λ j.
-    OnceSettled clients j (λ settled.
-    AreFilesCompacted clients settled two' (Appends out.bytes out'.bytes)))
-CompactsEnds clients standing two two' out out' outcome.WriteFault =
-    StoodFor standing (λ j.
-    OnceSettled clients j (λ settled.
-    AreFilesCompacted clients settled two' (GetsFront out out')))
-CompactsEnds clients standing two two' out out' _ = Unit {0}
-
--- what is so where the files are told: each moment is as a crash might have left them before, or
--- has the journal settled or brief
-pub record CompactsTold (clients : Meaning) (two : Two File) (old new : Outside) (out out' : Stream)
-    (came : Outcome) : Type 0 where
-  pub moments : MomentsAre old new
-      (λ m. IsNow two old.links m
-      ⊎ CompactsMoment clients (stands clients (read_files two)) came (sent_of old.links.told)
-      m)
-  pub ends : (two' : Two File) → new.files ≡ Some two' → CompactsEnds clients
-      (stands clients (read_files two)) two two' out out' came
-  -- without a generation nothing is written anew
-  pub spent : LacksGeneration (read_files two) → is_added came ≡ false
-
--- The causes of an outcome, whatever the disk tells: a fault comes only where its count rose, and
--- nothing is written but the line. No test refuses the command.
+-- the causes of an outcome: no test refuses the command
 abbrev pub CompactsBy : (old new : Outside) (out out' : Stream) → Outcome → Type 0
-CompactsBy old new out out' outcome.Done = Unit {0}
-CompactsBy old new out out' outcome.WriteFault = CountRose out.faults out'.faults
-CompactsBy old new out out' outcome.DiskFault =
-    CountRose old.disk_faults new.disk_faults × IsIdle out out'
-CompactsBy old new out out' outcome.NoStore = IsIdle out out'
-CompactsBy old new out out' (outcome.Damaged place) = IsIdle out out'
-CompactsBy old new out out' outcome.Full = IsIdle out out'
-CompactsBy old new out out' outcome.Memory = IsIdle out out'
-CompactsBy old new out out' _ = ⊥
+CompactsBy old new out out' (outcome.Refused why) = ⊥
+CompactsBy old new out out' came = CausedBy old new out out' came
+
+-- the work of writing a journal anew as its brief account; without a generation nothing is written
+-- anew
+abbrev pub compacting : Meaning → Work
+compacting clients = record {
+  by = CompactsBy;
+  refused = λ standing why. ⊥;
+  moment = λ standing sent m.
+      StoodFor standing (λ j. JournalMoment clients (GoesBrief clients j) sent m);
+  full = λ standing two two'. StoodFor standing (λ j. IsBriefFull clients j two two');
+  done = λ standing two' P.
+      StoodFor standing (λ j.
+      OnceSettled clients j (λ settled. AreFilesCompacted clients settled two' P));
+  spent = LacksGeneration;
+}
 
 -- a command that writes a journal anew as its brief account
-pub record HasCompacted (clients : Meaning) (old new : Outside) (out out' : Stream)
-    (came : Outcome) : Type 0 where
-  pub run : DiskRun old new
-  pub by : CompactsBy old new out out' came
-  pub told : (two : Two File) → old.files ≡ Some two
-      → CompactsTold clients two old new out out' came
+abbrev pub HasCompacted : Meaning → (old new : Outside) → (out out' : Stream) → Outcome → Type 0
+HasCompacted clients = HasWorked clients (compacting clients)
 
 -- ---- the store alone
 
@@ -216,7 +173,7 @@ pub record BriefTold (clients : Meaning) (j : List (List Entry)) (two : Two File
 pub record MakesBrief (clients : Meaning) (s : StoreValue) (old new : Outside) (out out' : Stream)
     (came : Outcome) : Type 0 where
   pub run : DiskRun old new
-  pub by : CompactsBy old new out out' came
+  pub by : CausedBy old new out out' came
   pub late : is_late came ≡ true
   pub told : (two : Two File) → old.files ≡ Some two → (j : List (List Entry))
       → FitsFiles clients s j two → BriefTold clients j two old new out out' came

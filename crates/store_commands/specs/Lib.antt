@@ -1,6 +1,9 @@
 pub mod Plans
+pub mod Causes
 pub mod Shown
 pub mod Show
+pub mod Stopping
+pub mod Works
 pub mod Load
 pub mod Commit
 pub mod Entries

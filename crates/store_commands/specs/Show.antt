@@ -1,6 +1,6 @@
 -- What a command that only looks does: it writes nothing to the files, and shows a text of the
 -- journal that they stand for.
-use Rattle.std.specs.Prelude.{◌≡◌, ℕ, List, Option, Some}
+use Rattle.std.specs.Prelude.{◌≡◌, ℕ, List, Some}
 use Rattle.std.specs.Io.KnownBytes.{Appends}
 use Rattle.outside.specs.Faults.{CountRose}
 use Rattle.outside.specs.Files.{Two, File, read_files}
@@ -12,20 +12,13 @@ use Rattle.entry_codec.specs.Standing.{Standing, no_store, damaged, journal, sta
 use Rattle.sync_words.specs.declared.outcome.Outcome.{Outcome}
 use Rattle.sync_words.specs.declared.outcome.Outcome.TheVariants as outcome
 use Rattle.outside.specs.Streams.{Stream, IsIdle, GetsFront}
+use Rattle.store_commands.specs.Causes.{CausedBy}
 use Rattle.store_commands.specs.Shown.{Showing, denies, shows}
 
--- the causes of an outcome, whatever the disk tells: a fault comes only where its count rose, and
--- nothing is written but the text
+-- the causes of an outcome: no room is wanted
 abbrev pub LooksBy : (old new : Outside) (out out' : Stream) → Outcome → Type 0
-LooksBy old new out out' outcome.Done = Unit {0}
-LooksBy old new out out' outcome.WriteFault = CountRose out.faults out'.faults
-LooksBy old new out out' outcome.DiskFault =
-    CountRose old.disk_faults new.disk_faults × IsIdle out out'
-LooksBy old new out out' outcome.NoStore = IsIdle out out'
-LooksBy old new out out' (outcome.Damaged place) = IsIdle out out'
-LooksBy old new out out' (outcome.Refused why) = IsIdle out out'
-LooksBy old new out out' outcome.Memory = IsIdle out out'
-LooksBy old new out out' _ = ⊥
+LooksBy old new out out' outcome.Full = ⊥
+LooksBy old new out out' came = CausedBy old new out out' came
 
 -- a text is printed, where memory is found for it
 abbrev pub PrintsText : List ℕ → Stream → Stream → Outcome → Type 0
@@ -80,11 +73,11 @@ pub record LeavesFilesSo (P : Two File → Type 0) (two : Two File) (old new : O
   pub moments : MomentsAre old new (IsNow two old.links)
   pub kept : (two' : Two File) → new.files ≡ Some two' → P two'
 
--- what is so where the files are told
-pub record LooksTold (clients : Meaning) (shown : Facts → Showing) (two : Two File)
-    (old new : Outside) (out out' : Stream) (came : Outcome) : Type 0 where
-  pub rests : LeavesFilesSo (KeepsFiles came two) two old new
-  pub ends : LooksEnds shown (stands clients (read_files two)) out out' came
+-- What is so where the files are told: they are left so, and this is so of what they stood for.
+pub record LeavesTold (clients : Meaning) (keeps : Two File → Two File → Type 0)
+    (is_so : Standing → Type 0) (two : Two File) (old new : Outside) : Type 0 where
+  pub rests : LeavesFilesSo (keeps two) two old new
+  pub ends : is_so (stands clients (read_files two))
 
 -- a command that only looks
 pub record HasLooked (clients : Meaning) (shown : Facts → Showing) (old new : Outside)
@@ -92,4 +85,6 @@ pub record HasLooked (clients : Meaning) (shown : Facts → Showing) (old new : 
   pub run : DiskRun old new
   pub by : LooksBy old new out out' came
   pub told : (two : Two File) → old.files ≡ Some two
-      → LooksTold clients shown two old new out out' came
+      → LeavesTold clients (KeepsFiles came) (λ standing. LooksEnds shown standing out out' came)
+      two
+      old new

@@ -10,16 +10,14 @@ use Rattle.outside.specs.Faults.{CountRose}
 use Rattle.outside.specs.Files.{Two, File, read_files}
 use Rattle.outside.specs.Outside.{Outside}
 use Rattle.outside.proofs.CallSteps.{told_on}
-use Rattle.outside.specs.Streams.{IsIdle, Stream}
+use Rattle.outside.specs.Streams.{Stream}
 use Rattle.record_grammar.specs.Stream.{ending}
-use Rattle.record_grammar.specs.declared.stream.Ending.{Ending}
-use Rattle.record_grammar.specs.declared.stream.Ending.TheVariants as ends
 use Rattle.record_grammar.specs.declared.stream.Item.{Item}
 use Rattle.sync_rules.specs.declared.entries.Entry.{Entry}
 use Rattle.sync_rules.specs.declared.states.Refused.{Refused}
 use Rattle.sync_rules.specs.declared.states.Refused.TheVariants as refused
 use Rattle.sync_rules.specs.Clients.{Meaning}
-use Rattle.sync_rules.specs.Facts.{Facts, Id, facts, group_at}
+use Rattle.sync_rules.specs.Facts.{Facts, Id, facts}
 use Rattle.entry_codec.specs.Standing.{Standing, damaged, journal, no_store, stands}
 use Rattle.sync_store.specs.Begin.{has_open}
 use Rattle.sync_words.specs.declared.outcome.Outcome.{Outcome}
@@ -33,47 +31,40 @@ use Rattle.commands.specs.declared.command.Command.{Command}
 use Rattle.commands.specs.declared.command.Command.TheVariants as command
 use Rattle.store_commands.specs.declared.commit.Settling.{Settling}
 use Rattle.store_commands.specs.declared.commit.Settling.TheVariants as settling
-use Rattle.store_commands.specs.declared.listing.Listing.TheVariants as listing
 use Rattle.store_commands.specs.Commit.{IsFull, MayMigrate, WasSpent, needed_by}
-use Rattle.store_commands.specs.Compact.{HasCompacted, IsBriefFull, MayRenew}
+use Rattle.store_commands.specs.Compact.{HasCompacted, IsBriefFull, MayRenew, brief_len}
 use Rattle.store_commands.specs.Entries.{HasAdded}
 use Rattle.store_commands.specs.Init.{HasBegun}
-use Rattle.store_commands.specs.Plans.{Plan, adds, contact_plan, group_plan, level_plan, refuses}
-use Rattle.store_commands.specs.Post.{HasPosted, PostsBody}
+use Rattle.store_commands.specs.Plans.{Plan, adds, refuses}
+use Rattle.store_commands.specs.Post.{HasPosted, PostStops, PostsBody, group_test}
 use Rattle.store_commands.specs.Show.{HasLooked}
-use Rattle.store_commands.specs.Shown.{Showing, body_shown, denies, listing_shown, shows}
-use Rattle.tree_commands.specs.Trees.{tree_shown}
+use Rattle.store_commands.specs.Stopping.{InputStops, NeverReads, StopsEarly}
+use Rattle.store_commands.specs.Shown.{Showing, denies, shows}
 use Rattle.audit_commands.specs.Audits.{HasAudited}
 use Rattle.sync_node.specs.Courses.{ReadsAs}
 use Rattle.sharing_commands.specs.Agreeing.{EachFoundRoom, HasAgreed, IsAgreementCut}
-use Rattle.sharing_commands.specs.Agreement.{agree_test}
-use Rattle.sharing_commands.specs.Sayings.{say_plan}
+use Rattle.sharing_commands.specs.Agreement.{agree_test, agreed_batches}
 use Rattle.sharing_commands.proofs.Fronts.{room_at}
 use Rattle.mailbox_core.specs.Files.{box_ending}
 use Rattle.mailbox_commands.specs.declared.sending.Sending.{Sending}
 use Rattle.mailbox_commands.specs.declared.taking.TheConstants.{MAX_MAIL}
 use Rattle.mailbox_commands.specs.Errands.{Errand, HasErrandRoom, IsErrandCutShort as IsErrandCut}
 use Rattle.mailbox_commands.specs.Errands.{mailbox_test}
-use Rattle.mailbox_commands.specs.Running.{FilesRun, IsTested}
+use Rattle.mailbox_commands.specs.Running.{FilesRun}
 use Rattle.mailbox_commands.specs.Sending.{HasSentMail, out_errand}
-use Rattle.mailbox_commands.specs.Taking.{HasTakenMail, IsMail, TakesMail, in_errand, outcome_at}
+use Rattle.mailbox_commands.specs.Taking.{HasTakenMail, IsMail, IsTooMuch, in_errand, outcome_at}
 use Rattle.store_commands.proofs.Stood.{last_lacks}
 use Rattle.sync_top.specs.declared.input.TheConstants.{MAX_INPUT}
-use Rattle.sync_top.specs.Complete.{BytesDecide, ComesOut, Complete, HasBriefRoom, HasRoomForBatch}
-use Rattle.sync_top.specs.Complete.{HasRooms, MayAddPlanned, MayAgreeOn, MayAudit, MayCompact}
-use Rattle.sync_top.specs.Complete.{MayPost, MaySendMail, MayShow, MayTakeMail, MailDecides}
-use Rattle.sync_top.specs.Complete.{NothingFails, mail_status, ServesCommand, status_at, status_by}
-use Rattle.sync_top.specs.Run.{WordsComeTo, ComesOfStore, ReadsStream, ReadsWhole, ReportsOutcome}
-use Rattle.sync_top.specs.Run.{Streams, TriesClient, outcome_of, sending_of, speech_of}
+use Rattle.sync_top.specs.Complete.{ComesOut, Complete, MailDecides, NothingFails, ServesCommand}
+use Rattle.sync_top.specs.Complete.{StreamDecides}
+use Rattle.sync_top.specs.Duties.{duty_of, sending_of, to_send, to_take}
+use Rattle.sync_top.specs.Run.{WordsComeTo, ReadsStream, ReadsWhole, ReportsOutcome}
+use Rattle.sync_top.specs.Run.{Streams, TriesClient, outcome_of}
+use Rattle.sync_top.specs.Serving.{HoweverSettled, MayAddPlanned, MayAudit, MayCompact, MayPost}
+use Rattle.sync_top.specs.Serving.{MayShow}
 use Rattle.sync_top.proofs.CompleteRuns.{run_comes_out}
 
 -- ---- the bytes decide
-
--- what an ending comes to, as a status
-status_same : (e : Ending) → status_of (outcome_of e) ≡ status_at e
-status_same ends.Clean = refl
-status_same (ends.Inside place) = refl
-status_same (ends.Bad place why) = refl
 
 test_by : (b : Bool) (x y : Status) → b ≡ false → (if b then x else y) ≡ y
 test_by false x y is = refl
@@ -89,42 +80,22 @@ one_past n is = omega (arith, is)
 module _ (input input' out out' : Stream) where
   -- an input that was read to its end
   whole_decides : (read : List ℕ) (came : Outcome) → ReadsWhole input input' read → outcome_of
-      (ending 0 (take MAX_INPUT read)) ≡ came → status_of came ≡ status_by read
+      (ending 0 (take MAX_INPUT read)) ≡ came → status_of came
+      ≡ (if nat_lt MAX_INPUT (length read) then status.TooMuch else status_of
+      (outcome_of (ending 0 read)))
   whole_decides read came whole is =
       let all : take MAX_INPUT read ≡ read = take_all MAX_INPUT read whole.within in
       let few : nat_lt MAX_INPUT (length read) ≡ false =
       le-ltb MAX_INPUT (length read) whole.within in
       sym (ap status_of is)
-      ∙ status_same (ending 0 (take MAX_INPUT read))
-      ∙ ap (λ (bytes : List ℕ). status_at (ending 0 bytes)) all
-      ∙ sym (test_by (nat_lt MAX_INPUT (length read)) status.TooMuch (status_at (ending 0 read))
-      few)
+      ∙ ap (λ (bytes : List ℕ). status_of (outcome_of (ending 0 bytes))) all
+      ∙ sym (test_by (nat_lt MAX_INPUT (length read)) status.TooMuch
+      (status_of (outcome_of (ending 0 read))) few)
 
   bytes_decide : (text : List ℕ) (came : Outcome) (told : List Item → List ℕ → Type 0)
       (r : ReadsStream told input input' out out' came)
       → (CountRose input.faults input'.faults → ⊥) → (CountRose out.faults out'.faults → ⊥)
-      → BytesDecide input input' (status_of came)
-  bytes_decide text outcome.Done told r source sink =
-      record {
-        read = r.read;
-        consumed = r.consumed;
-        whole = inl (r.ended.0.at_end, r.ended.0.within);
-        decides = whole_decides r.read outcome.Done r.ended.0 r.ended.1;
-      }
-  bytes_decide text (outcome.Bad place why) told r source sink =
-      record {
-        read = r.read;
-        consumed = r.consumed;
-        whole = inl (r.ended.0.at_end, r.ended.0.within);
-        decides = whole_decides r.read (outcome.Bad place why) r.ended.0 r.ended.1;
-      }
-  bytes_decide text (outcome.Inside place) told r source sink =
-      record {
-        read = r.read;
-        consumed = r.consumed;
-        whole = inl (r.ended.0.at_end, r.ended.0.within);
-        decides = whole_decides r.read (outcome.Inside place) r.ended.0 r.ended.1;
-      }
+      → StreamDecides input input' (status_of came)
   bytes_decide text outcome.TooMuch told r source sink =
       let past : MAX_INPUT < length r.read = one_past (length r.read) r.ended.0 in
       let many : nat_lt MAX_INPUT (length r.read) ≡ true = lt-ltb MAX_INPUT (length r.read) past in
@@ -134,28 +105,49 @@ module _ (input input' out out' : Stream) where
         whole = inr r.ended.0;
         decides =
             sym (test_past (nat_lt MAX_INPUT (length r.read)) status.TooMuch
-            (status_at (ending 0 r.read)) many);
+            (status_of (outcome_of (ending 0 r.read))) many);
       }
   bytes_decide text outcome.ReadFault told r source sink = absurd (source r.ended.0)
   bytes_decide text outcome.WriteFault told r source sink = absurd (sink r.ended.0)
-  bytes_decide text _ told r source sink = absurd r.ended
+  bytes_decide text came told r source sink =
+      record {
+        read = r.read;
+        consumed = r.consumed;
+        whole = inl (r.ended.0.at_end, r.ended.0.within);
+        decides = whole_decides r.read came r.ended.0 r.ended.1;
+      }
 
   streams_decide : (came : Outcome) (told : List Item → List ℕ → Type 0)
       → Streams told input input' out out' came → (CountRose input.faults input'.faults → ⊥)
       → (CountRose out.faults out'.faults → ⊥)
-      → BytesDecide input input' (status_of came) ⊎ (status_of came ≡ status.Memory)
+      → StreamDecides input input' (status_of came) ⊎ (status_of came ≡ status.Memory)
   streams_decide outcome.Memory told streams source sink = inr refl
   streams_decide came told streams source sink = inl (bytes_decide [] came told streams source sink)
 
   tries_decide : (clients : Meaning) (name descriptor : List ℕ) (o : Option ℕ) (came : Outcome)
       → is_some o ≡ true → TriesClient clients name descriptor o input input' out out' came
       → (CountRose input.faults input'.faults → ⊥) → (CountRose out.faults out'.faults → ⊥)
-      → BytesDecide input input' (status_of came) ⊎ (status_of came ≡ status.Memory)
+      → StreamDecides input input' (status_of came) ⊎ (status_of came ≡ status.Memory)
   tries_decide clients name descriptor None came known tries source sink = cc
   tries_decide clients name descriptor (Some kind) came known tries source sink =
       streams_decide came _ tries source sink
 
 -- ---- commands of a store
+
+-- behind a journal, however it is settled, there is room for a batch
+abbrev HasRoomForBatch : Meaning → List (List Entry) → List Entry → Type 0
+HasRoomForBatch clients j batch =
+    HoweverSettled clients j (λ whole f. needed_by whole batch ≤ MAX_JOURNAL)
+
+-- and for each batch that the targets then ask for
+abbrev HasRooms : Meaning → ℕ → Id → List (List Entry) → Type 0
+HasRooms clients contact group j =
+    HoweverSettled clients j (λ whole f.
+    EachFoundRoom whole (agreed_batches clients contact group f))
+
+-- and for the brief account
+abbrev HasBriefRoom : Meaning → List (List Entry) → Type 0
+HasBriefRoom clients j = HoweverSettled clients j (λ whole f. brief_len whole ≤ MAX_JOURNAL)
 
 -- a journal that files stand for is the one that they stand for
 one_journal : (clients : Meaning) (files : Option (Two File)) (two : Two File)
@@ -277,7 +269,7 @@ module _ (clients : Meaning) (old new : Outside) (input input' out out' : Stream
 
   agreed_done : (contact : ℕ) (group : Id) (came : Outcome)
       → HasAgreed clients contact group old new out out' came
-      → MayAgreeOn clients contact group old.files → Done came
+      → (duty_of clients (command.Agree contact group)).serves old new input input' → Done came
   agreed_done contact group outcome.Done did may = inl refl
   agreed_done contact group outcome.Memory did may = inr refl
   agreed_done contact group outcome.WriteFault did may = absurd (fails.sink did.by)
@@ -338,17 +330,32 @@ module _ (clients : Meaning) (old new : Outside) (input input' out out' : Stream
       full.leads
   compacted_done _ did may = absurd did.by
 
-  -- the tests hold over the journal that the files stand for
-  not_tested : {P : Type 0} (contact : ℕ) (two : Two File) (j : List (List Entry)) (why : Refused)
-      → stands clients (read_files two) ≡ journal j
-      → mailbox_test (facts j) contact ≡ None
-      → IsTested contact (stands clients (read_files two)) (Some why) → P
-  not_tested contact two j why stood holds t =
-      let both : journal t.before ≡ journal j = sym t.stood ∙ stood in
+  -- a command whose tests hold does not stop early, but for want of memory and by its input
+  stopped_done : (test : Facts → Option Refused) (input_is : Outcome → Type 0) (came : Outcome)
+      (j : List (List Entry)) → StopsEarly clients test input_is old new out out' came
+      → ReadsAs clients old.files j → test (facts j) ≡ None
+      → (input_is outcome.ReadFault → ⊥)
+      → (came ≡ outcome.TooMuch) ⊎ (came ≡ outcome.Memory)
+  stopped_done test input_is outcome.NoStore j did stood tested whole =
+      let is : no_store ≡ journal j = sym (did.told stood.0 stood.1).ends ∙ stood.2 in
+      cc
+  stopped_done test input_is (outcome.Damaged place) j did stood tested whole =
+      let is : damaged place.file place.at ≡ journal j = sym (did.told stood.0 stood.1).ends
+      ∙ stood.2 in
+      cc
+  stopped_done test input_is (outcome.Refused why) j did stood tested whole =
+      let t = (did.told stood.0 stood.1).ends in
+      let both : journal t.before ≡ journal j = sym t.stood ∙ stood.2 in
       let same : t.before ≡ j = cc in
       let is : Some why ≡ None = sym t.tested
-      ∙ ap (λ (i : List (List Entry)). mailbox_test (facts i) contact) same ∙ holds in
-      absurd (let no : Some why ≡ None = is in cc)
+      ∙ ap (λ (i : List (List Entry)). test (facts i)) same ∙ tested in
+      cc
+  stopped_done test input_is outcome.DiskFault j did stood tested whole =
+      absurd (fails.disk did.by)
+  stopped_done test input_is outcome.Memory j did stood tested whole = inr refl
+  stopped_done test input_is outcome.ReadFault j did stood tested whole = absurd (whole did.reads)
+  stopped_done test input_is outcome.TooMuch j did stood tested whole = inl refl
+  stopped_done test input_is _ j did stood tested whole = absurd did.by
 
   -- there was room for an errand
   ran_not_full : {P : Type 0} (contact : ℕ) (errand : Errand) (before : List (List Entry))
@@ -366,33 +373,28 @@ module _ (clients : Meaning) (old new : Outside) (input input' out out' : Stream
       not_errand_cut clients errand old.files stood.0 now.0 full.before has next stood.1 full.leads
 
   mailed_done : (asked : Sending) (came : Outcome) → HasSentMail clients asked old new out out' came
-      → MaySendMail clients asked old new → Done came
-  mailed_done asked outcome.Done did may = inl refl
-  mailed_done asked outcome.Memory did may = inr refl
-  mailed_done asked outcome.WriteFault did may = absurd (fails.sink did.did.by)
-  mailed_done asked outcome.DiskFault (inl did) may = absurd (fails.disk did.by)
+      → (to_send clients asked).serves old new input input' → Done came
+  mailed_done asked came (inl did) may =
+      elim (stopped_done (λ f. mailbox_test f asked.contact) NeverReads came may.before did
+      may.stood
+      may.tested (λ never. never)) [
+        | inl much ↦ absurd (subst NeverReads much did.reads)
+        | inr memory ↦ inr (ap status_of memory)
+      ]
+  mailed_done asked outcome.Done (inr did) may = inl refl
+  mailed_done asked outcome.Memory (inr did) may = inr refl
+  mailed_done asked outcome.WriteFault (inr did) may = absurd (fails.sink did.did.by)
   mailed_done asked outcome.DiskFault (inr did) may = absurd (fails.disk did.did.by.0)
-  mailed_done asked outcome.NoStore did may =
-      let is : no_store ≡ journal may.before = sym (did.told may.stood.0 may.stood.1).ends
-      ∙ may.stood.2 in
-      cc
-  mailed_done asked (outcome.Damaged place) did may =
-      let is : damaged place.file place.at ≡ journal may.before =
-      sym (did.told may.stood.0 may.stood.1).ends ∙ may.stood.2 in
-      cc
-  mailed_done asked (outcome.Refused why) did may =
-      not_tested asked.contact may.stood.0 may.before why may.stood.2 may.tested
-      (did.told may.stood.0 may.stood.1).ends
-  mailed_done asked outcome.Full did may =
+  mailed_done asked outcome.Full (inr did) may =
       ran_not_full asked.contact (out_errand clients asked did.now) may.before may.stood
       (may.room did.now did.reads.clock) may.next did.did did.reads.same_told
-  mailed_done asked (outcome.Inside place) did may =
+  mailed_done asked (outcome.Inside place) (inr did) may =
       absurd (let is : outcome.Done ≡ outcome.Inside place = did.did.by in cc)
-  mailed_done asked (outcome.Bad place why) did may =
+  mailed_done asked (outcome.Bad place why) (inr did) may =
       absurd (let is : outcome.Done ≡ outcome.Bad place why = did.did.by in cc)
-  mailed_done asked (outcome.NoVersion place) did may =
+  mailed_done asked (outcome.NoVersion place) (inr did) may =
       absurd (let is : outcome.Done ≡ outcome.NoVersion place = did.did.by in cc)
-  mailed_done asked _ did may = absurd did.did.by
+  mailed_done asked _ (inr did) may = absurd did.did.by
 
   abbrev Decided : Outcome → Type 0
   Decided came = MailDecides input input' (status_of came) ⊎ (status_of came ≡ status.Memory)
@@ -412,48 +414,48 @@ module _ (clients : Meaning) (old new : Outside) (input input' out out' : Stream
             (status_of (outcome_at (box_ending read))) few);
       })
 
+  -- the input was too long
+  much_decides : IsTooMuch input input' → Decided outcome.TooMuch
+  much_decides much =
+      let past : MAX_MAIL < length much.read = omega (arith, much.past) in
+      let many : nat_lt MAX_MAIL (length much.read) ≡ true =
+      lt-ltb MAX_MAIL (length much.read) past in
+      inl (record {
+        read = much.read;
+        consumed = much.consumed;
+        whole = inr much.past;
+        decides =
+            sym (test_past (nat_lt MAX_MAIL (length much.read)) status.TooMuch
+            (status_of (outcome_at (box_ending much.read))) many);
+      })
+
   taken_done : (contact : ℕ) (came : Outcome)
       → HasTakenMail clients contact old new input input' out out' came
-      → MayTakeMail clients contact old.files input input' → Decided came
-  taken_done contact outcome.Done did may = mail_decides did.bytes outcome.Done did.reads did.did.by
-  taken_done contact (outcome.Inside place) did may =
+      → (to_take clients contact).serves old new input input' → Decided came
+  taken_done contact came (inl did) may =
+      elim (stopped_done (λ f. mailbox_test f contact)
+      (InputStops (IsTooMuch input input') input input') came may.before did may.stood may.tested
+      fails.source) [
+        | inl much
+            ↦ subst Decided (sym much)
+            (much_decides (subst (InputStops (IsTooMuch input input') input input') much did.reads))
+        | inr memory ↦ inr (ap status_of memory)
+      ]
+  taken_done contact outcome.Done (inr did) may =
+      mail_decides did.bytes outcome.Done did.reads did.did.by
+  taken_done contact (outcome.Inside place) (inr did) may =
       mail_decides did.bytes (outcome.Inside place) did.reads did.did.by
-  taken_done contact (outcome.Bad place why) did may =
+  taken_done contact (outcome.Bad place why) (inr did) may =
       mail_decides did.bytes (outcome.Bad place why) did.reads did.did.by
-  taken_done contact (outcome.NoVersion place) did may =
+  taken_done contact (outcome.NoVersion place) (inr did) may =
       mail_decides did.bytes (outcome.NoVersion place) did.reads did.did.by
-  taken_done contact outcome.Memory did may = inr refl
-  taken_done contact outcome.TooMuch did may =
-      let past : MAX_MAIL < length did.1.read = omega (arith, did.1.past) in
-      let many : nat_lt MAX_MAIL (length did.1.read) ≡ true =
-      lt-ltb MAX_MAIL (length did.1.read) past in
-      inl (record {
-        read = did.1.read;
-        consumed = did.1.consumed;
-        whole = inr did.1.past;
-        decides =
-            sym (test_past (nat_lt MAX_MAIL (length did.1.read)) status.TooMuch
-            (status_of (outcome_at (box_ending did.1.read))) many);
-      })
-  taken_done contact outcome.ReadFault did may = absurd (fails.source did.1)
-  taken_done contact outcome.WriteFault did may = absurd (fails.sink did.did.by)
-  taken_done contact outcome.DiskFault (inl did) may = absurd (fails.disk did.0.by)
+  taken_done contact outcome.Memory (inr did) may = inr refl
+  taken_done contact outcome.WriteFault (inr did) may = absurd (fails.sink did.did.by)
   taken_done contact outcome.DiskFault (inr did) may = absurd (fails.disk did.did.by.0)
-  taken_done contact outcome.NoStore did may =
-      let is : no_store ≡ journal may.before = sym (did.0.told may.stood.0 may.stood.1).ends
-      ∙ may.stood.2 in
-      cc
-  taken_done contact (outcome.Damaged place) did may =
-      let is : damaged place.file place.at ≡ journal may.before =
-      sym (did.0.told may.stood.0 may.stood.1).ends ∙ may.stood.2 in
-      cc
-  taken_done contact (outcome.Refused why) did may =
-      not_tested contact may.stood.0 may.before why may.stood.2 may.tested
-      (did.0.told may.stood.0 may.stood.1).ends
-  taken_done contact outcome.Full did may =
+  taken_done contact outcome.Full (inr did) may =
       ran_not_full contact (in_errand clients contact did.bytes) may.before may.stood
       (may.room did.bytes did.reads) may.next did.did did.run.same_told
-  taken_done contact _ did may = absurd did.did.by
+  taken_done contact _ (inr did) may = absurd did.did.by
 
   looked_done : (shown : Facts → Showing) (came : Outcome)
       → HasLooked clients shown old new out out' came → MayShow clients shown old.files → Done came
@@ -500,36 +502,64 @@ module _ (clients : Meaning) (old new : Outside) (input input' out out' : Stream
   body_done group timestamp came did may =
       added_done _ settling.BeforeAndAfter came did.added (may.may_add did.body did.reads)
 
+  -- it stopped before its body was read
+  post_stopped : (group : Id) (timestamp : ℕ) (came : Outcome)
+      → PostStops clients group old new input input' out out' came
+      → MayPost clients group timestamp old.files input input' → Done came
+  post_stopped group timestamp came did may =
+      elim (stopped_done (group_test group) (InputStops ⊥ input input') came may.before did
+      may.stood
+      (ap (λ (b : Bool). if b then None else Some refused.UnknownGroup) may.known) fails.source) [
+        | inl much ↦ absurd (subst (InputStops ⊥ input input') much did.reads)
+        | inr memory ↦ inr (ap status_of memory)
+      ]
+
   posted_done : (group : Id) (timestamp : ℕ) (came : Outcome)
       → HasPosted clients group timestamp old new input input' out out' came
       → MayPost clients group timestamp old.files input input' → Done came
   posted_done group timestamp outcome.NoStore did may =
-      let is : no_store ≡ journal may.before = sym (did.told may.stood.0 may.stood.1).ends
-      ∙ may.stood.2 in
-      cc
+      post_stopped group timestamp outcome.NoStore did may
   posted_done group timestamp (outcome.Damaged place) did may =
-      let is : damaged place.file place.at ≡ journal may.before =
-      sym (did.told may.stood.0 may.stood.1).ends ∙ may.stood.2 in
-      cc
+      post_stopped group timestamp (outcome.Damaged place) did may
   posted_done group timestamp (outcome.Refused refused.UnknownGroup) did may =
-      let g = (did.told may.stood.0 may.stood.1).ends in
-      let both : journal g.of ≡ journal may.before = sym g.stood ∙ may.stood.2 in
-      let same : g.of ≡ may.before = cc in
-      let is : true ≡ false = sym may.known
-      ∙ ap (λ (j : List (List Entry)). is_some (group_at (facts j).groups group)) (sym same)
-      ∙ g.known in
-      cc
-  posted_done group timestamp outcome.ReadFault did may = absurd (fails.source did.by)
-  posted_done group timestamp outcome.DiskFault (inl did) may = absurd (fails.disk did.by.0)
-  posted_done group timestamp outcome.DiskFault (inr did) may = absurd (fails.disk did.added.by.0)
-  posted_done group timestamp outcome.Memory did may = inr refl
-  posted_done group timestamp came did may = body_done group timestamp came did may
+      post_stopped group timestamp (outcome.Refused refused.UnknownGroup) did may
+  posted_done group timestamp (outcome.Refused why) did may =
+      body_done group timestamp (outcome.Refused why) did may
+  posted_done group timestamp came (inl did) may = post_stopped group timestamp came did may
+  posted_done group timestamp came (inr did) may = body_done group timestamp came did may
 
-  -- a command of a store, which may have wanted for memory before it began
-  store_done : (did : Outcome → Type 0) (came : Outcome) → (did came → Done came)
-      → ComesOfStore did old new input input' out out' came → Done came
-  store_done did came done (inl so) = done so
-  store_done did came done (inr none) = inr (ap status_of none.0)
+  -- by the command
+  duty_comes_out : (asked : Command) (came : Outcome)
+      → (duty_of clients asked).comes old new input input' out out' came
+      → (duty_of clients asked).serves old new input input'
+      → ComesOut clients asked old new input input' (status_of came)
+      ⊎ (status_of came ≡ status.Memory)
+  duty_comes_out command.Init came did serves =
+      begun_done came did.0 serves.0 serves.1 serves.2
+  duty_comes_out command.Contact came did serves = added_done _ _ came did.0 serves
+  duty_comes_out (command.Group name major descriptor) came did serves =
+      added_done _ _ came did.0 serves
+  duty_comes_out (command.Share contact group level) came did serves =
+      added_done _ _ came did.0 serves
+  duty_comes_out (command.Post group timestamp) came did serves =
+      posted_done group timestamp came did serves
+  duty_comes_out command.Show came did serves = looked_done _ came did.0 serves
+  duty_comes_out command.Inbox came did serves = looked_done _ came did.0 serves
+  duty_comes_out (command.Body id) came did serves = looked_done _ came did.0 serves
+  duty_comes_out (command.Tree group from count) came did serves = looked_done _ came did.0 serves
+  duty_comes_out command.Audit came did serves = audited_done came did.0 serves
+  duty_comes_out (command.Say group timestamp join name major descriptor) came did serves =
+      added_done _ _ came did.0 serves
+  duty_comes_out (command.Agree contact group) came did serves =
+      agreed_done contact group came did.0 serves
+  duty_comes_out command.Compact came did serves = compacted_done came did.0 serves
+  duty_comes_out (command.MailboxIn contact) came did serves = taken_done contact came did serves
+  duty_comes_out (command.MailboxOut contact latency count) came did serves =
+      mailed_done (sending_of contact latency count) came did.0 serves
+  duty_comes_out (command.Sync turns quiet links) came did serves =
+      run_comes_out clients (record { turns = turns; quiet = quiet }) links old new fails.disk
+      fails.links came did.0 serves
+  duty_comes_out _ came did serves = absurd did.0
 
 -- ---- all commands
 
@@ -547,105 +577,10 @@ command_comes_out clients (command.Try name descriptor) old new input input' out
     comes fails.source fails.sink
 command_comes_out clients command.Records old new input input' out out' came comes serves fails =
     streams_decide input input' out out' came _ comes fails.source fails.sink
-command_comes_out clients command.Init old new input input' out out' came comes serves fails =
-    store_done clients old new input input' out out' fails (λ (o : Outcome).
-    HasBegun old new out out' o × IsIdle input input') came (λ did.
-    begun_done clients old new input input' out out' fails came did.0 serves.0 serves.1
-    serves.2) comes
-command_comes_out clients command.Contact old new input input' out out' came comes serves fails =
-    store_done clients old new input input' out out' fails (λ (o : Outcome).
-    HasAdded clients contact_plan settling.Before old new out out' o × IsIdle input input') came
-    (λ did. added_done clients old new input input' out out' fails contact_plan
-    settling.Before came did.0 serves) comes
-command_comes_out clients (command.Group name major descriptor) old new input input' out out' came
-    comes serves fails =
-    store_done clients old new input input' out out' fails (λ (o : Outcome).
-    HasAdded clients (λ f.
-    group_plan clients f (record { name = name; major = major; descriptor = descriptor }))
-    settling.Before old new out out' o × IsIdle input input') came
-    (λ did. added_done clients old new input input' out out' fails (λ f.
-    group_plan clients f (record { name = name; major = major; descriptor = descriptor }))
-    settling.Before came did.0 serves) comes
-command_comes_out clients (command.Share contact group level) old new input input' out out' came
-    comes serves fails =
-    store_done clients old new input input' out out' fails (λ (o : Outcome).
-    HasAdded clients (λ f. level_plan f contact group level) settling.Before old new out out' o
-    × IsIdle input input') came
-    (λ did. added_done clients old new input input' out out' fails (λ f.
-    level_plan f contact group level) settling.Before came did.0 serves) comes
-command_comes_out clients (command.Post group timestamp) old new input input' out out' came comes
-    serves fails =
-    store_done clients old new input input' out out' fails (λ (o : Outcome).
-    HasPosted clients group timestamp old new input input' out out' o) came (λ did.
-    posted_done clients old new input input' out out' fails group timestamp came did serves)
-    comes
-command_comes_out clients command.Show old new input input' out out' came comes serves fails =
-    store_done clients old new input input' out out' fails (λ (o : Outcome).
-    HasLooked clients (listing_shown listing.Store) old new out out' o
-    × IsIdle input input') came (λ did.
-    looked_done clients old new input input' out out' fails
-    (listing_shown listing.Store) came did.0 serves) comes
-command_comes_out clients command.Inbox old new input input' out out' came comes serves fails =
-    store_done clients old new input input' out out' fails (λ (o : Outcome).
-    HasLooked clients (listing_shown listing.Inbox) old new out out' o
-    × IsIdle input input') came (λ did.
-    looked_done clients old new input input' out out' fails
-    (listing_shown listing.Inbox) came did.0 serves) comes
-command_comes_out clients (command.Body id) old new input input' out out' came comes serves fails =
-    store_done clients old new input input' out out' fails (λ (o : Outcome).
-    HasLooked clients (body_shown id) old new out out' o × IsIdle input input') came (λ did.
-    looked_done clients old new input input' out out' fails (body_shown id) came did.0
-    serves) comes
-command_comes_out clients (command.Tree group from count) old new input input' out out' came comes
-    serves fails =
-    store_done clients old new input input' out out' fails
-    (λ (o : Outcome). HasLooked clients
-    (tree_shown clients (record { group = group; from = from; count = count })) old new out out'
-    o × IsIdle input input') came
-    (λ did. looked_done clients old new input input' out out' fails
-    (tree_shown clients (record { group = group; from = from; count = count }))
-    came did.0 serves) comes
-command_comes_out clients command.Audit old new input input' out out' came comes serves fails =
-    store_done clients old new input input' out out' fails
-    (λ (o : Outcome). HasAudited clients old new out out' o × IsIdle input input') came
-    (λ did. audited_done clients old new input input' out out' fails came did.0 serves) comes
-command_comes_out clients (command.Say group timestamp join name major descriptor) old new input
-    input' out out' came comes serves fails =
-    let plan = say_plan clients (speech_of group timestamp join name major descriptor) in
-    store_done clients old new input input' out out' fails (λ (o : Outcome).
-    HasAdded clients plan settling.BeforeAndAfter old new out out' o × IsIdle input input') came
-    (λ did. added_done clients old new input input' out out' fails plan settling.BeforeAndAfter came
-    did.0 serves) comes
-command_comes_out clients (command.Agree contact group) old new input input' out out' came comes
-    serves fails =
-    store_done clients old new input input' out out' fails (λ (o : Outcome).
-    HasAgreed clients contact group old new out out' o × IsIdle input input') came
-    (λ did. agreed_done clients old new input input' out out' fails contact group came did.0 serves)
-    comes
-command_comes_out clients command.Compact old new input input' out out' came comes serves fails =
-    store_done clients old new input input' out out' fails (λ (o : Outcome).
-    HasCompacted clients old new out out' o × IsIdle input input') came
-    (λ did. compacted_done clients old new input input' out out' fails came did.0 serves) comes
-command_comes_out clients (command.MailboxIn contact) old new input input' out out' came comes
-    serves fails =
-    elim comes [
-      | inl did ↦ taken_done clients old new input input' out out' fails contact came did serves
-      | inr none ↦ inr (ap status_of none.0)
-    ]
-command_comes_out clients (command.MailboxOut contact latency count) old new input input' out out'
-    came comes serves fails =
-    store_done clients old new input input' out out' fails
-    (λ (o : Outcome). HasSentMail clients (sending_of contact latency count) old new out out' o
-    × IsIdle input input') came
-    (λ did. mailed_done clients old new input input' out out' fails
-    (sending_of contact latency count) came did.0 serves) comes
-command_comes_out clients (command.Sync turns quiet links) old new input input' out out' came comes
-    serves fails =
-    elim comes [
-      | inl did ↦ run_comes_out clients (record { turns = turns; quiet = quiet }) links old new
-          fails.disk fails.links came did.0 serves
-      | inr none ↦ inr (ap status_of none.0)
-    ]
+command_comes_out clients asked old new input input' out out' came (inl did) serves fails =
+    duty_comes_out clients old new input input' out out' fails asked came did serves
+command_comes_out clients asked old new input input' out out' came (inr none) serves fails =
+    inr (ap status_of none.0)
 
 comes_out : (clients : Meaning) (words : Asked) (old new : Outside) (input input' out out' : Stream)
     (came : Outcome) → WordsComeTo clients words old new input input' out out' came

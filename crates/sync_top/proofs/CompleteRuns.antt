@@ -1,13 +1,12 @@
 -- A run of sessions comes to what its course decides: each other outcome has a cause.
-use Rattle.std.proofs.Common.{◌≡◌, ℕ, zero, suc, ◌≤◌, Bool, true, false, List, [], ◌∷◌, ◌++◌, refl}
+use Rattle.std.proofs.Common.{◌≡◌, ℕ, zero, suc, Bool, true, false, List, [], ◌∷◌, ◌++◌, refl}
 use Rattle.std.proofs.Common.{sym, ◌∙◌, ap, subst, inl, inr, arith, None, Some, Result, Ok, Err}
 use Rattle.std.specs.Prelude.{◌⊎◌, slice_get, map, ◌||◌}
 use Rattle.std.specs.List.{list_any}
-use Rattle.outside.specs.declared.limits.TheConstants.{MAX_JOURNAL}
 use Rattle.outside.specs.Faults.{CountRose}
 use Rattle.outside.specs.Files.{read_files}
 use Rattle.outside.specs.Outside.{Outside}
-use Rattle.record_grammar.specs.Stream.{ending, records, records_of}
+use Rattle.record_grammar.specs.Stream.{records, records_of}
 use Rattle.record_grammar.specs.declared.stream.Ending.TheVariants as ends
 use Rattle.record_grammar.specs.declared.stream.Item.{Item}
 use Rattle.record_grammar.specs.declared.stream.Item.TheVariants as item
@@ -18,7 +17,6 @@ use Rattle.sync_rules.specs.Facts.{facts}
 use Rattle.entry_codec.specs.Standing.{Standing, damaged, journal, no_store, stands}
 use Rattle.sync_course.specs.declared.ends.LinkEnd.{LinkEnd}
 use Rattle.sync_course.specs.declared.ends.LinkEnd.TheVariants as end
-use Rattle.sync_course.specs.Events.{batches_of}
 use Rattle.sync_course.specs.Links.{Link, closes}
 use Rattle.sync_course.specs.Turns.{is_over}
 use Rattle.sync_node.specs.Courses.{ReadsAs}
@@ -35,7 +33,8 @@ use Rattle.sync_run.specs.Causes.{FailuresRose, IsCaused}
 use Rattle.sync_run.specs.Courses.{RunComesTo, RanToEnd, WasFull, run_test}
 use Rattle.sync_run.specs.Ends.{LacksVersion, StandsByHeard}
 use Rattle.sync_run.specs.Ran.{HasRun}
-use Rattle.sync_top.specs.Complete.{AllHeardWell, CourseDecides, HeardWell, MaySync, is_unfailed}
+use Rattle.sync_top.specs.Complete.{AllHeardWell, CourseDecides, HeardWell, is_unfailed}
+use Rattle.sync_top.specs.Serving.{MaySync}
 
 -- ---- the status of links
 
@@ -58,14 +57,8 @@ first_unfailed s t first rest = cc
 end_unfailed : (over : Bool) (e : LinkEnd) → (e ≡ end.Failed → ⊥) → is_unfailed
     (link_status over e) ≡ true
 end_unfailed over end.Failed fails = absurd (fails refl)
-end_unfailed true end.Going fails = refl
-end_unfailed false end.Going fails = refl
-end_unfailed true end.Clean fails = refl
-end_unfailed false end.Clean fails = refl
-end_unfailed over end.Redundant fails = refl
-end_unfailed over (end.Inside place) fails = refl
-end_unfailed over (end.Bad place why) fails = refl
-end_unfailed over (end.NoVersion place) fails = refl
+end_unfailed true _ fails = refl
+end_unfailed false _ fails = refl
 
 all_unfailed : (over : Bool) (ends : List LinkEnd)
     → ((i : ℕ) (e : LinkEnd) → slice_get ends i ≡ Some e → e ≡ end.Failed → ⊥)
@@ -178,10 +171,10 @@ module _ (clients : Meaning) (limits : Limits) (words : List LinkWords) (old new
     abbrev stood : Standing
     stood = stands clients (read_files may.stood.0)
 
-    same_begin : (j : List (List Entry)) → stood ≡ journal j → j ≡ may.begin
-    same_begin j is = let both : journal j ≡ journal may.begin = sym is ∙ may.stood.2 in cc
+    same_begin : (j : List (List Entry)) → stood ≡ journal j → j ≡ may.before
+    same_begin j is = let both : journal j ≡ journal may.before = sym is ∙ may.stood.2 in cc
 
-    not_full : WasFull clients limits words may.begin old new → ⊥
+    not_full : WasFull clients limits words may.before old new → ⊥
     not_full (inl over) =
         let room = may.room over.run over.batch over.next over.steps in
         omega (arith, room, over.over)
@@ -190,26 +183,26 @@ module _ (clients : Meaning) (limits : Limits) (words : List LinkWords) (old new
     result_comes : (r : Result Closing Outcome) (came : Outcome) → came ≡ links_came_to r
         → IsCaused words old new r → RunComesTo clients limits words stood old new r → ComesOut came
     result_comes (Ok lines) came is caused comes =
-        let ran : RanToEnd clients limits words may.begin old new lines =
+        let ran : RanToEnd clients limits words may.before old new lines =
         subst (λ (j : List (List Entry)). RanToEnd clients limits words j old new lines)
         (same_begin comes.begin comes.began) comes.has in
-        subst ComesOut (sym is) (inl (course_decides may.begin lines caused ran may.stood))
+        subst ComesOut (sym is) (inl (course_decides may.before lines caused ran may.stood))
     result_comes (Err (outcome.LinkFailed link)) came is caused comes =
         absurd (links link caused.rose)
     result_comes (Err outcome.DiskFault) came is caused comes = absurd (disk caused)
     result_comes (Err outcome.Memory) came is caused comes = inr (ap status_of is)
     result_comes (Err outcome.NoStore) came is caused comes =
-        let both : no_store ≡ journal may.begin = sym comes ∙ may.stood.2 in cc
+        let both : no_store ≡ journal may.before = sym comes ∙ may.stood.2 in cc
     result_comes (Err (outcome.Damaged place)) came is caused comes =
-        let both : damaged place.file place.at ≡ journal may.begin = sym comes ∙ may.stood.2 in cc
+        let both : damaged place.file place.at ≡ journal may.before = sym comes ∙ may.stood.2 in cc
     result_comes (Err (outcome.Refused why)) came is caused comes =
-        let fails : run_test (facts may.begin) words ≡ Some why =
+        let fails : run_test (facts may.before) words ≡ Some why =
         subst (λ (j : List (List Entry)). run_test (facts j) words ≡ Some why)
         (same_begin comes.begin comes.began) comes.tested in
         let both : Some why ≡ None = sym fails ∙ may.tested in
         cc
     result_comes (Err outcome.Full) came is caused comes =
-        let full : WasFull clients limits words may.begin old new =
+        let full : WasFull clients limits words may.before old new =
         subst (λ (j : List (List Entry)). WasFull clients limits words j old new)
         (same_begin comes.begin comes.began) comes.has in
         absurd (not_full full)

@@ -61,22 +61,4 @@ module _ {H : Type 0} (tells : H → Outside) (clients : Meaning) (h h' : H)
       (tree_shown clients (record { group = group; from = from; count = count })) comes
   only_looks (Do command.Audit) comes keeps =
       λ reads. audited clients (tells h) (tells h') input input' out out' came comes
-  only_looks (Do command.Init) comes keeps = λ reads. absurd (let e : true ≡ false = reads in cc)
-  only_looks (Do command.Contact) comes keeps = λ reads. absurd (let e : true ≡ false = reads in cc)
-  only_looks (Do (command.Group name major descriptor)) comes keeps =
-      λ reads. absurd (let e : true ≡ false = reads in cc)
-  only_looks (Do (command.Share contact group level)) comes keeps =
-      λ reads. absurd (let e : true ≡ false = reads in cc)
-  only_looks (Do (command.Post group timestamp)) comes keeps =
-      λ reads. absurd (let e : true ≡ false = reads in cc)
-  only_looks (Do (command.Say group timestamp join name major descriptor)) comes keeps =
-      λ reads. absurd (let e : true ≡ false = reads in cc)
-  only_looks (Do (command.Agree contact group)) comes keeps =
-      λ reads. absurd (let e : true ≡ false = reads in cc)
-  only_looks (Do (command.MailboxIn contact)) comes keeps =
-      λ reads. absurd (let e : true ≡ false = reads in cc)
-  only_looks (Do (command.MailboxOut contact latency count)) comes keeps =
-      λ reads. absurd (let e : true ≡ false = reads in cc)
-  only_looks (Do command.Compact) comes keeps = λ reads. absurd (let e : true ≡ false = reads in cc)
-  only_looks (Do (command.Sync turns quiet links)) comes keeps =
-      λ reads. absurd (let e : true ≡ false = reads in cc)
+  only_looks (Do _) comes keeps = λ reads. absurd (let e : true ≡ false = reads in cc)

@@ -1,6 +1,6 @@
 -- Each moment of a run of sessions opens to a sound journal: by the headline and the laws of legal
 -- journals.
-use Rattle.std.proofs.Common.{◌≡◌, ◌⊎◌, ℕ, ◌+◌, List, [], ◌∷◌, ◌++◌, append_assoc, length, refl}
+use Rattle.std.proofs.Common.{◌≡◌, ℕ, ◌+◌, List, [], ◌∷◌, ◌++◌, append_assoc, length, refl}
 use Rattle.std.proofs.Common.{sym, ap, ◌∙◌, subst, inl, inr, Option, None, Some}
 use Rattle.std.proofs.lemmas.List.{append_cancel_left}
 use Rattle.outside.specs.Files.{Two, File, read_files}
@@ -17,7 +17,7 @@ use Rattle.sync_rules.specs.Legal.{Allowed, IsSettlingBatch, Legal}
 use Rattle.sync_rules.specs.Output.{SendsTheOpen}
 use Rattle.sync_rules.proofs.Settling.{after_batches-append, goes_on_back}
 use Rattle.sync_rules.proofs.StepLaws.{next_is_settling}
-use Rattle.entry_codec.specs.Standing.{Standing, journal, stands}
+use Rattle.entry_codec.specs.Standing.{Standing, stands}
 use Rattle.entry_codec.specs.StandingLaws.{StandingIsLegal}
 use Rattle.sync_course.specs.Suits.{TakesHeard}
 use Rattle.sync_node.specs.Output.{Journal, heard_on, sent_on}
@@ -26,10 +26,10 @@ use Rattle.commands.specs.declared.command.Command.TheVariants as command
 use Rattle.sync_words.specs.declared.link_words.LinkWords.{LinkWords}
 use Rattle.commands.specs.Reading.{Asked}
 use Rattle.commands.specs.Reading.Asked.{Usage, Do}
-use Rattle.sync_run.specs.Headline.{HeadlineTold, RunsOn, StandsForRun, sent_by}
+use Rattle.sync_run.specs.Headline.{HeadlineTold, RunsOn, sent_by}
 use Rattle.sync_top.specs.Run.{AsksSync, Covered}
 use Rattle.sync_top.proofs.HeadlineLemmas.{no_links, none_at}
-use Rattle.sync_top.specs.Sound.{AlwaysOpens, OpensOn, OpensSound, OpensTold, RunsAreSound}
+use Rattle.sync_top.specs.Sound.{AlwaysOpens, OpensOn, OpensTold, RunsAreSound}
 use Rattle.sync_top.specs.Sound.{TakesInOrder}
 
 -- ---- the records that were taken

@@ -1,7 +1,7 @@
 -- Where `try` wrote its whole text, it told the state of each message; and what words come to that
 -- could not be obeyed.
 use Rattle.std.proofs.Common.{◌≡◌, ℕ, Bool, List, refl, sym, ap, ◌∙◌, subst, inl, inr, Option, Some}
-use Rattle.std.proofs.Common.{None, Result, Ok, Err}
+use Rattle.std.proofs.Common.{None, Result, Ok, Err, take}
 use Rattle.std.specs.Prelude.{IsErrAnd}
 use Rattle.std.specs.Io.KnownBytes.{Appends}
 use Rattle.std.proofs.lemmas.List.{take_all}
@@ -9,7 +9,9 @@ use Rattle.outside.specs.Files.{read_files}
 use Rattle.outside.specs.Outside.{Outside}
 use Rattle.outside.proofs.CallSteps.{looks_none, run_none}
 use Rattle.outside.specs.Streams.{Stream, IsIdle}
-use Rattle.record_grammar.specs.Stream.{items, records, records_of}
+use Rattle.record_grammar.specs.Stream.{ending, items, records, records_of}
+use Rattle.record_grammar.specs.declared.stream.Ending.{Ending}
+use Rattle.record_grammar.specs.declared.stream.Ending.TheVariants as ends
 use Rattle.record_grammar.specs.declared.stream.Item.{Item}
 use Rattle.journal_play.specs.Fates.{SaysFates}
 use Rattle.journal_play.specs.Playing.{IsTextOf}
@@ -19,6 +21,7 @@ use Rattle.sync_ids.specs.declared.records.Record.{Record}
 use Rattle.sync_rules.specs.Clients.{Meaning}
 use Rattle.sync_rules.specs.Facts.{Id}
 use Rattle.sync_rules.specs.Steps.{kind_of_def}
+use Rattle.sync_course.specs.Closing.{Closing}
 use Rattle.sync_words.specs.declared.outcome.Outcome.{Outcome}
 use Rattle.sync_words.specs.declared.outcome.Outcome.TheVariants as outcome
 use Rattle.sync_words.specs.declared.status.Status.{Status}
@@ -37,8 +40,14 @@ use Rattle.sharing_commands.specs.declared.saying.Speech.{Speech}
 use Rattle.sharing_commands.specs.Sayings.{say_plan}
 use Rattle.sync_top.specs.declared.input.TheConstants.{MAX_INPUT}
 use Rattle.sync_top.specs.Run.{AsksSync, WordsComeTo, DoesNothing, KeepsHost, ReportsOutcome}
-use Rattle.sync_top.specs.Run.{ReadsStream, ReadsWhole, Streams, TriesClient}
+use Rattle.sync_top.specs.Run.{ReadsStream, ReadsWhole, Streams, TriesClient, outcome_of}
 use Rattle.sync_top.specs.States.{TellsStates, TellsGroup, TellsWhole}
+
+-- a stream of records does not end as links do
+ends_no_links : (e : Ending) (closed : Closing) → outcome_of e ≡ outcome.Links closed → ⊥
+ends_no_links ends.Clean closed is = cc
+ends_no_links (ends.Inside place) closed is = cc
+ends_no_links (ends.Bad place why) closed is = cc
 
 module _
     (law : (clients : Meaning) (kind : ℕ) (def : GroupValue) (records : List Record) (text : List ℕ)
@@ -90,8 +99,11 @@ module _
       (whole_states kind (record { name = name; major = 0; descriptor = descriptor })
       (outcome.Inside place) known tries tries.ended.0 tries.ended.2)
   group_states name descriptor (Some kind) (outcome.NoVersion place) known tries =
-      absurd tries.ended
-  group_states name descriptor (Some kind) (outcome.Links ends) known tries = absurd tries.ended
+      subst (λ o. TellsGroup clients name descriptor o input input' out out') (sym known)
+      (whole_states kind (record { name = name; major = 0; descriptor = descriptor })
+      (outcome.NoVersion place) known tries tries.ended.0 tries.ended.2)
+  group_states name descriptor (Some kind) (outcome.Links closed) known tries =
+      absurd (ends_no_links (ending 0 (take MAX_INPUT tries.read)) closed tries.ended.1)
   group_states name descriptor (Some kind) _ known tries = tt
 
   pub tells : (words : Asked) (old new : Outside) (err err' : Stream) (came : Outcome)

@@ -6,7 +6,8 @@ use Rattle.outside.specs.Files.{Two, File, IsImage, read_files}
 use Rattle.outside.specs.Frames.{generation_in, is_open, journal_file}
 use Rattle.outside.specs.Outside.{Outside, Moment, MomentsAre, IsNow}
 use Rattle.outside.proofs.CallSteps.{moments_map, moments_none}
-use Rattle.outside.specs.Streams.{IsIdle, Stream}
+use Rattle.outside.specs.Streams.{Stream}
+use Rattle.sync_rules.specs.declared.states.Refused.{Refused}
 use Rattle.sync_rules.specs.declared.states.Refused.TheVariants as refused
 use Rattle.sync_rules.specs.Clients.{Meaning}
 use Rattle.sync_rules.specs.Facts.{Facts, Id}
@@ -16,28 +17,28 @@ use Rattle.sync_words.specs.declared.outcome.Outcome.{Outcome}
 use Rattle.sync_words.specs.declared.outcome.Outcome.TheVariants as outcome
 use Rattle.commands.specs.Reading.{Asked}
 use Rattle.commands.specs.Reading.Asked.{Usage, Do}
+use Rattle.commands.specs.declared.command.Command.{Command}
 use Rattle.commands.specs.declared.command.Command.TheVariants as command
 use Rattle.store_commands.specs.declared.commit.Settling.{Settling}
-use Rattle.store_commands.specs.declared.commit.Settling.TheVariants as settling
-use Rattle.store_commands.specs.declared.listing.Listing.TheVariants as listing
-use Rattle.store_commands.specs.Compact.{CompactsMoment, HasCompacted}
-use Rattle.store_commands.specs.Entries.{AddsMoment, HasAdded}
+use Rattle.store_commands.specs.Compact.{HasCompacted, compacting}
+use Rattle.store_commands.specs.Entries.{HasAdded, adding}
 use Rattle.store_commands.specs.Init.{HasBegun}
-use Rattle.store_commands.specs.Plans.{Plan, contact_plan, group_plan, level_plan}
-use Rattle.store_commands.specs.Post.{HasPosted, PostsBody, StopsShort}
+use Rattle.store_commands.specs.Plans.{Plan}
+use Rattle.store_commands.specs.Post.{HasPosted, PostStops, PostsBody}
 use Rattle.store_commands.specs.Show.{HasLooked}
-use Rattle.store_commands.specs.Shown.{Showing, body_shown, listing_shown}
-use Rattle.tree_commands.specs.Trees.{tree_shown}
+use Rattle.store_commands.specs.Stopping.{StopsEarly, TestsHold}
+use Rattle.store_commands.specs.Shown.{Showing}
+use Rattle.store_commands.specs.Works.{HasWorked, Work}
 use Rattle.audit_commands.specs.Audits.{HasAudited}
-use Rattle.sharing_commands.specs.Agreeing.{AgreesMoment, HasAgreed}
-use Rattle.sharing_commands.specs.Sayings.{say_plan}
+use Rattle.sharing_commands.specs.Agreeing.{HasAgreed, agreeing}
 use Rattle.mailbox_commands.specs.declared.sending.Sending.{Sending}
-use Rattle.mailbox_commands.specs.Errands.{Errand, ErrandOn}
-use Rattle.mailbox_commands.specs.Running.{FilesRun, MayRunErrand, StopsEarly}
+use Rattle.mailbox_commands.specs.Errands.{Errand, ErrandOn, mailbox_test}
+use Rattle.mailbox_commands.specs.Running.{FilesRun}
 use Rattle.mailbox_commands.specs.Sending.{HasSentMail, out_errand}
 use Rattle.mailbox_commands.specs.Taking.{HasTakenMail, in_errand}
 use Rattle.sync_store.specs.Moments.{JournalMoment}
-use Rattle.sync_top.specs.Run.{WordsComeTo, ComesOfStore, Covered, KeepsHost, sending_of, speech_of}
+use Rattle.sync_top.specs.Duties.{duty_of, sending_of}
+use Rattle.sync_top.specs.Run.{AsksSync, WordsComeTo, ComesOfStore, Covered, KeepsHost}
 use Rattle.sync_top.specs.Undamaged.{NeverDamaged, RunUndamaged, StandsForSome, Undamaged}
 use Rattle.sync_run.specs.Headline.{Headline}
 use Rattle.sync_words.specs.declared.link_words.LinkWords.{LinkWords}
@@ -98,51 +99,45 @@ module _ (clients : Meaning) (old new : Outside) where
       → Undamaged clients old new
   of_audited out out' came did = of_now (λ two files. (did.told two files).rests.moments)
 
-  added_moment : (plan : Facts → Plan) (standing : Standing) (came : Outcome) (sent : List (List ℕ))
-      (two : Two File) → ((left : Two (List ℕ)) → IsImage two left → StandsForSome clients left)
-      → (m : Moment) → IsNow two old.links m ⊎ AddsMoment clients plan standing came sent m
+  worked_moment : (work : Work) (late : Type 0) (standing : Standing) (sent : List (List ℕ))
+      (two : Two File)
+      → ((m : Moment) → work.moment standing sent m → StandsForSome clients m.files)
+      → ((left : Two (List ℕ)) → IsImage two left → StandsForSome clients left)
+      → (m : Moment) → IsNow two old.links m ⊎ (late × work.moment standing sent m)
       → StandsForSome clients m.files
-  added_moment plan standing came sent two each m (inl now) = each m.files now.image
-  added_moment plan standing came sent two each m (inr adds) =
-      record { of = adds.1.leads.whole; stands_for = adds.1.leads.stands_for }
+  worked_moment work late standing sent two on each m (inl now) = each m.files now.image
+  worked_moment work late standing sent two on each m (inr w) = on m w.1
+
+  of_worked : (work : Work) (out out' : Stream) (came : Outcome)
+      → ((standing : Standing) (sent : List (List ℕ)) (m : Moment) → work.moment standing sent m
+      → StandsForSome clients m.files)
+      → HasWorked clients work old new out out' came → Undamaged clients old new
+  of_worked work out out' came on did two files each =
+      moments_map old new _ _ (worked_moment work _ _ _ two (on _ _) each)
+      (did.told two files).moments
 
   of_added : (plan : Facts → Plan) (asked : Settling) (out out' : Stream) (came : Outcome)
       → HasAdded clients plan asked old new out out' came → Undamaged clients old new
-  of_added plan asked out out' came did two files each =
-      moments_map old new _ _ (added_moment plan _ came _ two each) (did.told two files).moments
-
-  agreed_moment : (contact : ℕ) (group : Id) (standing : Standing) (came : Outcome)
-      (sent : List (List ℕ)) (two : Two File)
-      → ((left : Two (List ℕ)) → IsImage two left → StandsForSome clients left)
-      → (m : Moment) → IsNow two old.links m
-      ⊎ AgreesMoment clients contact group standing came sent m → StandsForSome clients m.files
-  agreed_moment contact group standing came sent two each m (inl now) = each m.files now.image
-  agreed_moment contact group standing came sent two each m (inr adds) =
-      record { of = adds.1.leads.whole; stands_for = adds.1.leads.stands_for }
+  of_added plan asked out out' came =
+      of_worked (adding clients plan asked) out out' came (λ standing sent m on.
+      record { of = on.leads.whole; stands_for = on.leads.stands_for })
 
   of_agreed : (contact : ℕ) (group : Id) (out out' : Stream) (came : Outcome)
       → HasAgreed clients contact group old new out out' came → Undamaged clients old new
-  of_agreed contact group out out' came did two files each =
-      moments_map old new _ _ (agreed_moment contact group _ came _ two each)
-      (did.told two files).moments
-
-  compacted_moment : (standing : Standing) (came : Outcome) (sent : List (List ℕ)) (two : Two File)
-      → ((left : Two (List ℕ)) → IsImage two left → StandsForSome clients left)
-      → (m : Moment) → IsNow two old.links m ⊎ CompactsMoment clients standing came sent m
-      → StandsForSome clients m.files
-  compacted_moment standing came sent two each m (inl now) = each m.files now.image
-  compacted_moment standing came sent two each m (inr makes) =
-      record { of = makes.1.leads.whole; stands_for = makes.1.leads.stands_for }
+  of_agreed contact group out out' came =
+      of_worked (agreeing clients contact group) out out' came (λ standing sent m on.
+      record { of = on.leads.whole; stands_for = on.leads.stands_for })
 
   of_compacted : (out out' : Stream) (came : Outcome) → HasCompacted clients old new out out' came
       → Undamaged clients old new
-  of_compacted out out' came did two files each =
-      moments_map old new _ _ (compacted_moment _ came _ two each) (did.told two files).moments
+  of_compacted out out' came =
+      of_worked (compacting clients) out out' came (λ standing sent m on.
+      record { of = on.leads.whole; stands_for = on.leads.stands_for })
 
   ran_moment : (contact : ℕ) (errand : Errand) (standing : Standing) (sent : List (List ℕ))
       (two : Two File) → ((left : Two (List ℕ)) → IsImage two left → StandsForSome clients left)
       → (m : Moment) → IsNow two old.links m
-      ⊎ MayRunErrand contact standing (λ j.
+      ⊎ TestsHold (λ f. mailbox_test f contact) standing (λ j.
       JournalMoment clients (ErrandOn clients errand j) sent m)
       → StandsForSome clients m.files
   ran_moment contact errand standing sent two each m (inl now) = each m.files now.image
@@ -154,55 +149,28 @@ module _ (clients : Meaning) (old new : Outside) where
   of_ran contact errand out out' came did two files each =
       moments_map old new _ _ (ran_moment contact errand _ _ two each) (did.told two files).moments
 
-  of_early : (contact : ℕ) (out out' : Stream) (came : Outcome)
-      → StopsEarly clients contact old new out out' came → Undamaged clients old new
-  of_early contact out out' came did = of_now (λ two files. (did.told two files).rests.moments)
+  of_early : (test : Facts → Option Refused) (input_is : Outcome → Type 0) (out out' : Stream)
+      (came : Outcome) → StopsEarly clients test input_is old new out out' came
+      → Undamaged clients old new
+  of_early test input_is out out' came did =
+      of_now (λ two files. (did.told two files).rests.moments)
 
   of_taken : (contact : ℕ) (input input' out out' : Stream) (came : Outcome)
       → HasTakenMail clients contact old new input input' out out' came → Undamaged clients old new
-  of_taken contact input input' out out' outcome.NoStore did =
-      of_early contact out out' outcome.NoStore did.0
-  of_taken contact input input' out out' (outcome.Damaged place) did =
-      of_early contact out out' (outcome.Damaged place) did.0
-  of_taken contact input input' out out' (outcome.Refused why) did =
-      of_early contact out out' (outcome.Refused why) did.0
-  of_taken contact input input' out out' outcome.ReadFault did =
-      of_early contact out out' outcome.ReadFault did.0
-  of_taken contact input input' out out' outcome.TooMuch did =
-      of_early contact out out' outcome.TooMuch did.0
-  of_taken contact input input' out out' outcome.DiskFault (inl did) =
-      of_early contact out out' outcome.DiskFault did.0
-  of_taken contact input input' out out' outcome.DiskFault (inr did) =
-      of_ran contact (in_errand clients contact did.bytes) out out' outcome.DiskFault did.did
-  of_taken contact input input' out out' outcome.Memory (inl did) =
-      of_early contact out out' outcome.Memory did
-  of_taken contact input input' out out' outcome.Memory (inr did) =
-      of_ran contact (in_errand clients contact did.bytes) out out' outcome.Memory did.did
-  of_taken contact input input' out out' came did =
+  of_taken contact input input' out out' came (inl did) = of_early _ _ out out' came did
+  of_taken contact input input' out out' came (inr did) =
       of_ran contact (in_errand clients contact did.bytes) out out' came did.did
 
   of_mailed : (asked : Sending) (out out' : Stream) (came : Outcome)
       → HasSentMail clients asked old new out out' came → Undamaged clients old new
-  of_mailed asked out out' outcome.NoStore did = of_early asked.contact out out' outcome.NoStore did
-  of_mailed asked out out' (outcome.Damaged place) did =
-      of_early asked.contact out out' (outcome.Damaged place) did
-  of_mailed asked out out' (outcome.Refused why) did =
-      of_early asked.contact out out' (outcome.Refused why) did
-  of_mailed asked out out' outcome.DiskFault (inl did) =
-      of_early asked.contact out out' outcome.DiskFault did
-  of_mailed asked out out' outcome.DiskFault (inr did) =
-      of_ran asked.contact (out_errand clients asked did.now) out out' outcome.DiskFault did.did
-  of_mailed asked out out' outcome.Memory (inl did) =
-      of_early asked.contact out out' outcome.Memory did
-  of_mailed asked out out' outcome.Memory (inr did) =
-      of_ran asked.contact (out_errand clients asked did.now) out out' outcome.Memory did.did
-  of_mailed asked out out' came did =
+  of_mailed asked out out' came (inl did) = of_early _ _ out out' came did
+  of_mailed asked out out' came (inr did) =
       of_ran asked.contact (out_errand clients asked did.now) out out' came did.did
 
   module _ (group : Id) (timestamp : ℕ) (input input' out out' : Stream) where
-    of_stopped : (came : Outcome) → StopsShort clients group old new input input' out out' came
+    of_stopped : (came : Outcome) → PostStops clients group old new input input' out out' came
         → Undamaged clients old new
-    of_stopped came did = of_now (λ two files. (did.told two files).rests.moments)
+    of_stopped came did = of_early _ _ out out' came did
 
     of_body : (came : Outcome)
         → PostsBody clients group timestamp old new input input' out out' came
@@ -216,12 +184,9 @@ module _ (clients : Meaning) (old new : Outside) where
     of_posted (outcome.Damaged place) did = of_stopped (outcome.Damaged place) did
     of_posted (outcome.Refused refused.UnknownGroup) did =
         of_stopped (outcome.Refused refused.UnknownGroup) did
-    of_posted outcome.ReadFault did = of_stopped outcome.ReadFault did
-    of_posted outcome.DiskFault (inl did) = of_stopped outcome.DiskFault did
-    of_posted outcome.DiskFault (inr did) = of_body outcome.DiskFault did
-    of_posted outcome.Memory (inl did) = of_stopped outcome.Memory did
-    of_posted outcome.Memory (inr did) = of_body outcome.Memory did
-    of_posted came did = of_body came did
+    of_posted (outcome.Refused why) did = of_body (outcome.Refused why) did
+    of_posted came (inl did) = of_stopped came did
+    of_posted came (inr did) = of_body came did
 
   -- a run of sessions leaves what a crash might have left before, or a journal of the run
   of_run : (words : List LinkWords) → Headline clients words old new → RunUndamaged clients old new
@@ -237,6 +202,36 @@ module _ (clients : Meaning) (old new : Outside) where
   of_store did input input' out out' came of_did (inl done) = of_did done
   of_store did input input' out out' came of_did (inr none) =
       of_now (λ two files. (none.1.rests two files).moments)
+
+  -- by the command; that of a run is told of apart
+  of_duty : (asked : Command) (input input' out out' : Stream) (came : Outcome)
+      → (AsksSync (Do asked) → ⊥)
+      → (duty_of clients asked).comes old new input input' out out' came → Undamaged clients old new
+  of_duty command.Init input input' out out' came other did = of_begun out out' came did.0
+  of_duty command.Contact input input' out out' came other did = of_added _ _ out out' came did.0
+  of_duty (command.Group name major descriptor) input input' out out' came other did =
+      of_added _ _ out out' came did.0
+  of_duty (command.Share contact group level) input input' out out' came other did =
+      of_added _ _ out out' came did.0
+  of_duty (command.Post group timestamp) input input' out out' came other did =
+      of_posted group timestamp input input' out out' came did
+  of_duty command.Show input input' out out' came other did = of_looked _ out out' came did.0
+  of_duty command.Inbox input input' out out' came other did = of_looked _ out out' came did.0
+  of_duty (command.Body id) input input' out out' came other did = of_looked _ out out' came did.0
+  of_duty (command.Tree group from count) input input' out out' came other did =
+      of_looked _ out out' came did.0
+  of_duty command.Audit input input' out out' came other did = of_audited out out' came did.0
+  of_duty (command.Say group timestamp join name major descriptor) input input' out out' came other
+      did = of_added _ _ out out' came did.0
+  of_duty (command.Agree contact group) input input' out out' came other did =
+      of_agreed contact group out out' came did.0
+  of_duty command.Compact input input' out out' came other did = of_compacted out out' came did.0
+  of_duty (command.MailboxIn contact) input input' out out' came other did =
+      of_taken contact input input' out out' came did
+  of_duty (command.MailboxOut contact latency count) input input' out out' came other did =
+      of_mailed (sending_of contact latency count) out out' came did.0
+  of_duty (command.Sync turns quiet links) input input' out out' came other did = absurd (other tt)
+  of_duty _ input input' out out' came other did = absurd did.0
 
 -- ---- all commands
 
@@ -258,87 +253,10 @@ module _ {H : Type 0} (tells : H → Outside) (clients : Meaning) (h h' : H)
   undamaged (Usage place) comes keeps covered = kept keeps
   undamaged (Do (command.Try name descriptor)) comes keeps covered = kept keeps
   undamaged (Do command.Records) comes keeps covered = kept keeps
-  undamaged (Do command.Init) comes keeps covered =
-      of_store clients (tells h) (tells h') (λ o. HasBegun (tells h) (tells h') out out' o
-      × IsIdle input input') input input' out out' came (λ did.
-      of_begun clients (tells h) (tells h') out out' came did.0) comes
-  undamaged (Do command.Contact) comes keeps covered =
-      of_store clients (tells h) (tells h') (λ o.
-      HasAdded clients contact_plan settling.Before (tells h) (tells h') out out' o
-      × IsIdle input input') input input' out out' came (λ did.
-      of_added clients (tells h) (tells h') _ _ out out' came did.0) comes
-  undamaged (Do (command.Group name major descriptor)) comes keeps covered =
-      of_store clients (tells h) (tells h') (λ o.
-      HasAdded clients (λ f.
-      group_plan clients f (record { name = name; major = major; descriptor = descriptor }))
-      settling.Before (tells h) (tells h') out out' o × IsIdle input input') input
-      input' out out' came (λ did.
-      of_added clients (tells h) (tells h') _ _ out out' came did.0) comes
-  undamaged (Do (command.Share contact group level)) comes keeps covered =
-      of_store clients (tells h) (tells h') (λ o.
-      HasAdded clients (λ f. level_plan f contact group level) settling.Before (tells h)
-      (tells h') out out' o × IsIdle input input') input input' out out' came (λ did.
-      of_added clients (tells h) (tells h') _ _ out out' came did.0) comes
-  undamaged (Do (command.Post group timestamp)) comes keeps covered =
-      of_store clients (tells h) (tells h') (λ o.
-      HasPosted clients group timestamp (tells h) (tells h') input input' out out' o) input
-      input' out out' came
-      (λ did. of_posted clients (tells h) (tells h') group timestamp input input' out out' came did)
-      comes
-  undamaged (Do command.Show) comes keeps covered =
-      of_store clients (tells h) (tells h') (λ o.
-      HasLooked clients (listing_shown listing.Store) (tells h) (tells h') out out' o
-      × IsIdle input input') input input' out out' came (λ did.
-      of_looked clients (tells h) (tells h') _ out out' came did.0) comes
-  undamaged (Do command.Inbox) comes keeps covered =
-      of_store clients (tells h) (tells h') (λ o.
-      HasLooked clients (listing_shown listing.Inbox) (tells h) (tells h') out out' o
-      × IsIdle input input') input input' out out' came (λ did.
-      of_looked clients (tells h) (tells h') _ out out' came did.0) comes
-  undamaged (Do (command.Body id)) comes keeps covered =
-      of_store clients (tells h) (tells h') (λ o.
-      HasLooked clients (body_shown id) (tells h) (tells h') out out' o
-      × IsIdle input input') input input' out out' came (λ did.
-      of_looked clients (tells h) (tells h') _ out out' came did.0) comes
-  undamaged (Do (command.Tree group from count)) comes keeps covered =
-      of_store clients (tells h) (tells h')
-      (λ o. HasLooked clients
-      (tree_shown clients (record { group = group; from = from; count = count })) (tells h)
-      (tells h') out out' o × IsIdle input input') input
-      input' out out' came (λ did. of_looked clients (tells h) (tells h') _ out out' came did.0)
-      comes
-  undamaged (Do command.Audit) comes keeps covered =
-      of_store clients (tells h) (tells h')
-      (λ o. HasAudited clients (tells h) (tells h') out out' o × IsIdle input input') input input'
-      out out' came (λ did. of_audited clients (tells h) (tells h') out out' came did.0) comes
-  undamaged (Do (command.Say group timestamp join name major descriptor)) comes keeps covered =
-      of_store clients (tells h) (tells h')
-      (λ o.
-      HasAdded clients (say_plan clients (speech_of group timestamp join name major descriptor))
-      settling.BeforeAndAfter (tells h) (tells h') out out' o × IsIdle input input')
-      input input' out out' came (λ did.
-      of_added clients (tells h) (tells h') _ _ out out' came did.0) comes
-  undamaged (Do (command.Agree contact group)) comes keeps covered =
-      of_store clients (tells h) (tells h')
-      (λ o. HasAgreed clients contact group (tells h) (tells h') out out' o × IsIdle input input')
-      input input' out out' came (λ did.
-      of_agreed clients (tells h) (tells h') contact group out out' came did.0) comes
-  undamaged (Do command.Compact) comes keeps covered =
-      of_store clients (tells h) (tells h') (λ o.
-      HasCompacted clients (tells h) (tells h') out out' o × IsIdle input input') input input'
-      out out' came
-      (λ did. of_compacted clients (tells h) (tells h') out out' came did.0) comes
-  undamaged (Do (command.MailboxIn contact)) comes keeps covered =
-      of_store clients (tells h) (tells h')
-      (λ o. HasTakenMail clients contact (tells h) (tells h') input input' out out' o)
-      input input' out out' came (λ did.
-      of_taken clients (tells h) (tells h') contact input input' out out' came did) comes
-  undamaged (Do (command.MailboxOut contact latency count)) comes keeps covered =
-      of_store clients (tells h) (tells h')
-      (λ o. HasSentMail clients (sending_of contact latency count) (tells h) (tells h') out out' o
-      × IsIdle input input')
-      input input' out out' came (λ did.
-      of_mailed clients (tells h) (tells h') (sending_of contact latency count) out out' came
-      did.0) comes
   undamaged (Do (command.Sync turns quiet links)) comes keeps covered =
       of_run clients (tells h) (tells h') links covered
+  undamaged (Do asked) comes keeps covered =
+      of_store clients (tells h) (tells h')
+      ((duty_of clients asked).comes (tells h) (tells h') input input' out out') input input' out
+      out' came
+      (of_duty clients (tells h) (tells h') asked input input' out out' came (λ sync. sync)) comes

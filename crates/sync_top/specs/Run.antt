@@ -1,5 +1,5 @@
 -- What a run of a command reads and writes, and what it comes to.
-use Rattle.std.specs.Prelude.{◌≡◌, ℕ, ◌+◌, ◌≤◌, ◌⊎◌, Bool, List, Option, None, Some, length, take}
+use Rattle.std.specs.Prelude.{◌≡◌, ℕ, ◌+◌, ◌≤◌, ◌⊎◌, List, Option, None, Some, length, take}
 use Rattle.std.specs.Io.KnownBytes.{Consumes, Appends, IsAtEnd}
 use Rattle.outside.specs.Faults.{CountRose}
 use Rattle.outside.specs.Files.{Two, File, read_files}
@@ -13,17 +13,8 @@ use Rattle.sync_ids.specs.Values.{GroupValue}
 use Rattle.sync_ids.specs.declared.records.Record.{Record}
 use Rattle.sync_rules.specs.declared.states.Refused.TheVariants as refused
 use Rattle.sync_rules.specs.Clients.{Meaning}
-use Rattle.store_commands.specs.Compact.{HasCompacted}
-use Rattle.store_commands.specs.Entries.{HasAdded}
-use Rattle.store_commands.specs.Init.{HasBegun}
-use Rattle.store_commands.specs.Show.{HasLooked, LeavesFilesSo}
-use Rattle.store_commands.specs.Plans.{contact_plan, group_plan, level_plan}
-use Rattle.store_commands.specs.Post.{HasPosted}
-use Rattle.store_commands.specs.Shown.{body_shown, listing_shown}
-use Rattle.store_commands.specs.declared.commit.Settling.TheVariants as settling
+use Rattle.store_commands.specs.Show.{LeavesFilesSo}
 use Rattle.sync_run.specs.Headline.{Headline}
-use Rattle.sync_run.specs.Ran.{HasRun}
-use Rattle.store_commands.specs.declared.listing.Listing.TheVariants as listing
 use Rattle.sync_top.specs.declared.input.TheConstants.{MAX_INPUT}
 use Rattle.sync_top.specs.declared.input.Stop.{Stop}
 use Rattle.sync_top.specs.declared.input.Stop.TheVariants as stop
@@ -32,14 +23,7 @@ use Rattle.sync_words.specs.declared.outcome.Outcome.{Outcome}
 use Rattle.sync_words.specs.declared.outcome.Outcome.TheVariants as outcome
 use Rattle.sync_words.specs.Outcomes.{status_of, text_of}
 use Rattle.outside.specs.Streams.{Stream, IsIdle, GetsFront, GetsText}
-use Rattle.tree_commands.specs.Trees.{tree_shown}
-use Rattle.audit_commands.specs.Audits.{HasAudited}
-use Rattle.sharing_commands.specs.declared.saying.Speech.{Speech}
-use Rattle.sharing_commands.specs.Agreeing.{HasAgreed}
-use Rattle.sharing_commands.specs.Sayings.{say_plan}
-use Rattle.mailbox_commands.specs.declared.sending.Sending.{Sending}
-use Rattle.mailbox_commands.specs.Sending.{HasSentMail}
-use Rattle.mailbox_commands.specs.Taking.{HasTakenMail}
+use Rattle.sync_top.specs.Duties.{UntouchedStreams, duty_of}
 use Rattle.sync_top.specs.RecordText.{items_text}
 use Rattle.commands.specs.Reading.{Asked}
 use Rattle.commands.specs.Reading.Asked.{Usage, Do}
@@ -60,22 +44,14 @@ outcome_of (ends.Bad place why) = outcome.Bad place why
 -- MAX_INPUT bytes and how the stream of these ends.
 abbrev pub InputComesTo : (input input' out out' : Stream) (read text : List ℕ) (end : Ending)
     → Outcome → Type 0
-InputComesTo input input' out out' read text end outcome.Done =
-    ReadsWhole input input' read × (outcome_of end ≡ outcome.Done)
-    × Appends out.bytes out'.bytes text
-InputComesTo input input' out out' read text end (outcome.Bad place why) =
-    ReadsWhole input input' read × (outcome_of end ≡ outcome.Bad place why)
-    × Appends out.bytes out'.bytes text
-InputComesTo input input' out out' read text end (outcome.Inside place) =
-    ReadsWhole input input' read × (outcome_of end ≡ outcome.Inside place)
-    × Appends out.bytes out'.bytes text
 InputComesTo input input' out out' read text end outcome.TooMuch =
     (length read ≡ MAX_INPUT + 1) × GetsText out out' text
 InputComesTo input input' out out' read text end outcome.ReadFault =
     CountRose input.faults input'.faults × (length read ≤ MAX_INPUT) × GetsText out out' text
 InputComesTo input input' out out' read text end outcome.WriteFault =
     CountRose out.faults out'.faults × ReadsWhole input input' read × GetsFront out out' text
-InputComesTo input input' out out' read text end _ = ⊥
+InputComesTo input input' out out' read text end came =
+    ReadsWhole input input' read × (outcome_of end ≡ came) × Appends out.bytes out'.bytes text
 
 -- a command read these bytes, and its text is what is told of the items of their first MAX_INPUT
 -- bytes
@@ -102,10 +78,6 @@ PrintEnds stop.TooMuch end text out out' outcome.TooMuch = GetsText out out' tex
 PrintEnds stop.TooMuch end text out out' _ = ⊥
 PrintEnds stop.ReadFault end text out out' outcome.ReadFault = GetsText out out' text
 PrintEnds stop.ReadFault end text out out' _ = ⊥
-
--- nothing was read or written
-abbrev pub UntouchedStreams : Stream → Stream → Stream → Stream → Type 0
-UntouchedStreams input input' out out' = IsIdle input input' × IsIdle out out'
 
 -- a played journal was finished, and its text written
 pub record PlayPrinted (play : Played) (why : Stop) (end : Ending) (out out' : Stream)
@@ -154,20 +126,6 @@ abbrev pub ComesOfStore : (Outcome → Type 0) → (old new : Outside)
 ComesOfStore did old new input input' out out' came =
     did came ⊎ ((came ≡ outcome.Memory) × DoesNothing old new input input' out out')
 
--- what the words of `say` say
-abbrev pub speech_of : (group : List ℕ) (timestamp : ℕ) (join : Bool) (name : List ℕ) (major : ℕ)
-    (descriptor : List ℕ) → Speech
-speech_of group timestamp join name major descriptor = record {
-  group = group;
-  timestamp = timestamp;
-  join = join;
-  def = record { name = name; major = major; descriptor = descriptor };
-}
-
--- what the words of `mailbox out` ask for
-abbrev pub sending_of : (contact latency count : ℕ) → Sending
-sending_of contact latency count = record { contact = contact; latency = latency; count = count }
-
 -- what the words ask for, and what it comes to
 abbrev pub WordsComeTo : Meaning → Asked → (old new : Outside) → (input input' out out' : Stream)
     → Outcome → Type 0
@@ -177,66 +135,9 @@ WordsComeTo clients (Do (command.Try name descriptor)) old new input input' out 
     TriesClient clients name descriptor (clients.kind_of name 0) input input' out out' came
 WordsComeTo clients (Do command.Records) old new input input' out out' came =
     Streams (λ items text. text ≡ items_text items) input input' out out' came
-WordsComeTo clients (Do command.Init) old new input input' out out' came =
-    ComesOfStore (λ did. HasBegun old new out out' did × IsIdle input input') old new input input'
+WordsComeTo clients (Do asked) old new input input' out out' came =
+    ComesOfStore ((duty_of clients asked).comes old new input input' out out') old new input input'
     out out' came
-WordsComeTo clients (Do command.Contact) old new input input' out out' came =
-    ComesOfStore (λ did. HasAdded clients contact_plan settling.Before old new out out' did
-    × IsIdle input input') old new input input' out out' came
-WordsComeTo clients (Do (command.Group name major descriptor)) old new input input' out out' came =
-    ComesOfStore (λ did.
-    HasAdded clients (λ f.
-    group_plan clients f (record { name = name; major = major; descriptor = descriptor }))
-    settling.Before old new out out' did × IsIdle input input') old new input input' out
-    out' came
-WordsComeTo clients (Do (command.Share contact group level)) old new input input' out out' came =
-    ComesOfStore (λ did.
-    HasAdded clients (λ f. level_plan f contact group level) settling.Before old new out out'
-    did × IsIdle input input') old new input input' out out' came
-WordsComeTo clients (Do (command.Post group timestamp)) old new input input' out out' came =
-    ComesOfStore (λ did. HasPosted clients group timestamp old new input input' out out' did) old
-    new input input' out out' came
-WordsComeTo clients (Do command.Show) old new input input' out out' came =
-    ComesOfStore (λ did. HasLooked clients (listing_shown listing.Store) old new out out' did
-    × IsIdle input input') old new input input' out out' came
-WordsComeTo clients (Do command.Inbox) old new input input' out out' came =
-    ComesOfStore (λ did. HasLooked clients (listing_shown listing.Inbox) old new out out' did
-    × IsIdle input input') old new input input' out out' came
-WordsComeTo clients (Do (command.Body id)) old new input input' out out' came =
-    ComesOfStore (λ did. HasLooked clients (body_shown id) old new out out' did
-    × IsIdle input input') old new input input' out out' came
-WordsComeTo clients (Do (command.Tree group from count)) old new input input' out out' came =
-    ComesOfStore (λ did. HasLooked clients
-    (tree_shown clients (record { group = group; from = from; count = count })) old new out out'
-    did × IsIdle input input') old new input input'
-    out out' came
-WordsComeTo clients (Do command.Audit) old new input input' out out' came =
-    ComesOfStore (λ did. HasAudited clients old new out out' did × IsIdle input input') old new
-    input
-    input' out out' came
-WordsComeTo clients (Do (command.Say group timestamp join name major descriptor)) old new input
-    input' out out' came =
-    ComesOfStore (λ did.
-    HasAdded clients (say_plan clients (speech_of group timestamp join name major descriptor))
-    settling.BeforeAndAfter old new out out' did × IsIdle input input') old new input input'
-    out out' came
-WordsComeTo clients (Do (command.Agree contact group)) old new input input' out out' came =
-    ComesOfStore (λ did. HasAgreed clients contact group old new out out' did
-    × IsIdle input input') old new input input' out out' came
-WordsComeTo clients (Do command.Compact) old new input input' out out' came =
-    ComesOfStore (λ did. HasCompacted clients old new out out' did × IsIdle input input') old new
-    input input' out out' came
-WordsComeTo clients (Do (command.MailboxIn contact)) old new input input' out out' came =
-    ComesOfStore (λ did. HasTakenMail clients contact old new input input' out out' did) old new
-    input input' out out' came
-WordsComeTo clients (Do (command.MailboxOut contact latency count)) old new input input' out out'
-    came =
-    ComesOfStore (λ did. HasSentMail clients (sending_of contact latency count) old new out out' did
-    × IsIdle input input')
-    old new input input' out out' came
-WordsComeTo clients (Do (command.Sync turns quiet links)) old new input input' out out' came =
-    ComesOfStore (λ did. HasRun clients (record { turns = turns; quiet = quiet }) links old new did
-    × UntouchedStreams input input' out out') old new input input' out out' came
 
 -- the words ask for a run of sessions
 abbrev pub AsksSync : Asked → Type 0

@@ -12,7 +12,7 @@ use Rattle.sync_words.specs.declared.status.Status.TheVariants as status
 use Rattle.outside.specs.Streams.{Stream}
 use Rattle.sync_top.specs.Run.{ReadsWhole}
 use Rattle.commands.specs.Reading.{Asked}
-use Rattle.commands.specs.Reading.Asked.{Usage, Do}
+use Rattle.commands.specs.Reading.Asked.{Do}
 use Rattle.commands.specs.declared.command.Command.TheVariants as command
 
 -- the input was read to its end, and the output got a text that says the state of each message

@@ -3,7 +3,9 @@ use Rattle.std.specs.Prelude.{ℕ, suc, Bool, true, false, List, [], ◌∷◌, 
 use Rattle.sync_course.specs.Closing.{Closing}
 use Rattle.sync_course.specs.declared.ends.LinkEnd.{LinkEnd}
 use Rattle.sync_course.specs.declared.ends.LinkEnd.TheVariants as end
-use Rattle.sync_words.specs.ErrorTexts.{bad_record_text, damaged_text, inside_text, link_text, no_version_text, plain_text, refused_text, script_text, usage_text}
+use Rattle.sync_words.specs.ErrorTexts.{bad_record_text, damaged_text, inside_text, link_text}
+use Rattle.sync_words.specs.ErrorTexts.{no_version_text, plain_text, refused_text, script_text}
+use Rattle.sync_words.specs.ErrorTexts.{usage_text}
 use Rattle.sync_words.specs.declared.outcome.Outcome.{Outcome}
 use Rattle.sync_words.specs.declared.outcome.Outcome.TheVariants as outcome
 use Rattle.sync_words.specs.declared.status.Status.{Status}
@@ -11,18 +13,16 @@ use Rattle.sync_words.specs.declared.status.Status.TheVariants as status
 
 -- ---- links
 
--- The status of a link that stood so at the end of a run: done where it ended well. One that is not closed ended well where the
--- run was over.
+-- The status of a link that stood so at the end of a run: done where it ended well. One that is not
+-- closed ended well where the run was over.
 abbrev pub link_status : (over : Bool) → LinkEnd → Status
 link_status true end.Going = status.Done
 link_status false end.Going = status.TurnsUsed
 link_status true end.Clean = status.Done
 link_status false end.Clean = status.TurnsUsed
 link_status over end.Redundant = status.Done
-link_status over (end.Inside place) = status.BadStream
-link_status over (end.Bad place why) = status.BadStream
-link_status over (end.NoVersion place) = status.BadStream
 link_status over end.Failed = status.LinkFault
+link_status over _ = status.BadStream
 
 -- the first status, but the other where that is done
 abbrev pub first_bad : Status → Status → Status
@@ -69,27 +69,19 @@ status_of outcome.WriteFault = status.WriteFault
 status_of outcome.TooMuch = status.TooMuch
 status_of (outcome.BadScript line) = status.BadScript
 
--- what the error output gets: a line, with its line feed; nothing where all was done, and a line for each link of a command
--- that has links
+-- what the error output gets: a line, with its line feed; nothing where all was done, and a line
+-- for each link of a command that has links
 abbrev pub text_of : Outcome → List ℕ
-text_of outcome.Done = []
 text_of (outcome.Usage place) = usage_text place
-text_of outcome.NoStore = plain_text status.NoStore
-text_of outcome.Exists = plain_text status.Exists
 text_of (outcome.Refused why) = refused_text why
 text_of (outcome.Damaged place) = damaged_text place.file place.at
-text_of outcome.DiskFault = plain_text status.DiskFault
 text_of (outcome.Links ends) = links_text ends
 text_of (outcome.LinkFailed link) = link_text link false end.Failed
-text_of outcome.ReadFault = plain_text status.ReadFault
 text_of (outcome.Bad place why) = bad_record_text place why
 text_of (outcome.Inside place) = inside_text place
 text_of (outcome.NoVersion place) = no_version_text place
-text_of outcome.Full = plain_text status.Full
-text_of outcome.Memory = plain_text status.Memory
-text_of outcome.WriteFault = plain_text status.WriteFault
-text_of outcome.TooMuch = plain_text status.TooMuch
 text_of (outcome.BadScript line) = script_text line
+text_of came = plain_text (status_of came)
 
 -- what a command came to that did all, or ended before with an outcome
 abbrev pub came_to : {V : Type 0} → Result V Outcome → Outcome

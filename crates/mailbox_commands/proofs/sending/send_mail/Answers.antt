@@ -1,5 +1,7 @@
-use Rattle.std.proofs.Common.{refl, sym, ◌∙◌, ◌≡◌, subst, Option}
-use Rattle.mailbox_commands.proofs.Early.{early_none, early_refused, tested_begins}
+use Rattle.std.proofs.Common.{refl, sym, ◌∙◌, inl}
+use Rattle.store_commands.proofs.Stopped.{stops_refused}
+use Rattle.mailbox_commands.specs.Errands.{mailbox_test}
+use Rattle.mailbox_commands.proofs.Early.{tested_begins}
 use Rattle.mailbox_commands.proofs.Sent.{ready_still, mailed_none, mailed_on, mailed_read}
 use Rattle.mailbox_commands.proofs.sending.send_mail.Goals as goal
 
@@ -7,22 +9,18 @@ pub returns-in_err-store : goal.returns-in_err-store
 returns-in_err-store g c =
     let clients = g.C.Clients.meaning c.args.clients.now in
     let came = c.in_err-store.field-0.0 in
+    let e = c.in_err-store.ensures in
     mailed_on clients c.args.asked _ _ _ _ c.from_residual.result came c.from_residual.ensures.1
-    (mailed_none clients c.args.asked _ _ _ _ came c.in_err-store.ensures.by
-    (early_none clients c.args.asked.contact _ _ _ _ came c.in_err-store.ensures.run
-    c.in_err-store.ensures.rests
-    c.in_err-store.ensures.by c.in_err-store.ensures.loaded (record {
-      same = refl;
-      same_faults = refl;
-    })))
+    (mailed_none clients c.args.asked _ _ _ _ came e.run e.rests e.by e.loaded
+    (record { same = refl; same_faults = refl }))
 
 pub returns-in-Some : goal.returns-in-Some
 returns-in-Some g c =
     let clients = g.C.Clients.meaning c.args.clients.now in
-    early_refused clients c.args.asked.contact _ _ _ _ c.in_ok-store.store c.in-Some.why
-    c.in_ok-store.ensures.run
-    c.in_ok-store.ensures.rests c.in_ok-store.ensures.loaded (sym c.refusal.ensures ∙ c.in-Some.is)
-    (record { same = refl; same_faults = refl })
+    let e = c.in_ok-store.ensures in
+    inl (stops_refused clients (λ f. mailbox_test f c.args.asked.contact) _ _ _ _ _ e.run
+    (record { same = refl; same_faults = refl }) c.in_ok-store.store e.rests e.loaded
+    c.in-Some.why (sym c.refusal.ensures ∙ c.in-Some.is) tt)
 
 pub send_loaded-requires : goal.send_loaded-requires
 send_loaded-requires g c =

@@ -1,6 +1,7 @@
-use Rattle.std.proofs.Common.{refl, sym, ◌∙◌}
-use Rattle.mailbox_commands.proofs.Early.{early_memory, early_none, early_read_fault, early_refused}
-use Rattle.mailbox_commands.proofs.Early.{early_too_much, tested_begins}
+use Rattle.std.proofs.Common.{refl, sym, ◌∙◌, inl}
+use Rattle.store_commands.proofs.Stopped.{stops_refused}
+use Rattle.mailbox_commands.specs.Errands.{mailbox_test}
+use Rattle.mailbox_commands.proofs.Early.{tested_begins}
 use Rattle.mailbox_commands.proofs.Taken.{taken_none, taken_on, taken_read, taken_unread}
 use Rattle.mailbox_commands.proofs.taking.take_mail.Goals as goal
 
@@ -8,44 +9,31 @@ pub returns-in_err-store : goal.returns-in_err-store
 returns-in_err-store g c =
     let clients = g.C.Clients.meaning c.args.clients.now in
     let came = c.in_err-store.field-0.0 in
+    let e = c.in_err-store.ensures in
     taken_on clients c.args.contact _ _ _ _ _ _ c.from_residual.result came
     c.from_residual.ensures.1
-    (taken_none clients c.args.contact _ _ _ _ _ _ came c.in_err-store.ensures.by
-    (early_none clients c.args.contact _ _ _ _ came c.in_err-store.ensures.run
-    c.in_err-store.ensures.rests
-    c.in_err-store.ensures.by c.in_err-store.ensures.loaded (record {
-      same = refl;
-      same_faults = refl;
-    }))
-    (record { same = refl; same_faults = refl }))
+    (taken_none clients c.args.contact _ _ _ _ _ _ came e.run e.rests e.by e.loaded
+    (record { same = refl; same_faults = refl }) (record { same = refl; same_faults = refl }))
 
 pub returns-in-Some : goal.returns-in-Some
 returns-in-Some g c =
-    let clients = g.C.Clients.meaning c.args.clients.now in (
-      early_refused clients c.args.contact _ _ _ _ c.in_ok-store.store c.in-Some.why
-          c.in_ok-store.ensures.run
-          c.in_ok-store.ensures.rests c.in_ok-store.ensures.loaded (sym c.refusal.ensures
-          ∙ c.in-Some.is)
-          (record { same = refl; same_faults = refl }),
-      record { same = refl; same_faults = refl },
-    )
+    let clients = g.C.Clients.meaning c.args.clients.now in
+    let e = c.in_ok-store.ensures in
+    inl (stops_refused clients (λ f. mailbox_test f c.args.contact) _ _ _ _ _ e.run
+    (record { same = refl; same_faults = refl }) c.in_ok-store.store e.rests e.loaded
+    c.in-Some.why (sym c.refusal.ensures ∙ c.in-Some.is)
+    (record { same = refl; same_faults = refl }))
 
 pub returns-in_err-bytes : goal.returns-in_err-bytes
 returns-in_err-bytes g c =
     let clients = g.C.Clients.meaning c.args.clients.now in
     let came = c.in_err-bytes.field-0.0 in
     let e = c.in_ok-store.ensures in
-    let tested = sym c.refusal.ensures ∙ c.in_default.is in
     taken_on clients c.args.contact _ _ _ _ _ _ c.from_residual-in_err-bytes.result came
     c.from_residual-in_err-bytes.ensures.1
     (taken_unread clients c.args.contact _ _ _ _ _ _ came c.in_err-bytes.ensures
-    (early_read_fault clients c.args.contact _ _ _ _ c.in_ok-store.store e.run e.rests e.loaded
-    tested
+    c.in_ok-store.store e.run e.rests e.loaded (sym c.refusal.ensures ∙ c.in_default.is)
     (record { same = refl; same_faults = refl }))
-    (early_too_much clients c.args.contact _ _ _ _ c.in_ok-store.store e.run e.rests e.loaded tested
-    (record { same = refl; same_faults = refl }))
-    (early_memory clients c.args.contact _ _ _ _ c.in_ok-store.store e.run e.rests e.loaded tested
-    (record { same = refl; same_faults = refl })))
 
 pub take_loaded-requires : goal.take_loaded-requires
 take_loaded-requires g c = record {
