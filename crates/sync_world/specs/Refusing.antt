@@ -9,13 +9,12 @@ use Rattle.sync_node.specs.Node.{NodeValue}
 use Rattle.world_devices.specs.Devices.{DeviceValue}
 use Rattle.world_devices.specs.Refusals.{by_facts, facts_of, refuses_group, refuses_link}
 use Rattle.world_devices.specs.Refusals.{refuses_message}
-use Rattle.world_links.specs.declared.moves.Move.TheVariants as move
 use Rattle.world_scripts.specs.Labels.{KindAndDescriptor}
 use Rattle.world_scripts.specs.declared.step.WorldStep.{WorldStep}
 use Rattle.world_scripts.specs.declared.step.WorldStep.TheVariants as step
 use Rattle.world_scripts.specs.declared.step.TheConstants.{MAX_ROUNDS}
 use Rattle.sync_world.specs.declared.stage.Stage.{Stage}
-use Rattle.sync_world.specs.Moving.{link_cut, link_moved}
+use Rattle.sync_world.specs.Moving.{link_after}
 use Rattle.sync_world.specs.Naming.{group_of}
 use Rattle.sync_world.specs.Posting.{message_of}
 
@@ -75,12 +74,8 @@ refuses (step.Link d e mode latency) w =
     || (not (has_room (slice_get w.devices.items d))
     || not (has_room (slice_get w.devices.items e))))
 refuses (step.Turn d) w = is_none (slice_get w.devices.items d)
-refuses (step.Carry link d) w = is_none (link_moved move.Carry d (slice_get w.links.items link))
-refuses (step.Lose link d) w = is_none (link_moved move.Lose d (slice_get w.links.items link))
-refuses (step.Repeat link d) w = is_none (link_moved move.Repeat d (slice_get w.links.items link))
-refuses (step.Swap link d) w = is_none (link_moved move.Swap d (slice_get w.links.items link))
-refuses (step.Cut link) w = is_none (link_cut (slice_get w.links.items link))
 refuses (step.Clock at) w = false
 refuses (step.Stop d calls pick) w = is_none (slice_get w.devices.items d)
 refuses (step.Restart d) w = is_none (slice_get w.devices.items d)
 refuses (step.Rest rounds) w = (rounds == 0) || nat_lt MAX_ROUNDS rounds
+refuses made w = is_none (link_after made w.links.items).1

@@ -1,4 +1,4 @@
-use Rattle.std.proofs.Common.{ℕ, List, Err, ◌≡◌, ◌∙◌, false, ap, sym, slice_get, subst}
+use Rattle.std.proofs.Common.{ℕ, List, None, Err, ◌≡◌, ◌∙◌, false, ap, sym, slice_get, subst}
 use Rattle.world_devices.specs.declared.stop.Ran.{Ran}
 use Rattle.sync_world.proofs.GoLaws.{same_leads}
 use Rattle.sync_world.proofs.RestLaws.{goes_then, passed_on}
@@ -9,10 +9,10 @@ use Rattle.world_laws.specs.Worlds.{contact_for}
 use Rattle.sync_world.specs.Refusing.{refuses_to_attach}
 use Rattle.sync_world.proofs.RefusingLaws.{attach_allowed, err_passes, far_allowed, link_open}
 use Rattle.sync_world.proofs.RefusingLaws.{never}
-use Rattle.sync_world.specs.Doing.{FillsJournal, ground_of}
+use Rattle.sync_world.specs.Doing.{ground_of}
 use Rattle.world_scripts.specs.declared.step.WorldStep.TheVariants as step
-use Rattle.sync_world.proofs.TurningLaws.{both_linked, does_handed, far_full, memory_only}
-use Rattle.sync_world.proofs.TurningLaws.{near_crashed, near_full, plan_is}
+use Rattle.sync_world.proofs.DoingLaws.{does_handed, memory_only}
+use Rattle.sync_world.proofs.TurningLaws.{both_linked, far_full, near_crashed, near_full, plan_is}
 use Rattle.sync_world.proofs.stage.Stage.link.Goals as goal
 
 pub returns-then-d-e-clause-goes : goal.returns-then-d-e-clause-goes
@@ -149,8 +149,7 @@ returns-in_err-link-clause-does c =
     let made = step.Link c.args.d c.args.e c.args.mode c.args.latency in
     does_handed made c.from_residual.result c.in_err-link.field-0.0 c.args.self.now _
     c.from_residual.ensures.1
-    (memory_only (FillsJournal made c.args.self.now) c.in_err-link.field-0.0
-    c.in_err-link.ensures.dials) tt
+    (memory_only _ c.in_err-link.field-0.0 c.in_err-link.ensures.dials) tt
 
 pub returns-in_err-attach-clause-does : goal.returns-in_err-attach-clause-does
 returns-in_err-attach-clause-does c =
@@ -163,19 +162,21 @@ returns-in_err-attach-clause-does c =
     (plan_is c.plan_for-near.result c.args.d c.args.e c.args.mode c.args.latency
     c.plan_for-near.ensures.contact c.plan_for-near.ensures.mode
     c.plan_for-near.ensures.latency) c.nonce_for.ensures.value
-    c.in_err-attach.field-0.0 c.in_err-attach.ensures.attaches) tt
+    c.in_err-attach.field-0.0 (ground_of c.attach.new.self) c.in_err-attach.ensures.attaches) tt
 
 pub returns-in-Crashed-clause-does : goal.returns-in-Crashed-clause-does
 returns-in-Crashed-clause-does c = record {
-  does =
-      near_crashed c.args.d c.args.e c.args.mode c.args.latency (ground_of c.args.self.now)
-      (ground_of c.dial.new.self) c.in_ok-link.link c.plan_for-near.result c.nonce_for.result
-      c.in_ok-link.ensures.dials
-      (plan_is c.plan_for-near.result c.args.d c.args.e c.args.mode c.args.latency
-      c.plan_for-near.ensures.contact c.plan_for-near.ensures.mode
-      c.plan_for-near.ensures.latency) c.nonce_for.ensures.value
-      c.in_ok-attach.field-0 (ground_of c.attach.new.self) c.in-Crashed.is
-      c.in_ok-attach.ensures.attaches;
+  does = (
+    None,
+    near_crashed c.args.d c.args.e c.args.mode c.args.latency (ground_of c.args.self.now)
+          (ground_of c.dial.new.self) c.in_ok-link.link c.plan_for-near.result c.nonce_for.result
+          c.in_ok-link.ensures.dials
+          (plan_is c.plan_for-near.result c.args.d c.args.e c.args.mode c.args.latency
+          c.plan_for-near.ensures.contact c.plan_for-near.ensures.mode
+          c.plan_for-near.ensures.latency) c.nonce_for.ensures.value
+          c.in_ok-attach.field-0 (ground_of c.attach.new.self) c.in-Crashed.is
+          c.in_ok-attach.ensures.attaches,
+  );
   groups = c.in_ok-attach.ensures.groups ∙ c.in_ok-link.ensures.groups;
   posts = c.in_ok-attach.ensures.posts ∙ c.in_ok-link.ensures.posts;
 }
@@ -195,23 +196,24 @@ returns-in_err-attach-2-clause-does c =
     c.in_ok-attach.ensures.attaches
     (plan_is c.plan_for-far.result c.args.e c.args.d c.args.mode c.args.latency
     c.plan_for-far.ensures.contact c.plan_for-far.ensures.mode c.plan_for-far.ensures.latency)
-    c.in_err-attach-2.field-0.0 c.in_err-attach-2.ensures.attaches) tt
+    c.in_err-attach-2.field-0.0 (ground_of c.attach-2.new.self)
+    c.in_err-attach-2.ensures.attaches) tt
 
 pub returns-clause-does : goal.returns-clause-does
 returns-clause-does c = record {
   does =
       both_linked c.args.d c.args.e c.args.mode c.args.latency (ground_of c.args.self.now)
-      (ground_of c.dial.new.self) c.in_ok-link.link c.plan_for-near.result c.nonce_for.result
-      c.in_ok-link.ensures.dials
-      (plan_is c.plan_for-near.result c.args.d c.args.e c.args.mode c.args.latency
-      c.plan_for-near.ensures.contact c.plan_for-near.ensures.mode
-      c.plan_for-near.ensures.latency) c.nonce_for.ensures.value
-      c.in_ok-attach.field-0 c.in_ok-attach-2.field-0 (ground_of c.attach.new.self)
-      (ground_of c.attach-2.new.self) c.plan_for-far.result c.in-Done.is
-      c.in_ok-attach.ensures.attaches
-      (plan_is c.plan_for-far.result c.args.e c.args.d c.args.mode c.args.latency
-      c.plan_for-far.ensures.contact c.plan_for-far.ensures.mode c.plan_for-far.ensures.latency)
-      c.in_ok-attach-2.ensures.attaches;
+          (ground_of c.dial.new.self) c.in_ok-link.link c.plan_for-near.result c.nonce_for.result
+          c.in_ok-link.ensures.dials
+          (plan_is c.plan_for-near.result c.args.d c.args.e c.args.mode c.args.latency
+          c.plan_for-near.ensures.contact c.plan_for-near.ensures.mode
+          c.plan_for-near.ensures.latency) c.nonce_for.ensures.value
+          c.in_ok-attach.field-0 (ground_of c.attach.new.self) c.plan_for-far.result c.in-Done.is
+          c.in_ok-attach.ensures.attaches
+          (plan_is c.plan_for-far.result c.args.e c.args.d c.args.mode c.args.latency
+          c.plan_for-far.ensures.contact c.plan_for-far.ensures.mode c.plan_for-far.ensures.latency)
+          c.in_ok-attach-2.field-0 (ground_of c.attach-2.new.self)
+          c.in_ok-attach-2.ensures.attaches;
   groups =
       c.in_ok-attach-2.ensures.groups
       ∙ (c.in_ok-attach.ensures.groups ∙ c.in_ok-link.ensures.groups);
