@@ -87,7 +87,7 @@ module _ (devices : ℕ) (course left : ScriptCourse) (now : Player)
   pub came_bad : (line : ℕ) → left ≡ bad_at line → CourseComesTo devices course
       (Err (outcome.BadScript line))
   came_bad line is =
-      let all = all_done (Some line) is in inr (record { bad = all.0; to = now; done = all.1 })
+      let all = all_done (Some line) is in inr (all.0, (now, all.1))
 
   stops_at : (line : ℕ) (it : Action) (left' : ScriptCourse) (next : Player) (why : StepFault)
       → left ≡ behind line it left' → AnswersAction it now next (Err why)
@@ -110,7 +110,7 @@ module _ (devices : ℕ) (course left : ScriptCourse) (now : Player)
       inl (stops_at at it left' next fault.Refused
       (subst (λ (n : ℕ). left ≡ behind n it left') (sym acts.0) is) acts.1)
   stopped line it left' next outcome.Full is acts =
-      record { line = line; stops = stops_at line it left' next fault.Full is acts }
+      (line, stops_at line it left' next fault.Full is acts)
   stopped line it left' next outcome.Memory is acts = tt
   stopped line it left' next _ is acts = absurd acts
 

@@ -66,25 +66,16 @@ pub record StopsAtLine (devices : ℕ) (actions : List (ℕ × Action)) (line : 
   pub done : Done devices before between
   pub stops : AnswersAction it between after (Err why)
 
--- a step answers that a journal is full
-pub record PlayingStopsFull (devices : ℕ) (actions : List (ℕ × Action)) : Type 0 where
-  pub line : ℕ
-  pub stops : StopsAtLine devices actions line fault.Full
-
--- all actions before the first line that is bad by itself were made
-pub record ComesToBad (devices : ℕ) (course : ScriptCourse) (line : ℕ) : Type 0 where
-  pub bad : course.bad ≡ Some line
-  pub to : Player
-  pub done : Done devices course.actions to
-
 -- What a course comes to in a new world of so many devices: all of it is done; or the first line is
 -- named that is bad by itself or refused, where no step before it answered that a journal is full;
 -- or such a step stands before. Memory may be wanting.
 abbrev pub CourseComesTo : (devices : ℕ) → ScriptCourse → Result Player Outcome → Type 0
 CourseComesTo devices course (Ok to) = (course.bad ≡ None) × Done devices course.actions to
 CourseComesTo devices course (Err (outcome.BadScript line)) =
-    StopsAtLine devices course.actions line fault.Refused ⊎ ComesToBad devices course line
-CourseComesTo devices course (Err outcome.Full) = PlayingStopsFull devices course.actions
+    StopsAtLine devices course.actions line fault.Refused
+    ⊎ ((course.bad ≡ Some line) × ((to : Player) × Done devices course.actions to))
+CourseComesTo devices course (Err outcome.Full) =
+    (line : ℕ) × StopsAtLine devices course.actions line fault.Full
 CourseComesTo devices course (Err outcome.Memory) = Unit {0}
 CourseComesTo devices course (Err _) = ⊥
 
