@@ -4,7 +4,7 @@ use Rattle.std.proofs.Common.{◌≡◌, ℕ, zero, suc, ◌<◌, ◌≤◌, Lis
 use Rattle.std.proofs.Common.{drop, append-nil, arith, refl, sym, ap, ◌∙◌, subst, inl, inr, Option}
 use Rattle.std.proofs.Common.{Some, None, Result, Ok, Err}
 use Rattle.std.specs.Prelude.{slice_index_or, slice_set}
-use Rattle.std.specs.Option.{option_map}
+use Rattle.std.specs.Option.{option_map, option_to_list}
 use Rattle.sync_ids.specs.Values.{GroupValue, MessageValue}
 use Rattle.sync_ids.specs.Ids.{group_id_of, message_id_of}
 use Rattle.sync_rules.specs.declared.entries.Entry.{Entry}
@@ -19,7 +19,7 @@ use Rattle.world_devices.specs.declared.stop.StepFault.TheVariants as fault
 use Rattle.world_links.specs.declared.link.Link.{Link}
 use Rattle.world_scripts.specs.declared.step.WorldStep.{WorldStep}
 use Rattle.sync_world.specs.Doing.{AddsBy, AddsEntry, DeviceDoes, DoesBy, Ground, LinkBecomes}
-use Rattle.sync_world.specs.Doing.{MakesStep, ground_of, with_post}
+use Rattle.sync_world.specs.Doing.{MakesStep, ground_of}
 use Rattle.sync_world.specs.Moving.{MakesOfLink}
 use Rattle.sync_world.specs.Naming.{IsMade}
 use Rattle.sync_world.specs.Parts.{WhenFull}
@@ -192,10 +192,10 @@ made_level o def contact contact' id level made contact_is id_is =
 -- the posts with this one
 pub made_post : (o : Option MessageValue) (m : MessageValue) (posts posts' : List (List ℕ))
     (id : List ℕ) → IsMade o (Ok m) → id ≡ message_id_of m → posts' ≡ posts ++ id ∷ []
-    → posts' ≡ with_post o posts
+    → posts' ≡ posts ++ option_to_list (option_map message_id_of o)
 made_post o m posts posts' id made id_is is =
     is ∙ (ap (λ (i : List ℕ). posts ++ i ∷ []) id_is
-    ∙ ap (λ x. with_post x posts) (sym (made_some o m made)))
+    ∙ ap (λ x. posts ++ option_to_list (option_map message_id_of x)) (sym (made_some o m made)))
 
 -- ---- all devices
 

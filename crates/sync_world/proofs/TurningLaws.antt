@@ -24,7 +24,8 @@ use Rattle.world_links.specs.declared.link.Link.{Link}
 use Rattle.world_links.specs.declared.moves.Side.{Side}
 use Rattle.world_links.specs.declared.moves.Side.TheVariants as side
 use Rattle.sync_world.specs.Doing.{Attaches, Ground, LinksBehind, LinksTwo, PlansEndBy, PlansEndOn}
-use Rattle.sync_world.specs.Doing.{PlansLinkOn, PlansLinksOn, PlansSideOn, Turns, TurnsOnce, begun_on}
+use Rattle.sync_world.specs.Doing.{PlansLinkOn, PlansLinksOn, PlansSideOn, Turns, TurnsOnce}
+use Rattle.sync_world.specs.Doing.{begun_on}
 use Rattle.sync_world.specs.Doing.{dialled, is_asked_at, plan_of, with_answer}
 use Rattle.sync_world.specs.Naming.{nonce_of}
 use Rattle.sync_world.specs.Parts.{AttachesBy, DialsBy, TurnsBy, WhenFull}
@@ -240,7 +241,8 @@ module _ (d : ℕ) (devices devices' : List DeviceValue) (links planned_from hea
       → TurnsOnce d (Ok came) (record { devices = devices; links = links })
       (record { devices = devices'; links = links' })
   turn_made o came same did behind =
-      turns (Ok came) (subst (λ (x : Option Bool). DeviceMakesTurn (Ok x) planned is) same did) behind
+      turns (Ok came) (subst (λ (x : Option Bool). DeviceMakesTurn (Ok x) planned is) same did)
+      behind
 
   pub turn_fault : (e : StepFault) → DeviceMakesTurn (Err e) planned is → links' ≡ heard
       → WhenFull e

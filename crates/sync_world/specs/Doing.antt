@@ -3,7 +3,7 @@ use Rattle.std.specs.Prelude.{◌≡◌, ◌⊎◌, ℕ, zero, suc, ◌+◌, ◌
 use Rattle.std.specs.Prelude.{◌∷◌, ◌++◌, map, length, Option, Some, None, Result, Ok, Err}
 use Rattle.std.specs.Prelude.{slice_get, slice_set}
 use Rattle.std.specs.List.{list_any}
-use Rattle.std.specs.Option.{option_map}
+use Rattle.std.specs.Option.{option_map, option_to_list}
 use Rattle.sync_ids.specs.Values.{GroupValue, MessageValue}
 use Rattle.sync_ids.specs.Ids.{group_id_of, message_id_of}
 use Rattle.sync_rules.specs.declared.entries.Entry.{Entry}
@@ -53,7 +53,8 @@ Act A = Result (Option A) StepFault → Ground → Ground → Type 0
 abbrev pub Stays : {A : Type 0} → A → Act A
 Stays a came old new = (came ≡ Ok (Some a)) × (new ≡ old)
 
--- one is done and then another one, which is not where the first is broken off by a crash or a fault
+-- one is done and then another one, which is not where the first is broken off by a crash or a
+-- fault
 abbrev pub Then : {A : Type 0} → Act A → (A → Act A) → Act A
 Then {A} First Second came old new =
     ((between : Ground) × (a : A) × First (Ok (Some a)) old between × Second a came between new)
@@ -69,7 +70,8 @@ pub record DeviceDoes (d : ℕ) (Did : DeviceValue → DeviceValue → List Link
   pub devices : new.devices ≡ slice_set old.devices d is
 
 -- The links behind a call of a device that goes over them: what it sent is in flight, and is the
--- output of its sessions, by the journal that its files hold; one that crashed has its links no more.
+-- output of its sessions, by the journal that its files hold; one that crashed has its links no
+-- more.
 abbrev pub LinksBehind : {A : Type 0} → ℕ → DeviceValue → Result (Option A) StepFault → List Link
     → List Link → Type 0
 LinksBehind d is (Ok (Some a)) old new = DeviceLinksStand is × (new ≡ map (look_link d is) old)
@@ -266,15 +268,11 @@ abbrev pub groups_after : WorldStep → List KindAndDescriptor → List KindAndD
 groups_after (step.Group d kind descriptor) groups = labelled (kind, descriptor) groups
 groups_after _ groups = groups
 
--- the posts with this one
-abbrev pub with_post : Option MessageValue → List (List ℕ) → List (List ℕ)
-with_post None posts = posts
-with_post (Some m) posts = posts ++ message_id_of m ∷ []
-
 -- the ids of the posts after a step: a post has the next label, also where its device crashed in it
 abbrev pub posts_after : WorldStep → List KindAndDescriptor → List (List ℕ) → List (List ℕ)
 posts_after (step.Post d group time parents text) groups posts =
-    with_post (message_of groups posts group time parents text) posts
+    posts ++ option_to_list
+    (option_map message_id_of (message_of groups posts group time parents text))
 posts_after _ groups posts = posts
 
 -- a step was made
@@ -285,7 +283,8 @@ pub record WasDone (made : WorldStep) (old new : Stage) : Type 0 where
 
 -- What a step does that answers so: it was made as the rules of worlds have it; or a device in it
 -- would have passed the limit of its journal; after a refusal all is as before (`IsSame`); want of
--- memory is free, but at most the entry of a step is added then, and a move or a cut changes nothing.
+-- memory is free, but at most the entry of a step is added then, and a move or a cut changes
+-- nothing.
 abbrev pub DoesBy : WorldStep → Result (Unit {0}) StepFault → Stage → Stage → Type 0
 DoesBy made (Ok _) old new = WasDone made old new
 DoesBy made (Err fault.Refused) old new = Unit {0}

@@ -65,5 +65,4 @@ link_after _ links = (0, None)
 abbrev pub fault_after : Result (Unit {0}) StepFault → Option StepFault
 fault_after (Ok _) = None
 fault_after (Err fault.Refused) = None
-fault_after (Err fault.Full) = Some fault.Full
-fault_after (Err fault.Memory) = Some fault.Memory
+fault_after (Err f) = Some f

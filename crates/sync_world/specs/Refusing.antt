@@ -1,6 +1,6 @@
 -- Where the rules of worlds refuse a step.
 use Rattle.std.specs.Prelude.{◌≡◌, ℕ, ◌+◌, ◌≤◌, ◌==◌, ◌||◌, not, Bool, true, false, nat_lt, is_none}
-use Rattle.std.specs.Prelude.{List, length, Option, Some, None, slice_get}
+use Rattle.std.specs.Prelude.{List, length, Option, Some, None, option_and_then, slice_get}
 use Rattle.outside.specs.declared.limits.TheConstants.{LINKS}
 use Rattle.sync_ids.specs.Values.{GroupValue}
 use Rattle.sync_ids.specs.Ids.{group_id_of}
@@ -31,8 +31,7 @@ lacks def d = by_facts (λ f. is_none (group_at f.groups (group_id_of def))) (fa
 
 -- the group of a label that is there
 abbrev pub group_labelled : Option KindAndDescriptor → Option GroupValue
-group_labelled None = None
-group_labelled (Some group) = group_of group.0 group.1
+group_labelled group = option_and_then (λ g. group_of g.0 g.1) group
 
 -- a device that is there, and may have a further link
 abbrev pub has_room : Option DeviceValue → Bool

@@ -8,7 +8,8 @@ use Rattle.std.specs.Str.Parse.{digits_value}
 use Rattle.sync_words.specs.Words.{is_number, number_in}
 use Rattle.world_scripts.specs.Cuts.{front_of, behind}
 use Rattle.world_scripts.specs.Forms.{LineLeft, and_then, at_least, beside, device_in, devices_in}
-use Rattle.world_scripts.specs.Forms.{form_in, line_in, number_between, over, said_in, says, show_in}
+use Rattle.world_scripts.specs.Forms.{form_in, line_in, number_between, over, said_in, says}
+use Rattle.world_scripts.specs.Forms.{show_in}
 use Rattle.world_scripts.specs.Forms.{step_forms, word_in}
 use Rattle.world_scripts.specs.declared.step.Action.TheVariants as action
 use Rattle.world_scripts.specs.declared.step.Line.{Line}
@@ -74,7 +75,8 @@ ended read made x (Some text) e = ended_by read made x (front_of 32 text) (read 
 
 -- ---- a line that says how many devices there are
 
-devices_within : (left : LineLeft) (n : ℕ) → devices_in left ≡ Some (line.Devices n) → IsBetween 2 8 n
+devices_within : (left : LineLeft) (n : ℕ) → devices_in left ≡ Some (line.Devices n)
+    → IsBetween 2 8 n
 devices_within left n e =
     let at = ended (number_between 2 8) line.Devices (line.Devices n) left e in
     let same : at.1.0 ≡ n = let both : line.Devices at.1.0 ≡ line.Devices n = at.1.1.1 in cc in

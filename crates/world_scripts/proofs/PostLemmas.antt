@@ -2,7 +2,8 @@
 use Rattle.std.proofs.Common.{◌≡◌, ℕ, List, codes, refl, ◌∙◌, ap, Option, Some, None, option_map}
 use Rattle.world_scripts.specs.Answers.{post_with}
 use Rattle.world_scripts.specs.Forms.{LineLeft, and_then, beside, form_in}
-use Rattle.world_scripts.specs.Forms.{labels_in, over, post_front, says, step_forms, text_in, word_in}
+use Rattle.world_scripts.specs.Forms.{labels_in, over, post_front, says, step_forms, text_in}
+use Rattle.world_scripts.specs.Forms.{word_in}
 use Rattle.world_scripts.specs.declared.step.WorldStep.{WorldStep}
 use Rattle.world_scripts.proofs.WordLemmas.{read_word, no_word}
 
@@ -17,7 +18,8 @@ behind_front front =
     (and_then front (λ made left. and_then (word_in labels_in left) (λ parents left.
     says (made parents) left))) (λ made left. beside (option_map made (text_in left)) None)) over
 
-post_is : (left : LineLeft) → form_in step_forms (codes "post") left ≡ behind_front (post_front left)
+post_is : (left : LineLeft) → form_in step_forms (codes "post") left ≡ behind_front
+    (post_front left)
 unfolding step_forms
 post_is left = refl
 

@@ -7,12 +7,14 @@ use Rattle.world_scripts.specs.declared.fault.LineFault.TheVariants as fault
 use Rattle.world_scripts.specs.declared.step.WorldStep.{WorldStep}
 
 -- a value and what is left behind it, or nothing
-abbrev pub ReadsValue : {V : Type 0} → (LineLeft → Option (V × LineLeft)) → LineLeft → Option V → LineLeft → Type 0
+abbrev pub ReadsValue : {V : Type 0} → (LineLeft → Option (V × LineLeft)) → LineLeft → Option V
+    → LineLeft → Type 0
 ReadsValue p old (Some value) new = p old ≡ Some (value, new)
 ReadsValue p old None new = p old ≡ None
 
 -- the same of a text that is lent
-abbrev pub ReadsLineText : (LineLeft → Option (List ℕ × LineLeft)) → LineLeft → Option (Bor (List ℕ)) → LineLeft
+abbrev pub ReadsLineText : (LineLeft → Option (List ℕ × LineLeft)) → LineLeft
+    → Option (Bor (List ℕ)) → LineLeft
     → Type 0
 ReadsLineText p old (Some text) new = p old ≡ Some (text.now, new)
 ReadsLineText p old None new = p old ≡ None

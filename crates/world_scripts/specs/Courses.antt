@@ -25,8 +25,7 @@ bad_at number = record { actions = []; bad = Some number }
 abbrev pub after_line : Option Line → ℕ → ScriptCourse → ScriptCourse
 after_line (Some (line.Does action)) number course =
     record { actions = (number, action) ∷ course.actions; bad = course.bad }
-after_line (Some (line.Devices n)) number course = bad_at number
-after_line None number course = bad_at number
+after_line _ number course = bad_at number
 
 abbrev pub is_empty : List ℕ → Bool
 is_empty line = length line == 0
@@ -47,8 +46,7 @@ pub data Opening : Type 0 where
 -- a first line that says this stands before a course
 abbrev pub opening_by : Option Line → ℕ → ScriptCourse → Opening
 opening_by (Some (line.Devices n)) number course = Opens n course
-opening_by (Some (line.Does action)) number course = Bad number
-opening_by None number course = Bad number
+opening_by _ number course = Bad number
 
 -- the first line that is not empty says how many devices there are; where there is none, line 1 is
 -- bad

@@ -19,7 +19,6 @@ use Rattle.world_scripts.specs.declared.step.WorldStep.{WorldStep}
 use Rattle.world_scripts.specs.declared.step.WorldStep.TheVariants as step
 
 infixl 30 ◌▸◌
-
 -- ---- how words follow one another
 
 -- what is left of a line behind the space that follows a word; nothing where that word was the last
@@ -61,7 +60,8 @@ text_in (Some (b ∷ text)) = Some (b ∷ text)
 
 -- a form, and then the text
 abbrev pub before_text : {W : Type 0} → Form (List ℕ → W) → Form W
-before_text form left = and_then (form left) (λ made left. beside (option_map made (text_in left)) None)
+before_text form left =
+    and_then (form left) (λ made left. beside (option_map made (text_in left)) None)
 
 -- no word is left
 abbrev pub over : {W : Type 0} → W → LineLeft → Option W
@@ -152,7 +152,11 @@ link_forms =
 unfoldable pub device_forms : Forms
 device_forms =
     (codes "share", says step.Share ▸ device_in ▸ device_in ▸ count_in ▸ level_in)
-    ∷ (codes "link", says step.Link ▸ device_in ▸ device_in ▸ mode_in ▸ number_between 1 MAX_LATENCY)
+    ∷ (
+      codes "link",
+      says step.Link ▸ device_in ▸ device_in ▸ mode_in ▸ number_between 1
+          MAX_LATENCY,
+    )
     ∷ (codes "stop", says step.Stop ▸ device_in ▸ count_in ▸ pick_in)
     ∷ (codes "turn", says step.Turn ▸ device_in)
     ∷ (codes "restart", says step.Restart ▸ device_in) ∷ link_forms

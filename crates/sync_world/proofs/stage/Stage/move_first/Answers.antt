@@ -9,7 +9,8 @@ use Rattle.sync_world.proofs.stage.Stage.move_first.Goals as goal
 pub returns-clause-becomes : goal.returns-clause-becomes
 returns-clause-becomes c =
     let within : c.args.link < length c.args.self.now.links.items = omega arith in
-    link_becomes (link_moved c.args.how c.args.d (slice_get c.args.self.now.links.items c.args.link))
+    link_becomes (link_moved c.args.how c.args.d
+    (slice_get c.args.self.now.links.items c.args.link))
     c.args.link c.args.self.now.devices.items _ c.args.self.now.links.items _ c.move_on.result refl
     (becomes_at (link_moved c.args.how c.args.d) c.args.link c.args.self.now.links.items
     c.index_mut.result.now c.move_on.new.link c.move_on.result within c.index_mut.ensures.value

@@ -1,4 +1,5 @@
-use Rattle.std.proofs.Common.{◌∙◌, ◌≡◌, ◌<◌, Bool, Option, None, Some, Ok, Err, arith, true, false, refl}
+use Rattle.std.proofs.Common.{◌∙◌, ◌≡◌, ◌<◌, Bool, Option, None, Some, Ok, Err, arith, true, false}
+use Rattle.std.proofs.Common.{refl}
 use Rattle.world_scripts.specs.declared.step.TheConstants.{MAX_DEVICES}
 use Rattle.world_devices.specs.declared.stop.StepFault.TheVariants as fault
 use Rattle.sync_world.specs.Doing.{MakesRound, TurnsLinked, ground_of}
