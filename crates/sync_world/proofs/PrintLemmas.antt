@@ -41,8 +41,10 @@ unplayed what (outcome.BadScript line) out comes = (comes, idle out)
 -- a world that was played to its end is printed
 pub played : (what : Opening) (to : Player) (came : Outcome) (out out' : Stream) → ScriptComes what
     (Ok to) → PrintsWorld to out out' came → PlaysOut what out out' came
-played what to outcome.Done out out' comes prints = (to, comes, prints)
-played what to outcome.WriteFault out out' comes prints = (to, comes, prints)
+played what to outcome.Done out out' comes prints =
+    record { to = to; played = comes; printed = prints }
+played what to outcome.WriteFault out out' comes prints =
+    record { to = to; played = comes; printed = prints }
 played what to outcome.Memory out out' comes prints = prints
 played what to _ out out' comes prints = absurd prints
 

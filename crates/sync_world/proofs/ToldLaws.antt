@@ -3,13 +3,10 @@ use Rattle.std.proofs.Common.{◌≡◌, ℕ, zero, suc, ◌+◌, ◌<◌, Bool,
 use Rattle.std.proofs.Common.{subst, inl, inr, arith, Option, Some, None}
 use Rattle.std.proofs.lemmas.Bool.{cases_eq}
 use Rattle.std.specs.Prelude.{slice_get}
-use Rattle.std.specs.Io.KnownBytes.{Appends}
-use Rattle.outside.specs.Faults.{CountRose}
 use Rattle.outside.specs.Files.{Two, File, read_files}
 use Rattle.outside.specs.HostTold.{host_told}
 use Rattle.outside.specs.MemDisk.{disk_files, files_of}
 use Rattle.outside.specs.MemHost.{MemHostValue}
-use Rattle.outside.specs.Streams.{GetsFront, Stream}
 use Rattle.client_basic.specs.Bodies.{bundle_meaning}
 use Rattle.entry_codec.specs.Standing.{Standing, journal, stands}
 use Rattle.sync_rules.specs.Facts.{Facts, facts}
@@ -137,7 +134,7 @@ runs_below shown devices (suc number) text is d below =
 -- ---- what is printed
 
 -- what was written of the text that the devices make is so of that of their journals
-prints_text : (p : Player) (Written : List ℕ → Type 0) (text given : List ℕ)
+pub prints_text : (p : Player) (Written : List ℕ → Type 0) (text given : List ℕ)
     → IsManyDevices p.world.devices.items → player_lines p ≡ Some text → given ≡ text
     → Written given → PrintsText p Written
 prints_text p Written text given are run same written = record {
@@ -149,16 +146,3 @@ prints_text p Written text given are run same written = record {
       ∙ told_lines p.shown are.journals p.world.devices.items are.many.told p.devices text run)
       written;
 }
-
-pub prints_all : (p : Player) (text given : List ℕ) (out out' : Stream)
-    → IsManyDevices p.world.devices.items → player_lines p ≡ Some text → given ≡ text
-    → Appends out.bytes out'.bytes given → PrintsText p (Appends out.bytes out'.bytes)
-prints_all p text given out out' are run same appended =
-    prints_text p (Appends out.bytes out'.bytes) text given are run same appended
-
-pub prints_front : (p : Player) (text given : List ℕ) (out out' : Stream)
-    → IsManyDevices p.world.devices.items → player_lines p ≡ Some text → given ≡ text
-    → CountRose out.faults out'.faults → GetsFront out out' given
-    → CountRose out.faults out'.faults × PrintsText p (GetsFront out out')
-prints_front p text given out out' are run same rose got =
-    (rose, prints_text p (GetsFront out out') text given are run same got)

@@ -38,9 +38,10 @@ PrintsWorld p out out' outcome.Memory = IsIdle out out'
 PrintsWorld p out out' _ = ⊥
 
 -- a world was played to its end and printed
-abbrev pub WorldPrinted : Opening → (out out' : Stream) → Outcome → Type 0
-WorldPrinted what out out' came =
-    (to : Player) × ScriptComes what (Ok to) × PrintsWorld to out out' came
+pub record WorldPrinted (what : Opening) (out out' : Stream) (came : Outcome) : Type 0 where
+  pub to : Player
+  pub played : ScriptComes what (Ok to)
+  pub printed : PrintsWorld to out out' came
 
 -- A world was played, and printed where it was played to its end; in each other case nothing was
 -- written.
@@ -52,8 +53,14 @@ PlaysOut what out out' came = ScriptComes what (Err came) × IsIdle out out'
 
 -- ---- a script
 
--- The whole input was read, which is the script, and it was played; or more bytes were read than a
--- script may have; or a read failed, behind no more bytes than that.
+-- the whole input was read, which is the script, and it was played
+pub record PlaysScript (input input' out out' : Stream) (came : Outcome) : Type 0 where
+  pub script : List ℕ
+  pub read : ReadsAll MAX_SCRIPT input.bytes input'.bytes script
+  pub plays : PlaysOut (said script) out out' came
+
+-- What the reading of a script comes to, and then its playing: more bytes were read than a script
+-- may have, or a read failed, behind no more bytes than that.
 abbrev pub OfScript : (input input' out out' : Stream) → Outcome → Type 0
 OfScript input input' out out' outcome.TooMuch =
     ((front : List ℕ) × ReadsTooMuch MAX_SCRIPT input.bytes input'.bytes front) × IsIdle out out'
@@ -61,9 +68,7 @@ OfScript input input' out out' outcome.ReadFault =
     ((front : List ℕ) × ReadsPart MAX_SCRIPT input.bytes input'.bytes front)
     × CountRose input.faults input'.faults × IsIdle out out'
 OfScript input input' out out' outcome.Memory = IsIdle out out'
-OfScript input input' out out' came =
-    (script : List ℕ) × ReadsAll MAX_SCRIPT input.bytes input'.bytes script
-    × PlaysOut (said script) out out' came
+OfScript input input' out out' came = PlaysScript input input' out out' came
 
 -- ---- all words
 

@@ -127,8 +127,12 @@ unfoldable pub labels_in : List ℕ → Option (List ℕ)
 labels_in word =
     if bytes_eq word (codes "-") then Some [] else each_label (slice_split is_comma word)
 
+abbrev pub latency_in : List ℕ → Option ℕ
+latency_in word = number_between 1 MAX_LATENCY word
+
 -- ---- the forms by their first words
 
+-- forms of steps, each behind the first word of its lines
 abbrev pub Forms : Type 0
 Forms = List (List ℕ × Form WorldStep)
 
@@ -152,11 +156,7 @@ link_forms =
 unfoldable pub device_forms : Forms
 device_forms =
     (codes "share", says step.Share ▸ device_in ▸ device_in ▸ count_in ▸ level_in)
-    ∷ (
-      codes "link",
-      says step.Link ▸ device_in ▸ device_in ▸ mode_in ▸ number_between 1
-          MAX_LATENCY,
-    )
+    ∷ (codes "link", says step.Link ▸ device_in ▸ device_in ▸ mode_in ▸ latency_in)
     ∷ (codes "stop", says step.Stop ▸ device_in ▸ count_in ▸ pick_in)
     ∷ (codes "turn", says step.Turn ▸ device_in)
     ∷ (codes "restart", says step.Restart ▸ device_in) ∷ link_forms

@@ -1,5 +1,5 @@
 use Rattle.std.proofs.Common.{◌<◌, false, length, map, arith, ap, subst, sym, Err, ◌∙◌, rules}
-use Rattle.std.proofs.Common.{slice_get}
+use Rattle.std.proofs.Common.{slice_get, refl}
 use Rattle.std.specs.Prelude.{slice_set}
 use Rattle.world_devices.specs.declared.stop.StepFault.TheVariants as fault
 use Rattle.sync_world.specs.Staging.{HasFreshEnd, attached_at}

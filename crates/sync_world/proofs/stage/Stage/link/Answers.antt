@@ -169,13 +169,13 @@ returns-in-Crashed-clause-does c = record {
   does = (
     None,
     near_crashed c.args.d c.args.e c.args.mode c.args.latency (ground_of c.args.self.now)
-          (ground_of c.dial.new.self) c.in_ok-link.link c.plan_for-near.result c.nonce_for.result
-          c.in_ok-link.ensures.dials
-          (plan_is c.plan_for-near.result c.args.d c.args.e c.args.mode c.args.latency
-          c.plan_for-near.ensures.contact c.plan_for-near.ensures.mode
-          c.plan_for-near.ensures.latency) c.nonce_for.ensures.value
-          c.in_ok-attach.field-0 (ground_of c.attach.new.self) c.in-Crashed.is
-          c.in_ok-attach.ensures.attaches,
+        (ground_of c.dial.new.self) c.in_ok-link.link c.plan_for-near.result c.nonce_for.result
+        c.in_ok-link.ensures.dials
+        (plan_is c.plan_for-near.result c.args.d c.args.e c.args.mode c.args.latency
+        c.plan_for-near.ensures.contact c.plan_for-near.ensures.mode
+        c.plan_for-near.ensures.latency) c.nonce_for.ensures.value
+        c.in_ok-attach.field-0 (ground_of c.attach.new.self) c.in-Crashed.is
+        c.in_ok-attach.ensures.attaches,
   );
   groups = c.in_ok-attach.ensures.groups ∙ c.in_ok-link.ensures.groups;
   posts = c.in_ok-attach.ensures.posts ∙ c.in_ok-link.ensures.posts;
@@ -203,17 +203,17 @@ pub returns-clause-does : goal.returns-clause-does
 returns-clause-does c = record {
   does =
       both_linked c.args.d c.args.e c.args.mode c.args.latency (ground_of c.args.self.now)
-          (ground_of c.dial.new.self) c.in_ok-link.link c.plan_for-near.result c.nonce_for.result
-          c.in_ok-link.ensures.dials
-          (plan_is c.plan_for-near.result c.args.d c.args.e c.args.mode c.args.latency
-          c.plan_for-near.ensures.contact c.plan_for-near.ensures.mode
-          c.plan_for-near.ensures.latency) c.nonce_for.ensures.value
-          c.in_ok-attach.field-0 (ground_of c.attach.new.self) c.plan_for-far.result c.in-Done.is
-          c.in_ok-attach.ensures.attaches
-          (plan_is c.plan_for-far.result c.args.e c.args.d c.args.mode c.args.latency
-          c.plan_for-far.ensures.contact c.plan_for-far.ensures.mode c.plan_for-far.ensures.latency)
-          c.in_ok-attach-2.field-0 (ground_of c.attach-2.new.self)
-          c.in_ok-attach-2.ensures.attaches;
+      (ground_of c.dial.new.self) c.in_ok-link.link c.plan_for-near.result c.nonce_for.result
+      c.in_ok-link.ensures.dials
+      (plan_is c.plan_for-near.result c.args.d c.args.e c.args.mode c.args.latency
+      c.plan_for-near.ensures.contact c.plan_for-near.ensures.mode
+      c.plan_for-near.ensures.latency) c.nonce_for.ensures.value
+      c.in_ok-attach.field-0 (ground_of c.attach.new.self) c.plan_for-far.result c.in-Done.is
+      c.in_ok-attach.ensures.attaches
+      (plan_is c.plan_for-far.result c.args.e c.args.d c.args.mode c.args.latency
+      c.plan_for-far.ensures.contact c.plan_for-far.ensures.mode c.plan_for-far.ensures.latency)
+      c.in_ok-attach-2.field-0 (ground_of c.attach-2.new.self)
+      c.in_ok-attach-2.ensures.attaches;
   groups =
       c.in_ok-attach-2.ensures.groups
       ∙ (c.in_ok-attach.ensures.groups ∙ c.in_ok-link.ensures.groups);
