@@ -9,9 +9,9 @@ use Rattle.sync_world.specs.Playing.{CourseComesTo, ActsAt, came_at, came_unread
 use Rattle.sync_world.specs.declared.player.Player.{Player}
 use Rattle.world_devices.specs.declared.stop.StepFault.{StepFault}
 use Rattle.world_devices.specs.declared.stop.StepFault.TheVariants as fault
-use Rattle.world_scripts.specs.Courses.{ScriptCourse, over, bad_at}
+use Rattle.world_scripts.specs.Courses.{ScriptCourse}
 use Rattle.world_scripts.specs.Generator.{IsNextStep}
-use Rattle.world_scripts.specs.Scripts.{ReadsNextAction}
+use Rattle.world_scripts.specs.Scripts.{ReadsNextAction, bad_at, over}
 use Rattle.world_scripts.specs.declared.fault.ScriptFault.{ScriptFault}
 use Rattle.world_scripts.specs.declared.fault.ScriptFault.TheVariants as unread
 use Rattle.world_scripts.specs.declared.step.Action.{Action}
@@ -39,7 +39,7 @@ does_one_more from to next (y ∷ made) x done acts =
     (done.0, done.1, does_one_more done.0 to next made x done.2 acts)
 
 same_devices : (it : Action) (p q : Player) → AnswersAction it p q (Ok tt) → q.devices ≡ p.devices
-same_devices (action.Step made) p q acts = acts.same_devices
+same_devices (action.Step made) p q acts = ap (λ (r : Player). r.devices) acts.1
 same_devices (action.Show device) p q acts = ap (λ (r : Player). r.devices) acts.1
 
 pub began : (devices : ℕ) (course : ScriptCourse) (first : Player) → IsFirst devices first

@@ -24,11 +24,9 @@ pub record IsFirst (count : ℕ) (p : Player) : Type 0 where
   pub unshown : p.shown ≡ replicate 8 false
 
 -- a step is made of the world, and nothing else changes
-pub record StepsWorld (made : WorldStep) (old new : Player)
-    (result : Result (Unit {0}) StepFault) : Type 0 where
-  pub stepped : HasStepped made old.world new.world result
-  pub same_devices : new.devices ≡ old.devices
-  pub same_shown : new.shown ≡ old.shown
+abbrev pub StepsWorld : WorldStep → (old new : Player) → Result (Unit {0}) StepFault → Type 0
+StepsWorld made old new result =
+    HasStepped made old.world new.world result × (new ≡ record old { world = new.world })
 
 -- a device is marked; it is refused exactly where there is no device of this number
 abbrev pub MarksDevice : ℕ → Player → Player → Result (Unit {0}) StepFault → Type 0

@@ -4,7 +4,7 @@ use Rattle.std.proofs.Common.{sym, ◌∙◌, ap, subst, Option, Some, None}
 use Rattle.std.specs.Bool.{then_some}
 use Rattle.world_scripts.specs.Cuts.{front_of, behind}
 use Rattle.world_scripts.specs.Answers.{ReadsValue}
-use Rattle.world_scripts.specs.Forms.{LineLeft, beside, word_in, descriptor_in}
+use Rattle.world_scripts.specs.Forms.{LineLeft, beside, word_in, some_bytes}
 
 pub either : (test : Bool) (n : ℕ) → then_some test n ≡ cond test (Some n) None
 either true n = refl
@@ -48,12 +48,12 @@ module _ {V : Type 0} (read : List ℕ → Option V) where
 
 pub no_descriptor : (left : LineLeft) (word : List ℕ) (after : LineLeft)
     → word_in Some left ≡ Some (word, after) → length word ≡ 0
-    → word_in descriptor_in left ≡ None
-no_descriptor left [] after is none = read_word descriptor_in left [] after is
+    → word_in some_bytes left ≡ None
+no_descriptor left [] after is none = read_word some_bytes left [] after is
 no_descriptor left (b ∷ word) after is none = absurd (omega arith)
 
 pub some_descriptor : (left : LineLeft) (word : List ℕ) (after : LineLeft)
     → word_in Some left ≡ Some (word, after) → ¬ (length word ≡ 0)
-    → word_in descriptor_in left ≡ Some (word, after)
+    → word_in some_bytes left ≡ Some (word, after)
 some_descriptor left [] after is some = absurd (some refl)
-some_descriptor left (b ∷ word) after is some = read_word descriptor_in left (b ∷ word) after is
+some_descriptor left (b ∷ word) after is some = read_word some_bytes left (b ∷ word) after is

@@ -52,11 +52,14 @@ abbrev pub ◌▸◌ : {V W : Type 0} → Form (V → W) → (List ℕ → Optio
     and_then (form left) (λ made left. and_then (word_in read left) (λ value left.
     says (made value) left))
 
--- all that is left is the text, which has at least one byte
+-- what is not empty
+abbrev pub some_bytes : List ℕ → Option (List ℕ)
+some_bytes [] = None
+some_bytes (b ∷ bytes) = Some (b ∷ bytes)
+
+-- all that is left is the text, which is not empty
 abbrev pub text_in : LineLeft → Option (List ℕ)
-text_in None = None
-text_in (Some []) = None
-text_in (Some (b ∷ text)) = Some (b ∷ text)
+text_in left = option_and_then some_bytes left
 
 -- a form, and then the text
 abbrev pub before_text : {W : Type 0} → Form (List ℕ → W) → Form W
@@ -104,11 +107,6 @@ pick_in =
     ((codes "old", pick.Old) ∷ (codes "new", pick.New) ∷ (codes "zero", pick.Zero)
     ∷ (codes "ones", pick.Ones) ∷ [])
 
--- a descriptor is one word, and no word is empty
-abbrev pub descriptor_in : List ℕ → Option (List ℕ)
-descriptor_in [] = None
-descriptor_in (b ∷ word) = Some (b ∷ word)
-
 abbrev pub cons_in : Option ℕ → Option (List ℕ) → Option (List ℕ)
 cons_in None labels = None
 cons_in (Some label) None = None
@@ -119,13 +117,10 @@ unfoldable pub each_label : List (List ℕ) → Option (List ℕ)
 each_label [] = Some []
 each_label (part ∷ parts) = cons_in (number_in (2 ^ 64 - 1) part) (each_label parts)
 
-abbrev pub is_comma : ℕ → Bool
-is_comma b = b == 44
-
 -- no labels, written as a hyphen, or labels with one comma between two
 unfoldable pub labels_in : List ℕ → Option (List ℕ)
 labels_in word =
-    if bytes_eq word (codes "-") then Some [] else each_label (slice_split is_comma word)
+    if bytes_eq word (codes "-") then Some [] else each_label (slice_split (λ b. b == 44) word)
 
 abbrev pub latency_in : List ℕ → Option ℕ
 latency_in word = number_between 1 MAX_LATENCY word
@@ -167,7 +162,7 @@ post_front = says step.Post ▸ device_in ▸ count_in ▸ number_between 0 MAX_
 
 unfoldable pub step_forms : Forms
 step_forms =
-    (codes "group", says step.Group ▸ device_in ▸ kind_in ▸ descriptor_in)
+    (codes "group", says step.Group ▸ device_in ▸ kind_in ▸ some_bytes)
     ∷ (codes "post", before_text (post_front ▸ labels_in)) ∷ device_forms
 
 -- what is left of a line whose first word this is, by these forms

@@ -1,9 +1,9 @@
 // The forms of the steps: what follows the first word of a line.
-ghost use Rattle.std.specs.Prelude.{◌≡◌, MatchOption, codes};
+ghost use Rattle.std.specs.Prelude.{◌≡◌, ◌==◌, MatchOption, codes};
 ghost use Rattle.std.specs.List.{slice_split};
 ghost use Rattle.std.specs.Option.{option_copied};
 ghost use Rattle.world_scripts.specs.Answers.{IsValueRead, ReadsValue, post_with};
-ghost use Rattle.world_scripts.specs.Forms.{device_forms, each_label, end_in, form_in, is_comma};
+ghost use Rattle.world_scripts.specs.Forms.{device_forms, each_label, end_in, form_in};
 ghost use Rattle.world_scripts.specs.Forms.{labels_in, link_forms, post_front, step_forms};
 ghost use Rattle.world_scripts.specs.Forms.{world_forms};
 
@@ -58,7 +58,7 @@ fn read_labels(alloc: Global, word: &str) -> Result<Labels, LineFault>
 
 // Labels with one comma between two.
 fn read_each(alloc: Global, word: &str) -> Result<Labels, LineFault>
-    ensures { IsValueRead (each_label (slice_split is_comma word.now)) result }
+    ensures { IsValueRead (each_label (slice_split (λ b. b == 44) word.now)) result }
 {
     let mut labels = Vec::new(alloc);
     let mut left = Some(word);
