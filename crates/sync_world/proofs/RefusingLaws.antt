@@ -4,6 +4,7 @@ use Rattle.std.proofs.Common.{◌≡◌, ◌≢◌, ℕ, zero, suc, ◌+◌, ◌
 use Rattle.std.proofs.Common.{List, [], ◌∷◌, length, refl, sym, ap, ◌∙◌, subst, arith, Option, Some}
 use Rattle.std.proofs.Common.{None, Result, Ok, Err}
 use Rattle.std.specs.Prelude.{slice_get, slice_index_or, slice_set}
+use Rattle.world_devices.specs.declared.stop.Ran.{Ran}
 use Rattle.world_devices.specs.declared.stop.StepFault.{StepFault}
 use Rattle.world_devices.specs.declared.stop.StepFault.TheVariants as fault
 use Rattle.std.specs.Prelude.{IsErrOf, ◌==◌, not, is_none, is_some, nat_le, nat_lt, if◌then◌else◌}
@@ -278,10 +279,17 @@ err_passes A B e (Ok x) is by = absurd is
 err_passes A B e (Err x) is by =
     subst (λ (y : StepFault). RefusedBy {A = B} false (Err y)) (sym is) (same_unrefused A B e by)
 
--- the far device of a link, too, is asked to attach and may
-pub far_allowed : (ds ds' : List DeviceValue) (d e : ℕ) → KnowContacts ds → d ≢ e → d < length ds
-    → e < length ds → has_room (slice_get ds e) ≡ true → slice_get ds' e ≡ slice_get ds e
-    → refuses_to_attach (contact_for e d) (slice_get ds' e) ≡ false
-far_allowed ds ds' d e known other first second room same =
-    ap (λ (o : Option DeviceValue). refuses_to_attach (contact_for e d) o) same
-    ∙ attach_allowed ds e d known (λ is. other (sym is)) second first room
+-- a device of a link may attach, so its fault, which is handed on, is no refusal
+pub attach_passes : (ds ds' : List DeviceValue) (d e contact : ℕ) (f : StepFault)
+    (r : Result (Unit {0}) StepFault) → KnowContacts ds → d ≢ e → d < length ds → e < length ds
+    → has_room (slice_get ds d) ≡ true → contact ≡ contact_for d e
+    → slice_get ds' d ≡ slice_get ds d
+    → RefusedBy {A = Ran} (refuses_to_attach contact (slice_get ds' d)) (Err f)
+    → IsErrAnd r (λ x. x ≡ f) → RefusedBy false r
+attach_passes ds ds' d e contact f r known other first second room is same by faulty =
+    let allowed : refuses_to_attach contact (slice_get ds' d) ≡ false =
+    ap (λ (k : ℕ). refuses_to_attach k (slice_get ds' d)) is
+    ∙ (ap (λ (o : Option DeviceValue). refuses_to_attach (contact_for d e) o) same
+    ∙ attach_allowed ds d e known other first second room) in
+    err_passes Ran (Unit {0}) f r faulty
+    (subst (λ (b : Bool). RefusedBy {A = Ran} b (Err f)) allowed by)

@@ -18,7 +18,7 @@ use Rattle.sync_world.specs.Shown.{arrived}
 use Rattle.sync_world.specs.Turning.{is_moving}
 use Rattle.sync_world.specs.declared.stage.Round.{Round}
 use Rattle.sync_world.specs.declared.stage.Round.TheVariants as round
-use Rattle.sync_world.proofs.DoingLaws.{handed, when_full}
+use Rattle.sync_world.proofs.DoingLaws.{handed, same_ground, when_full}
 
 -- ---- a device that has had a link, or not
 
@@ -91,9 +91,6 @@ so_ends came d still start now next broken below so turned =
 
 -- ---- a round
 
-abbrev ground : List DeviceValue → List Link → Ground
-ground devices links = record { devices = devices; links = links }
-
 pub round_made : (d : ℕ) (start now new : Ground) (still some quiet : Bool) → d ≡ MAX_DEVICES
     → TurnsSo d still start now → new.devices ≡ now.devices → new.links ≡ map arrived now.links
     → some ≡ list_any is_moving now.links → quiet ≡ (still && not some)
@@ -105,8 +102,7 @@ round_made d start now new still some quiet all so devices links is made =
       so_all d still start now all so,
       (
         ap (λ (b : Bool). Ok (Some b)) (made ∙ ap (λ (b : Bool). still && not b) is),
-        ap (λ (ds : List DeviceValue). ground ds new.links) devices
-            ∙ ap (λ (ls : List Link). ground now.devices ls) links,
+        same_ground now.devices new.devices (map arrived now.links) new.links devices links,
       ),
     )
 

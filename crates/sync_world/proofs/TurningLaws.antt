@@ -31,7 +31,7 @@ use Rattle.sync_world.specs.Naming.{nonce_of}
 use Rattle.sync_world.specs.Parts.{AttachesBy, DialsBy, TurnsBy, WhenFull}
 use Rattle.sync_world.specs.Staging.{begun_with, new_link}
 use Rattle.sync_world.specs.Turning.{look_link}
-use Rattle.sync_world.proofs.DoingLaws.{device_does, handed, when_full}
+use Rattle.sync_world.proofs.DoingLaws.{device_does, ground, handed, same_ground, when_full}
 
 -- ---- an end
 
@@ -264,18 +264,14 @@ plan_is p d e mode latency contact same late =
     ∙ (ap (λ (m : Mode). plan_with (contact_for d e) m p.latency) same
     ∙ ap (λ (k : ℕ). plan_with (contact_for d e) mode k) late)
 
-abbrev ground : List DeviceValue → List Link → Ground
-ground devices links = record { devices = devices; links = links }
-
 pub dials_on : (d e n : ℕ) (old : Ground) (devices : List DeviceValue) (links : List Link)
     (l : Link) → devices ≡ old.devices → links ≡ old.links ++ l ∷ [] → l ≡ new_link d e
     → n ≡ length old.links
     → DialsBy d e (Ok n) old (ground devices links)
 dials_on d e n old devices links l same pushed made number = (
   number,
-  ap (λ (ds : List DeviceValue). ground ds links) same
-      ∙ ap (λ (ls : List Link). ground old.devices ls) (pushed
-      ∙ ap (λ (x : Link). old.links ++ x ∷ []) made),
+  same_ground old.devices devices (old.links ++ new_link d e ∷ []) links same
+      (pushed ∙ ap (λ (x : Link). old.links ++ x ∷ []) made),
 )
 
 pub dials_handed : (d e : ℕ) (r : Result ℕ StepFault) (old new : Ground) → IsErrAnd r

@@ -7,7 +7,7 @@ use Rattle.world_devices.specs.Devices.{DeviceValue}
 use Rattle.world_devices.specs.Refusals.{RefusedBy}
 use Rattle.world_laws.specs.Worlds.{contact_for}
 use Rattle.sync_world.specs.Refusing.{refuses_to_attach}
-use Rattle.sync_world.proofs.RefusingLaws.{attach_allowed, err_passes, far_allowed, link_open}
+use Rattle.sync_world.proofs.RefusingLaws.{attach_passes, link_open}
 use Rattle.sync_world.proofs.RefusingLaws.{never}
 use Rattle.sync_world.specs.Doing.{ground_of}
 use Rattle.world_scripts.specs.declared.step.WorldStep.TheVariants as step
@@ -58,90 +58,62 @@ returns-clause-goes c =
 
 pub returns-in_err-attach-clause-refused : goal.returns-in_err-attach-clause-refused
 returns-in_err-attach-clause-refused c = λ known.
-    let ds = c.args.self.now.devices.items in
     let near = sym c.has_room.ensures.exact ∙ c.if-not-has_room.false in
     let far = sym c.has_room-else-not-has_room.ensures.exact ∙ c.if-not-has_room-2.false in
-    let first = c.has_room.ensures.within c.if-not-has_room.false in
-    let second = c.has_room-else-not-has_room.ensures.within c.if-not-has_room-2.false in
-    let allowed : refuses_to_attach c.plan_for-near.result.contact
-    (slice_get c.dial.new.self.devices.items c.args.d) ≡ false =
-    ap (λ (k : ℕ). refuses_to_attach k (slice_get c.dial.new.self.devices.items c.args.d))
-    c.plan_for-near.ensures.contact
-    ∙ (ap (λ (l : List DeviceValue).
-    refuses_to_attach (contact_for c.args.d c.args.e) (slice_get l c.args.d))
-    c.in_ok-link.ensures.devices
-    ∙ attach_allowed ds c.args.d c.args.e known c.if-d-e.false first second near) in
-    let by = subst (λ b. RefusedBy {A = Ran} b (Err c.in_err-attach.field-0.0)) allowed
-    c.in_err-attach.ensures.refused in
-    let passes = err_passes Ran _ c.in_err-attach.field-0.0 c.from_residual-in_err-attach.result
-    c.from_residual-in_err-attach.ensures.1 by in
     subst (λ b. RefusedBy b c.from_residual-in_err-attach.result)
     (sym (link_open c.args.d c.args.e c.args.latency _ _ c.if-d-e.false c.if-latency-eq0.false
-    near far)) passes
+    near far))
+    (attach_passes c.args.self.now.devices.items c.dial.new.self.devices.items c.args.d
+    c.args.e c.plan_for-near.result.contact c.in_err-attach.field-0.0
+    c.from_residual-in_err-attach.result known c.if-d-e.false
+    (c.has_room.ensures.within c.if-not-has_room.false)
+    (c.has_room-else-not-has_room.ensures.within c.if-not-has_room-2.false)
+    (sym c.has_room.ensures.exact ∙ c.if-not-has_room.false) c.plan_for-near.ensures.contact
+    (ap (λ (l : List DeviceValue). slice_get l c.args.d) c.in_ok-link.ensures.devices)
+    c.in_err-attach.ensures.refused c.from_residual-in_err-attach.ensures.1)
 
 pub returns-in_err-attach-clause-same : goal.returns-in_err-attach-clause-same
 returns-in_err-attach-clause-same c = λ known is.
-    let ds = c.args.self.now.devices.items in
-    let near = sym c.has_room.ensures.exact ∙ c.if-not-has_room.false in
-    let far = sym c.has_room-else-not-has_room.ensures.exact ∙ c.if-not-has_room-2.false in
-    let first = c.has_room.ensures.within c.if-not-has_room.false in
-    let second = c.has_room-else-not-has_room.ensures.within c.if-not-has_room-2.false in
-    let allowed : refuses_to_attach c.plan_for-near.result.contact
-    (slice_get c.dial.new.self.devices.items c.args.d) ≡ false =
-    ap (λ (k : ℕ). refuses_to_attach k (slice_get c.dial.new.self.devices.items c.args.d))
-    c.plan_for-near.ensures.contact
-    ∙ (ap (λ (l : List DeviceValue).
-    refuses_to_attach (contact_for c.args.d c.args.e) (slice_get l c.args.d))
-    c.in_ok-link.ensures.devices
-    ∙ attach_allowed ds c.args.d c.args.e known c.if-d-e.false first second near) in
-    let by = subst (λ b. RefusedBy {A = Ran} b (Err c.in_err-attach.field-0.0)) allowed
-    c.in_err-attach.ensures.refused in
-    let passes = err_passes Ran _ c.in_err-attach.field-0.0 c.from_residual-in_err-attach.result
-    c.from_residual-in_err-attach.ensures.1 by in
+    let passes = attach_passes c.args.self.now.devices.items c.dial.new.self.devices.items c.args.d
+    c.args.e c.plan_for-near.result.contact c.in_err-attach.field-0.0
+    c.from_residual-in_err-attach.result known c.if-d-e.false
+    (c.has_room.ensures.within c.if-not-has_room.false)
+    (c.has_room-else-not-has_room.ensures.within c.if-not-has_room-2.false)
+    (sym c.has_room.ensures.exact ∙ c.if-not-has_room.false) c.plan_for-near.ensures.contact
+    (ap (λ (l : List DeviceValue). slice_get l c.args.d) c.in_ok-link.ensures.devices)
+    c.in_err-attach.ensures.refused c.from_residual-in_err-attach.ensures.1 in
     absurd (never c.from_residual-in_err-attach.result passes is)
 
 pub returns-in_err-attach-2-clause-refused : goal.returns-in_err-attach-2-clause-refused
 returns-in_err-attach-2-clause-refused c = λ known.
-    let ds = c.args.self.now.devices.items in
     let near = sym c.has_room.ensures.exact ∙ c.if-not-has_room.false in
     let far = sym c.has_room-else-not-has_room.ensures.exact ∙ c.if-not-has_room-2.false in
-    let first = c.has_room.ensures.within c.if-not-has_room.false in
-    let second = c.has_room-else-not-has_room.ensures.within c.if-not-has_room-2.false in
-    let there = c.in_ok-attach.ensures.others c.args.e (λ same. c.if-d-e.false (sym same))
-    ∙ ap (λ (l : List DeviceValue). slice_get l c.args.e) c.in_ok-link.ensures.devices in
-    let allowed : refuses_to_attach c.plan_for-far.result.contact
-    (slice_get c.attach.new.self.devices.items c.args.e) ≡ false =
-    ap (λ (k : ℕ). refuses_to_attach k (slice_get c.attach.new.self.devices.items c.args.e))
-    c.plan_for-far.ensures.contact
-    ∙ far_allowed ds c.attach.new.self.devices.items c.args.d c.args.e known c.if-d-e.false first
-    second far there in
-    let by = subst (λ b. RefusedBy {A = Ran} b (Err c.in_err-attach-2.field-0.0)) allowed
-    c.in_err-attach-2.ensures.refused in
-    let passes = err_passes Ran _ c.in_err-attach-2.field-0.0 c.from_residual-in_err-attach-2.result
-    c.from_residual-in_err-attach-2.ensures.1 by in
     subst (λ b. RefusedBy b c.from_residual-in_err-attach-2.result)
     (sym (link_open c.args.d c.args.e c.args.latency _ _ c.if-d-e.false c.if-latency-eq0.false
-    near far)) passes
+    near far))
+    (attach_passes c.args.self.now.devices.items c.attach.new.self.devices.items c.args.e
+    c.args.d c.plan_for-far.result.contact c.in_err-attach-2.field-0.0
+    c.from_residual-in_err-attach-2.result known (λ same. c.if-d-e.false (sym same))
+    (c.has_room-else-not-has_room.ensures.within c.if-not-has_room-2.false)
+    (c.has_room.ensures.within c.if-not-has_room.false)
+    (sym c.has_room-else-not-has_room.ensures.exact ∙ c.if-not-has_room-2.false)
+    c.plan_for-far.ensures.contact
+    (c.in_ok-attach.ensures.others c.args.e (λ same. c.if-d-e.false (sym same))
+    ∙ ap (λ (l : List DeviceValue). slice_get l c.args.e) c.in_ok-link.ensures.devices)
+    c.in_err-attach-2.ensures.refused c.from_residual-in_err-attach-2.ensures.1)
 
 pub returns-in_err-attach-2-clause-same : goal.returns-in_err-attach-2-clause-same
 returns-in_err-attach-2-clause-same c = λ known is.
-    let ds = c.args.self.now.devices.items in
-    let near = sym c.has_room.ensures.exact ∙ c.if-not-has_room.false in
-    let far = sym c.has_room-else-not-has_room.ensures.exact ∙ c.if-not-has_room-2.false in
-    let first = c.has_room.ensures.within c.if-not-has_room.false in
-    let second = c.has_room-else-not-has_room.ensures.within c.if-not-has_room-2.false in
-    let there = c.in_ok-attach.ensures.others c.args.e (λ same. c.if-d-e.false (sym same))
-    ∙ ap (λ (l : List DeviceValue). slice_get l c.args.e) c.in_ok-link.ensures.devices in
-    let allowed : refuses_to_attach c.plan_for-far.result.contact
-    (slice_get c.attach.new.self.devices.items c.args.e) ≡ false =
-    ap (λ (k : ℕ). refuses_to_attach k (slice_get c.attach.new.self.devices.items c.args.e))
+    let passes = attach_passes c.args.self.now.devices.items c.attach.new.self.devices.items c.args.e
+    c.args.d c.plan_for-far.result.contact c.in_err-attach-2.field-0.0
+    c.from_residual-in_err-attach-2.result known (λ same. c.if-d-e.false (sym same))
+    (c.has_room-else-not-has_room.ensures.within c.if-not-has_room-2.false)
+    (c.has_room.ensures.within c.if-not-has_room.false)
+    (sym c.has_room-else-not-has_room.ensures.exact ∙ c.if-not-has_room-2.false)
     c.plan_for-far.ensures.contact
-    ∙ far_allowed ds c.attach.new.self.devices.items c.args.d c.args.e known c.if-d-e.false first
-    second far there in
-    let by = subst (λ b. RefusedBy {A = Ran} b (Err c.in_err-attach-2.field-0.0)) allowed
-    c.in_err-attach-2.ensures.refused in
-    let passes = err_passes Ran _ c.in_err-attach-2.field-0.0 c.from_residual-in_err-attach-2.result
-    c.from_residual-in_err-attach-2.ensures.1 by in
+    (c.in_ok-attach.ensures.others c.args.e (λ same. c.if-d-e.false (sym same))
+    ∙ ap (λ (l : List DeviceValue). slice_get l c.args.e) c.in_ok-link.ensures.devices)
+    c.in_err-attach-2.ensures.refused c.from_residual-in_err-attach-2.ensures.1 in
     absurd (never c.from_residual-in_err-attach-2.result passes is)
 
 pub returns-in_err-link-clause-does : goal.returns-in_err-link-clause-does
