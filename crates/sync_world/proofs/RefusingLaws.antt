@@ -43,31 +43,12 @@ set_same [] i x y is same = refl
 set_same (z ∷ xs) zero x y is same = let at : z ≡ x = cc in ap (λ w. w ∷ xs) (same ∙ sym at)
 set_same (z ∷ xs) (suc i) x y is same = ap (λ ys. z ∷ ys) (set_same xs i x y is same)
 
-pub set_other : {A : Type 0} (xs : List A) (i k : ℕ) (y : A) → k ≢ i
-    → slice_get (slice_set xs i y) k ≡ slice_get xs k
-set_other [] i k y other = refl
-set_other (z ∷ xs) zero zero y other = absurd (other refl)
-set_other (z ∷ xs) zero (suc k) y other = refl
-set_other (z ∷ xs) (suc i) zero y other = refl
-set_other (z ∷ xs) (suc i) (suc k) y other = set_other xs i k y (λ same. other (ap suc same))
-
-pub set_own : {A : Type 0} (xs : List A) (i : ℕ) (y : A) → i < length xs → slice_get
-    (slice_set xs i y) i ≡ Some y
-set_own [] i y within = absurd (omega arith)
-set_own (z ∷ xs) zero y within = refl
-set_own (z ∷ xs) (suc i) y within = set_own xs i y (omega arith)
-
 pub set_length : {A : Type 0} (xs : List A) (i : ℕ) (y : A) → length (slice_set xs i y) ≡ length xs
 set_length [] i y = refl
 set_length (z ∷ xs) zero y = refl
 set_length (z ∷ xs) (suc i) y = ap suc (set_length xs i y)
 
 -- ---- answers
-
--- want of memory may come in any case
-pub memory_any : (A : Type 0) (b : Bool) → RefusedBy {A = A} b (Err fault.Memory)
-memory_any A true = tt
-memory_any A false = tt
 
 -- the same answers
 pub by_same : {A : Type 0} (b b' : Bool) (r : Result A StepFault) → b' ≡ b → RefusedBy b r
@@ -86,15 +67,6 @@ done_same false x y by = tt
 -- ---- a value for a device
 
 module _ {A : Type 0} (test : A → DeviceValue → Bool) where
-  pub with_none : (B : Type 0) (o : Option A) (device : Option DeviceValue) (f : StepFault)
-      → IsMade o (Err f) → RefusedBy {A = B} (refuses_with test o device) (Err f)
-  with_none B None device fault.Refused made = tt
-  with_none B None device fault.Full made = made
-  with_none B None device fault.Memory made = tt
-  with_none B (Some v) device fault.Refused made = absurd made
-  with_none B (Some v) device fault.Full made = absurd made
-  with_none B (Some v) device fault.Memory made = memory_any B (refuses_with test (Some v) device)
-
   pub with_missing : (o : Option A) (device : Option DeviceValue) → device ≡ None
       → refuses_with test o device ≡ true
   with_missing None device missing = refl

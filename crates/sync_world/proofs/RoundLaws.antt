@@ -1,14 +1,12 @@
 -- What the turns of a round and the rounds of a rest do, over plain values.
 use Rattle.std.proofs.Common.{◌≡◌, ◌⊎◌, ℕ, zero, suc, ◌+◌, ◌-◌, ◌<◌, ◌&&◌, not, Bool, true, false}
-use Rattle.std.proofs.Common.{List, map, refl, sym, ◌∙◌, ap, subst, inl, inr, arith, Option, Some}
+use Rattle.std.proofs.Common.{map, refl, sym, ◌∙◌, ap, subst, inl, inr, arith, Option, Some}
 use Rattle.std.proofs.Common.{None, Result, Ok, Err}
 use Rattle.std.specs.List.{list_any}
 use Rattle.std.specs.Result.{IsErrAnd}
 use Rattle.std.specs.Prelude.{slice_get}
-use Rattle.world_devices.specs.Devices.{DeviceValue}
 use Rattle.world_devices.specs.declared.stop.StepFault.{StepFault}
 use Rattle.world_devices.specs.declared.stop.StepFault.TheVariants as fault
-use Rattle.world_links.specs.declared.link.Link.{Link}
 use Rattle.world_scripts.specs.declared.step.TheConstants.{MAX_DEVICES}
 use Rattle.sync_world.specs.Doing.{Ground, MakesRound, RestsWithin, TurnsFrom, TurnsIf, TurnsLinked}
 use Rattle.sync_world.specs.Doing.{TurnsOnce}

@@ -1,94 +1,30 @@
 -- What a turn of a device and a session that begins do, over plain values.
-use Rattle.std.proofs.Common.{◌≡◌, ℕ, zero, suc, ◌+◌, ◌<◌, ◌≤◌, Bool, true, false, List, [], ◌∷◌}
-use Rattle.std.proofs.Common.{◌++◌, map, length, drop, refl, sym, ◌∙◌, ap, subst, inl, inr, arith}
+use Rattle.std.proofs.Common.{◌≡◌, ℕ, zero, suc, ◌+◌, ◌<◌, ◌≤◌, Bool, List, [], ◌∷◌}
+use Rattle.std.proofs.Common.{◌++◌, map, length, refl, ◌∙◌, ap, subst, inl, inr, arith}
 use Rattle.std.proofs.Common.{Option, Some, None, Result, Ok, Err}
 use Rattle.std.specs.Result.{IsErrAnd}
 use Rattle.std.specs.Prelude.{slice_get, slice_index_or, slice_set}
-use Rattle.outside.specs.Links.{Planned}
-use Rattle.outside.specs.Script.{planned_of}
-use Rattle.outside.specs.declared.answer.Answer.{Answer}
 use Rattle.sync_node.specs.declared.node.Plan.{Plan}
 use Rattle.sync_rules.specs.declared.entries.Mode.{Mode}
 use Rattle.world_devices.specs.Devices.{DeviceValue}
-use Rattle.world_devices.specs.Doing.{DeviceBeginsSession, DeviceMakesTurn, with_plan}
-use Rattle.world_devices.specs.Linking.{DeviceLinksStand, asks, end_at}
+use Rattle.world_devices.specs.Doing.{DeviceBeginsSession, DeviceMakesTurn}
+use Rattle.world_devices.specs.Linking.{DeviceLinksStand}
 use Rattle.world_devices.specs.declared.stop.Ran.{Ran}
 use Rattle.world_devices.specs.declared.stop.Ran.TheVariants as ran
 use Rattle.world_devices.specs.declared.stop.StepFault.{StepFault}
 use Rattle.world_devices.specs.declared.stop.StepFault.TheVariants as fault
 use Rattle.world_laws.specs.Worlds.{contact_for}
-use Rattle.world_links.specs.Ends.{EndValue, answer_to, input_of}
-use Rattle.world_links.specs.Links.{left_by, side_of}
-use Rattle.world_links.specs.declared.end.TheConstants.{PIECE_LEN}
+use Rattle.world_links.specs.Links.{left_by}
 use Rattle.world_links.specs.declared.link.Link.{Link}
-use Rattle.world_links.specs.declared.moves.Side.{Side}
-use Rattle.world_links.specs.declared.moves.Side.TheVariants as side
-use Rattle.sync_world.specs.Doing.{Attaches, Ground, LinksBehind, LinksTwo, PlansEndBy, PlansEndOn}
-use Rattle.sync_world.specs.Doing.{PlansLinkOn, PlansLinksOn, PlansSideOn, Turns, TurnsOnce}
+use Rattle.sync_world.specs.Doing.{Attaches, Ground, LinksBehind, LinksTwo}
+use Rattle.sync_world.specs.Doing.{PlansLinkOn, PlansLinksOn, Turns, TurnsOnce}
 use Rattle.sync_world.specs.Doing.{begun_on}
-use Rattle.sync_world.specs.Doing.{dialled, is_asked_at, plan_of, with_answer}
+use Rattle.sync_world.specs.Doing.{dialled, plan_of}
 use Rattle.sync_world.specs.Naming.{nonce_of}
 use Rattle.sync_world.specs.Parts.{AttachesBy, DialsBy, TurnsBy, WhenFull}
 use Rattle.sync_world.specs.Staging.{begun_with, new_link}
 use Rattle.sync_world.specs.Turning.{look_link}
 use Rattle.sync_world.proofs.DoingLaws.{device_does, ground, handed, same_ground, when_full}
-
--- ---- an end
-
-asked_at : (device : DeviceValue) (o : Option ℕ) (a : ℕ) (b : Bool) → o ≡ Some a
-    → asks (end_at device a) ≡ b → is_asked_at device o ≡ b
-asked_at device o a b here is = ap (λ (x : Option ℕ). is_asked_at device x) here ∙ is
-
--- an end that is asked
-pub end_asked : (a : ℕ) (old new : DeviceValue) (e e' : EndValue) (asked : Answer) (cut : Bool)
-    → e.at ≡ Some a → asks (end_at old a) ≡ true
-    → planned_of asked ≡ answer_to cut (input_of e) → new ≡ with_plan a (planned_of asked) old
-    → input_of e' ≡ drop PIECE_LEN (input_of e) → e' ≡ record e { heard = e'.heard }
-    → e'.heard ≤ length e'.given → PlansEndOn cut old new e e'
-end_asked a old new e e' asked cut here going is planned input rest within =
-    let answers : new ≡ with_answer old cut e.at e =
-    planned ∙ (ap (λ (p : List Planned). with_plan a p old) is
-    ∙ ap (λ (o : Option ℕ). with_answer old cut o e) (sym here)) in
-    subst (λ (b : Bool). PlansEndBy b cut old new e e') (sym (asked_at old e.at a true here going))
-    (answers, record { is = rest; input = input; within = within })
-
-left_alone : (cut : Bool) (old : DeviceValue) (e : EndValue) → is_asked_at old e.at ≡ false
-    → PlansEndOn cut old old e e
-left_alone cut old e is = subst (λ (b : Bool). PlansEndBy b cut old old e e) (sym is) (refl, refl)
-
--- an end that the device does not have, and one where it does not ask
-pub end_unplaced : (cut : Bool) (old : DeviceValue) (e : EndValue) → e.at ≡ None
-    → PlansEndOn cut old old e e
-end_unplaced cut old e is = left_alone cut old e (ap (λ (o : Option ℕ). is_asked_at old o) is)
-
-pub end_unasked : (a : ℕ) (cut : Bool) (old : DeviceValue) (e : EndValue) → e.at ≡ Some a
-    → asks (end_at old a) ≡ false → PlansEndOn cut old old e e
-end_unasked a cut old e here is = left_alone cut old e (asked_at old e.at a false here is)
-
--- ---- a link
-
-pub link_near : (d : ℕ) (old new : DeviceValue) (l : Link) (e' : EndValue)
-    → side_of d l ≡ Some side.Near → PlansEndOn l.is_cut old new l.near e'
-    → PlansLinkOn d old new l (record l { near = e' })
-link_near d old new l e' own plans =
-    subst (λ (o : Option Side). PlansSideOn o old new l (record l { near = e' })) (sym own) (
-      plans,
-      refl,
-    )
-
-pub link_far : (d : ℕ) (old new : DeviceValue) (l : Link) (e' : EndValue)
-    → side_of d l ≡ Some side.Far → PlansEndOn l.is_cut old new l.far e'
-    → PlansLinkOn d old new l (record l { far = e' })
-link_far d old new l e' own plans =
-    subst (λ (o : Option Side). PlansSideOn o old new l (record l { far = e' })) (sym own) (
-      plans,
-      refl,
-    )
-
-pub link_other : (d : ℕ) (old : DeviceValue) (l : Link) → side_of d l ≡ None
-    → PlansLinkOn d old old l l
-link_other d old l own =
-    subst (λ (o : Option Side). PlansSideOn o old old l l) (sym own) (refl, refl)
 
 -- ---- links, one after the other
 

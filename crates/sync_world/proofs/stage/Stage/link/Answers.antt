@@ -1,12 +1,10 @@
-use Rattle.std.proofs.Common.{ℕ, List, None, Err, ◌≡◌, ◌∙◌, false, ap, sym, slice_get, subst}
+use Rattle.std.proofs.Common.{List, None, ◌∙◌, false, ap, sym, slice_get, subst}
 use Rattle.world_devices.specs.declared.stop.Ran.{Ran}
 use Rattle.sync_world.proofs.GoLaws.{same_leads}
 use Rattle.sync_world.proofs.RestLaws.{goes_then, passed_on}
 use Rattle.sync_world.proofs.StepLaws.{was_done}
 use Rattle.world_devices.specs.Devices.{DeviceValue}
 use Rattle.world_devices.specs.Refusals.{RefusedBy}
-use Rattle.world_laws.specs.Worlds.{contact_for}
-use Rattle.sync_world.specs.Refusing.{refuses_to_attach}
 use Rattle.sync_world.proofs.RefusingLaws.{attach_passes, link_open}
 use Rattle.sync_world.proofs.RefusingLaws.{never}
 use Rattle.sync_world.specs.Doing.{ground_of}
