@@ -141,7 +141,8 @@ module _ (made : WorldStep) (old new : Stage) (o : Option Entry) (e : Entry) (d 
 abbrev pub ground : List DeviceValue → List Link → Ground
 ground devices links = record { devices = devices; links = links }
 
-pub same_ground : (devices devices' : List DeviceValue) (links links' : List Link) → devices' ≡ devices
+pub same_ground : (devices devices' : List DeviceValue) (links links' : List Link)
+    → devices' ≡ devices
     → links' ≡ links → ground devices' links' ≡ ground devices links
 same_ground devices devices' links links' same now =
     ap (λ (ds : List DeviceValue). ground ds links') same

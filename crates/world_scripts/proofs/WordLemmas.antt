@@ -16,7 +16,8 @@ module _ {V : Type 0} (read : List ℕ → Option V) where
   unfolding word_in
   read_word None word after is = absurd (let e : None ≡ Some (word, after) = is in cc)
   read_word (Some text) word after is =
-      let both : ◌≡◌ {A = List ℕ × LineLeft} (front_of 32 text, behind 32 text) (word, after) = cc in
+      let both : ◌≡◌ {A = List ℕ × LineLeft} (front_of 32 text, behind 32 text) (word, after) =
+      cc in
       (λ i. beside (read ((both i).0)) ((both i).1))
 
   pub no_word : (left : LineLeft) → word_in Some left ≡ None → word_in read left ≡ None
@@ -41,7 +42,8 @@ module _ {V : Type 0} (read : List ℕ → Option V) where
   -- no word is left
   pub reads_missing : (left after : LineLeft) (r : Option V) → word_in Some left ≡ None → r ≡ None
       → ReadsValue (word_in read) left r after
-  reads_missing left after r none is = subst (λ (o : Option V). ReadsValue (word_in read) left o after)
+  reads_missing left after r none is =
+      subst (λ (o : Option V). ReadsValue (word_in read) left o after)
       (sym is) (no_word left none)
 
 -- ---- a descriptor

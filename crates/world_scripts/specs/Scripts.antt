@@ -1,5 +1,6 @@
 -- What a reading of a script answers.
-use Rattle.std.specs.Prelude.{◌≡◌, ℕ, ◌+◌, ◌≤◌, List, [], ◌∷◌, length, Option, Some, None, Result, Ok}
+use Rattle.std.specs.Prelude.{◌≡◌, ℕ, ◌+◌, ◌≤◌, List, [], ◌∷◌, length, Option, Some, None, Result}
+use Rattle.std.specs.Prelude.{Ok}
 use Rattle.std.specs.Prelude.{Err}
 use Rattle.std.specs.Borrow.{Bor}
 use Rattle.world_scripts.specs.Cuts.{lines}
@@ -27,7 +28,8 @@ IsScriptOpened said (Err fault.Memory) = Unit {0}
 
 -- the next action was read, and the rest is left; or there is none, or a line is bad. In these
 -- cases, and for want of memory, all is left
-abbrev pub ReadsNextAction : ScriptCourse → Result (Option (ℕ × Action)) ScriptFault → ScriptCourse → Type 0
+abbrev pub ReadsNextAction : ScriptCourse → Result (Option (ℕ × Action)) ScriptFault → ScriptCourse
+    → Type 0
 ReadsNextAction old (Ok (Some x)) new = old ≡ record { actions = x ∷ new.actions; bad = new.bad }
 ReadsNextAction old (Ok None) new = (old ≡ over) × (new ≡ old)
 ReadsNextAction old (Err (fault.BadLine number)) new = (old ≡ bad_at number) × (new ≡ old)

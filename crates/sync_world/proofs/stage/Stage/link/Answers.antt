@@ -102,7 +102,8 @@ returns-in_err-attach-2-clause-refused c = λ known.
 
 pub returns-in_err-attach-2-clause-same : goal.returns-in_err-attach-2-clause-same
 returns-in_err-attach-2-clause-same c = λ known is.
-    let passes = attach_passes c.args.self.now.devices.items c.attach.new.self.devices.items c.args.e
+    let passes = attach_passes c.args.self.now.devices.items c.attach.new.self.devices.items
+    c.args.e
     c.args.d c.plan_for-far.result.contact c.in_err-attach-2.field-0.0
     c.from_residual-in_err-attach-2.result known (λ same. c.if-d-e.false (sym same))
     (c.has_room-else-not-has_room.ensures.within c.if-not-has_room-2.false)
