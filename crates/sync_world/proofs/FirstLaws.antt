@@ -4,9 +4,8 @@ use Rattle.std.specs.List.{AllByRecursion}
 use Rattle.sync_rules.specs.Clients.{Meaning}
 use Rattle.sync_rules.specs.Facts.{facts}
 use Rattle.sync_rules.specs.Legal.{Legal}
-use Rattle.world_laws.specs.Theorem.{IsNewWorld, IsSoundWorld}
+use Rattle.world_laws.specs.Theorem.{IsNewWorld}
 use Rattle.world_laws.specs.Worlds.{HasNoBrief, Journal, journal_in}
-use Rattle.sync_world.specs.Cited.{WorldLaws}
 use Rattle.sync_world.specs.Shown.{IsNewJournal, world_of}
 
 legal_in : (clients : Meaning) (js : List Journal) → AllByRecursion (IsNewJournal clients) js
@@ -36,7 +35,3 @@ first_new clients js new =
       empty = empty_in clients js new;
       unlinked = refl;
     }
-
-pub first_sound : WorldLaws → (clients : Meaning) (js : List Journal) → AllByRecursion
-    (IsNewJournal clients) js → IsSoundWorld clients (world_of js [])
-first_sound laws clients js new = laws.new clients (world_of js []) (first_new clients js new)

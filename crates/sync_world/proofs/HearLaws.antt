@@ -1,5 +1,5 @@
 -- What an end hears is among the records that it was given.
-use Rattle.std.proofs.Common.{◌≡◌, ℕ, List, ◌++◌, take, drop, sym, ◌∙◌, ap, subst, take-append-drop}
+use Rattle.std.proofs.Common.{◌≡◌, ℕ, List, ◌++◌, sym, ◌∙◌, ap, subst}
 use Rattle.std.specs.List.{AllByRecursion}
 use Rattle.outside.specs.Runs.{IsFront}
 use Rattle.sync_ids.specs.declared.records.Record.{Record}
@@ -28,12 +28,4 @@ given_front_records laws e x bytes r s front inside =
     front_records laws x.given bytes r s.given_within (record {
       rest = front.rest;
       whole = sym s.given ∙ front.whole;
-    }) inside
-
-pub given_records : RecordLaws → (e : EndValue) (x : End) (n : ℕ) (r : Record) → ShowsEnd e x
-    → In r (records (take n e.given)) → In r x.given
-given_records laws e x n r s inside =
-    given_front_records laws e x (take n e.given) r s (record {
-      rest = drop n e.given;
-      whole = sym (take-append-drop n e.given);
     }) inside

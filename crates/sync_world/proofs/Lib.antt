@@ -10,7 +10,6 @@ pub mod RunLaws
 pub mod FirstLaws
 pub mod OutputLaws
 pub mod ShownRuns
-pub mod SoundLaws
 pub mod BecomeLaws
 pub mod LoopLaws
 pub mod WireLaws

@@ -1,7 +1,7 @@
 -- What is in flight after a look at what a device sent.
 use Rattle.std.proofs.Common.{◌≡◌, ℕ, zero, suc, ◌+◌, ◌*◌, ◌^◌, ◌==◌, ◌-◌, ◌≤◌, min, Bool, true}
 use Rattle.std.proofs.Common.{false, if◌then◌else◌, List, [], ◌∷◌, ◌++◌, map, length, take, drop}
-use Rattle.std.proofs.Common.{refl, sym, ◌∙◌, ap, subst, arith, Option, Some, None, length-append}
+use Rattle.std.proofs.Common.{refl, sym, ◌∙◌, ap, arith, Option, Some, None, length-append}
 use Rattle.std.proofs.Common.{length-drop, length-take, take_at, drop_at}
 use Rattle.std.specs.Prelude.{nat_lt}
 use Rattle.std.specs.List.{AllByRecursion}
@@ -229,25 +229,6 @@ looked_end laws rs more e x seen within was s = record {
   given_within = s.given_within;
 }
 
-pub shown_looked : RecordLaws → (clients : Meaning) (j j' : Journal) (number : ℕ)
-    (more : List Record) (e : EndValue) (x : End) → IsWithinJournal clients j'
-    → sent j' number ≡ sent j number ++ more → e.seen ≡ length (spelled (sent j number))
-    → ShowsEnd e x
-    → ShowsEnd (record e {
-      flight = flight_behind false (spelled (sent j' number)) e;
-      seen = length (spelled (sent j' number));
-    }) (record x { flight = x.flight ++ more })
-shown_looked laws clients j j' number more e x is grows seen s =
-    let within : AllByRecursion IsRecord (sent j number ++ more) =
-    subst (AllByRecursion IsRecord) grows (sent_limits laws clients j' number is) in
-    subst (λ (rs : List Record).
-    ShowsEnd (record e {
-      flight = flight_behind false (spelled rs) e;
-      seen = length (spelled rs);
-    }) (record x { flight = x.flight ++ more }))
-    (sym grows) (looked_end laws (sent j number) more e x (length (spelled (sent j number ++ more)))
-    within seen s)
-
 -- on a link that is cut nothing comes to be in flight
 pub shown_looked_cut : (sent : List ℕ) (seen : ℕ) (e : EndValue) (x : End) → ShowsEnd e x
     → ShowsEnd (record e { flight = flight_behind true sent e; seen = seen }) x
@@ -272,17 +253,6 @@ shown_attached at number e x s = record {
   flight_within = s.flight_within;
   given_within = s.given_within;
 }
-
--- the first look behind it: all that the session sends is in flight too
-pub shown_first_look : RecordLaws → (clients : Meaning) (j : Journal) (number : ℕ) (e : EndValue)
-    (x : End) → IsWithinJournal clients j → e.seen ≡ 0 → ShowsEnd e x
-    → ShowsEnd (record e {
-      flight = flight_behind false (spelled (sent j number)) e;
-      seen = length (spelled (sent j number));
-    }) (record x { flight = x.flight ++ sent j number })
-shown_first_look laws clients j number e x is seen s =
-    looked_end laws [] (sent j number) e x (length (spelled (sent j number)))
-    (sent_limits laws clients j number is) seen s
 
 -- an end shows no more than its device, its session, what is in flight and what it was given
 pub shown_same : (e e' : EndValue) (x : End) → e'.device ≡ e.device → e'.session ≡ e.session

@@ -9,9 +9,9 @@ use Rattle.sync_world.specs.Playing.{CourseComesTo, ActsAt, came_at, came_unread
 use Rattle.sync_world.specs.declared.player.Player.{Player}
 use Rattle.world_devices.specs.declared.stop.StepFault.{StepFault}
 use Rattle.world_devices.specs.declared.stop.StepFault.TheVariants as fault
-use Rattle.world_scripts.specs.Courses.{ScriptCourse, over, bad_at}
+use Rattle.world_scripts.specs.Courses.{ScriptCourse}
 use Rattle.world_scripts.specs.Generator.{IsNextStep}
-use Rattle.world_scripts.specs.Scripts.{ReadsNextAction}
+use Rattle.world_scripts.specs.Scripts.{ReadsNextAction, bad_at, over}
 use Rattle.world_scripts.specs.declared.fault.ScriptFault.{ScriptFault}
 use Rattle.world_scripts.specs.declared.fault.ScriptFault.TheVariants as unread
 use Rattle.world_scripts.specs.declared.step.Action.{Action}
@@ -39,7 +39,7 @@ does_one_more from to next (y ∷ made) x done acts =
     (done.0, done.1, does_one_more done.0 to next made x done.2 acts)
 
 same_devices : (it : Action) (p q : Player) → AnswersAction it p q (Ok tt) → q.devices ≡ p.devices
-same_devices (action.Step made) p q acts = acts.same_devices
+same_devices (action.Step made) p q acts = ap (λ (r : Player). r.devices) acts.1
 same_devices (action.Show device) p q acts = ap (λ (r : Player). r.devices) acts.1
 
 pub began : (devices : ℕ) (course : ScriptCourse) (first : Player) → IsFirst devices first
@@ -87,7 +87,7 @@ module _ (devices : ℕ) (course left : ScriptCourse) (now : Player)
   pub came_bad : (line : ℕ) → left ≡ bad_at line → CourseComesTo devices course
       (Err (outcome.BadScript line))
   came_bad line is =
-      let all = all_done (Some line) is in inr (record { bad = all.0; to = now; done = all.1 })
+      let all = all_done (Some line) is in inr (all.0, (now, all.1))
 
   stops_at : (line : ℕ) (it : Action) (left' : ScriptCourse) (next : Player) (why : StepFault)
       → left ≡ behind line it left' → AnswersAction it now next (Err why)
@@ -110,7 +110,7 @@ module _ (devices : ℕ) (course left : ScriptCourse) (now : Player)
       inl (stops_at at it left' next fault.Refused
       (subst (λ (n : ℕ). left ≡ behind n it left') (sym acts.0) is) acts.1)
   stopped line it left' next outcome.Full is acts =
-      record { line = line; stops = stops_at line it left' next fault.Full is acts }
+      (line, stops_at line it left' next fault.Full is acts)
   stopped line it left' next outcome.Memory is acts = tt
   stopped line it left' next _ is acts = absurd acts
 

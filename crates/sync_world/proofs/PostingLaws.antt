@@ -18,7 +18,7 @@ use Rattle.world_scripts.specs.Labels.{KindAndDescriptor, are_made, has_twice, s
 use Rattle.world_scripts.specs.declared.step.TheConstants.{NOTE, THREAD, FEED}
 use Rattle.sync_world.specs.Naming.{IsMade, group_of}
 use Rattle.sync_world.specs.Posting.{body_of, has_text, head_of, ids_of, message_in, message_of}
-use Rattle.sync_world.specs.Posting.{message_with}
+use Rattle.std.specs.Option.{option_and_then}
 
 -- bytes with these ids behind them
 abbrev pub with_ids : List ℕ → List (List ℕ) → List ℕ
@@ -160,6 +160,15 @@ none_either false m is = refl
 none_refused : (m : Option MessageValue) → m ≡ None → IsMade m (Err fault.Refused)
 none_refused None is = tt
 none_refused (Some x) is = absurd (cc is)
+
+-- the message of a post in this group
+abbrev message_with : List (List ℕ) → Option KindAndDescriptor → ℕ → List ℕ → List ℕ
+    → Option MessageValue
+message_with posts group time parents text =
+    option_and_then (λ (g : KindAndDescriptor).
+    if has_text text && (are_made parents (length posts) && suits_kind g.0 parents)
+    then message_in (group_of g.0 g.1) time (body_of g.0 (ids_of posts parents) text)
+    else None) group
 
 none_with : (group : Option KindAndDescriptor) (posts : List (List ℕ)) (time kind : ℕ)
     (parents text descriptor body : List ℕ) → group ≡ Some (kind, descriptor)

@@ -9,34 +9,10 @@ use Rattle.sync_world.specs.Playing.{ScriptComes}
 use Rattle.sync_world.specs.Asking.{Wanted, Wrong, Wants, answer_of}
 use Rattle.sync_world.specs.Replay.{PlaysOut, PrintsWorld, ReplaysWords}
 use Rattle.sync_world.specs.declared.player.Player.{Player}
-use Rattle.world_scripts.specs.Courses.{Opening, Bad, Opens}
+use Rattle.world_scripts.specs.Courses.{Opening}
 
 pub idle : (s : Stream) → IsIdle s s
 idle s = record { same = refl; same_faults = refl }
-
--- a world that was not played to its end prints nothing
-pub unplayed : (what : Opening) (came : Outcome) (out : Stream) → ScriptComes what (Err came)
-    → PlaysOut what out out came
-unplayed (Bad line) outcome.Done out comes = absurd comes
-unplayed (Opens devices course) outcome.Done out comes = absurd comes
-unplayed (Bad line) outcome.WriteFault out comes = absurd comes
-unplayed (Opens devices course) outcome.WriteFault out comes = absurd comes
-unplayed what outcome.Memory out comes = idle out
-unplayed what (outcome.Usage place) out comes = (comes, idle out)
-unplayed what outcome.NoStore out comes = (comes, idle out)
-unplayed what outcome.Exists out comes = (comes, idle out)
-unplayed what (outcome.Refused why) out comes = (comes, idle out)
-unplayed what (outcome.Damaged place) out comes = (comes, idle out)
-unplayed what outcome.DiskFault out comes = (comes, idle out)
-unplayed what (outcome.Links ends) out comes = (comes, idle out)
-unplayed what (outcome.LinkFailed link) out comes = (comes, idle out)
-unplayed what outcome.ReadFault out comes = (comes, idle out)
-unplayed what (outcome.Bad place why) out comes = (comes, idle out)
-unplayed what (outcome.Inside place) out comes = (comes, idle out)
-unplayed what (outcome.NoVersion place) out comes = (comes, idle out)
-unplayed what outcome.Full out comes = (comes, idle out)
-unplayed what outcome.TooMuch out comes = (comes, idle out)
-unplayed what (outcome.BadScript line) out comes = (comes, idle out)
 
 -- a world that was played to its end is printed
 pub played : (what : Opening) (to : Player) (came : Outcome) (out out' : Stream) → ScriptComes what

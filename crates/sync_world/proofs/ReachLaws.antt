@@ -12,7 +12,6 @@ use Rattle.world_links.specs.declared.moves.Side.TheVariants as side
 use Rattle.world_links.specs.Links.{all_carried, cut, moved}
 use Rattle.world_laws.specs.Moves.{Move as WorldMove, Carry, Cut, link_after, links_after}
 use Rattle.world_laws.specs.Moves.{world_after}
-use Rattle.world_laws.specs.Theorem.{IsSoundWorld}
 use Rattle.world_laws.specs.Worlds.{AreSteps, End, IsStep, Journal, WorldLink as RecordLink, World}
 use Rattle.world_laws.specs.Worlds.{last_of, new_end}
 use Rattle.sync_world.specs.Cited.{WorldLaws}
@@ -51,12 +50,6 @@ reaches_then clients a b c first second = record {
       last_joined a first.worlds second.worlds
       ∙ (ap (λ (w : World). last_of w second.worlds) first.last ∙ second.last);
 }
-
-pub reaches_sound : WorldLaws → (clients : Meaning) (w w' : World) → ReachesWorld clients w w'
-    → IsSoundWorld clients w → IsSoundWorld clients w'
-reaches_sound laws clients w w' reached sound =
-    subst (IsSoundWorld clients) reached.last
-    (laws.steps clients w reached.worlds sound reached.steps)
 
 pub linked_reached : (clients : Meaning) (d e : ℕ) (js : List Journal) (xs : List RecordLink)
     → (d ≡ e → ⊥)

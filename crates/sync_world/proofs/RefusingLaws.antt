@@ -4,6 +4,7 @@ use Rattle.std.proofs.Common.{◌≡◌, ◌≢◌, ℕ, zero, suc, ◌+◌, ◌
 use Rattle.std.proofs.Common.{List, [], ◌∷◌, length, refl, sym, ap, ◌∙◌, subst, arith, Option, Some}
 use Rattle.std.proofs.Common.{None, Result, Ok, Err}
 use Rattle.std.specs.Prelude.{slice_get, slice_index_or, slice_set}
+use Rattle.world_devices.specs.declared.stop.Ran.{Ran}
 use Rattle.world_devices.specs.declared.stop.StepFault.{StepFault}
 use Rattle.world_devices.specs.declared.stop.StepFault.TheVariants as fault
 use Rattle.std.specs.Prelude.{IsErrOf, ◌==◌, not, is_none, is_some, nat_le, nat_lt, if◌then◌else◌}
@@ -42,31 +43,12 @@ set_same [] i x y is same = refl
 set_same (z ∷ xs) zero x y is same = let at : z ≡ x = cc in ap (λ w. w ∷ xs) (same ∙ sym at)
 set_same (z ∷ xs) (suc i) x y is same = ap (λ ys. z ∷ ys) (set_same xs i x y is same)
 
-pub set_other : {A : Type 0} (xs : List A) (i k : ℕ) (y : A) → k ≢ i
-    → slice_get (slice_set xs i y) k ≡ slice_get xs k
-set_other [] i k y other = refl
-set_other (z ∷ xs) zero zero y other = absurd (other refl)
-set_other (z ∷ xs) zero (suc k) y other = refl
-set_other (z ∷ xs) (suc i) zero y other = refl
-set_other (z ∷ xs) (suc i) (suc k) y other = set_other xs i k y (λ same. other (ap suc same))
-
-pub set_own : {A : Type 0} (xs : List A) (i : ℕ) (y : A) → i < length xs → slice_get
-    (slice_set xs i y) i ≡ Some y
-set_own [] i y within = absurd (omega arith)
-set_own (z ∷ xs) zero y within = refl
-set_own (z ∷ xs) (suc i) y within = set_own xs i y (omega arith)
-
 pub set_length : {A : Type 0} (xs : List A) (i : ℕ) (y : A) → length (slice_set xs i y) ≡ length xs
 set_length [] i y = refl
 set_length (z ∷ xs) zero y = refl
 set_length (z ∷ xs) (suc i) y = ap suc (set_length xs i y)
 
 -- ---- answers
-
--- want of memory may come in any case
-pub memory_any : (A : Type 0) (b : Bool) → RefusedBy {A = A} b (Err fault.Memory)
-memory_any A true = tt
-memory_any A false = tt
 
 -- the same answers
 pub by_same : {A : Type 0} (b b' : Bool) (r : Result A StepFault) → b' ≡ b → RefusedBy b r
@@ -85,15 +67,6 @@ done_same false x y by = tt
 -- ---- a value for a device
 
 module _ {A : Type 0} (test : A → DeviceValue → Bool) where
-  pub with_none : (B : Type 0) (o : Option A) (device : Option DeviceValue) (f : StepFault)
-      → IsMade o (Err f) → RefusedBy {A = B} (refuses_with test o device) (Err f)
-  with_none B None device fault.Refused made = tt
-  with_none B None device fault.Full made = made
-  with_none B None device fault.Memory made = tt
-  with_none B (Some v) device fault.Refused made = absurd made
-  with_none B (Some v) device fault.Full made = absurd made
-  with_none B (Some v) device fault.Memory made = memory_any B (refuses_with test (Some v) device)
-
   pub with_missing : (o : Option A) (device : Option DeviceValue) → device ≡ None
       → refuses_with test o device ≡ true
   with_missing None device missing = refl
@@ -278,10 +251,17 @@ err_passes A B e (Ok x) is by = absurd is
 err_passes A B e (Err x) is by =
     subst (λ (y : StepFault). RefusedBy {A = B} false (Err y)) (sym is) (same_unrefused A B e by)
 
--- the far device of a link, too, is asked to attach and may
-pub far_allowed : (ds ds' : List DeviceValue) (d e : ℕ) → KnowContacts ds → d ≢ e → d < length ds
-    → e < length ds → has_room (slice_get ds e) ≡ true → slice_get ds' e ≡ slice_get ds e
-    → refuses_to_attach (contact_for e d) (slice_get ds' e) ≡ false
-far_allowed ds ds' d e known other first second room same =
-    ap (λ (o : Option DeviceValue). refuses_to_attach (contact_for e d) o) same
-    ∙ attach_allowed ds e d known (λ is. other (sym is)) second first room
+-- a device of a link may attach, so its fault, which is handed on, is no refusal
+pub attach_passes : (ds ds' : List DeviceValue) (d e contact : ℕ) (f : StepFault)
+    (r : Result (Unit {0}) StepFault) → KnowContacts ds → d ≢ e → d < length ds → e < length ds
+    → has_room (slice_get ds d) ≡ true → contact ≡ contact_for d e
+    → slice_get ds' d ≡ slice_get ds d
+    → RefusedBy {A = Ran} (refuses_to_attach contact (slice_get ds' d)) (Err f)
+    → IsErrAnd r (λ x. x ≡ f) → RefusedBy false r
+attach_passes ds ds' d e contact f r known other first second room is same by faulty =
+    let allowed : refuses_to_attach contact (slice_get ds' d) ≡ false =
+    ap (λ (k : ℕ). refuses_to_attach k (slice_get ds' d)) is
+    ∙ (ap (λ (o : Option DeviceValue). refuses_to_attach (contact_for d e) o) same
+    ∙ attach_allowed ds d e known other first second room) in
+    err_passes Ran (Unit {0}) f r faulty
+    (subst (λ (b : Bool). RefusedBy {A = Ran} b (Err f)) allowed by)

@@ -6,15 +6,13 @@ use Rattle.std.proofs.Common.{append-nil}
 use Rattle.std.specs.Prelude.{nat_eq, slice_set}
 use Rattle.std.proofs.lemmas.Bool.{and_from, and_parts, false≢true}
 use Rattle.sync_ids.specs.declared.records.Record.{Record}
-use Rattle.sync_rules.specs.declared.entries.Entry.{Entry}
-use Rattle.sync_rules.specs.declared.entries.Entry.TheVariants as entry
 use Rattle.sync_rules.specs.Clients.{Meaning}
 use Rattle.sync_rules.specs.Lists.{In}
 use Rattle.sync_rules.proofs.Elements.{In-append_cases, In-append_left, In-append_right}
-use Rattle.sync_rules.specs.Facts.{Facts, after_all, facts}
+use Rattle.sync_rules.specs.Facts.{facts}
 use Rattle.sync_rules.specs.Legal.{GoesOn}
 use Rattle.sync_rules.specs.Output.{sent}
-use Rattle.world_laws.specs.Worlds.{AllHeard, End, HasNoBrief, HasSession, IsHeard, Journal}
+use Rattle.world_laws.specs.Worlds.{AllHeard, End, HasNoBrief, HasSession, Journal}
 use Rattle.world_laws.specs.Worlds.{WorldLink as RecordLink, RunsDevice, WasGiven, WayRuns, WaysRun}
 use Rattle.world_laws.specs.Worlds.{World, contact_for, journal_at, journal_in, link_in, way_in}
 use Rattle.world_laws.specs.Worlds.{way_of}
@@ -298,56 +296,6 @@ given_heard d session xs r given =
     heard_at d session given.number given.near xs given.link r given.stands
     (record { own = given.own; on = given.on; inside = given.inside })
 
--- the link of a number afterwards
-record RunsAt (d : ℕ) (j : Journal) (x : RecordLink) (ys : List RecordLink) (i : ℕ) : Type 0 where
-  link : RecordLink
-  stands : link_in ys i ≡ Some link
-  runs : RunsLinkOfDevice d j x link
-
-runs_at : (d : ℕ) (j : Journal) (i : ℕ) (xs ys : List RecordLink) (x : RecordLink)
-    → LinksRun d j xs ys → link_in xs i ≡ Some x → RunsAt d j x ys i
-runs_at d j i [] ys x runs is = cc
-runs_at d j i (z ∷ xs) [] x runs is = absurd runs
-runs_at d j zero (z ∷ xs) (y ∷ ys) x runs is =
-    let same : z ≡ x = cc in
-    record {
-      link = y;
-      stands = refl;
-      runs = subst (λ (k : RecordLink). RunsLinkOfDevice d j k y) same runs.0;
-    }
-runs_at d j (suc i) (z ∷ xs) (y ∷ ys) x runs is =
-    let later = runs_at d j i xs ys x runs.1 is in
-    record { link = later.link; stands = later.stands; runs = later.runs }
-
-given_on_stays : (d : ℕ) (j : Journal) (other session : ℕ) (x y : End) (r : Record)
-    → EndRuns d j other x y → IsGivenOn d session x r → IsGivenOn d session y r
-given_on_stays d j other session x y r runs given = record {
-  own = runs.device ∙ given.own;
-  on = elim runs.session [
-    | inl same ↦ same ∙ given.on
-    | inr begins ↦ let none : Some session ≡ None = sym given.on ∙ begins.fresh in cc
-  ];
-  inside = subst (λ (rs : List Record). In r rs) (sym runs.given) given.inside;
-}
-
-receiver_stays : (d : ℕ) (j : Journal) (session : ℕ) (near : Bool) (x y : RecordLink) (r : Record)
-    → RunsLinkOfDevice d j x y → IsGivenOn d session (way_of near x).receiver r
-    → IsGivenOn d session (way_of near y).receiver r
-receiver_stays d j session true x y r runs given =
-    given_on_stays d j x.near.device session x.far y.far r runs.far given
-receiver_stays d j session false x y r runs given =
-    given_on_stays d j x.far.device session x.near y.near r runs.near given
-
--- while the device runs it only grows
-pub heard_stays : (d : ℕ) (j : Journal) (session : ℕ) (xs ys : List RecordLink) (r : Record)
-    → LinksRun d j xs ys → In r (heard_by d xs session) → In r (heard_by d ys session)
-heard_stays d j session xs ys r runs inside =
-    let given = heard_given d session xs r inside in
-    let now = runs_at d j given.number xs ys given.link runs given.stands in
-    heard_at d session given.number given.near ys now.link r now.stands
-    (receiver_stays d j session given.near given.link now.link r now.runs
-    (record { own = given.own; on = given.on; inside = given.inside }))
-
 pub was_given : (w : World) (d session : ℕ) (r : Record) → IsGivenAt d session w.links r
     → WasGiven w d session r
 was_given w d session r given = record {
@@ -359,22 +307,6 @@ was_given w d session r given = record {
   on = given.on;
   inside = given.inside;
 }
-
-batch_wider : (heard wider : ℕ → List Record) (f : Facts) (batch : List Entry)
-    → ((session : ℕ) (r : Record) → In r (heard session) → In r (wider session))
-    → IsHeard heard f batch → IsHeard wider f batch
-batch_wider heard wider f (entry.Take s k ∷ rest) up (r, inside, taken) = (r, up s r inside, taken)
-batch_wider heard wider f _ up h = h
-
--- where more was heard
-pub all_heard_wider : (heard wider : ℕ → List Record) (f : Facts) (more : Journal)
-    → ((session : ℕ) (r : Record) → In r (heard session) → In r (wider session))
-    → AllHeard heard f more → AllHeard wider f more
-all_heard_wider heard wider f [] up all = tt
-all_heard_wider heard wider f (batch ∷ more) up all = (
-  batch_wider heard wider f batch up all.0,
-  all_heard_wider heard wider (after_all f batch) more up all.1,
-)
 
 -- ---- journals
 

@@ -6,9 +6,8 @@ use Rattle.sync_rules.specs.Facts.{Facts, Held}
 use Rattle.sync_rules.specs.Steps.{fate_held}
 use Rattle.sync_rules.specs.declared.states.Fate.{Fate}
 use Rattle.sync_rules.specs.declared.states.Fate.TheVariants as fate
-use Rattle.sync_world.specs.Showing.{AddsDevice, CountsOne, HasCounted, count_in, facts_of}
-use Rattle.sync_world.specs.Showing.{is_marked, lines_below, lines_then, one_if}
-use Rattle.sync_world.specs.declared.player.Player.{Player}
+use Rattle.sync_world.specs.Showing.{CountsOne, HasCounted, count_in}
+use Rattle.sync_world.specs.Showing.{one_if}
 use Rattle.sync_world.specs.declared.player.States.{States}
 
 -- the state of the message of this place
@@ -51,16 +50,3 @@ counted_more f held n given old new is counted one = record {
       one.unknown ∙ ap (λ (k : ℕ). k + one_if fate.Unknown given) counted.unknown
       ∙ sym (count_more f fate.Unknown given held n is);
 }
-
-lines_suc : (p : Player) (n : ℕ) (old new : List ℕ)
-    → lines_below p.shown p.world.devices.items n ≡ Some old → AddsDevice p n old new
-    → lines_below p.shown p.world.devices.items (suc n) ≡ Some new
-lines_suc p n old new below adds =
-    ap (λ (o : Option (List ℕ)).
-    lines_then o n (is_marked (slice_get p.shown n))
-    (facts_of (slice_get p.world.devices.items n))) below ∙ adds
-
-pub lines_more : (p : Player) (n : ℕ) (old new : List ℕ)
-    → lines_below p.shown p.world.devices.items n ≡ Some old → AddsDevice p n old new
-    → lines_below p.shown p.world.devices.items (n + 1) ≡ Some new
-lines_more p n old new below adds = rw add-one (lines_suc p n old new below adds)

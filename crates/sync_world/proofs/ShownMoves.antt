@@ -1,6 +1,6 @@
 -- What a link shows after a move, after a cut, and after all in flight arrived.
 use Rattle.std.proofs.Common.{◌≡◌, ℕ, zero, suc, ◌==◌, ◌||◌, Bool, true, false, if◌then◌else◌, List}
-use Rattle.std.proofs.Common.{[], ◌∷◌, ◌++◌, map, length, refl, sym, ◌∙◌, ap, subst, Some, None}
+use Rattle.std.proofs.Common.{[], ◌∷◌, ◌++◌, map, refl, sym, ◌∙◌, ap, subst, Some, None}
 use Rattle.std.proofs.Common.{append-nil}
 use Rattle.std.specs.Prelude.{slice_get, slice_set}
 use Rattle.std.specs.List.{AllByRecursion}
@@ -162,10 +162,6 @@ shown_cut true l x s =
 shown_cut false l x s =
     record { near = end_cut l.near x.near s.near; far = end_emptied l.far x.far s.far }
 
-pub shown_emptied : (l : Link) (x : RecordLink) → ShowsLink l x → ShowsLink (cut l) (emptied x)
-shown_emptied l x s =
-    record { near = end_emptied l.near x.near s.near; far = end_emptied l.far x.far s.far }
-
 left_cases : (a b : Bool) (l : Link) (x : RecordLink) → ShowsLink l x
     → ShowsLink (left_at (if a then Some side.Near else if b then Some side.Far else None) l) (if a
     || b then emptied x else x)
@@ -231,13 +227,6 @@ pub shown_new : (d e : ℕ)
 shown_new d e = record { near = end_new d; far = end_new e }
 
 -- ---- several links
-
-pub shown_same_length : (ls : List Link) (xs : List RecordLink) → ShowsLinks ls xs
-    → length ls ≡ length xs
-shown_same_length [] [] s = refl
-shown_same_length [] (x ∷ xs) s = absurd s
-shown_same_length (l ∷ ls) [] s = absurd s
-shown_same_length (l ∷ ls) (x ∷ xs) s = ap suc (shown_same_length ls xs s.1)
 
 pub shown_at : (ls : List Link) (xs : List RecordLink) (i : ℕ) (l : Link) → slice_get ls i ≡ Some l
     → ShowsLinks ls xs → ShownAt l xs i

@@ -3,13 +3,10 @@ use Rattle.std.proofs.Common.{◌≡◌, ℕ, zero, suc, ◌+◌, ◌<◌, Bool,
 use Rattle.std.proofs.Common.{subst, inl, inr, arith, Option, Some, None}
 use Rattle.std.proofs.lemmas.Bool.{cases_eq}
 use Rattle.std.specs.Prelude.{slice_get}
-use Rattle.std.specs.Io.KnownBytes.{Appends}
-use Rattle.outside.specs.Faults.{CountRose}
 use Rattle.outside.specs.Files.{Two, File, read_files}
 use Rattle.outside.specs.HostTold.{host_told}
 use Rattle.outside.specs.MemDisk.{disk_files, files_of}
 use Rattle.outside.specs.MemHost.{MemHostValue}
-use Rattle.outside.specs.Streams.{GetsFront, Stream}
 use Rattle.client_basic.specs.Bodies.{bundle_meaning}
 use Rattle.entry_codec.specs.Standing.{Standing, journal, stands}
 use Rattle.sync_rules.specs.Facts.{Facts, facts}
@@ -18,8 +15,8 @@ use Rattle.world_laws.specs.Worlds.{Journal, journal_in}
 use Rattle.world_devices.specs.Devices.{DeviceValue}
 use Rattle.world_devices.specs.Linking.{DeviceLinksStand}
 use Rattle.world_devices.specs.Running.{HoldsAfterCrash, ReadsAsJournal}
-use Rattle.sync_world.specs.Replay.{IsText, PrintsAll, PrintsFront}
-use Rattle.sync_world.specs.Showing.{device_lines, facts_of, facts_of_node, is_marked}
+use Rattle.sync_world.specs.Replay.{PrintsText}
+use Rattle.sync_world.specs.Showing.{Runs, device_lines, facts_of, facts_of_node, is_marked}
 use Rattle.sync_world.specs.Showing.{journal_lines, lines_below, lines_then, player_lines}
 use Rattle.sync_world.specs.Standing.{AllLinksStand, AreRead, AreTold, IsManyDevices}
 use Rattle.sync_world.specs.declared.player.Player.{Player}
@@ -115,32 +112,37 @@ told_lines shown js devices told (suc number) text is =
     parts.is ∙ (ap (λ (t : List ℕ). t ++ device_lines number mark parts.known) before
     ∙ ap (λ (f : Facts). journal_lines shown js number ++ device_lines number mark f) same)
 
-text_of_journals : (p : Player) (text : List ℕ) → IsManyDevices p.world.devices.items
-    → player_lines p ≡ Some text → IsText p text
-text_of_journals p text are run = record {
-  journals = are.journals;
-  many = are.many;
-  run = run;
-  is = told_lines p.shown are.journals p.world.devices.items are.many.told p.devices text run;
-}
+-- each of the devices whose lines stand there runs
+runs_below : (shown : List Bool) (devices : List DeviceValue) (number : ℕ) (text : List ℕ)
+    → lines_below shown devices number ≡ Some text → (d : ℕ) → d < number
+    → Runs (slice_get devices d)
+runs_below shown devices zero text is d below = absurd (omega (arith, below))
+runs_below shown devices (suc number) text is d below =
+    let parts = lines_parts (lines_below shown devices number) number
+    (is_marked (slice_get shown number)) (facts_of (slice_get devices number)) text is in
+    elim (cases_eq d number) [
+      | inl same ↦
+          let has = device_parts (slice_get devices number) parts.known parts.facts_are in
+          let runs : Runs (slice_get devices number) =
+          (has.device, has.node, has.stands, has.runs) in
+          subst (λ (k : ℕ). Runs (slice_get devices k)) (sym same) runs
+      | inr other ↦
+          runs_below shown devices number parts.before parts.lines_are d
+          (omega (arith, below, other))
+    ]
 
 -- ---- what is printed
 
-pub prints_all : (p : Player) (text given : List ℕ) (out out' : Stream)
+-- what was written of the text that the devices make is so of that of their journals
+pub prints_text : (p : Player) (Written : List ℕ → Type 0) (text given : List ℕ)
     → IsManyDevices p.world.devices.items → player_lines p ≡ Some text → given ≡ text
-    → Appends out.bytes out'.bytes given → PrintsAll p out out'
-prints_all p text given out out' are run same appended = record {
-  text = text;
-  is = text_of_journals p text are run;
-  appended = subst (λ (t : List ℕ). Appends out.bytes out'.bytes t) same appended;
-}
-
-pub prints_front : (p : Player) (text given : List ℕ) (out out' : Stream)
-    → IsManyDevices p.world.devices.items → player_lines p ≡ Some text → given ≡ text
-    → CountRose out.faults out'.faults → GetsFront out out' given → PrintsFront p out out'
-prints_front p text given out out' are run same rose got = record {
-  text = text;
-  is = text_of_journals p text are run;
-  rose = rose;
-  got = subst (λ (t : List ℕ). GetsFront out out' t) same got;
+    → Written given → PrintsText p Written
+prints_text p Written text given are run same written = record {
+  journals = are.journals;
+  many = are.many;
+  run = runs_below p.shown p.world.devices.items p.devices text run;
+  written =
+      subst Written (same
+      ∙ told_lines p.shown are.journals p.world.devices.items are.many.told p.devices text run)
+      written;
 }

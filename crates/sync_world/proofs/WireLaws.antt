@@ -425,22 +425,6 @@ set_seat j d device ls i l l' is place w a below =
       }
     ]
 
-pub set_wired : (j : Journal) (d : ℕ) (device : DeviceValue) (ls : List Link) (i : ℕ) (l l' : Link)
-    → slice_get ls i ≡ Some l → place_on d l' ≡ place_on d l
-    → LinkWired j d device l' → AreWired j d device ls → AreWired j d device (slice_set ls i l')
-set_wired j d device ls i l l' is place wired w = record {
-  each = λ n m e a there own here.
-      elim (get_cases ls i n l' m there) [
-        | inl (same, new) ↦
-            let own' : own_end d l' ≡ Some e =
-            subst (λ (z : Link). own_end d z ≡ Some e) (sym new) own in
-            subst (λ (z : Link). IsEndWired j device z.is_cut e a) new (wired e a own' here)
-        | inr (other, old) ↦ w.each n m e a old own here
-      ];
-  once = set_once j d device ls i l l' is place w;
-  all = set_seat j d device ls i l l' is place w;
-}
-
 -- ---- the device changes
 
 pub session_from : (a b : Option NodeValue) (k : ℕ) → first_of b ≡ first_of a → option_map

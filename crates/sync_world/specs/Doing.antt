@@ -1,9 +1,9 @@
--- What a step makes of the devices and the links of a world, where it is made.
+-- What a step makes of the devices and the links of a world, where it is made and where it is full.
 use Rattle.std.specs.Prelude.{◌≡◌, ◌⊎◌, ℕ, zero, suc, ◌+◌, ◌&&◌, not, Bool, true, false, List, []}
-use Rattle.std.specs.Prelude.{◌∷◌, ◌++◌, map, length, Option, Some, None, is_some, Result, Ok, Err}
+use Rattle.std.specs.Prelude.{◌∷◌, ◌++◌, map, length, Option, Some, None, Result, Ok, Err}
 use Rattle.std.specs.Prelude.{slice_get, slice_set}
 use Rattle.std.specs.List.{list_any}
-use Rattle.std.specs.Option.{option_map}
+use Rattle.std.specs.Option.{option_map, option_to_list}
 use Rattle.sync_ids.specs.Values.{GroupValue, MessageValue}
 use Rattle.sync_ids.specs.Ids.{group_id_of, message_id_of}
 use Rattle.sync_rules.specs.declared.entries.Entry.{Entry}
@@ -11,24 +11,22 @@ use Rattle.sync_rules.specs.declared.entries.Entry.TheVariants as entry
 use Rattle.sync_rules.specs.declared.entries.Mode.{Mode}
 use Rattle.sync_node.specs.declared.node.Plan.{Plan}
 use Rattle.world_devices.specs.Devices.{DeviceValue}
-use Rattle.world_devices.specs.Doing.{DeviceAddsEntry, DeviceBeginsSession, EntryPassesLimit}
-use Rattle.world_devices.specs.Doing.{DeviceRestarts, DeviceMakesTurn, clocked, stopped, with_plan}
+use Rattle.world_devices.specs.Doing.{DeviceAddsEntry, DeviceBeginsSession, DeviceMakesTurn}
+use Rattle.world_devices.specs.Doing.{DeviceRestarts, clocked, stopped, with_plan}
 use Rattle.world_devices.specs.Linking.{DeviceLinksStand, asks, end_at}
 use Rattle.world_devices.specs.declared.stop.Ran.{Ran}
-use Rattle.world_devices.specs.declared.stop.Ran.TheVariants as ran
 use Rattle.world_devices.specs.declared.stop.StepFault.{StepFault}
 use Rattle.world_devices.specs.declared.stop.StepFault.TheVariants as fault
 use Rattle.world_laws.specs.Worlds.{contact_for}
 use Rattle.world_links.specs.Ends.{EndValue, answer_to, input_of}
 use Rattle.world_links.specs.Links.{end_of, left_by, side_of}
 use Rattle.world_links.specs.declared.link.Link.{Link}
-use Rattle.world_links.specs.declared.moves.Move.TheVariants as move
 use Rattle.world_links.specs.declared.moves.Side.{Side}
 use Rattle.world_scripts.specs.Labels.{KindAndDescriptor, labelled}
 use Rattle.world_scripts.specs.declared.step.TheConstants.{MAX_DEVICES}
 use Rattle.world_scripts.specs.declared.step.WorldStep.{WorldStep}
 use Rattle.world_scripts.specs.declared.step.WorldStep.TheVariants as step
-use Rattle.sync_world.specs.Moving.{link_cut, link_moved}
+use Rattle.sync_world.specs.Moving.{link_after}
 use Rattle.sync_world.specs.Naming.{group_of, nonce_of}
 use Rattle.sync_world.specs.Posting.{message_of}
 use Rattle.sync_world.specs.Refusing.{group_labelled, has_links}
@@ -45,65 +43,57 @@ pub record Ground : Type 0 where
 abbrev pub ground_of : Stage → Ground
 ground_of s = record { devices = s.devices.items; links = s.links.items }
 
--- one device makes a call of which this is so, and all others are as before; where it crashed it
--- has its links no more
-pub record DeviceDoes (Did : DeviceValue → DeviceValue → Type 0) (d : ℕ) (came : Ran)
+-- ---- what is done, by what it comes to
+
+-- what becomes of a world by calls that come to this: an answer, a crash of the device, or a fault
+abbrev pub Act : Type 0 → Type 1
+Act A = Result (Option A) StepFault → Ground → Ground → Type 0
+
+-- nothing is done, and this is answered
+abbrev pub Stays : {A : Type 0} → A → Act A
+Stays a came old new = (came ≡ Ok (Some a)) × (new ≡ old)
+
+-- one is done and then another one, which is not where the first is broken off by a crash or a
+-- fault
+abbrev pub Then : {A : Type 0} → Act A → (A → Act A) → Act A
+Then {A} First Second came old new =
+    ((between : Ground) × (a : A) × First (Ok (Some a)) old between × Second a came between new)
+    ⊎ (((a : A) → came ≡ Ok (Some a) → ⊥) × First came old new)
+
+-- one device becomes another, behind which the links are these; all other devices are as before
+pub record DeviceDoes (d : ℕ) (Did : DeviceValue → DeviceValue → List Link → Type 0)
     (old new : Ground) : Type 0 where
   pub was : DeviceValue
   pub is : DeviceValue
   pub stands : slice_get old.devices d ≡ Some was
-  pub did : Did was is
+  pub did : Did was is new.links
   pub devices : new.devices ≡ slice_set old.devices d is
-  pub links : new.links ≡ after_ran came d old.links
+
+-- The links behind a call of a device that goes over them: what it sent is in flight, and is the
+-- output of its sessions, by the journal that its files hold; one that crashed has its links no
+-- more.
+abbrev pub LinksBehind : {A : Type 0} → ℕ → DeviceValue → Result (Option A) StepFault → List Link
+    → List Link → Type 0
+LinksBehind d is (Ok (Some a)) old new = DeviceLinksStand is × (new ≡ map (look_link d is) old)
+LinksBehind d is (Ok None) old new = new ≡ map (left_by d) old
+LinksBehind d is (Err f) old new = new ≡ old
 
 -- ---- entries
 
--- the entry that a step adds to the journal of its device
-abbrev pub entry_of : WorldStep → Stage → Option Entry
-entry_of (step.Group d kind descriptor) s =
-    option_map (λ (def : GroupValue). entry.Group def) (group_of kind descriptor)
-entry_of (step.Share d e group level) s =
-    option_map (λ (def : GroupValue). entry.Level (contact_for d e) (group_id_of def) level)
-    (group_labelled (slice_get s.groups group))
-entry_of (step.Post d group time parents text) s =
-    option_map (λ (m : MessageValue). entry.Author m)
-    (message_of s.groups s.posts.items group time parents text)
-entry_of _ s = None
+-- a device makes the call that adds an entry, where there is one, and the links are then these
+abbrev pub AddsEntry : Option Entry → ℕ → Result Ran StepFault → List Link → Ground → Ground
+    → Type 0
+AddsEntry None d came links old new = ⊥
+AddsEntry (Some e) d came links old new =
+    DeviceDoes d (λ was is behind. DeviceAddsEntry e came was is × (behind ≡ links)) old new
 
--- a device adds an entry
-abbrev pub AddsEntry : Option Entry → ℕ → Ground → Ground → Type 0
-AddsEntry None d old new = ⊥
-AddsEntry (Some e) d old new =
-    (came : Ran) × DeviceDoes (DeviceAddsEntry e (Ok came)) d came old new
-
--- a device made a call with some answer, and all others are as before
-pub record DeviceTries (Did : Result Ran StepFault → DeviceValue → DeviceValue → Type 0) (d : ℕ)
-    (old new : List DeviceValue) : Type 0 where
-  pub was : DeviceValue
-  pub is : DeviceValue
-  pub answer : Result Ran StepFault
-  pub stands : slice_get old d ≡ Some was
-  pub did : Did answer was is
-  pub devices : new ≡ slice_set old d is
-
--- a device added an entry, or at most that was added
-abbrev pub TriesEntry : Option Entry → ℕ → List DeviceValue → List DeviceValue → Type 0
-TriesEntry None d old new = ⊥
-TriesEntry (Some e) d old new = DeviceTries (DeviceAddsEntry e) d old new
-
--- the devices are as before, but for at most the entry at one of them
-abbrev pub AddsNoOther : Option Entry → ℕ → List DeviceValue → List DeviceValue → Type 0
-AddsNoOther e d old new = (new ≡ old) ⊎ TriesEntry e d old new
-
--- there is such a device, and with the entry its journal would pass its limit
-pub record FillsBy (e : Entry) (d : ℕ) (devices : List DeviceValue) : Type 0 where
-  pub device : DeviceValue
-  pub stands : slice_get devices d ≡ Some device
-  pub over : EntryPassesLimit e device.node
-
-abbrev pub FillsWith : Option Entry → ℕ → List DeviceValue → Type 0
-FillsWith None d devices = ⊥
-FillsWith (Some e) d devices = FillsBy e d devices
+-- a step of one entry: want of memory is free, but at most that entry was added then
+abbrev pub AddsBy : Option Entry → ℕ → Result (Unit {0}) StepFault → Ground → Ground → Type 0
+AddsBy e d (Ok _) old new =
+    (came : Ran) × AddsEntry e d (Ok came) (after_ran came d old.links) old new
+AddsBy e d (Err fault.Memory) old new =
+    (new ≡ old) ⊎ ((came : Result Ran StepFault) × AddsEntry e d came old.links old new)
+AddsBy e d (Err f) old new = AddsEntry e d (Err f) old.links old new
 
 -- ---- a link
 
@@ -115,62 +105,26 @@ plan_of d e mode latency = record { contact = contact_for d e; mode = mode; late
 abbrev pub dialled : (d e : ℕ) → Ground → Ground
 dialled d e old = record { devices = old.devices; links = old.links ++ new_link d e ∷ [] }
 
--- A session of a device began on the link of this number, and all that it sent there is in flight.
--- What the device sent is the output of its sessions, by the journal that its files hold.
-pub record AttachesOn (d link : ℕ) (plan : Plan) (nonce : Option (List ℕ))
-    (old new : Ground) : Type 0 where
-  pub was : DeviceValue
-  pub is : DeviceValue
-  pub session : ℕ
-  pub stands : slice_get old.devices d ≡ Some was
-  pub did : DeviceBeginsSession plan nonce (Ok (Some session)) was is
-  pub sent : DeviceLinksStand is
-  pub devices : new.devices ≡ slice_set old.devices d is
-  pub links : new.links ≡ map (look_link d is)
-      (begun_with d was.links session link (slice_get old.links link) old.links)
+-- the links, on one of which the session of a device began that was answered
+abbrev pub begun_on : (d link number : ℕ) → Result (Option ℕ) StepFault → List Link → List Link
+begun_on d link number (Ok (Some session)) links =
+    begun_with d number session link (slice_get links link) links
+begun_on d link number _ links = links
 
--- the device crashed in it
-abbrev pub CrashesOn : ℕ → Plan → Option (List ℕ) → Ground → Ground → Type 0
-CrashesOn d plan nonce old new =
-    DeviceDoes (DeviceBeginsSession plan nonce (Ok None)) d ran.Crashed old new
+-- a session of a device begins on the link of this number
+abbrev pub Attaches : (d link : ℕ) → Plan → Option (List ℕ) → Act ℕ
+Attaches d link plan nonce came old new =
+    DeviceDoes d (λ was is links.
+    DeviceBeginsSession plan nonce came was is
+    × LinksBehind d is came (begun_on d link was.links came old.links) links) old new
 
-abbrev pub EndsOn : (d link : ℕ) → Plan → Option (List ℕ) → Ground → Ground → Type 0
-EndsOn d link plan nonce old new =
-    AttachesOn d link plan nonce old new ⊎ CrashesOn d plan nonce old new
-
--- both devices began a session on a link
-pub record LinksBoth (d e : ℕ) (mode : Mode) (latency : ℕ) (old new : Ground) : Type 0 where
-  pub between : Ground
-  pub near : AttachesOn d (length old.links) (plan_of d e mode latency)
-      (nonce_of mode (length old.links)) (dialled d e old) between
-  pub far : EndsOn e (length old.links) (plan_of e d mode latency) None between new
-
--- a device dials another one, and both begin a session, first the one that dials; where that one
--- crashes the other does nothing
-abbrev pub LinksTwo : (d e : ℕ) → Mode → (latency : ℕ) → Ground → Ground → Type 0
-LinksTwo d e mode latency old new =
-    LinksBoth d e mode latency old new
-    ⊎ CrashesOn d (plan_of d e mode latency) (nonce_of mode (length old.links)) (dialled d e old)
-    new
-
--- the session of a device would not find room in its journal
-pub record FillsAttaching (d : ℕ) (plan : Plan) (nonce : Option (List ℕ))
-    (old : Ground) : Type 0 where
-  pub was : DeviceValue
-  pub is : DeviceValue
-  pub stands : slice_get old.devices d ≡ Some was
-  pub fills : DeviceBeginsSession plan nonce (Err fault.Full) was is
-
-pub record FillsFar (d e : ℕ) (mode : Mode) (latency : ℕ) (old : Ground) : Type 0 where
-  pub between : Ground
-  pub near : AttachesOn d (length old.links) (plan_of d e mode latency)
-      (nonce_of mode (length old.links)) (dialled d e old) between
-  pub fills : FillsAttaching e (plan_of e d mode latency) None between
-
-abbrev pub FillsLinking : (d e : ℕ) → Mode → (latency : ℕ) → Ground → Type 0
-FillsLinking d e mode latency old =
-    FillsAttaching d (plan_of d e mode latency) (nonce_of mode (length old.links)) (dialled d e old)
-    ⊎ FillsFar d e mode latency old
+-- a device dials another one, and both begin a session, first the one that dials
+abbrev pub LinksTwo : (d e : ℕ) → Mode → (latency : ℕ) → Act ℕ
+LinksTwo d e mode latency came old new =
+    Then
+    (Attaches d (length old.links) (plan_of d e mode latency) (nonce_of mode (length old.links)))
+    (λ session. Attaches e (length old.links) (plan_of e d mode latency) None) came
+    (dialled d e old) new
 
 -- ---- a turn
 
@@ -209,189 +163,129 @@ PlansLinksOn d old new (l ∷ ls) (l' ∷ ls') =
     (between : DeviceValue) × PlansLinkOn d old between l l' × PlansLinksOn d between new ls ls'
 PlansLinksOn d old new _ _ = ⊥
 
--- the links after a turn of a device: what it sent is in flight; where it crashed it has its links
--- no more
-abbrev pub turned_links : ℕ → Option Bool → DeviceValue → List Link → List Link
-turned_links d (Some still) is links = map (look_link d is) links
-turned_links d None is links = map (left_by d) links
+-- what a turn makes of its device and of the links
+pub record Turns (d : ℕ) (came : Result (Option Bool) StepFault) (old : List Link)
+    (was is : DeviceValue) (new : List Link) : Type 0 where
+  pub planned : DeviceValue
+  pub heard : List Link
+  pub plans : PlansLinksOn d was planned old heard
+  pub did : DeviceMakesTurn came planned is
+  pub behind : LinksBehind d is came heard new
 
 -- One turn of a device: one answer is heard on each of its links that is still asked, and all that
--- is due is sent. It tells whether all links were still, or that the device crashed. Where it did
--- not, what it sent is the output of its sessions, by the journal that its files hold.
-pub record TurnsOnce (d : ℕ) (came : Option Bool) (old new : Ground) : Type 0 where
-  pub was : DeviceValue
-  pub planned : DeviceValue
-  pub is : DeviceValue
-  pub links_planned : List Link
-  pub stands : slice_get old.devices d ≡ Some was
-  pub plans : PlansLinksOn d was planned old.links links_planned
-  pub did : DeviceMakesTurn (Ok came) planned is
-  pub sent : is_some came ≡ true → DeviceLinksStand is
-  pub devices : new.devices ≡ slice_set old.devices d is
-  pub links : new.links ≡ turned_links d came is links_planned
-
--- a turn for which there would be no room in the journal
-pub record FillsTurning (d : ℕ) (old : Ground) : Type 0 where
-  pub was : DeviceValue
-  pub planned : DeviceValue
-  pub is : DeviceValue
-  pub links_planned : List Link
-  pub stands : slice_get old.devices d ≡ Some was
-  pub plans : PlansLinksOn d was planned old.links links_planned
-  pub fills : DeviceMakesTurn (Err fault.Full) planned is
+-- is due is sent. It answers whether all links were still.
+abbrev pub TurnsOnce : ℕ → Act Bool
+TurnsOnce d came old new = DeviceDoes d (Turns d came old.links) old new
 
 -- ---- rounds
 
 -- a turn of a device that has had a link since it was started; another one is still
-abbrev pub TurnsIf : (is_linked : Bool) → ℕ → Option Bool → Ground → Ground → Type 0
-TurnsIf true d came old new = TurnsOnce d came old new
-TurnsIf false d came old new = (came ≡ Some true) × (new ≡ old)
+abbrev pub TurnsIf : (is_linked : Bool) → ℕ → Act Bool
+TurnsIf true d = TurnsOnce d
+TurnsIf false d = Stays true
 
-abbrev pub TurnsLinked : ℕ → Option Bool → Ground → Ground → Type 0
+abbrev pub TurnsLinked : ℕ → Act Bool
 TurnsLinked d came old new = TurnsIf (has_links (slice_get old.devices d)) d came old new
 
--- the turns of so many devices from this one on, in order, after turns that were still or not; it
--- ends where one crashes
-abbrev pub TurnsFrom : (left d : ℕ) → (still : Bool) → Ground → Option Bool → Ground → Type 0
-TurnsFrom zero d still old came new = (came ≡ Some still) × (new ≡ old)
-TurnsFrom (suc left) d still old came new =
-    ((between : Ground) × (quiet : Bool) × TurnsLinked d (Some quiet) old between
-    × TurnsFrom left (d + 1) (still && quiet) between came new)
-    ⊎ (TurnsLinked d None old new × (came ≡ None))
+-- the turns of so many devices from this one on, in order, behind turns that were still or not
+abbrev pub TurnsFrom : (left d : ℕ) → (still : Bool) → Act Bool
+TurnsFrom zero d still = Stays still
+TurnsFrom (suc left) d still =
+    Then (TurnsLinked d) (λ quiet. TurnsFrom left (d + 1) (still && quiet))
 
--- a turn of each device, in order
-abbrev pub AllTurn : Ground → Option Bool → Ground → Type 0
-AllTurn old came new = TurnsFrom MAX_DEVICES 0 true old came new
+-- all that is in flight arrives, behind turns that were still or not
+abbrev pub Arrives : (still : Bool) → Act Bool
+Arrives still came old new =
+    (came ≡ Ok (Some (still && not (list_any is_moving old.links))))
+    × (new ≡ record old { links = map arrived old.links })
 
--- all that is in flight arrives
-abbrev pub carried_all : Ground → Ground
-carried_all g = record { devices = g.devices; links = map arrived g.links }
+-- a round: a turn of each device, in order, and then all that is in flight arrives. It answers
+-- whether it was quiet: each turn was still, and nothing was carried.
+abbrev pub MakesRound : Act Bool
+MakesRound = Then (TurnsFrom MAX_DEVICES 0 true) Arrives
 
--- a round in which no device crashed, and whether it was quiet: each turn was still, and nothing
--- was carried
-pub record RoundMade (quiet : Bool) (old new : Ground) : Type 0 where
-  pub between : Ground
-  pub still : Bool
-  pub turns : AllTurn old (Some still) between
-  pub carries : new ≡ carried_all between
-  pub quiet_is : quiet ≡ (still && not (list_any is_moving between.links))
-
--- a round in which nothing was still to be done, or a device crashed in it
-abbrev pub LastRound : Ground → Ground → Type 0
-LastRound old new = RoundMade true old new ⊎ AllTurn old None new
-
--- at most so many rounds; a quiet one is the last, and so is one in which a device crashes
-abbrev pub RestsWithin : ℕ → Ground → Ground → Type 0
-RestsWithin zero old new = new ≡ old
-RestsWithin (suc rounds) old new =
-    ((between : Ground) × RoundMade false old between × RestsWithin rounds between new)
-    ⊎ LastRound old new
-
--- a turn of the device for which there would be no room, where it has had a link
-abbrev pub FillsLinked : ℕ → Ground → Type 0
-FillsLinked d g = (has_links (slice_get g.devices d) ≡ true) × FillsTurning d g
-
--- one of the turns of a round
-abbrev pub FillsFrom : (left d : ℕ) → Ground → Type 0
-FillsFrom zero d old = ⊥
-FillsFrom (suc left) d old =
-    FillsLinked d old ⊎ ((between : Ground) × (quiet : Bool)
-    × TurnsLinked d (Some quiet) old between × FillsFrom left (d + 1) between)
-
--- one of the turns of so many rounds
-abbrev pub FillsResting : ℕ → Ground → Type 0
-FillsResting zero old = ⊥
-FillsResting (suc rounds) old =
-    FillsFrom MAX_DEVICES 0 old
-    ⊎ ((between : Ground) × RoundMade false old between × FillsResting rounds between)
+-- at most so many rounds, behind one that was quiet or not; a quiet one is the last
+abbrev pub RestsWithin : ℕ → (quiet : Bool) → Act Bool
+RestsWithin zero quiet = Stays quiet
+RestsWithin (suc rounds) true = Stays true
+RestsWithin (suc rounds) false = Then MakesRound (RestsWithin rounds)
 
 -- ---- steps
 
--- a link becomes this, where there is one
-abbrev pub LinkBecomes : Option Link → ℕ → Ground → Ground → Type 0
-LinkBecomes None link old new = ⊥
-LinkBecomes (Some l) link old new =
-    (new.devices ≡ old.devices) × (new.links ≡ slice_set old.links link l)
+-- a step that this makes: it is made, or a call in it would pass the limit of a journal; want of
+-- memory is free
+abbrev pub MadeBy : {A : Type 0} → Act A → Result (Unit {0}) StepFault → Ground → Ground → Type 0
+MadeBy {A} Does (Ok _) old new = (came : Option A) × Does (Ok came) old new
+MadeBy Does (Err fault.Full) old new = Does (Err fault.Full) old new
+MadeBy Does (Err _) old new = Unit {0}
 
--- what a step that is made makes of the devices and the links
-abbrev pub MakesStep : WorldStep → Stage → Ground → Type 0
-MakesStep (step.Group d kind descriptor) s new =
-    AddsEntry (entry_of (step.Group d kind descriptor) s) d (ground_of s) new
-MakesStep (step.Share d e group level) s new =
-    AddsEntry (entry_of (step.Share d e group level) s) d (ground_of s) new
-MakesStep (step.Post d group time parents text) s new =
-    AddsEntry (entry_of (step.Post d group time parents text) s) d (ground_of s) new
-MakesStep (step.Link d e mode latency) s new = LinksTwo d e mode latency (ground_of s) new
-MakesStep (step.Turn d) s new = (came : Option Bool) × TurnsOnce d came (ground_of s) new
-MakesStep (step.Carry link d) s new =
-    LinkBecomes (link_moved move.Carry d (slice_get s.links.items link)) link (ground_of s) new
-MakesStep (step.Lose link d) s new =
-    LinkBecomes (link_moved move.Lose d (slice_get s.links.items link)) link (ground_of s) new
-MakesStep (step.Repeat link d) s new =
-    LinkBecomes (link_moved move.Repeat d (slice_get s.links.items link)) link (ground_of s) new
-MakesStep (step.Swap link d) s new =
-    LinkBecomes (link_moved move.Swap d (slice_get s.links.items link)) link (ground_of s) new
-MakesStep (step.Cut link) s new =
-    LinkBecomes (link_cut (slice_get s.links.items link)) link (ground_of s) new
-MakesStep (step.Clock at) s new =
-    (new.devices ≡ map (clocked at) s.devices.items) × (new.links ≡ s.links.items)
-MakesStep (step.Stop d calls pick) s new =
-    DeviceDoes (λ was is. is ≡ stopped calls pick was) d ran.Done (ground_of s) new
-MakesStep (step.Restart d) s new =
-    DeviceDoes (DeviceRestarts (Ok tt)) d ran.Crashed (ground_of s) new
-MakesStep (step.Rest rounds) s new = RestsWithin rounds (ground_of s) new
+-- a step that fills no journal: this is so where it is made
+abbrev pub IfMade : Result (Unit {0}) StepFault → Type 0 → Type 0
+IfMade (Ok _) Made = Made
+IfMade (Err fault.Full) Made = ⊥
+IfMade (Err _) Made = Unit {0}
 
--- a call of a device in a step would pass the limit of its journal
-abbrev pub FillsJournal : WorldStep → Stage → Type 0
-FillsJournal (step.Group d kind descriptor) s =
-    FillsWith (entry_of (step.Group d kind descriptor) s) d s.devices.items
-FillsJournal (step.Share d e group level) s =
-    FillsWith (entry_of (step.Share d e group level) s) d s.devices.items
-FillsJournal (step.Post d group time parents text) s =
-    FillsWith (entry_of (step.Post d group time parents text) s) d s.devices.items
-FillsJournal (step.Link d e mode latency) s = FillsLinking d e mode latency (ground_of s)
-FillsJournal (step.Turn d) s = FillsTurning d (ground_of s)
-FillsJournal (step.Rest rounds) s = FillsResting rounds (ground_of s)
-FillsJournal _ s = ⊥
+-- a link becomes this; where there is none the step is refused
+abbrev pub LinkBecomes : ℕ → Option Link → Result (Unit {0}) StepFault → Ground → Ground → Type 0
+LinkBecomes link (Some l) (Ok _) old new = new ≡ record old { links = slice_set old.links link l }
+LinkBecomes link None (Err fault.Refused) old new = new ≡ old
+LinkBecomes link _ (Err fault.Memory) old new = new ≡ old
+LinkBecomes link _ _ old new = ⊥
+
+-- what a step that answers so makes of the devices and the links
+abbrev pub MakesStep : WorldStep → Result (Unit {0}) StepFault → Stage → Ground → Type 0
+MakesStep (step.Group d kind descriptor) came s new =
+    AddsBy (option_map (λ (def : GroupValue). entry.Group def) (group_of kind descriptor)) d came
+    (ground_of s) new
+MakesStep (step.Share d e group level) came s new =
+    AddsBy
+    (option_map (λ (def : GroupValue). entry.Level (contact_for d e) (group_id_of def) level)
+    (group_labelled (slice_get s.groups group))) d came (ground_of s) new
+MakesStep (step.Post d group time parents text) came s new =
+    AddsBy
+    (option_map (λ (m : MessageValue). entry.Author m)
+    (message_of s.groups s.posts.items group time parents text)) d came (ground_of s) new
+MakesStep (step.Link d e mode latency) came s new =
+    MadeBy (LinksTwo d e mode latency) came (ground_of s) new
+MakesStep (step.Turn d) came s new = MadeBy (TurnsOnce d) came (ground_of s) new
+MakesStep (step.Clock at) came s new =
+    IfMade came ((new.devices ≡ map (clocked at) s.devices.items) × (new.links ≡ s.links.items))
+MakesStep (step.Stop d calls pick) came s new =
+    IfMade came
+    (DeviceDoes d (λ was is links. (is ≡ stopped calls pick was) × (links ≡ s.links.items))
+    (ground_of s) new)
+MakesStep (step.Restart d) came s new =
+    IfMade came
+    (DeviceDoes d (λ was is links.
+    DeviceRestarts (Ok tt) was is × (links ≡ map (left_by d) s.links.items)) (ground_of s) new)
+MakesStep (step.Rest rounds) came s new = MadeBy (RestsWithin rounds false) came (ground_of s) new
+MakesStep made came s new =
+    LinkBecomes (link_after made s.links.items).0 (link_after made s.links.items).1 came
+    (ground_of s) new
 
 -- the group labels after a step: a group has a label from the first step on that added it
 abbrev pub groups_after : WorldStep → List KindAndDescriptor → List KindAndDescriptor
 groups_after (step.Group d kind descriptor) groups = labelled (kind, descriptor) groups
 groups_after _ groups = groups
 
--- the posts with this one
-abbrev pub with_post : Option MessageValue → List (List ℕ) → List (List ℕ)
-with_post None posts = posts
-with_post (Some m) posts = posts ++ message_id_of m ∷ []
-
 -- the ids of the posts after a step: a post has the next label, also where its device crashed in it
 abbrev pub posts_after : WorldStep → List KindAndDescriptor → List (List ℕ) → List (List ℕ)
 posts_after (step.Post d group time parents text) groups posts =
-    with_post (message_of groups posts group time parents text) posts
+    posts ++ option_to_list
+    (option_map message_id_of (message_of groups posts group time parents text))
 posts_after _ groups posts = posts
 
 -- a step was made
 pub record WasDone (made : WorldStep) (old new : Stage) : Type 0 where
-  pub does : MakesStep made old (ground_of new)
+  pub does : MakesStep made (Ok tt) old (ground_of new)
   pub groups : new.groups ≡ groups_after made old.groups
   pub posts : new.posts.items ≡ posts_after made old.groups old.posts.items
 
--- what a step leaves of the devices that found no memory or a full journal: one that adds an entry
--- adds no other
-abbrev pub LeavesBy : WorldStep → Stage → List DeviceValue → Type 0
-LeavesBy (step.Group d kind descriptor) s new =
-    AddsNoOther (entry_of (step.Group d kind descriptor) s) d s.devices.items new
-LeavesBy (step.Share d e group level) s new =
-    AddsNoOther (entry_of (step.Share d e group level) s) d s.devices.items new
-LeavesBy (step.Post d group time parents text) s new =
-    AddsNoOther (entry_of (step.Post d group time parents text) s) d s.devices.items new
-LeavesBy _ s new = Unit {0}
-
 -- What a step does that answers so: it was made as the rules of worlds have it; or a device in it
 -- would have passed the limit of its journal; after a refusal all is as before (`IsSame`); want of
--- memory is free, and at most the step's entry is added then.
+-- memory is free, but at most the entry of a step is added then, and a move or a cut changes
+-- nothing.
 abbrev pub DoesBy : WorldStep → Result (Unit {0}) StepFault → Stage → Stage → Type 0
 DoesBy made (Ok _) old new = WasDone made old new
 DoesBy made (Err fault.Refused) old new = Unit {0}
-DoesBy made (Err fault.Full) old new = FillsJournal made old × LeavesBy made old new.devices.items
-DoesBy made (Err fault.Memory) old new = LeavesBy made old new.devices.items
+DoesBy made (Err f) old new = MakesStep made (Err f) old (ground_of new)

@@ -9,7 +9,6 @@ use Rattle.world_links.specs.declared.moves.Move.TheVariants as move
 use Rattle.world_links.specs.declared.moves.Side.{Side}
 use Rattle.world_links.specs.Links.{cut, end_of, moved, side_of}
 use Rattle.world_links.specs.Moves.{is_possible}
-use Rattle.world_devices.specs.Devices.{DeviceValue}
 use Rattle.world_scripts.specs.declared.step.WorldStep.{WorldStep}
 use Rattle.world_scripts.specs.declared.step.WorldStep.TheVariants as step
 
@@ -52,32 +51,18 @@ BecomesOne (Some l) old new (Err fault.Refused) = ⊥
 BecomesOne (Some l) old new (Err fault.Full) = ⊥
 BecomesOne (Some l) old new (Err fault.Memory) = new ≡ old
 
--- what a step makes of the links, where it is a move or a cut
-abbrev pub LinksBecome : WorldStep → List Link → List Link → Result (Unit {0}) StepFault → Type 0
-LinksBecome (step.Carry link d) old new result =
-    MakesOfLink (link_moved move.Carry d (slice_get old link)) link old new result
-LinksBecome (step.Lose link d) old new result =
-    MakesOfLink (link_moved move.Lose d (slice_get old link)) link old new result
-LinksBecome (step.Repeat link d) old new result =
-    MakesOfLink (link_moved move.Repeat d (slice_get old link)) link old new result
-LinksBecome (step.Swap link d) old new result =
-    MakesOfLink (link_moved move.Swap d (slice_get old link)) link old new result
-LinksBecome (step.Cut link) old new result =
-    MakesOfLink (link_cut (slice_get old link)) link old new result
-LinksBecome _ old new result = Unit {0}
-
--- such a step leaves the devices as they were
-abbrev pub LeavesDevices : WorldStep → List DeviceValue → List DeviceValue → Type 0
-LeavesDevices (step.Carry link d) old new = new ≡ old
-LeavesDevices (step.Lose link d) old new = new ≡ old
-LeavesDevices (step.Repeat link d) old new = new ≡ old
-LeavesDevices (step.Swap link d) old new = new ≡ old
-LeavesDevices (step.Cut link) old new = new ≡ old
-LeavesDevices _ old new = Unit {0}
+-- what a step makes of a link, where it moves what is in flight there or cuts it: the number of the
+-- link, and the link then
+abbrev pub link_after : WorldStep → List Link → ℕ × Option Link
+link_after (step.Carry link d) links = (link, link_moved move.Carry d (slice_get links link))
+link_after (step.Lose link d) links = (link, link_moved move.Lose d (slice_get links link))
+link_after (step.Repeat link d) links = (link, link_moved move.Repeat d (slice_get links link))
+link_after (step.Swap link d) links = (link, link_moved move.Swap d (slice_get links link))
+link_after (step.Cut link) links = (link, link_cut (slice_get links link))
+link_after _ links = (0, None)
 
 -- a step that failed for want of memory, or since a journal is full, is the last one that is made
 abbrev pub fault_after : Result (Unit {0}) StepFault → Option StepFault
 fault_after (Ok _) = None
 fault_after (Err fault.Refused) = None
-fault_after (Err fault.Full) = Some fault.Full
-fault_after (Err fault.Memory) = Some fault.Memory
+fault_after (Err f) = Some f

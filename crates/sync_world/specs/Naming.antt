@@ -1,6 +1,6 @@
 -- What the groups of a world are called, and the nonces of its links.
 use Rattle.std.specs.Prelude.{ℕ, ◌+◌, ◌==◌, nat_le, if◌then◌else◌, List, length, Option, Some, None}
-use Rattle.std.specs.Prelude.{Result, Ok, Err, ◌≡◌}
+use Rattle.std.specs.Prelude.{Result, Ok, Err, ◌≡◌, option_and_then}
 use Rattle.std.specs.Int.{w128, to_be_bytes}
 use Rattle.client_basic.specs.Bodies.{note_name, thread_name, feed_name}
 use Rattle.sync_ids.specs.Values.{GroupValue}
@@ -17,16 +17,12 @@ name_of kind =
     if kind == NOTE then Some note_name else if kind == THREAD then Some thread_name else if kind ==
     FEED then Some feed_name else None
 
--- the group of a client and a descriptor that is not too long
-abbrev pub group_named : Option (List ℕ) → List ℕ → Option GroupValue
-group_named None descriptor = None
-group_named (Some name) descriptor =
-    if nat_le (length descriptor) MAX_DESCRIPTOR then Some
-    (record { name = name; major = 0; descriptor = descriptor }) else None
-
--- the group of a kind and a descriptor, where there is one
+-- the group of a kind and a descriptor that is not too long, where there is such a kind
 abbrev pub group_of : ℕ → List ℕ → Option GroupValue
-group_of kind descriptor = group_named (name_of kind) descriptor
+group_of kind descriptor =
+    option_and_then (λ name.
+    if nat_le (length descriptor) MAX_DESCRIPTOR
+    then Some (record { name = name; major = 0; descriptor = descriptor }) else None) (name_of kind)
 
 -- the nonce of the session that dials the link of this number, where it has one: the number plus
 -- one, in 16 bytes

@@ -24,11 +24,9 @@ pub record IsFirst (count : ℕ) (p : Player) : Type 0 where
   pub unshown : p.shown ≡ replicate 8 false
 
 -- a step is made of the world, and nothing else changes
-pub record StepsWorld (made : WorldStep) (old new : Player)
-    (result : Result (Unit {0}) StepFault) : Type 0 where
-  pub stepped : HasStepped made old.world new.world result
-  pub same_devices : new.devices ≡ old.devices
-  pub same_shown : new.shown ≡ old.shown
+abbrev pub StepsWorld : WorldStep → (old new : Player) → Result (Unit {0}) StepFault → Type 0
+StepsWorld made old new result =
+    HasStepped made old.world new.world result × (new ≡ record old { world = new.world })
 
 -- a device is marked; it is refused exactly where there is no device of this number
 abbrev pub MarksDevice : ℕ → Player → Player → Result (Unit {0}) StepFault → Type 0
@@ -66,25 +64,16 @@ pub record StopsAtLine (devices : ℕ) (actions : List (ℕ × Action)) (line : 
   pub done : Done devices before between
   pub stops : AnswersAction it between after (Err why)
 
--- a step answers that a journal is full
-pub record PlayingStopsFull (devices : ℕ) (actions : List (ℕ × Action)) : Type 0 where
-  pub line : ℕ
-  pub stops : StopsAtLine devices actions line fault.Full
-
--- all actions before the first line that is bad by itself were made
-pub record ComesToBad (devices : ℕ) (course : ScriptCourse) (line : ℕ) : Type 0 where
-  pub bad : course.bad ≡ Some line
-  pub to : Player
-  pub done : Done devices course.actions to
-
 -- What a course comes to in a new world of so many devices: all of it is done; or the first line is
 -- named that is bad by itself or refused, where no step before it answered that a journal is full;
 -- or such a step stands before. Memory may be wanting.
 abbrev pub CourseComesTo : (devices : ℕ) → ScriptCourse → Result Player Outcome → Type 0
 CourseComesTo devices course (Ok to) = (course.bad ≡ None) × Done devices course.actions to
 CourseComesTo devices course (Err (outcome.BadScript line)) =
-    StopsAtLine devices course.actions line fault.Refused ⊎ ComesToBad devices course line
-CourseComesTo devices course (Err outcome.Full) = PlayingStopsFull devices course.actions
+    StopsAtLine devices course.actions line fault.Refused
+    ⊎ ((course.bad ≡ Some line) × ((to : Player) × Done devices course.actions to))
+CourseComesTo devices course (Err outcome.Full) =
+    (line : ℕ) × StopsAtLine devices course.actions line fault.Full
 CourseComesTo devices course (Err outcome.Memory) = Unit {0}
 CourseComesTo devices course (Err _) = ⊥
 

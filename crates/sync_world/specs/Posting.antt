@@ -1,7 +1,7 @@
 -- The message that a post is.
 use Rattle.std.specs.Prelude.{ℕ, ◌==◌, ◌&&◌, Bool, true, false, nat_le, if◌then◌else◌, List, []}
 use Rattle.std.specs.Prelude.{◌∷◌, ◌++◌, length, replicate}
-use Rattle.std.specs.Prelude.{Option, Some, None, slice_get, option_to_list}
+use Rattle.std.specs.Prelude.{Option, Some, None, slice_get, option_and_then, option_to_list}
 use Rattle.std.specs.List.{flat_map}
 use Rattle.sync_ids.specs.Values.{GroupValue, MessageValue}
 use Rattle.sync_ids.specs.Ids.{group_id_of}
@@ -43,15 +43,10 @@ message_in (Some def) time body =
 -- the message of a post in the group of a label: there is one where the text is not empty, the
 -- parents are labels of earlier posts and suit the kind of the group, and the message is within its
 -- limits
-abbrev pub message_with : List (List ℕ) → Option KindAndDescriptor → ℕ → List ℕ → List ℕ
-    → Option MessageValue
-message_with posts None time parents text = None
-message_with posts (Some group) time parents text =
-    if has_text text && (are_made parents (length posts) && suits_kind group.0 parents)
-    then message_in (group_of group.0 group.1) time (body_of group.0 (ids_of posts parents) text)
-    else None
-
 abbrev pub message_of : List KindAndDescriptor → List (List ℕ) → ℕ → ℕ → List ℕ → List ℕ
     → Option MessageValue
 message_of groups posts group time parents text =
-    message_with posts (slice_get groups group) time parents text
+    option_and_then (λ g.
+    if has_text text && (are_made parents (length posts) && suits_kind g.0 parents)
+    then message_in (group_of g.0 g.1) time (body_of g.0 (ids_of posts parents) text)
+    else None) (slice_get groups group)

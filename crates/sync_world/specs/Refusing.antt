@@ -1,6 +1,6 @@
 -- Where the rules of worlds refuse a step.
 use Rattle.std.specs.Prelude.{◌≡◌, ℕ, ◌+◌, ◌≤◌, ◌==◌, ◌||◌, not, Bool, true, false, nat_lt, is_none}
-use Rattle.std.specs.Prelude.{List, length, Option, Some, None, slice_get}
+use Rattle.std.specs.Prelude.{List, length, Option, Some, None, option_and_then, slice_get}
 use Rattle.outside.specs.declared.limits.TheConstants.{LINKS}
 use Rattle.sync_ids.specs.Values.{GroupValue}
 use Rattle.sync_ids.specs.Ids.{group_id_of}
@@ -9,13 +9,12 @@ use Rattle.sync_node.specs.Node.{NodeValue}
 use Rattle.world_devices.specs.Devices.{DeviceValue}
 use Rattle.world_devices.specs.Refusals.{by_facts, facts_of, refuses_group, refuses_link}
 use Rattle.world_devices.specs.Refusals.{refuses_message}
-use Rattle.world_links.specs.declared.moves.Move.TheVariants as move
 use Rattle.world_scripts.specs.Labels.{KindAndDescriptor}
 use Rattle.world_scripts.specs.declared.step.WorldStep.{WorldStep}
 use Rattle.world_scripts.specs.declared.step.WorldStep.TheVariants as step
 use Rattle.world_scripts.specs.declared.step.TheConstants.{MAX_ROUNDS}
 use Rattle.sync_world.specs.declared.stage.Stage.{Stage}
-use Rattle.sync_world.specs.Moving.{link_cut, link_moved}
+use Rattle.sync_world.specs.Moving.{link_after}
 use Rattle.sync_world.specs.Naming.{group_of}
 use Rattle.sync_world.specs.Posting.{message_of}
 
@@ -32,8 +31,7 @@ lacks def d = by_facts (λ f. is_none (group_at f.groups (group_id_of def))) (fa
 
 -- the group of a label that is there
 abbrev pub group_labelled : Option KindAndDescriptor → Option GroupValue
-group_labelled None = None
-group_labelled (Some group) = group_of group.0 group.1
+group_labelled group = option_and_then (λ g. group_of g.0 g.1) group
 
 -- a device that is there, and may have a further link
 abbrev pub has_room : Option DeviceValue → Bool
@@ -75,12 +73,8 @@ refuses (step.Link d e mode latency) w =
     || (not (has_room (slice_get w.devices.items d))
     || not (has_room (slice_get w.devices.items e))))
 refuses (step.Turn d) w = is_none (slice_get w.devices.items d)
-refuses (step.Carry link d) w = is_none (link_moved move.Carry d (slice_get w.links.items link))
-refuses (step.Lose link d) w = is_none (link_moved move.Lose d (slice_get w.links.items link))
-refuses (step.Repeat link d) w = is_none (link_moved move.Repeat d (slice_get w.links.items link))
-refuses (step.Swap link d) w = is_none (link_moved move.Swap d (slice_get w.links.items link))
-refuses (step.Cut link) w = is_none (link_cut (slice_get w.links.items link))
 refuses (step.Clock at) w = false
 refuses (step.Stop d calls pick) w = is_none (slice_get w.devices.items d)
 refuses (step.Restart d) w = is_none (slice_get w.devices.items d)
 refuses (step.Rest rounds) w = (rounds == 0) || nat_lt MAX_ROUNDS rounds
+refuses made w = is_none (link_after made w.links.items).1

@@ -1,5 +1,5 @@
 -- What a replay reads and writes, and what it comes to.
-use Rattle.std.specs.Prelude.{◌≡◌, ℕ, List, Some, Ok, Err}
+use Rattle.std.specs.Prelude.{◌≡◌, ℕ, ◌<◌, List, Ok, Err, slice_get}
 use Rattle.std.specs.Io.KnownBytes.{Appends}
 use Rattle.outside.specs.Faults.{CountRose}
 use Rattle.outside.specs.Input.{ReadsAll, ReadsPart, ReadsTooMuch}
@@ -10,7 +10,7 @@ use Rattle.sync_words.specs.declared.outcome.Outcome.TheVariants as outcome
 use Rattle.sync_words.specs.declared.status.Status.{Status}
 use Rattle.sync_world.specs.Asking.{Wanted, Wrong, Wants}
 use Rattle.sync_world.specs.Playing.{ScriptComes, made_by}
-use Rattle.sync_world.specs.Showing.{journal_lines, player_lines}
+use Rattle.sync_world.specs.Showing.{Runs, journal_lines}
 use Rattle.sync_world.specs.Standing.{AreManyDevices}
 use Rattle.sync_world.specs.declared.asking.Asked.TheVariants as asked
 use Rattle.sync_world.specs.declared.player.Player.{Player}
@@ -20,31 +20,20 @@ use Rattle.world_scripts.specs.declared.script.TheConstants.{MAX_SCRIPT}
 
 -- ---- what is printed
 
--- What is to be printed of a world: its devices have such journals as the promises on many devices
--- speak of, each of them runs, and the text is the lines that these journals make.
-pub record IsText (p : Player) (text : List ℕ) : Type 0 where
+-- What is written of a world: its devices have such journals as the promises on many devices speak
+-- of, each of them runs, and the text is the lines that these journals make.
+pub record PrintsText (p : Player) (Written : List ℕ → Type 0) : Type 0 where
   pub journals : List Journal
   pub many : AreManyDevices journals p.world.devices.items
-  pub run : player_lines p ≡ Some text
-  pub is : text ≡ journal_lines p.shown journals p.devices
+  pub run : (d : ℕ) → d < p.devices → Runs (slice_get p.world.devices.items d)
+  pub written : Written (journal_lines p.shown journals p.devices)
 
--- all that is to be printed of a world was written
-pub record PrintsAll (p : Player) (out out' : Stream) : Type 0 where
-  pub text : List ℕ
-  pub is : IsText p text
-  pub appended : Appends out.bytes out'.bytes text
-
--- a write failed, and a front of it was written
-pub record PrintsFront (p : Player) (out out' : Stream) : Type 0 where
-  pub text : List ℕ
-  pub is : IsText p text
-  pub rose : CountRose out.faults out'.faults
-  pub got : GetsFront out out' text
-
--- what the printing of a world comes to; where memory was wanting for its text, nothing was written
+-- What the printing of a world comes to: the whole text was written, or a front of it where a write
+-- failed; where memory was wanting for the text, nothing was written.
 abbrev pub PrintsWorld : Player → (out out' : Stream) → Outcome → Type 0
-PrintsWorld p out out' outcome.Done = PrintsAll p out out'
-PrintsWorld p out out' outcome.WriteFault = PrintsFront p out out'
+PrintsWorld p out out' outcome.Done = PrintsText p (Appends out.bytes out'.bytes)
+PrintsWorld p out out' outcome.WriteFault =
+    CountRose out.faults out'.faults × PrintsText p (GetsFront out out')
 PrintsWorld p out out' outcome.Memory = IsIdle out out'
 PrintsWorld p out out' _ = ⊥
 
@@ -70,34 +59,24 @@ pub record PlaysScript (input input' out out' : Stream) (came : Outcome) : Type 
   pub read : ReadsAll MAX_SCRIPT input.bytes input'.bytes script
   pub plays : PlaysOut (said script) out out' came
 
--- more bytes were read than a script may have
-pub record ReadsOver (input input' : Stream) : Type 0 where
-  pub front : List ℕ
-  pub read : ReadsTooMuch MAX_SCRIPT input.bytes input'.bytes front
-
--- a read failed, behind no more bytes than a script may have
-pub record ReadsNotAll (input input' : Stream) : Type 0 where
-  pub front : List ℕ
-  pub read : ReadsPart MAX_SCRIPT input.bytes input'.bytes front
-  pub rose : CountRose input.faults input'.faults
-
+-- What the reading of a script comes to, and then its playing: more bytes were read than a script
+-- may have, or a read failed, behind no more bytes than that.
 abbrev pub OfScript : (input input' out out' : Stream) → Outcome → Type 0
-OfScript input input' out out' outcome.TooMuch = ReadsOver input input' × IsIdle out out'
-OfScript input input' out out' outcome.ReadFault = ReadsNotAll input input' × IsIdle out out'
+OfScript input input' out out' outcome.TooMuch =
+    ((front : List ℕ) × ReadsTooMuch MAX_SCRIPT input.bytes input'.bytes front) × IsIdle out out'
+OfScript input input' out out' outcome.ReadFault =
+    ((front : List ℕ) × ReadsPart MAX_SCRIPT input.bytes input'.bytes front)
+    × CountRose input.faults input'.faults × IsIdle out out'
 OfScript input input' out out' outcome.Memory = IsIdle out out'
 OfScript input input' out out' came = PlaysScript input input' out out' came
 
 -- ---- all words
 
--- the place of the first wrong word is named
-abbrev pub NamesWord : ℕ → Outcome → Type 0
-NamesWord place (outcome.Usage at) = at ≡ place
-NamesWord place _ = ⊥
-
--- What the words ask for, and what it comes to. But for a script nothing is read.
+-- What the words ask for, and what it comes to: the place of the first wrong word is named; and but
+-- for a script nothing is read.
 abbrev pub ReplaysWords : Wanted → (input input' out out' : Stream) → Outcome → Type 0
 ReplaysWords (Wrong place) input input' out out' came =
-    NamesWord place came × IsIdle input input' × IsIdle out out'
+    (came ≡ outcome.Usage place) × IsIdle input input' × IsIdle out out'
 ReplaysWords (Wants asked.Script) input input' out out' came = OfScript input input' out out' came
 ReplaysWords (Wants (asked.Generated seed count)) input input' out out' came =
     IsIdle input input' × PlaysOut (made_by seed count) out out' came

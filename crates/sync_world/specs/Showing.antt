@@ -74,6 +74,10 @@ lines_below shown devices (suc number) =
 abbrev pub player_lines : Player → Option (List ℕ)
 player_lines p = lines_below p.shown p.world.devices.items p.devices
 
+-- there is such a device, and it runs
+abbrev pub Runs : Option DeviceValue → Type 0
+Runs o = (device : DeviceValue) × (n : NodeValue) × (o ≡ Some device) × (device.node ≡ Some n)
+
 -- the lines that these journals make of the devices below this number, in order
 abbrev pub journal_lines : (shown : List Bool) → List Journal → ℕ → List ℕ
 journal_lines shown journals zero = []

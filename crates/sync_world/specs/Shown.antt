@@ -1,29 +1,26 @@
 -- The links of a world of bytes, shown as the links of a world of records: of which the theorem of
 -- many devices speaks.
-use Rattle.std.specs.Prelude.{◌≡◌, ◌⊎◌, ℕ, ◌+◌, ◌-◌, ◌==◌, ◌||◌, ◌&&◌, Bool, true, false}
-use Rattle.std.specs.Prelude.{if◌then◌else◌, nat_eq, nat_lt, List, [], ◌∷◌, ◌++◌, map, length}
-use Rattle.std.specs.Prelude.{Option, Some, None, slice_get}
-use Rattle.outside.specs.Runs.{IsFront}
+use Rattle.std.specs.Prelude.{◌≡◌, ◌⊎◌, ℕ, ◌==◌, ◌||◌, ◌&&◌, Bool, true, false}
+use Rattle.std.specs.Prelude.{if◌then◌else◌, nat_eq, List, [], ◌∷◌, ◌++◌, map, length}
+use Rattle.std.specs.Prelude.{Option, Some, None}
 use Rattle.std.specs.List.{AllByRecursion}
 use Rattle.sync_ids.specs.declared.records.Record.{Record}
 use Rattle.sync_ids.specs.Records.{IsRecord}
 use Rattle.record_grammar.specs.Spelling.{spelled, spelling}
-use Rattle.record_grammar.specs.Stream.{records}
 use Rattle.entry_codec.specs.Spelling.{IsEntry}
 use Rattle.sync_rules.specs.Clients.{Meaning}
 use Rattle.sync_rules.specs.Lists.{In}
 use Rattle.sync_rules.specs.Facts.{facts}
-use Rattle.sync_rules.specs.Legal.{GoesOn, Legal}
+use Rattle.sync_rules.specs.Legal.{Legal}
 use Rattle.world_links.specs.declared.link.Link.{Link}
 use Rattle.world_links.specs.declared.moves.Move.{Move}
 use Rattle.world_links.specs.declared.moves.Move.TheVariants as move
 use Rattle.world_links.specs.declared.moves.Side.{Side}
 use Rattle.world_links.specs.declared.moves.Side.TheVariants as side
 use Rattle.world_links.specs.Ends.{EndValue, flight_behind}
-use Rattle.world_links.specs.Links.{all_carried, end_of}
+use Rattle.world_links.specs.Links.{all_carried}
 use Rattle.world_laws.specs.Moves.{Move as WorldMove, Carry, Lose, Repeat, Swap}
-use Rattle.world_laws.specs.Theorem.{IsSoundWorld}
-use Rattle.world_laws.specs.Worlds.{AllHeard, AreSteps, End, HasNoBrief, HasSession, IsSent}
+use Rattle.world_laws.specs.Worlds.{AreSteps, End, HasNoBrief, HasSession, IsSent}
 use Rattle.world_laws.specs.Worlds.{Journal, WorldLink as RecordLink, World, contact_for, last_of}
 use Rattle.world_laws.specs.Worlds.{link_in, way_of}
 
@@ -192,12 +189,6 @@ pub record IsGivenAt (d session : ℕ) (xs : List RecordLink) (r : Record) : Typ
   pub on : (way_of near link).receiver.session ≡ Some session
   pub inside : In r (way_of near link).receiver.given
 
--- the records among the bytes that were heard on the links of a run, by session: the first link has
--- the session `first`
-abbrev pub heard_in_run : ℕ → (ℕ → List ℕ) → ℕ → List Record
-heard_in_run first heard session =
-    if nat_lt session first then [] else records (heard (session - first))
-
 -- ---- what is shown while a device runs
 
 -- an end in bytes shows one that comes of this end while the device runs; so do a link, and several
@@ -217,60 +208,6 @@ pub record ShownLinksRun (d : ℕ) (j : Journal) (ls : List Link)
   pub shown : ShowsLinks ls after
   pub runs : LinksRun d j xs after
 
--- an end at which a session began, and one after a look at what was sent there
-abbrev pub attached : ℕ → ℕ → EndValue → EndValue
-attached at session e = record e { at = Some at; session = Some session; seen = 0 }
-
+-- an end after a look at what was sent there
 abbrev pub looked : Bool → List ℕ → EndValue → EndValue
 looked cut sent e = record e { flight = flight_behind cut sent e; seen = length sent }
-
--- two ends, and two links, of which as much is shown
-pub record IsEndLike (e e' : EndValue) : Type 0 where
-  pub device : e'.device ≡ e.device
-  pub session : e'.session ≡ e.session
-  pub flight : e'.flight ≡ e.flight
-  pub given : e'.given ≡ e.given
-
-pub record IsLinkLike (l l' : Link) : Type 0 where
-  pub near : IsEndLike l.near l'.near
-  pub far : IsEndLike l.far l'.far
-
-abbrev pub AreLike : List Link → List Link → Type 0
-AreLike [] [] = Unit {0}
-AreLike [] (m ∷ ms) = ⊥
-AreLike (l ∷ ls) [] = ⊥
-AreLike (l ∷ ls) (m ∷ ms) = IsLinkLike l m × AreLike ls ms
-
--- these bytes are a front of what an end of a device was given on a session
-pub record IsFrontAt (d session : ℕ) (ls : List Link) (bytes : List ℕ) : Type 0 where
-  pub number : ℕ
-  pub from : Side
-  pub link : Link
-  pub stands : slice_get ls number ≡ Some link
-  pub own : (end_of from link).device ≡ d
-  pub on : (end_of from link).session ≡ Some session
-  pub front : IsFront bytes (end_of from link).given
-
--- what the links of a run heard was given to the ends of the device, whose first link has the
--- session `first`
-abbrev pub WasHeardAt : ℕ → ℕ → (ℕ → List ℕ) → List Link → Type 0
-WasHeardAt d first heard ls =
-    (link : ℕ) → (heard link ≡ []) ⊎ IsFrontAt d (first + link) ls (heard link)
-
--- ---- sound worlds
-
--- links in bytes show those of a sound world with these journals
-pub record ShowsSound (clients : Meaning) (js : List Journal) (ls : List Link) : Type 0 where
-  pub links : List RecordLink
-  pub shown : ShowsLinks ls links
-  pub sound : IsSoundWorld clients (world_of js links)
-
--- what a device adds to its journal while it runs: it may follow, it begins no brief account, and
--- each record that is taken was heard
-pub record AddsHeard (clients : Meaning) (before j : Journal)
-    (heard : ℕ → List Record) : Type 0 where
-  pub more : Journal
-  pub goes_on : j ≡ before ++ more
-  pub allowed : GoesOn clients (facts before) more
-  pub plain : HasNoBrief more
-  pub all_heard : AllHeard heard (facts before) more

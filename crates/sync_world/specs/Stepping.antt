@@ -2,7 +2,7 @@
 use Rattle.std.specs.Prelude.{◌≡◌, Some, None, Result, Err, IsErrOf}
 use Rattle.sync_world.specs.Doing.{DoesBy}
 use Rattle.sync_world.specs.Leaving.{IsSame}
-use Rattle.sync_world.specs.Moving.{LeavesDevices, LinksBecome, fault_after}
+use Rattle.sync_world.specs.Moving.{fault_after}
 use Rattle.sync_world.specs.Refusing.{refuses}
 use Rattle.sync_world.specs.Standing.{IsManyDevices}
 use Rattle.world_devices.specs.Refusals.{RefusedBy}
@@ -16,8 +16,6 @@ pub record HasStepped (made : WorldStep) (old new : Stage)
     (result : Result (Unit {0}) StepFault) : Type 0 where
   pub for_good : (fault : StepFault) → old.fault ≡ Some fault → (result ≡ Err fault) × (new ≡ old)
   pub fault : old.fault ≡ None → new.fault ≡ fault_after result
-  pub links : old.fault ≡ None → LinksBecome made old.links.items new.links.items result
-  pub devices : old.fault ≡ None → LeavesDevices made old.devices.items new.devices.items
   pub many : IsManyDevices new.devices.items
   pub refused : old.fault ≡ None → RefusedBy (refuses made old) result
   pub same : old.fault ≡ None → IsErrOf result fault_kind.Refused → IsSame old new

@@ -5,12 +5,12 @@ use Rattle.world_devices.specs.Brought.{sent_by}
 use Rattle.world_devices.specs.Devices.{DeviceValue}
 use Rattle.world_devices.specs.Linking.{end_at, is_shut}
 use Rattle.world_links.specs.Ends.{EndValue}
-use Rattle.world_links.specs.Links.{cut, side_of}
+use Rattle.world_links.specs.Links.{cut, end_of, side_of}
 use Rattle.world_links.specs.Moves.{has_first}
 use Rattle.world_links.specs.declared.link.Link.{Link}
 use Rattle.world_links.specs.declared.moves.Side.{Side}
-use Rattle.world_links.specs.declared.moves.Side.TheVariants as side
 use Rattle.sync_world.specs.Shown.{looked}
+use Rattle.sync_world.specs.Staging.{with_end}
 
 -- an end after a look at what its device sent on the link, which has this number there; the device
 -- may not have it any more
@@ -29,10 +29,9 @@ cut_if false l = l
 
 abbrev pub look_side : DeviceValue → Link → Option Side → Link
 look_side device l None = l
-look_side device l (Some side.Near) =
-    cut_if (shut_at device l.near.at) (record l { near = look_at device l.is_cut l.near.at l.near })
-look_side device l (Some side.Far) =
-    cut_if (shut_at device l.far.at) (record l { far = look_at device l.is_cut l.far.at l.far })
+look_side device l (Some from) =
+    cut_if (shut_at device (end_of from l).at)
+    (with_end from (look_at device l.is_cut (end_of from l).at (end_of from l)) l)
 
 -- a link after a look at the end of a device: what was sent is in flight, and where the device
 -- closed the link it is cut

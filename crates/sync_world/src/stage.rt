@@ -10,9 +10,8 @@ ghost use Rattle.sync_world.specs.Staging.{HasFreshEnd, IsCallMade, after_ran, a
 ghost use Rattle.world_laws.specs.Worlds as W;
 ghost use Rattle.sync_world.specs.Standing.{LeadsFromShown, IsWorld, is_fatal};
 ghost use Rattle.sync_rules.specs.Legal.{suits_nonce};
-ghost use Rattle.sync_world.specs.Moving.{MakesOfLink, BecomesOne, LeavesDevices, LinksBecome};
-ghost use Rattle.sync_world.specs.Moving.{fault_after, link_cut, link_moved};
-ghost use Rattle.sync_world.specs.Doing.{DoesBy, ground_of};
+ghost use Rattle.sync_world.specs.Moving.{BecomesOne, fault_after, link_cut, link_moved};
+ghost use Rattle.sync_world.specs.Doing.{DoesBy, LinkBecomes, ground_of};
 ghost use Rattle.sync_world.specs.Parts.{AttachesBy, DialsBy, RoundBy, TurnsBy, TurnsLinkedBy};
 ghost use Rattle.sync_world.specs.Leaving.{IsSame};
 ghost use Rattle.sync_world.specs.Naming.{IsMade};
@@ -95,10 +94,6 @@ impl Stage {
         ensures for_good { (fault : StepFault) → self.old.fault ≡ Some fault
             → (result ≡ Err fault) × (self.new ≡ self.old) }
         ensures fault { self.old.fault ≡ None → self.new.fault ≡ fault_after result }
-        ensures links { self.old.fault ≡ None → LinksBecome step.now self.old.links.items
-            self.new.links.items result }
-        ensures devices { self.old.fault ≡ None → LeavesDevices step.now self.old.devices.items
-            self.new.devices.items }
         ensures refused { self.old.fault ≡ None → KnowContacts self.old.devices.items
             → RefusedBy (refuses step.now self.old) result }
         ensures same { self.old.fault ≡ None → KnowContacts self.old.devices.items
@@ -117,8 +112,6 @@ impl Stage {
     }
 
     fn make(&mut self, step: &WorldStep) -> Result<(), StepFault>
-        ensures links { LinksBecome step.now self.old.links.items self.new.links.items result }
-        ensures devices { LeavesDevices step.now self.old.devices.items self.new.devices.items }
         ensures fault { self.new.fault ≡ self.old.fault }
         ensures goes { LeadsFromShown (is_fatal result) self.old self.new }
         ensures refused { KnowContacts self.old.devices.items
@@ -467,9 +460,8 @@ impl Stage {
 
     // The first records in flight from a device move.
     fn move_first(&mut self, link: u64, d: u8, how: Move) -> Result<(), StepFault>
-        ensures devices { self.new.devices.items ≡ self.old.devices.items }
-        ensures links { MakesOfLink (link_moved how d (slice_get self.old.links.items link)) link
-            self.old.links.items self.new.links.items result }
+        ensures becomes { LinkBecomes link (link_moved how d (slice_get self.old.links.items link))
+            result (ground_of self.old) (ground_of self.new) }
         ensures fault { self.new.fault ≡ self.old.fault }
         ensures goes { LeadsFromShown (is_fatal result) self.old self.new }
         ensures groups { self.new.groups ≡ self.old.groups }
@@ -483,9 +475,8 @@ impl Stage {
     }
 
     fn cut(&mut self, link: u64) -> Result<(), StepFault>
-        ensures devices { self.new.devices.items ≡ self.old.devices.items }
-        ensures links { MakesOfLink (link_cut (slice_get self.old.links.items link)) link
-            self.old.links.items self.new.links.items result }
+        ensures becomes { LinkBecomes link (link_cut (slice_get self.old.links.items link)) result
+            (ground_of self.old) (ground_of self.new) }
         ensures fault { self.new.fault ≡ self.old.fault }
         ensures goes { LeadsFromShown (is_fatal result) self.old self.new }
         ensures groups { self.new.groups ≡ self.old.groups }

@@ -6,7 +6,7 @@ ghost use Rattle.sync_world.specs.Leaving.{IsSame};
 ghost use Rattle.sync_world.specs.Refusing.{refuses};
 ghost use Rattle.sync_world.specs.Standing.{AllLinksStand, IsManyDevices};
 ghost use Rattle.world_devices.specs.Refusals.{RefusedBy};
-ghost use Rattle.sync_world.specs.Moving.{LeavesDevices, LinksBecome, fault_after};
+ghost use Rattle.sync_world.specs.Moving.{fault_after};
 ghost use Rattle.world_devices.specs.declared.stop.StepFault.{StepFault};
 
 use crate::stage::Stage;
@@ -89,10 +89,6 @@ impl World {
         ensures for_good { (fault : StepFault) → self.old.fault ≡ Some fault
             → (result ≡ Err fault) × (self.new ≡ self.old) }
         ensures fault { self.old.fault ≡ None → self.new.fault ≡ fault_after result }
-        ensures links { self.old.fault ≡ None → LinksBecome step.now self.old.links.items
-            self.new.links.items result }
-        ensures devices { self.old.fault ≡ None → LeavesDevices step.now self.old.devices.items
-            self.new.devices.items }
         ensures many { IsManyDevices self.new.devices.items }
         ensures refused { self.old.fault ≡ None → RefusedBy (refuses step.now self.old) result }
         ensures same { self.old.fault ≡ None → IsErrOf result StepFault.Refused

@@ -13,9 +13,6 @@ pub record IsLeft (first : ℕ) (script : List ℕ) (number : ℕ) (left : List 
   pub of_opening : opening first (lines script) ≡ opening number (lines left)
   pub within : number + length left ≤ first + length script
 
-pub all_left : (first : ℕ) (script : List ℕ) → IsLeft first script first script
-all_left first script = record { of_course = refl; of_opening = refl; within = omega arith }
-
 module _ (first : ℕ) (script : List ℕ) (number : ℕ) (left : List ℕ)
     (is : IsLeft first script number left) where
   -- an empty line is skipped

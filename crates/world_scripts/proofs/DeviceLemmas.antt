@@ -3,13 +3,14 @@ use Rattle.std.proofs.Common.{◌≡◌, ℕ, ◌≤◌, Bool, true, false, cond
 use Rattle.std.proofs.Common.{refl, subst, Option, Some, None}
 use Rattle.std.proofs.lemmas.Bool.{leb-true}
 use Rattle.std.specs.Str.{is_utf8, bytes_eq}
-use Rattle.std.specs.Prelude.{codes}
+use Rattle.std.specs.Prelude.{codes, option_map}
 use Rattle.std.specs.Str.Parse.{digits_value}
 use Rattle.sync_words.specs.Words.{is_number, number_in}
 use Rattle.world_scripts.specs.Cuts.{front_of, behind}
 use Rattle.world_scripts.specs.Forms.{LineLeft, and_then, at_least, beside, device_in, devices_in}
-use Rattle.world_scripts.specs.Forms.{device_step_in, does, group_in, line_in, number_between, over}
-use Rattle.world_scripts.specs.Forms.{post_in, said_in, show_in, word_in, word_then}
+use Rattle.world_scripts.specs.Forms.{form_in, line_in, number_between, over, said_in, says}
+use Rattle.world_scripts.specs.Forms.{show_in}
+use Rattle.world_scripts.specs.Forms.{step_forms, word_in}
 use Rattle.world_scripts.specs.declared.step.Action.TheVariants as action
 use Rattle.world_scripts.specs.declared.step.Line.{Line}
 use Rattle.world_scripts.specs.declared.step.Line.TheVariants as line
@@ -58,13 +59,15 @@ Ended read made x = (word : List ℕ) × ((n : ℕ) × ((read word ≡ Some n) �
 
 ended_by : (read : List ℕ → Option ℕ) (made : ℕ → Line) (x : Line) (word : List ℕ)
     (number : Option ℕ) (rest : LineLeft) → read word ≡ number
-    → and_then (beside number rest) (λ n. over (made n)) ≡ Some x → Ended read made x
+    → and_then (and_then (beside number rest) (λ n left. says (made n) left)) over ≡ Some x
+    → Ended read made x
 ended_by read made x word None rest is e = absurd (let no : None ≡ Some x = e in cc)
 ended_by read made x word (Some n) None is e = let same : made n ≡ x = cc in (word, (n, (is, same)))
 ended_by read made x word (Some n) (Some text) is e = absurd (let no : None ≡ Some x = e in cc)
 
 ended : (read : List ℕ → Option ℕ) (made : ℕ → Line) (x : Line) (left : LineLeft)
-    → word_then read (λ n. over (made n)) left ≡ Some x → Ended read made x
+    → and_then (and_then (word_in read left) (λ n left. says (made n) left)) over ≡ Some x
+    → Ended read made x
 unfolding word_in
 ended read made x None e = absurd (let no : None ≡ Some x = e in cc)
 ended read made x (Some text) e = ended_by read made x (front_of 32 text) (read (front_of 32 text))
@@ -72,7 +75,8 @@ ended read made x (Some text) e = ended_by read made x (front_of 32 text) (read 
 
 -- ---- a line that says how many devices there are
 
-devices_within : (left : LineLeft) (n : ℕ) → devices_in left ≡ Some (line.Devices n) → IsBetween 2 8 n
+devices_within : (left : LineLeft) (n : ℕ) → devices_in left ≡ Some (line.Devices n)
+    → IsBetween 2 8 n
 devices_within left n e =
     let at = ended (number_between 2 8) line.Devices (line.Devices n) left e in
     let same : at.1.0 ≡ n = let both : line.Devices at.1.0 ≡ line.Devices n = at.1.1.1 in cc in
@@ -84,7 +88,8 @@ no_show left n e =
     let no : line.Does (action.Show at.1.0) ≡ line.Devices n = at.1.1.1 in
     cc
 
-no_step : (made : Option WorldStep) (n : ℕ) → does made ≡ Some (line.Devices n) → ⊥
+no_step : (made : Option WorldStep) (n : ℕ)
+    → option_map (λ it. line.Does (action.Step it)) made ≡ Some (line.Devices n) → ⊥
 no_step None n e = let no : None ≡ Some (line.Devices n) = e in cc
 no_step (Some made) n e = let no : Some (line.Does (action.Step made)) ≡ Some (line.Devices n) =
     e in cc
@@ -102,9 +107,7 @@ unfolding said_in
 said_within word left n e =
     either (bytes_eq word (codes "devices")) _ _ n e (devices_within left n) (λ e.
     either (bytes_eq word (codes "show")) _ _ n e (λ e. absurd (no_show left n e)) (λ e.
-    either (bytes_eq word (codes "group")) _ _ n e (λ e. absurd (no_step (group_in left) n e)) (λ e.
-    either (bytes_eq word (codes "post")) _ _ n e (λ e. absurd (no_step (post_in left) n e)) (λ e.
-    absurd (no_step (device_step_in word left) n e)))))
+    absurd (no_step (form_in step_forms word left) n e)))
 
 pub line_within : (bytes : List ℕ) (n : ℕ) → line_in bytes ≡ Some (line.Devices n) → IsBetween 2 8 n
 unfolding line_in

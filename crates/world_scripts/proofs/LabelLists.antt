@@ -20,10 +20,6 @@ abbrev pub onto : List ℕ → Option (List ℕ) → Option (List ℕ)
 onto front None = None
 onto front (Some labels) = Some (front ++ labels)
 
-pub onto_none : (labels : Option (List ℕ)) → labels ≡ onto [] labels
-onto_none None = refl
-onto_none (Some labels) = refl
-
 onto_cons : (front : List ℕ) (label : ℕ) (labels : Option (List ℕ))
     → onto front (cons_in (Some label) labels) ≡ onto (front ++ label ∷ []) labels
 onto_cons front label None = refl

@@ -4,7 +4,7 @@ use Rattle.std.proofs.Common.{sym, ◌∙◌, ap, subst, Option, Some, None}
 use Rattle.std.specs.Bool.{then_some}
 use Rattle.world_scripts.specs.Cuts.{front_of, behind}
 use Rattle.world_scripts.specs.Answers.{ReadsValue}
-use Rattle.world_scripts.specs.Forms.{LineLeft, beside, word_in, descriptor_in}
+use Rattle.world_scripts.specs.Forms.{LineLeft, beside, word_in, some_bytes}
 
 pub either : (test : Bool) (n : ℕ) → then_some test n ≡ cond test (Some n) None
 either true n = refl
@@ -16,7 +16,8 @@ module _ {V : Type 0} (read : List ℕ → Option V) where
   unfolding word_in
   read_word None word after is = absurd (let e : None ≡ Some (word, after) = is in cc)
   read_word (Some text) word after is =
-      let both : ◌≡◌ {A = List ℕ × LineLeft} (front_of 32 text, behind 32 text) (word, after) = cc in
+      let both : ◌≡◌ {A = List ℕ × LineLeft} (front_of 32 text, behind 32 text) (word, after) =
+      cc in
       (λ i. beside (read ((both i).0)) ((both i).1))
 
   pub no_word : (left : LineLeft) → word_in Some left ≡ None → word_in read left ≡ None
@@ -41,19 +42,20 @@ module _ {V : Type 0} (read : List ℕ → Option V) where
   -- no word is left
   pub reads_missing : (left after : LineLeft) (r : Option V) → word_in Some left ≡ None → r ≡ None
       → ReadsValue (word_in read) left r after
-  reads_missing left after r none is = subst (λ (o : Option V). ReadsValue (word_in read) left o after)
+  reads_missing left after r none is =
+      subst (λ (o : Option V). ReadsValue (word_in read) left o after)
       (sym is) (no_word left none)
 
 -- ---- a descriptor
 
 pub no_descriptor : (left : LineLeft) (word : List ℕ) (after : LineLeft)
     → word_in Some left ≡ Some (word, after) → length word ≡ 0
-    → word_in descriptor_in left ≡ None
-no_descriptor left [] after is none = read_word descriptor_in left [] after is
+    → word_in some_bytes left ≡ None
+no_descriptor left [] after is none = read_word some_bytes left [] after is
 no_descriptor left (b ∷ word) after is none = absurd (omega arith)
 
 pub some_descriptor : (left : LineLeft) (word : List ℕ) (after : LineLeft)
     → word_in Some left ≡ Some (word, after) → ¬ (length word ≡ 0)
-    → word_in descriptor_in left ≡ Some (word, after)
+    → word_in some_bytes left ≡ Some (word, after)
 some_descriptor left [] after is some = absurd (some refl)
-some_descriptor left (b ∷ word) after is some = read_word descriptor_in left (b ∷ word) after is
+some_descriptor left (b ∷ word) after is some = read_word some_bytes left (b ∷ word) after is

@@ -1,5 +1,5 @@
 -- What a whole script says by itself.
-use Rattle.std.specs.Prelude.{ℕ, ◌+◌, ◌==◌, Bool, if◌then◌else◌, List, [], ◌∷◌, length, Option}
+use Rattle.std.specs.Prelude.{ℕ, ◌+◌, ◌==◌, if◌then◌else◌, List, [], ◌∷◌, length, Option}
 use Rattle.std.specs.Prelude.{Some, None}
 use Rattle.world_scripts.specs.Cuts.{lines}
 use Rattle.world_scripts.specs.Forms.{line_in}
@@ -13,30 +13,18 @@ pub record ScriptCourse : Type 0 where
   pub actions : List (ℕ × Action)
   pub bad : Option ℕ
 
--- nothing more is to be done, and no line is bad
-abbrev pub over : ScriptCourse
-over = record { actions = []; bad = None }
-
--- a line is bad
-abbrev pub bad_at : ℕ → ScriptCourse
-bad_at number = record { actions = []; bad = Some number }
-
 -- a line that says this stands before a course
 abbrev pub after_line : Option Line → ℕ → ScriptCourse → ScriptCourse
 after_line (Some (line.Does action)) number course =
     record { actions = (number, action) ∷ course.actions; bad = course.bad }
-after_line (Some (line.Devices n)) number course = bad_at number
-after_line None number course = bad_at number
-
-abbrev pub is_empty : List ℕ → Bool
-is_empty line = length line == 0
+after_line _ number course = record { actions = []; bad = Some number }
 
 -- the course of these lines, the first of which has this number. Empty lines are skipped and
 -- counted
 unfoldable pub course : ℕ → List (List ℕ) → ScriptCourse
-course number [] = over
+course number [] = record { actions = []; bad = None }
 course number (line ∷ lines) =
-    if is_empty line then course (number + 1) lines
+    if length line == 0 then course (number + 1) lines
     else after_line (line_in line) number (course (number + 1) lines)
 
 -- a script says how many devices there are, and what follows is a course; or a line is bad
@@ -47,15 +35,14 @@ pub data Opening : Type 0 where
 -- a first line that says this stands before a course
 abbrev pub opening_by : Option Line → ℕ → ScriptCourse → Opening
 opening_by (Some (line.Devices n)) number course = Opens n course
-opening_by (Some (line.Does action)) number course = Bad number
-opening_by None number course = Bad number
+opening_by _ number course = Bad number
 
 -- the first line that is not empty says how many devices there are; where there is none, line 1 is
 -- bad
 unfoldable pub opening : ℕ → List (List ℕ) → Opening
 opening number [] = Bad 1
 opening number (line ∷ lines) =
-    if is_empty line then opening (number + 1) lines
+    if length line == 0 then opening (number + 1) lines
     else opening_by (line_in line) number (course (number + 1) lines)
 
 -- what a whole script says

@@ -1,7 +1,7 @@
 -- The forms of a line. A line is words with one space between two, and each form is read from left
 -- to right.
 use Rattle.std.specs.Prelude.{ℕ, ◌-◌, ◌==◌, ◌^◌, Bool, nat_le, if◌then◌else◌, List, [], ◌∷◌}
-use Rattle.std.specs.Prelude.{codes, Option, Some, None, option_map}
+use Rattle.std.specs.Prelude.{codes, Option, Some, None, option_map, option_and_then}
 use Rattle.std.specs.List.{slice_split}
 use Rattle.std.specs.Str.{is_utf8, bytes_eq}
 use Rattle.outside.specs.declared.pick.Pick.{Pick}
@@ -18,40 +18,62 @@ use Rattle.world_scripts.specs.declared.step.Line.TheVariants as line
 use Rattle.world_scripts.specs.declared.step.WorldStep.{WorldStep}
 use Rattle.world_scripts.specs.declared.step.WorldStep.TheVariants as step
 
+infixl 30 ◌▸◌
 -- ---- how words follow one another
 
 -- what is left of a line behind the space that follows a word; nothing where that word was the last
 abbrev pub LineLeft : Type 0
 LineLeft = Option (List ℕ)
 
+-- what the words in front are read as, if they have the form, and what is left behind them
+abbrev pub Form : Type 0 → Type 0
+Form V = LineLeft → Option (V × LineLeft)
+
 abbrev pub beside : {V : Type 0} → Option V → LineLeft → Option (V × LineLeft)
 beside None left = None
 beside (Some value) left = Some (value, left)
-
--- the next word, read so, and what is left behind it
-unfoldable pub word_in : {V : Type 0} → (List ℕ → Option V) → LineLeft → Option (V × LineLeft)
-word_in read None = None
-word_in read (Some text) = beside (read (front_of 32 text)) (behind 32 text)
 
 abbrev pub and_then : {V W : Type 0} → Option (V × LineLeft) → (V → LineLeft → Option W) → Option W
 and_then None next = None
 and_then (Some x) next = next x.0 x.1
 
--- the next word is read so, and then come the others
-abbrev pub word_then : {V W : Type 0} → (List ℕ → Option V) → (V → LineLeft → Option W) → LineLeft
-    → Option W
-word_then read next left = and_then (word_in read left) next
+-- no word
+abbrev pub says : {V : Type 0} → V → Form V
+says value left = Some (value, left)
+
+-- the next word, read so
+unfoldable pub word_in : {V : Type 0} → (List ℕ → Option V) → Form V
+word_in read None = None
+word_in read (Some text) = beside (read (front_of 32 text)) (behind 32 text)
+
+-- a form, and then the next word, read so
+abbrev pub ◌▸◌ : {V W : Type 0} → Form (V → W) → (List ℕ → Option V) → Form W
+◌▸◌ form read left =
+    and_then (form left) (λ made left. and_then (word_in read left) (λ value left.
+    says (made value) left))
+
+-- what is not empty
+abbrev pub some_bytes : List ℕ → Option (List ℕ)
+some_bytes [] = None
+some_bytes (b ∷ bytes) = Some (b ∷ bytes)
+
+-- all that is left is the text, which is not empty
+abbrev pub text_in : LineLeft → Option (List ℕ)
+text_in left = option_and_then some_bytes left
+
+-- a form, and then the text
+abbrev pub before_text : {W : Type 0} → Form (List ℕ → W) → Form W
+before_text form left =
+    and_then (form left) (λ made left. beside (option_map made (text_in left)) None)
 
 -- no word is left
 abbrev pub over : {W : Type 0} → W → LineLeft → Option W
 over value None = Some value
 over value (Some text) = None
 
--- all that is left is the text, which has at least one byte
-abbrev pub text_in : LineLeft → Option (List ℕ)
-text_in None = None
-text_in (Some []) = None
-text_in (Some (b ∷ text)) = Some (b ∷ text)
+-- all words that are left
+abbrev pub whole : {W : Type 0} → Form W → LineLeft → Option W
+whole form left = and_then (form left) over
 
 -- ---- single words
 
@@ -70,25 +92,20 @@ device_in word = number_between 0 MAX_DEVICE word
 abbrev pub count_in : List ℕ → Option ℕ
 count_in word = number_between 0 (2 ^ 64 - 1) word
 
+-- what has this name in a list
+abbrev pub named : {V : Type 0} → List (List ℕ × V) → List ℕ → Option V
+named [] word = None
+named (x ∷ xs) word = if bytes_eq word x.0 then Some x.1 else named xs word
+
 abbrev pub kind_in : List ℕ → Option ℕ
-kind_in word =
-    if bytes_eq word (codes "note") then Some NOTE
-    else if bytes_eq word (codes "thread") then Some THREAD
-    else if bytes_eq word (codes "feed") then Some FEED
-    else None
+kind_in =
+    named ((codes "note", NOTE) ∷ (codes "thread", THREAD) ∷ (codes "feed", FEED) ∷ [])
 
 abbrev pub pick_in : List ℕ → Option Pick
-pick_in word =
-    if bytes_eq word (codes "old") then Some pick.Old
-    else if bytes_eq word (codes "new") then Some pick.New
-    else if bytes_eq word (codes "zero") then Some pick.Zero
-    else if bytes_eq word (codes "ones") then Some pick.Ones
-    else None
-
--- a descriptor is one word, and no word is empty
-abbrev pub descriptor_in : List ℕ → Option (List ℕ)
-descriptor_in [] = None
-descriptor_in (b ∷ word) = Some (b ∷ word)
+pick_in =
+    named
+    ((codes "old", pick.Old) ∷ (codes "new", pick.New) ∷ (codes "zero", pick.Zero)
+    ∷ (codes "ones", pick.Ones) ∷ [])
 
 abbrev pub cons_in : Option ℕ → Option (List ℕ) → Option (List ℕ)
 cons_in None labels = None
@@ -100,122 +117,69 @@ unfoldable pub each_label : List (List ℕ) → Option (List ℕ)
 each_label [] = Some []
 each_label (part ∷ parts) = cons_in (number_in (2 ^ 64 - 1) part) (each_label parts)
 
-abbrev pub is_comma : ℕ → Bool
-is_comma b = b == 44
-
 -- no labels, written as a hyphen, or labels with one comma between two
 unfoldable pub labels_in : List ℕ → Option (List ℕ)
 labels_in word =
-    if bytes_eq word (codes "-") then Some [] else each_label (slice_split is_comma word)
+    if bytes_eq word (codes "-") then Some [] else each_label (slice_split (λ b. b == 44) word)
 
--- ---- the steps, behind their first words
-
--- a device, a kind and a descriptor
-unfoldable pub group_in : LineLeft → Option WorldStep
-group_in =
-    word_then device_in (λ device. word_then kind_in (λ kind. word_then descriptor_in (λ descriptor.
-    over (step.Group device kind descriptor))))
-
--- a device, another device, a group's label and a level
-unfoldable pub share_in : LineLeft → Option WorldStep
-share_in =
-    word_then device_in (λ device. word_then device_in (λ other. word_then count_in (λ group.
-    word_then level_in (λ level. over (step.Share device other group level)))))
-
--- a device, a group's label and a time
-abbrev pub place_in : LineLeft → Option ((ℕ × ℕ × ℕ) × LineLeft)
-place_in =
-    word_then device_in (λ device. word_then count_in (λ group.
-    word_then (number_between 0 MAX_TIMESTAMP) (λ time left. Some ((device, group, time), left))))
-
--- the post of this place, with these labels of parents and this text
-abbrev pub post_at : ℕ × ℕ × ℕ → List ℕ → List ℕ → WorldStep
-post_at place parents text = step.Post place.0 place.1 place.2 parents text
-
--- the same with the word that its parents' labels are written as
-abbrev pub post_with : ℕ × ℕ × ℕ → List ℕ → List ℕ → Option WorldStep
-post_with place word text = option_map (λ parents. post_at place parents text) (labels_in word)
-
--- a device, a group's label and a time, the labels of the parents, and the text
-unfoldable pub post_in : LineLeft → Option WorldStep
-post_in left =
-    and_then (place_in left) (λ place. word_then labels_in (λ parents left.
-    option_map (post_at place parents) (text_in left)))
-
--- a device, another device, a mode and a latency
-unfoldable pub link_in : LineLeft → Option WorldStep
-link_in =
-    word_then device_in (λ device. word_then device_in (λ other. word_then mode_in (λ mode.
-    word_then (number_between 1 MAX_LATENCY) (λ latency.
-    over (step.Link device other mode latency)))))
-
--- a device, the number of a call, and an image
-unfoldable pub stop_in : LineLeft → Option WorldStep
-stop_in =
-    word_then device_in (λ device. word_then count_in (λ call. word_then pick_in (λ pick.
-    over (step.Stop device call pick))))
-
--- a device alone
-abbrev pub of_device : (ℕ → WorldStep) → LineLeft → Option WorldStep
-of_device made = word_then device_in (λ device. over (made device))
-
--- a number alone
-abbrev pub of_count : (ℕ → WorldStep) → LineLeft → Option WorldStep
-of_count made = word_then count_in (λ n. over (made n))
-
--- a link, and the device at one of its ends
-unfoldable pub end_in : LineLeft → Option ((ℕ × ℕ) × LineLeft)
-end_in =
-    word_then count_in (λ link. word_then device_in (λ device left. Some ((link, device), left)))
-
-abbrev pub of_end : (ℕ → ℕ → WorldStep) → LineLeft → Option WorldStep
-of_end made left = and_then (end_in left) (λ x. over (made x.0 x.1))
+abbrev pub latency_in : List ℕ → Option ℕ
+latency_in word = number_between 1 MAX_LATENCY word
 
 -- ---- the forms by their first words
 
-abbrev pub world_step_in : List ℕ → LineLeft → Option WorldStep
-world_step_in word =
-    if bytes_eq word (codes "cut") then of_count step.Cut
-    else if bytes_eq word (codes "clock") then of_count step.Clock
-    else if bytes_eq word (codes "rest") then
-    word_then (number_between 1 MAX_ROUNDS) (λ rounds. over (step.Rest rounds))
-    else (λ left. None)
+-- forms of steps, each behind the first word of its lines
+abbrev pub Forms : Type 0
+Forms = List (List ℕ × Form WorldStep)
 
-unfoldable pub record_step_in : List ℕ → LineLeft → Option WorldStep
-record_step_in word =
-    if bytes_eq word (codes "carry") then of_end step.Carry
-    else if bytes_eq word (codes "lose") then of_end step.Lose
-    else if bytes_eq word (codes "repeat") then of_end step.Repeat
-    else if bytes_eq word (codes "swap") then of_end step.Swap
-    else world_step_in word
+abbrev pub world_forms : Forms
+world_forms =
+    (codes "cut", says step.Cut ▸ count_in) ∷ (codes "clock", says step.Clock ▸ count_in)
+    ∷ (codes "rest", says step.Rest ▸ number_between 1 MAX_ROUNDS) ∷ []
 
-unfoldable pub device_step_in : List ℕ → LineLeft → Option WorldStep
-device_step_in word =
-    if bytes_eq word (codes "share") then share_in
-    else if bytes_eq word (codes "link") then link_in
-    else if bytes_eq word (codes "stop") then stop_in
-    else if bytes_eq word (codes "turn") then of_device step.Turn
-    else if bytes_eq word (codes "restart") then of_device step.Restart
-    else record_step_in word
+-- a link, and the device at one of its ends
+unfoldable pub end_in : Form (ℕ × ℕ)
+end_in = says (λ link device. (link, device)) ▸ count_in ▸ device_in
 
-abbrev pub does : Option WorldStep → Option Line
-does None = None
-does (Some made) = Some (line.Does (action.Step made))
+abbrev pub at_end : (ℕ → ℕ → WorldStep) → Form WorldStep
+at_end made left = and_then (end_in left) (λ x left. says (made x.0 x.1) left)
+
+unfoldable pub link_forms : Forms
+link_forms =
+    (codes "carry", at_end step.Carry) ∷ (codes "lose", at_end step.Lose)
+    ∷ (codes "repeat", at_end step.Repeat) ∷ (codes "swap", at_end step.Swap) ∷ world_forms
+
+unfoldable pub device_forms : Forms
+device_forms =
+    (codes "share", says step.Share ▸ device_in ▸ device_in ▸ count_in ▸ level_in)
+    ∷ (codes "link", says step.Link ▸ device_in ▸ device_in ▸ mode_in ▸ latency_in)
+    ∷ (codes "stop", says step.Stop ▸ device_in ▸ count_in ▸ pick_in)
+    ∷ (codes "turn", says step.Turn ▸ device_in)
+    ∷ (codes "restart", says step.Restart ▸ device_in) ∷ link_forms
+
+-- a post in front of its parents' labels and its text
+unfoldable pub post_front : Form (List ℕ → List ℕ → WorldStep)
+post_front = says step.Post ▸ device_in ▸ count_in ▸ number_between 0 MAX_TIMESTAMP
+
+unfoldable pub step_forms : Forms
+step_forms =
+    (codes "group", says step.Group ▸ device_in ▸ kind_in ▸ some_bytes)
+    ∷ (codes "post", before_text (post_front ▸ labels_in)) ∷ device_forms
+
+-- what is left of a line whose first word this is, by these forms
+abbrev pub form_in : Forms → List ℕ → LineLeft → Option WorldStep
+form_in forms word left = option_and_then (λ form. whole form left) (named forms word)
 
 abbrev pub devices_in : LineLeft → Option Line
-devices_in =
-    word_then (number_between MIN_DEVICES MAX_DEVICES) (λ devices. over (line.Devices devices))
+devices_in = whole (says line.Devices ▸ number_between MIN_DEVICES MAX_DEVICES)
 
 abbrev pub show_in : LineLeft → Option Line
-show_in = word_then device_in (λ device. over (line.Does (action.Show device)))
+show_in = whole (says (λ device. line.Does (action.Show device)) ▸ device_in)
 
 unfoldable pub said_in : List ℕ → LineLeft → Option Line
 said_in word left =
     if bytes_eq word (codes "devices") then devices_in left
     else if bytes_eq word (codes "show") then show_in left
-    else if bytes_eq word (codes "group") then does (group_in left)
-    else if bytes_eq word (codes "post") then does (post_in left)
-    else does (device_step_in word left)
+    else option_map (λ made. line.Does (action.Step made)) (form_in step_forms word left)
 
 -- what the words of a line say
 abbrev pub words_in : List ℕ → Option Line

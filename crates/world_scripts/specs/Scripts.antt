@@ -1,15 +1,24 @@
 -- What a reading of a script answers.
-use Rattle.std.specs.Prelude.{◌≡◌, ℕ, ◌+◌, ◌≤◌, List, ◌∷◌, length, Option, Some, None, Result, Ok}
+use Rattle.std.specs.Prelude.{◌≡◌, ℕ, ◌+◌, ◌≤◌, List, [], ◌∷◌, length, Option, Some, None, Result}
+use Rattle.std.specs.Prelude.{Ok}
 use Rattle.std.specs.Prelude.{Err}
 use Rattle.std.specs.Borrow.{Bor}
 use Rattle.world_scripts.specs.Cuts.{lines}
 use Rattle.world_scripts.specs.Forms.{line_in}
-use Rattle.world_scripts.specs.Courses.{ScriptCourse, after_line, bad_at, course, over, Opening, Bad}
+use Rattle.world_scripts.specs.Courses.{ScriptCourse, after_line, course, Opening, Bad}
 use Rattle.world_scripts.specs.Courses.{Opens, opening, opening_by}
 use Rattle.world_scripts.specs.declared.fault.ScriptFault.{ScriptFault}
 use Rattle.world_scripts.specs.declared.fault.ScriptFault.TheVariants as fault
 use Rattle.world_scripts.specs.declared.script.Opened.{Opened}
 use Rattle.world_scripts.specs.declared.step.Action.{Action}
+
+-- nothing more is to be done, and no line is bad
+abbrev pub over : ScriptCourse
+over = record { actions = []; bad = None }
+
+-- a line is bad
+abbrev pub bad_at : ℕ → ScriptCourse
+bad_at number = record { actions = []; bad = Some number }
 
 -- the first line was read, and what follows it is left; or a line is bad
 abbrev pub IsScriptOpened : Opening → Result Opened ScriptFault → Type 0
@@ -19,7 +28,8 @@ IsScriptOpened said (Err fault.Memory) = Unit {0}
 
 -- the next action was read, and the rest is left; or there is none, or a line is bad. In these
 -- cases, and for want of memory, all is left
-abbrev pub ReadsNextAction : ScriptCourse → Result (Option (ℕ × Action)) ScriptFault → ScriptCourse → Type 0
+abbrev pub ReadsNextAction : ScriptCourse → Result (Option (ℕ × Action)) ScriptFault → ScriptCourse
+    → Type 0
 ReadsNextAction old (Ok (Some x)) new = old ≡ record { actions = x ∷ new.actions; bad = new.bad }
 ReadsNextAction old (Ok None) new = (old ≡ over) × (new ≡ old)
 ReadsNextAction old (Err (fault.BadLine number)) new = (old ≡ bad_at number) × (new ≡ old)

@@ -37,7 +37,7 @@ fn read_words(alloc: Global, text: &str) -> Result<Line, LineFault>
 }
 
 // What a line says whose first word this is.
-#[tactic(auto, unfolding(crate::specs::Forms::said_in))]
+#[tactic(auto, unfolding(crate::specs::Forms::said_in, crate::specs::Forms::step_forms))]
 fn read_said(alloc: Global, word: &str, words: &mut Words) -> Result<Line, LineFault>
     ensures { IsValueRead (said_in word.now (option_copied words.old.left)) result }
 {

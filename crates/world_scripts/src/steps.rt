@@ -1,11 +1,11 @@
 // The forms of the steps: what follows the first word of a line.
-ghost use Rattle.std.specs.Prelude.{◌≡◌, MatchOption};
+ghost use Rattle.std.specs.Prelude.{◌≡◌, ◌==◌, MatchOption, codes};
 ghost use Rattle.std.specs.List.{slice_split};
 ghost use Rattle.std.specs.Option.{option_copied};
-ghost use Rattle.world_scripts.specs.Answers.{IsValueRead, ReadsValue};
-ghost use Rattle.world_scripts.specs.Forms.{device_step_in, group_in, labels_in, link_in, post_in};
-ghost use Rattle.world_scripts.specs.Forms.{each_label, end_in, is_comma, place_in, post_with};
-ghost use Rattle.world_scripts.specs.Forms.{record_step_in, share_in, stop_in, world_step_in};
+ghost use Rattle.world_scripts.specs.Answers.{IsValueRead, ReadsValue, post_with};
+ghost use Rattle.world_scripts.specs.Forms.{device_forms, each_label, end_in, form_in};
+ghost use Rattle.world_scripts.specs.Forms.{labels_in, link_forms, post_front, step_forms};
+ghost use Rattle.world_scripts.specs.Forms.{world_forms};
 
 use crate::cut::cut;
 use crate::fault::LineFault;
@@ -18,7 +18,8 @@ use sync_words::{Word, number};
 
 // The words of `group`.
 pub(crate) fn read_group(alloc: Global, words: &mut Words) -> Result<WorldStep, LineFault>
-    ensures { IsValueRead (group_in (option_copied words.old.left)) result }
+    ensures { IsValueRead (form_in step_forms (codes "group") (option_copied words.old.left))
+        result }
 {
     let Some((device, kind, descriptor)) = read_pair(words) else {
         return Err(LineFault::NoForm);
@@ -28,10 +29,12 @@ pub(crate) fn read_group(alloc: Global, words: &mut Words) -> Result<WorldStep, 
 }
 
 // The device, the kind and the descriptor of a group.
-#[tactic(auto, unfolding(crate::specs::Forms::group_in))]
+#[tactic(auto, unfolding(crate::specs::Forms::step_forms))]
 fn read_pair<'a>(words: &mut Words<'a>) -> Option<(u8, u8, &'a str)>
-    ensures { MatchOption result (group_in (option_copied words.old.left) ≡ None)
-        (λ x. group_in (option_copied words.old.left) ≡ Some (WorldStep.Group x.0 x.1 x.2.now)) }
+    ensures { MatchOption result
+        (form_in step_forms (codes "group") (option_copied words.old.left) ≡ None)
+        (λ x. form_in step_forms (codes "group") (option_copied words.old.left)
+        ≡ Some (WorldStep.Group x.0 x.1 x.2.now)) }
 {
     let device = words.device()?;
     let kind = words.kind()?;
@@ -55,7 +58,7 @@ fn read_labels(alloc: Global, word: &str) -> Result<Labels, LineFault>
 
 // Labels with one comma between two.
 fn read_each(alloc: Global, word: &str) -> Result<Labels, LineFault>
-    ensures { IsValueRead (each_label (slice_split is_comma word.now)) result }
+    ensures { IsValueRead (each_label (slice_split (λ b. b == 44) word.now)) result }
 {
     let mut labels = Vec::new(alloc);
     let mut left = Some(word);
@@ -71,9 +74,11 @@ fn read_each(alloc: Global, word: &str) -> Result<Labels, LineFault>
 }
 
 // The device, the group and the time of a post.
+#[tactic(auto, unfolding(crate::specs::Forms::post_front))]
 fn read_place(words: &mut Words) -> Option<(u8, u64, u64)>
-    ensures { ReadsValue place_in (option_copied words.old.left) result
-        (option_copied words.new.left) }
+    ensures { MatchOption result (post_front (option_copied words.old.left) ≡ None)
+        (λ x. post_front (option_copied words.old.left)
+        ≡ Some (WorldStep.Post x.0 x.1 x.2, option_copied words.new.left)) }
 {
     let device = words.device()?;
     let group = words.number(0, u64::MAX)?;
@@ -83,7 +88,8 @@ fn read_place(words: &mut Words) -> Option<(u8, u64, u64)>
 
 // The words of `post`, and the text behind them.
 pub(crate) fn read_post(alloc: Global, words: &mut Words) -> Result<WorldStep, LineFault>
-    ensures { IsValueRead (post_in (option_copied words.old.left)) result }
+    ensures { IsValueRead (form_in step_forms (codes "post") (option_copied words.old.left))
+        result }
 {
     let Some(((device, group, time), parents, text)) = read_parts(words) else {
         return Err(LineFault::NoForm);
@@ -95,8 +101,10 @@ pub(crate) fn read_post(alloc: Global, words: &mut Words) -> Result<WorldStep, L
 
 // The place of a post, the word of its parents' labels, and its text.
 fn read_parts<'a>(words: &mut Words<'a>) -> Option<((u8, u64, u64), &'a str, &'a str)>
-    ensures { MatchOption result (post_in (option_copied words.old.left) ≡ None)
-        (λ x. post_in (option_copied words.old.left) ≡ post_with x.0 x.1.now x.2.now) }
+    ensures { MatchOption result
+        (form_in step_forms (codes "post") (option_copied words.old.left) ≡ None)
+        (λ x. form_in step_forms (codes "post") (option_copied words.old.left)
+        ≡ post_with (WorldStep.Post x.0.0 x.0.1 x.0.2) x.1.now x.2.now) }
 {
     let place = read_place(words)?;
     let parents = words.word()?;
@@ -104,9 +112,9 @@ fn read_parts<'a>(words: &mut Words<'a>) -> Option<((u8, u64, u64), &'a str, &'a
     Some((place, parents, text))
 }
 
-#[tactic(auto, unfolding(crate::specs::Forms::share_in))]
+#[tactic(auto, unfolding(crate::specs::Forms::device_forms))]
 fn read_share(words: &mut Words) -> Option<WorldStep>
-    ensures { result ≡ share_in (option_copied words.old.left) }
+    ensures { result ≡ form_in device_forms (codes "share") (option_copied words.old.left) }
 {
     let device = words.device()?;
     let other = words.device()?;
@@ -115,9 +123,9 @@ fn read_share(words: &mut Words) -> Option<WorldStep>
     words.ended(WorldStep::Share(device, other, group, level))
 }
 
-#[tactic(auto, unfolding(crate::specs::Forms::link_in))]
+#[tactic(auto, unfolding(crate::specs::Forms::device_forms))]
 fn read_link(words: &mut Words) -> Option<WorldStep>
-    ensures { result ≡ link_in (option_copied words.old.left) }
+    ensures { result ≡ form_in device_forms (codes "link") (option_copied words.old.left) }
 {
     let device = words.device()?;
     let other = words.device()?;
@@ -126,9 +134,9 @@ fn read_link(words: &mut Words) -> Option<WorldStep>
     words.ended(WorldStep::Link(device, other, mode, latency as u32))
 }
 
-#[tactic(auto, unfolding(crate::specs::Forms::stop_in))]
+#[tactic(auto, unfolding(crate::specs::Forms::device_forms))]
 fn read_stop(words: &mut Words) -> Option<WorldStep>
-    ensures { result ≡ stop_in (option_copied words.old.left) }
+    ensures { result ≡ form_in device_forms (codes "stop") (option_copied words.old.left) }
 {
     let device = words.device()?;
     let call = words.number(0, u64::MAX)?;
@@ -137,9 +145,9 @@ fn read_stop(words: &mut Words) -> Option<WorldStep>
 }
 
 // The steps of one device.
-#[tactic(auto, unfolding(crate::specs::Forms::device_step_in))]
+#[tactic(auto, unfolding(crate::specs::Forms::device_forms))]
 pub(crate) fn read_device_step(word: &str, words: &mut Words) -> Option<WorldStep>
-    ensures { result ≡ device_step_in word.now (option_copied words.old.left) }
+    ensures { result ≡ form_in device_forms word.now (option_copied words.old.left) }
 {
     match word {
         "share" => read_share(words),
@@ -169,9 +177,9 @@ fn read_end(words: &mut Words) -> Option<(u64, u8)>
 }
 
 // The steps of the records in flight.
-#[tactic(auto, unfolding(crate::specs::Forms::record_step_in))]
+#[tactic(auto, unfolding(crate::specs::Forms::link_forms))]
 fn read_record_step(word: &str, words: &mut Words) -> Option<WorldStep>
-    ensures { result ≡ record_step_in word.now (option_copied words.old.left) }
+    ensures { result ≡ form_in link_forms word.now (option_copied words.old.left) }
 {
     match word {
         "carry" => {
@@ -196,7 +204,7 @@ fn read_record_step(word: &str, words: &mut Words) -> Option<WorldStep>
 
 // The steps of the whole world.
 fn read_world_step(word: &str, words: &mut Words) -> Option<WorldStep>
-    ensures { result ≡ world_step_in word.now (option_copied words.old.left) }
+    ensures { result ≡ form_in world_forms word.now (option_copied words.old.left) }
 {
     match word {
         "cut" => {

@@ -3,7 +3,7 @@ ghost use Rattle.std.specs.Prelude.{◌≡◌, ◌≤◌, IfSome};
 ghost use Rattle.std.specs.Option.{option_copied};
 ghost use Rattle.sync_words.specs.Words.{level_in, mode_in, number_in};
 ghost use Rattle.world_scripts.specs.Answers.{ReadsValue, ReadsLineText};
-ghost use Rattle.world_scripts.specs.Forms.{descriptor_in, device_in, kind_in};
+ghost use Rattle.world_scripts.specs.Forms.{device_in, kind_in, some_bytes};
 ghost use Rattle.world_scripts.specs.Forms.{number_between, over, pick_in, text_in, word_in};
 
 use crate::cut::cut;
@@ -76,7 +76,7 @@ impl<'a> Words<'a> {
     }
 
     pub(crate) fn descriptor(&mut self) -> Option<&'a str>
-        ensures { ReadsLineText (word_in descriptor_in) (option_copied self.old.left) result
+        ensures { ReadsLineText (word_in some_bytes) (option_copied self.old.left) result
             (option_copied self.new.left) }
     {
         let word = self.word()?;

@@ -1,5 +1,6 @@
 use Rattle.std.proofs.Common.{◌<◌, ◌∙◌, length, arith, ap, Err, rules, true, slice_get, refl, Ok}
 use Rattle.std.proofs.Common.{inl}
+use Rattle.std.specs.Option.{option_map}
 use Rattle.world_devices.specs.declared.stop.StepFault.TheVariants as fault
 use Rattle.sync_world.proofs.GoLaws.{same_leads}
 use Rattle.sync_world.proofs.StepLaws.{leads_err, came_goes, ends_leads, fails_leads}
@@ -11,9 +12,8 @@ use Rattle.sync_world.proofs.RefusingLaws.{by_same, done_same, get_at, get_past,
 use Rattle.sync_world.proofs.RefusingLaws.{with_missing}
 use Rattle.sync_rules.specs.declared.entries.Entry.TheVariants as entry
 use Rattle.world_scripts.specs.declared.step.WorldStep.TheVariants as step
-use Rattle.sync_world.specs.Doing.{entry_of}
-use Rattle.sync_world.proofs.DoingLaws.{adds_entry, fills_with, made_as, passes_does, tries_entry}
-use Rattle.sync_world.proofs.DoingLaws.{made_unfilled, memory_unfilled, unfilled_does}
+use Rattle.sync_world.proofs.DoingLaws.{added, added_in_vain, added_not, does_handed, made_as}
+use Rattle.sync_world.proofs.DoingLaws.{made_unfilled}
 use Rattle.sync_world.proofs.stage.Stage.add_group.Goals as goal
 
 pub returns-in_err-def-clause-goes : goal.returns-in_err-def-clause-goes
@@ -87,55 +87,51 @@ returns-clause-refused c =
 pub returns-in_err-ran-clause-does : goal.returns-in_err-ran-clause-does
 returns-in_err-ran-clause-does c =
     let within : c.args.d < length c.args.self.now.devices.items = omega arith in
-    let made = step.Group c.args.d c.args.kind c.args.descriptor.now in
-    passes_does made c.args.self.now _ c.from_residual-in_err-ran.result c.in_err-ran.field-0.0
-    c.from_residual-in_err-ran.ensures.1
-    (fills_with (entry_of made c.args.self.now) (entry.Group c.in_ok-def.def) c.args.d
-    c.args.self.now.devices.items c.in_err-ran.field-0.0 c.index_mut-device.result.now
-    c.add_group.new.self
+    added_not (step.Group c.args.d c.args.kind c.args.descriptor.now) c.args.self.now _
+    (option_map (λ (def : GroupValue). entry.Group def)
+    (group_of c.args.kind c.args.descriptor.now))
+    (entry.Group c.in_ok-def.def) c.args.d c.index_mut-device.result.now c.add_group.new.self
+    (λ came by. by)
     (made_as (λ (def : GroupValue). entry.Group def) (group_of c.args.kind c.args.descriptor.now)
-    c.in_ok-def.def c.in_ok-def.ensures)
-    within c.index_mut-device.ensures.value c.in_err-ran.ensures.adds)
-    (tries_entry (entry_of made c.args.self.now) (entry.Group c.in_ok-def.def) c.args.d
-    c.args.self.now.devices.items _ (Err c.in_err-ran.field-0.0) c.index_mut-device.result.now
-    c.add_group.new.self
-    (made_as (λ (def : GroupValue). entry.Group def) (group_of c.args.kind c.args.descriptor.now)
-    c.in_ok-def.def c.in_ok-def.ensures)
-    within c.index_mut-device.ensures.value c.in_err-ran.ensures.adds refl)
+    c.in_ok-def.def c.in_ok-def.ensures) within c.index_mut-device.ensures.value refl
+    c.from_residual-in_err-ran.result c.in_err-ran.field-0.0 c.from_residual-in_err-ran.ensures.1
+    c.in_err-ran.ensures.adds refl
 
 pub returns-clause-does : goal.returns-clause-does
 returns-clause-does c =
     let within : c.args.d < length c.args.self.now.devices.items = omega arith in
     record {
       does =
-          adds_entry (entry_of (step.Group c.args.d c.args.kind c.args.descriptor.now)
-          c.args.self.now) (entry.Group c.in_ok-def.def) c.args.d c.in_ok-ran.ran
-          c.args.self.now.devices.items _ c.args.self.now.links.items _
-          c.index_mut-device.result.now c.add_group.new.self
+          added (step.Group c.args.d c.args.kind c.args.descriptor.now) c.args.self.now
+          c.came.new.self
+          (option_map (λ (def : GroupValue). entry.Group def)
+          (group_of c.args.kind c.args.descriptor.now))
+          (entry.Group c.in_ok-def.def) c.args.d c.index_mut-device.result.now
+          c.add_group.new.self (λ came by. by)
           (made_as (λ (def : GroupValue). entry.Group def)
           (group_of c.args.kind c.args.descriptor.now) c.in_ok-def.def c.in_ok-def.ensures)
-          within c.index_mut-device.ensures.value c.in_ok-ran.ensures.adds c.came.ensures.devices
-          c.came.ensures.links;
+          within c.index_mut-device.ensures.value c.came.ensures.devices c.in_ok-ran.ran
+          c.in_ok-ran.ensures.adds c.came.ensures.links;
       groups = c.came.ensures.groups ∙ c.in_ok-label.ensures.ok;
       posts = c.came.ensures.posts;
     }
 
 pub returns-in_err-def-clause-does : goal.returns-in_err-def-clause-does
 returns-in_err-def-clause-does c =
-    unfilled_does (step.Group c.args.d c.args.kind c.args.descriptor.now) c.args.self.now
-    c.args.self.now c.from_residual.result c.in_err-def.field-0.0 c.from_residual.ensures.1
-    (made_unfilled (group_of c.args.kind c.args.descriptor.now) c.in_err-def.field-0.0
+    does_handed (step.Group c.args.d c.args.kind c.args.descriptor.now) c.from_residual.result
+    c.in_err-def.field-0.0 c.args.self.now c.args.self.now c.from_residual.ensures.1
+    (made_unfilled _ (group_of c.args.kind c.args.descriptor.now) c.in_err-def.field-0.0
     c.in_err-def.ensures) (inl refl)
 
 pub returns-in_err-label-clause-does : goal.returns-in_err-label-clause-does
 returns-in_err-label-clause-does c =
     let within : c.args.d < length c.args.self.now.devices.items = omega arith in
-    let made = step.Group c.args.d c.args.kind c.args.descriptor.now in
-    unfilled_does made c.args.self.now _ c.from_residual-in_err-label.result fault.Memory
-    c.from_residual-in_err-label.ensures.1 (memory_unfilled fault.Memory refl)
-    (tries_entry (entry_of made c.args.self.now) (entry.Group c.in_ok-def.def) c.args.d
-    c.args.self.now.devices.items _ (Ok c.in_ok-ran.ran) c.index_mut-device.result.now
-    c.add_group.new.self
+    added_in_vain (step.Group c.args.d c.args.kind c.args.descriptor.now) c.args.self.now _
+    (option_map (λ (def : GroupValue). entry.Group def)
+    (group_of c.args.kind c.args.descriptor.now))
+    (entry.Group c.in_ok-def.def) c.args.d c.index_mut-device.result.now c.add_group.new.self
+    (λ came by. by)
     (made_as (λ (def : GroupValue). entry.Group def) (group_of c.args.kind c.args.descriptor.now)
-    c.in_ok-def.def c.in_ok-def.ensures)
-    within c.index_mut-device.ensures.value c.in_ok-ran.ensures.adds refl)
+    c.in_ok-def.def c.in_ok-def.ensures) within c.index_mut-device.ensures.value refl
+    c.from_residual-in_err-label.result (Ok c.in_ok-ran.ran)
+    c.from_residual-in_err-label.ensures.1 c.in_ok-ran.ensures.adds refl

@@ -1,5 +1,5 @@
 use Rattle.std.proofs.Common.{◌<◌, false, length, map, arith, ap, subst, sym, Err, ◌∙◌, rules}
-use Rattle.std.proofs.Common.{slice_get}
+use Rattle.std.proofs.Common.{slice_get, refl}
 use Rattle.std.specs.Prelude.{slice_set}
 use Rattle.world_devices.specs.declared.stop.StepFault.TheVariants as fault
 use Rattle.sync_world.specs.Staging.{HasFreshEnd, attached_at}
@@ -126,18 +126,19 @@ returns-in_err-session-clause-attaches c =
     let within : c.args.d < length c.args.self.now.devices.items = omega arith in
     attaches_handed c.args.d c.args.link c.args.plan.now c.args.nonce c.from_residual.result
     c.in_err-session.field-0.0 (ground_of c.args.self.now) _ c.from_residual.ensures.1
-    (attach_fault c.args.d c.args.link c.args.plan.now c.args.nonce c.args.self.now.devices.items
-    c.args.self.now.links.items c.index_mut-device.result.now c.attach.new.self within
-    c.index_mut-device.ensures.value c.in_err-session.field-0.0 c.in_err-session.ensures.attaches)
+    (attach_fault c.args.d c.args.link c.args.plan.now c.args.nonce c.args.self.now.devices.items _
+    c.args.self.now.links.items _ c.index_mut-device.result.now c.attach.new.self within
+    c.index_mut-device.ensures.value refl c.in_err-session.field-0.0
+    c.in_err-session.ensures.attaches refl)
 
 pub returns-in_default-clause-attaches : goal.returns-in_default-clause-attaches
 returns-in_default-clause-attaches c =
     let within : c.args.d < length c.args.self.now.devices.items = omega arith in
-    attach_broken c.args.d c.args.link c.args.plan.now c.args.nonce c.args.self.now.devices.items
-    c.args.self.now.links.items c.index_mut-device.result.now c.attach.new.self within
-    c.index_mut-device.ensures.value c.in_ok-session.field-0 _ _
+    attach_broken c.args.d c.args.link c.args.plan.now c.args.nonce c.args.self.now.devices.items _
+    c.args.self.now.links.items _ c.index_mut-device.result.now c.attach.new.self within
+    c.index_mut-device.ensures.value c.came.ensures.devices c.in_ok-session.field-0
     (none_of c.in_ok-session.field-0 (λ x e. c.in_default.not-Some x e))
-    c.in_ok-session.ensures.attaches c.came.ensures.devices c.came.ensures.links
+    c.in_ok-session.ensures.attaches c.came.ensures.links
 
 pub returns-in_err-look_all-clause-attaches : goal.returns-in_err-look_all-clause-attaches
 returns-in_err-look_all-clause-attaches c =
@@ -148,12 +149,16 @@ returns-in_err-look_all-clause-attaches c =
 pub returns-clause-attaches : goal.returns-clause-attaches
 returns-clause-attaches c =
     let within : c.args.d < length c.args.self.now.devices.items = omega arith in
-    attach_done c.args.d c.args.link c.args.plan.now c.args.nonce c.args.self.now.devices.items
-    c.args.self.now.links.items c.index_mut-device.result.now c.attach.new.self within
-    c.index_mut-device.ensures.value c.in_ok-session.field-0 c.in-Some.session c.links-at.result _
-    c.in-Some.is c.in_ok-session.ensures.attaches c.links_stand.ensures c.links-at.ensures
-    (begun_written c.args.self.now.links.len c.args.d c.links-at.result c.in-Some.session
-    c.args.link c.attach.new.self c.args.self.now.links.items c.as_mut_slice.result.now
-    c.begin_at.new.links c.as_mut_slice-2.result.now c.look_all.new.links
-    c.as_mut_slice.ensures.value (omega arith) c.begin_at.ensures c.as_mut_slice-2.ensures.value
-    c.in_ok-look_all.ensures)
+    let written = begun_written c.args.self.now.links.len c.args.d c.links-at.result
+    c.in-Some.session c.args.link c.attach.new.self c.args.self.now.links.items
+    c.as_mut_slice.result.now c.begin_at.new.links c.as_mut_slice-2.result.now
+    c.look_all.new.links c.as_mut_slice.ensures.value (omega arith) c.begin_at.ensures
+    c.as_mut_slice-2.ensures.value c.in_ok-look_all.ensures in (
+      c.in-Some.session,
+      attach_done c.args.d c.args.link c.args.plan.now c.args.nonce
+          c.args.self.now.devices.items _ c.args.self.now.links.items _
+          c.index_mut-device.result.now c.attach.new.self within
+          c.index_mut-device.ensures.value refl c.in_ok-session.field-0 c.in-Some.session
+          c.links-at.result c.in-Some.is c.in_ok-session.ensures.attaches c.links_stand.ensures
+          c.links-at.ensures written,
+    )

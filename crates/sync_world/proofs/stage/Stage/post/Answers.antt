@@ -1,5 +1,6 @@
 use Rattle.std.proofs.Common.{◌<◌, ◌∙◌, ◌++◌, ◌∷◌, [], ℕ, List, length, arith, ap, Err, rules, true}
 use Rattle.std.proofs.Common.{slice_get, refl, inl}
+use Rattle.std.specs.Option.{option_map}
 use Rattle.world_devices.specs.declared.stop.StepFault.TheVariants as fault
 use Rattle.sync_world.proofs.GoLaws.{same_leads}
 use Rattle.sync_world.proofs.StepLaws.{leads_err, came_goes, fails_leads}
@@ -11,9 +12,8 @@ use Rattle.sync_world.proofs.RefusingLaws.{by_same, done_same, get_at, get_past,
 use Rattle.sync_world.proofs.RefusingLaws.{with_missing}
 use Rattle.sync_rules.specs.declared.entries.Entry.TheVariants as entry
 use Rattle.world_scripts.specs.declared.step.WorldStep.TheVariants as step
-use Rattle.sync_world.specs.Doing.{entry_of}
-use Rattle.sync_world.proofs.DoingLaws.{adds_entry, fills_with, made_as, made_post, passes_does}
-use Rattle.sync_world.proofs.DoingLaws.{tries_entry, made_unfilled, memory_unfilled, unfilled_does}
+use Rattle.sync_world.proofs.DoingLaws.{added, added_not, does_handed, made_as, made_post}
+use Rattle.sync_world.proofs.DoingLaws.{made_unfilled}
 use Rattle.sync_world.proofs.stage.Stage.post.Goals as goal
 
 pub returns-in_err-ran-clause-goes : goal.returns-in_err-ran-clause-goes
@@ -80,46 +80,37 @@ returns-clause-refused c =
 pub returns-in_err-ran-clause-does : goal.returns-in_err-ran-clause-does
 returns-in_err-ran-clause-does c =
     let within : c.args.d < length c.args.self.now.devices.items = omega arith in
-    let made = step.Post c.args.d c.args.group c.args.time c.args.parents.now c.args.text.now in
-    passes_does made c.args.self.now _ c.from_residual-in_err-ran.result c.in_err-ran.field-0.0
-    c.from_residual-in_err-ran.ensures.1
-    (fills_with (entry_of made c.args.self.now) (entry.Author c.in_ok-message.message) c.args.d
-    c.args.self.now.devices.items c.in_err-ran.field-0.0 c.index_mut-device.result.now
-    c.author.new.self
-    (made_as (λ (m : MessageValue). entry.Author m)
-    (message_of c.args.self.now.groups c.args.self.now.posts.items c.args.group c.args.time
-    c.args.parents.now c.args.text.now) c.in_ok-message.message c.in_ok-message.ensures)
-    within c.index_mut-device.ensures.value c.in_err-ran.ensures.adds)
-    (tries_entry (entry_of made c.args.self.now) (entry.Author c.in_ok-message.message) c.args.d
-    c.args.self.now.devices.items _ (Err c.in_err-ran.field-0.0) c.index_mut-device.result.now
-    c.author.new.self
-    (made_as (λ (m : MessageValue). entry.Author m)
-    (message_of c.args.self.now.groups c.args.self.now.posts.items c.args.group c.args.time
-    c.args.parents.now c.args.text.now) c.in_ok-message.message c.in_ok-message.ensures)
-    within c.index_mut-device.ensures.value c.in_err-ran.ensures.adds refl)
+    let message = message_of c.args.self.now.groups c.args.self.now.posts.items c.args.group
+    c.args.time c.args.parents.now c.args.text.now in
+    added_not (step.Post c.args.d c.args.group c.args.time c.args.parents.now c.args.text.now)
+    c.args.self.now _ (option_map (λ (m : MessageValue). entry.Author m) message)
+    (entry.Author c.in_ok-message.message) c.args.d c.index_mut-device.result.now
+    c.author.new.self (λ came by. by)
+    (made_as (λ (m : MessageValue). entry.Author m) message c.in_ok-message.message
+    c.in_ok-message.ensures) within c.index_mut-device.ensures.value refl
+    c.from_residual-in_err-ran.result c.in_err-ran.field-0.0 c.from_residual-in_err-ran.ensures.1
+    c.in_err-ran.ensures.adds refl
 
 pub returns-clause-does : goal.returns-clause-does
 returns-clause-does c =
     let within : c.args.d < length c.args.self.now.devices.items = omega arith in
+    let message = message_of c.args.self.now.groups c.args.self.now.posts.items c.args.group
+    c.args.time c.args.parents.now c.args.text.now in
     record {
       does =
-          adds_entry
-          (entry_of (step.Post c.args.d c.args.group c.args.time c.args.parents.now
-          c.args.text.now) c.args.self.now) (entry.Author c.in_ok-message.message) c.args.d
-          c.in_ok-ran.ran c.args.self.now.devices.items _ c.args.self.now.links.items _
-          c.index_mut-device.result.now c.author.new.self
-          (made_as (λ (m : MessageValue). entry.Author m)
-          (message_of c.args.self.now.groups c.args.self.now.posts.items c.args.group
-          c.args.time c.args.parents.now c.args.text.now) c.in_ok-message.message
-          c.in_ok-message.ensures)
-          within c.index_mut-device.ensures.value c.in_ok-ran.ensures.adds c.came.ensures.devices
-          c.came.ensures.links;
+          added
+          (step.Post c.args.d c.args.group c.args.time c.args.parents.now c.args.text.now)
+          c.args.self.now c.came.new.self
+          (option_map (λ (m : MessageValue). entry.Author m) message)
+          (entry.Author c.in_ok-message.message) c.args.d c.index_mut-device.result.now
+          c.author.new.self (λ came by. by)
+          (made_as (λ (m : MessageValue). entry.Author m) message c.in_ok-message.message
+          c.in_ok-message.ensures) within c.index_mut-device.ensures.value
+          c.came.ensures.devices c.in_ok-ran.ran c.in_ok-ran.ensures.adds c.came.ensures.links;
       groups = c.came.ensures.groups;
       posts =
-          made_post (message_of c.args.self.now.groups c.args.self.now.posts.items c.args.group
-          c.args.time c.args.parents.now c.args.text.now) c.in_ok-message.message
-          c.args.self.now.posts.items _ c.id_of-id.result c.in_ok-message.ensures
-          c.id_of-id.ensures
+          made_post message c.in_ok-message.message c.args.self.now.posts.items _
+          c.id_of-id.result c.in_ok-message.ensures c.id_of-id.ensures
           (c.came.ensures.posts
           ∙ (c.in_ok-push.ensures.items
           ∙ ap (λ (ids : List (List ℕ)). ids ++ c.id_of-id.result ∷ [])
@@ -128,15 +119,16 @@ returns-clause-does c =
 
 pub returns-in_err-message-clause-does : goal.returns-in_err-message-clause-does
 returns-in_err-message-clause-does c =
-    unfilled_does (step.Post c.args.d c.args.group c.args.time c.args.parents.now c.args.text.now)
-    c.args.self.now c.args.self.now c.from_residual.result c.in_err-message.field-0.0
+    does_handed (step.Post c.args.d c.args.group c.args.time c.args.parents.now c.args.text.now)
+    c.from_residual.result c.in_err-message.field-0.0 c.args.self.now c.args.self.now
     c.from_residual.ensures.1
-    (made_unfilled (message_of c.args.self.now.groups c.args.self.now.posts.items c.args.group
+    (made_unfilled _
+    (message_of c.args.self.now.groups c.args.self.now.posts.items c.args.group
     c.args.time c.args.parents.now c.args.text.now) c.in_err-message.field-0.0
     c.in_err-message.ensures) (inl refl)
 
 pub returns-in_err-reserve-clause-does : goal.returns-in_err-reserve-clause-does
 returns-in_err-reserve-clause-does c =
-    unfilled_does (step.Post c.args.d c.args.group c.args.time c.args.parents.now c.args.text.now)
-    c.args.self.now _ c.from_residual-in_err-reserve.result fault.Memory
-    c.from_residual-in_err-reserve.ensures.1 (memory_unfilled fault.Memory refl) (inl refl)
+    does_handed (step.Post c.args.d c.args.group c.args.time c.args.parents.now c.args.text.now)
+    c.from_residual-in_err-reserve.result fault.Memory c.args.self.now _
+    c.from_residual-in_err-reserve.ensures.1 tt (inl refl)

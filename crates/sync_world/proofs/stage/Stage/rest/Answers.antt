@@ -1,10 +1,10 @@
-use Rattle.std.proofs.Common.{◌∙◌, ◌≡◌, ◌<◌, arith, false, refl}
-use Rattle.world_scripts.specs.declared.step.TheConstants.{MAX_DEVICES}
+use Rattle.std.proofs.Common.{◌∙◌, ◌≡◌, ◌<◌, arith, false, refl, Some, Err}
 use Rattle.world_scripts.specs.declared.step.WorldStep.TheVariants as step
-use Rattle.sync_world.specs.Doing.{FillsFrom, FillsResting, ground_of}
-use Rattle.sync_world.proofs.RoundLaws.{rests_all, rests_full, rests_last, rests_next, rests_none}
-use Rattle.sync_world.proofs.RoundLaws.{round_last, round_on}
-use Rattle.sync_world.proofs.TurningLaws.{does_handed, when_full}
+use Rattle.world_devices.specs.declared.stop.StepFault.TheVariants as fault
+use Rattle.sync_world.specs.Doing.{MakesRound, RestsWithin, ground_of}
+use Rattle.sync_world.proofs.RoundLaws.{full_breaks, rests_all, rests_broken, rests_last}
+use Rattle.sync_world.proofs.RoundLaws.{rests_next, rests_none, round_on}
+use Rattle.sync_world.proofs.DoingLaws.{does_handed, when_full}
 use Rattle.sync_world.specs.declared.stage.Round.{Round}
 use Rattle.sync_world.proofs.RestLaws.{goes_not, goes_then, passed_on}
 use Rattle.sync_world.proofs.stage.Stage.rest.Goals as goal
@@ -56,19 +56,20 @@ returns-in_err-round-clause-does c =
     let below : c.rounds._round < c.args.rounds = omega arith in
     does_handed (step.Rest c.args.rounds) c.from_residual.result c.in_err-round.field-0.0
     c.args.self.now _ c.from_residual.ensures.1
-    (when_full (FillsFrom MAX_DEVICES 0 (ground_of c.rounds.self))
-    (FillsResting c.args.rounds (ground_of c.args.self.now)) c.in_err-round.field-0.0
-    (rests_full c.rounds._round c.args.rounds (ground_of c.args.self.now) (ground_of c.rounds.self)
-    below c.rounds.invariant.rests) c.in_err-round.ensures.made) tt
+    (when_full (MakesRound (Err fault.Full) (ground_of c.rounds.self) (ground_of c.round.new.self))
+    (RestsWithin c.args.rounds false (Err fault.Full) (ground_of c.args.self.now)
+    (ground_of c.round.new.self)) c.in_err-round.field-0.0
+    (rests_broken (Err fault.Full) c.rounds._round c.args.rounds (ground_of c.args.self.now)
+    (ground_of c.rounds.self) (ground_of c.round.new.self) full_breaks below
+    c.rounds.invariant.rests) c.in_err-round.ensures.made) tt
 
 pub returns-in-Still-clause-does : goal.returns-in-Still-clause-does
 returns-in-Still-clause-does c =
     let below : c.rounds._round < c.args.rounds = omega arith in
     record {
-      does = rests_last c.rounds._round c.args.rounds (ground_of c.args.self.now)
-          (ground_of c.rounds.self) (ground_of c.round.new.self) below c.rounds.invariant.rests
-          (round_last c.in_ok-round.field-0 (ground_of c.rounds.self) (ground_of c.round.new.self)
-          c.in-Still.is c.in_ok-round.ensures.made);
+      does = rests_last c.rounds._round c.args.rounds c.in_ok-round.field-0
+          (ground_of c.args.self.now) (ground_of c.rounds.self) (ground_of c.round.new.self)
+          c.in-Still.is below c.rounds.invariant.rests c.in_ok-round.ensures.made;
       groups = c.in_ok-round.ensures.groups ∙ c.rounds.invariant.groups;
       posts = c.in_ok-round.ensures.posts ∙ c.rounds.invariant.posts;
     }
@@ -77,8 +78,11 @@ pub returns-clause-does : goal.returns-clause-does
 returns-clause-does c =
     let all : c.rounds._round ≡ c.args.rounds = omega arith in
     record {
-      does = rests_all c.rounds._round c.args.rounds (ground_of c.args.self.now)
-          (ground_of c.rounds.self) all c.rounds.invariant.rests;
+      does = (
+        Some false,
+        rests_all c.rounds._round c.args.rounds (ground_of c.args.self.now)
+            (ground_of c.rounds.self) all c.rounds.invariant.rests,
+      );
       groups = c.rounds.invariant.groups;
       posts = c.rounds.invariant.posts;
     }

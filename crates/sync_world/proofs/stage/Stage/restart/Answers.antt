@@ -3,10 +3,11 @@ use Rattle.sync_world.proofs.GoLaws.{same_leads}
 use Rattle.sync_world.proofs.StepLaws.{fails_leads, gone_goes, leads_err, unrefused_same}
 use Rattle.world_devices.specs.Refusals.{RefusedBy}
 use Rattle.sync_world.proofs.RefusingLaws.{by_same, found}
-use Rattle.std.proofs.Common.{Ok}
+use Rattle.std.proofs.Common.{Ok, List, map, ◌≡◌}
 use Rattle.world_devices.specs.Devices.{DeviceValue}
 use Rattle.world_devices.specs.Doing.{DeviceRestarts}
-use Rattle.world_devices.specs.declared.stop.Ran.TheVariants as ran
+use Rattle.world_links.specs.Links.{left_by}
+use Rattle.world_links.specs.declared.link.Link.{Link}
 use Rattle.sync_world.proofs.DoingLaws.{device_does}
 use Rattle.sync_world.proofs.stage.Stage.restart.Goals as goal
 
@@ -50,11 +51,14 @@ pub returns-clause-does : goal.returns-clause-does
 returns-clause-does c =
     let within : c.args.d < length c.args.self.now.devices.items = omega arith in
     record {
-      does = device_does (λ (was is : DeviceValue). DeviceRestarts (Ok tt) was is) c.args.d
-          ran.Crashed c.args.self.now.devices.items _ c.args.self.now.links.items _
+      does = device_does c.args.d (λ (was is : DeviceValue) (links : List Link).
+          DeviceRestarts (Ok tt) was is
+          × (links ≡ map (left_by c.args.d) c.args.self.now.links.items))
+          c.args.self.now.devices.items _ c.args.self.now.links.items _
           c.index_mut-device.result.now c.restart.new.self
-          within c.index_mut-device.ensures.value c.in_ok-restart.ensures.restarts
-          c.came.ensures.devices c.came.ensures.links;
+          within c.index_mut-device.ensures.value
+          (c.in_ok-restart.ensures.restarts, c.came.ensures.links)
+          c.came.ensures.devices;
       groups = c.came.ensures.groups;
       posts = c.came.ensures.posts;
     }

@@ -1,9 +1,12 @@
-use Rattle.std.proofs.Common.{◌∙◌, ◌≡◌, ◌<◌, Bool, Option, None, Some, arith, false, refl}
+use Rattle.std.proofs.Common.{◌∙◌, ◌≡◌, ◌<◌, Bool, Option, None, Some, Ok, Err, arith, true, false}
+use Rattle.std.proofs.Common.{refl}
 use Rattle.world_scripts.specs.declared.step.TheConstants.{MAX_DEVICES}
-use Rattle.sync_world.specs.Doing.{FillsFrom, FillsLinked, ground_of}
-use Rattle.sync_world.proofs.RoundLaws.{loud_round, quiet_round, round_handed, round_made, so_all}
-use Rattle.sync_world.proofs.RoundLaws.{so_crashed, so_full, so_next, so_none, turned_as}
-use Rattle.sync_world.proofs.TurningLaws.{when_full}
+use Rattle.world_devices.specs.declared.stop.StepFault.TheVariants as fault
+use Rattle.sync_world.specs.Doing.{MakesRound, TurnsLinked, ground_of}
+use Rattle.sync_world.proofs.RoundLaws.{crash_breaks, full_breaks, loud_round, quiet_round}
+use Rattle.sync_world.proofs.RoundLaws.{round_handed, round_made, so_ends, so_next, so_none}
+use Rattle.sync_world.proofs.RoundLaws.{turned_as}
+use Rattle.sync_world.proofs.DoingLaws.{when_full}
 use Rattle.sync_world.proofs.RestLaws.{goes_arrives, goes_not, goes_then, passed_on}
 use Rattle.sync_world.proofs.stage.Stage.round.Goals as goal
 
@@ -58,35 +61,38 @@ returns-in_err-quiet-clause-made c =
     let below : c.devices.d < MAX_DEVICES = omega arith in
     round_handed c.from_residual.result c.in_err-quiet.field-0.0 (ground_of c.args.self.now) _
     c.from_residual.ensures.1
-    (when_full (FillsLinked c.devices.d (ground_of c.devices.self))
-    (FillsFrom MAX_DEVICES 0 (ground_of c.args.self.now)) c.in_err-quiet.field-0.0
-    (so_full c.devices.d c.devices.still (ground_of c.args.self.now) (ground_of c.devices.self)
-    below c.devices.invariant.turns) c.in_err-quiet.ensures.turns)
+    (when_full
+    (TurnsLinked c.devices.d (Err fault.Full) (ground_of c.devices.self)
+    (ground_of c.turn_if_linked.new.self))
+    (MakesRound (Err fault.Full) (ground_of c.args.self.now)
+    (ground_of c.turn_if_linked.new.self)) c.in_err-quiet.field-0.0
+    (so_ends (Err fault.Full) c.devices.d c.devices.still (ground_of c.args.self.now)
+    (ground_of c.devices.self) (ground_of c.turn_if_linked.new.self) full_breaks below
+    c.devices.invariant.turns) c.in_err-quiet.ensures.turns)
 
 pub returns-in-None-clause-made : goal.returns-in-None-clause-made
 returns-in-None-clause-made c =
     let below : c.devices.d < MAX_DEVICES = omega arith in
-    so_crashed c.devices.d c.devices.still (ground_of c.args.self.now) (ground_of c.devices.self)
-    (ground_of c.turn_if_linked.new.self) below c.devices.invariant.turns
+    so_ends (Ok None) c.devices.d c.devices.still (ground_of c.args.self.now)
+    (ground_of c.devices.self) (ground_of c.turn_if_linked.new.self) crash_breaks below
+    c.devices.invariant.turns
     (turned_as c.devices.d c.in_ok-quiet.field-0 None (ground_of c.devices.self)
     (ground_of c.turn_if_linked.new.self) c.in-None.is c.in_ok-quiet.ensures.turns)
 
 pub returns-then-not-carried-clause-made : goal.returns-then-not-carried-clause-made
 returns-then-not-carried-clause-made c =
     let all : c.devices.d ≡ MAX_DEVICES = omega arith in
-    round_made (ground_of c.args.self.now) (ground_of c.devices.self) (ground_of c.arrive.new.self)
-    c.devices.still c.in_ok-carried.carried _
-    (so_all c.devices.d c.devices.still (ground_of c.args.self.now) (ground_of c.devices.self) all
-    c.devices.invariant.turns) c.in_ok-carried.ensures.devices c.in_ok-carried.ensures.links
+    round_made c.devices.d (ground_of c.args.self.now) (ground_of c.devices.self)
+    (ground_of c.arrive.new.self) c.devices.still c.in_ok-carried.carried true all
+    c.devices.invariant.turns c.in_ok-carried.ensures.devices c.in_ok-carried.ensures.links
     c.in_ok-carried.ensures.some
     (quiet_round c.devices.still c.in_ok-carried.carried c.if-still.true c.if-not-carried.true)
 
 pub returns-else-still-clause-made : goal.returns-else-still-clause-made
 returns-else-still-clause-made c =
     let all : c.devices.d ≡ MAX_DEVICES = omega arith in
-    round_made (ground_of c.args.self.now) (ground_of c.devices.self) (ground_of c.arrive.new.self)
-    c.devices.still c.in_ok-carried.carried _
-    (so_all c.devices.d c.devices.still (ground_of c.args.self.now) (ground_of c.devices.self) all
-    c.devices.invariant.turns) c.in_ok-carried.ensures.devices c.in_ok-carried.ensures.links
+    round_made c.devices.d (ground_of c.args.self.now) (ground_of c.devices.self)
+    (ground_of c.arrive.new.self) c.devices.still c.in_ok-carried.carried false all
+    c.devices.invariant.turns c.in_ok-carried.ensures.devices c.in_ok-carried.ensures.links
     c.in_ok-carried.ensures.some
     (loud_round c.devices.still c.in_ok-carried.carried c.else-still.either)

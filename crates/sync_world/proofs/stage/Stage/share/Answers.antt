@@ -1,4 +1,7 @@
 use Rattle.std.proofs.Common.{◌<◌, length, arith, ap, Err, rules, true, slice_get, refl, inl}
+use Rattle.std.specs.Option.{option_map}
+use Rattle.sync_ids.specs.Ids.{group_id_of}
+use Rattle.sync_ids.specs.Values.{GroupValue}
 use Rattle.sync_world.proofs.GoLaws.{same_leads}
 use Rattle.sync_world.proofs.StepLaws.{leads_err, came_goes, fails_leads}
 use Rattle.world_devices.specs.Refusals.{RefusedBy, refuses_level}
@@ -8,10 +11,8 @@ use Rattle.sync_world.proofs.RefusingLaws.{share_past, share_refused, with_missi
 use Rattle.sync_rules.specs.declared.entries.Entry.TheVariants as entry
 use Rattle.world_laws.specs.Worlds.{contact_for}
 use Rattle.world_scripts.specs.declared.step.WorldStep.TheVariants as step
-use Rattle.sync_world.specs.Doing.{entry_of}
 use Rattle.sync_world.specs.Naming.{group_of}
-use Rattle.sync_world.proofs.DoingLaws.{adds_entry, fills_with, made_level, passes_does}
-use Rattle.sync_world.proofs.DoingLaws.{tries_entry, made_unfilled, unfilled_does}
+use Rattle.sync_world.proofs.DoingLaws.{added, added_not, does_handed, made_level, made_unfilled}
 use Rattle.sync_world.proofs.stage.Stage.share.Goals as goal
 
 pub returns-in_err-ran-clause-goes : goal.returns-in_err-ran-clause-goes
@@ -92,61 +93,48 @@ returns-clause-refused c known =
 pub returns-in_err-ran-clause-does : goal.returns-in_err-ran-clause-does
 returns-in_err-ran-clause-does c =
     let within : c.args.d < length c.args.self.now.devices.items = omega arith in
-    let made = step.Share c.args.d c.args.e c.args.group c.args.level in
-    passes_does made c.args.self.now _ c.from_residual-in_err-ran.result c.in_err-ran.field-0.0
-    c.from_residual-in_err-ran.ensures.1
-    (fills_with (entry_of made c.args.self.now)
-    (entry.Level c.contact_for.result c.group_id-id.result c.args.level) c.args.d
-    c.args.self.now.devices.items c.in_err-ran.field-0.0 c.index_mut-device.result.now
-    c.set_level.new.self
-    (made_level (group_labelled (slice_get c.args.self.now.groups c.args.group))
-    c.in_ok-group_def.field-0 c.contact_for.result (contact_for c.args.d c.args.e)
-    c.group_id-id.result c.args.level
+    let labelled = group_labelled (slice_get c.args.self.now.groups c.args.group) in
+    let named = made_level labelled c.in_ok-group_def.field-0 c.contact_for.result
+    (contact_for c.args.d c.args.e) c.group_id-id.result c.args.level
     (labelled_made (slice_get c.args.self.now.groups c.args.group) c.in-Some.kind
     c.in-Some.descriptor.now c.in_ok-group_def.field-0 c.in-Some.ensures
     c.in_ok-group_def.ensures)
-    c.contact_for.ensures c.group_id-id.ensures)
-    within c.index_mut-device.ensures.value c.in_err-ran.ensures.adds)
-    (tries_entry (entry_of made c.args.self.now)
+    c.contact_for.ensures c.group_id-id.ensures in
+    added_not (step.Share c.args.d c.args.e c.args.group c.args.level) c.args.self.now _
+    (option_map (λ (def : GroupValue).
+    entry.Level (contact_for c.args.d c.args.e) (group_id_of def) c.args.level) labelled)
     (entry.Level c.contact_for.result c.group_id-id.result c.args.level) c.args.d
-    c.args.self.now.devices.items _ (Err c.in_err-ran.field-0.0)
-    c.index_mut-device.result.now c.set_level.new.self
-    (made_level (group_labelled (slice_get c.args.self.now.groups c.args.group))
-    c.in_ok-group_def.field-0 c.contact_for.result (contact_for c.args.d c.args.e)
-    c.group_id-id.result c.args.level
-    (labelled_made (slice_get c.args.self.now.groups c.args.group) c.in-Some.kind
-    c.in-Some.descriptor.now c.in_ok-group_def.field-0 c.in-Some.ensures
-    c.in_ok-group_def.ensures)
-    c.contact_for.ensures c.group_id-id.ensures)
-    within c.index_mut-device.ensures.value c.in_err-ran.ensures.adds refl)
+    c.index_mut-device.result.now c.set_level.new.self (λ came by. by) named within
+    c.index_mut-device.ensures.value refl c.from_residual-in_err-ran.result
+    c.in_err-ran.field-0.0 c.from_residual-in_err-ran.ensures.1 c.in_err-ran.ensures.adds refl
 
 pub returns-clause-does : goal.returns-clause-does
 returns-clause-does c =
     let within : c.args.d < length c.args.self.now.devices.items = omega arith in
+    let labelled = group_labelled (slice_get c.args.self.now.groups c.args.group) in
+    let named = made_level labelled c.in_ok-group_def.field-0 c.contact_for.result
+    (contact_for c.args.d c.args.e) c.group_id-id.result c.args.level
+    (labelled_made (slice_get c.args.self.now.groups c.args.group) c.in-Some.kind
+    c.in-Some.descriptor.now c.in_ok-group_def.field-0 c.in-Some.ensures
+    c.in_ok-group_def.ensures)
+    c.contact_for.ensures c.group_id-id.ensures in
     record {
       does =
-          adds_entry (entry_of (step.Share c.args.d c.args.e c.args.group c.args.level)
-          c.args.self.now) (entry.Level c.contact_for.result c.group_id-id.result c.args.level)
-          c.args.d c.in_ok-ran.ran c.args.self.now.devices.items _
-          c.args.self.now.links.items _
-          c.index_mut-device.result.now c.set_level.new.self
-          (made_level (group_labelled (slice_get c.args.self.now.groups c.args.group))
-          c.in_ok-group_def.field-0 c.contact_for.result (contact_for c.args.d c.args.e)
-          c.group_id-id.result c.args.level
-          (labelled_made (slice_get c.args.self.now.groups c.args.group) c.in-Some.kind
-          c.in-Some.descriptor.now c.in_ok-group_def.field-0 c.in-Some.ensures
-          c.in_ok-group_def.ensures)
-          c.contact_for.ensures c.group_id-id.ensures)
-          within c.index_mut-device.ensures.value c.in_ok-ran.ensures.adds c.came.ensures.devices
-          c.came.ensures.links;
+          added (step.Share c.args.d c.args.e c.args.group c.args.level) c.args.self.now
+          c.came.new.self
+          (option_map (λ (def : GroupValue).
+          entry.Level (contact_for c.args.d c.args.e) (group_id_of def) c.args.level) labelled)
+          (entry.Level c.contact_for.result c.group_id-id.result c.args.level) c.args.d
+          c.index_mut-device.result.now c.set_level.new.self (λ came by. by) named within
+          c.index_mut-device.ensures.value c.came.ensures.devices c.in_ok-ran.ran
+          c.in_ok-ran.ensures.adds c.came.ensures.links;
       groups = c.came.ensures.groups;
       posts = c.came.ensures.posts;
     }
 
 pub returns-in_err-group_def-clause-does : goal.returns-in_err-group_def-clause-does
 returns-in_err-group_def-clause-does c =
-    unfilled_does (step.Share c.args.d c.args.e c.args.group c.args.level) c.args.self.now
-    c.args.self.now c.from_residual.result c.in_err-group_def.field-0.0
-    c.from_residual.ensures.1
-    (made_unfilled (group_of c.in-Some.kind c.in-Some.descriptor.now) c.in_err-group_def.field-0.0
-    c.in_err-group_def.ensures) (inl refl)
+    does_handed (step.Share c.args.d c.args.e c.args.group c.args.level) c.from_residual.result
+    c.in_err-group_def.field-0.0 c.args.self.now c.args.self.now c.from_residual.ensures.1
+    (made_unfilled _ (group_of c.in-Some.kind c.in-Some.descriptor.now)
+    c.in_err-group_def.field-0.0 c.in_err-group_def.ensures) (inl refl)

@@ -9,7 +9,7 @@ use Rattle.sync_world.proofs.StepLaws.{leads_links, plan_fails, plans_from, turn
 use Rattle.sync_world.proofs.StepLaws.{turn_fails, turn_leads, written, written_twice}
 use Rattle.world_devices.specs.Refusals.{RefusedBy}
 use Rattle.sync_world.proofs.RefusingLaws.{by_same, found}
-use Rattle.sync_world.proofs.TurningLaws.{crashed_sent, turn_fault, turn_made, turns_handed}
+use Rattle.sync_world.proofs.TurningLaws.{turn_fault, turn_made, turns_handed}
 use Rattle.sync_world.proofs.stage.Stage.turn.Goals as goal
 
 pub returns-then-d-len-clause-goes : goal.returns-then-d-len-clause-goes
@@ -114,23 +114,24 @@ returns-in_err-still-clause-turns c =
     let within : c.args.d < length c.args.self.now.devices.items = omega arith in
     turns_handed c.args.d c.from_residual-in_err-still.result c.in_err-still.field-0.0
     (ground_of c.args.self.now) _ c.from_residual-in_err-still.ensures.1
-    (turn_fault c.args.d c.args.self.now.devices.items c.args.self.now.links.items
-    c.as_mut_slice.result.now c.plan_all.new.links c.index_mut-device.result.now
+    (turn_fault c.args.d c.args.self.now.devices.items _ c.args.self.now.links.items
+    c.as_mut_slice.result.now c.plan_all.new.links _ c.index_mut-device.result.now
     c.plan_all.new.device c.turn.new.self within
     c.index_mut-device.ensures.value c.as_mut_slice.ensures.value c.in_ok-plan_all.ensures.exact
-    c.in_err-still.field-0.0 c.in_err-still.ensures.turns)
+    refl c.in_err-still.field-0.0 c.in_err-still.ensures.turns
+    (written c.args.self.now.links.len c.plan_all.new.links c.args.self.now.links.items
+    (c.plan_all.ensures.number ∙ ap length c.as_mut_slice.ensures.value) (omega arith)))
 
 pub returns-in_default-clause-turns : goal.returns-in_default-clause-turns
 returns-in_default-clause-turns c =
     let within : c.args.d < length c.args.self.now.devices.items = omega arith in
-    turn_made c.args.d c.args.self.now.devices.items c.args.self.now.links.items
-    c.as_mut_slice.result.now c.plan_all.new.links c.index_mut-device.result.now
+    turn_made c.args.d c.args.self.now.devices.items _ c.args.self.now.links.items
+    c.as_mut_slice.result.now c.plan_all.new.links _ c.index_mut-device.result.now
     c.plan_all.new.device c.turn.new.self within
     c.index_mut-device.ensures.value c.as_mut_slice.ensures.value c.in_ok-plan_all.ensures.exact
-    c.in_ok-still.field-0 None _ _
+    c.came.ensures.devices c.in_ok-still.field-0 None
     (none_of c.in_ok-still.field-0 (λ x e. c.in_default.not-Some x e))
-    c.in_ok-still.ensures.turns (crashed_sent c.turn.new.self)
-    c.came.ensures.devices (c.came.ensures.links ∙ ap (λ ls. map (left_by c.args.d) ls)
+    c.in_ok-still.ensures.turns (c.came.ensures.links ∙ ap (λ ls. map (left_by c.args.d) ls)
     (written c.args.self.now.links.len c.plan_all.new.links c.args.self.now.links.items
     (c.plan_all.ensures.number ∙ ap length c.as_mut_slice.ensures.value) (omega arith)))
 
@@ -142,13 +143,15 @@ returns-in_err-look_all-clause-turns c =
 pub returns-clause-turns : goal.returns-clause-turns
 returns-clause-turns c =
     let within : c.args.d < length c.args.self.now.devices.items = omega arith in
-    turn_made c.args.d c.args.self.now.devices.items c.args.self.now.links.items
-    c.as_mut_slice.result.now c.plan_all.new.links c.index_mut-device.result.now
+    turn_made c.args.d c.args.self.now.devices.items _ c.args.self.now.links.items
+    c.as_mut_slice.result.now c.plan_all.new.links _ c.index_mut-device.result.now
     c.plan_all.new.device c.turn.new.self within
     c.index_mut-device.ensures.value c.as_mut_slice.ensures.value c.in_ok-plan_all.ensures.exact
-    c.in_ok-still.field-0 (Some c.in-Some.still) _ _ c.in-Some.is c.in_ok-still.ensures.turns
-    (λ _. c.links_stand.ensures) refl
-    (written_twice c.args.self.now.links.len c.args.d c.turn.new.self c.args.self.now.links.items
-    c.plan_all.new.links c.look_all.new.links c.as_mut_slice-2.result.now
-    (c.plan_all.ensures.number ∙ ap length c.as_mut_slice.ensures.value) (omega arith)
-    c.as_mut_slice-2.ensures.value c.in_ok-look_all.ensures)
+    refl c.in_ok-still.field-0 (Some c.in-Some.still) c.in-Some.is c.in_ok-still.ensures.turns (
+      c.links_stand.ensures,
+      written_twice c.args.self.now.links.len c.args.d c.turn.new.self
+          c.args.self.now.links.items c.plan_all.new.links c.look_all.new.links
+          c.as_mut_slice-2.result.now
+          (c.plan_all.ensures.number ∙ ap length c.as_mut_slice.ensures.value) (omega arith)
+          c.as_mut_slice-2.ensures.value c.in_ok-look_all.ensures,
+    )

@@ -1,5 +1,5 @@
 use Rattle.world_scripts.specs.declared.step.WorldStep.TheVariants as step
-use Rattle.sync_world.proofs.TurningLaws.{does_handed}
+use Rattle.sync_world.proofs.DoingLaws.{does_handed}
 use Rattle.sync_world.proofs.stage.Stage.turn_once.Goals as goal
 
 pub returns-in_err-_still-clause-does : goal.returns-in_err-_still-clause-does
