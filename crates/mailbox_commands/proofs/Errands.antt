@@ -30,7 +30,7 @@ use Rattle.sync_store.proofs.Runs.{leads_both}
 use Rattle.sync_words.specs.declared.outcome.Outcome.{Outcome}
 use Rattle.sync_words.specs.declared.outcome.Outcome.TheVariants as outcome
 use Rattle.sync_words.specs.Outcomes.{came_to}
-use Rattle.mailbox_core.specs.Rooms.{AreRoomy}
+use Rattle.sync_store.specs.Rooms.{AreRoomy}
 use Rattle.store_commands.specs.Commit.{ComesAnew, ExtendsBy, HasLastGeneration, SettledAnew}
 use Rattle.store_commands.specs.Commit.{SettlesAnew, needed_by}
 use Rattle.store_commands.specs.Load.{MayExtend}

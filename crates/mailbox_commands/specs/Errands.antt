@@ -16,7 +16,7 @@ use Rattle.entry_codec.specs.declared.naming.Format.TheVariants as kind
 use Rattle.entry_codec.specs.Standing.{journal, stands}
 use Rattle.sync_store.specs.Moments.{IsBetween}
 use Rattle.sync_words.specs.declared.outcome.Outcome.{Outcome}
-use Rattle.mailbox_core.specs.Rooms.{AreRoomy}
+use Rattle.sync_store.specs.Rooms.{AreRoomy}
 use Rattle.store_commands.specs.Commit.{IsInFormat, needed_by}
 
 -- ---- the tests

@@ -18,7 +18,7 @@ use Rattle.sync_store.specs.Moments.{JournalMoment}
 use Rattle.sync_store.specs.Store.{StoreValue}
 use Rattle.sync_words.specs.declared.outcome.Outcome.{Outcome}
 use Rattle.sync_words.specs.declared.outcome.Outcome.TheVariants as outcome
-use Rattle.mailbox_core.specs.Rooms.{StoreComesTo}
+use Rattle.sync_store.specs.Rooms.{StoreComesTo}
 use Rattle.store_commands.specs.Commit.{ExtendsBy, HasLastGeneration, WasSpent}
 use Rattle.store_commands.specs.Stopping.{TestsHold}
 use Rattle.mailbox_commands.specs.Errands.{Errand, ErrandOn, IsErrandCutShort, IsRun, mailbox_test}

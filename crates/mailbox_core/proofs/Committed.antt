@@ -18,7 +18,7 @@ use Rattle.sync_store.specs.Moments.{RunsCommit}
 use Rattle.sync_store.specs.Runs.{AddsBatch, ExtendsSo, HasExtended, committed_by}
 use Rattle.sync_store.specs.Store.{IsStore, StoreValue, format_meant, written_in}
 use Rattle.sync_store.proofs.Runs.{runs_commit}
-use Rattle.mailbox_core.specs.Rooms.{AreRoomy, StoreComesTo, needed_in}
+use Rattle.sync_store.specs.Rooms.{AreRoomy, StoreComesTo, needed_in}
 use Rattle.mailbox_core.specs.Steps.{HasCommitted}
 use Rattle.mailbox_core.proofs.Rooms.{needed_is, settling_roomy}
 

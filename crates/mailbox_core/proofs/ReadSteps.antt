@@ -15,7 +15,7 @@ use Rattle.sync_store.specs.Store.{StoreValue}
 use Rattle.mailbox_core.specs.declared.ends.BoxEnding.{BoxEnding}
 use Rattle.mailbox_core.specs.declared.ends.BoxEnding.TheVariants as box
 use Rattle.mailbox_core.specs.Files.{is_foreign}
-use Rattle.mailbox_core.specs.Rooms.{StoreComesTo}
+use Rattle.sync_store.specs.Rooms.{StoreComesTo}
 use Rattle.mailbox_core.specs.Steps.{HasReadItem, HasReadRest, HasTakenRecord, IsAt, IsOpenFor}
 use Rattle.mailbox_core.specs.Steps.{RecordsLeft, StopsSo, TakesSo, next_on}
 use Rattle.mailbox_core.specs.Taking.{AllTaken, NoRoomFor, SomeTaken, TakesTo}

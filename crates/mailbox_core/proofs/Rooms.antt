@@ -19,7 +19,7 @@ use Rattle.sync_store.specs.Commits.{KeepsStore, needed}
 use Rattle.sync_store.specs.Fitting.{FitsFiles, ImagesStand}
 use Rattle.sync_store.specs.Store.{IsStore, StoreValue, format_meant, written_in}
 use Rattle.sync_store.proofs.Runs.{runs_none, runs_then}
-use Rattle.mailbox_core.specs.Rooms.{AreRoomy, StoreComesTo, needed_in}
+use Rattle.sync_store.specs.Rooms.{AreRoomy, StoreComesTo, needed_in}
 
 -- ---- the sum
 

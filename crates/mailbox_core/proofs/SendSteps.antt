@@ -25,7 +25,7 @@ use Rattle.sync_store.specs.Commits.{needed}
 use Rattle.sync_store.specs.Fitting.{ImagesStand}
 use Rattle.sync_store.specs.Ready.{IsReady}
 use Rattle.sync_store.specs.Store.{IsStore, StoreValue}
-use Rattle.mailbox_core.specs.Rooms.{StoreComesTo}
+use Rattle.sync_store.specs.Rooms.{StoreComesTo}
 use Rattle.mailbox_core.specs.Sending.{AreDue, HasWrittenBox, IsSessionQuiet, SendsAll, SendsSome}
 use Rattle.mailbox_core.specs.Sending.{SendsUntilFull, WritesSo, WritesSome, batch_session}
 use Rattle.mailbox_core.specs.Sending.{out_batch, out_batches}

@@ -26,7 +26,7 @@ use Rattle.sync_store.specs.Fitting.{ImagesStand}
 use Rattle.sync_store.specs.Ready.{IsReady}
 use Rattle.sync_store.specs.Runs.{AddsBatch, ExtendsSo, HasExtended}
 use Rattle.sync_store.specs.Store.{IsStore, StoreValue}
-use Rattle.mailbox_core.specs.Rooms.{StoreComesTo}
+use Rattle.sync_store.specs.Rooms.{StoreComesTo}
 use Rattle.mailbox_core.specs.Steps.{HasTakenRecord, IsAt, IsOpenFor, TakesSo, next_on}
 use Rattle.mailbox_core.specs.Taking.{SomeTaken, TakesRecord, TakesTo, next_take}
 use Rattle.mailbox_core.proofs.Committed.{comes_extended, needed_stays}

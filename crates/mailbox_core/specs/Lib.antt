@@ -1,4 +1,3 @@
-pub mod Rooms
 pub mod Taking
 pub mod Files
 pub mod Reading

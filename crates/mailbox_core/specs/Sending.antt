@@ -18,7 +18,7 @@ use Rattle.sync_store.specs.declared.fault.StoreFault.{StoreFault}
 use Rattle.sync_store.specs.declared.fault.StoreFault.TheVariants as fault
 use Rattle.sync_store.specs.Commits.{needed}
 use Rattle.sync_store.specs.Store.{StoreValue}
-use Rattle.mailbox_core.specs.Rooms.{StoreComesTo}
+use Rattle.sync_store.specs.Rooms.{StoreComesTo}
 use Rattle.mailbox_core.specs.Taking.{BeginsThen, first_batch}
 
 -- the session of this number on which a file is written: in batch mode, of this latency

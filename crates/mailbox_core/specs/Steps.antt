@@ -24,7 +24,7 @@ use Rattle.sync_store.specs.Store.{IsStore, StoreValue}
 use Rattle.mailbox_core.specs.declared.ends.BoxEnd.{BoxEnd}
 use Rattle.mailbox_core.specs.declared.ends.BoxEnding.{BoxEnding}
 use Rattle.mailbox_core.specs.Files.{ending_behind, records_to_take}
-use Rattle.mailbox_core.specs.Rooms.{StoreComesTo}
+use Rattle.sync_store.specs.Rooms.{StoreComesTo}
 use Rattle.mailbox_core.specs.Sending.{IsSessionQuiet, SendsAll, SendsSome, SendsUntilFull}
 use Rattle.mailbox_core.specs.Sending.{batch_session, out_batch}
 use Rattle.mailbox_core.specs.Taking.{AllTaken, NoRoomFor, SomeTaken, TakesRecord, TakesTo}

@@ -8,6 +8,7 @@ pub mod Begin
 pub mod Commits
 pub mod Settling
 pub mod Runs
+pub mod Rooms
 pub mod Migrations
 pub mod Compactions
 pub mod Refusals

@@ -14,8 +14,7 @@ use Rattle.sync_store.specs.Runs.{RunsBy}
 use Rattle.sync_store.specs.Store.{StoreValue, written_in}
 
 -- The length that a journal needs in a format with a batch, as a commit counts it: the batch's
--- frame is added, and room is
--- counted for all that settling may then add.
+-- frame is added, and room is counted for all that settling may then add.
 abbrev pub needed_in : Format → List (List Entry) → List Entry → ℕ
 needed_in format j batch =
     journal_end format j + 5 + payload_len format batch + room_of format (after_all (facts j) batch)
