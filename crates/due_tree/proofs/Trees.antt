@@ -54,10 +54,6 @@ put_first leaves cells place v tree within =
 pub put_next : (leaves : ℕ) (cells : List (Option ℕ)) (cell : ℕ) → IsTreeBut leaves cells cell → cell < length cells → IsTreeBut leaves (set cells cell (least_below cells cell)) (cell / 2)
 put_next leaves cells cell h within = climbs leaves cells cell (least_below cells cell) h within (inr refl)
 
--- nothing is wrong where only the cell 0 may be
-pub put_last : (leaves : ℕ) (cells : List (Option ℕ)) → IsTreeBut leaves cells 0 → IsTree leaves cells
-put_last leaves cells h node low high = h node low high (let ne : node ≢ 0 = omega arith in ne)
-
 -- nor where the cell that may be wrong is not
 pub put_same : (leaves : ℕ) (cells : List (Option ℕ)) (cell : ℕ) → IsTreeBut leaves cells cell → at cells cell ≡ least_below cells cell → IsTree leaves cells
 put_same leaves cells cell h same node low high =

@@ -1,24 +1,19 @@
 -- The messages that are held behind a legal journal can be named by their numbers.
-use Rattle.std.proofs.Common.{◌≡◌, ℕ, ◌+◌, ◌^◌, ◌≤◌, true, List, [], ◌∷◌, length, refl, sym, ap, ◌∙◌, arith, length-append}
+use Rattle.std.proofs.Common.{◌≡◌, ℕ, ◌^◌, ◌≤◌, true, List, [], ◌∷◌, length, refl, sym, ap, ◌∙◌, arith}
 use Rattle.std.specs.Prelude.{Option, Some, None, is_some}
-use Rattle.std.specs.List.{flat_map}
 use Rattle.std.proofs.lemmas.Bool.{false≢true, or_left, or_right}
 use Rattle.sync_ids.specs.Values.{AreIds, MessageValue}
 use Rattle.sync_ids.specs.Ids.{message_id_of}
 use Rattle.sync_rules.specs.declared.entries.Entry.{Entry}
 use Rattle.sync_rules.specs.Clients.{Meaning}
 use Rattle.sync_rules.specs.Consistency.{HasHeld}
-use Rattle.sync_rules.specs.Facts.{Facts, Held, after_all, after_batches, facts, held_at, nothing}
-use Rattle.sync_rules.specs.Legal.{GoesOn, Legal}
+use Rattle.sync_rules.specs.Facts.{Facts, Held, facts, held_at, nothing}
+use Rattle.sync_rules.specs.Legal.{Legal}
 use Rattle.sync_rules.specs.Lists.{is_among, same_id}
 use Rattle.sync_rules.proofs.ConsistencyLaws.{among_held, legal_consistent}
 use Rattle.sync_rules.proofs.Elements.{same_id_itself}
-use Rattle.outside.specs.Frames.{frame_of}
-use Rattle.entry_codec.specs.declared.naming.Format.{Format}
 use Rattle.entry_codec.specs.Naming.{AreNames}
-use Rattle.entry_codec.specs.Payloads.{journal_end, names_of, payload, payloads}
-use Rattle.entry_codec.proofs.Counts.{one_more}
-use Rattle.entry_codec.proofs.Growing.{length_frame}
+use Rattle.entry_codec.specs.Payloads.{names_of}
 
 -- every message's id has 32 bytes
 abbrev pub WholeIds : Type 0
@@ -47,20 +42,3 @@ legal_names whole clients j legal few =
     names_len : (hs : List Held) → length (names_of (record nothing { held = hs })) ≡ length hs
     names_len [] = refl
     names_len (h ∷ hs) = omega (arith, names_len hs)
-
--- each message that is held has its bytes in the file
-held_few : (clients : Meaning) (format : Format) (f : Facts) (j : List (List Entry)) → GoesOn clients f j
-    → length (after_batches f j).held ≤ length f.held + length (flat_map frame_of (payloads format f j))
-held_few clients format f [] on = omega arith
-held_few clients format f (b ∷ bs) on =
-    let p = payload format f b in
-    omega (
-      arith,
-      (one_more clients f b on.0).0,
-      held_few clients format (after_all f b) bs on.1,
-      length-append (frame_of p) (flat_map frame_of (payloads format (after_all f b) bs)),
-      length_frame p,
-    )
-
-pub held_below : (clients : Meaning) (format : Format) (j : List (List Entry)) → Legal clients j → length (facts j).held ≤ journal_end format j
-held_below clients format j legal = omega (arith, held_few clients format nothing j legal)

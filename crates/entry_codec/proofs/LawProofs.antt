@@ -19,10 +19,6 @@ use Rattle.entry_codec.proofs.Bounds.{ids_whole, same_short, saved, short, short
 use Rattle.entry_codec.proofs.Places.{held_reads}
 use Rattle.entry_codec.proofs.Readers.{IsBytes, IsReader, part, part_is}
 
-empty : (xs : List ℕ) → length xs ≡ 0 → xs ≡ []
-empty [] none = refl
-empty (x ∷ xs) none = absurd (omega arith)
-
 -- ---- in a format, where these are the ids held
 
 module _ (f : Format) (names : List (List ℕ)) (are : AreNames names) where

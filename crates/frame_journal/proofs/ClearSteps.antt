@@ -1,9 +1,9 @@
 -- A file emptied, call by call.
-use Rattle.std.proofs.Common.{◌≡◌, ◌⊎◌, ℕ, ◌<◌, ◌≤◌, min, Bool, true, false, List, [], ◌∷◌, length, take, drop, Option, None, Some, Result, Ok, Err, OnOk, refl, sym, ap, ◌∙◌, subst, inl, inr, arith}
+use Rattle.std.proofs.Common.{◌≡◌, ◌⊎◌, ℕ, ◌<◌, min, Bool, true, false, List, [], ◌∷◌, length, take, drop, Option, None, Some, Result, Ok, Err, OnOk, refl, sym, ap, ◌∙◌, subst, inl, inr, arith}
 use Rattle.std.specs.Prelude.{slice_index, nat_lt, not, ◌&&◌, ◌==◌}
 use Rattle.outside.specs.Links.{Links, sent_of}
-use Rattle.std.proofs.lemmas.Bool.{cases_eq, cases_lt, lt-leb, ltb-true, lt-ltb, eqb-false, eqb-true, and_parts}
-use Rattle.std.proofs.lemmas.List.{get_or-take, take_all}
+use Rattle.std.proofs.lemmas.Bool.{cases_eq, cases_lt, lt-leb, lt-ltb, eqb-true}
+use Rattle.std.proofs.lemmas.List.{get_or-take}
 use Rattle.outside.specs.declared.failed.Failed.{Failed}
 use Rattle.outside.specs.Files.{Two, File, IsFileImage, NothingPending, file_of, with_file, settled}
 use Rattle.outside.specs.Disk.{RelatesTold, WritesFile, CutsFile, SyncsFile, ReadsBytes, after_write, after_cut, overwritten}
@@ -28,10 +28,6 @@ first_rest : (bytes : List ℕ) → 0 < length bytes → bytes ≡ slice_index b
 first_rest [] some = absurd (omega arith)
 first_rest (x ∷ xs) some = refl
 
-not_false : (b : Bool) → not b ≡ true → b ≡ false
-not_false true e = sym e
-not_false false e = refl
-
 not_true : (b : Bool) → not b ≡ false → b ≡ true
 not_true true e = refl
 not_true false e = sym e
@@ -45,18 +41,6 @@ pub record Opened (bytes : List ℕ) : Type 0 where
 
 same_first : (bytes buf : List ℕ) (n : ℕ) → ReadsBytes bytes 0 buf n → 0 < n → slice_index buf 0 ≡ slice_index bytes 0
 same_first bytes buf n reads some = sym (get_or-take n buf 0 0 some) ∙ ap (λ l. slice_index l 0) reads.given ∙ get_or-take n bytes 0 0 some
-
-pub shut_read : (bytes buf : List ℕ) (n : ℕ) → ReadsBytes bytes 0 buf n → (nat_lt 0 n && not (slice_index buf 0 == 1)) ≡ true → HasShutGate bytes
-shut_read bytes buf n reads test =
-    let parts = and_parts (nat_lt 0 n) (not (slice_index buf 0 == 1)) test in
-    let some : 0 < n = ltb-true 0 n parts.0 in
-    let inside : 0 < length bytes = omega (arith, reads.count) in
-    record {
-      gate = slice_index bytes 0;
-      rest = drop 1 bytes;
-      closed = λ one. eqb-false (slice_index buf 0) 1 (not_false (slice_index buf 0 == 1) parts.1) (same_first bytes buf n reads some ∙ one);
-      shape = first_rest bytes inside;
-    }
 
 pub open_read : (bytes buf : List ℕ) (n : ℕ) → ReadsBytes bytes 0 buf n → length buf ≡ 1 → (nat_lt 0 n && not (slice_index buf 0 == 1)) ≡ false → Opened bytes
 open_read bytes buf n reads long test =
@@ -191,13 +175,6 @@ module _ (two : Two File) (o0 : Outside) (file : ℕ) (told : o0.files ≡ Some 
         still = λ _. this ∙ ap (λ (g : File). settled g.now) (sym this);
         other = ap (λ (t : Two File). other_of t file) (sym is) ∙ other_of-with_file two file f;
       }
-
--- a file that is one byte long already
-pub short_already : (two : Two File) (file : ℕ) → length (file_of two file).now ≤ 1 → CutsToFirstByte file two two
-short_already two file short = record { reads = sym (take_all 1 (file_of two file).now short); still = λ pending. pending; other = refl }
-
-pub shut_already : (two : Two File) (file : ℕ) → HasShutGate (file_of two file).now → ShutsGate file two two
-shut_already two file shut = record { shut = shut; still = λ pending. pending; other = refl }
 
 -- ---- both
 

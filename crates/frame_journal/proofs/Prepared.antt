@@ -1,5 +1,5 @@
 -- The gate of a prepared file, and frames added before it is opened.
-use Rattle.std.proofs.Common.{◌≡◌, ℕ, ◌+◌, ◌≤◌, nat_le, true, List, [], ◌∷◌, ◌++◌, length, take, drop, refl, sym, ap, ◌∙◌, subst, inl, inr, arith, append_assoc, length-append}
+use Rattle.std.proofs.Common.{◌≡◌, ℕ, ◌+◌, ◌≤◌, nat_le, true, List, [], ◌∷◌, ◌++◌, length, take, drop, sym, ap, ◌∙◌, subst, inl, inr, arith, append_assoc, length-append}
 use Rattle.std.specs.Prelude.{slice_index}
 use Rattle.std.specs.List.{flat_map}
 use Rattle.std.proofs.Math.ListN.{get_or-append}
@@ -7,10 +7,9 @@ use Rattle.std.proofs.lemmas.Bool.{cases_eq}
 use Rattle.std.proofs.lemmas.Bool.Decides.{nat_tests}
 use Rattle.outside.specs.Files.{Two, File, file_of, settled, NothingPending}
 use Rattle.outside.specs.Disk.{overwritten}
-use Rattle.outside.specs.Frames.{is_open, HasFrames, IsAtRest, frame_of, end_of}
+use Rattle.outside.specs.Frames.{is_open, HasFrames, IsAtRest, frame_of}
 use Rattle.outside.specs.Steps.{other_of}
 use Rattle.outside.proofs.CallSteps.{file_of-with_file, other_of-with_file}
-use Rattle.frame_journal.specs.Append.{payload_of, AppendsFrame}
 use Rattle.frame_journal.specs.Create.{IsPrepared, PublishesHeader, ShutOrOpened, opened}
 use Rattle.frame_journal.specs.Gates.{OpensGate, KeepsAllBut}
 use Rattle.frame_journal.proofs.CreateSteps.{not_open}
@@ -98,15 +97,3 @@ gate_opened file two p c kept =
       | inl one ↦ inr (shape ∙ ap (λ g. g ∷ rest) one ∙ ap opened (sym now))
       | inr other ↦ inl (not_open c (λ e. other (sym (ap (λ (l : List ℕ). slice_index l 0) shape) ∙ e)))
     ]
-
--- a frame more leaves a file prepared
-pub prepared_appended : (file : ℕ) (framed : List ℕ) (two two' : Two File) (p : IsPrepared two file) → AppendsFrame file (end_of p.payloads) framed two two' → IsPrepared two' file
-prepared_appended file framed two two' p a = record {
-  settled = a.at_rest.settled;
-  gate = p.gate;
-  marked = p.marked;
-  payloads = p.payloads ++ payload_of framed ∷ [];
-  closed = p.closed;
-  header = p.header;
-  frames = a.frames (p.gate ∷ p.marked) p.payloads p.frames refl;
-}

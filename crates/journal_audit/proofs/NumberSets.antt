@@ -1,9 +1,9 @@
 -- An ordered set of numbers as a set.
-use Rattle.std.proofs.Common.{◌≡◌, ℕ, zero, suc, Bool, false, cond, ◌||◌, List, [], ◌∷◌, ◌++◌, refl, sym, ◌∙◌, nat_eq}
+use Rattle.std.proofs.Common.{◌≡◌, ℕ, Bool, cond, ◌||◌, List, [], ◌∷◌, refl, sym, ◌∙◌, nat_eq}
 use Rattle.std.specs.List.{list_any}
 use Rattle.std.specs.Ordering.{is_eq, nat_cmp}
 use Rattle.std.specs.Cmp.{nat_eq_equiv, unsigned_tied}
-use Rattle.journal_audit.specs.Numbers.{has, has_for}
+use Rattle.journal_audit.specs.Numbers.{has}
 
 pub at_number : (k n : ℕ) → is_eq (nat_cmp k n) ≡ nat_eq n k
 at_number k n = unsigned_tied k n ∙ nat_eq_equiv.symm k n
@@ -18,11 +18,3 @@ pub has_put : (old new : List ℕ) (k : ℕ) (b : Bool)
     → ((q : ℕ) → list_any (λ x. is_eq (nat_cmp q x)) new ≡ cond (is_eq (nat_cmp k q)) b (list_any (λ x. is_eq (nat_cmp q x)) old))
     → (n : ℕ) → has new n ≡ cond (nat_eq n k) b (has old n)
 has_put old new k b put n = sym (has-is new n) ∙ put n ∙ (λ i. cond (at_number k n i) b (has-is old n i))
-
--- one empty set more
-pub none_push : (sets : List (List ℕ)) (set : List ℕ) → ((contact n : ℕ) → has_for sets contact n ≡ false) → ((n : ℕ) → has set n ≡ false)
-    → (contact n : ℕ) → has_for (sets ++ set ∷ []) contact n ≡ false
-none_push [] set none empty zero n = empty n
-none_push [] set none empty (suc contact) n = refl
-none_push (s ∷ ss) set none empty zero n = none 0 n
-none_push (s ∷ ss) set none empty (suc contact) n = none_push ss set (λ c m. none (suc c) m) empty contact n

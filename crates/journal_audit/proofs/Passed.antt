@@ -97,9 +97,6 @@ one_more p contact n until s next passes m h at under = by (nat_eq m n) refl whe
 
 -- ---- one after the other
 
-pub passed_none : (p : PlainFacts) → IsPlainSound p → BecomesFacts p p (facts_of p)
-passed_none p sound = record { facts = refl; sound = sound; knows = λ clients knows. knows }
-
 pub passed_then : (p q r : PlainFacts) → BecomesFacts p q (facts_of p) → BecomesFacts q r (facts_of q) → BecomesFacts p r (facts_of p)
 passed_then p q r first then_ = record {
   facts = then_.facts ∙ first.facts;

@@ -4,7 +4,7 @@ use Rattle.std.specs.FinSet as fin_set
 use Rattle.std.specs.List.{list_all, slice_get}
 use Rattle.std.proofs.lemmas.Bool.{and_from, and_parts, false≢true, or_left, or_right}
 use Rattle.std.specs.Prelude.{nat_lt}
-use Rattle.session_core.specs.Known.{IsOfEntry, IsOfAll}
+use Rattle.session_core.specs.Known.{IsOfAll}
 use Rattle.session_core.proofs.Unknown.{unknown}
 use Rattle.sync_rules.specs.declared.answers.Judgement.{Judgement}
 use Rattle.sync_rules.specs.declared.answers.Judgement.TheVariants as judgement
@@ -12,7 +12,7 @@ use Rattle.sync_rules.specs.declared.entries.Entry.{Entry}
 use Rattle.sync_rules.specs.declared.entries.Entry.TheVariants as entry
 use Rattle.sync_rules.specs.declared.entries.Out.{Out}
 use Rattle.sync_rules.specs.declared.entries.Out.TheVariants as out
-use Rattle.sync_rules.specs.Allows.{AllowsIsAllowed, allows, are_rows, is_some_of, same_entry, settles, suits_rows}
+use Rattle.sync_rules.specs.Allows.{AllowsIsAllowed, allows, is_some_of, same_entry, settles, suits_rows}
 use Rattle.sync_rules.specs.Clients.{Meaning}
 use Rattle.sync_rules.specs.Consistency.{IsConsistent}
 use Rattle.sync_rules.specs.Facts.{Facts, Held, Id, after, after_all, contact_in, facts, is_held, nothing, session_at}
@@ -37,7 +37,7 @@ use Rattle.journal_audit.specs.declared.messages.Line.{Line}
 use Rattle.journal_audit.specs.Changes.{AreNamed, BecomesKnown, MayHoldMessage, MayTakeEntry, FitsOut}
 use Rattle.journal_audit.specs.Lines.{held_in, held_of, ids_flagged, judged_in}
 use Rattle.journal_audit.specs.Plain.{IsPlainSound, KnowsMeanings, facts_of, shared_in, shares}
-use Rattle.journal_audit.specs.Playing.{AllFit, IsOfLegal, PlaysEntries, all_go, goes}
+use Rattle.journal_audit.specs.Playing.{AllFit, IsOfLegal, all_go, goes}
 use Rattle.journal_audit.proofs.Lines.{flagged_is, own_flag}
 use Rattle.journal_audit.proofs.Steps.{known_at}
 
@@ -137,14 +137,6 @@ pub record PlaysOn (clients : Meaning) (rows : Bool) (old now : PlainFacts) (who
   pub same_test : all_go clients rows (facts_of now) left ≡ all_go clients rows (facts_of old) whole
   pub same_end : after_all (facts_of now) left ≡ after_all (facts_of old) whole
 
-pub plays_begin : (clients : Meaning) (rows : Bool) (p : PlainFacts) (whole left : List Entry) → IsPlainSound p → KnowsMeanings clients p → left ≡ whole → PlaysOn clients rows p p whole left
-plays_begin clients rows p whole left sound knows same = record {
-  sound = sound;
-  knows = knows;
-  same_test = ap (all_go clients rows (facts_of p)) same;
-  same_end = ap (after_all (facts_of p)) same;
-}
-
 pub plays_more : (clients : Meaning) (rows : Bool) (old now next : PlainFacts) (whole left rest : List Entry) (e : Entry) → PlaysOn clients rows old now whole left → left ≡ e ∷ rest
     → goes clients rows (facts_of now) e ≡ true → BecomesKnown clients next (after (facts_of now) e) → PlaysOn clients rows old next whole rest
 plays_more clients rows old now next whole left rest e on is go more = record {
@@ -156,21 +148,6 @@ plays_more clients rows old now next whole left rest e on is go more = record {
   same_end = ap (λ (f : Facts). after_all f rest) more.facts ∙ (sym (ap (after_all (facts_of now)) is) ∙ on.same_end);
 }
 
-pub plays_refused : (clients : Meaning) (rows : Bool) (old now new : PlainFacts) (whole left rest : List Entry) (e : Entry) → PlaysOn clients rows old now whole left → left ≡ e ∷ rest
-    → goes clients rows (facts_of now) e ≡ false → PlaysEntries clients old new (all_go clients rows (facts_of old) whole) whole false
-plays_refused clients rows old now new whole left rest e on is go = record {
-  answer =
-      sym (ap (λ b. b && all_go clients rows (after (facts_of now) e) rest) go) ∙ (sym (ap (all_go clients rows (facts_of now)) is) ∙ on.same_test);
-  taken = λ wrong. absurd (false≢true wrong);
-}
-
-pub plays_whole : (clients : Meaning) (rows : Bool) (old now : PlainFacts) (whole left : List Entry) → PlaysOn clients rows old now whole left → left ≡ []
-    → PlaysEntries clients old now (all_go clients rows (facts_of old) whole) whole true
-plays_whole clients rows old now whole left on none = record {
-  answer = sym (ap (all_go clients rows (facts_of now)) none) ∙ on.same_test;
-  taken = λ done. record { facts = sym (ap (after_all (facts_of now)) none) ∙ on.same_end; sound = on.sound; knows = on.knows };
-}
-
 -- ---- entries that fit
 
 pub record TakesOn (clients : Meaning) (old now : PlainFacts) (known : Option Id) (whole left : List Entry) : Type 0 where
@@ -179,20 +156,6 @@ pub record TakesOn (clients : Meaning) (old now : PlainFacts) (known : Option Id
   pub fit : AllFit (facts_of now) left
   pub named : IsOfAll known left
   pub same_end : after_all (facts_of now) left ≡ after_all (facts_of old) whole
-
-pub takes_begin : (clients : Meaning) (p : PlainFacts) (known : Option Id) (whole left : List Entry) → IsPlainSound p → KnowsMeanings clients p → AllFit (facts_of p) whole → IsOfAll known whole
-    → left ≡ whole → TakesOn clients p p known whole left
-takes_begin clients p known whole left sound knows fit named same = record {
-  sound = sound;
-  knows = knows;
-  fit = subst (AllFit (facts_of p)) (sym same) fit;
-  named = subst (IsOfAll known) (sym same) named;
-  same_end = ap (after_all (facts_of p)) same;
-}
-
-pub takes_next : (clients : Meaning) (old now : PlainFacts) (known : Option Id) (whole left rest : List Entry) (e : Entry) → TakesOn clients old now known whole left → left ≡ e ∷ rest
-    → MayTakeEntry (facts_of now) e × IsOfEntry known e
-takes_next clients old now known whole left rest e on is = ((subst (AllFit (facts_of now)) is on.fit).0, (subst (IsOfAll known) is on.named).0)
 
 pub takes_more : (clients : Meaning) (old now next : PlainFacts) (known : Option Id) (whole left rest : List Entry) (e : Entry) → TakesOn clients old now known whole left → left ≡ e ∷ rest
     → BecomesKnown clients next (after (facts_of now) e) → TakesOn clients old next known whole rest
@@ -204,15 +167,7 @@ takes_more clients old now next known whole left rest e on is more = record {
   same_end = ap (λ (f : Facts). after_all f rest) more.facts ∙ (sym (ap (after_all (facts_of now)) is) ∙ on.same_end);
 }
 
-pub takes_whole : (clients : Meaning) (old now : PlainFacts) (known : Option Id) (whole left : List Entry) → TakesOn clients old now known whole left → left ≡ []
-    → BecomesKnown clients now (after_all (facts_of old) whole)
-takes_whole clients old now known whole left on none = record { facts = sym (ap (after_all (facts_of now)) none) ∙ on.same_end; sound = on.sound; knows = on.knows }
-
 -- ---- the tests by kind
-
-pub all_rows : (clients : Meaning) (f : Facts) (es : List Entry) → all_go clients true f es ≡ are_rows f es
-all_rows clients f [] = refl
-all_rows clients f (e ∷ es) = ap (λ b. suits_rows f e && b) (all_rows clients (after f e) es)
 
 pub all_steps : (clients : Meaning) (f : Facts) (es : List Entry) → all_go clients false f es ≡ settles clients f es
 all_steps clients f [] = refl

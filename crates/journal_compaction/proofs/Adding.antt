@@ -3,7 +3,6 @@ use Rattle.std.proofs.Common.{◌≡◌, ℕ, zero, suc, ◌+◌, ◌<◌, Bool,
 use Rattle.std.proofs.Common.{◌++◌, length, map}
 use Rattle.std.proofs.Common.{take, refl, sym, ◌∙◌, ap, subst, append_assoc, append-nil, Some}
 use Rattle.std.specs.Prelude.{not, slice_get}
-use Rattle.std.specs.List.{AllByRecursion}
 use Rattle.std.specs.Option.{option_map}
 use Rattle.std.proofs.lemmas.List.{map-append, take_more}
 use Rattle.std.proofs.lemmas.Option.{get_or_from_slice_get, slice_get-map, slice_get_within}
@@ -30,12 +29,6 @@ use Rattle.journal_compaction.specs.Items.{is_peer, is_told, is_visible, item_to
 use Rattle.journal_compaction.specs.Items.{want_entry}
 use Rattle.journal_compaction.specs.Items as items_of
 use Rattle.journal_compaction.proofs.Sections.{there}
-
-all-both : {A : Type 0} (P : A → Type 0) (xs ys : List A) → AllByRecursion P xs
-    → AllByRecursion P ys
-    → AllByRecursion P (xs ++ ys)
-all-both P [] ys first second = second
-all-both P (x ∷ xs) ys first second = (first.0, all-both P xs ys first.1 second)
 
 module _ (f : Facts) (of : Item → Bool) where
   pub adds_none : (old : List Item) → AddsItems f of old old []

@@ -1,16 +1,15 @@
 -- What items name is held, and what they say may be written.
-use Rattle.std.proofs.Common.{◌≡◌, ℕ, ◌<◌, ◌≤◌, Bool, true, false, List, [], ◌∷◌, length, take}
+use Rattle.std.proofs.Common.{◌≡◌, ℕ, ◌<◌, true, false, List, [], ◌∷◌, length, take}
 use Rattle.std.proofs.Common.{refl, sym, ap, subst}
-use Rattle.std.proofs.Common.{arith, zero, suc, nat_eq, ne_eqb}
-use Rattle.std.specs.Prelude.{not, ◌&&◌, ◌||◌, slice_get}
+use Rattle.std.proofs.Common.{arith, zero, suc}
+use Rattle.std.specs.Prelude.{◌||◌, slice_get}
 use Rattle.std.proofs.lemmas.List.{take_all}
 use Rattle.sync_rules.specs.Consistency.{ids_of_held}
-use Rattle.sync_rules.specs.Facts.{Facts, Held, Id, Row, is_no_row, wanted_from}
+use Rattle.sync_rules.specs.Facts.{Facts, Held, Id, Row, wanted_from}
 use Rattle.sync_rules.specs.Lists.{is_among, same_id}
 use Rattle.sync_rules.proofs.Elements.{same_id_itself}
 use Rattle.entry_codec.specs.Payloads.{names_of}
-use Rattle.entry_codec.specs.Spelling.{EntryNames, IsStated}
-use Rattle.retry_table.specs.Table.{tried_of}
+use Rattle.entry_codec.specs.Spelling.{EntryNames}
 use Rattle.journal_compaction.specs.declared.items.Item.{Item}
 use Rattle.journal_compaction.specs.declared.items.Item.TheVariants as item
 use Rattle.journal_compaction.specs.Items.{IsItem, entry_of, group_entry, id_of, kept_entry}
@@ -57,25 +56,3 @@ module _ (f : Facts) where
       ids_len : (hs : List Held) → length (ids_of_held hs) ≡ length hs
       ids_len [] = refl
       ids_len (h ∷ hs) = omega (arith, ids_len hs)
-
--- ---- rows
-
-some_kept : (seen owed asked : Bool) (tries expiry : ℕ) → (tries ≡ 0 → expiry ≡ 0)
-    → (not seen && (not owed && (not asked && (nat_eq tries 0 && nat_eq expiry 0)))) ≡ false
-    → (not seen && (not owed && (not asked && nat_eq tries 0))) ≡ false
-some_kept true owed asked tries expiry wait some = refl
-some_kept false true asked tries expiry wait some = refl
-some_kept false false true tries expiry wait some = refl
-some_kept false false false zero expiry wait some = let none : expiry ≡ 0 = wait refl in
-    absurd (let clash : nat_eq expiry 0 ≡ true = ap (λ n. nat_eq n 0) none in cc)
-some_kept false false false (suc tries) expiry wait some =
-    ne_eqb (suc tries) 0 (λ e. omega (arith, e))
-
-pub row_stated : (contact : ℕ) (id : Id) (r : Row) → r.tries ≤ 64 → (r.tries ≡ 0 → r.expiry ≡ 0)
-    → is_no_row r ≡ false
-    → IsStated (tried_of contact id r)
-row_stated contact id r few wait some = record {
-  few_tries = few;
-  no_wait = wait;
-  not_empty = some_kept r.seen r.owed r.asked r.tries r.expiry wait some;
-}

@@ -1,6 +1,6 @@
 -- A writer of frames: what it adds, and that its file has no open header at any moment.
 use Rattle.std.proofs.Common.{◌≡◌, ℕ, ◌+◌, ◌≤◌, Bool, false, List, [], ◌∷◌, ◌++◌, length, Option}
-use Rattle.std.proofs.Common.{None, Some, inl}
+use Rattle.std.proofs.Common.{Some, inl}
 use Rattle.std.proofs.Common.{inr, refl, sym, ap, subst, ◌∙◌, arith, append_assoc, append-nil}
 use Rattle.std.specs.Prelude.{◌==◌}
 use Rattle.std.specs.Option.{ForSome}
@@ -20,7 +20,7 @@ use Rattle.frame_journal.proofs.AppendSteps.{end_more}
 use Rattle.journal_migration.proofs.Copied.{framed_length, framed_so, payload_framed, shut_header}
 use Rattle.journal_migration.proofs.Sides.{image_only}
 use Rattle.journal_compaction.specs.Paging.{frames_len}
-use Rattle.journal_compaction.specs.Writing.{WritesPayloads, AppendsPayloads, IsFileIdle, StaysIdle}
+use Rattle.journal_compaction.specs.Writing.{WritesPayloads, AppendsPayloads, IsFileIdle}
 use Rattle.journal_compaction.specs.Writing.{StaysShut, IsWriterShut}
 use Rattle.journal_compaction.proofs.Weighing.{one_frame}
 use Rattle.journal_compaction.proofs.Weighing as weighing
@@ -173,10 +173,6 @@ works_one n n' p framed len o o' is some few moved run becomes works x told =
     (works before.0 before.1) new.2
     (ap (λ (v : JournalValue). v.file) moved) (ap (λ (v : JournalValue). v.end) moved))
 
-pub rest_so : (n : JournalValue) (o : Option (Two File)) → ForSome o (IsWriterShut n)
-    → ForSome o (λ two. IsAtRest two n.file n.end)
-rest_so n o works two told = (works two told).at_rest
-
 -- ---- moments
 
 -- no call was made
@@ -253,20 +249,3 @@ shut_then n n' added o0 o1 o2 first run adding second two told =
     subst (λ (k : ℕ). StaysShut k o1 o2) adding.grows.file_is second in
     moments_then o0 o1 o2 (FileMoment Q two (sent_of o0.links.told) n.file) (first two told)
     (passed_before Q two mid.0 n.file o0 o1 o2 mid.2.other run.same_links (there mid.0 mid.1))
-
--- ---- want of memory
-
--- nothing was written
-pub idle_none : (n : JournalValue) (o : Option (Two File)) → ForSome o (IsWriterShut n)
-    → RelatesTold (StaysIdle n.file) o o
-idle_none n None works = tt
-idle_none n (Some two) works = record { other = refl; idle = idle_so n two (works two refl) }
-
--- frames were written before
-pub idle_later : (n n' : JournalValue) (added : List (List ℕ)) (o0 o1 o2 : Option (Two File))
-    → WritesPayloads n n' added o0 o1 → RelatesTold (StaysIdle n'.file) o1 o2
-    → RelatesTold (StaysIdle n.file) o0 o2
-idle_later n n' added o0 o1 o2 adding idle =
-    becomes_then (AppendsPayloads n.file n.end added) (StaysIdle n.file) (StaysIdle n.file) o0 o1 o2
-    (λ a b c x y. record { other = y.other ∙ x.other; idle = y.idle }) adding.adds
-    (subst (λ (k : ℕ). RelatesTold (StaysIdle k) o1 o2) adding.grows.file_is idle)

@@ -18,24 +18,11 @@ pub read_file : (two : Two File) (file : ℕ) → file_of (read_files two) file 
 read_file two zero = refl
 read_file two (suc _) = refl
 
--- the file that is not this one
-pub other_file : {A : Type 0} (two : Two A) (own : ℕ) → own < 2 → file_of two
-    (1 - own) ≡ other_of two own
-other_file two zero few = refl
-other_file two (suc zero) few = refl
-other_file two (suc (suc n)) few = absurd (omega (arith, few))
-
 pub own_file : {A : Type 0} (two : Two A) (own : ℕ) → own < 2 → file_of two own ≡ other_of two
     (1 - own)
 own_file two zero few = refl
 own_file two (suc zero) few = refl
 own_file two (suc (suc n)) few = absurd (omega (arith, few))
-
-pub other_below : (own : ℕ) → own < 2 → 1 - own < 2
-other_below own few = omega arith
-
-pub other_again : (own : ℕ) → own < 2 → 1 - (1 - own) ≡ own
-other_again own few = omega (arith, few)
 
 pub settled_one : (two : Two File) (own : ℕ) → own < 2 → NothingPending two 0 → NothingPending two 1
     → NothingPending two own

@@ -12,6 +12,3 @@ mapped (Some g) = refl
 pub defined : (groups : List Known) (id : Id) (n : ℕ) (def : GroupValue) → slice_get groups n ≡ group_at groups id
     → option_map (λ g. g.def) (slice_get groups n) ≡ Some def → Some def ≡ def_at (group_at groups id)
 defined groups id n def at is = sym is ∙ (mapped (slice_get groups n) ∙ ap def_at at)
-
-pub not_defined : (groups : List Known) (id : Id) → group_at groups id ≡ None → None ≡ def_at (group_at groups id)
-not_defined groups id none = sym (ap def_at none)

@@ -183,9 +183,6 @@ all_weaker test other more (y ∷ xs) all =
 pub below_more : (contact n m : ℕ) → n ≤ m → nat_lt contact n ≡ true → nat_lt contact m ≡ true
 below_more contact n m le e = grind arith
 
-pub below_true : (n m : ℕ) → n < m → nat_lt n m ≡ true
-below_true n m h = grind arith
-
 -- the contact of a session is known
 pub met_known : (contacts : ℕ) (ss : List Session) (n : ℕ) (x : Session) → list_all (λ y. nat_lt y.contact contacts) ss ≡ true → session_at ss n ≡ Some x → x.contact < contacts
 met_known contacts [] n x all e = absurd (let none : None ≡ Some x = e in cc)

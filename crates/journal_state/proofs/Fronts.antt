@@ -22,9 +22,6 @@ pub record HasPlayed (clients : Meaning) (old new : Facts) (front : List Entry) 
   pub steps : AreStepsOrRows clients old front
   pub facts : new ≡ after_all old front
 
-pub played_none : (clients : Meaning) (f : Facts) → HasPlayed clients f f []
-played_none clients f = record { steps = tt; facts = refl }
-
 -- one more
 pub played_more : (clients : Meaning) (old so_far new : Facts) (entries : List Entry) (k : ℕ) (e : Entry) → k < length entries → e ≡ get_or entries k e
     → HasPlayed clients old so_far (take k entries) → IsStepOrRow clients so_far e → new ≡ after so_far e → HasPlayed clients old new (take (k + 1) entries)

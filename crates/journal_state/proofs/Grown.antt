@@ -53,13 +53,6 @@ same_kept (k ∷ rows) more (suc n) = same_kept rows more n
 pub same_table : (t : retry.Table) → GrowsRoom t t
 same_table t = record { kept = λ contact n. refl; wants = λ contact. refl; room = λ contact. omega arith }
 
-pub grows_on : (a b c : retry.Table) → GrowsRoom a b → GrowsRoom b c → GrowsRoom a c
-grows_on a b c g h = record {
-  kept = λ contact n. h.kept contact n ∙ g.kept contact n;
-  wants = λ contact. h.wants contact ∙ g.wants contact;
-  room = λ contact. omega (arith, g.room contact, h.room contact);
-}
-
 module _ (old new : retry.Table) (contact numbers room : ℕ) (r : retry.ReservesRows old new contact numbers room) where
   kept_by : (c n : ℕ) (b : Bool) → nat_eq c contact ≡ b → retry.kept_at new c n ≡ retry.kept_at old c n
   kept_by c n true e =

@@ -1,5 +1,5 @@
 -- What a level makes of the parts.
-use Rattle.std.proofs.Common.{◌≡◌, ℕ, zero, suc, ◌-◌, ◌<◌, ◌≤◌, Bool, true, false, cond, ◌&&◌, ◌||◌, nat_eq, nat_lt, List, [], ◌∷◌, ◌++◌, length, map, set, Option, None, Some, is_some, slice_get, slice_index_or, refl, sym, ◌∙◌, ap, subst, arith, eqb-true}
+use Rattle.std.proofs.Common.{◌≡◌, ℕ, zero, suc, ◌-◌, ◌<◌, ◌≤◌, Bool, true, false, cond, ◌&&◌, ◌||◌, nat_eq, nat_lt, List, [], ◌∷◌, ◌++◌, length, map, Option, None, Some, is_some, slice_get, slice_index_or, refl, sym, ◌∙◌, ap, subst, arith, eqb-true}
 use Rattle.std.specs.List.{list_all, list_any}
 use Rattle.std.specs.FinMap as fin_map
 use Rattle.std.specs.Ordering.{eq_by_cmp}
@@ -38,14 +38,6 @@ use Rattle.journal_state.specs.Taking.{SpendsRoom, moved}
 use Rattle.journal_state.proofs.Tables.{either, kept_here, kept_there, kept_length, room_spent, one_less}
 
 -- ---- rows
-
-set_same : {A : Type 0} (xs : List A) (n : ℕ) (d : A) → set xs n (slice_index_or xs n d) ≡ xs
-set_same [] n d = refl
-set_same (x ∷ xs) zero d = refl
-set_same (x ∷ xs) (suc n) d = ap (λ ys. x ∷ ys) (set_same xs n d)
-
-pub keeps_same : (t : retry.Table) (contact n : ℕ) → retry.KeepsRow t t contact n (retry.kept_at t contact n)
-keeps_same t contact n = record { here = sym (set_same (retry.rows_of t contact) n retry.no_kept); others = λ other apart. refl; wants = refl }
 
 pub levels_none : (t : retry.Table) (contact : ℕ) (level : ℕ → retry.KeptRow → retry.KeptRow) → SetsLevels t t contact [] level
 levels_none t contact level = record { here = λ n. refl; many = refl; others = λ other apart. refl; wants = refl }

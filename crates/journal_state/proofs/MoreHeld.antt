@@ -51,11 +51,6 @@ still_at [] x n y at = absurd (let none : None ≡ Some y = at in cc)
 still_at (z ∷ xs) x zero y at = at
 still_at (z ∷ xs) x (suc n) y at = still_at xs x n y at
 
--- the place of an id once one more is held
-place_by : Bool → ℕ → Option ℕ
-place_by true n = Some n
-place_by false n = None
-
 abbrev or_end : Option ℕ → Bool → ℕ → Option ℕ
 or_end None b n = cond b (Some n) None
 or_end (Some k) b n = Some k

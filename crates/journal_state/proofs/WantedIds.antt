@@ -80,9 +80,6 @@ ids_of_wants old new contact w c room = record {
   rows = c.rows;
 }
 
-pub ids_same : (t : retry.Table) (contact : ℕ) (ids : List Id) → ids ≡ (retry.wants_of t contact).ids → ChangesIds t t contact ids
-ids_same t contact ids e = record { here = sym e; room = omega arith; others = λ other apart. refl; rows = refl }
-
 -- ---- the facts
 
 abbrev got : retry.Table → ℕ → ℕ → Option (List Id)

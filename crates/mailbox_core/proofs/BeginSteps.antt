@@ -1,5 +1,5 @@
 -- A session that begins, and a file that is read on it.
-use Rattle.std.proofs.Common.{◌≡◌, ℕ, ◌<◌, ◌≤◌, true, false, cond, List, [], ◌∷◌, ◌++◌, length}
+use Rattle.std.proofs.Common.{◌≡◌, ℕ, ◌<◌, true, false, cond, List, [], ◌∷◌, ◌++◌, length}
 use Rattle.std.proofs.Common.{refl, sym, ◌∙◌, ap, subst, inl, inr, arith, Some, None, is_some}
 use Rattle.std.proofs.Common.{nat_eq, eq-eqb, eqb-true, Result, Ok, Err}
 use Rattle.outside.specs.Outside.{Outside}
@@ -8,10 +8,8 @@ use Rattle.sync_ids.specs.declared.records.Record.{Record}
 use Rattle.sync_rules.specs.declared.entries.Entry.{Entry}
 use Rattle.sync_rules.specs.declared.entries.Entry.TheVariants as entry
 use Rattle.sync_rules.specs.declared.entries.Session.{Session}
-use Rattle.sync_rules.specs.declared.limits.TheConstants.{MAX_SESSIONS}
 use Rattle.sync_rules.specs.Clients.{Meaning}
 use Rattle.sync_rules.specs.Facts.{Facts, after, after_all, after_batches, session_at, takes_of}
-use Rattle.sync_rules.specs.Legal.{Allowed}
 use Rattle.sync_rules.specs.Steps.{IsSettled}
 use Rattle.sync_rules.proofs.StepKinds.{settled_stays}
 use Rattle.sync_store.specs.declared.fault.StoreFault.{StoreFault}
@@ -36,22 +34,6 @@ abbrev Batches : Type 0
 Batches = List (List Entry)
 
 -- ---- a session begins
-
-pub begin_allowed : (clients : Meaning) (f : Facts) (contact latency : ℕ) → IsSettled clients f
-    → contact < f.contacts
-    → f.begun < MAX_SESSIONS → 1 ≤ latency
-    → Allowed clients f (first_batch (batch_session f.begun contact latency))
-begin_allowed clients f contact latency settled known few some = (
-  refl,
-  settled,
-  record {
-    numbered = refl;
-    few = few;
-    known_contact = known;
-    some_latency = some;
-    suited_nonce = refl;
-  },
-)
 
 -- a session that is found in a longer list
 found_pushed : (ss : List Session) (x : Session) (n : ℕ) → x.number ≡ n

@@ -18,12 +18,10 @@ use Rattle.sync_rules.specs.Growth.{output_in, output_of}
 use Rattle.sync_rules.specs.Legal.{IsDue}
 use Rattle.sync_rules.specs.Output.{first_records, records_of}
 use Rattle.sync_rules.specs.Steps.{IsSettled}
-use Rattle.sync_rules.proofs.StepKinds.{settled_stays}
 use Rattle.sync_store.specs.declared.fault.StoreFault.{StoreFault}
 use Rattle.sync_store.specs.declared.fault.StoreFault.TheVariants as fault
 use Rattle.sync_store.specs.Commits.{needed}
 use Rattle.sync_store.specs.Fitting.{ImagesStand}
-use Rattle.sync_store.specs.Ready.{IsReady}
 use Rattle.sync_store.specs.Store.{IsStore, StoreValue}
 use Rattle.sync_store.specs.Rooms.{StoreComesTo}
 use Rattle.mailbox_core.specs.Sending.{AreDue, HasWrittenBox, IsSessionQuiet, SendsAll, SendsSome}
@@ -34,7 +32,6 @@ use Rattle.mailbox_core.specs.Steps.{IsOpenFor, PutsAllSo, CommitsDue, PutsSo}
 use Rattle.mailbox_core.specs.Taking.{BeginsThen, first_batch}
 use Rattle.mailbox_core.proofs.Committed.{needed_stays}
 use Rattle.mailbox_core.proofs.Rooms.{comes_none, comes_then}
-use Rattle.mailbox_core.proofs.Taken.{still_able}
 
 abbrev Batches : Type 0
 Batches = List (List Entry)
@@ -179,19 +176,6 @@ module _ (images : ImagesStand) (clients : Meaning) (session : Session) (now : �
     comes = comes_none images clients s o able.is_store;
     answer = (able.ready.still_open, refl);
   }
-
--- the session goes on behind an output
-pub able_put : (clients : Meaning) (session : Session) (now : ℕ) (s s' : StoreValue)
-    (o o' : Outside) (what : Out)
-    (u : Unit {0}) → IsOpenFor clients session s o
-    → HasCommitted clients s s' (out_batch session.number now what) (Ok u) o o' →
-    (s'.closed ≡ false → IsReady clients s' o'.files) → IsStore s'
-    → IsOpenFor clients session s' o'
-able_put clients session now s s' o o' what u able has ready store =
-    still_able clients session s s' o o' (out_batch session.number now what ∷ [])
-    able has.comes has.answer.2.closed ready store
-    (subst (IsSettled clients) (sym has.answer.2.facts)
-    (settled_stays clients s.state.facts (out_batch session.number now what) refl able.settled))
 
 -- ---- one output after the other
 

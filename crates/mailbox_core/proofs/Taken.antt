@@ -10,7 +10,7 @@ use Rattle.session_core.specs.Taking.{take_of}
 use Rattle.sync_rules.specs.declared.entries.Entry.{Entry}
 use Rattle.sync_rules.specs.declared.entries.Entry.TheVariants as entry
 use Rattle.sync_rules.specs.declared.entries.Session.{Session}
-use Rattle.sync_rules.specs.Allows.{is_account_kind, is_settling_kind}
+use Rattle.sync_rules.specs.Allows.{is_settling_kind}
 use Rattle.sync_rules.specs.Clients.{Meaning}
 use Rattle.sync_rules.specs.Facts.{Facts, after_all, after_batches, contact_in, session_at}
 use Rattle.sync_rules.specs.Facts.{takes_of}
@@ -64,11 +64,6 @@ pub take_kind : (f : Facts) (session : Session) (k : ℕ) (r : Record) (batch : 
     ≡ take_of f session k r
     → is_settling_kind batch ≡ false
 take_kind f session k r batch is = ap is_settling_kind is
-
-pub take_plain : (f : Facts) (session : Session) (k : ℕ) (r : Record) (batch : List Entry) → batch
-    ≡ take_of f session k r
-    → is_account_kind batch ≡ false
-take_plain f session k r batch is = ap is_account_kind is
 
 -- a record more was taken on the session
 count_more : (clients : Meaning) (f : Facts) (session k : ℕ) (r : Record) (more : List (List Entry))

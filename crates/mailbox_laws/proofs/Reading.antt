@@ -19,7 +19,7 @@ use Rattle.sync_rules.proofs.HearLaws.{Stays, stays_batches}
 use Rattle.sync_rules.proofs.SessionLaws.{legal_sessions}
 use Rattle.sync_rules.proofs.Settling.{prefix_legal}
 use Rattle.sync_rules.proofs.StepKinds.{settled_stays, settles_only}
-use Rattle.sync_rules.proofs.WorkLaws.{facts-push, settles_then}
+use Rattle.sync_rules.proofs.WorkLaws.{facts-push}
 use Rattle.mailbox_laws.specs.Boxes.{HearsAll, ReadsBox, ReadsBoxes, box_session, with_box}
 use Rattle.mailbox_laws.specs.Order.{HaveOwnIds, joined}
 use Rattle.mailbox_laws.proofs.Standing.{Stands, stands_heard, stands_same, stands_settled}
@@ -99,17 +99,6 @@ pub boxes_settled : (clients : Meaning) (contact : ℕ) (old : List (List Entry)
 boxes_settled clients contact old [] new some b = absurd (some refl)
 boxes_settled clients contact old (records ∷ rest) new some b =
     boxes_stay clients contact b.0 rest new (box_settled clients contact old records b.0 b.1) b.2
-
--- settling before a file is read is part of reading it
-pub box_later : (clients : Meaning) (contact : ℕ) (old mid : List (List Entry)) (records : List Record)
-    (new : List (List Entry))
-    → SettlesJournal clients old mid → ReadsBox clients contact mid records new → ReadsBox clients contact old records new
-box_later clients contact old mid records new s box = record {
-  before = box.before;
-  settles = settles_then clients old mid box.before s box.settles;
-  settled = box.settled;
-  hears = box.hears;
-}
 
 -- ---- the session
 

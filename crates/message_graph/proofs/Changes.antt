@@ -143,9 +143,3 @@ module _ (nodes : List Node) (m : Node) (new : number_of nodes m.name ≡ None) 
       by : (name : List ℕ) → same_name m.name name ≡ false → (o : Option ℕ) → number_of nodes name ≡ o → node_at (nodes ++ m ∷ []) (place_pushed (λ (node : Node). same_name name node.name) nodes m o) ≡ node_at nodes o
       by name e None h = ap (λ b. node_at (nodes ++ m ∷ []) (cond b (Some (length nodes)) None)) (unlike name e)
       by name e (Some k) h = let there = node_there nodes k (number_within nodes name k h) in get-push_old nodes m k there.0 there.1 ∙ sym there.1
-
--- a node that was read at a number
-pub read_there : (nodes : List Node) (n : ℕ) (node read : Node) → slice_get nodes n ≡ Some node → read ≡ get_or nodes n read → read ≡ node
-read_there [] n node read h r = absurd (let e : None ≡ Some node = h in cc)
-read_there (m ∷ nodes) zero node read h r = r ∙ (let e : m ≡ node = cc in e)
-read_there (m ∷ nodes) (suc n) node read h r = read_there nodes n node read h r

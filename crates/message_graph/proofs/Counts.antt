@@ -100,9 +100,6 @@ count_all-push edges e name waiter =
     ap (count_before (edges ++ e ∷ []) name waiter) len
     ∙ (λ i. (if same_name name (at i).0 && (waiter == (at i).1) then 1 else 0) + count_before-push edges e name waiter (length edges) (omega arith) i)
 
-abbrev links_to : ℕ → List (List ℕ) → List (List ℕ × ℕ)
-links_to waiter names = map (λ name. (name, waiter)) names
-
 -- the edges of a node's dependencies are counted for it
 pub counts_enlisted : (names : List (List ℕ)) (edges : List (List ℕ × ℕ)) (name : List ℕ) (waiter : ℕ) → count_all (edges ++ map (λ other. (other, waiter)) names) name waiter ≡ occurrences name names + count_all edges name waiter
 counts_enlisted [] edges name waiter = (λ i. count_all (append-nil edges i) name waiter) ∙ omega arith

@@ -25,10 +25,6 @@ or_true : (b : Bool) → (b || true) ≡ true
 or_true true = refl
 or_true false = refl
 
-or_false : (b : Bool) → (b || false) ≡ b
-or_false true = refl
-or_false false = refl
-
 -- who waits is a node
 pub waiters_inside : (nodes : List Node) (links : WaitIndex) (states : NodeWaits) (spare : ℕ) → IsGraph nodes links states spare → (edge : ℕ) → edge < length links.edges → (edge_at links.edges edge).1 < length nodes
 waiters_inside nodes links states spare g edge h =

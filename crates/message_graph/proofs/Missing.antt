@@ -20,10 +20,6 @@ pub raised-zero : (o : Option ℕ) → raised 0 o ≡ o
 raised-zero None = refl
 raised-zero (Some count) = ap Some (omega arith)
 
-pub raised-more : (more : ℕ) (o : Option ℕ) → raised more (one_more o) ≡ raised (more + 1) o
-raised-more more None = refl
-raised-more more (Some count) = ap Some (omega arith)
-
 one_more-raised : (more : ℕ) (o : Option ℕ) → one_more (raised more o) ≡ raised (1 + more) o
 one_more-raised more None = refl
 one_more-raised more (Some count) = ap Some (omega arith)

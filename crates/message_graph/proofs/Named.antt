@@ -1,7 +1,6 @@
 -- The node of a name, by its number.
-use Rattle.std.proofs.Common.{◌≡◌, ℕ, suc, ◌<◌, true, false, cond, if◌then◌else◌, List, [], ◌∷◌, length, Option, None, Some, slice_get, refl, sym, ap, subst, ◌∙◌, get_or}
+use Rattle.std.proofs.Common.{◌≡◌, ℕ, suc, ◌<◌, true, false, cond, if◌then◌else◌, List, [], ◌∷◌, length, Option, None, Some, slice_get, refl, sym, ap, subst, ◌∙◌}
 use Rattle.std.specs.Option.{option_map}
-use Rattle.std.proofs.lemmas.Option.{slice_get-get_or}
 use Rattle.message_graph.specs.declared.nodes.Node.{Node}
 use Rattle.message_graph.specs.Nodes.{same_name, node_named, number_of}
 use Rattle.message_graph.proofs.Positions.{place, Tells, position-place, position_tells}
@@ -26,12 +25,6 @@ node_named-place (node ∷ nodes) name =
 -- the node of a name is that of its number
 pub node_named-number : (nodes : List Node) (name : List ℕ) → node_named nodes name ≡ node_at nodes (number_of nodes name)
 node_named-number nodes name = node_named-place nodes name ∙ ap (node_at nodes) (sym (position-place (λ (node : Node). same_name name node.name) nodes))
-
--- a number that was found
-pub number_found : (nodes : List Node) (name : List ℕ) (number : ℕ) (node : Node) → number_of nodes name ≡ Some number → node ≡ get_or nodes number node → Some node ≡ node_named nodes name
-number_found nodes name number node found read =
-    let t : Tells (λ (n : Node). same_name name n.name) nodes (Some number) = subst (Tells (λ (n : Node). same_name name n.name) nodes) found (position_tells (λ (n : Node). same_name name n.name) nodes) in
-    sym (node_named-number nodes name ∙ ap (node_at nodes) found ∙ slice_get-get_or nodes number node t.0 ∙ ap Some (sym read))
 
 pub number_within : (nodes : List Node) (name : List ℕ) (number : ℕ) → number_of nodes name ≡ Some number → number < length nodes
 number_within nodes name number found =

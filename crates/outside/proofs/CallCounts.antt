@@ -1,10 +1,9 @@
 -- How many calls of a disk a run makes, one call or one run more at a time.
-use Rattle.std.proofs.Common.{◌≡◌, ℕ, zero, suc, ◌+◌, ◌≤◌, [], ◌∷◌, Result, Ok, Err, refl, sym, ap, ◌∙◌, arith, add-zero}
+use Rattle.std.proofs.Common.{◌≡◌, ℕ, zero, suc, ◌+◌, ◌≤◌, [], Result, Ok, Err, refl, sym, ap, ◌∙◌, arith, add-zero}
 use Rattle.outside.specs.Faults.{one_more}
 use Rattle.outside.specs.Calls.{Calls, CallsGoOn, OneCall, NoCall, more_calls}
 use Rattle.outside.specs.Disk.{RelatesTold}
 use Rattle.outside.specs.Outside.{Outside, Moment, DiskCall, LinkCall, MakesJust, MakesAtMost, MakesCalls}
-use Rattle.outside.specs.MemDisk.{MemDiskValue, hosted, with_call, calls_of}
 use Rattle.outside.proofs.CallSteps.{becomes_none, becomes_map, becomes_then, go_on_none, go_on_then}
 
 -- ---- just so many
@@ -17,13 +16,6 @@ just_call n o0 o o' run call = record {
   made =
       becomes_then (λ (a b : Calls). b.made ≡ more_calls n a.made) OneCall (λ (a b : Calls). b.made ≡ more_calls (suc n) a.made) o0.calls o.calls o'.calls
       (λ a b c first one. one.made ∙ ap one_more first) run.made call.calls;
-}
-
-pub just_link : (n : ℕ) (during : Moment → Type 0) (o0 o o' : Outside) → MakesJust n o0 o → LinkCall during o o' → MakesJust n o0 o'
-just_link n during o0 o o' run call = record {
-  made =
-      becomes_then (λ (a b : Calls). b.made ≡ more_calls n a.made) NoCall (λ (a b : Calls). b.made ≡ more_calls n a.made) o0.calls o.calls o'.calls
-      (λ a b c first none. none.made ∙ first) run.made call.calls;
 }
 
 more_calls-add : (m n made : ℕ) → more_calls (m + n) made ≡ more_calls n (more_calls m made)
@@ -55,13 +47,6 @@ just_most n o o' just = record {
 pub most_none : (n : ℕ) (o : Outside) → MakesAtMost n o o
 most_none n o = record { made = becomes_none (λ (a b : Calls). b.made ≤ a.made + n) o.calls (λ a. omega arith) }
 
-pub most_call : (n : ℕ) (o0 o o' : Outside) → MakesAtMost n o0 o → DiskCall o o' → MakesAtMost (suc n) o0 o'
-most_call n o0 o o' run call = record {
-  made =
-      becomes_then (λ (a b : Calls). b.made ≤ a.made + n) OneCall (λ (a b : Calls). b.made ≤ a.made + suc n) o0.calls o.calls o'.calls
-      (λ a b c first one. omega (arith, first, one.made)) run.made call.calls;
-}
-
 pub most_link : (n : ℕ) (during : Moment → Type 0) (o0 o o' : Outside) → MakesAtMost n o0 o → LinkCall during o o' → MakesAtMost n o0 o'
 most_link n during o0 o o' run call = record {
   made =
@@ -92,9 +77,6 @@ once o o' call = just_call 0 o o o' (just_none o) call
 pub twice : (o0 o1 o2 : Outside) → DiskCall o0 o1 → DiskCall o1 o2 → MakesJust 2 o0 o2
 twice o0 o1 o2 first second = just_call 1 o0 o1 o2 (once o0 o1 first) second
 
-pub thrice : (o0 o1 o2 o3 : Outside) → DiskCall o0 o1 → DiskCall o1 o2 → DiskCall o2 o3 → MakesJust 3 o0 o3
-thrice o0 o1 o2 o3 first second third = just_call 2 o0 o2 o3 (twice o0 o1 o2 first second) third
-
 pub within : (m n : ℕ) (o o' : Outside) → m ≤ n → MakesJust m o o' → MakesAtMost n o o'
 within m n o o' fewer just = most_more m n o o' fewer (just_most m o o' just)
 
@@ -117,12 +99,3 @@ no_call_then o0 o1 o2 first second =
 
 pub no_call_goes_on : (o o' : Outside) → RelatesTold NoCall o.calls o'.calls → RelatesTold CallsGoOn o.calls o'.calls
 no_call_goes_on o o' none = becomes_map NoCall CallsGoOn o.calls o'.calls (λ a b n. n.goes_on) none
-
--- ---- a host in memory
-
--- that begins again over the same disk made no call of it
-pub begun_again : (disk : MemDiskValue) → NoCall (calls_of disk) (calls_of (with_call hosted disk))
-begun_again disk = record {
-  goes_on = record { same_start = refl; same_failing = refl; same_stop = refl; more = hosted ∷ []; grown = refl; later = omega arith };
-  made = refl;
-}

@@ -195,9 +195,6 @@ becomes_told step (Some x) (Some y) a told becomes =
     let same : x ≡ a = cc in
     (y, refl, subst (λ z. step z y) same becomes)
 
-told_as : (o' : Option (Two File)) (two two' : Two File) (f : File) (file : ℕ) → o' ≡ Some two' → two' ≡ with_file two file f → o' ≡ Some (with_file two file f)
-told_as o' two two' f file e g = e ∙ ap Some g
-
 -- the file after a change of it, in words of the files at first
 rewritten : (two : Two File) (file : ℕ) (f : File) (change : File → File) → with_file (with_file two file f) file (change (file_of (with_file two file f) file)) ≡ with_file two file (change f)
 rewritten two file f change = with_file-with_file two file f _ ∙ ap (λ g. with_file two file (change g)) (file_of-with_file two file f)

@@ -2,7 +2,6 @@
 use Rattle.std.proofs.Common.{◌≡◌, ◌⊎◌, ℕ, zero, suc, ◌≤◌, min, List, [], ◌∷◌, ◌++◌, length, take, Option, None, Some, Result, Ok, Err, refl, sym, ap, ◌∙◌, subst, inl, inr, arith, length-append, append-nil}
 use Rattle.std.specs.Option.{option_to_list}
 use Rattle.outside.specs.declared.failed.Failed.{Failed}
-use Rattle.outside.specs.Faults.{HasCause}
 use Rattle.outside.specs.Files.{Two, File, file_of, with_file, settled}
 use Rattle.outside.specs.Disk.{WritesFile, CutsFile, SyncsFile, IsTorn, after_write, after_cut, overwritten}
 use Rattle.outside.specs.Links.{Links, ToldLink, HeardOn, sent_of, no_links}
@@ -107,10 +106,6 @@ pub makes_call : {T E : Type 0} (fine failed : Option Change) (result : Result T
 makes_call fine failed result old new makes =
     makes_told (λ _. []) fine failed result old new makes no_links no_links refl refl no_links_told no_links_heard refl no_links_told no_links_heard
 
-pub makes_cause : {T E : Type 0} (fine failed : Option Change) (result : Result T E) (old new : MemDiskValue) → MakesChange fine failed result old new → HasCause old.faults new.faults result
-makes_cause fine failed (Ok _) old new makes = record { later = omega (arith, makes.outcome.faults); failed = tt }
-makes_cause fine failed (Err _) old new makes = record { later = makes.outcome.later; failed = omega (arith, makes.outcome.faults) }
-
 -- ---- what the change does to the files
 
 pub files_more : (start start' : Two (List ℕ)) (calls calls' : List Change) (c : Change) → start' ≡ start → calls' ≡ calls ++ c ∷ []
@@ -125,16 +120,6 @@ files_same start start' calls calls' same_start same =
 
 torn_same : (at n : ℕ) (bytes : List ℕ) → IsTorn at n bytes bytes
 torn_same at n bytes = record { before = refl; behind = refl; no_shorter = omega arith; no_longer = omega arith }
-
--- a call that makes no change keeps the files
-pub looks_same : {T E : Type 0} (result : Result T E) (old new : MemDiskValue) → MakesChange None None result old new → files_of (disk_files new) ≡ files_of (disk_files old)
-looks_same (Ok _) old new makes =
-    ap files_of (files_same old.start new.start old.calls new.calls makes.counts.start (makes.outcome.calls ∙ append-nil old.calls))
-looks_same (Err _) old new makes =
-    elim makes.outcome.outcome [
-      | inl listed ↦ ap files_of (files_same old.start new.start old.calls new.calls makes.counts.start (listed.calls ∙ append-nil old.calls))
-      | inr untraced ↦ ap files_of (files_same old.start new.start old.calls new.calls makes.counts.start untraced.calls)
-    ]
 
 -- the change of one file, as the traits see it
 one_file : (two two' : Two KeptFile) (file : ℕ) (k : KeptFile) (f : File) → two' ≡ with_file two file k → k.file ≡ f → files_of two' ≡ with_file (files_of two) file f

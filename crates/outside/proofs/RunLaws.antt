@@ -2,20 +2,18 @@
 use Rattle.std.specs.Prelude.{◌≡◌, ◌≢◌, ℕ, zero, suc, ◌<◌, ◌≤◌, List, [], ◌∷◌, ◌++◌, map, length, take, Option, None, Some, Result, Ok, Err, is_some, slice_index_or}
 use Rattle.std.specs.Option.{option_map}
 use Rattle.std.proofs.Common.{refl, sym, ap, ◌∙◌, subst, inl, inr, arith, append-nil, append_assoc}
-use Rattle.std.proofs.lemmas.Grind.{flat_map-append}
 use Rattle.std.proofs.lemmas.Bool.{cases_eq}
 use Rattle.std.proofs.lemmas.List.{take_all}
 use Rattle.outside.specs.declared.failed.Failed.{Failed}
 use Rattle.outside.specs.declared.host.Heard.{Heard}
 use Rattle.outside.specs.declared.host.Heard.TheVariants as heard
-use Rattle.outside.specs.Files.{Two, File, IsImage}
-use Rattle.outside.specs.Links.{ToldLink, Links, Answered, HeardOn, nothing_heard, changed_at, with_sent, sent_of, Planned}
-use Rattle.outside.specs.Outside.{Outside, Moment, IsNow, DiskCall, LinkCall, QuietCall, DiskRun}
+use Rattle.outside.specs.Files.{Two, File}
+use Rattle.outside.specs.Links.{ToldLink, Links, HeardOn, nothing_heard, changed_at, with_sent, sent_of, Planned}
+use Rattle.outside.specs.Outside.{Outside, Moment, IsNow, QuietCall, DiskRun}
 use Rattle.outside.specs.Disk.{RelatesTold}
-use Rattle.outside.proofs.CallSteps.{calls_none, calls_then, calls_call, calls_link}
 use Rattle.outside.specs.Planned.{AnswersAsPlanned, UsesReading}
 use Rattle.outside.specs.Host.{LinkCause, DialsLink, AsksNonce, HearsAnswer, hear, SendsOnLink, SendsPart, ReadsClock, GrowsReadings}
-use Rattle.outside.specs.Runs.{sent_at, heard_at, answers_at, reply_bytes, heard_bytes, IsFront, answered_by, ReadingsGoOn, LinksGrow, HostRun, TellsAll, OthersKeep, SendMoment}
+use Rattle.outside.specs.Runs.{sent_at, heard_at, answers_at, IsFront, answered_by, ReadingsGoOn, LinksGrow, HostRun, TellsAll, OthersKeep, SendMoment}
 
 pub front_same : {A : Type 0} (a b : List A) → b ≡ a → IsFront a b
 front_same a b same = record { rest = []; whole = same ∙ sym (append-nil a) }
@@ -24,13 +22,6 @@ pub front_then : {A : Type 0} (a b c : List A) → IsFront a b → IsFront b c �
 front_then a b c first second = record {
   rest = first.rest ++ second.rest;
   whole = second.whole ∙ ap (λ l. l ++ second.rest) first.whole ∙ append_assoc a first.rest second.rest;
-}
-
--- the bytes of a front of some answers are a front of their bytes
-pub front_bytes : (a b : List Answered) → IsFront a b → IsFront (heard_bytes a) (heard_bytes b)
-front_bytes a b front = record {
-  rest = heard_bytes front.rest;
-  whole = ap heard_bytes front.whole ∙ flat_map-append (λ x. reply_bytes x.reply) a front.rest;
 }
 
 -- ---- one item of a list
@@ -45,12 +36,6 @@ changed_at_other zero f (x ∷ xs) zero d other = absurd (other refl)
 changed_at_other zero f (x ∷ xs) (suc i) d other = refl
 changed_at_other (suc n) f (x ∷ xs) zero d other = refl
 changed_at_other (suc n) f (x ∷ xs) (suc i) d other = changed_at_other n f xs i d (λ same. other (ap suc same))
-
--- where there is no such item, nothing changes
-changed_at_past : {A : Type 0} (n : ℕ) (f : A → A) (xs : List A) → length xs ≤ n → changed_at n f xs ≡ xs
-changed_at_past n f [] past = refl
-changed_at_past zero f (x ∷ xs) past = absurd (omega arith)
-changed_at_past (suc n) f (x ∷ xs) past = ap (λ l. x ∷ l) (changed_at_past n f xs (omega arith))
 
 -- one item more that is the default
 pushed_default : {A : Type 0} (xs : List A) (d : A) (i : ℕ) → slice_index_or (xs ++ d ∷ []) i d ≡ slice_index_or xs i d
@@ -103,13 +88,6 @@ sent_at-pushed None spec i = refl
 sent_at-pushed (Some links) spec i = sent_pushed links spec i
 
 -- ---- answers heard
-pub heard_at-changed : (told : Option (List HeardOn)) (heard : List HeardOn) (link : ℕ) (f : HeardOn → HeardOn) → told ≡ Some heard → link < length heard → heard_at (option_map (changed_at link f) told) link ≡ f (heard_at told link)
-heard_at-changed told heard link f is_told within =
-    subst (λ (t : Option (List HeardOn)). heard_at (option_map (changed_at link f) t) link ≡ f (heard_at t link)) (sym is_told) (changed_at_same link f heard nothing_heard within)
-
-pub heard_at-other : (told : Option (List HeardOn)) (link : ℕ) (f : HeardOn → HeardOn) (i : ℕ) → i ≢ link → heard_at (option_map (changed_at link f) told) i ≡ heard_at told i
-heard_at-other None link f i other = refl
-heard_at-other (Some heard) link f i other = changed_at_other link f heard i nothing_heard other
 
 heard_at-pushed : (told : Option (List HeardOn)) (i : ℕ) → heard_at (option_map (λ hs. hs ++ nothing_heard ∷ []) told) i ≡ heard_at told i
 heard_at-pushed None i = refl
@@ -287,36 +265,6 @@ grow_read reading old new r = record {
 }
 
 -- ---- runs
-pub host_none : (o : Outside) → HostRun o o
-host_none o = record { same_files = refl; later = omega arith; clock = omega arith; links = grow_same o.links o.links refl; calls = calls_none o }
-
--- one call more on the disk, and one on a link or the clock
-pub host_disk : (o0 o o' : Outside) → HostRun o0 o → DiskCall o o' → o.disk_faults ≤ o'.disk_faults → HostRun o0 o'
-host_disk o0 o o' run call later = record {
-  same_files = call.same_told ∙ run.same_files;
-  later = omega (arith, run.later, later);
-  clock = omega (arith, run.clock, call.time.later);
-  links = grow_then o0.links o.links o'.links run.links (grow_same o.links o'.links call.same_links);
-  calls = calls_call o0 o o' run.calls call;
-}
-
-pub host_link : (during : Moment → Type 0) (o0 o o' : Outside) → HostRun o0 o → LinkCall during o o' → LinksGrow o.links o'.links → HostRun o0 o'
-host_link during o0 o o' run call grows = record {
-  same_files = ap is_some call.same_files ∙ run.same_files;
-  later = omega (arith, run.later, call.same_faults);
-  clock = omega (arith, run.clock, call.time.later);
-  links = grow_then o0.links o.links o'.links run.links grows;
-  calls = calls_link during o0 o o' run.calls call;
-}
-
-pub host_then : (o0 o1 o2 : Outside) → HostRun o0 o1 → HostRun o1 o2 → HostRun o0 o2
-host_then o0 o1 o2 first second = record {
-  same_files = second.same_files ∙ first.same_files;
-  later = omega (arith, first.later, second.later);
-  clock = omega (arith, first.clock, second.clock);
-  links = grow_then o0.links o1.links o2.links first.links second.links;
-  calls = calls_then o0 o1 o2 first.calls second.calls;
-}
 
 -- a run on the disk alone is one
 pub host_run : (o o' : Outside) → DiskRun o o' → o.clock ≤ o'.clock → HostRun o o'
@@ -326,13 +274,6 @@ some_of : {A : Type 0} (a b : Option A) (x : A) → is_some b ≡ is_some a → 
 some_of None None x same told = cc
 some_of None (Some b) x same told = cc
 some_of (Some a) b x same told = (a, refl)
-
-pub told_before : (o o' : Outside) → HostRun o o' → TellsAll o' → TellsAll o
-told_before o o' run told =
-    let files = some_of o.files o'.files told.two run.same_files told.files_are in
-    let links = some_of o.links.told o'.links.told told.links run.links.same_told told.links_are in
-    let heard = some_of o.links.heard o'.links.heard told.heard run.links.same_heard told.heard_are in
-    record { two = files.0; files_are = files.1; links = links.0; links_are = links.1; heard = heard.0; heard_are = heard.1 }
 
 pub told_after : (o o' : Outside) → HostRun o o' → TellsAll o → TellsAll o'
 told_after o o' run told =
@@ -346,29 +287,6 @@ plans_same link None None same = tt
 plans_same link None (Some q) same = cc
 plans_same link (Some p) None same = cc
 plans_same link (Some p) (Some q) same = λ i _. let one : q ≡ p = cc in ap (λ (f : ℕ → List Planned). f i) one
-
-plans_then : (link : ℕ) (p q r : Option (ℕ → List Planned)) → RelatesTold (λ (p q : ℕ → List Planned). (i : ℕ) → i ≢ link → q i ≡ p i) p q
-    → RelatesTold (λ (p q : ℕ → List Planned). (i : ℕ) → i ≢ link → q i ≡ p i) q r → RelatesTold (λ (p q : ℕ → List Planned). (i : ℕ) → i ≢ link → q i ≡ p i) p r
-plans_then link None None None f g = tt
-plans_then link None None (Some r) f g = absurd g
-plans_then link None (Some q) r f g = absurd f
-plans_then link (Some p) None r f g = absurd f
-plans_then link (Some p) (Some q) None f g = absurd g
-plans_then link (Some p) (Some q) (Some r) f g = λ i other. g i other ∙ f i other
-
-pub others_same : (link : ℕ) (old new : Links) → new ≡ old → OthersKeep link old new
-others_same link old new same = record {
-  sent = λ i _. ap (λ (l : Links). sent_at l.told i) same;
-  answers = λ i _. ap (λ (l : Links). answers_at l.heard i) same;
-  planned = plans_same link old.planned new.planned (ap (λ (l : Links). l.planned) same);
-}
-
-pub others_then : (link : ℕ) (a b c : Links) → OthersKeep link a b → OthersKeep link b c → OthersKeep link a c
-others_then link a b c first second = record {
-  sent = λ i other. second.sent i other ∙ first.sent i other;
-  answers = λ i other. second.answers i other ∙ first.answers i other;
-  planned = plans_then link a.planned b.planned c.planned first.planned second.planned;
-}
 
 pub others_dial : (link : ℕ) (spec : List ℕ) (result : Result ℕ Failed) (old new : Links) → DialsLink spec result old new → OthersKeep link old new
 others_dial link spec (Ok made) old new d = record {
@@ -389,67 +307,12 @@ others_nonce link other_link result old new a = record {
   planned = plans_same link old.planned new.planned a.same_planned;
 }
 
-plans_heard : (link : ℕ) (answer : Heard) (buf : List ℕ) (p q : Option (ℕ → List Planned)) → RelatesTold (AnswersAsPlanned link answer buf) p q
-    → RelatesTold (λ (p q : ℕ → List Planned). (i : ℕ) → i ≢ link → q i ≡ p i) p q
-plans_heard link answer buf None None becomes = tt
-plans_heard link answer buf None (Some q) becomes = becomes
-plans_heard link answer buf (Some p) None becomes = becomes
-plans_heard link (heard.Got n) buf (Some p) (Some q) becomes = becomes.others
-plans_heard link heard.Idle buf (Some p) (Some q) becomes = becomes.others
-plans_heard link heard.End buf (Some p) (Some q) becomes = becomes.others
-plans_heard link heard.Failed buf (Some p) (Some q) becomes =
-    elim becomes [ inl used ↦ used.others | inr same ↦ λ i _. ap (λ (f : ℕ → List Planned). f i) same ]
-
-pub others_hear : (link : ℕ) (answer : Heard) (buf : List ℕ) (old new : Links) → HearsAnswer link answer buf old new → OthersKeep link old new
-others_hear link answer buf old new h = record {
-  sent = λ i _. ap (λ t. sent_at t i) h.same_told;
-  answers = λ i other. ap (λ t. answers_at t i) h.heard ∙ ap (λ (x : HeardOn). x.answers) (heard_at-other old.heard link (hear answer buf) i other);
-  planned = plans_heard link answer buf old.planned new.planned h.planned;
-}
-
-pub others_send : (link : ℕ) (bytes : List ℕ) (result : Result (Unit {0}) Failed) (old new : Links) → SendsOnLink link bytes result old new → OthersKeep link old new
-others_send link bytes result old new s =
-    let out = went_out link bytes result old new s in
-    record {
-      sent = λ i other. ap (λ t. sent_at t i) out.1 ∙ sent_at-other old.told link (take out.0 bytes) i other;
-      answers = λ i _. ap (λ t. answers_at t i) s.same_heard;
-      planned = plans_same link old.planned new.planned s.same_planned;
-    }
-
-pub others_read : (link reading : ℕ) (old new : Links) → ReadsClock reading old new → OthersKeep link old new
-others_read link reading old new r = record {
-  sent = λ i _. ap (λ t. sent_at t i) r.same_told;
-  answers = λ i _. ap (λ t. answers_at t i) r.same_heard;
-  planned = plans_same link old.planned new.planned r.same_planned;
-}
-
--- ---- what a call does on its own link, where links and what they heard are told
-pub sent_here : (o o' : Outside) (link : ℕ) (bytes : List ℕ) (u : Unit {0}) → TellsAll o → link < o.links.dialled → SendsOnLink link bytes (Ok u) o.links o'.links → sent_at o'.links.told link ≡ sent_at o.links.told link ++ bytes
-sent_here o o' link bytes u told within s =
-    let inside : link < length told.links = omega (arith, within, o.all_told told.links told.links_are) in
-    ap (λ t. sent_at t link) s.sent ∙ sent_at-with_sent o.links.told told.links link bytes told.links_are inside
-
-pub heard_here : (o o' : Outside) (link : ℕ) (answer : Heard) (buf : List ℕ) → TellsAll o → link < o.links.dialled → HearsAnswer link answer buf o.links o'.links
-    → answers_at o'.links.heard link ≡ answers_at o.links.heard link ++ answered_by answer buf (heard_at o.links.heard link)
-heard_here o o' link answer buf told within h =
-    let inside : link < length told.heard = omega (arith, within, o.all_heard told.heard told.heard_are) in
-    ap (λ t. answers_at t link) h.heard
-    ∙ ap (λ (x : HeardOn). x.answers) (heard_at-changed o.links.heard told.heard link (hear answer buf) told.heard_are inside)
-    ∙ answers_hear answer buf (heard_at o.links.heard link)
-
 -- ---- moments
 -- the moments of a call that sends nothing are as those before it
 pub quiet_moments : (o o' : Outside) (two : Two File) → QuietCall o o' → o'.links.told ≡ o.links.told → o.files ≡ Some two → (m : Moment) → o'.moments o'.clock m → IsNow two o.links m
 quiet_moments o o' two call same files m w =
     let now = o'.now_is two m (call.same_files ∙ files) w in
     record { image = now.image; sent = now.sent ∙ ap sent_of same }
-
--- the moments of a dial have nothing more on any link
-pub dial_moments : (o o' : Outside) (two : Two File) (spec : List ℕ) (result : Result ℕ Failed) → QuietCall o o' → DialsLink spec result o.links o'.links → o.files ≡ Some two → (m : Moment) → o'.moments o'.clock m
-    → IsImage two m.files × ((i : ℕ) → slice_index_or m.sent i [] ≡ sent_at o.links.told i)
-dial_moments o o' two spec result call dials files m w =
-    let now = o'.now_is two m (call.same_files ∙ files) w in
-    (now.image, λ i. ap (λ (s : List (List ℕ)). slice_index_or s i []) now.sent ∙ (others_dial (suc i) spec result o.links o'.links dials).sent i (omega arith))
 
 pub send_moments : (o : Outside) (told : TellsAll o) (link : ℕ) (bytes : List ℕ) → link < o.links.dialled → (m : Moment) → SendsPart o link bytes m → SendMoment o told.two link bytes m
 send_moments o told link bytes within m part =

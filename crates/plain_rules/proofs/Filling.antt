@@ -5,9 +5,7 @@ use Rattle.sync_rules.specs.Clients.{Meaning}
 use Rattle.sync_rules.specs.Facts.{Facts, after, after_all, facts}
 use Rattle.sync_rules.specs.Steps.{next}
 use Rattle.sync_rules.specs.Legal.{IsSettling}
-use Rattle.sync_rules.specs.Hearing.{SettlesJournal}
 use Rattle.plain_rules.specs.Settling.{AddsSettling, with_last}
-use Rattle.sync_rules.specs.declared.limits.TheConstants.{MAX_STEPS}
 use Rattle.sync_rules.specs.Left.{left_of}
 use Rattle.sync_rules.proofs.LeftLaws.{steps_lower}
 use Rattle.sync_rules.proofs.WorkLaws.{facts-push}
@@ -46,16 +44,6 @@ adds_more clients most old j e a n =
       few = omega (arith, longer, few);
       settling = settling-push clients (facts old) a.batch e a.settling (sym (ap (next clients) at) ∙ n);
     }
-
-pub adds_up_to : (clients : Meaning) (few most : ℕ) (old j : List (List Entry)) → few ≤ most → AddsSettling clients few old j → AddsSettling clients most old j
-adds_up_to clients few most old j le a =
-    let within : length a.batch ≤ few = a.few in
-    record { batch = a.batch; stands = a.stands; some = a.some; few = omega (arith, within); settling = a.settling }
-
-pub adds_settles : (clients : Meaning) (most : ℕ) (old j : List (List Entry)) → most ≤ MAX_STEPS → AddsSettling clients most old j → SettlesJournal clients old j
-adds_settles clients most old j le a =
-    let within : length a.batch ≤ most = a.few in
-    record { more = a.batch ∷ []; extends = a.stands; settling = ((a.some, omega (arith, within), a.settling), tt) }
 
 -- fewer steps are left behind a settling batch
 pub fewer_left : (clients : Meaning) (most : ℕ) (old j : List (List Entry)) → AddsSettling clients most old j → left_of (facts j) < left_of (facts old)

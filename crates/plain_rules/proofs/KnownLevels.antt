@@ -1,5 +1,5 @@
 -- Each group that is not Invisible to some contact is known, exactly where each Level entry passes.
-use Rattle.std.proofs.Common.{not, ◌≡◌, ◌↔◌, ℕ, Bool, true, false, cond, ◌&&◌, ◌||◌, nat_eq, eqb-true, List, [], ◌∷◌, refl, sym, ◌∙◌, ap, is_some}
+use Rattle.std.proofs.Common.{◌≡◌, ◌↔◌, ℕ, Bool, true, false, cond, ◌&&◌, ◌||◌, nat_eq, eqb-true, List, [], ◌∷◌, refl, sym, ◌∙◌, ap, is_some}
 use Rattle.std.specs.List.{list_all}
 use Rattle.std.proofs.lemmas.Bool.{and_parts, false≢true}
 use Rattle.sync_rules.specs.declared.entries.Entry.{Entry}
@@ -13,7 +13,6 @@ use Rattle.plain_rules.specs.KnownLevels.{knows_level, all_entries}
 use Rattle.sync_rules.specs.Views.{KnowsShown}
 use Rattle.sync_rules.proofs.Elements.{same_id-is}
 use Rattle.sync_rules.proofs.ScanLaws.{level_found}
-use Rattle.sync_rules.specs.Sessions.{is_welcome}
 
 module _ (f : Facts) (contact : ℕ) (group : Id) (seen : is_invisible (level_at f.levels contact group) ≡ false) where
   abbrev IsKnown : Type 0
@@ -76,15 +75,3 @@ knows_shown j = (
       (ap is_invisible (level_found contact group j) ∙ seen),
   λ shown. all_among (facts j) shown j,
 )
-
-pub welcome_if : (f : Facts) → KnowsShown f → (contact : ℕ) (group : Id) → is_welcome f contact group ≡ not (is_invisible (level_at f.levels contact group))
-welcome_if f knows contact group =
-    elim (is_invisible (level_at f.levels contact group)) as (λ b. is_invisible (level_at f.levels contact group) ≡ b
-    → (is_some (group_at f.groups group) && not b) ≡ not b) [
-      | true ↦ λ e. never (is_some (group_at f.groups group))
-      | false ↦ λ e. ap (λ b. b && true) (knows contact group e)
-    ] refl
-  where
-    never : (b : Bool) → (b && false) ≡ false
-    never true = refl
-    never false = refl

@@ -50,9 +50,6 @@ doubled x (suc m) one =
     twice : (y z : ℕ) → z ≡ y * 2 → min (min y (2 ^ 64 - 1) * 2) (2 ^ 64 - 1) ≡ min z (2 ^ 64 - 1)
     twice y z e = omega arith
 
-pub wait_ends : (now wait x : ℕ) → wait ≡ min x (2 ^ 64 - 1) → min (now + wait) (2 ^ 64 - 1) ≡ min (2 ^ 64 - 1) (now + x)
-wait_ends now wait x e = omega arith
-
 -- ---- a loop
 
 pub row_goes_on : (f : Facts) (es : List Entry) (k : ℕ) (e : Entry) (contact : ℕ) (id : Id) (was now : Row) → k < length es → e ≡ get_or es k e

@@ -3,10 +3,9 @@ use Rattle.std.proofs.Common.{◌≡◌, ℕ, ◌+◌, ◌≤◌, min, Bool, tru
 use Rattle.std.proofs.lemmas.List.{append_assoc, append-nil, length-take-le, take-append-drop}
 use Rattle.std.specs.Prelude.{if◌then◌else◌}
 use Rattle.record_grammar.specs.Stream.{ending, items}
-use Rattle.record_grammar.specs.declared.front.Reason.{Reason}
 use Rattle.record_grammar.specs.declared.stream.Item.{Item}
 use Rattle.record_stream.specs.Pieces.{Hearing}
-use Rattle.record_stream.specs.Reading.{AwaitsBytes, EndsBad, ReaderState, ReadsOn, fresh}
+use Rattle.record_stream.specs.Reading.{AwaitsBytes, ReaderState, ReadsOn, fresh}
 
 -- nothing was read
 pub read_none : (piece : List ℕ) (r : ReaderState) → ReadsOn piece r [] piece r
@@ -44,14 +43,6 @@ pub fed_counted : (left : List ℕ) (count : ℕ) (mid fed : ReaderState) → fe
 fed_counted left count mid fed ef few =
     let held : length fed.bytes ≡ length (mid.bytes ++ take count left) = ap (λ (s : ReaderState). length s.bytes) ef in
     omega (arith, held, length-append mid.bytes (take count left), length-take-le count left few, length-drop count left)
-
--- behind a refusal nothing that is left counts
-pub read_bad : (piece left : List ℕ) (old new : ReaderState) (has : List Item) (place : ℕ) (why : Reason) → ReadsOn piece old has left new
-    → EndsBad new place why → ReadsOn piece old has [] new
-read_bad piece left old new has place why read bad = record {
-  items_stay = λ more. read.items_stay more ∙ ap (λ (x : List Item). has ++ x) (bad.nothing (left ++ more) ∙ sym (bad.nothing more));
-  ending_stays = λ more. read.ending_stays more ∙ (bad.ends (left ++ more) ∙ sym (bad.ends more));
-}
 
 -- more behind a piece is left behind what is left of it
 pub read_wider : (piece left more : List ℕ) (old new : ReaderState) (has : List Item) → ReadsOn piece old has left new

@@ -149,11 +149,3 @@ bad_leaves place b why f e is goes = (
 pub waits_at_start : AwaitsBytes fresh
 unfolding items parsed
 waits_at_start = record { rest = rest_nil; nothing = refl; room = λ _. omega arith }
-
--- a reader that has failed stands at a refusal
-pub refused_ends : (s : ReaderState) (place : ℕ) (b : List ℕ) (failed : Bool) → record { place = place; bytes = b; failed = failed } ≡ s
-    → (failed ≡ true → IsStreamRefused place b) → s.failed ≡ true → (why : Reason) × EndsBad s s.place why
-refused_ends s place b failed view refused is =
-    let was : failed ≡ true = ap (λ (r : ReaderState). r.failed) view ∙ is in
-    let at = refused was in
-    rw (← view) (at.why, record { failed = was; nothing = at.nothing; ends = at.ends })

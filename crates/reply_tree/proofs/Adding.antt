@@ -93,9 +93,6 @@ filter_none : (f : List ℕ → Bool) (xs : List (List ℕ)) → ((k : ℕ) → 
 filter_none f [] h = refl
 filter_none f (x ∷ xs) h = ap (λ (b : Bool). length (cond b (x ∷ filter f xs) (filter f xs))) (h 0 (omega arith)) ∙ filter_none f xs (λ k g. h (suc k) (omega (arith, g)))
 
-filter_same : (f g : List ℕ → Bool) (xs : List (List ℕ)) → f ≡ g → length (filter f xs) ≡ length (filter g xs)
-filter_same f g xs e = ap (λ (h : List ℕ → Bool). length (filter h xs)) e
-
 -- the size of an earlier item, with one more
 pub size_before : (ps : List (Option ℕ)) (p : Option ℕ) (m : ℕ) → RepliesToEarlier (ps ++ p ∷ []) → m < length ps
     → size_of (ps ++ p ∷ []) m ≡ (if begins_with (path_of ps m) (path_above (paths ps) p) then size_of ps m + 1 else size_of ps m)

@@ -17,10 +17,6 @@ moved q k = if nat_lt k q then k else k + 1
 abbrev pub placed_with : ℕ → ℕ → (ℕ → ℕ) → ℕ → ℕ
 placed_with new q place m = if m == new then q else moved q (place m)
 
--- its size then
-abbrev pub sized_with : List (Option ℕ) → Option ℕ → (ℕ → ℕ) → ℕ → ℕ
-sized_with ps p size m = if begins_with (path_of ps m) (path_above (paths ps) p) then size m + 1 else size m
-
 -- Where one item more comes: what is below a path stands from place s on, and it comes at place q behind that.
 pub record IsSeat (ps : List (Option ℕ)) (u walk : List ℕ) (place size : ℕ → ℕ) (q : ℕ) : Type 0 where
   pub from : ℕ

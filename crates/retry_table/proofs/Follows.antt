@@ -12,9 +12,6 @@ use Rattle.retry_table.specs.Due.{numbers_where, is_open, is_sent_at, is_offered
 use Rattle.retry_table.specs.Queues.{is_awaited, is_timely, next_timely, HasPassingRows}
 use Rattle.retry_table.specs.declared.blocks.Times.TheVariants as times
 
-pub longer_length : {X : Type 0} (xs : List X) (d : X) (count : ℕ) → length xs ≤ count → length (xs ++ replicate (count - length xs) d) ≡ count
-longer_length xs d count h = omega (arith, length-append xs (replicate (count - length xs) d), length-replicate (count - length xs) d)
-
 pub longer_least : {X : Type 0} (xs : List X) (d : X) (count : ℕ) → length xs ≤ length (xs ++ replicate (count - length xs) d)
 longer_least xs d count = omega (arith, length-append xs (replicate (count - length xs) d))
 

@@ -2,7 +2,7 @@
 use Rattle.std.proofs.Common.{◌≡◌, ℕ, ◌+◌, Bool, true, false, List, [], ◌∷◌, ◌++◌, take, drop}
 use Rattle.std.proofs.Common.{refl, sym, ap, ◌∙◌, subst, append_assoc, append-nil, Some, None}
 use Rattle.std.proofs.Common.{Result, Ok, Err}
-use Rattle.std.specs.Prelude.{cond, if◌then◌else◌, is_ok, is_some, OnOk}
+use Rattle.std.specs.Prelude.{cond, is_some, OnOk}
 use Rattle.std.proofs.lemmas.List.{take-append-drop}
 use Rattle.outside.specs.Outside.{Outside}
 use Rattle.sync_ids.specs.Ids.{group_id_of}
@@ -11,21 +11,15 @@ use Rattle.sync_rules.specs.declared.entries.Entry.{Entry}
 use Rattle.sync_rules.specs.declared.entries.Entry.TheVariants as entry
 use Rattle.sync_rules.specs.Lists.{same_id}
 use Rattle.sync_rules.proofs.Elements.{same_id_itself}
-use Rattle.sync_rules.specs.declared.entries.Level.{Level}
-use Rattle.sync_rules.specs.declared.entries.Level.TheVariants as level
-use Rattle.sync_rules.specs.declared.states.Refused.{Refused}
 use Rattle.sync_rules.specs.Clients.{Meaning}
-use Rattle.sync_rules.specs.Facts.{Facts, Id, Known, after, after_batches, group_at, known_of}
-use Rattle.sync_rules.specs.Facts.{level_at}
+use Rattle.sync_rules.specs.Facts.{Facts, Known, after, after_batches, group_at, known_of}
 use Rattle.sync_rules.proofs.Settling.{after_batches-append}
-use Rattle.sync_store.specs.Refusals.{group_answer}
 use Rattle.sync_store.specs.Store.{StoreValue}
 use Rattle.sync_words.specs.declared.outcome.Outcome.{Outcome}
 use Rattle.client_sharing.specs.declared.agreement.Target.{Target}
-use Rattle.sharing_commands.specs.declared.deed.Deed.TheVariants as deed
 use Rattle.sharing_commands.specs.Adding.{AddsFront}
-use Rattle.sharing_commands.specs.Deeds.{all_batches, all_text, batches_for, deed_new, deed_of}
-use Rattle.sharing_commands.specs.Deeds.{same_level, target_id, text_for}
+use Rattle.sharing_commands.specs.Deeds.{all_batches, all_text, batches_for}
+use Rattle.sharing_commands.specs.Deeds.{text_for}
 use Rattle.sharing_commands.proofs.Fronts.{adds_short, adds_then, facts_added}
 
 module _ (clients : Meaning) (contact : ℕ) where
@@ -143,52 +137,6 @@ module _ (clients : Meaning) (contact : ℕ) where
         (text_for clients contact s1.state.facts t)
         ∙ ap (λ (z : List ℕ). start ++ z) (text_with_one f s1.state.facts (take i ts) t at
         ∙ ap (λ (xs : List Target). all_text clients contact f xs) (sym next))
-
--- ---- what a deed knows
-
-new_adds : (l : Level) (answer : Result Id Refused) → deed_new l answer ≡ deed.Add
-    → is_ok answer ≡ true
-new_adds level.Invisible answer is = cc
-new_adds level.Visible (Ok id) is = refl
-new_adds level.Visible (Err why) is = cc
-new_adds level.Shared (Ok id) is = refl
-new_adds level.Shared (Err why) is = cc
-
-new_sets : (l : Level) (answer : Result Id Refused) → deed_new l answer ≡ deed.Set → false ≡ true
-new_sets level.Invisible answer is = cc
-new_sets level.Visible (Ok id) is = cc
-new_sets level.Visible (Err why) is = cc
-new_sets level.Shared (Ok id) is = cc
-new_sets level.Shared (Err why) is = cc
-
--- a level is set of a group that is known
-pub sets_known : (clients : Meaning) (contact : ℕ) (f : Facts) (t : Target)
-    → deed.Set ≡ deed_of clients contact f t
-    → is_some (group_at f.groups (target_id t)) ≡ true
-sets_known clients contact f t is = by (is_some (group_at f.groups (target_id t))) (sym is) where
-  by : (b : Bool)
-      → (if b then (if same_level (level_at f.levels contact (target_id t)) t.level then deed.Keep
-      else deed.Set) else deed_new t.level (group_answer clients f t.def)) ≡ deed.Set
-      → b ≡ true
-  by true w = refl
-  by false w = new_sets t.level (group_answer clients f t.def) w
-
--- a group is added that may be added
-pub adds_tested : (clients : Meaning) (contact : ℕ) (f : Facts) (t : Target)
-    → deed.Add ≡ deed_of clients contact f t
-    → is_ok (group_answer clients f t.def) ≡ true
-adds_tested clients contact f t is = by (is_some (group_at f.groups (target_id t))) (sym is) where
-  by_level : (b : Bool) → (if b then deed.Keep else deed.Set) ≡ deed.Add
-      → is_ok (group_answer clients f t.def) ≡ true
-  by_level true w = cc
-  by_level false w = cc
-
-  by : (b : Bool)
-      → (if b then (if same_level (level_at f.levels contact (target_id t)) t.level then deed.Keep
-      else deed.Set) else deed_new t.level (group_answer clients f t.def)) ≡ deed.Add
-      → is_ok (group_answer clients f t.def) ≡ true
-  by true w = by_level (same_level (level_at f.levels contact (target_id t)) t.level) w
-  by false w = new_adds t.level (group_answer clients f t.def) w
 
 -- ---- a group that was added is known
 

@@ -12,7 +12,7 @@ use Rattle.outside.proofs.CallSteps.{moments_map, moments_then, run_then, told_o
 use Rattle.sync_rules.specs.declared.entries.Entry.{Entry}
 use Rattle.sync_rules.specs.declared.states.Refused.{Refused}
 use Rattle.sync_rules.specs.Clients.{Meaning}
-use Rattle.sync_rules.specs.Facts.{Facts, Id, after_batches, facts, group_at}
+use Rattle.sync_rules.specs.Facts.{Facts, Id, after_batches, facts}
 use Rattle.sync_rules.specs.Legal.{AllSettling}
 use Rattle.sync_rules.specs.Steps.{IsSettled}
 use Rattle.entry_codec.specs.declared.naming.Format.TheVariants as kind
@@ -26,11 +26,9 @@ use Rattle.sync_store.proofs.Runs.{leads_both}
 use Rattle.sync_words.specs.declared.outcome.Outcome.{Outcome}
 use Rattle.sync_words.specs.declared.outcome.Outcome.TheVariants as outcome
 use Rattle.sync_words.specs.Outcomes.{came_to}
-use Rattle.sync_rules.specs.declared.states.Refused.TheVariants as refused
-use Rattle.std.specs.Prelude.{IsErrAnd, if◌then◌else◌, nat_lt}
+use Rattle.std.specs.Prelude.{IsErrAnd}
 use borrow.Author.Tests.{ltb-true}
 use Rattle.store_commands.proofs.Follow.{stays}
-use Rattle.sharing_commands.specs.Sayings.{sharing_test}
 use Rattle.store_commands.specs.Commit.{ComesAnew, ExtendsBy, HasLastGeneration, SettledAnew}
 use Rattle.store_commands.specs.Commit.{SettlesAnew, WasSpent, needed_by}
 use Rattle.store_commands.proofs.Stood.{fits_format, last_here, spent_here}
@@ -467,14 +465,3 @@ still_known clients contact s s1 o o1 more known comes =
     ap (λ (f : Facts). f.contacts) comes.facts
     ∙ (stays clients s.state.facts more comes.settling).contacts in
     omega (arith, same)
-
--- a contact over which the tests hold is known
-pub tested_known : (f : Facts) (contact : ℕ) (group : Id) → agree_test f contact group ≡ None
-    → contact < f.contacts
-tested_known f contact group is =
-    elim (nat_lt contact f.contacts) as (λ b. nat_lt contact f.contacts ≡ b
-    → (if b then sharing_test (group_at f.groups group) else Some refused.UnknownContact) ≡ None
-    → contact < f.contacts) [
-      | true ↦ λ known w. ltb-true contact f.contacts known
-      | false ↦ λ known w. absurd (let no : Some refused.UnknownContact ≡ None = w in cc)
-    ] refl is

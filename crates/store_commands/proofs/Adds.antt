@@ -14,7 +14,6 @@ use Rattle.sync_rules.specs.Facts.{Facts, facts, after_all, after_batches}
 use Rattle.sync_rules.specs.Legal.{Allowed, AllSettling}
 use Rattle.sync_rules.specs.Steps.{IsSettled}
 use Rattle.sync_rules.proofs.Continuing.{facts-append}
-use Rattle.sync_rules.proofs.Settling.{after_batches-append}
 use Rattle.outside.specs.Files.{read_files}
 use Rattle.entry_codec.specs.declared.naming.Format.{Format}
 use Rattle.entry_codec.specs.declared.naming.Format.TheVariants as kind
@@ -36,11 +35,6 @@ use Rattle.store_commands.specs.Commit.{needed_by}
 use Rattle.store_commands.proofs.Stood.{fits_format, last_here, spent_here}
 
 -- ---- longer journals
-
-pub facts-batch : (j first : List (List Entry)) (batch : List Entry)
-    → facts (j ++ (first ++ batch ∷ [])) ≡ after_all (after_batches (facts j) first) batch
-facts-batch j first batch =
-    facts-append j (first ++ batch ∷ []) ∙ after_batches-append (facts j) first (batch ∷ [])
 
 -- a front of settling is settling
 front_settles : (clients : Meaning) (f : Facts) (front rest : List (List Entry))

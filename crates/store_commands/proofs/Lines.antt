@@ -5,7 +5,6 @@ use Rattle.std.proofs.Common.{add-one, arith}
 use Rattle.std.specs.Prelude.{slice_get}
 use Rattle.std.specs.List.{flat_map}
 use Rattle.std.specs.Option.{option_map}
-use Rattle.std.proofs.lemmas.List.{take_all}
 use Rattle.sync_ids.specs.Values.{MessageValue}
 use Rattle.sync_rules.specs.declared.states.Origin.{Origin}
 use Rattle.sync_rules.specs.Facts.{Held}
@@ -42,12 +41,6 @@ more_lines line xs n start old new within before more =
     ∙ append_assoc start (flat_map line (take n xs)) (line item.0)
     ∙ ap (λ z. start ++ z) (sym (take_line line xs n item.0 item.1))
     ∙ ap (λ k. start ++ flat_map line (take k xs)) (sym (add-one n))
-
--- all lines
-pub all_lines : {A : Type 0} (line : A → List ℕ) (xs : List A) (start new : List ℕ)
-    → new ≡ start ++ flat_map line (take (length xs) xs) → new ≡ start ++ flat_map line xs
-all_lines line xs start new e =
-    e ∙ ap (λ ys. start ++ flat_map line ys) (take_all (length xs) xs (omega arith))
 
 -- the line of a message by what look-ups of its number say
 pub delivered_shown : (held : List Held) (n : ℕ) (h : Held) (id : List ℕ) (m : MessageValue)

@@ -1,7 +1,7 @@
 -- An error that goes on by `?`: what holds of the outcome that it is turned into holds of the
 -- answer.
 use Rattle.std.proofs.Common.{◌≡◌, ℕ, List, ap, sym, subst, Result, Ok, Err}
-use Rattle.std.specs.Prelude.{IsErrAnd, IsErrOf, OnOk, Option}
+use Rattle.std.specs.Prelude.{IsErrAnd, IsErrOf, Option}
 use Rattle.outside.specs.Files.{Two, File}
 use Rattle.outside.specs.Outside.{Outside}
 use Rattle.outside.specs.Streams.{Stream}
@@ -94,9 +94,3 @@ pub refused_on : (r : Result Entry Refused) (why : Refused) → IsErrAnd r (λ e
     → plan_of r ≡ refuses why
 refused_on (Ok e) why is = absurd is
 refused_on (Err e) why is = ap refuses is
-
--- an answer that is an error says nothing of Ok
-pub no_ok : (P : Type 0) (r : Result (Unit {0}) Outcome) (x : Outcome) → IsErrAnd r (λ e. e ≡ x)
-    → OnOk r P
-no_ok P (Ok u) x is = absurd is
-no_ok P (Err e) x is = tt

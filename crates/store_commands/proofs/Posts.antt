@@ -1,11 +1,11 @@
 -- A post, from its body to its outcome.
-use Rattle.std.proofs.Common.{◌≡◌, ℕ, ◌+◌, Bool, true, false, List, [], ◌∷◌, ◌++◌, length, sym, ap}
-use Rattle.std.proofs.Common.{◌∙◌, inl, inr, arith, length-append, Some, None, Ok, Err}
+use Rattle.std.proofs.Common.{◌≡◌, ℕ, ◌+◌, Bool, true, false, List, [], length, sym, ap}
+use Rattle.std.proofs.Common.{◌∙◌, inl, inr, Some, None, Ok, Err}
 use Rattle.std.specs.Prelude.{◌==◌, nat_lt, is_some, if◌then◌else◌}
 use Rattle.std.specs.List.{list_all}
 use Rattle.outside.specs.Files.{Two, File, read_files}
 use Rattle.outside.specs.Outside.{Outside, DiskRun}
-use Rattle.outside.specs.Input.{ReadsAll, ReadsTooMuch}
+use Rattle.outside.specs.Input.{ReadsAll}
 use Rattle.outside.specs.Streams.{Stream, IsIdle}
 use Rattle.sync_ids.specs.declared.message.TheConstants.{MAX_BODY}
 use Rattle.sync_ids.specs.Values.{MessageValue}
@@ -39,12 +39,6 @@ use Rattle.store_commands.proofs.Stopped.{input_unread, stops_memory, stops_none
 use Rattle.store_commands.proofs.Stopped.{stops_unread}
 
 -- ---- plans
-
-pub plan_unknown : (clients : Meaning) (f : Facts) (m : MessageValue)
-    → is_some (group_at f.groups m.group) ≡ false
-    → post_plan clients f m ≡ refuses refused.UnknownGroup
-plan_unknown clients f m unknown =
-    ap (λ b. if b then body_plan clients f m else refuses refused.UnknownGroup) unknown
 
 pub plan_known : (clients : Meaning) (f : Facts) (m : MessageValue)
     → is_some (group_at f.groups m.group) ≡ true → post_plan clients f m ≡ body_plan clients f m
@@ -281,11 +275,3 @@ pub read_whole : (input input' : Stream) (body : List ℕ)
     → ReadsAll MAX_BODY input.bytes input'.bytes body → IsBody input input' body
 read_whole input input' body read =
     record { consumed = read.consumed; whole = inl (read.at_end, read.within) }
-
-pub read_long : (input input' : Stream) (body : List ℕ)
-    → ReadsTooMuch MAX_BODY input.bytes input'.bytes body
-    → (whole : List ℕ) × IsBody input input' whole × (length whole ≡ MAX_BODY + 1)
-read_long input input' body read =
-    let long : length (body ++ read.byte ∷ []) ≡ MAX_BODY + 1 =
-    omega (arith, length-append body (read.byte ∷ []), read.full) in
-    (body ++ read.byte ∷ [], record { consumed = read.consumed; whole = inr long }, long)

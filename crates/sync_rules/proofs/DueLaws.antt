@@ -163,10 +163,6 @@ module _ (f : Facts) where
 
 -- ---- facts within their limits
 
-want_list_limits : (f : Facts) → HasLimits f → (contact : ℕ) (ids : List Id) → ((id : Id) → is_among ids id ≡ true → is_among (wanted_from f.wanted contact) id ≡ true)
-    → (id : Id) → is_among ids id ≡ true → length id ≡ 32
-want_list_limits f l contact ids up id e = l.wanted contact id (up id e)
-
 -- the wanted ids of one contact changed, to ids that are wanted from it or have 32 bytes
 module _ (f : Facts) (l : HasLimits f) (c : ℕ) (change : List Id → List Id)
     (within : (contact : ℕ) (id : Id) → is_among (change (wanted_from f.wanted contact)) id ≡ true → length id ≡ 32) where

@@ -156,15 +156,6 @@ module _ {A : Type 0} where
         | false ↦ h
       ]
 
--- an id among a list
-pub among_In : (ids : List (List ℕ)) (id : List ℕ) → is_among ids id ≡ true → In id ids
-among_In [] id h = absurd (false≢true h)
-among_In (x ∷ xs) id h =
-    elim (or_cases (same_id x id) (is_among xs id) h) [
-      | inl e ↦ inl (sym (same_id-is x id e))
-      | inr t ↦ inr (among_In xs id t)
-    ]
-
 pub among-push : (ids : List (List ℕ)) (x id : List ℕ) → is_among (ids ++ x ∷ []) id ≡ (same_id x id || is_among ids id)
 among-push ids x id = any-append (λ y. same_id y id) ids (x ∷ []) ∙ swap_or (is_among ids id) (same_id x id)
   where

@@ -22,7 +22,7 @@ use Rattle.sync_rules.specs.Legal.{Allowed, AreRows, GoesOn, Legal, IsSettling, 
 use Rattle.sync_rules.specs.Meeting.{IsNamedHeld, MeetsNoStep, AllMeet, EachMeets}
 use Rattle.sync_rules.proofs.Elements.{among-push, same_id-is, same_id_itself}
 use Rattle.sync_rules.proofs.StepLaws.{next_is_settling}
-use Rattle.sync_rules.proofs.Kept.{Fits, AllFit}
+use Rattle.sync_rules.proofs.Kept.{Fits}
 use Rattle.sync_rules.proofs.RowLaws.{firsts_distinct}
 use Rattle.sync_rules.proofs.PeerFacts.{want_changed}
 use Rattle.sync_rules.proofs.StepKinds.{same_next, settled_stays}
@@ -51,10 +51,6 @@ shown_is_held f contact (Some h) s = refl
 none_there : (o : Option Held) → not (is_some o) ≡ true → is_some o ≡ false
 none_there None e = refl
 none_there (Some h) e = absurd (false≢true e)
-
-not_both : (a b : Bool) → a ≡ true → a ≡ false → b ≡ true
-not_both true b s t = absurd (false≢true (sym t))
-not_both false b s t = absurd (false≢true s)
 
 -- a later id of distinct ones is another
 other_id : (x y : Id) (ids : List Id) → is_among ids x ≡ false → is_among ids y ≡ true → (b : Bool) → same_id x y ≡ b → b ≡ false
@@ -321,7 +317,3 @@ meets_fits clients f (entry.Invalid id) m = m
 meets_fits clients f (entry.Out s now what) m = m.1
 meets_fits clients f (entry.Kept from x) m = record { known = m.2.known_group; new = m.2.new }
 meets_fits clients f _ m = tt
-
-pub all_meet_fit : (clients : Meaning) (f : Facts) (es : List Entry) → AllMeet clients f es → AllFit clients f es
-all_meet_fit clients f [] a = tt
-all_meet_fit clients f (e ∷ es) a = (meets_fits clients f e a.0, all_meet_fit clients (after f e) es a.1)

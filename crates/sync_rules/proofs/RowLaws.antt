@@ -9,7 +9,7 @@ use Rattle.sync_rules.specs.declared.entries.Entry.TheVariants as entry
 use Rattle.sync_rules.specs.declared.entries.Out.TheVariants as out
 use Rattle.sync_rules.specs.declared.limits.TheConstants.{MAX_TRIES}
 use Rattle.sync_rules.specs.Lists.{same_id, is_among, has_repeat, firsts, firsts_after, unless_among}
-use Rattle.sync_rules.specs.Facts.{Facts, Id, Row, Rows, pair_cmp, no_row, is_no_row, row_or, row_at, put_row, change_row, change_rows, row_heard, row_seen, row_acked, row_asked, row_offered, row_sent, row_tried, one_more_try, expiry_after, wait_for, contact_of, latency_of, after, after_all, nothing}
+use Rattle.sync_rules.specs.Facts.{Facts, Id, Row, Rows, pair_cmp, no_row, is_no_row, row_or, row_at, put_row, change_row, change_rows, row_heard, row_seen, row_acked, row_asked, row_offered, row_sent, row_tried, one_more_try, expiry_after, wait_for, contact_of, latency_of, after, after_all}
 use Rattle.sync_rules.specs.PeerLaws.{is_with, is_of, is_heard, is_shown_seen, is_asked, is_counted_from, acks, sends, tries, is_out, is_acked, is_answered, tries_stated, expiry_stated, never}
 use Rattle.sync_rules.proofs.Elements.{same_id-is, same_id_itself, same_id_swap}
 use Rattle.sync_rules.proofs.ScanLaws.{pair_total, pair_tied}
@@ -96,9 +96,6 @@ row_at_changes rows contact c id (x ∷ xs) g distinct =
     (λ e. sym (among_same xs x id e) ∙ parts.0))
 
 -- ---- the first occurrences of a list
-
-firsts_choice : (e s a n : Bool) → (s ≡ true → n ≡ e) → (a && not (s || n)) ≡ (a && not (s || n))
-firsts_choice e s a n h = refl
 
 -- seen: whether the first id is among the earlier ones; s: whether it is the one asked for; n: whether that is among the
 -- earlier ones; a: whether it is among the later ones
@@ -388,9 +385,3 @@ pub waits_all : (f : Facts) (es : List Entry) (contact : ℕ) (id : Id)
     → (row_at (after_all f es).rows contact id).tries ≡ 0 → (row_at (after_all f es).rows contact id).expiry ≡ 0
 waits_all f [] contact id was = was
 waits_all f (e ∷ es) contact id was = waits_all (after f e) es contact id (waits_one f contact id e was)
-
--- so it is in every list of entries, legal or not
-pub row_waits : (es : List Entry) (contact : ℕ) (id : Id)
-    → (row_at (after_all nothing es).rows contact id).tries ≡ 0 → (row_at (after_all nothing es).rows contact id).expiry ≡ 0
-row_waits es contact id =
-    waits_all nothing es contact id (λ none. ap (λ (o : Option Row). (row_or o).expiry) (fin_map.get-empty pair_cmp (contact, id)))

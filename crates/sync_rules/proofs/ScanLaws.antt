@@ -7,7 +7,6 @@ use Rattle.std.specs.Cmp.{IsTotalOrder, nat_cmp_total, unsigned_ties, both_tied}
 use Rattle.std.specs.Cmp.Lexicographic.{slice_cmp, nat_list_cmp_total, texts_ties}
 use Rattle.std.specs.Ordering.{nat_cmp, eq_by_cmp}
 use Rattle.std.proofs.lemmas.Cmp.{on_total, then_total}
-use Rattle.sync_ids.specs.Values.{GroupValue, MessageValue}
 use Rattle.sync_rules.specs.declared.entries.Entry.{Entry}
 use Rattle.sync_rules.specs.declared.entries.Entry.TheVariants as entry
 use Rattle.sync_rules.specs.declared.entries.Level.{Level}
@@ -15,7 +14,7 @@ use Rattle.sync_rules.specs.declared.entries.Level.TheVariants as level
 use Rattle.sync_rules.specs.Clients.{Meaning}
 use Rattle.sync_rules.specs.Lists.{same_id, is_among}
 use Rattle.sync_rules.specs.Facts.{Facts, Held, Known, Id, Pair, LevelMap, pair_cmp, after, after_all, after_batches, nothing, facts, entries_of, held_at, group_at, level_at, level_or, put_level, authored, arrived, kept_as, known_of, contact_of}
-use Rattle.sync_rules.specs.Steps.{step, first_step, first_or_next, next, verdict_for, verdict_by, kind_of_def, is_beside, is_elsewhere}
+use Rattle.sync_rules.specs.Steps.{step, first_step, first_or_next, next, is_beside, is_elsewhere}
 use Rattle.sync_rules.specs.EntryTests.{judges, delivers, invalidates}
 use Rattle.sync_rules.specs.Scans.{message_at, def_at, is_beside_message, is_elsewhere_message, message_of, def_of, message_named, def_named, first_of_two, first_message, first_message_in, first_def, first_def_in, any_entry, level_then, last_level, last_level_in, step_brought, first_step_of, first_step_in}
 use Rattle.sync_rules.proofs.Elements.{any-append}
@@ -231,13 +230,6 @@ pub next_found : (clients : Meaning) (j : List (List Entry)) → first_step_in c
 next_found clients j = sym (steps_after_batches clients (facts j) nothing j)
 
 -- ---- look-ups by what they find
-
-pub verdict_found : (clients : Meaning) (o : Option Known) (m : MessageValue) (def : GroupValue) → def_at o ≡ Some def
-    → verdict_for clients o m ≡ verdict_by clients (kind_of_def clients def) m
-verdict_found clients None m def e = cc
-verdict_found clients (Some g) m def e =
-    let same : g.def ≡ def = cc in
-    ap (λ (d : GroupValue). verdict_by clients (kind_of_def clients d) m) same
 
 pub beside_found : (group : Id) (o : Option Held) → is_beside_message group (message_at o) ≡ is_beside group o
 beside_found group None = refl

@@ -1,19 +1,14 @@
 -- How a journal began: what opens a brief account, and where its own kinds of entry stand.
-use Rattle.std.proofs.Common.{◌≡◌, ℕ, true, false, List, [], ◌∷◌, refl, sym, ◌∙◌, ap}
+use Rattle.std.proofs.Common.{◌≡◌, true, false, List, [], ◌∷◌, refl, sym, ◌∙◌, ap}
 use Rattle.std.specs.List.{list_all}
 use Rattle.std.proofs.lemmas.Bool.{and_parts, false≢true}
-use Rattle.sync_ids.specs.Values.{MessageValue}
 use Rattle.sync_rules.specs.declared.entries.Entry.{Entry}
 use Rattle.sync_rules.specs.declared.entries.Entry.TheVariants as entry
-use Rattle.sync_rules.specs.declared.entries.Tried.{Tried}
-use Rattle.sync_rules.specs.declared.states.Origin.{Origin}
 use Rattle.sync_rules.specs.declared.states.Start.{Start}
 use Rattle.sync_rules.specs.declared.states.Start.TheVariants as start
-use Rattle.sync_rules.specs.Clients.{Meaning}
-use Rattle.sync_rules.specs.Facts.{Facts, Id, after, after_all, after_batches, nothing, facts, entries_of, start_after}
+use Rattle.sync_rules.specs.Facts.{Facts, after, after_all, after_batches, nothing, facts, entries_of, start_after}
 use Rattle.sync_rules.specs.Allows.{is_opening}
 use Rattle.sync_rules.specs.CountLaws.{is_no_brief}
-use Rattle.sync_rules.specs.Meeting.{MeetsNoStep}
 use Rattle.sync_rules.proofs.Kept.{after_batches-is}
 
 -- ---- an entry that begins no brief account opens none
@@ -35,17 +30,3 @@ stays_closed_all f (e ∷ es) plain closed =
 pub facts_closed : (j : List (List Entry)) → list_all is_no_brief (entries_of j) ≡ true → is_opening (facts j).start ≡ false
 facts_closed j plain =
     ap (λ (f : Facts). is_opening f.start) (after_batches-is nothing j) ∙ stays_closed_all nothing (entries_of j) plain refl
-
--- ---- where the own kinds of a brief account stand
-
-pub brief_begins : (clients : Meaning) (f : Facts) (n : ℕ) → MeetsNoStep clients f (entry.Brief n) → f.start ≡ start.Empty
-brief_begins clients f n m = m
-
-pub kept_opens : (clients : Meaning) (f : Facts) (from : Origin) (x : MessageValue) → MeetsNoStep clients f (entry.Kept from x) → f.start ≡ start.Opening
-kept_opens clients f from x m = m.1
-
-pub tried_opens : (clients : Meaning) (f : Facts) (t : Tried) → MeetsNoStep clients f (entry.Tried t) → f.start ≡ start.Opening
-tried_opens clients f t m = m.1
-
-pub want_opens : (clients : Meaning) (f : Facts) (contact : ℕ) (id : Id) → MeetsNoStep clients f (entry.Want contact id) → f.start ≡ start.Opening
-want_opens clients f contact id m = m.1

@@ -4,7 +4,7 @@ use Rattle.std.proofs.Common.{Err, IfOk, refl, sym, ap, ◌∙◌, subst, inl, i
 use Rattle.std.specs.Option.{ForSome}
 use Rattle.std.proofs.lemmas.Bool.{or_parts}
 use Rattle.std.proofs.lemmas.List.Elements.{All-nil}
-use Rattle.outside.specs.Files.{Two, File, IsFileImage, IsImage, NothingPending, file_of, settled}
+use Rattle.outside.specs.Files.{Two, File, IsFileImage, IsImage, file_of, settled}
 use Rattle.outside.specs.Frames.{HasFrames, IsPayload, is_open, format_in, header_of, journal_file}
 use Rattle.outside.specs.Links.{Links, sent_of}
 use Rattle.outside.specs.Disk.{RelatesTold}
@@ -195,21 +195,6 @@ look_moments o0 o1 o2 first run becomes looks two told =
 open_same : (two at : Two File) → SyncsBoth two at → has_open at ≡ has_open two
 open_same two at settles = ap has_open settles
 
-pub free_from : (two at : Two File) → SyncsBoth two at → has_open two ≡ false → IsFree at
-free_from two at settles none = record {
-  first_settled = subst (λ (t : Two File). NothingPending t 0) (sym settles) refl;
-  second_settled = subst (λ (t : Two File). NothingPending t 1) (sym settles) refl;
-  none_open = open_same two at settles ∙ none;
-}
-
-pub begins_first : (two at end : Two File) → SyncsBoth two at → BeginsJournal at end
-    → BeginsJournal two end
-begins_first two at end settles begins = record {
-  first = begins.first;
-  second = begins.second ∙ ap (λ (t : Two File). settled t.second.now) settles;
-  each_image = begins.each_image;
-}
-
 -- a moment of the later calls
 pub moment_first : (o : Outside) (two at : Two File) (links : Links) (m : Moment)
     → o.files ≡ Some two → SyncsBoth two at → InitMoment at links m → InitMoment two links m
@@ -253,15 +238,6 @@ begun_becomes stand (Some a) None o2 free first second = absurd first
 begun_becomes stand (Some a) (Some b) None free first second = absurd second
 begun_becomes stand (Some a) (Some b) (Some c) free first second =
     begins_from stand a b c (free a refl) first.other second
-
-pub init_becomes : (o0 o1 o2 : Option (Two File)) → RelatesTold SyncsBoth o0 o1
-    → RelatesTold BeginsJournal o1 o2 → RelatesTold BeginsJournal o0 o2
-init_becomes None None None first second = tt
-init_becomes None None (Some c) first second = absurd second
-init_becomes None (Some b) o2 first second = absurd first
-init_becomes (Some a) None o2 first second = absurd first
-init_becomes (Some a) (Some b) None first second = absurd second
-init_becomes (Some a) (Some b) (Some c) first second = begins_first a b c first second
 
 pub found_first : (result : Result Bool DiskFault) (o0 o1 : Option (Two File))
     → RelatesTold SyncsBoth o0 o1 → IfOk result (λ found. ForSome o1 (λ two. has_open two ≡ found))

@@ -1,5 +1,5 @@
 -- The two formats: their numbers, and sums of the bytes of steps.
-use Rattle.std.proofs.Common.{◌≡◌, ℕ, ◌+◌, ◌*◌, ◌<◌, ◌≤◌, Bool, true, false, cond, refl, ap, arith}
+use Rattle.std.proofs.Common.{◌≡◌, ℕ, ◌+◌, ◌*◌, ◌≤◌, Bool, true, false, cond, refl, ap, arith}
 use Rattle.std.specs.Prelude.{◌==◌, ◌||◌, Option, Some, None}
 use Rattle.std.proofs.lemmas.Bool.{eqb-true}
 use Rattle.frame_journal.specs.Journal.{is_format}
@@ -42,14 +42,6 @@ unfolding some_format
 unknown_format n e = unknown_by (n == 1) (n == 2) e
 
 -- ---- the bytes of steps
-
-pub step_more : (f : Format) (i n : ℕ) → i < n → step_len f * i + step_len f ≤ step_len f * n
-step_more kind.Whole i n less = omega (arith, less)
-step_more kind.Short i n less = omega (arith, less)
-
-pub step_next : (f : Format) (i : ℕ) → step_len f * (i + 1) ≡ step_len f * i + step_len f
-step_next kind.Whole i = omega arith
-step_next kind.Short i = omega arith
 
 pub steps_some : (f : Format) (n : ℕ) → 1 ≤ n → 1 ≤ step_len f * n
 steps_some kind.Whole n some = omega (arith, some)

@@ -40,10 +40,6 @@ behind_header header rest long =
           ∙ ap (from_be_bytes w64) (take-append-le 8 (drop 6 header) rest eight);
     }
 
-whole_is : (header frames behind : List ℕ)
-    → header ++ frames ++ behind ≡ header ++ (frames ++ behind)
-whole_is header frames behind = append_assoc header frames behind
-
 framed_header : (bytes header : List ℕ) (payloads : List (List ℕ)) → HasFrames bytes header payloads
     → SameHeader bytes header
 framed_header bytes header payloads frames =

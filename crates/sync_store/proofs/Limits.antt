@@ -30,10 +30,6 @@ pub counts_more : (format : Format) (end later : ℕ) → end + 1 ≤ later
 counts_more kind.Whole end later far = far
 counts_more kind.Short end later far = omega (arith, far)
 
-pub counts_reach : (format : Format) (end : ℕ) → end ≤ counts_to format end
-counts_reach kind.Whole end = omega arith
-counts_reach kind.Short end = omega arith
-
 pub counts_few : (format : Format) (end : ℕ) → end ≤ MAX_JOURNAL
     → counts_to format end ≤ MAX_JOURNAL + MAX_JOURNAL
 counts_few kind.Whole end few = omega (arith, few)

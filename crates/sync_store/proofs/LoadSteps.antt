@@ -7,7 +7,7 @@ use Rattle.sync_rules.specs.Clients.{Meaning}
 use Rattle.sync_rules.specs.Facts.{Facts, after_all, facts}
 use Rattle.sync_rules.specs.Allows.{allows}
 use Rattle.outside.specs.Files.{Two, File, file_of, read_files}
-use Rattle.outside.specs.Frames.{broken, closed, format_in, frame_at, framed, generation_in}
+use Rattle.outside.specs.Frames.{broken, format_in, frame_at, framed, generation_in}
 use Rattle.outside.specs.declared.disk.Place.{Place}
 use Rattle.frame_journal.specs.Journal.{JournalValue}
 use Rattle.frame_journal.specs.Next.{IsNextFrame, MovesReader, NextFrame}
@@ -211,22 +211,6 @@ room_refused clients files j s place so_far at_end refused two told =
     (front_full clients (read_files two) j.file (format_meant j.format) read.done j.end read.front
     (at_end two told) over) refused.0 refused.1
 
--- ---- the closed gate
-
-pub turn_closed : (clients : Meaning) (files files' : Option (Two File)) (j j' : JournalValue)
-    (s : StateValue) → PlayedSoFar clients files j s → files' ≡ files → MovesReader j j' (Ok false)
-    → ((two : Two File) → files ≡ Some two
-    → (frame_at (file_of two j.file).now (j.end - 1) ≡ closed) × (j' ≡ j))
-    → PlayedSoFar clients files' j' s × IsAtJournalEnd files' j' × (j'.file ≡ j.file)
-turn_closed clients files files' j j' s so_far same moves next =
-    let At : JournalValue → Type 0 = λ v. PlayedSoFar clients files' v s × IsAtJournalEnd files' v
-    × (v.file ≡ j.file) in
-    let Told : Option (Two File) → Type 0 = λ f. PlayedSoFar clients f j s in
-    let gate : IsAtJournalEnd files' j =
-    λ two told. ap (λ (b : List ℕ). frame_at b (j.end - 1)) (as_read two j.file)
-    ∙ (next two (sym same ∙ told)).0 in
-    subst At (sym moves) (subst Told (sym same) so_far, gate, refl)
-
 -- ---- the end of the journal
 
 pub all_read : (clients : Meaning) (files : Option (Two File)) (j : JournalValue) (s : StateValue)
@@ -274,22 +258,6 @@ turn_unread clients files files' j j' s to frame.DiskFault so_far same next = tt
 turn_unread clients files files' j j' s to (frame.Damaged place) so_far same next =
     turn_broken clients files files' j s place so_far same (λ two told. let there = next two told in
     (there.0, there.1, there.2))
-
--- playing a batch makes no call on the disk
-pub play_faultless : (clients : Meaning) (j : JournalValue) (s s' : StateValue) (to : List ℕ)
-    (e : LoadFault) → PlaysFrame clients j s s' to (Err e) → e ≡ load.DiskFault → ⊥
-play_faultless clients j s s' to e played fault =
-    let P : LoadFault → Type 0 = λ x. PlaysFrame clients j s s' to (Err x) in subst P fault played
-
-pub room_faultless : (j : JournalValue) (s : StateValue) (r : Result (Unit {0}) LoadFault)
-    → HasItsRoom j s r → r ≡ Err load.DiskFault → ⊥
-room_faultless j s r room fault =
-    let P : Result (Unit {0}) LoadFault → Type 0 = λ x. HasItsRoom j s x in subst P fault room
-
--- a frame that was read has a place
-pub place_read : (clients : Meaning) (files : Option (Two File)) (j j' : JournalValue)
-    (s : StateValue) → PlayedSoFar clients files j s → MovesReader j j' (Ok true) → 14 ≤ j'.last
-place_read clients files j j' s so_far moves = omega (arith, so_far.started, moves.2)
 
 -- ---- the answers of a reader of frames
 

@@ -1,6 +1,6 @@
 -- A journal written anew, as the store sees it.
-use Rattle.std.proofs.Common.{◌≡◌, ℕ, ◌+◌, true, false, List, [], ◌++◌, Option, Some, Result, Ok}
-use Rattle.std.proofs.Common.{Err, refl, sym, ap, ◌∙◌, subst, arith, append-nil}
+use Rattle.std.proofs.Common.{◌≡◌, ℕ, true, false, List, [], ◌++◌, Option, Some, Result, Ok}
+use Rattle.std.proofs.Common.{Err, refl, sym, ap, ◌∙◌, subst, append-nil}
 use Rattle.std.specs.List.{AllByRecursion}
 use Rattle.std.specs.Option.{ForSome}
 use Rattle.outside.specs.Disk.{RelatesTold}
@@ -13,12 +13,9 @@ use Rattle.frame_journal.specs.Journal.{JournalValue}
 use Rattle.sync_rules.specs.declared.entries.Entry.{Entry}
 use Rattle.sync_rules.specs.Clients.{Meaning}
 use Rattle.sync_rules.specs.Facts.{facts, nothing}
-use Rattle.entry_codec.specs.declared.naming.Format.{Format}
-use Rattle.entry_codec.specs.declared.naming.Format.TheVariants as kind
 use Rattle.entry_codec.specs.Naming.{format_of}
 use Rattle.entry_codec.specs.Payloads.{journal_end, payloads}
 use Rattle.entry_codec.specs.Spelling.{IsOfFormat}
-use Rattle.entry_codec.specs.Standing.{room_of}
 use Rattle.entry_codec.proofs.FormatKinds.{short_journal}
 use Rattle.entry_codec.specs.StandingLaws.{JournalsStand}
 use Rattle.journal_state.specs.Whole.{StateValue}
@@ -27,16 +24,14 @@ use Rattle.journal_migration.specs.Migrating.{MigratesJournal, StandsStill}
 use Rattle.journal_migration.specs.Starting.{IsSettledBoth}
 use Rattle.journal_migration.specs.declared.fault.MigrationFault.{MigrationFault}
 use Rattle.journal_migration.specs.declared.fault.MigrationFault.TheVariants as migration
-use Rattle.outside.specs.declared.limits.TheConstants.{MAX_JOURNAL}
 use Rattle.sync_store.specs.Fitting.{FitsFiles, FitsSome}
 use Rattle.sync_store.specs.Migrations.{IsInOldFormat, MovesJournal}
 use Rattle.sync_store.specs.Moments.{IsBetween, JournalMoment}
 use Rattle.sync_store.specs.Runs.{LeadsBy}
-use Rattle.sync_store.specs.Store.{HasNumbers, IsStore, StoreValue, counts_to, format_meant}
+use Rattle.sync_store.specs.Store.{IsStore, StoreValue, format_meant}
 use Rattle.sync_store.specs.Store.{written_in}
 use Rattle.sync_store.proofs.FitSteps.{IsSame, leads_none, true≢false}
-use Rattle.sync_store.proofs.FormatLaws.{short_room, whole_is_one}
-use Rattle.sync_store.proofs.Limits.{numbers_wider}
+use Rattle.sync_store.proofs.FormatLaws.{whole_is_one}
 
 -- ---- no call of the disk
 
@@ -102,24 +97,6 @@ moves_on s n old still next = record {
   limit = refl;
   closed = still;
 }
-
-pub moved_store : (s : StoreValue) (n : JournalValue) → IsInOldFormat s → IsStore s
-    → IsNextJournal s.file s.generation s.end n → IsStore (moved_to s n)
-moved_store s n old store next =
-    let f = s.state.facts in
-    let short : room_of (format_meant n.format) f ≡ room_of kind.Short f =
-    ap (λ k. room_of (format_meant k) f) next.format_is in
-    let whole : room_of (written_in s) f ≡ room_of kind.Whole f =
-    ap (λ (k : Format). room_of k f) old.whole in
-    let numbers : HasNumbers f s.end =
-    subst (λ (k : Format). HasNumbers f (counts_to k s.end)) old.whole store.numbers in
-    record {
-      limited = store.limited;
-      roomy = omega (arith, store.roomy, next.no_longer, short, whole, short_room f);
-      numbers =
-          subst (λ k. HasNumbers f (counts_to (format_meant k) n.end)) (sym next.format_is)
-          (numbers_wider f s.end (MAX_JOURNAL + n.end) numbers (omega (arith, store.roomy)));
-    }
 
 -- the disk fits the store with its journal there
 pub fits_at : (clients : Meaning) (s : StoreValue) (state : StateValue) (n : JournalValue)

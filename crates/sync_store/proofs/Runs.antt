@@ -1,13 +1,12 @@
 -- Runs of a store's calls, one behind the other: for whoever calls a store more than once.
 use Rattle.std.proofs.Common.{◌≡◌, ℕ, ◌≤◌, true, false, List, [], ◌∷◌, ◌++◌, Some, Result, Ok, Err}
-use Rattle.std.proofs.Common.{refl, sym, ap, ◌∙◌, subst, inl, inr, append-nil, arith}
+use Rattle.std.proofs.Common.{refl, sym, ap, ◌∙◌, subst, append-nil, arith}
 use Rattle.std.specs.Prelude.{IsErrOf}
 use Rattle.outside.specs.Faults.{CountRose}
 use Rattle.outside.specs.Files.{Two, File}
-use Rattle.outside.specs.Links.{Links, sent_of}
+use Rattle.outside.specs.Links.{sent_of}
 use Rattle.outside.specs.Outside.{Outside, DiskRun, MakesAtMost, MakesCalls, MakesJust}
-use Rattle.outside.proofs.CallSteps.{moments_map, moments_none, moments_then, run_none, run_then}
-use Rattle.outside.proofs.CallSteps.{told_back, told_on}
+use Rattle.outside.proofs.CallSteps.{moments_none, run_none, run_then}
 use Rattle.sync_rules.specs.declared.entries.Entry.{Entry}
 use Rattle.sync_rules.specs.Clients.{Meaning}
 use Rattle.sync_rules.specs.Facts.{Facts, after_batches}
@@ -20,9 +19,8 @@ use Rattle.entry_codec.specs.Standing.{room_of}
 use Rattle.sync_store.specs.Store.{StoreValue, HasNumbers, IsStore, counts_to, format_meant}
 use Rattle.sync_store.specs.Store.{written_in}
 use Rattle.sync_store.specs.Commits.{AnswersCommit, KeepsStore, UnaskedDisk, needed}
-use Rattle.sync_store.specs.Compactions.{IsBetweenOrBrief, IsOrBrief, LeadsToBrief, compacted_by}
-use Rattle.sync_store.specs.Fitting.{FitsFiles, FitsSome, ImagesStand}
-use Rattle.sync_store.specs.Moments.{RunsCommit, IsBetween, JournalMoment, LeadsTo}
+use Rattle.sync_store.specs.Fitting.{FitsFiles, ImagesStand}
+use Rattle.sync_store.specs.Moments.{RunsCommit, IsBetween, JournalMoment}
 use Rattle.sync_store.specs.Runs.{AddsBatch, ExtendsSo, HasExtended, LeadsBy, RunsBy, committed_by}
 use Rattle.sync_store.specs.Settling.{HasSettled, SettlesSo}
 use Rattle.sync_store.proofs.FitSteps.{IsSame, fits_same, true≢false}
@@ -209,67 +207,6 @@ pub leads_both : (clients : Meaning) (s0 s1 s2 : StoreValue) (o0 o1 o2 : Outside
     → LeadsBy clients s1 s2 o1 o2 ys → LeadsBy clients s0 s2 o0 o2 (xs ++ ys)
 leads_both clients s0 s1 s2 o0 o1 o2 xs ys still run first second =
     leads_then clients s0 s1 s2 o0 o1 o2 xs ys still run first second
-
--- ---- a compaction behind a run
-
-between_or_brief : (j more whole : List (List Entry)) → IsOrBrief (j ++ more) whole
-    → IsBetweenOrBrief j more whole
-between_or_brief j more whole (inl own) =
-    inl (record { front = more; rest = []; parts = sym (append-nil more); is = own })
-between_or_brief j more whole (inr short) = inr short
-
--- at each moment the files stand for the journal with a front of the batches, or for the brief
--- account of it with all of them
-pub leads_compacted : (clients : Meaning) (s0 s1 s2 : StoreValue)
-    (result : Result (Unit {0}) StoreFault) (o0 o1 o2 : Outside) (more : List (List Entry))
-    → s1.closed ≡ false → DiskRun o0 o1
-    → LeadsBy clients s0 s1 o0 o1 more → LeadsToBrief clients s1 s2 result o1 o2 → (two : Two File)
-    → o0.files ≡ Some two → (j : List (List Entry)) → FitsFiles clients s0 j two
-    → LeadsTo clients (IsBetweenOrBrief j more) (λ whole. whole ≡ compacted_by (j ++ more) result)
-    s2 o0 o2
-leads_compacted clients s0 s1 s2 result o0 o1 o2 more still run first second two told j fits =
-    let begun = first two told j fits in
-    let there = told_on o0 o1 two run.same_told told in
-    let mid = begun.ends still there.0 there.1 in
-    let later =
-    second there.0 there.1 (j ++ more)
-    (subst (λ (k : List (List Entry)). FitsFiles clients s1 k there.0) mid.1 mid.2) in
-    let same : sent_of o1.links.told ≡ sent_of o0.links.told =
-    ap (λ (l : Links). sent_of l.told) run.same_links in
-    let sent0 = sent_of o0.links.told in
-    record {
-      moments =
-          moments_then o0 o1 o2 (JournalMoment clients (IsBetweenOrBrief j more) sent0)
-          (moments_map o0 o1 (JournalMoment clients (IsBetween j more) sent0)
-          (JournalMoment clients (IsBetweenOrBrief j more) sent0)
-          (λ m moment. record {
-            whole = moment.whole;
-            has = inl moment.has;
-            stands_for = moment.stands_for;
-            nothing_sent = moment.nothing_sent;
-          }) begun.moments)
-          (moments_map o1 o2 (JournalMoment clients (IsOrBrief (j ++ more)) (sent_of o1.links.told))
-          (JournalMoment clients (IsBetweenOrBrief j more) sent0)
-          (λ m moment. record {
-            whole = moment.whole;
-            has = between_or_brief j more moment.whole moment.has;
-            stands_for = moment.stands_for;
-            nothing_sent = moment.nothing_sent ∙ same;
-          }) later.moments);
-      ends = later.ends;
-    }
-
--- ---- the end
-
--- at the end the disk fits the store
-pub runs_fits : (clients : Meaning) (s new : StoreValue) (o o' : Outside) (more : List (List Entry))
-    → RunsBy clients s new o o' more → FitsSome clients s o.files → new.closed ≡ false
-    → FitsSome clients new o'.files
-runs_fits clients s new o o' more runs fits still two' told' =
-    let there = told_back o o' two' runs.run.same_told told' in
-    let begun = fits there.0 there.1 in
-    let end = (runs.leads there.0 there.1 begun.0 begun.1).ends still two' told' in
-    (end.0, end.2)
 
 -- ---- a batch, and settling behind it
 

@@ -74,11 +74,6 @@ steps_in-append (x ∷ xs) ys = omega (arith, steps_in-append xs ys)
 
 -- ---- full batches
 
-pub filled_all : (xs : List (List Entry)) → AllByRecursion IsFullBatch xs → AreFilled xs
-filled_all [] all = tt
-filled_all (x ∷ []) all = tt
-filled_all (x ∷ y ∷ ys) all = (all.0, filled_all (y ∷ ys) all.1)
-
 one_filled : (more : List (List Entry)) → length more ≤ 1 → AreFilled more
 one_filled [] few = tt
 one_filled (x ∷ []) few = tt

@@ -18,7 +18,7 @@ use Rattle.sync_rules.specs.declared.states.Refused.{Refused}
 use Rattle.sync_rules.specs.declared.states.Refused.TheVariants as refused
 use Rattle.sync_rules.specs.Clients.{Meaning}
 use Rattle.sync_rules.specs.Facts.{Facts, Id, facts}
-use Rattle.entry_codec.specs.Standing.{Standing, damaged, journal, no_store, stands}
+use Rattle.entry_codec.specs.Standing.{damaged, journal, no_store}
 use Rattle.sync_store.specs.Begin.{has_open}
 use Rattle.sync_words.specs.declared.outcome.Outcome.{Outcome}
 use Rattle.sync_words.specs.declared.outcome.Outcome.TheVariants as outcome
@@ -148,15 +148,6 @@ HasRooms clients contact group j =
 -- and for the brief account
 abbrev HasBriefRoom : Meaning → List (List Entry) → Type 0
 HasBriefRoom clients j = HoweverSettled clients j (λ whole f. brief_len whole ≤ MAX_JOURNAL)
-
--- a journal that files stand for is the one that they stand for
-one_journal : (clients : Meaning) (files : Option (Two File)) (two : Two File)
-    (j : List (List Entry)) (standing : Standing) → files ≡ Some two → ReadsAs clients files j
-    → stands clients (read_files two) ≡ standing → standing ≡ journal j
-one_journal clients files two j standing told reads is =
-    let both : Some reads.0 ≡ Some two = sym reads.1 ∙ told in
-    let same : reads.0 ≡ two = cc in
-    sym is ∙ ap (λ (t : Two File). stands clients (read_files t)) (sym same) ∙ reads.2
 
 -- a generation was left
 not_spent : {P : Type 0} (files : Option (Two File)) (two two' : Two File) → MayMigrate files

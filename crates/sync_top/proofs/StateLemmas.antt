@@ -26,7 +26,6 @@ use Rattle.sync_words.specs.declared.outcome.Outcome.{Outcome}
 use Rattle.sync_words.specs.declared.outcome.Outcome.TheVariants as outcome
 use Rattle.sync_words.specs.declared.status.Status.{Status}
 use Rattle.sync_words.specs.Outcomes.{came_to, status_of}
-use Rattle.sync_words.specs.declared.link_words.LinkWords.{LinkWords}
 use Rattle.commands.specs.Reading.{Asked, IsReadAs, words_came}
 use Rattle.commands.specs.Reading.Asked.{Usage, Do}
 use Rattle.commands.specs.declared.command.Command.{Command}
@@ -39,7 +38,7 @@ use Rattle.store_commands.specs.Plans.{group_plan}
 use Rattle.sharing_commands.specs.declared.saying.Speech.{Speech}
 use Rattle.sharing_commands.specs.Sayings.{say_plan}
 use Rattle.sync_top.specs.declared.input.TheConstants.{MAX_INPUT}
-use Rattle.sync_top.specs.Run.{AsksSync, WordsComeTo, DoesNothing, KeepsHost, ReportsOutcome}
+use Rattle.sync_top.specs.Run.{WordsComeTo, DoesNothing, ReportsOutcome}
 use Rattle.sync_top.specs.Run.{ReadsStream, ReadsWhole, Streams, TriesClient, outcome_of}
 use Rattle.sync_top.specs.States.{TellsStates, TellsGroup, TellsWhole}
 
@@ -159,13 +158,6 @@ words_come clients words o input input' out out' (fault.Usage place) is idle qui
 words_come clients words o input input' out out' fault.Memory is idle quiet =
     memory_comes clients words o input input' out out' idle quiet
 
--- a host that nothing was done to is as before
-pub keeps_host : {H : Type 0} (words : Asked) (host : H) → KeepsHost words host host
-keeps_host (Usage place) host = refl
-keeps_host (Do (command.Try name descriptor)) host = refl
-keeps_host (Do command.Records) host = refl
-keeps_host (Do _) host = tt
-
 -- ---- a group
 
 -- the definition that the words give
@@ -242,28 +234,6 @@ pub as_command : (clients : Meaning) (asked is : Command) (old new : Outside)
 as_command clients asked is old new input input' out out' came same comes =
     subst (λ (a : Command). WordsComeTo clients (Do a) old new input input' out out' came)
     (sym same) comes
-
--- what is said of an outcome is said of one that is it
-pub came_as : (clients : Meaning) (asked : Command) (old new : Outside)
-    (input input' out out' : Stream) (came given : Outcome) → given ≡ came
-    → WordsComeTo clients (Do asked) old new input input' out out' came
-    → WordsComeTo clients (Do asked) old new input input' out out' given
-came_as clients asked old new input input' out out' came given same comes =
-    subst (λ (o : Outcome). WordsComeTo clients (Do asked) old new input input' out out' o)
-    (sym same) comes
-
--- a command that is not `sync` does not ask for a run
-pub asks_none : (asked : Command)
-    → ((turns quiet : ℕ) (links : List LinkWords) → asked ≡ command.Sync turns quiet links → ⊥)
-    → AsksSync (Do asked) → ⊥
-asks_none (command.Sync turns quiet links) other asks = other turns quiet links refl
-asks_none _ other asks = asks
-
--- the outcome that was reported is that of the command
-pub reports_as : (came came' : Outcome) (err err' : Stream) (given : Status) → came ≡ came'
-    → ReportsOutcome came err err' given → ReportsOutcome came' err err' given
-reports_as came came' err err' given same reports =
-    subst (λ (o : Outcome). ReportsOutcome o err err' given) same reports
 
 -- what goes on by `?`
 passed : (P : Outcome → Type 0) (r : Result (Unit {0}) Outcome) (x : Outcome) → IsErrAnd r

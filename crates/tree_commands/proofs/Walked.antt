@@ -1,24 +1,19 @@
 -- A part of the walk of a tree, as it is shown.
-use Rattle.std.proofs.Common.{◌≡◌, ℕ, ◌+◌, ◌-◌, ◌<◌, true, false, if◌then◌else◌, List, [], length}
+use Rattle.std.proofs.Common.{◌≡◌, ℕ, ◌+◌, ◌-◌, ◌<◌, List, [], length}
 use Rattle.std.proofs.Common.{map, take, drop, min, Option, get_or, sym, ap, ◌∙◌}
-use Rattle.std.proofs.Common.{subst, arith, is_some}
+use Rattle.std.proofs.Common.{subst, arith}
 use Rattle.std.specs.List.{Contains, flat_map}
 use Rattle.std.specs.Prelude.{OnOk, Result, Ok, Err}
 use Rattle.std.proofs.lemmas.List.{get_or-drop, get_or-take, get_or_default, length-take}
 use Rattle.std.proofs.lemmas.List.{length-map}
 use Rattle.std.proofs.Common.{◌++◌, length-drop}
-use Rattle.std.proofs.lemmas.Option.{get_or_from_slice_get}
 use Rattle.reply_tree.specs.Walks.{HasOneWalk, IsSortedWalk, IsWindow, walk_of}
-use Rattle.sync_rules.specs.declared.states.Refused.TheVariants as refused
 use Rattle.sync_rules.specs.Clients.{Meaning}
-use Rattle.sync_rules.specs.Facts.{Facts, Id, group_at}
-use Rattle.store_commands.specs.Shown.{denies, shows}
-use Rattle.store_commands.proofs.Lines.{more_lines}
+use Rattle.sync_rules.specs.Facts.{Facts, Id}
 use Rattle.journal_state.specs.Whole.{id_at}
-use Rattle.tree_commands.specs.declared.tree.Window.{Window}
 use Rattle.tree_commands.specs.Gathered.{IsThreadOf}
 use Rattle.tree_commands.specs.Threads.{AreItemNumbers, ThreadValue}
-use Rattle.tree_commands.specs.Trees.{delivered_in, item_line, parents_of, tree_shown, walk_text}
+use Rattle.tree_commands.specs.Trees.{item_line, parents_of, walk_text}
 use Rattle.tree_commands.proofs.Parents.{parents_long, replies_earlier}
 
 -- ---- numbers of items
@@ -68,35 +63,7 @@ module _ (clients : Meaning) (f : Facts) (ids : List Id) (t : ThreadValue)
       ∙ ap (λ (x : List (Option ℕ)). flat_map (item_line ids x) items) of.parents
       ∙ ap (λ (x : List ℕ). flat_map (item_line ids ps) x) items_are
 
--- ---- what is shown
-
-pub shown_known : (clients : Meaning) (f : Facts) (w : Window)
-    → is_some (group_at f.groups w.group) ≡ true
-    → tree_shown clients w f ≡ shows
-    (walk_text (delivered_in f w.group) (parents_of clients f (delivered_in f w.group)) w.from
-    w.count)
-shown_known clients f w known =
-    ap (λ b. if b then shows
-    (walk_text (delivered_in f w.group) (parents_of clients f (delivered_in f w.group)) w.from
-    w.count) else denies refused.UnknownGroup) known
-
-pub shown_unknown : (clients : Meaning) (f : Facts) (w : Window)
-    → is_some (group_at f.groups w.group) ≡ false
-    → tree_shown clients w f ≡ denies refused.UnknownGroup
-shown_unknown clients f w unknown =
-    ap (λ b. if b then shows
-    (walk_text (delivered_in f w.group) (parents_of clients f (delivered_in f w.group)) w.from
-    w.count) else denies refused.UnknownGroup) unknown
-
 -- ---- lines
-
--- one line more
-pub more_line : (line : ℕ → List ℕ) (items : List ℕ) (n : ℕ) (start old new : List ℕ)
-    → n < length items → old ≡ start ++ flat_map line (take n items)
-    → new ≡ old ++ line (get_or items n 0) → new ≡ start ++ flat_map line (take (n + 1) items)
-more_line line items n start old new within before more =
-    more_lines line items n start old new within before
-    (λ x e. more ∙ ap (λ (y : ℕ). old ++ line y) (get_or_from_slice_get items n x 0 e))
 
 -- what was appended is said in other words
 pub on_lines : {T E : Type 0} (r : Result T E) (old new lines text : List ℕ) → lines ≡ text
