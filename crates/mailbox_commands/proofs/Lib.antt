@@ -1,4 +1,3 @@
-mod Errands
 mod Early
 mod Taken
 mod Sent

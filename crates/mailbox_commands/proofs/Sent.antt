@@ -37,12 +37,12 @@ use Rattle.store_commands.specs.Show.{PrintsText, LeavesFilesSo}
 use Rattle.store_commands.specs.Stopping.{NeverReads}
 use Rattle.store_commands.proofs.Stopped.{never_read, stops_none}
 use Rattle.mailbox_commands.specs.declared.sending.Sending.{Sending}
-use Rattle.mailbox_commands.specs.Errands.{mailbox_test}
-use Rattle.mailbox_commands.specs.Running.{LacksRoom, RunsErrand}
+use Rattle.mailbox_commands.specs.Tests.{mailbox_test}
+use Rattle.store_commands.specs.Running.{LacksRoom, RunsErrand}
 use Rattle.mailbox_commands.specs.Sending.{HasSentMail, TellsSent}
 use Rattle.mailbox_commands.specs.Sending.{WritesWhole, out_errand}
-use Rattle.mailbox_commands.proofs.Errands.{errand_loaded, errand_printed, loaded_as_is, read_as_is}
-use Rattle.mailbox_commands.proofs.Taken.{prints_plain}
+use Rattle.store_commands.proofs.Errands.{errand_loaded, errand_printed, loaded_as_is}
+use Rattle.store_commands.proofs.Errands.{prints_plain, read_as_is}
 
 abbrev Batches : Type 0
 Batches = List (List Entry)
@@ -201,7 +201,7 @@ sent_printed law clients asked now s s1 s2 o o1 o2 out out' u v to to' given cam
     errand_printed clients (out_errand clients asked now) s s1 s2 o o1 o2 out out' u v given came
     limited run settled
     tells.does (text_is law clients asked now s1 s2 o1 o2 to to' given v tells empty same)
-    (prints_plain given given out out' came refl printed)
+    (prints_plain given out out' came printed)
 
 -- ---- the command
 
@@ -250,8 +250,8 @@ mailed_read clients asked now o o1 oc o2 out out' s came run rests opened tested
         calls = calls_then o oc o2 (calls_link _ o o1 oc run.calls call) ran.run.calls;
       };
       did =
-          errand_loaded clients asked.contact (out_errand clients asked now) o oc o2 out out' s came
-          later
+          errand_loaded clients (λ f. mailbox_test f asked.contact) (out_errand clients asked now) o
+          oc o2 out out' s came later
           (λ two files. read_as_is now two o o1 oc
           (loaded_as_is two o o1 run files (rests two files)) call clock)
           opened tested ran;

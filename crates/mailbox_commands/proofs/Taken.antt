@@ -35,16 +35,16 @@ use Rattle.sync_words.specs.Outcomes.{came_to}
 use Rattle.store_commands.specs.Commit.{SettlesAnew}
 use Rattle.entry_codec.specs.Standing.{stands}
 use Rattle.store_commands.specs.Load.{HasFacts, IsLoaded, LoadKeeps, LoadedBy, MayExtend}
-use Rattle.store_commands.specs.Show.{PrintsText, LeavesFilesSo}
+use Rattle.store_commands.specs.Show.{LeavesFilesSo}
 use Rattle.store_commands.proofs.Stopped.{input_unread, stops_memory, stops_none, stops_too_much}
 use Rattle.store_commands.proofs.Stopped.{stops_unread}
-use Rattle.mailbox_commands.specs.Errands.{mailbox_test}
+use Rattle.mailbox_commands.specs.Tests.{mailbox_test}
 use Rattle.mailbox_commands.specs.Laws.{MailIsBoxed}
-use Rattle.mailbox_commands.specs.Running.{DoesErrand, FailsToPrint, LacksRoom, PrintsOut}
-use Rattle.mailbox_commands.specs.Running.{RunsErrand}
+use Rattle.store_commands.specs.Running.{DoesErrand, FailsToPrint, LacksRoom, PrintsOut}
+use Rattle.store_commands.specs.Running.{RunsErrand}
 use Rattle.mailbox_commands.specs.Taking.{HasTakenMail, IsInput, IsMail, IsNextTake, ReadsNextBatch}
 use Rattle.mailbox_commands.specs.Taking.{TellsEnd, in_errand, outcome_at, taken_text}
-use Rattle.mailbox_commands.proofs.Errands.{errand_loaded, errand_printed, loaded_as_is}
+use Rattle.store_commands.proofs.Errands.{errand_loaded, errand_printed, loaded_as_is}
 
 abbrev Batches : Type 0
 Batches = List (List Entry)
@@ -239,22 +239,6 @@ prints_end e text given out out' came is same written =
     prints_at e text out out' came is
     (subst (λ (t : List ℕ). Appends out.bytes out'.bytes t) same written)
 
--- what is printed by bytes alone, where that failed
-prints_short : (comes : Outcome) (text : List ℕ) (out out' : Stream) (came : Outcome)
-    → PrintsText text out out' came
-    → (came ≡ outcome.Done → comes ≡ outcome.Done) → PrintsOut comes text out out' came
-prints_short comes text out out' outcome.Done printed is = (is refl, printed)
-prints_short comes text out out' outcome.WriteFault printed is = printed
-prints_short comes text out out' outcome.Memory printed is = printed
-prints_short comes text out out' _ printed is = absurd printed
-
-pub prints_plain : (text given : List ℕ) (out out' : Stream) (came : Outcome) → given ≡ text
-    → PrintsText given out out' came → PrintsOut outcome.Done text out out' came
-prints_plain text given out out' came same printed =
-    prints_short outcome.Done text out out' came
-    (subst (λ (t : List ℕ). PrintsText t out out' came) same printed)
-    (λ is. refl)
-
 -- the bytes failed to go out
 fails_short : (comes : Outcome) (text : List ℕ) (out out' : Stream) (came : Outcome)
     → FailsToPrint text out out' came
@@ -377,7 +361,7 @@ taken_read clients contact o o1 o2 input input' out out' s items bytes came run 
       reads = subst (IsMail input input') (sym is) mail;
       run = run_then o o1 o2 run ran.run;
       did =
-          errand_loaded clients contact (in_errand clients contact bytes) o o1 o2 out out' s came
-          run.later
+          errand_loaded clients (λ f. mailbox_test f contact) (in_errand clients contact bytes) o o1
+          o2 out out' s came run.later
           (λ two files. loaded_as_is two o o1 run files (rests two files)) opened tested ran;
     })

@@ -7,7 +7,7 @@ use Rattle.sync_rules.specs.Legal.{AllSettling, Legal}
 use Rattle.sync_rules.specs.Steps.{IsSettled}
 use Rattle.mailbox_laws.specs.Boxes.{ReadsBox}
 use Rattle.mailbox_core.specs.Files.{box_records}
-use Rattle.mailbox_commands.specs.Errands.{Errand}
+use Rattle.store_commands.specs.Errands.{Errand}
 use Rattle.mailbox_commands.specs.Taking.{in_errand}
 
 -- A legal journal, with all of its settling and then the whole errand of a file that is read

@@ -1,5 +1,4 @@
-pub mod Errands
-pub mod Running
+pub mod Tests
 pub mod Taking
 pub mod Sending
 pub mod Laws

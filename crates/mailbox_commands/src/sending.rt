@@ -5,8 +5,8 @@ ghost use Rattle.sync_rules.specs.Steps.{IsSettled};
 ghost use Rattle.sync_store.specs.Ready.{IsReady};
 ghost use Rattle.sync_words.specs.Outcomes.{came_to};
 ghost use Rattle.store_commands.specs.Load.{MayExtend};
-ghost use Rattle.mailbox_commands.specs.Errands.{MayBeginWith};
-ghost use Rattle.mailbox_commands.specs.Running.{DoesErrand, RunsErrand};
+ghost use Rattle.mailbox_commands.specs.Tests.{MayBeginWith};
+ghost use Rattle.store_commands.specs.Running.{DoesErrand, RunsErrand};
 ghost use Rattle.mailbox_commands.specs.Sending.{HasSentMail, TellsSent, out_errand};
 
 use crate::tests::refusal;

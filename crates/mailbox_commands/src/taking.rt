@@ -7,8 +7,8 @@ ghost use Rattle.sync_store.specs.Ready.{IsReady};
 ghost use Rattle.sync_words.specs.Outcomes.{came_to};
 ghost use Rattle.mailbox_core.specs.Files.{box_ending, box_records};
 ghost use Rattle.store_commands.specs.Load.{MayExtend};
-ghost use Rattle.mailbox_commands.specs.Errands.{MayBeginWith};
-ghost use Rattle.mailbox_commands.specs.Running.{DoesErrand, PrintedSo, PrintsOut, RunsErrand, ended_as};
+ghost use Rattle.mailbox_commands.specs.Tests.{MayBeginWith};
+ghost use Rattle.store_commands.specs.Running.{DoesErrand, PrintedSo, PrintsOut, RunsErrand, ended_as};
 ghost use Rattle.mailbox_commands.specs.Taking.{HasTakenMail, IsInput, TellsEnd, in_errand, outcome_at};
 ghost use Rattle.mailbox_commands.specs.Taking.{taken_text};
 

@@ -1,6 +1,6 @@
 // What the commands of mailbox files test over the loaded journal.
 ghost use Rattle.std.specs.Prelude.{◌≡◌};
-ghost use Rattle.mailbox_commands.specs.Errands.{mailbox_test};
+ghost use Rattle.mailbox_commands.specs.Tests.{mailbox_test};
 
 use sync_rules::{MAX_SESSIONS, Refused};
 use sync_store::Store;

@@ -1,9 +1,8 @@
 -- Batches that are added to a store: none, one, and some behind others.
-use Rattle.std.proofs.Common.{◌≡◌, ◌+◌, ◌≤◌, Bool, true, false, List, [], ◌∷◌, ◌++◌, refl, sym, ap}
+use Rattle.std.proofs.Common.{◌≡◌, ℕ, ◌+◌, ◌≤◌, Bool, true, false, List, [], ◌∷◌, ◌++◌, refl, sym, ap}
 use Rattle.std.proofs.Common.{◌∙◌}
 use Rattle.std.proofs.Common.{subst, append_assoc, append-nil, arith, Result, Ok, Err}
 use Rattle.std.specs.Prelude.{IsErrAnd}
-use Rattle.outside.specs.declared.limits.TheConstants.{MAX_JOURNAL}
 use Rattle.outside.specs.Outside.{Outside}
 use Rattle.sync_rules.specs.declared.entries.Entry.{Entry}
 use Rattle.sync_rules.specs.Clients.{Meaning}
@@ -21,10 +20,9 @@ use Rattle.sync_store.proofs.Runs.{runs_none, runs_then}
 use Rattle.sync_words.specs.declared.outcome.Outcome.{Outcome}
 use Rattle.sync_words.specs.declared.outcome.Outcome.TheVariants as outcome
 use Rattle.entry_codec.specs.declared.naming.Format.{Format}
-use Rattle.entry_codec.specs.declared.naming.Format.TheVariants as kind
-use Rattle.store_commands.specs.Commit.{needed_by}
-use Rattle.sharing_commands.specs.Adding.{AddsFront, AddsSo, IsFrontAdded, LacksRoomForTarget}
-use Rattle.sharing_commands.specs.Agreeing.{EachFoundRoom}
+use Rattle.sync_store.specs.Rooms.{AreRoomy, needed_in}
+use Rattle.sharing_commands.specs.Adding.{AddsFront, AddsSo, LacksRoomForTarget}
+use Rattle.sharing_commands.specs.Agreeing.{IsFrontAdded}
 
 -- ---- none
 
@@ -52,7 +50,7 @@ nothing_added images clients s o u store still = record {
   front = [];
   runs = runs_none images clients s s o store (as_before s);
   ends = λ opened j ends. end_on s s j refl ends;
-  roomy = λ limited short j ends same. tt;
+  roomy = λ j ends same. tt;
   answer = (still, refl);
 }
 
@@ -64,27 +62,24 @@ none_added images clients s o all store = record {
   front = [];
   runs = runs_none images clients s s o store (as_before s);
   ends = λ opened j ends. end_on s s j refl ends;
-  roomy = λ limited short j ends same. tt;
+  roomy = λ j ends same. tt;
   answer = record { rest = all; parts = refl };
 }
 
 -- ---- one
 
--- the sum of a store in format 2 is that of a journal that ends where it does and has its facts
-pub weighed : (s : StoreValue) (j : List (List Entry)) (batch : List Entry)
-    → written_in s ≡ kind.Short → s.end ≡ journal_end (written_in s) j → facts j ≡ s.state.facts
-    → needed s batch ≡ needed_by j batch
-weighed s j batch short ends same =
-    (λ i. ends i + 5 + payload_len (written_in s) batch
-    + room_of (written_in s) (after_all (sym same i) batch))
-    ∙ ap (λ (f : Format). journal_end f j + 5 + payload_len f batch
-    + room_of f (after_all (facts j) batch)) short
+-- the sum of a store is that of a journal that ends where it does and has its facts
+weighed : (s : StoreValue) (j : List (List Entry)) (batch : List Entry)
+    → s.end ≡ journal_end (written_in s) j → facts j ≡ s.state.facts
+    → needed s batch ≡ needed_in (written_in s) j batch
+weighed s j batch ends same =
+    λ i. ends i + 5 + payload_len (written_in s) batch
+    + room_of (written_in s) (after_all (sym same i) batch)
 
-room_for : (s : StoreValue) (j : List (List Entry)) (batch : List Entry) → s.limit ≡ MAX_JOURNAL
-    → written_in s ≡ kind.Short → s.end ≡ journal_end (written_in s) j → facts j ≡ s.state.facts
-    → needed s batch ≤ s.limit → needed_by j batch ≤ MAX_JOURNAL
-room_for s j batch limited short ends same within =
-    omega (arith, weighed s j batch short ends same, limited, within)
+room_for : (s : StoreValue) (j : List (List Entry)) (batch : List Entry)
+    → s.end ≡ journal_end (written_in s) j → facts j ≡ s.state.facts
+    → needed s batch ≤ s.limit → needed_in (written_in s) j batch ≤ s.limit
+room_for s j batch ends same within = omega (arith, weighed s j batch ends same, within)
 
 true≢false : {P : Type 0} (b : Bool) → b ≡ true → b ≡ false → P
 true≢false b is not = absurd (let e : true ≡ false = sym is ∙ not in cc)
@@ -101,7 +96,7 @@ module _ (clients : Meaning) (s s' : StoreValue) (o o' : Outside) (batch : List 
       journal_end_push (written_in s) j batch,
       ends,
     );
-    roomy = λ limited short j ends same. (room_for s j batch limited short ends same commits.1, tt);
+    roomy = λ j ends same. ((λ plain. room_for s j batch ends same commits.1), tt);
     answer = (commits.2.closed, refl);
   }
 
@@ -111,7 +106,7 @@ module _ (clients : Meaning) (s s' : StoreValue) (o o' : Outside) (batch : List 
     front = batch ∷ [];
     runs = runs;
     ends = λ opened j ends. true≢false s'.closed commits.2.closed opened;
-    roomy = λ limited short j ends same. (room_for s j batch limited short ends same commits.1, tt);
+    roomy = λ j ends same. ((λ plain. room_for s j batch ends same commits.1), tt);
     answer = record { rest = []; parts = refl };
   }
 
@@ -121,7 +116,7 @@ module _ (clients : Meaning) (s s' : StoreValue) (o o' : Outside) (batch : List 
     front = [];
     runs = runs;
     ends = λ opened j ends. end_on s s' j commits.2.end ends;
-    roomy = λ limited short j ends same. tt;
+    roomy = λ j ends same. tt;
     answer = record { rest = batch ∷ []; parts = refl };
   }
 
@@ -135,7 +130,7 @@ module _ (clients : Meaning) (s s' : StoreValue) (o o' : Outside) (batch : List 
         front = [];
         runs = runs;
         ends = λ opened j ends. end_on s s' j commits.2.end ends;
-        roomy = λ limited short j ends same. tt;
+        roomy = λ j ends same. tt;
         answer = (
           commits.2.closed ∙ commits.0,
           record {
@@ -149,25 +144,17 @@ module _ (clients : Meaning) (s s' : StoreValue) (o o' : Outside) (batch : List 
 
 -- ---- some behind others
 
-roomy_both : (j xs ys : List (List Entry)) → EachFoundRoom j xs → EachFoundRoom (j ++ xs) ys
-    → EachFoundRoom j (xs ++ ys)
-roomy_both j [] ys first second =
-    subst (λ (k : List (List Entry)). EachFoundRoom k ys) (append-nil j) second
-roomy_both j (x ∷ xs) ys first second = (
+roomy_both : (format : Format) (limit : ℕ) (j xs ys : List (List Entry))
+    → AreRoomy format limit j xs → AreRoomy format limit (j ++ xs) ys
+    → AreRoomy format limit j (xs ++ ys)
+roomy_both format limit j [] ys first second =
+    subst (λ (k : List (List Entry)). AreRoomy format limit k ys) (append-nil j) second
+roomy_both format limit j (x ∷ xs) ys first second = (
   first.0,
-  roomy_both (j ++ x ∷ []) xs ys first.1
-      (subst (λ (k : List (List Entry)). EachFoundRoom k ys) (sym (append_assoc j (x ∷ []) xs))
-      second),
+  roomy_both format limit (j ++ x ∷ []) xs ys first.1
+      (subst (λ (k : List (List Entry)). AreRoomy format limit k ys)
+      (sym (append_assoc j (x ∷ []) xs)) second),
 )
-
--- there was room for a batch that was added
-pub room_at : (j front : List (List Entry)) (next : List Entry) (rest : List (List Entry))
-    → EachFoundRoom j (front ++ next ∷ rest) → needed_by (j ++ front) next ≤ MAX_JOURNAL
-room_at j [] next rest roomy =
-    subst (λ (k : List (List Entry)). needed_by k next ≤ MAX_JOURNAL) (sym (append-nil j)) roomy.0
-room_at j (x ∷ xs) next rest roomy =
-    subst (λ (k : List (List Entry)). needed_by k next ≤ MAX_JOURNAL) (append_assoc j (x ∷ []) xs)
-    (room_at (j ++ x ∷ []) xs next rest roomy.1)
 
 more_front : (xs ys front back : List (List Entry)) → front ≡ xs → IsFrontAdded ys back
     → IsFrontAdded (xs ++ ys) (front ++ back)
@@ -229,12 +216,14 @@ adds_then clients s0 s1 s2 o0 o1 o2 xs ys u r first second =
           second.ends opened (j ++ first.front) (end_of j ends)
           ∙ ap (λ (k : Format). journal_end k ((j ++ first.front) ++ second.front)) format
           ∙ ap (journal_end (written_in s0)) (append_assoc j first.front second.front);
-      roomy = λ limited short j ends same.
-          roomy_both j first.front second.front (first.roomy limited short j ends same)
-          (second.roomy (first.runs.limit ∙ limited) (format ∙ short) (j ++ first.front)
-          (end_of j ends)
+      roomy = λ j ends same.
+          roomy_both (written_in s0) s0.limit j first.front second.front (first.roomy j ends same)
+          (subst (λ (n : ℕ). AreRoomy (written_in s0) n (j ++ first.front) second.front)
+          first.runs.limit
+          (subst (λ (f : Format). AreRoomy f s1.limit (j ++ first.front) second.front) format
+          (second.roomy (j ++ first.front) (end_of j ends)
           (facts-append j first.front ∙ ap (λ (g : Facts). after_batches g first.front) same
-          ∙ sym (first.runs.facts still)));
+          ∙ sym (first.runs.facts still)))));
       answer = more_so s2 xs ys first.front second.front r first.answer.1 second.answer;
     }
 

@@ -1,7 +1,7 @@
 mod Own
 mod Said
 mod Spoken
-pub mod Fronts
+mod Fronts
 mod Targets
 mod Wholes
 mod LastLevels

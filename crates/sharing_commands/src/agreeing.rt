@@ -1,12 +1,14 @@
 // The command `agree CONTACT GROUP`.
 ghost use Rattle.std.specs.Prelude.{◌≡◌, ◌++◌, ◌<◌, OnOk};
 ghost use Rattle.std.specs.String.{string_bytes};
+ghost use Rattle.sync_rules.specs.Steps.{IsSettled};
 ghost use Rattle.sync_words.specs.Outcomes.{came_to};
 ghost use Rattle.store_commands.specs.Commit.{ExtendsBy};
 ghost use Rattle.store_commands.specs.Load.{MayExtend};
+ghost use Rattle.store_commands.specs.Running.{RunsErrand};
 ghost use Rattle.store_commands.specs.Show.{PrintsText};
-ghost use Rattle.sharing_commands.specs.Adding.{AddsFront, AgreesLevels, KnowsContact};
-ghost use Rattle.sharing_commands.specs.Agreeing.{HasAgreed};
+ghost use Rattle.sharing_commands.specs.Adding.{AddsFront, KnowsContact};
+ghost use Rattle.sharing_commands.specs.Agreeing.{HasAgreed, agreement};
 ghost use Rattle.sharing_commands.specs.Agreement.{agree_test, agreed_batches, agreed_text};
 
 use crate::saying::refusal;
@@ -68,8 +70,9 @@ fn agree_loaded<D: Disk, W: Sink, C: Clients>(
 ) -> Result<(), Outcome>
     requires ready { MayExtend (C.meaning clients.now) store (D.tells disk.old).files }
     requires known { contact < store.state.facts.contacts }
-    ensures { AgreesLevels (C.meaning clients.now) contact group.now store (D.tells disk.old)
-        (D.tells disk.new) (W.tells out.old) (W.tells out.new) (came_to result) }
+    ensures { RunsErrand (C.meaning clients.now) (agreement (C.meaning clients.now) contact
+        group.now) store (D.tells disk.old) (D.tells disk.new) (W.tells out.old)
+        (W.tells out.new) (came_to result) }
 {
     let mut store = store;
     migrate_and_settle(&mut store, disk, clients)?;
@@ -95,6 +98,7 @@ fn add_agreed<D: Disk, C: Clients>(
         (D.tells disk.new) (agreed_batches (C.meaning clients.now) contact group.now
         store.old.state.facts) result }
     ensures by { ExtendsBy (D.tells disk.old) (D.tells disk.new) result }
+    ensures settled { OnOk result (IsSettled (C.meaning clients.now) store.new.state.facts) }
     ensures text { OnOk result (string_bytes to.new ≡ string_bytes to.old ++ agreed_text
         (C.meaning clients.now) contact group.now store.old.state.facts) }
 {

@@ -2,6 +2,7 @@
 ghost use Rattle.std.specs.Prelude.{◌≡◌, ◌∷◌, [], ◌++◌, true, is_ok, OnOk};
 ghost use Rattle.std.specs.String.{string_bytes};
 ghost use Rattle.sync_rules.specs.declared.entries.Entry.TheVariants as entry;
+ghost use Rattle.sync_rules.specs.Steps.{IsSettled};
 ghost use Rattle.sync_store.specs.Refusals.{group_answer};
 ghost use Rattle.store_commands.specs.Commit.{ExtendsBy};
 ghost use Rattle.sharing_commands.specs.Adding.{AddsFront, KnowsContact};
@@ -34,6 +35,7 @@ pub(crate) fn set_all<D: Disk, C: Clients>(
         (D.tells disk.new) (all_batches (C.meaning clients.now) contact store.old.state.facts
         targets.now) result }
     ensures by { ExtendsBy (D.tells disk.old) (D.tells disk.new) result }
+    ensures settled { OnOk result (IsSettled (C.meaning clients.now) store.new.state.facts) }
     ensures text { OnOk result (string_bytes to.new ≡ string_bytes to.old ++ all_text
         (C.meaning clients.now) contact store.old.state.facts targets.now) }
 {

@@ -319,7 +319,7 @@ extended_whole clients s s' batch u o o' has =
 
 -- ---- causes
 
-rose_before : (a b c : ℕ) → a ≤ b → CountRose b c → CountRose a c
+pub rose_before : (a b c : ℕ) → a ≤ b → CountRose b c → CountRose a c
 rose_before a b c later rose = omega arith
 
 -- a later run's causes are those of the whole

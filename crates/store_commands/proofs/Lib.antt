@@ -13,3 +13,4 @@ pub mod Begins
 pub mod Stood
 mod Migrates
 pub mod Compacts
+pub mod Errands

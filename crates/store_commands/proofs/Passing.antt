@@ -22,7 +22,7 @@ use Rattle.store_commands.specs.Show.{HasLooked}
 use Rattle.store_commands.specs.Shown.{Showing}
 
 -- what holds of an outcome
-passed : (P : Outcome → Type 0) (r : Result (Unit {0}) Outcome) (x : Outcome) → IsErrAnd r
+pub passed : (P : Outcome → Type 0) (r : Result (Unit {0}) Outcome) (x : Outcome) → IsErrAnd r
     (λ e. e ≡ x) → P x → P (came_to r)
 passed P (Ok u) x is h = absurd is
 passed P (Err e) x is h = subst P (sym is) h

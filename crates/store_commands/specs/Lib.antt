@@ -4,6 +4,8 @@ pub mod Shown
 pub mod Show
 pub mod Stopping
 pub mod Works
+pub mod Errands
+pub mod Running
 pub mod Load
 pub mod Commit
 pub mod Entries

@@ -1,7 +1,7 @@
 -- A command comes to what it should where nothing stands in its way: by what it came to, each other
 -- outcome has a cause.
-use Rattle.std.proofs.Common.{◌≡◌, ℕ, ◌+◌, ◌<◌, ◌≤◌, Bool, true, false, List, [], ◌∷◌, ◌++◌, length}
-use Rattle.std.proofs.Common.{take, append_assoc, le-ltb, lt-ltb, refl, sym, ◌∙◌, ap, subst, inl}
+use Rattle.std.proofs.Common.{◌≡◌, ℕ, ◌+◌, ◌<◌, ◌≤◌, Bool, true, false, List, [], ◌∷◌, length}
+use Rattle.std.proofs.Common.{take, le-ltb, lt-ltb, refl, sym, ◌∙◌, ap, subst, inl}
 use Rattle.std.proofs.Common.{inr, arith, Option, None, Some, is_some}
 use Rattle.std.specs.Prelude.{◌⊎◌, if◌then◌else◌, nat_lt}
 use Rattle.std.proofs.lemmas.List.{take_all}
@@ -42,15 +42,14 @@ use Rattle.store_commands.specs.Stopping.{InputStops, NeverReads, StopsEarly}
 use Rattle.store_commands.specs.Shown.{Showing, denies, shows}
 use Rattle.audit_commands.specs.Audits.{HasAudited}
 use Rattle.sync_node.specs.Courses.{ReadsAs}
-use Rattle.sharing_commands.specs.Agreeing.{EachFoundRoom, HasAgreed, IsAgreementCut}
-use Rattle.sharing_commands.specs.Agreement.{agree_test, agreed_batches}
-use Rattle.sharing_commands.proofs.Fronts.{room_at}
+use Rattle.sharing_commands.specs.Agreeing.{HasAgreed, agreement}
+use Rattle.sharing_commands.specs.Agreement.{agree_test}
 use Rattle.mailbox_core.specs.Files.{box_ending}
 use Rattle.mailbox_commands.specs.declared.sending.Sending.{Sending}
 use Rattle.mailbox_commands.specs.declared.taking.TheConstants.{MAX_MAIL}
-use Rattle.mailbox_commands.specs.Errands.{Errand, HasErrandRoom, IsErrandCutShort as IsErrandCut}
-use Rattle.mailbox_commands.specs.Errands.{mailbox_test}
-use Rattle.mailbox_commands.specs.Running.{FilesRun}
+use Rattle.store_commands.specs.Errands.{Errand, HasErrandRoom, IsErrandCutShort as IsErrandCut}
+use Rattle.mailbox_commands.specs.Tests.{mailbox_test}
+use Rattle.store_commands.specs.Running.{FilesRun}
 use Rattle.mailbox_commands.specs.Sending.{HasSentMail, out_errand}
 use Rattle.mailbox_commands.specs.Taking.{HasTakenMail, IsMail, IsTooMuch, in_errand, outcome_at}
 use Rattle.store_commands.proofs.Stood.{last_lacks}
@@ -139,12 +138,6 @@ abbrev HasRoomForBatch : Meaning → List (List Entry) → List Entry → Type 0
 HasRoomForBatch clients j batch =
     HoweverSettled clients j (λ whole f. needed_by whole batch ≤ MAX_JOURNAL)
 
--- and for each batch that the targets then ask for
-abbrev HasRooms : Meaning → ℕ → Id → List (List Entry) → Type 0
-HasRooms clients contact group j =
-    HoweverSettled clients j (λ whole f.
-    EachFoundRoom whole (agreed_batches clients contact group f))
-
 -- and for the brief account
 abbrev HasBriefRoom : Meaning → List (List Entry) → Type 0
 HasBriefRoom clients j = HoweverSettled clients j (λ whole f. brief_len whole ≤ MAX_JOURNAL)
@@ -163,22 +156,6 @@ not_full clients files two two' j batch has next told (inl over) =
     let room = has over.first over.settles over.settled in
     absurd (omega (arith, room, over.over))
 not_full clients files two two' j batch has next told (inr spent) =
-    not_spent files two two' next told spent
-
--- there was room for each batch that the targets ask for
-not_cut : {P : Type 0} (clients : Meaning) (contact : ℕ) (group : Id) (files : Option (Two File))
-    (two two' : Two File) (j : List (List Entry))
-    → HasRooms clients contact group j → MayMigrate files → files ≡ Some two
-    → IsAgreementCut clients contact group j two' ⊎ WasSpent two two' → P
-not_cut clients contact group files two two' j has next told (inl cut) =
-    let roomy : EachFoundRoom (j ++ cut.first) (cut.front ++ cut.next ∷ cut.rest) =
-    subst (EachFoundRoom (j ++ cut.first)) cut.parts (has cut.first cut.settles cut.settled) in
-    let room : needed_by (j ++ (cut.first ++ cut.front)) cut.next ≤ MAX_JOURNAL =
-    subst (λ (whole : List (List Entry)). needed_by whole cut.next ≤ MAX_JOURNAL)
-    (append_assoc j cut.first cut.front)
-    (room_at (j ++ cut.first) cut.front cut.next cut.rest roomy) in
-    absurd (omega (arith, room, cut.over))
-not_cut clients contact group files two two' j has next told (inr spent) =
     not_spent files two two' next told spent
 
 -- there was room for the errand
@@ -258,42 +235,6 @@ module _ (clients : Meaning) (old new : Outside) (input input' out out' : Stream
       may.stood.1 full.leads
   added_done plan asked _ did may = absurd did.by
 
-  agreed_done : (contact : ℕ) (group : Id) (came : Outcome)
-      → HasAgreed clients contact group old new out out' came
-      → (duty_of clients (command.Agree contact group)).serves old new input input' → Done came
-  agreed_done contact group outcome.Done did may = inl refl
-  agreed_done contact group outcome.Memory did may = inr refl
-  agreed_done contact group outcome.WriteFault did may = absurd (fails.sink did.by)
-  agreed_done contact group outcome.DiskFault did may = absurd (fails.disk did.by.0)
-  agreed_done contact group outcome.NoStore did may =
-      let now = told_on old new may.stood.0 did.run.same_told may.stood.1 in
-      let is : no_store ≡ journal may.before =
-      sym (((did.told may.stood.0 may.stood.1).ends now.0 now.1).0) ∙ may.stood.2 in
-      cc
-  agreed_done contact group (outcome.Damaged place) did may =
-      let now = told_on old new may.stood.0 did.run.same_told may.stood.1 in
-      let is : damaged place.file place.at ≡ journal may.before =
-      sym (((did.told may.stood.0 may.stood.1).ends now.0 now.1).0) ∙ may.stood.2 in
-      cc
-  agreed_done contact group (outcome.Refused why) did may =
-      let now = told_on old new may.stood.0 did.run.same_told may.stood.1 in
-      let r = ((did.told may.stood.0 may.stood.1).ends now.0 now.1).0 in
-      let both : journal r.before ≡ journal may.before = sym r.stood ∙ may.stood.2 in
-      let same : r.before ≡ may.before = cc in
-      let is : Some why ≡ None = sym r.tested
-      ∙ ap (λ (j : List (List Entry)). agree_test (facts j) contact group) same ∙ may.tested in
-      cc
-  agreed_done contact group outcome.Full did may =
-      let now = told_on old new may.stood.0 did.run.same_told may.stood.1 in
-      let full = (did.told may.stood.0 may.stood.1).ends now.0 now.1 in
-      let both : journal full.before ≡ journal may.before = sym full.stood ∙ may.stood.2 in
-      let same : full.before ≡ may.before = cc in
-      let has : HasRooms clients contact group full.before =
-      subst (λ (j : List (List Entry)). HasRooms clients contact group j) (sym same) may.room in
-      not_cut clients contact group old.files may.stood.0 now.0 full.before has may.next may.stood.1
-      full.leads
-  agreed_done contact group _ did may = absurd did.by
-
   compacted_done : (came : Outcome) → HasCompacted clients old new out out' came
       → MayCompact clients old.files → Done came
   compacted_done outcome.Done did may = inl refl
@@ -348,44 +289,65 @@ module _ (clients : Meaning) (old new : Outside) (input input' out out' : Stream
   stopped_done test input_is outcome.TooMuch j did stood tested whole = inl refl
   stopped_done test input_is _ j did stood tested whole = absurd did.by
 
-  -- there was room for an errand
-  ran_not_full : {P : Type 0} (contact : ℕ) (errand : Errand) (before : List (List Entry))
-      (stood : ReadsAs clients old.files before) → HasErrandRoom clients errand before
-      → MayMigrate old.files
-      → FilesRun clients contact errand old new out out' outcome.Full
-      → is_some new.files ≡ is_some old.files → P
-  ran_not_full contact errand before stood room next did told_same =
-      let now = told_on old new stood.0 told_same stood.1 in
-      let full = (did.told stood.0 stood.1).ends now.0 now.1 in
-      let both : journal full.before ≡ journal before = sym full.stood ∙ stood.2 in
-      let same : full.before ≡ before = cc in
-      let has : HasErrandRoom clients errand full.before =
-      subst (HasErrandRoom clients errand) (sym same) room in
-      not_errand_cut clients errand old.files stood.0 now.0 full.before has next stood.1 full.leads
+  -- nor does one that reads no input, but for want of memory
+  unread_done : (test : Facts → Option Refused) (came : Outcome) (j : List (List Entry))
+      → StopsEarly clients test NeverReads old new out out' came → ReadsAs clients old.files j
+      → test (facts j) ≡ None → Done came
+  unread_done test came j did stood tested =
+      elim (stopped_done test NeverReads came j did stood tested (λ never. never)) [
+        | inl much ↦ absurd (subst NeverReads much did.reads)
+        | inr memory ↦ inr (ap status_of memory)
+      ]
+
+  module _ (test : Facts → Option Refused) (errand : Errand) (before : List (List Entry))
+      (stood : ReadsAs clients old.files before) (room : HasErrandRoom clients errand before)
+      (next : MayMigrate old.files) (told_same : is_some new.files ≡ is_some old.files) where
+    -- there was room for an errand
+    ran_not_full : {P : Type 0} → FilesRun clients test errand old new out out' outcome.Full → P
+    ran_not_full did =
+        let now = told_on old new stood.0 told_same stood.1 in
+        let full = (did.told stood.0 stood.1).ends now.0 now.1 in
+        let both : journal full.before ≡ journal before = sym full.stood ∙ stood.2 in
+        let same : full.before ≡ before = cc in
+        let has : HasErrandRoom clients errand full.before =
+        subst (HasErrandRoom clients errand) (sym same) room in
+        not_errand_cut clients errand old.files stood.0 now.0 full.before has next stood.1
+        full.leads
+
+    -- one that comes to nothing else is done
+    errand_done : (came : Outcome) → errand.comes ≡ outcome.Done
+        → FilesRun clients test errand old new out out' came → Done came
+    errand_done outcome.Done comes did = inl refl
+    errand_done outcome.Memory comes did = inr refl
+    errand_done outcome.WriteFault comes did = absurd (fails.sink did.by)
+    errand_done outcome.DiskFault comes did = absurd (fails.disk did.by.0)
+    errand_done outcome.Full comes did = ran_not_full did
+    errand_done (outcome.Inside place) comes did =
+        absurd (let is : outcome.Done ≡ outcome.Inside place = sym comes ∙ did.by in cc)
+    errand_done (outcome.Bad place why) comes did =
+        absurd (let is : outcome.Done ≡ outcome.Bad place why = sym comes ∙ did.by in cc)
+    errand_done (outcome.NoVersion place) comes did =
+        absurd (let is : outcome.Done ≡ outcome.NoVersion place = sym comes ∙ did.by in cc)
+    errand_done _ comes did = absurd did.by
+
+  agreed_done : (contact : ℕ) (group : Id) (came : Outcome)
+      → HasAgreed clients contact group old new out out' came
+      → (duty_of clients (command.Agree contact group)).serves old new input input' → Done came
+  agreed_done contact group came did may = elim did.did [
+    | inl early
+        ↦ unread_done (λ f. agree_test f contact group) came may.before early may.stood may.tested
+    | inr ran
+        ↦ errand_done (λ f. agree_test f contact group) (agreement clients contact group) may.before
+        may.stood may.room may.next did.run.same_told came refl ran
+  ]
 
   mailed_done : (asked : Sending) (came : Outcome) → HasSentMail clients asked old new out out' came
       → (to_send clients asked).serves old new input input' → Done came
   mailed_done asked came (inl did) may =
-      elim (stopped_done (λ f. mailbox_test f asked.contact) NeverReads came may.before did
-      may.stood
-      may.tested (λ never. never)) [
-        | inl much ↦ absurd (subst NeverReads much did.reads)
-        | inr memory ↦ inr (ap status_of memory)
-      ]
-  mailed_done asked outcome.Done (inr did) may = inl refl
-  mailed_done asked outcome.Memory (inr did) may = inr refl
-  mailed_done asked outcome.WriteFault (inr did) may = absurd (fails.sink did.did.by)
-  mailed_done asked outcome.DiskFault (inr did) may = absurd (fails.disk did.did.by.0)
-  mailed_done asked outcome.Full (inr did) may =
-      ran_not_full asked.contact (out_errand clients asked did.now) may.before may.stood
-      (may.room did.now did.reads.clock) may.next did.did did.reads.same_told
-  mailed_done asked (outcome.Inside place) (inr did) may =
-      absurd (let is : outcome.Done ≡ outcome.Inside place = did.did.by in cc)
-  mailed_done asked (outcome.Bad place why) (inr did) may =
-      absurd (let is : outcome.Done ≡ outcome.Bad place why = did.did.by in cc)
-  mailed_done asked (outcome.NoVersion place) (inr did) may =
-      absurd (let is : outcome.Done ≡ outcome.NoVersion place = did.did.by in cc)
-  mailed_done asked _ (inr did) may = absurd did.did.by
+      unread_done (λ f. mailbox_test f asked.contact) came may.before did may.stood may.tested
+  mailed_done asked came (inr did) may =
+      errand_done (λ f. mailbox_test f asked.contact) (out_errand clients asked did.now) may.before
+      may.stood (may.room did.now did.reads.clock) may.next did.reads.same_told came refl did.did
 
   abbrev Decided : Outcome → Type 0
   Decided came = MailDecides input input' (status_of came) ⊎ (status_of came ≡ status.Memory)
@@ -444,8 +406,8 @@ module _ (clients : Meaning) (old new : Outside) (input input' out out' : Stream
   taken_done contact outcome.WriteFault (inr did) may = absurd (fails.sink did.did.by)
   taken_done contact outcome.DiskFault (inr did) may = absurd (fails.disk did.did.by.0)
   taken_done contact outcome.Full (inr did) may =
-      ran_not_full contact (in_errand clients contact did.bytes) may.before may.stood
-      (may.room did.bytes did.reads) may.next did.did did.run.same_told
+      ran_not_full (λ f. mailbox_test f contact) (in_errand clients contact did.bytes) may.before
+      may.stood (may.room did.bytes did.reads) may.next did.run.same_told did.did
   taken_done contact _ (inr did) may = absurd did.did.by
 
   looked_done : (shown : Facts → Showing) (came : Outcome)

@@ -30,10 +30,10 @@ use Rattle.store_commands.specs.Stopping.{StopsEarly, TestsHold}
 use Rattle.store_commands.specs.Shown.{Showing}
 use Rattle.store_commands.specs.Works.{HasWorked, Work}
 use Rattle.audit_commands.specs.Audits.{HasAudited}
-use Rattle.sharing_commands.specs.Agreeing.{HasAgreed, agreeing}
+use Rattle.sharing_commands.specs.Agreeing.{HasAgreed, agreement}
 use Rattle.mailbox_commands.specs.declared.sending.Sending.{Sending}
-use Rattle.mailbox_commands.specs.Errands.{Errand, ErrandOn, mailbox_test}
-use Rattle.mailbox_commands.specs.Running.{FilesRun}
+use Rattle.store_commands.specs.Errands.{Errand, ErrandOn}
+use Rattle.store_commands.specs.Running.{FilesRun}
 use Rattle.mailbox_commands.specs.Sending.{HasSentMail, out_errand}
 use Rattle.mailbox_commands.specs.Taking.{HasTakenMail, in_errand}
 use Rattle.sync_store.specs.Moments.{JournalMoment}
@@ -122,32 +122,26 @@ module _ (clients : Meaning) (old new : Outside) where
       of_worked (adding clients plan asked) out out' came (λ standing sent m on.
       record { of = on.leads.whole; stands_for = on.leads.stands_for })
 
-  of_agreed : (contact : ℕ) (group : Id) (out out' : Stream) (came : Outcome)
-      → HasAgreed clients contact group old new out out' came → Undamaged clients old new
-  of_agreed contact group out out' came =
-      of_worked (agreeing clients contact group) out out' came (λ standing sent m on.
-      record { of = on.leads.whole; stands_for = on.leads.stands_for })
-
   of_compacted : (out out' : Stream) (came : Outcome) → HasCompacted clients old new out out' came
       → Undamaged clients old new
   of_compacted out out' came =
       of_worked (compacting clients) out out' came (λ standing sent m on.
       record { of = on.leads.whole; stands_for = on.leads.stands_for })
 
-  ran_moment : (contact : ℕ) (errand : Errand) (standing : Standing) (sent : List (List ℕ))
-      (two : Two File) → ((left : Two (List ℕ)) → IsImage two left → StandsForSome clients left)
+  ran_moment : (test : Facts → Option Refused) (errand : Errand) (standing : Standing)
+      (sent : List (List ℕ)) (two : Two File)
+      → ((left : Two (List ℕ)) → IsImage two left → StandsForSome clients left)
       → (m : Moment) → IsNow two old.links m
-      ⊎ TestsHold (λ f. mailbox_test f contact) standing (λ j.
-      JournalMoment clients (ErrandOn clients errand j) sent m)
+      ⊎ TestsHold test standing (λ j. JournalMoment clients (ErrandOn clients errand j) sent m)
       → StandsForSome clients m.files
-  ran_moment contact errand standing sent two each m (inl now) = each m.files now.image
-  ran_moment contact errand standing sent two each m (inr on) =
+  ran_moment test errand standing sent two each m (inl now) = each m.files now.image
+  ran_moment test errand standing sent two each m (inr on) =
       record { of = on.leads.whole; stands_for = on.leads.stands_for }
 
-  of_ran : (contact : ℕ) (errand : Errand) (out out' : Stream) (came : Outcome)
-      → FilesRun clients contact errand old new out out' came → Undamaged clients old new
-  of_ran contact errand out out' came did two files each =
-      moments_map old new _ _ (ran_moment contact errand _ _ two each) (did.told two files).moments
+  of_ran : (test : Facts → Option Refused) (errand : Errand) (out out' : Stream) (came : Outcome)
+      → FilesRun clients test errand old new out out' came → Undamaged clients old new
+  of_ran test errand out out' came did two files each =
+      moments_map old new _ _ (ran_moment test errand _ _ two each) (did.told two files).moments
 
   of_early : (test : Facts → Option Refused) (input_is : Outcome → Type 0) (out out' : Stream)
       (came : Outcome) → StopsEarly clients test input_is old new out out' came
@@ -159,13 +153,20 @@ module _ (clients : Meaning) (old new : Outside) where
       → HasTakenMail clients contact old new input input' out out' came → Undamaged clients old new
   of_taken contact input input' out out' came (inl did) = of_early _ _ out out' came did
   of_taken contact input input' out out' came (inr did) =
-      of_ran contact (in_errand clients contact did.bytes) out out' came did.did
+      of_ran _ (in_errand clients contact did.bytes) out out' came did.did
 
   of_mailed : (asked : Sending) (out out' : Stream) (came : Outcome)
       → HasSentMail clients asked old new out out' came → Undamaged clients old new
   of_mailed asked out out' came (inl did) = of_early _ _ out out' came did
   of_mailed asked out out' came (inr did) =
-      of_ran asked.contact (out_errand clients asked did.now) out out' came did.did
+      of_ran _ (out_errand clients asked did.now) out out' came did.did
+
+  of_agreed : (contact : ℕ) (group : Id) (out out' : Stream) (came : Outcome)
+      → HasAgreed clients contact group old new out out' came → Undamaged clients old new
+  of_agreed contact group out out' came did = elim did.did [
+    | inl early ↦ of_early _ _ out out' came early
+    | inr ran ↦ of_ran _ (agreement clients contact group) out out' came ran
+  ]
 
   module _ (group : Id) (timestamp : ℕ) (input input' out out' : Stream) where
     of_stopped : (came : Outcome) → PostStops clients group old new input input' out out' came

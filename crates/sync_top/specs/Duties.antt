@@ -25,16 +25,17 @@ use Rattle.store_commands.specs.Shown.{Showing, body_shown, listing_shown}
 use Rattle.tree_commands.specs.Trees.{tree_shown}
 use Rattle.audit_commands.specs.Audits.{HasAudited}
 use Rattle.sharing_commands.specs.declared.saying.Speech.{Speech}
-use Rattle.sharing_commands.specs.Agreeing.{EachFoundRoom, HasAgreed}
-use Rattle.sharing_commands.specs.Agreement.{agree_test, agreed_batches}
+use Rattle.sharing_commands.specs.Agreeing.{HasAgreed, agreement}
+use Rattle.sharing_commands.specs.Agreement.{agree_test}
 use Rattle.sharing_commands.specs.Sayings.{say_plan}
 use Rattle.mailbox_commands.specs.declared.sending.Sending.{Sending}
-use Rattle.mailbox_commands.specs.Errands.{HasErrandRoom, mailbox_test}
+use Rattle.store_commands.specs.Errands.{HasErrandRoom}
+use Rattle.mailbox_commands.specs.Tests.{mailbox_test}
 use Rattle.mailbox_commands.specs.Sending.{HasSentMail, out_errand}
 use Rattle.mailbox_commands.specs.Taking.{HasTakenMail, IsMail, in_errand}
 use Rattle.sync_run.specs.declared.run.Limits.{Limits}
 use Rattle.sync_run.specs.Ran.{HasRun}
-use Rattle.sync_top.specs.Serving.{HoweverSettled, MayAddPlanned, MayAudit, MayCompact, MayPost}
+use Rattle.sync_top.specs.Serving.{MayAddPlanned, MayAudit, MayCompact, MayPost}
 use Rattle.sync_top.specs.Serving.{MayShow, MaySync, MayWork}
 
 -- what a command comes to, and what serves it
@@ -133,9 +134,8 @@ duty_of clients (command.Say group timestamp join name major descriptor) =
     settling.BeforeAndAfter
 duty_of clients (command.Agree contact group) =
     unread (HasAgreed clients contact group) (MayWork clients
-    (λ f. agree_test f contact group ≡ None) (λ j.
-    HoweverSettled clients j (λ whole f.
-    EachFoundRoom whole (agreed_batches clients contact group f))))
+    (λ f. agree_test f contact group ≡ None)
+    (HasErrandRoom clients (agreement clients contact group)))
 duty_of clients command.Compact = unread (HasCompacted clients) (MayCompact clients)
 duty_of clients (command.MailboxIn contact) = to_take clients contact
 duty_of clients (command.MailboxOut contact latency count) =

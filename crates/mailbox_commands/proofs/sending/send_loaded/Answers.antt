@@ -1,7 +1,7 @@
 use Rattle.std.proofs.Common.{Err, ap, refl}
 use Rattle.mailbox_commands.specs.Sending.{out_errand}
-use Rattle.mailbox_commands.proofs.Errands.{errand_on, errand_stopped, errand_unsettled}
-use Rattle.mailbox_commands.proofs.Errands.{still_begins}
+use Rattle.store_commands.proofs.Errands.{errand_on, errand_stopped, errand_unsettled}
+use Rattle.mailbox_commands.proofs.Early.{still_begins}
 use Rattle.mailbox_commands.proofs.Sent.{sent_printed}
 use Rattle.mailbox_commands.proofs.sending.send_loaded.Goals as goal
 

@@ -1,6 +1,6 @@
 use Rattle.std.proofs.Common.{refl, sym, ◌∙◌, inl}
 use Rattle.store_commands.proofs.Stopped.{stops_refused}
-use Rattle.mailbox_commands.specs.Errands.{mailbox_test}
+use Rattle.mailbox_commands.specs.Tests.{mailbox_test}
 use Rattle.mailbox_commands.proofs.Early.{tested_begins}
 use Rattle.mailbox_commands.proofs.Sent.{ready_still, mailed_none, mailed_on, mailed_read}
 use Rattle.mailbox_commands.proofs.sending.send_mail.Goals as goal

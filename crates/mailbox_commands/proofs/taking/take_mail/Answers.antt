@@ -1,6 +1,6 @@
 use Rattle.std.proofs.Common.{refl, sym, ◌∙◌, inl}
 use Rattle.store_commands.proofs.Stopped.{stops_refused}
-use Rattle.mailbox_commands.specs.Errands.{mailbox_test}
+use Rattle.mailbox_commands.specs.Tests.{mailbox_test}
 use Rattle.mailbox_commands.proofs.Early.{tested_begins}
 use Rattle.mailbox_commands.proofs.Taken.{taken_none, taken_on, taken_read, taken_unread}
 use Rattle.mailbox_commands.proofs.taking.take_mail.Goals as goal

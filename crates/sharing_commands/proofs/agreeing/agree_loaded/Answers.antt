@@ -1,19 +1,21 @@
-use Rattle.std.proofs.Common.{◌≡◌, ℕ, List, [], ◌++◌, Err, ap, refl, ◌∙◌}
+use Rattle.std.proofs.Common.{◌≡◌, ℕ, List, [], ◌++◌, Err, ap, refl, sym, ◌∙◌}
 use Rattle.std.specs.String.{string_bytes}
+use Rattle.sync_rules.specs.Facts.{Facts}
+use Rattle.store_commands.proofs.Errands.{errand_on, errand_printed, errand_stopped}
+use Rattle.store_commands.proofs.Errands.{errand_unsettled, prints_plain}
+use Rattle.sharing_commands.specs.Agreeing.{agreement}
 use Rattle.sharing_commands.specs.Agreement.{agreed_text}
-use Rattle.sharing_commands.proofs.Wholes.{agrees_on, agrees_printed, agrees_stopped}
-use Rattle.sharing_commands.proofs.Wholes.{agrees_unsettled, still_known}
+use Rattle.sharing_commands.proofs.Wholes.{agreement_done, still_known}
 use Rattle.sharing_commands.proofs.agreeing.agree_loaded.Goals as goal
 
 pub returns-in_err-migrate_and_settle : goal.returns-in_err-migrate_and_settle
 returns-in_err-migrate_and_settle g c =
     let clients = g.C.Clients.meaning c.args.clients.now in
+    let errand = agreement clients c.args.contact c.args.group.now in
     let came = c.in_err-migrate_and_settle.field-0.0 in
-    agrees_on c.from_residual.result came c.from_residual.ensures.1 clients c.args.contact
-    c.args.group.now _ _ _ _ _
-    (agrees_unsettled clients c.args.contact c.args.group.now c.args.store
-    c.migrate_and_settle.new.store _ _ _
-    _ came (record { same = refl; same_faults = refl }) c.in_err-migrate_and_settle.ensures.run
+    errand_on c.from_residual.result came c.from_residual.ensures.1 clients errand _ _ _ _ _
+    (errand_unsettled clients errand c.args.store c.migrate_and_settle.new.store _ _ _ _ came
+    (record { same = refl; same_faults = refl }) c.in_err-migrate_and_settle.ensures.run
     c.in_err-migrate_and_settle.ensures.by
     (λ is. ap g.D.Disk.tells (c.in_err-migrate_and_settle.ensures.untouched (ap Err is)))
     c.in_err-migrate_and_settle.ensures.settled)
@@ -36,28 +38,31 @@ add_agreed-requires g c =
 pub returns-in_err-add_agreed : goal.returns-in_err-add_agreed
 returns-in_err-add_agreed g c =
     let clients = g.C.Clients.meaning c.args.clients.now in
+    let errand = agreement clients c.args.contact c.args.group.now in
     let came = c.in_err-add_agreed.field-0.0 in
-    agrees_on c.from_residual-in_err-add_agreed.result came
-    c.from_residual-in_err-add_agreed.ensures.1 clients c.args.contact c.args.group.now _ _ _ _ _
-    (agrees_stopped clients c.args.contact c.args.group.now c.args.store
-    c.migrate_and_settle.new.store
+    let e = c.in_err-add_agreed.ensures in
+    errand_on c.from_residual-in_err-add_agreed.result came
+    c.from_residual-in_err-add_agreed.ensures.1 clients errand _ _ _ _ _
+    (errand_stopped clients errand c.args.store c.migrate_and_settle.new.store
     c.add_agreed.new.store _ _ _ _ _ _ came (record { same = refl; same_faults = refl })
     c.requires.ready.limited c.in_ok-migrate_and_settle.ensures.run
     c.in_ok-migrate_and_settle.ensures.settled
-    c.in_err-add_agreed.ensures.adds c.in_err-add_agreed.ensures.by)
+    (agreement_done clients c.args.contact c.args.group.now c.migrate_and_settle.new.store
+    c.add_agreed.new.store _ _ (Err came) e.adds e.by tt))
 
 pub returns : goal.returns
 returns g c =
     let clients = g.C.Clients.meaning c.args.clients.now in
+    let errand = agreement clients c.args.contact c.args.group.now in
+    let e = c.in_ok-add_agreed.ensures in
     let empty : string_bytes c.new-text.result ≡ [] = c.new-text.ensures.bytes in
-    agrees_printed clients c.args.contact c.args.group.now c.args.store
-    c.migrate_and_settle.new.store
+    let text = agreed_text clients c.args.contact c.args.group.now in
+    errand_printed clients errand c.args.store c.migrate_and_settle.new.store
     c.add_agreed.new.store _ _ _ _ _ _ _ c.as_str.result.now _ c.requires.ready.limited
     c.in_ok-migrate_and_settle.ensures.run c.in_ok-migrate_and_settle.ensures.settled
-    c.in_ok-add_agreed.ensures.adds
-    (c.as_str.ensures.value ∙ c.in_ok-add_agreed.ensures.text
-    ∙ ap (λ (z : List ℕ).
-    z ++ agreed_text clients c.args.contact c.args.group.now
-    c.migrate_and_settle.new.store.state.facts)
-    empty)
-    c.print_text.ensures
+    (agreement_done clients c.args.contact c.args.group.now c.migrate_and_settle.new.store
+    c.add_agreed.new.store _ _ _ e.adds e.by e.settled)
+    (λ two1 j1 fits. c.as_str.ensures.value ∙ e.text
+    ∙ ap (λ (z : List ℕ). z ++ text c.migrate_and_settle.new.store.state.facts) empty
+    ∙ ap text (sym fits.facts_are))
+    (prints_plain c.as_str.result.now _ _ _ c.print_text.ensures)

@@ -1,5 +1,5 @@
 -- What the running of an errand comes to: from a loaded store, and from the files.
-use Rattle.std.specs.Prelude.{◌≡◌, ◌⊎◌, ℕ, ◌<◌, Bool, true, false, List, Some, Result}
+use Rattle.std.specs.Prelude.{◌≡◌, ◌⊎◌, ℕ, ◌<◌, Bool, true, false, List, Option, Some, Result}
 use Rattle.std.specs.Prelude.{Ok, Err}
 use Rattle.std.specs.Io.KnownBytes.{Appends}
 use Rattle.outside.specs.Faults.{CountRose}
@@ -8,6 +8,7 @@ use Rattle.outside.specs.Links.{sent_of}
 use Rattle.outside.specs.Outside.{DiskRun, IsNow, MomentsAre, Outside}
 use Rattle.outside.specs.Streams.{Stream, IsIdle, GetsFront}
 use Rattle.sync_rules.specs.declared.entries.Entry.{Entry}
+use Rattle.sync_rules.specs.declared.states.Refused.{Refused}
 use Rattle.sync_rules.specs.Clients.{Meaning}
 use Rattle.sync_rules.specs.Facts.{Facts, facts}
 use Rattle.sync_rules.specs.Steps.{IsSettled}
@@ -21,7 +22,7 @@ use Rattle.sync_words.specs.declared.outcome.Outcome.TheVariants as outcome
 use Rattle.sync_store.specs.Rooms.{StoreComesTo}
 use Rattle.store_commands.specs.Commit.{ExtendsBy, HasLastGeneration, WasSpent}
 use Rattle.store_commands.specs.Stopping.{TestsHold}
-use Rattle.mailbox_commands.specs.Errands.{Errand, ErrandOn, IsErrandCutShort, IsRun, mailbox_test}
+use Rattle.store_commands.specs.Errands.{Errand, ErrandOn, IsErrandCutShort, IsRun}
 
 -- ---- an errand on a settled store
 
@@ -147,22 +148,20 @@ pub record RunsErrand (clients : Meaning) (errand : Errand) (s : StoreValue) (ol
 -- ---- from the files that were told
 
 -- each moment is as a crash might have left the files before, or has batches of the errand
-pub record FilesTold (clients : Meaning) (contact : ℕ) (errand : Errand) (two : Two File)
-    (old new : Outside)
-    (out out' : Stream) (came : Outcome) : Type 0 where
+pub record FilesTold (clients : Meaning) (test : Facts → Option Refused) (errand : Errand)
+    (two : Two File) (old new : Outside) (out out' : Stream) (came : Outcome) : Type 0 where
   pub moments : MomentsAre old new
       (λ m. IsNow two old.links m
-      ⊎ TestsHold (λ f. mailbox_test f contact) (stands clients (read_files two))
+      ⊎ TestsHold test (stands clients (read_files two))
       (λ j. JournalMoment clients (ErrandOn clients errand j) (sent_of old.links.told) m))
   pub ends : (two' : Two File) → new.files ≡ Some two'
-      → TestsHold (λ f. mailbox_test f contact) (stands clients (read_files two)) (λ j.
-      ErrandEnds clients errand j two two' out out' came)
+      → TestsHold test (stands clients (read_files two))
+      (λ j. ErrandEnds clients errand j two two' out out' came)
   pub spent : HasLastGeneration (read_files two) → is_whole came ≡ false
 
 -- a store was loaded over which the tests hold, and the errand was run
-pub record FilesRun (clients : Meaning) (contact : ℕ) (errand : Errand) (old new : Outside)
-    (out out' : Stream)
-    (came : Outcome) : Type 0 where
+pub record FilesRun (clients : Meaning) (test : Facts → Option Refused) (errand : Errand)
+    (old new : Outside) (out out' : Stream) (came : Outcome) : Type 0 where
   pub by : ErrandBy errand.comes old new out out' came
   pub told : (two : Two File) → old.files ≡ Some two
-      → FilesTold clients contact errand two old new out out' came
+      → FilesTold clients test errand two old new out out' came

@@ -1,7 +1,7 @@
 -- An errand, from the loaded store to the text, and from the files.
 use Rattle.std.proofs.Common.{◌≡◌, ℕ, ◌+◌, ◌<◌, ◌≤◌, false, List, ◌++◌, refl, sym, ap}
 use Rattle.std.proofs.Common.{◌∙◌}
-use Rattle.std.proofs.Common.{subst, inl, inr, arith, Some, None, Result, Ok, Err}
+use Rattle.std.proofs.Common.{subst, inl, inr, arith, Option, Some, None, Result, Ok, Err}
 use Rattle.std.specs.Prelude.{IsErrAnd}
 use Rattle.outside.specs.declared.limits.TheConstants.{MAX_JOURNAL}
 use Rattle.outside.specs.Faults.{CountRose}
@@ -12,11 +12,11 @@ use Rattle.outside.specs.Outside.{DiskRun, IsNow, MomentsAre, Outside, QuietCall
 use Rattle.outside.specs.Streams.{Stream, IsIdle}
 use Rattle.outside.proofs.CallSteps.{moments_during, moments_map, moments_then, run_then, told_on}
 use Rattle.sync_rules.specs.declared.entries.Entry.{Entry}
+use Rattle.sync_rules.specs.declared.states.Refused.{Refused}
 use Rattle.sync_rules.specs.Clients.{Meaning}
 use Rattle.sync_rules.specs.Facts.{Facts, after_all, after_batches, facts}
 use Rattle.sync_rules.specs.Legal.{AllSettling}
 use Rattle.sync_rules.specs.Steps.{IsSettled}
-use Rattle.sync_rules.proofs.StepKinds.{all_settling_only}
 use Rattle.entry_codec.specs.declared.naming.Format.{Format}
 use Rattle.entry_codec.specs.declared.naming.Format.TheVariants as kind
 use Rattle.entry_codec.specs.Payloads.{journal_end, payload_len}
@@ -34,17 +34,15 @@ use Rattle.sync_store.specs.Rooms.{AreRoomy}
 use Rattle.store_commands.specs.Commit.{ComesAnew, ExtendsBy, HasLastGeneration, SettledAnew}
 use Rattle.store_commands.specs.Commit.{SettlesAnew, needed_by}
 use Rattle.store_commands.specs.Load.{MayExtend}
-use Rattle.store_commands.specs.Show.{FilesReadSame, LeavesFilesSo}
+use Rattle.store_commands.specs.Show.{FilesReadSame, LeavesFilesSo, PrintsText}
+use Rattle.store_commands.proofs.Adds.{caused_later, rose_before, same_told, settles_from}
+use Rattle.store_commands.proofs.Passing.{passed}
 use Rattle.store_commands.proofs.Stood.{fits_format, last_here, spent_here}
-use Rattle.mailbox_commands.specs.Errands.{Errand, ErrandOn, IsErrandCutShort, IsRun, MayBeginWith}
-use Rattle.mailbox_commands.specs.Errands.{mailbox_test}
-use Rattle.mailbox_commands.specs.Running.{DoesErrand, ErrandBy, ErrandEnds}
-use Rattle.mailbox_commands.specs.Running.{FilesRun, PrintsOut, RunsErrand, is_whole}
+use Rattle.store_commands.specs.Errands.{Errand, ErrandOn, IsErrandCutShort, IsRun}
+use Rattle.store_commands.specs.Running.{DoesErrand, ErrandBy, ErrandEnds}
+use Rattle.store_commands.specs.Running.{FilesRun, PrintsOut, RunsErrand, is_whole}
 
 -- ---- causes
-
-rose_before : (a b c : ℕ) → a ≤ b → CountRose b c → CountRose a c
-rose_before a b c later rose = omega arith
 
 failed_by : (comes : Outcome) (o o2 : Outside) (out out' : Stream) (came : Outcome)
     → IsIdle out out' → ExtendsBy o o2 (Err came)
@@ -61,15 +59,6 @@ failed_not_whole o o2 outcome.DiskFault by = refl
 failed_not_whole o o2 outcome.Memory by = refl
 failed_not_whole o o2 _ by = absurd by
 
-caused_later : (o o1 o2 : Outside) (came : Outcome) → o.disk_faults ≤ o1.disk_faults
-    → ExtendsBy o1 o2 (Err came)
-    → ExtendsBy o o2 (Err came)
-caused_later o o1 o2 outcome.DiskFault later by =
-    rose_before o.disk_faults o1.disk_faults o2.disk_faults later by
-caused_later o o1 o2 outcome.Full later by = tt
-caused_later o o1 o2 outcome.Memory later by = tt
-caused_later o o1 o2 _ later by = absurd by
-
 printed_by : (comes : Outcome) (text : List ℕ) (o o2 : Outside) (out out' : Stream) (came : Outcome)
     → PrintsOut comes text out out' came → ErrandBy comes o o2 out out' came
 printed_by comes text o o2 out out' outcome.Done p = p.0
@@ -80,22 +69,15 @@ printed_by comes text o o2 out out' outcome.WriteFault p = p.0
 printed_by comes text o o2 out out' outcome.Memory p = p
 printed_by comes text o o2 out out' _ p = absurd p
 
+-- a text that is printed by itself, of an errand that is done
+pub prints_plain : (text : List ℕ) (out out' : Stream) (came : Outcome)
+    → PrintsText text out out' came → PrintsOut outcome.Done text out out' came
+prints_plain text out out' outcome.Done printed = (refl, printed)
+prints_plain text out out' outcome.WriteFault printed = printed
+prints_plain text out out' outcome.Memory printed = printed
+prints_plain text out out' _ printed = absurd printed
+
 -- ---- settling
-
-settles_from : (clients : Meaning) (s : StoreValue) (two : Two File) (j more : List (List Entry))
-    → FitsFiles clients s j two
-    → AllSettling clients s.state.facts more → AllSettling clients (facts j) more
-settles_from clients s two j more fits settling =
-    subst (λ (g : Facts). AllSettling clients g more) (sym fits.facts_are) settling
-
--- files that are told of one outside read alike
-one_told : (o o1 : Outside) (two two1 : Two File) → o1 ≡ o → o.files ≡ Some two
-    → o1.files ≡ Some two1
-    → read_files two1 ≡ read_files two
-one_told o o1 two two1 same files files1 =
-    let both : Some two1 ≡ Some two = sym files1 ∙ ap (λ (x : Outside). x.files) same ∙ files in
-    let one : two1 ≡ two = cc in
-    ap read_files one
 
 unsettled_ends : (clients : Meaning) (errand : Errand) (j : List (List Entry)) (s s1 : StoreValue)
     (out out' : Stream)
@@ -130,7 +112,7 @@ errand_unsettled clients errand s s1 o o1 out out' came idle run by still settle
     }) (settled.comes.leads two files j fits).moments;
     ends = λ two1 files1.
         unsettled_ends clients errand j s s1 out out' came two two1 fits
-        (λ is. one_told o o1 two two1 (still is) files files1) settled.answer;
+        (λ is. same_told o o1 two two1 (still is) files files1) settled.answer;
     spent = λ last. failed_not_whole o o1 came by;
   };
 }
@@ -294,7 +276,7 @@ pub errand_stopped : (clients : Meaning) (errand : Errand) (s s1 s2 : StoreValue
     → SettlesAnew clients s s1 o o1 (Ok u) → DoesErrand clients errand s1 s2 o1 o2 (Err came)
     → RunsErrand clients errand s o o2 out out' came
 errand_stopped clients errand s s1 s2 o o1 o2 out out' u came idle limited run settled does =
-    let whole = caused_later o o1 o2 came run.later does.by in
+    let whole = caused_later o o1 o2 (Err came) run.later does.by in
     record {
       run = run_then o o1 o2 run does.comes.runs.run;
       by = failed_by errand.comes o o2 out out' came idle whole;
@@ -426,28 +408,26 @@ ends_first clients errand j two two1 two2 out out' outcome.DiskFault same ends =
 ends_first clients errand j two two1 two2 out out' _ same ends = ends
 
 -- a store was loaded over which the tests hold, perhaps the clock was read, and the errand was run
-pub errand_loaded : (clients : Meaning) (contact : ℕ) (errand : Errand) (o o1 o2 : Outside)
-    (out out' : Stream)
-    (s : StoreValue) (came : Outcome) → o.disk_faults ≤ o1.disk_faults
+pub errand_loaded : (clients : Meaning) (test : Facts → Option Refused) (errand : Errand)
+    (o o1 o2 : Outside) (out out' : Stream) (s : StoreValue) (came : Outcome) → o.disk_faults ≤ o1.disk_faults
     → ((two : Two File) → o.files ≡ Some two → LeavesAsIs two o o1) → MayExtend clients s o1.files
-    → mailbox_test s.state.facts contact ≡ None → RunsErrand clients errand s o1 o2 out out' came
-    → FilesRun clients contact errand o o2 out out' came
-errand_loaded clients contact errand o o1 o2 out out' s came later as_is ready tested ran = record {
+    → test s.state.facts ≡ None → RunsErrand clients errand s o1 o2 out out' came
+    → FilesRun clients test errand o o2 out out' came
+errand_loaded clients test errand o o1 o2 out out' s came later as_is ready tested ran = record {
   by = by_later errand.comes o o1 o2 out out' came later ran.by;
   told = λ two files.
       let first = as_is two files in
       let fit = ready.ready.fits first.now first.files in
       let stood : stands clients (read_files two) ≡ journal fit.0 =
       ap (stands clients) (sym first.reads) ∙ fit.1.stands_for in
-      let test : mailbox_test (facts fit.0) contact ≡ None =
-      ap (λ (f : Facts). mailbox_test f contact) fit.1.facts_are ∙ tested in
+      let holds : test (facts fit.0) ≡ None = ap test fit.1.facts_are ∙ tested in
       let went = ran.told first.now first.files fit.0 fit.1 in
       record {
         moments = moments_then o o1 o2 _ (moments_map o o1 _ _ (λ m w. inl w) first.moments)
             (moments_map o1 o2 _ _ (λ m w. inr (record {
               before = fit.0;
               stood = stood;
-              tested = test;
+              tested = holds;
               leads =
                   subst (λ (sent : List (List ℕ)).
                   JournalMoment clients (ErrandOn clients errand fit.0) sent m)
@@ -456,7 +436,7 @@ errand_loaded clients contact errand o o1 o2 out out' s came later as_is ready t
         ends = λ two2 files2. record {
           before = fit.0;
           stood = stood;
-          tested = test;
+          tested = holds;
           leads = ends_first clients errand fit.0 two first.now two2 out out' came first.reads
               (went.ends two2 files2);
         };
@@ -466,12 +446,6 @@ errand_loaded clients contact errand o o1 o2 out out' s came later as_is ready t
 
 -- ---- an error that goes on by `?`
 
-passed : (P : Outcome → Type 0) (r : Result (Unit {0}) Outcome) (x : Outcome) → IsErrAnd r
-    (λ e. e ≡ x) → P x
-    → P (came_to r)
-passed P (Ok u) x is h = absurd is
-passed P (Err e) x is h = subst P (sym is) h
-
 pub errand_on : (r : Result (Unit {0}) Outcome) (x : Outcome) → IsErrAnd r (λ e. e ≡ x)
     → (clients : Meaning)
     (errand : Errand) (s : StoreValue) (o o' : Outside) (out out' : Stream)
@@ -479,18 +453,3 @@ pub errand_on : (r : Result (Unit {0}) Outcome) (x : Outcome) → IsErrAnd r (λ
     → RunsErrand clients errand s o o' out out' (came_to r)
 errand_on r x is clients errand s o o' out out' =
     passed (λ (came : Outcome). RunsErrand clients errand s o o' out out' came) r x is
-
--- ---- the tests
-
--- what the tests say of a session stays so while a journal is settled
-pub still_begins : (clients : Meaning) (contact : ℕ) (s s1 : StoreValue) (o o1 : Outside)
-    (more : List (List Entry))
-    → MayBeginWith s.state.facts contact → ComesAnew clients s s1 o o1 more
-    → MayBeginWith s1.state.facts contact
-still_begins clients contact s s1 o o1 more may comes =
-    let stay = all_settling_only clients s.state.facts more comes.settling in
-    let same : s1.state.facts.contacts ≡ s.state.facts.contacts =
-    ap (λ (f : Facts). f.contacts) comes.facts ∙ stay.contacts in
-    let begun : s1.state.facts.begun ≡ s.state.facts.begun = ap (λ (f : Facts). f.begun) comes.facts
-    ∙ stay.begun in
-    record { known = omega (arith, may.known, same); few = omega (arith, may.few, begun) }

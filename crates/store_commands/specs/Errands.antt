@@ -1,13 +1,9 @@
--- What a command of mailbox files does behind a journal that was settled, in general: the session
--- of a file and the batches on it.
-use Rattle.std.specs.Prelude.{◌≡◌, ◌⊎◌, ℕ, ◌<◌, ◌≤◌, if◌then◌else◌, nat_lt, List, ◌++◌, Option}
-use Rattle.std.specs.Prelude.{Some, None}
+-- What a command does behind a journal that was settled, where that is several batches one behind
+-- the other: the session of a mailbox file and its records, or the levels that two people agreed on.
+use Rattle.std.specs.Prelude.{◌≡◌, ◌⊎◌, ℕ, ◌<◌, ◌≤◌, List, ◌++◌}
 use Rattle.outside.specs.declared.limits.TheConstants.{MAX_JOURNAL}
 use Rattle.outside.specs.Files.{Two, File, read_files, NothingPending}
 use Rattle.sync_rules.specs.declared.entries.Entry.{Entry}
-use Rattle.sync_rules.specs.declared.limits.TheConstants.{MAX_SESSIONS}
-use Rattle.sync_rules.specs.declared.states.Refused.{Refused}
-use Rattle.sync_rules.specs.declared.states.Refused.TheVariants as refused
 use Rattle.sync_rules.specs.Clients.{Meaning}
 use Rattle.sync_rules.specs.Facts.{Facts, after_batches, facts}
 use Rattle.sync_rules.specs.Legal.{AllSettling}
@@ -18,20 +14,6 @@ use Rattle.sync_store.specs.Moments.{IsBetween}
 use Rattle.sync_words.specs.declared.outcome.Outcome.{Outcome}
 use Rattle.sync_store.specs.Rooms.{AreRoomy}
 use Rattle.store_commands.specs.Commit.{IsInFormat, needed_by}
-
--- ---- the tests
-
--- over the journal as it was loaded: the contact is known, and one more session may begin
-abbrev pub mailbox_test : Facts → ℕ → Option Refused
-mailbox_test f contact =
-    if nat_lt contact f.contacts
-    then (if nat_lt f.begun MAX_SESSIONS then None else Some refused.TooManySessions)
-    else Some refused.UnknownContact
-
--- a session with a contact may begin
-pub record MayBeginWith (f : Facts) (contact : ℕ) : Type 0 where
-  pub known : contact < f.contacts
-  pub few : f.begun < MAX_SESSIONS
 
 -- ---- an errand
 
