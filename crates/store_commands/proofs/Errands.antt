@@ -4,7 +4,6 @@ use Rattle.std.proofs.Common.{◌∙◌}
 use Rattle.std.proofs.Common.{subst, inl, inr, arith, Option, Some, None, Result, Ok, Err}
 use Rattle.std.specs.Prelude.{IsErrAnd}
 use Rattle.outside.specs.declared.limits.TheConstants.{MAX_JOURNAL}
-use Rattle.outside.specs.Faults.{CountRose}
 use Rattle.outside.specs.Files.{Two, File, read_files}
 use Rattle.outside.specs.Host.{ReadsClock}
 use Rattle.outside.specs.Links.{Links, sent_of}
@@ -31,7 +30,7 @@ use Rattle.sync_words.specs.declared.outcome.Outcome.{Outcome}
 use Rattle.sync_words.specs.declared.outcome.Outcome.TheVariants as outcome
 use Rattle.sync_words.specs.Outcomes.{came_to}
 use Rattle.sync_store.specs.Rooms.{AreRoomy}
-use Rattle.store_commands.specs.Commit.{ComesAnew, ExtendsBy, HasLastGeneration, SettledAnew}
+use Rattle.store_commands.specs.Commit.{ExtendsBy, HasLastGeneration, SettledAnew}
 use Rattle.store_commands.specs.Commit.{SettlesAnew, needed_by}
 use Rattle.store_commands.specs.Load.{MayExtend}
 use Rattle.store_commands.specs.Show.{FilesReadSame, LeavesFilesSo, PrintsText}

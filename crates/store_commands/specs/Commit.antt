@@ -15,13 +15,13 @@ use Rattle.sync_rules.specs.Steps.{IsSettled}
 use Rattle.entry_codec.specs.declared.naming.Format.{Format}
 use Rattle.entry_codec.specs.declared.naming.Format.TheVariants as kind
 use Rattle.entry_codec.specs.Naming.{format_of}
-use Rattle.entry_codec.specs.Payloads.{journal_end, payload_len}
-use Rattle.entry_codec.specs.Standing.{journal, room_of, stands}
+use Rattle.entry_codec.specs.Standing.{journal, stands}
 use Rattle.sync_store.specs.Commits.{needed}
 use Rattle.sync_store.specs.Migrations.{IsSpent}
 use Rattle.sync_store.specs.Store.{StoreValue, written_in}
 use Rattle.sync_store.specs.Ready.{IsReady}
 use Rattle.sync_store.specs.Moments.{JournalMoment}
+use Rattle.sync_store.specs.Rooms.{needed_in}
 use Rattle.sync_store.specs.Runs.{AddsBatch, LeadsBy}
 use Rattle.sync_store.specs.Settling.{ComesBy}
 use Rattle.sync_words.specs.declared.outcome.Outcome.{Outcome}
@@ -74,12 +74,9 @@ pub record HasLastGeneration (files : Two (List ℕ)) : Type 0 where
 abbrev pub MayMigrate : Option (Two File) → Type 0
 MayMigrate files = (two : Two File) → files ≡ Some two → HasLastGeneration (read_files two) → ⊥
 
--- The length that a journal needs in format 2 with a batch: the batch's frame is added, and room is
--- counted for all that settling may then add. Whatever is added is added in format 2.
+-- The length that a journal needs with a batch, in format 2, in which whatever is added is added.
 abbrev pub needed_by : List (List Entry) → List Entry → ℕ
-needed_by j batch =
-    journal_end kind.Short j + 5 + payload_len kind.Short batch
-    + room_of kind.Short (after_all (facts j) batch)
+needed_by j batch = needed_in kind.Short j batch
 
 -- The files stand, in format 2, for the journal, all of its settling, the one batch, for which
 -- there was room when it was committed, and what follows it; nothing is pending in them, so that
