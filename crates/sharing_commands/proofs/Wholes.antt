@@ -2,6 +2,7 @@
 use Rattle.std.proofs.Common.{◌≡◌, ℕ, ◌<◌, List, [], ◌∷◌, sym, ap, ◌∙◌}
 use Rattle.std.proofs.Common.{inl, inr, append-nil, arith, Some, None, Result, Ok, Err}
 use Rattle.std.specs.Prelude.{IsErrAnd, OnOk}
+use Rattle.outside.specs.declared.limits.TheConstants.{MAX_JOURNAL}
 use Rattle.outside.specs.Files.{Two, File, read_files}
 use Rattle.outside.specs.Outside.{DiskRun, Outside}
 use Rattle.outside.specs.Streams.{Stream, IsIdle}
@@ -16,18 +17,19 @@ use Rattle.sync_store.specs.Store.{StoreValue}
 use Rattle.sync_words.specs.declared.outcome.Outcome.{Outcome}
 use Rattle.sync_words.specs.declared.outcome.Outcome.TheVariants as outcome
 use Rattle.sync_words.specs.Outcomes.{came_to}
-use Rattle.store_commands.specs.Commit.{ComesAnew, ExtendsBy}
+use Rattle.store_commands.specs.Commit.{ComesAnew, ExtendsBy, SettlesAnew}
 use Rattle.store_commands.specs.Load.{HasFacts, IsLoaded, LoadedBy, LoadKeeps, MayExtend}
 use Rattle.store_commands.specs.Running.{DoesErrand, DoesSo, RunsErrand}
-use Rattle.store_commands.specs.Show.{LeavesFilesSo}
+use Rattle.store_commands.specs.Show.{LeavesFilesSo, PrintsText}
 use Rattle.store_commands.specs.Stopping.{NeverReads}
-use Rattle.store_commands.proofs.Errands.{errand_loaded, loaded_as_is}
+use Rattle.store_commands.proofs.Errands.{errand_loaded, errand_printed, loaded_as_is}
+use Rattle.store_commands.proofs.Errands.{prints_plain}
 use Rattle.store_commands.proofs.Follow.{stays}
 use Rattle.store_commands.proofs.Passing.{passed}
 use Rattle.store_commands.proofs.Stopped.{never_read, stops_none, stops_refused}
 use Rattle.sharing_commands.specs.Adding.{AddsFront, AddsSo}
 use Rattle.sharing_commands.specs.Agreeing.{HasAgreed, IsFrontAdded, agreement}
-use Rattle.sharing_commands.specs.Agreement.{agree_test, agreed_batches}
+use Rattle.sharing_commands.specs.Agreement.{agree_test, agreed_batches, agreed_text}
 
 -- ---- what the targets ask for
 
@@ -75,6 +77,22 @@ agreement_done clients contact group s s' o o' r added by settled = record {
   answer = does_so clients contact group s.state.facts s' added.front r added.answer settled;
   by = by;
 }
+
+-- all of it was added to the settled store, and its text printed
+pub agreement_printed : (clients : Meaning) (contact : ℕ) (group : Id) (s s1 s2 : StoreValue)
+    (o o1 o2 : Outside) (out out' : Stream) (u v : Unit {0}) (given : List ℕ) (came : Outcome)
+    → s.limit ≡ MAX_JOURNAL → DiskRun o o1 → SettlesAnew clients s s1 o o1 (Ok u)
+    → AddsFront clients s1 s2 o1 o2 (agreed_batches clients contact group s1.state.facts) (Ok v)
+    → ExtendsBy o1 o2 (Ok v) → IsSettled clients s2.state.facts
+    → given ≡ agreed_text clients contact group s1.state.facts → PrintsText given out out' came
+    → RunsErrand clients (agreement clients contact group) s o o2 out out' came
+agreement_printed clients contact group s s1 s2 o o1 o2 out out' u v given came limited run settled
+    added by still_settled is printed =
+    errand_printed clients (agreement clients contact group) s s1 s2 o o1 o2 out out' u v given came
+    limited run settled
+    (agreement_done clients contact group s1 s2 o1 o2 (Ok v) added by still_settled)
+    (λ two1 j1 fits. is ∙ ap (agreed_text clients contact group) (sym fits.facts_are))
+    (prints_plain given out out' came printed)
 
 -- a contact that is known stays so while a journal is settled
 pub still_known : (clients : Meaning) (contact : ℕ) (s s1 : StoreValue) (o o1 : Outside)

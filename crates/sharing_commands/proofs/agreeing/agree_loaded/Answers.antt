@@ -1,11 +1,9 @@
-use Rattle.std.proofs.Common.{◌≡◌, ℕ, List, [], ◌++◌, Err, ap, refl, sym, ◌∙◌}
+use Rattle.std.proofs.Common.{◌≡◌, ℕ, List, [], ◌++◌, Err, ap, refl, ◌∙◌}
 use Rattle.std.specs.String.{string_bytes}
-use Rattle.sync_rules.specs.Facts.{Facts}
-use Rattle.store_commands.proofs.Errands.{errand_on, errand_printed, errand_stopped}
-use Rattle.store_commands.proofs.Errands.{errand_unsettled, prints_plain}
+use Rattle.store_commands.proofs.Errands.{errand_on, errand_stopped, errand_unsettled}
 use Rattle.sharing_commands.specs.Agreeing.{agreement}
 use Rattle.sharing_commands.specs.Agreement.{agreed_text}
-use Rattle.sharing_commands.proofs.Wholes.{agreement_done, still_known}
+use Rattle.sharing_commands.proofs.Wholes.{agreement_done, agreement_printed, still_known}
 use Rattle.sharing_commands.proofs.agreeing.agree_loaded.Goals as goal
 
 pub returns-in_err-migrate_and_settle : goal.returns-in_err-migrate_and_settle
@@ -53,16 +51,15 @@ returns-in_err-add_agreed g c =
 pub returns : goal.returns
 returns g c =
     let clients = g.C.Clients.meaning c.args.clients.now in
-    let errand = agreement clients c.args.contact c.args.group.now in
     let e = c.in_ok-add_agreed.ensures in
     let empty : string_bytes c.new-text.result ≡ [] = c.new-text.ensures.bytes in
-    let text = agreed_text clients c.args.contact c.args.group.now in
-    errand_printed clients errand c.args.store c.migrate_and_settle.new.store
-    c.add_agreed.new.store _ _ _ _ _ _ _ c.as_str.result.now _ c.requires.ready.limited
-    c.in_ok-migrate_and_settle.ensures.run c.in_ok-migrate_and_settle.ensures.settled
-    (agreement_done clients c.args.contact c.args.group.now c.migrate_and_settle.new.store
-    c.add_agreed.new.store _ _ _ e.adds e.by e.settled)
-    (λ two1 j1 fits. c.as_str.ensures.value ∙ e.text
-    ∙ ap (λ (z : List ℕ). z ++ text c.migrate_and_settle.new.store.state.facts) empty
-    ∙ ap text (sym fits.facts_are))
-    (prints_plain c.as_str.result.now _ _ _ c.print_text.ensures)
+    agreement_printed clients c.args.contact c.args.group.now c.args.store
+    c.migrate_and_settle.new.store c.add_agreed.new.store _ _ _ _ _ _ _ c.as_str.result.now _
+    c.requires.ready.limited c.in_ok-migrate_and_settle.ensures.run
+    c.in_ok-migrate_and_settle.ensures.settled e.adds e.by e.settled
+    (c.as_str.ensures.value ∙ e.text
+    ∙ ap (λ (z : List ℕ).
+    z ++ agreed_text clients c.args.contact c.args.group.now
+    c.migrate_and_settle.new.store.state.facts)
+    empty)
+    c.print_text.ensures
