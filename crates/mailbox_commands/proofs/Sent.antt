@@ -1,5 +1,5 @@
 -- A file that is written, as an errand; and a run of the command that writes it.
-use Rattle.std.proofs.Common.{◌≡◌, ℕ, ◌+◌, ◌≤◌, arith, is_some, List, []}
+use Rattle.std.proofs.Common.{◌≡◌, ℕ, ◌≤◌, arith, is_some, List, []}
 use Rattle.std.proofs.Common.{◌++◌, refl, sym, ap, ◌∙◌, subst, inl, inr, Result, Ok, Err, None}
 use Rattle.std.proofs.Common.{Some}
 use Rattle.std.specs.Prelude.{IsErrAnd, Option}

@@ -1,8 +1,7 @@
 -- A store that is migrated, and then settled.
-use Rattle.std.proofs.Common.{◌≡◌, ◌-◌, ◌^◌, false, List, [], ◌++◌, refl, sym, ap, ◌∙◌, subst, inl}
+use Rattle.std.proofs.Common.{◌≡◌, false, [], sym, ap, ◌∙◌, subst, inl}
 use Rattle.std.proofs.Common.{inr, arith, Result, Ok, Err, IsErrOf}
 use Rattle.outside.specs.Outside.{DiskRun, Outside}
-use Rattle.sync_rules.specs.declared.entries.Entry.{Entry}
 use Rattle.sync_rules.specs.Clients.{Meaning}
 use Rattle.sync_rules.specs.Facts.{Facts, after_batches}
 use Rattle.sync_rules.specs.Legal.{AllSettling}
@@ -16,7 +15,7 @@ use Rattle.sync_store.proofs.Runs.{leads_both}
 use Rattle.sync_words.specs.declared.outcome.Outcome.{Outcome}
 use Rattle.sync_words.specs.declared.outcome.Outcome.TheVariants as outcome
 use Rattle.store_commands.specs.Commit.{ComesAnew, MigratedBy, MigratesAs, SettledAnew, SettledBy}
-use Rattle.store_commands.specs.Commit.{SettlesAnew, SettlesAs, short_generation}
+use Rattle.store_commands.specs.Commit.{SettlesAs, short_generation}
 
 -- ---- a migration
 

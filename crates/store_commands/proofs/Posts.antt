@@ -1,5 +1,5 @@
 -- A post, from its body to its outcome.
-use Rattle.std.proofs.Common.{◌≡◌, ℕ, ◌+◌, Bool, true, false, List, [], length, sym, ap}
+use Rattle.std.proofs.Common.{◌≡◌, ℕ, ◌+◌, Bool, true, false, List, length, sym, ap}
 use Rattle.std.proofs.Common.{◌∙◌, inl, inr, Some, None, Ok, Err}
 use Rattle.std.specs.Prelude.{◌==◌, nat_lt, is_some, if◌then◌else◌}
 use Rattle.std.specs.List.{list_all}

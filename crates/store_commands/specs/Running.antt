@@ -10,7 +10,7 @@ use Rattle.outside.specs.Streams.{Stream, IsIdle, GetsFront}
 use Rattle.sync_rules.specs.declared.entries.Entry.{Entry}
 use Rattle.sync_rules.specs.declared.states.Refused.{Refused}
 use Rattle.sync_rules.specs.Clients.{Meaning}
-use Rattle.sync_rules.specs.Facts.{Facts, facts}
+use Rattle.sync_rules.specs.Facts.{Facts}
 use Rattle.sync_rules.specs.Steps.{IsSettled}
 use Rattle.entry_codec.specs.Standing.{stands}
 use Rattle.sync_store.specs.Commits.{needed}

@@ -1,6 +1,5 @@
-use Rattle.std.proofs.Common.{◌≡◌, ℕ, List, [], ◌++◌, Err, ap, refl, sym, ◌∙◌}
-use Rattle.mailbox_core.specs.Files.{box_ending}
-use Rattle.mailbox_commands.specs.Taking.{in_errand, taken_text}
+use Rattle.std.proofs.Common.{Err, ap, refl}
+use Rattle.mailbox_commands.specs.Taking.{in_errand}
 use Rattle.store_commands.proofs.Errands.{errand_on, errand_stopped, errand_unsettled}
 use Rattle.mailbox_commands.proofs.Early.{still_begins}
 use Rattle.mailbox_commands.proofs.Taken.{taken_printed}

@@ -1,4 +1,4 @@
-use Rattle.std.proofs.Common.{◌≡◌, [], refl}
+use Rattle.std.proofs.Common.{[]}
 use Rattle.store_commands.proofs.Adds.{caused_later}
 use Rattle.store_commands.proofs.Migrates.{comes_settled, migrated_anew_err, settled_anew}
 use Rattle.store_commands.proofs.Migrates.{settled_unfull}

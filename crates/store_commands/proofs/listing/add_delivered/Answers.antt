@@ -1,4 +1,4 @@
-use Rattle.std.proofs.Common.{◌≡◌, List, ℕ, ◌++◌, length, ap, ◌∙◌, sym, Option, Some}
+use Rattle.std.proofs.Common.{◌≡◌, ◌++◌, length, ap, ◌∙◌, sym, Option}
 use Rattle.std.specs.String.{string_bytes}
 use Rattle.sync_rules.specs.Facts.{Held}
 use Rattle.sync_words.specs.HeldTexts.{inbox_text}
