@@ -1,6 +1,6 @@
 -- What every place of a node keeps: its journal is legal, the sessions that began are those of its links, and on each link the
 -- records taken are a front of those heard.
-use Rattle.std.proofs.Common.{◌≡◌, ℕ, zero, suc, ◌+◌, Bool, cond, eq-eqb, List, [], ◌∷◌, ◌++◌, length, length-append, refl, sym, ◌∙◌, ap, subst, inl, inr, arith, Option, Some}
+use Rattle.std.proofs.Common.{◌≡◌, ℕ, zero, suc, ◌+◌, Bool, cond, eq-eqb, List, [], ◌∷◌, ◌++◌, length, length-append, refl, sym, ◌∙◌, ap, subst, subst₂, inl, inr, arith, Option, Some}
 use Rattle.std.specs.Prelude.{slice_get, slice_set}
 use Rattle.record_grammar.specs.Laws.{RecordsJoin, StreamsGoOn}
 use Rattle.record_grammar.specs.declared.stream.Item.{Item}
@@ -30,12 +30,11 @@ module _ (clients : Meaning) (first : ℕ) where
   -- the batches of a path may follow one behind the other
   pub free_path_moves : (p q : Free) (es : List Event) → Path (FreeStep clients first) p es q
       → MovesOn clients (batches_of es) p.facts q.facts
-  free_path_moves p q [] path = moves_none clients p.facts q.facts (ap (λ (x : Free). x.facts) path)
+  free_path_moves p q [] path = moves_none (ap (λ (x : Free). x.facts) path)
   free_path_moves p q (e ∷ es) path =
-      subst (λ (bs : List (List Entry)). MovesOn clients bs p.facts q.facts)
-      (sym (batches_of-append (e ∷ []) es))
-      (moves_then clients (batches_of (e ∷ [])) (batches_of es) p.facts path.0.facts q.facts
-      (step_adds clients first p path.0 e path.1).moves (free_path_moves path.0 q es path.2))
+      subst (λ bs. MovesOn clients bs p.facts q.facts) (sym (batches_of-append (e ∷ []) es))
+      (moves_then (step_adds clients first p path.0 e path.1).moves
+      (free_path_moves path.0 q es path.2))
 
 pub run_moves : (clients : Meaning) (terms : Terms) (p q : Place) (es : List Event)
     → Path (RunStep clients terms) p es q → MovesOn clients (batches_of es) p.facts q.facts
@@ -138,51 +137,40 @@ module _ (go_on : StreamsGoOn) (join : RecordsJoin) (clients : Meaning) (first :
       → slice_get q.links i ≡ Some link
       → LinkGoes clients first e p q i → IsCounted q.facts (first + i) (pending_in q.hold i) link
   link_counted e p q i link s at (Kept k) =
-      subst (λ (its : List Item). IsCounted q.facts (first + i) its link) (sym k.pends)
-      (counted_same p.facts q.facts (first + i) (pending_in p.hold i) link k.takes
-      (s.counted i link (sym k.same ∙ at)))
+      subst (λ its. IsCounted q.facts (first + i) its link) (sym k.pends)
+      (counted_same k.takes (s.counted i link (sym k.same ∙ at)))
   link_counted e p q i link s at (Closed c) =
-      subst (λ (its : List Item). IsCounted q.facts (first + i) its link) (sym c.pends)
-      (subst (λ (f : Facts). IsCounted f (first + i) (pending_in p.hold i) link) (sym c.facts)
-      (counted_ends p.facts (first + i) (pending_in p.hold i) c.was link
-      (ap (λ (l : Link). l.heard) (get_same at c.now))
+      let same : link ≡ record c.was { stands = cond c.beaten end.Redundant c.was.stands } =
+      get_same at c.now in
+      subst₂ (λ its f. IsCounted f (first + i) its link) (sym c.pends) (sym c.facts)
+      (counted_ends (ap (λ (l : Link). l.heard) same)
       (λ keeps.
       ended_keeps c.beaten c.was.stands c.going
-      (sym (ap (λ (l : Link). keeps_all l.stands) (get_same at c.now)) ∙ keeps))
-      (s.counted i c.was c.at)))
+      (sym (ap (λ (l : Link). keeps_all l.stands) same) ∙ keeps))
+      (s.counted i c.was c.at))
   link_counted e p q i link s at (Joined j) =
-      let begun : (p.facts.begun ≡ suc (first + length p.links))
-      × (takes_of p.facts.takes (first + length p.links) ≡ 0) =
-      subst (λ (h : Hold). IsBegunAt first h (length p.links) p.facts) j.begins s.begun in
+      let begun : IsBegunAt first (Begins j.session) (length p.links) p.facts =
+      subst (λ h. IsBegunAt first h (length p.links) p.facts) j.begins s.begun in
       let none : takes_of q.facts.takes (first + i) ≡ 0 =
       ap (λ (f : Facts). takes_of f.takes (first + i)) j.facts
-      ∙ ap (λ (k : ℕ). takes_of p.facts.takes (first + k)) j.is_next
+      ∙ ap (λ k. takes_of p.facts.takes (first + k)) j.is_next
       ∙ begun.1 in
-      subst (λ (its : List Item). IsCounted q.facts (first + i) its link) (sym j.pends)
-      (subst (λ (l : Link). IsCounted q.facts (first + i) [] l) (sym (get_same at j.now))
-      (new_counted q.facts (first + i) j.session j.stands none))
+      subst₂ (IsCounted q.facts (first + i)) (sym j.pends) (sym (get_same at j.now))
+      (new_counted q.facts (first + i) j.session j.stands none)
   link_counted e p q i link s at (Stepped t) =
-      let itself : (d : Doing) → pending_in (Holds i d) i ≡ pending d =
-      λ d. ap (λ (b : Bool). cond b (pending d) []) (eq-eqb i i refl) in
-      let before : IsCounted p.facts (first + i) (pending t.doing) t.link =
-      subst (λ (its : List Item). IsCounted p.facts (first + i) its t.link)
-      (ap (λ (h : Hold). pending_in h i) t.held ∙ itself t.doing) (s.counted i t.link t.at) in
-      let behind : IsCounted t.spot.facts (first + i) (pending t.spot.doing) t.spot.link =
-      link_step_counted go_on join clients i (first + i) (spot_in t.doing t.link t.moved p)
-      t.spot e t.steps before in
-      subst (λ (its : List Item). IsCounted q.facts (first + i) its link)
-      (sym (ap (λ (h : Hold). pending_in h i) t.holds ∙ itself t.spot.doing))
-      (subst (λ (f : Facts). IsCounted f (first + i) (pending t.spot.doing) link) (sym t.facts)
-      (subst (λ (l : Link). IsCounted t.spot.facts (first + i) (pending t.spot.doing) l)
+      let held : (h : Hold) (d : Doing) → h ≡ Holds i d → pending_in h i ≡ pending d =
+      λ h d is. ap (λ x. pending_in x i) is ∙ ap (λ b. cond b (pending d) []) (eq-eqb i i refl) in
+      subst₂ (IsCounted q.facts (first + i)) (sym (held q.hold t.spot.doing t.holds))
       (sym (get_same at t.now))
-      behind))
+      (subst (λ f. IsCounted f (first + i) (pending t.spot.doing) t.spot.link) (sym t.facts)
+      (link_step_counted go_on join clients i (first + i) (spot_in t.doing t.link t.moved p)
+      t.spot e t.steps
+      (subst (λ its. IsCounted p.facts (first + i) its t.link) (held p.hold t.doing t.held)
+      (s.counted i t.link t.at))))
 
   pub free_sound : (p q : Free) (e : Event) → FreeStep clients first p e q → Sound p → Sound q
   free_sound p q e t s = record {
-    of_journal =
-        journal_moves clients (batches_of (e ∷ [])) p.facts q.facts
-        (step_adds clients first p q e t).moves
-        s.of_journal;
+    of_journal = journal_moves (step_adds clients first p q e t).moves s.of_journal;
     begun = free_begun clients first p q e t s.of_journal s.begun;
     counted = λ i link at. link_counted e p q i link s at (free_link clients first p q e i t);
   }

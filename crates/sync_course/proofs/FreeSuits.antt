@@ -17,7 +17,7 @@ use Rattle.sync_rules.specs.Growth.{IsFront}
 use Rattle.sync_rules.specs.Legal.{Legal}
 use Rattle.sync_rules.proofs.Continuing.{front_itself, front_then}
 use Rattle.sync_course.specs.Acts.{Act, AtFront, Does, Send, Fail, batches_in, events_of, next_bytes, sends_on}
-use Rattle.sync_course.specs.Events.{Event, Commit, batches_of}
+use Rattle.sync_course.specs.Events.{Event, Commit, batches_of, has_failure}
 use Rattle.sync_course.specs.Free.{Free, FreeStep, Hold, first_free}
 use Rattle.sync_course.specs.Links.{Link}
 use Rattle.sync_course.specs.Owing.{Owing, paid}
@@ -29,24 +29,17 @@ use Rattle.sync_course.proofs.FreeSound.{IsBegunAt, IsFreeSound, first_free_soun
 use Rattle.sync_course.proofs.FreeSteps.{step_adds, free_batches, pending_in}
 use Rattle.sync_course.proofs.HeardLaws.{bytes_of, free_path_adds}
 use Rattle.sync_course.proofs.PathLaws.{path_parts}
-use Rattle.sync_course.proofs.RunLaws.{get_middle, get_front}
-use Rattle.sync_course.proofs.SendLaws.{ActsOn, HasSent, acts_sent, events_path, front_before, front_of_none, output}
+use Rattle.sync_course.proofs.RunLaws.{get_behind, get_front, get_middle}
+use Rattle.sync_course.proofs.SendLaws.{ActsOn, HasSent, acts_sent, events_path, front_before, front_of_none, front_so, output}
 use Rattle.sync_course.proofs.ToldLaws.{batches_of-append}
 use Rattle.record_grammar.specs.Stream.{records, records_of}
 use Rattle.sync_ids.specs.declared.records.Record.{Record}
 
--- ---- what was heard only grows
-
-abbrev pub FreeHeard : Free → Free → Type 0
-FreeHeard p q = (i : ℕ) → IsFront (heard_at p i) (heard_at q i)
-
-module _ (clients : Meaning) (first : ℕ) where
-  pub free_path_heard : (p q : Free) (es : List Event) → Path (FreeStep clients first) p es q → FreeHeard p q
-  free_path_heard p q es path = λ i.
-      record { more = bytes_of i es; goes_on = free_path_adds clients first es p q i path }
-
-  pub free_heard : (p q : Free) (e : Event) → FreeStep clients first p e q → FreeHeard p q
-  free_heard p q e step = free_path_heard p q (e ∷ []) (q, step, refl)
+-- what was heard only grows
+free_path_heard : (clients : Meaning) (first : ℕ) (p q : Free) (es : List Event)
+    → Path (FreeStep clients first) p es q → (i : ℕ) → IsFront (heard_at p i) (heard_at q i)
+free_path_heard clients first p q es path i =
+    record { more = bytes_of i es; goes_on = free_path_adds clients first es p q i path }
 
 -- ---- which sessions began
 
@@ -96,32 +89,31 @@ module _ (fronts : FrontsHaveFronts) (clients : Meaning) (first : ℕ) (plans : 
         adds = λ b rests plain allowed planned. (inl plain, tt);
         begins = λ x rests allowed planned.
             let begun : p.facts.begun ≡ first + length p.links =
-            subst (λ (h : Hold). IsBegunAt first h (length p.links) p.facts) rests s.begun in
-            let begins_so : BeginsAsPlanned first plans p.facts x = record {
-              link = length p.links;
-              on = begun;
-              planned = planned x refl begun;
-            } in
-            (inr (inr begins_so), tt);
+            subst (λ h. IsBegunAt first h (length p.links) p.facts) rests s.begun in (
+              inr (inr (record {
+                link = length p.links;
+                on = begun;
+                planned = planned x refl begun;
+              })),
+              tt,
+            );
         takes = λ n place r its link holds at allowed planned.
             let itself : nat_eq n n ≡ true = eq-eqb n n refl in
             let pends : pending_in p.hold n ≡ item.One place r ∷ its =
             ap (λ (h : Hold). pending_in h n) holds
-            ∙ ap (λ (b : Bool). cond b (item.One place r ∷ its) []) itself in
-            let takes_so : TakesHeard first heard p.facts (first + n)
-            (takes_of p.facts.takes (first + n))
-            (taken p.facts (first + n) r) = record {
-              link = n;
-              on = refl;
-              read = r;
-              stands =
-                  next_stands fronts heard p.facts (first + n) place n r its link
-                  (subst (λ (o : Option Link). IsFront (heard_in o) (heard n)) at (grows n))
-                  (subst (λ (l : List Item). IsCounted p.facts (first + n) l link) pends
-                  (s.counted n link at));
-              so = refl;
-            } in
-            (inr (inr takes_so), tt);
+            ∙ ap (λ (b : Bool). cond b (item.One place r ∷ its) []) itself in (
+              inr (inr (record {
+                link = n;
+                on = refl;
+                read = r;
+                stands =
+                    next_stands fronts heard p.facts (first + n) place n r its link
+                    (subst (λ o. IsFront (heard_in o) (heard n)) at (grows n))
+                    (subst (λ l. IsCounted p.facts (first + n) l link) pends (s.counted n link at));
+                so = refl;
+              })),
+              tt,
+            );
         puts = λ n now room what link holds at is_due allowed planned. (inr (inr (n, refl)), tt);
       }) q e t
 
@@ -135,51 +127,42 @@ module _ (fronts : FrontsHaveFronts) (clients : Meaning) (first : ℕ) (plans : 
   suit_front f [] cs a = tt
   suit_front f (x ∷ bs) cs a = (a.0, suit_front (after_all f x) bs cs a.1)
 
-module _ (go_on : StreamsGoOn) (join : RecordsJoin) (fronts : FrontsHaveFronts) (clients : Meaning) (first : ℕ) (heard : ℕ → List ℕ) where
-  -- the sessions planned are those that began before and those that begin on the path
-  pub free_path_suits : (done : List (List Entry)) (p q : Free) (es : List Event) → Path (FreeStep clients first) p es q
-      → ((i : ℕ) → IsFront (heard_at q i) (heard i)) → IsFreeSound clients first p → p.facts.begun ≡ first + length (begun_by done)
-      → AllSuitNode clients first (begun_by (done ++ batches_of es)) heard p.facts (batches_of es)
-  free_path_suits done p q [] path grows s count = tt
-  free_path_suits done p q (e ∷ es) path grows s count =
+module _ (go_on : StreamsGoOn) (join : RecordsJoin) (fronts : FrontsHaveFronts) (clients : Meaning)
+    (first : ℕ) (plans : List Session) (heard : ℕ → List ℕ) where
+  -- as many sessions began before, and those that begin on the path are planned behind them
+  pub free_path_suits : (n : ℕ) (p q : Free) (es : List Event) → Path (FreeStep clients first) p es q
+      → ((i : ℕ) → IsFront (heard_at q i) (heard i)) → IsFreeSound clients first p
+      → p.facts.begun ≡ first + n
+      → ((k i : ℕ) (x : Session) → i ≡ n + k → slice_get (begun_by (batches_of es)) k ≡ Some x
+      → slice_get plans i ≡ Some x)
+      → AllSuitNode clients first plans heard p.facts (batches_of es)
+  free_path_suits n p q [] path grows s count planned = tt
+  free_path_suits n p q (e ∷ es) path grows s count planned =
       let next : Free = path.0 in
       let new : List (List Entry) = batches_of (e ∷ []) in
       let later : List (List Entry) = batches_of es in
-      let plans : List Session = begun_by (done ++ batches_of (e ∷ es)) in
+      let adds = step_adds clients first p next e path.1 in
       let parts : batches_of (e ∷ es) ≡ new ++ later = batches_of-append (e ∷ []) es in
-      let from_next : (i : ℕ) → IsFront (heard_at next i) (heard i) =
-      λ i. front_then (heard_at next i) (heard_at q i) (heard i) (free_path_heard clients first next q es path.2 i) (grows i) in
-      let from_here : (i : ℕ) → IsFront (heard_at p i) (heard i) =
-      λ i. front_then (heard_at p i) (heard_at next i) (heard i) (free_heard clients first p next e path.1 i) (from_next i) in
-      let planned : (x : Session) → e ≡ Commit (entry.Session x ∷ []) → p.facts.begun ≡ first + length p.links
-      → slice_get plans (length p.links) ≡ Some x =
+      let grown : next.facts.begun ≡ p.facts.begun + length (begun_by new) = adds.begun in
+      let here : (x : Session) → e ≡ Commit (entry.Session x ∷ [])
+      → p.facts.begun ≡ first + length p.links → slice_get plans (length p.links) ≡ Some x =
       λ x is at_rest.
-      let number : length (begun_by done) ≡ length p.links =
-      let a : p.facts.begun ≡ first + length (begun_by done) = count in
-      let b : p.facts.begun ≡ first + length p.links = at_rest in
-      omega (arith, a, b) in
-      let list : plans ≡ begun_by done ++ x ∷ begun_by later =
-      ap (λ (y : Event). begun_by (done ++ batches_of (y ∷ es))) is ∙ begun_by-append done ((entry.Session x ∷ []) ∷ later) in
-      subst (λ (l : List Session). slice_get l (length p.links) ≡ Some x) (sym list)
-      (subst (λ (k : ℕ). slice_get (begun_by done ++ x ∷ begun_by later) k ≡ Some x) number (get_middle (begun_by done) (begun_by later) x)) in
-      let grown : next.facts.begun ≡ p.facts.begun + length (begun_by new) =
-      (step_adds clients first p next e path.1).begun in
-      let counts : next.facts.begun ≡ first + length (begun_by (done ++ new)) =
-      let a : p.facts.begun ≡ first + length (begun_by done) = count in
-      let b : length (begun_by (done ++ new)) ≡ length (begun_by done) + length (begun_by new) =
-      ap (λ (l : List Session). length l) (begun_by-append done new) ∙ length-append (begun_by done) (begun_by new) in
-      omega (arith, a, b, grown) in
-      let rest : AllSuitNode clients first (begun_by ((done ++ new) ++ later)) heard next.facts later =
-      free_path_suits (done ++ new) next q es path.2 grows (free_sound go_on join clients first p next e path.1 s) counts in
-      let same_plans : begun_by ((done ++ new) ++ later) ≡ plans =
-      ap begun_by (append_assoc done new later ∙ ap (λ (l : List (List Entry)). done ++ l) (sym parts)) in
-      let behind : AllSuitNode clients first plans heard (after_batches p.facts new) later =
-      subst (λ (f : Facts). AllSuitNode clients first plans heard f later)
-      (step_adds clients first p next e path.1).moves.facts
-      (subst (λ (l : List Session). AllSuitNode clients first l heard next.facts later) same_plans rest) in
+      let at : p.facts.begun ≡ first + length p.links = at_rest in
+      planned 0 (length p.links) x (omega (arith, count, at))
+      (ap (λ y. slice_get (begun_by (batches_of (y ∷ es))) 0) is) in
+      let behind : AllSuitNode clients first plans heard next.facts later =
+      free_path_suits (n + length (begun_by new)) next q es path.2 grows
+      (free_sound go_on join clients first p next e path.1 s) (omega (arith, count, grown))
+      (λ k i x number at.
+      planned (length (begun_by new) + k) i x (omega (arith, number))
+      (ap (λ l. slice_get l (length (begun_by new) + k)) (ap begun_by parts ∙ begun_by-append new later)
+      ∙ get_behind (begun_by new) (begun_by later) k _ refl
+      ∙ at)) in
       subst (AllSuitNode clients first plans heard p.facts) (sym parts)
       (suit_then fronts clients first plans heard p.facts new later
-      (free_suits fronts clients first plans heard e p next path.1 from_here s planned) behind)
+      (free_suits fronts clients first plans heard e p next path.1
+      (λ i. front_then _ _ _ (free_path_heard clients first p q (e ∷ es) path i) (grows i)) s here)
+      (subst (λ f. AllSuitNode clients first plans heard f later) adds.moves.facts behind))
 
 -- ---- moments
 
@@ -218,9 +201,14 @@ moment_stands go_on join fronts clients j acts to m legal path front =
     acts_sent go_on join clients j front.before mid legal parts.1 in
     let events : Path (FreeStep clients first) (first_free (facts j)) (events_of acts) to.at =
     events_path clients first start to acts path in
+    let begun : first ≡ first + 0 = omega arith in
     let whole : AllSuitNode clients first (begun_by (batches_in acts)) (heard_at to.at) (facts j) (batches_in acts) =
-    free_path_suits go_on join fronts clients first (heard_at to.at) [] (first_free (facts j)) to.at (events_of acts) events
-    (λ i. front_itself (heard_at to.at i)) (first_free_sound clients j legal) (let e : first ≡ first + 0 = omega arith in e) in
+    free_path_suits go_on join fronts clients first (begun_by (batches_in acts)) (heard_at to.at) 0
+    (first_free (facts j)) to.at (events_of acts) events (λ i. front_itself (heard_at to.at i))
+    (first_free_sound clients j legal) begun
+    (λ k i x number at.
+    let same : k ≡ i = omega (arith, number) in
+    subst (λ m. slice_get (begun_by (batches_in acts)) m ≡ Some x) same at) in
     let batches : batches_in acts ≡ batches_in front.before ++ batches_in front.behind =
     ap batches_in front.parts ∙ batches_in-append front.before front.behind in
     record {
@@ -231,13 +219,11 @@ moment_stands go_on join fronts clients j acts to m legal path front =
           (batches_in front.behind)
           (subst (AllSuitNode clients first (begun_by (batches_in acts)) (heard_at to.at) (facts j)) batches whole);
       has_sent = λ link.
-          subst (λ (l : List ℕ). runs.IsFront l (output (j ++ batches_in front.before) (first + link))) (sym (front.has_sent link))
-          (runs_laws.front_then (sends_on link front.before ++ front.part link)
-          (sends_on link front.before ++ mid.owed link)
-          (output (j ++ batches_in front.before) (first + link))
-          (front_before (front.part link) (mid.owed link) (sends_on link front.before)
-          (runs_laws.front_then (front.part link) (next_bytes link front.behind) (mid.owed link)
-          (front.begun link)
+          subst (λ l. runs.IsFront l (output (j ++ batches_in front.before) (first + link)))
+          (sym (front.has_sent link))
+          (runs_laws.front_then _ _ _
+          (front_before _ _ (sends_on link front.before)
+          (runs_laws.front_then _ _ _ (front.begun link)
           (next_owed clients first front.behind mid to link parts.2)))
-          (sent.front link));
+          (front_so (has_failure link (events_of front.before)) (sent.sent link)));
     }

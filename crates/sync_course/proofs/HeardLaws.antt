@@ -19,6 +19,7 @@ use Rattle.sync_course.specs.Suits.{heard_in}
 use Rattle.sync_course.proofs.FreeSteps.{Closed, Joined, Kept, LinkGoes, Stepped, free_link}
 use Rattle.sync_course.proofs.LinkSteps.{Spares, link_by_cases}
 use Rattle.sync_course.proofs.LiftLaws.{get_past}
+use Rattle.sync_course.proofs.RunLaws.{cond_same}
 
 -- the bytes that an event brings on a link, and those of several
 abbrev pub bytes_by : ℕ → Event → List ℕ
@@ -130,28 +131,31 @@ length_heard (Hear n reply) h = length_changed n (hear_reply PIECE_LEN reply) h
 length_heard (Miss n) h = length_changed n hear_failure h
 length_heard _ h = refl
 
+-- the answers of one link change by these bytes
+changed_bytes : (n : ℕ) (f : HeardOn → HeardOn) (more : List ℕ) (h : List HeardOn) (i : ℕ)
+    → i < length h
+    → ((x : HeardOn) → heard_bytes (f x).answers ≡ heard_bytes x.answers ++ more)
+    → at_of (changed_at n f h) i ≡ at_of h i ++ cond (nat_eq n i) more []
+changed_bytes n f more h i within adds =
+    elim (cases_eq i n) [
+      | inl same ↦
+          subst (λ k. at_of (changed_at k f h) i ≡ at_of h i ++ cond (nat_eq k i) more []) same
+          (ap (λ x. heard_bytes x.answers) (changed_at_same i f h nothing_heard within)
+          ∙ adds (slice_index_or h i nothing_heard)
+          ∙ ap (λ l. at_of h i ++ l) (sym (here i more)))
+      | inr apart ↦
+          none_more _ _
+          (ap (λ x. heard_bytes x.answers) (changed_at_other n f h i nothing_heard apart))
+          ∙ ap (λ b. at_of h i ++ cond b more []) (sym (ne_eqb n i (λ same. apart (sym same))))
+    ]
+
 event_tells : (e : Event) (h : List HeardOn) (i : ℕ) → i < length h → at_of (heard_by e h) i ≡ at_of h i ++ bytes_by i e
 event_tells (Hear n reply) h i within =
-    elim (cases_eq i n) [
-      | inl same ↦
-          subst (λ (k : ℕ). at_of (changed_at n (hear_reply PIECE_LEN reply) h) k ≡ at_of h k ++ cond (nat_eq n k) (reply_bytes reply) []) (sym same)
-          (ap (λ (x : HeardOn). heard_bytes x.answers) (changed_at_same n (hear_reply PIECE_LEN reply) h nothing_heard (subst (λ (k : ℕ). k < length h) same within))
-          ∙ replied (slice_index_or h n nothing_heard) PIECE_LEN reply
-          ∙ ap (λ (l : List ℕ). at_of h n ++ l) (sym (here n (reply_bytes reply))))
-      | inr apart ↦
-          ap (λ (x : HeardOn). heard_bytes x.answers) (changed_at_other n (hear_reply PIECE_LEN reply) h i nothing_heard apart)
-          ∙ sym (append-nil (at_of h i))
-          ∙ ap (λ (l : List ℕ). at_of h i ++ l)
-          (sym (spared_bytes i (Hear n reply) (λ same. apart (sym same))))
-    ]
+    changed_bytes n (hear_reply PIECE_LEN reply) (reply_bytes reply) h i within
+    (λ x. replied x PIECE_LEN reply)
 event_tells (Miss n) h i within =
-    elim (cases_eq i n) [
-      | inl same ↦
-          ap (λ (x : HeardOn). heard_bytes x.answers)
-          (subst (λ (k : ℕ). slice_index_or (changed_at k hear_failure h) i nothing_heard ≡ hear_failure (slice_index_or h i nothing_heard)) same (changed_at_same i hear_failure h nothing_heard within))
-          ∙ sym (append-nil (at_of h i))
-      | inr apart ↦ ap (λ (x : HeardOn). heard_bytes x.answers) (changed_at_other n hear_failure h i nothing_heard apart) ∙ sym (append-nil (at_of h i))
-    ]
+    changed_bytes n hear_failure [] h i within (λ x. sym (append-nil (heard_bytes x.answers)))
+    ∙ ap (λ l. at_of h i ++ l) (cond_same (nat_eq n i) [])
 event_tells _ h i within = sym (append-nil (at_of h i))
 
 pub events_tell : (es : List Event) (h : List HeardOn) (i : ℕ) → i < length h → at_of (heard_after es h) i ≡ at_of h i ++ bytes_of i es

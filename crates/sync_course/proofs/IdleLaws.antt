@@ -15,20 +15,16 @@ use Rattle.sync_course.specs.declared.ends.LinkEnd.TheVariants as end
 use Rattle.sync_course.specs.Closing.{closing}
 use Rattle.sync_course.specs.Events.{Pass}
 use Rattle.sync_course.specs.Links.{Link, beats, link_of, without_redundant}
-use Rattle.sync_course.specs.LinkTurns.{Asks, Done, IsNothingDue, Sends, Spot, Waits}
+use Rattle.sync_course.specs.LinkTurns.{Asks, Doing, Done, IsNothingDue, Sends, Spot, Waits}
 use Rattle.sync_course.specs.Paths.{Path}
 use Rattle.sync_course.proofs.PathLaws.{path_then}
-use Rattle.sync_course.proofs.KeptLaws.{not_itself}
+use Rattle.sync_course.proofs.KeptLaws.{never, not_itself}
 use Rattle.sync_course.specs.Turns.{Attaches, Between, Course, Ended, Greets, Place, RunStep, Terms, Works, attached, first_place, is_at_end, is_over, turn_ended, with_spot}
 use Rattle.sync_course.specs.Idle.{greeting, idle_turn, idle_turns, idle_run, idle_place, idle_end}
 
-beats_itself : (i : ℕ) (a : Link) (b : Bool) → beats i a i a ≡ b → b ≡ false
-beats_itself i a true is = not_itself i a is
-beats_itself i a false is = refl
-
 one_link : (link : Link) → without_redundant (link ∷ []) ≡ link ∷ []
 one_link link =
-    let none : beats 0 link 0 link ≡ false = beats_itself 0 link (beats 0 link 0 link) refl in
+    let none : beats 0 link 0 link ≡ false = never (beats 0 link 0 link) (not_itself 0 link) in
     ap (λ (b : Bool). record link { stands = cond (b || false) end.Redundant link.stands } ∷ []) none
 
 module _ (clients : Meaning) (terms : Terms) (s : Session) (now : ℕ) (f : Facts)
@@ -36,39 +32,27 @@ module _ (clients : Meaning) (terms : Terms) (s : Session) (now : ℕ) (f : Fact
   idle_turn_path : (n : ℕ) → is_at_end terms (idle_place s n f) ≡ false
       → Path (RunStep clients terms) (idle_place s n f) (idle_turn now) (idle_place s (suc n) f)
   idle_turn_path n on =
-      let link : Link = link_of s end.Going in
       let p1 : Place = record (idle_place s n f) { stage = Works 0 Asks; moved = false } in
-      let heard : Spot = record { doing = Waits; link = link; moved = false; facts = f } in
-      let read : Spot = record { doing = Sends now MAX_OUTPUTS; link = link; moved = false; facts = f } in
-      let done : Spot = record { doing = Done; link = link; moved = false; facts = f } in
-      let p5 : Place = record (with_spot 0 done p1) { stage = Works 1 Asks } in
+      let at : Doing → Spot = λ doing.
+      record { doing = doing; link = link_of s end.Going; moved = false; facts = f } in
+      let p5 : Place = record (with_spot 0 (at Done) p1) { stage = Works 1 Asks } in
       let begins : p1 ≡ cond (is_at_end terms (idle_place s n f)) (record (idle_place s n f) { stage = Ended }) p1 =
-      ap (λ (b : Bool). cond b (record (idle_place s n f) { stage = Ended }) p1) (sym on) in
+      ap (λ b. cond b (record (idle_place s n f) { stage = Ended }) p1) (sym on) in
       let ends : idle_place s (suc n) f ≡ turn_ended p5 =
-      ap (λ (links : List Link). record {
-        stage = Between;
-        links = links;
-        moved = false;
-        still = suc n;
-        made = suc n;
-        facts = f;
-      }) (sym (one_link link)) in (
+      ap (λ (links : List Link). record (idle_place s (suc n) f) { links = links }) (sym (one_link (link_of s end.Going))) in
+      let works : (doing : Doing) → Place = λ doing. with_spot 0 (at doing) p1 in (
         p1,
         begins,
         (
-          with_spot 0 heard p1,
-          inl (record { spot = heard; steps = (refl, refl, refl); leads = refl }),
+          works Waits,
+          inl (record { spot = at Waits; steps = (refl, refl, refl); leads = refl }),
           (
-            with_spot 0 read p1,
-            inl (record { spot = read; steps = (refl, refl, refl); leads = refl }),
+            works (Sends now MAX_OUTPUTS),
+            inl (record { spot = at (Sends now MAX_OUTPUTS); steps = (refl, refl, refl); leads = refl }),
             (
-              with_spot 0 done p1,
-              inl (record { spot = done; steps = (nothing_due, refl); leads = refl }),
-              (
-                p5,
-                inr refl,
-                (idle_place s (suc n) f, ends, refl),
-              ),
+              works Done,
+              inl (record { spot = at Done; steps = (nothing_due, refl); leads = refl }),
+              (p5, inr refl, (idle_place s (suc n) f, ends, refl)),
             ),
           ),
         ),

@@ -1,6 +1,6 @@
 -- Redundant links: behind each that is closed stands one that is kept, and closing them one after the other, each by the links as they
 -- then stand, closes the same ones.
-use Rattle.std.proofs.Common.{◌≡◌, ◌⊎◌, ℕ, zero, suc, ◌+◌, ◌<◌, Bool, true, false, cond, ◌&&◌, ◌||◌, nat_eq, eq-eqb, eqb-true, List, [], ◌∷◌, length, refl, sym, ◌∙◌, ap, subst, inl, inr, arith, Option, None, Some}
+use Rattle.std.proofs.Common.{◌≡◌, ◌⊎◌, ℕ, zero, suc, ◌+◌, ◌<◌, Bool, true, false, cond, ◌&&◌, ◌||◌, nat_eq, eq-eqb, eqb-true, List, [], ◌∷◌, length, refl, sym, ◌∙◌, ap, ap₂, subst, inl, inr, arith, Option, None, Some}
 use Rattle.std.specs.Cmp.Lexicographic.{nat_list_cmp_total, slice_cmp}
 use Rattle.std.specs.Ordering.{nat_cmp, ordering_reverse}
 use Rattle.std.specs.Prelude.{nat_lt, slice_get, slice_set}
@@ -95,13 +95,13 @@ beats_then i a m c k b first second =
       kept = kept_then a.nonce c.nonce b.nonce (nat_lt i m) (nat_lt m k) (nat_lt i k) (smaller_then i m k) p.kept q.kept;
     })
 
-not_smaller : (i : ℕ) (b : Bool) → nat_lt i i ≡ b → b ≡ false
-not_smaller i true is = let less : i < i = ltb-true i i is in absurd (omega (arith, less))
-not_smaller i false is = refl
+pub never : (t : Bool) → (t ≡ true → ⊥) → t ≡ false
+never true absent = absurd (absent refl)
+never false absent = refl
 
 pub not_itself : {A : Type 0} → (i : ℕ) (a : Link) → beats i a i a ≡ true → A
 not_itself i a is =
-    let none : nat_lt i i ≡ false = not_smaller i (nat_lt i i) refl in
+    let none : nat_lt i i ≡ false = never (nat_lt i i) (λ is. let less : i < i = ltb-true i i is in omega (arith, less)) in
     absurd (false≢true (sym (not_kept a.nonce) ∙ ap (λ (b : Bool). is_kept a.nonce a.nonce b) (sym none) ∙ (beats_parts i a i a is).kept))
 
 -- ---- the one that is kept
@@ -109,10 +109,6 @@ not_itself i a is =
 or_false : (a b : Bool) → a ≡ false → b ≡ false → (a || b) ≡ false
 or_false true b e f = cc
 or_false false b e f = f
-
-never : (t : Bool) → (t ≡ true → ⊥) → t ≡ false
-never true absent = absurd (absent refl)
-never false absent = refl
 
 module _ {A : Type 0} (over : A → A → Bool) where
   -- one of a list is over this one
@@ -248,8 +244,7 @@ closed_more all k m [] b at = cc
 closed_more all k zero (x ∷ links) b at =
     let same : x ≡ b = cc in
     let here : k ≡ k + 0 = omega arith in
-    subst (λ (n : ℕ). closed_as all k x ∷ links ≡ closed_as all n b ∷ links) here
-    (ap (λ (y : Link). closed_as all k y ∷ links) same)
+    ap₂ (λ y n. closed_as all n y ∷ links) same here
 closed_more all k (suc m) (x ∷ links) b at =
     let later : suc k + m ≡ k + suc m = omega arith in
     ap (λ (l : List Link). closed_as all k x ∷ l)

@@ -1,6 +1,6 @@
 -- What the last still turns of a run had, Idle answers alone and nothing due at the readings made
 -- in them; and how a run stands that is over.
-use Rattle.std.proofs.Common.{◌≡◌, ℕ, zero, suc, ◌+◌, ◌<◌, ◌≤◌, Bool, true, false, cond, nat_eq, eq-eqb, List, [], ◌∷◌, length, refl, sym, ◌∙◌, ap, subst, inl, inr, arith, Option, None, Some, not, ◌||◌, nat_le, ◌++◌, append-nil}
+use Rattle.std.proofs.Common.{◌≡◌, ℕ, zero, suc, ◌+◌, ◌<◌, ◌≤◌, Bool, true, false, cond, nat_eq, eq-eqb, List, [], ◌∷◌, length, refl, sym, ◌∙◌, ap, subst, subst₂, inl, inr, arith, Option, None, Some, not, ◌||◌, nat_le, ◌++◌, append-nil}
 use Rattle.std.specs.Prelude.{slice_get, nat_lt}
 use Rattle.std.proofs.lemmas.Bool.{cases_eq, false≢true, ne_eqb, and_parts, leb-true, ltb-true, or_left, or_right}
 use Rattle.outside.specs.Links.{idle}
@@ -28,7 +28,7 @@ use Rattle.sync_rules.specs.declared.entries.Session.{Session}
 use Rattle.sync_rules.specs.Legal.{Legal}
 use Rattle.sync_rules.specs.Steps.{IsSettled}
 use Rattle.sync_course.specs.Pending.{pending_at}
-use Rattle.sync_course.proofs.FreeSound.{run_counted}
+use Rattle.sync_course.proofs.FreeSound.{get_same, run_counted}
 use Rattle.sync_course.proofs.PlaceLaws.{PlaceKeeps, path_stays}
 use Rattle.sync_course.specs.Suits.{IsCounted, AreRecordsTaken, keeps_all}
 
@@ -57,7 +57,7 @@ IsStill clients f session still idles reading Done link = HadTurn clients f sess
 pub record StillStep (clients : Meaning) (session still idles : ℕ) (reading : Option ℕ) (p q : Spot) : Type 0 where
   pub unmoved : p.moved ≡ false
   pub facts : q.facts ≡ p.facts
-  pub so : IsStill clients p.facts session still idles reading q.doing q.link
+  pub so : IsStill clients q.facts session still idles reading q.doing q.link
 
 -- an event behind which a spot has moved is no step of a still turn
 moved : {A : Type 0} → true ≡ false → A
@@ -145,13 +145,48 @@ pub record BetweenTurns (clients : Meaning) (terms : Terms) (idles : ℕ → ℕ
   pub quiet : 0 < p.still → (i : ℕ) (link : Link) → slice_get p.links i ≡ Some link → is_sent_to link.stands ≡ true
       → IsQuietAt clients p.facts (terms.first + i) (readings i)
 
--- in a turn that did not move: the links that had their turn, the one that has it, and those that are to have it
-pub record InTurn (clients : Meaning) (terms : Terms) (idles : ℕ → ℕ) (readings : ℕ → Option ℕ) (n : ℕ) (doing : Doing) (p : Place) : Type 0 where
-  pub passed : (i : ℕ) (link : Link) → slice_get p.links i ≡ Some link → i < n
-      → HadTurn clients p.facts (terms.first + i) p.still (idles i) (readings i) link
-  pub here : (link : Link) → slice_get p.links n ≡ Some link
-      → IsStill clients p.facts (terms.first + n) p.still (idles n) (readings n) doing link
-  pub coming : (i : ℕ) (link : Link) → slice_get p.links i ≡ Some link → n < i → IsIdle p.still (idles i) link
+-- what a link does in a turn, where the one of a number does this: those before it are done, and those behind it are yet to ask
+abbrev pub phase : ℕ → Doing → ℕ → Doing
+phase zero doing zero = doing
+phase zero doing (suc i) = Asks
+phase (suc n) doing zero = Done
+phase (suc n) doing (suc i) = phase n doing i
+
+phase_here : (n : ℕ) (doing : Doing) → phase n doing n ≡ doing
+phase_here zero doing = refl
+phase_here (suc n) doing = phase_here n doing
+
+phase_other : (n i : ℕ) (doing next : Doing) → (i ≡ n → ⊥) → phase n doing i ≡ phase n next i
+phase_other zero zero doing next other = absurd (other refl)
+phase_other zero (suc i) doing next other = refl
+phase_other (suc n) zero doing next other = refl
+phase_other (suc n) (suc i) doing next other =
+    phase_other n i doing next (λ same. other (ap suc same))
+
+phase_past : (n i : ℕ) (doing : Doing) → i < n → phase n doing i ≡ Done
+phase_past zero i doing past = absurd (omega arith)
+phase_past (suc n) zero doing past = refl
+phase_past (suc n) (suc i) doing past = phase_past n i doing (omega (arith, past))
+
+phase_first : (i : ℕ) → phase 0 Asks i ≡ Asks
+phase_first zero = refl
+phase_first (suc i) = refl
+
+phase_next : (n i : ℕ) → phase n Done i ≡ phase (suc n) Asks i
+phase_next zero zero = refl
+phase_next zero (suc i) = sym (phase_first i)
+phase_next (suc n) zero = refl
+phase_next (suc n) (suc i) = phase_next n i
+
+-- the link of a number, by what it does
+abbrev pub StillLink : Meaning → Terms → (ℕ → ℕ) → (ℕ → Option ℕ) → Place → ℕ → Link → Doing → Type 0
+StillLink clients terms idles readings p i link doing =
+    IsStill clients p.facts (terms.first + i) p.still (idles i) (readings i) doing link
+
+-- in a turn that did not move: each link, by its phase
+abbrev pub InTurn : Meaning → Terms → (ℕ → ℕ) → (ℕ → Option ℕ) → ℕ → Doing → Place → Type 0
+InTurn clients terms idles readings n doing p = (i : ℕ) (link : Link) → slice_get p.links i ≡ Some link
+    → StillLink clients terms idles readings p i link (phase n doing i)
 
 abbrev pub IsStillAt : Meaning → Terms → (ℕ → ℕ) → (ℕ → Option ℕ) → Stage → Place → Type 0
 IsStillAt clients terms idles readings (Settles left) p = p.still ≡ 0
@@ -180,31 +215,6 @@ module _ (clients : Meaning) (terms : Terms) where
     quiet = λ some i link at sent. let s : 0 < p.still = some in absurd (omega (arith, none, s));
   }
 
-  still_begins : (idles : ℕ → ℕ) (readings : ℕ → Option ℕ) (p : Place) → BetweenTurns clients terms idles readings p
-      → InTurn clients terms idles readings 0 Asks (record p { stage = Works 0 Asks; moved = false })
-  still_begins idles readings p b = record {
-    passed = λ i link at less. absurd (omega arith);
-    here = λ link at. b.idle 0 link at;
-    coming = λ i link at more. b.idle i link at;
-  }
-
-  still_next : (idles : ℕ → ℕ) (readings : ℕ → Option ℕ) (n : ℕ) (p : Place) → InTurn clients terms idles readings n Done p
-      → InTurn clients terms idles readings (suc n) Asks (record p { stage = Works (suc n) Asks })
-  still_next idles readings n p t = record {
-    passed = λ i link at less.
-        elim (cases_eq i n) [
-          | inl same ↦
-              subst (λ (k : ℕ). HadTurn clients p.facts (terms.first + k) p.still (idles k) (readings k) link) (sym same)
-              (t.here link (subst (λ (k : ℕ). slice_get p.links k ≡ Some link) same at))
-          | inr other ↦ t.passed i link at (below i n less other)
-        ];
-    here = λ link at. t.coming (suc n) link at (omega arith);
-    coming = λ i link at more. t.coming i link at (let m : suc n < i = more in omega (arith, m));
-  }
-    where
-      below : (i n : ℕ) → i < suc n → (i ≡ n → ⊥) → i < n
-      below i n less other = omega (arith, less, other)
-
   still_closed : (idles : ℕ → ℕ) (readings : ℕ → Option ℕ) (n : ℕ) (doing : Doing) (p : Place) → slice_get p.links n ≡ None
       → (b : Bool) → (b ≡ false → InTurn clients terms idles readings n doing p)
       → BetweenTurns clients terms idles readings (record (turn_ended p) { still = cond b 0 (suc p.still) })
@@ -214,12 +224,12 @@ module _ (clients : Meaning) (terms : Terms) where
   }
   still_closed idles readings n doing p none false t =
       let had : (i : ℕ) (link : Link) → (c : IsClosedFrom i p.links link)
-      → HadTurn clients p.facts (terms.first + i) p.still (idles i) (readings i) c.was =
+      → StillLink clients terms idles readings p i c.was Done =
       λ i link c.
       let within : i < length p.links = get_within p.links i c.was c.at in
       let past : length p.links ≤ n = get_none p.links n none in
-      (t refl).passed i c.was c.at (omega (arith, within, past))
-      in
+      subst (StillLink clients terms idles readings p i c.was)
+      (phase_past n i doing (omega (arith, within, past))) (t refl i c.was c.at) in
       record {
         idle = λ i link at going.
             let c = redundant_get p.links i link at in
@@ -233,45 +243,35 @@ module _ (clients : Meaning) (terms : Terms) where
             (sym (ap (λ (l : Link). is_sent_to l.stands) c.is) ∙ sent));
       }
 
-  had_same : (f g : Facts) (session still idles more : ℕ) (reading now : Option ℕ) (link : Link) → g ≡ f → more ≡ idles → now ≡ reading
-      → HadTurn clients f session still idles reading link → HadTurn clients g session still more now link
-  had_same f g session still idles more reading now link facts_same idles_same reading_same h = record {
-    idle = λ going. subst (λ (k : ℕ). suc still ≤ k) (sym idles_same) (h.idle going);
-    quiet = λ sent.
-        subst (λ (r : Option ℕ). IsQuietAt clients g session r) (sym reading_same)
-        (subst (λ (x : Facts). IsQuietAt clients x session reading) (sym facts_same) (h.quiet sent));
-  }
-
   still_works : (idles : ℕ → ℕ) (readings : ℕ → Option ℕ) (n : ℕ) (doing : Doing) (link : Link) (e : Event) (spot : Spot) (p : Place)
       → slice_get p.links n ≡ Some link → LinkStep clients n (terms.first + n) (spot_of doing link p) e spot
       → (p.moved ≡ false → InTurn clients terms idles readings n doing p) → spot.moved ≡ false
       → InTurn clients terms (λ i. idles_by i (idles i) e) (λ i. reading_by i (readings i) e) n spot.doing (with_spot n spot p)
-  still_works idles readings n doing link e spot p at steps t unmoved =
-      let session : ℕ = terms.first + n in
+  still_works idles readings n doing link e spot p at steps t unmoved i other there =
       let from : Spot = spot_of doing link p in
-      let st : StillStep clients session p.still (idles_by n (idles n) e) (reading_by n (readings n) e) from spot =
-      still_step clients n session p.still (idles n) (readings n) from spot e steps unmoved
-      (λ was. (t was).here link at) in
-      let turn : InTurn clients terms idles readings n doing p = t st.unmoved in
-      let leaves : (i : ℕ) → (i ≡ n → ⊥) → Leaves i e =
-      λ i other. spared_leaves i e (link_spares clients n session i from spot e other steps) in
-      record {
-        passed = λ i other at_i less.
-            let apart : i ≡ n → ⊥ = λ same. let s : i ≡ n = same in let l : i < n = less in omega (arith, s, l) in
-            let old : slice_get p.links i ≡ Some other = sym (get_other p.links n i spot.link apart) ∙ at_i in
-            let same = leaves i apart (idles i) (readings i) in
-            had_same p.facts spot.facts (terms.first + i) p.still (idles i) (idles_by i (idles i) e) (readings i) (reading_by i (readings i) e) other
-            st.facts same.0 same.1 (turn.passed i other old less);
-        here = λ other at_n.
-            let is_spot : Some spot.link ≡ Some other = sym (get_set p.links n spot.link (get_within p.links n link at)) ∙ at_n in
-            let same : spot.link ≡ other = cc in
-            subst (λ (f : Facts). IsStill clients f session p.still (idles_by n (idles n) e) (reading_by n (readings n) e) spot.doing other) (sym st.facts)
-            (subst (λ (l : Link). IsStill clients p.facts session p.still (idles_by n (idles n) e) (reading_by n (readings n) e) spot.doing l) same st.so);
-        coming = λ i other at_i more going.
-            let apart : i ≡ n → ⊥ = λ same. let s : i ≡ n = same in let l : n < i = more in omega (arith, s, l) in
-            let old : slice_get p.links i ≡ Some other = sym (get_other p.links n i spot.link apart) ∙ at_i in
-            subst (λ (k : ℕ). p.still ≤ k) (sym (leaves i apart (idles i) (readings i)).0) (turn.coming i other old more going);
-      }
+      let q : Place = with_spot n spot p in
+      let more : ℕ → ℕ = λ k. idles_by k (idles k) e in
+      let now : ℕ → Option ℕ = λ k. reading_by k (readings k) e in
+      let st : StillStep clients (terms.first + n) p.still (more n) (now n) from spot =
+      still_step clients n (terms.first + n) p.still (idles n) (readings n) from spot e steps unmoved
+      (λ was. subst (StillLink clients terms idles readings p n link) (phase_here n doing) (t was n link at)) in
+      elim (cases_eq i n) [
+        | inl same ↦
+            subst (λ k. (l : Link) → slice_get q.links k ≡ Some l
+            → StillLink clients terms more now q k l (phase n spot.doing k)) (sym same)
+            (λ l at_n. subst₂ (IsStill clients spot.facts (terms.first + n) p.still (more n) (now n))
+            (sym (phase_here n spot.doing))
+            (get_same (get_set p.links n spot.link (get_within p.links n link at)) at_n) st.so) other there
+        | inr apart ↦
+            let leaves =
+            spared_leaves i e (link_spares clients n (terms.first + n) i from spot e apart steps) (idles i) (readings i) in
+            subst (λ f. IsStill clients f (terms.first + i) p.still (more i) (now i) (phase n spot.doing i) other)
+            (sym st.facts)
+            (subst₂ (λ k r. IsStill clients p.facts (terms.first + i) p.still k r (phase n spot.doing i) other)
+            (sym leaves.0) (sym leaves.1)
+            (subst (StillLink clients terms idles readings p i other) (phase_other n i doing spot.doing apart)
+            (t st.unmoved i other (sym (get_other p.links n i spot.link apart) ∙ there))))
+      ]
 
   -- ---- the steps of the run
 
@@ -292,10 +292,12 @@ module _ (clients : Meaning) (terms : Terms) where
         breaks = λ x left s. s;
         all_begun = λ s. still_first idles readings p s;
         ends = λ over s. record { idle = s.idle; quiet = s.quiet };
-        turns = λ on s unmoved. still_begins idles readings p s;
+        turns = λ on s unmoved i link at.
+            subst (StillLink clients terms idles readings p i link) (sym (phase_first i)) (s.idle i link at);
         works = λ n doing link x spot at steps s unmoved.
             still_works idles readings n doing link x spot p at steps s unmoved;
-        goes_on = λ n link at s unmoved. still_next idles readings n p (s unmoved);
+        goes_on = λ n link at s unmoved i other there.
+            subst (StillLink clients terms idles readings p i other) (phase_next n i) (s unmoved i other there);
         turn_ends = λ n none s. still_closed idles readings n Asks p none p.moved s;
       }) q e t
 

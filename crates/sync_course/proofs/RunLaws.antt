@@ -18,7 +18,9 @@ use Rattle.sync_rules.proofs.StepKinds.{settling_only, takes_one}
 use Rattle.sync_course.specs.declared.ends.LinkEnd.{LinkEnd}
 use Rattle.sync_course.specs.declared.ends.LinkEnd.TheVariants as end
 use Rattle.sync_course.specs.Links.{Link, beats, closed_from, is_beaten, is_going, is_kept, link_of, without_redundant, closes, items_after, link_after, new_items, stands_behind}
+use Rattle.sync_course.specs.Redundant.{closed_as}
 use Rattle.sync_course.specs.Suits.{IsCounted, keeps_all}
+use Rattle.std.specs.Option.{option_map}
 use Rattle.outside.specs.Links.{ended}
 use Rattle.record_grammar.specs.Laws.{RecordsJoin, StreamsGoOn}
 use Rattle.record_grammar.specs.declared.stream.Ending.{Ending}
@@ -49,28 +51,34 @@ new_items_are heard bytes its parts =
     ap (drop (length (items 0 heard))) parts ∙ drop-append_seam (items 0 heard) its
 
 -- ---- takes
+takes_by : (clients : Meaning) (f : Facts) (session m : ℕ) (r : Record)
+    → Allowed clients f (next_take f session r)
+    → takes_of (after_all f (next_take f session r)).takes m
+    ≡ cond (nat_eq m session) (takes_of f.takes m + 1) (takes_of f.takes m)
+takes_by clients f session m r allowed =
+    (takes_one clients f session (takes_of f.takes session) (taken f session r) allowed).takes m
+
 pub takes_other : (clients : Meaning) (f : Facts) (session m : ℕ) (r : Record)
     → Allowed clients f (next_take f session r) → (m ≡ session → ⊥)
     → takes_of (after_all f (next_take f session r)).takes m ≡ takes_of f.takes m
 takes_other clients f session m r allowed other =
-    let one : TakesOne f (after_all f (next_take f session r)) session = takes_one clients f session (takes_of f.takes session) (taken f session r) allowed in
-    one.takes m ∙ ap (λ (b : Bool). cond b (takes_of f.takes m + 1) (takes_of f.takes m)) (ne_eqb m session other)
+    takes_by clients f session m r allowed
+    ∙ ap (λ b. cond b (takes_of f.takes m + 1) (takes_of f.takes m)) (ne_eqb m session other)
 
 takes_here : (clients : Meaning) (f : Facts) (session : ℕ) (r : Record) → Allowed clients f (next_take f session r)
     → takes_of (after_all f (next_take f session r)).takes session ≡ takes_of f.takes session + 1
 takes_here clients f session r allowed =
-    let one : TakesOne f (after_all f (next_take f session r)) session = takes_one clients f session (takes_of f.takes session) (taken f session r) allowed in
-    one.takes session
-    ∙ ap (λ (b : Bool). cond b (takes_of f.takes session + 1) (takes_of f.takes session))
-    (eq-eqb session session refl)
+    takes_by clients f session session r allowed
+    ∙ ap (λ b. cond b (takes_of f.takes session + 1) (takes_of f.takes session)) (eq-eqb session session refl)
 
 pub settled_takes : (clients : Meaning) (f : Facts) (b : List Entry) (m : ℕ) → IsSettlingBatch clients f b → takes_of (after_all f b).takes m ≡ takes_of f.takes m
 settled_takes clients f b m settling = ap (λ t. takes_of t m) (settling_only clients f b settling.2).takes
 
 -- ---- counted links
-pub counted_same : (f g : Facts) (session : ℕ) (its : List Item) (link : Link) → takes_of g.takes session ≡ takes_of f.takes session
+pub counted_same : {f g : Facts} {session : ℕ} {its : List Item} {link : Link}
+    → takes_of g.takes session ≡ takes_of f.takes session
     → IsCounted f session its link → IsCounted g session its link
-counted_same f g session its link same c = record {
+counted_same same c = record {
   done = c.done;
   dropped = c.dropped;
   parts = c.parts;
@@ -79,9 +87,10 @@ counted_same f g session its link same c = record {
 }
 
 -- the same bytes, where the link's records were all kept or need not be
-pub counted_ends : (f : Facts) (session : ℕ) (its : List Item) (link other : Link) → other.heard ≡ link.heard
-    → (keeps_all other.stands ≡ true → keeps_all link.stands ≡ true) → IsCounted f session its link → IsCounted f session its other
-counted_ends f session its link other same keeps c = record {
+pub counted_ends : {f : Facts} {session : ℕ} {its : List Item} {link other : Link}
+    → other.heard ≡ link.heard → (keeps_all other.stands ≡ true → keeps_all link.stands ≡ true)
+    → IsCounted f session its link → IsCounted f session its other
+counted_ends same keeps c = record {
   done = c.done;
   dropped = c.dropped;
   parts = ap records same ∙ c.parts;
@@ -167,34 +176,23 @@ module _ (go_on : StreamsGoOn) (join : RecordsJoin) where
         hears = λ bytes going c.
             counted_got p.facts session p.link bytes (going_keeps p.link.stands going) c;
         idles = λ going c. c;
-        ends = λ going c.
-            counted_ends p.facts session [] p.link (heard_spot ended p).link refl
-            (λ k. going_keeps p.link.stands going) c;
-        misses = λ going c.
-            counted_ends p.facts session [] p.link (failed_spot p).link refl (λ k. cc) c;
+        ends = λ going c. counted_ends refl (λ k. going_keeps p.link.stands going) c;
+        misses = λ going c. counted_ends refl (λ k. cc) c;
         unasked = λ is c. c;
-        settles = λ its b settling c.
-            counted_same p.facts (after_all p.facts b) session its p.link
-            (settled_takes clients p.facts b session settling) c;
+        settles = λ its b settling c. counted_same (settled_takes clients p.facts b session settling) c;
         takes = λ place r its allowed c.
-            counted_taken p.facts (after_all p.facts (next_take p.facts session r))
-            session place r its
+            counted_taken p.facts (after_all p.facts (next_take p.facts session r)) session place r its
             p.link (takes_here clients p.facts session r allowed) c;
         skips = λ place type_byte len its c.
             counted_skipped p.facts session place type_byte len its p.link c;
         all_taken = λ settled c.
-            counted_ends p.facts session [] p.link (all_taken_spot p).link refl
-            (behind_keeps p.link.stands (ending 0 p.link.heard)) c;
+            counted_ends refl (behind_keeps p.link.stands (ending 0 p.link.heard)) c;
         reads = λ now is_open c. c;
         closed = λ is c. c;
-        puts = λ now room what is_due allowed c.
-            counted_same p.facts (after_all p.facts (out_batch session now what))
-            session [] p.link refl
-            c;
+        puts = λ now room what is_due allowed c. counted_same refl c;
         enough = λ now room is c. c;
         put = λ now room c. c;
-        breaks = λ now room c.
-            counted_ends p.facts session [] p.link (failed_spot p).link refl (λ k. cc) c;
+        breaks = λ now room c. counted_ends refl (λ k. cc) c;
       }) q e s
 
 -- ---- lists
@@ -221,6 +219,12 @@ module _ {A : Type 0} where
   get_middle [] ys y = refl
   get_middle (x ∷ xs) ys y = get_middle xs ys y
 
+  pub get_behind : (xs ys : List A) (k i : ℕ) → i ≡ length xs + k
+      → slice_get (xs ++ ys) i ≡ slice_get ys k
+  get_behind [] ys k i is = let same : i ≡ k = omega (arith, is) in ap (slice_get ys) same
+  get_behind (x ∷ xs) ys k zero is = absurd (omega (arith, is))
+  get_behind (x ∷ xs) ys k (suc i) is = get_behind xs ys k i (omega (arith, is))
+
 -- the links of a place whose redundant links were closed
 pub record IsClosedFrom (i : ℕ) (links : List Link) (link : Link) : Type 0 where
   pub was : Link
@@ -239,17 +243,31 @@ beaten_going i k (a ∷ links) b is =
       | inr later ↦ beaten_going (suc i) k links b later
     ]
 
-closed_get : (all : List Link) (k : ℕ) (links : List Link) (i : ℕ) (link : Link) → slice_get (closed_from all k links) i ≡ Some link → IsClosedFrom i links link
-closed_get all k [] i link at = cc
-closed_get all k (b ∷ links) zero link at =
-    let same : record b { stands = cond (is_beaten 0 all k b) end.Redundant b.stands } ≡ link = cc in
-    record { was = b; at = refl; beaten = is_beaten 0 all k b; going = beaten_going 0 k all b; is = sym same }
-closed_get all k (b ∷ links) (suc i) link at =
-    let rest = closed_get all (suc k) links i link at in
-    record { was = rest.was; at = rest.at; beaten = rest.beaten; going = rest.going; is = rest.is }
+-- each link behind it
+pub closed_each : (all : List Link) (k : ℕ) (links : List Link) (i : ℕ)
+    → slice_get (closed_from all k links) i ≡ option_map (closed_as all (k + i)) (slice_get links i)
+closed_each all k [] i = refl
+closed_each all k (b ∷ links) zero =
+    let here : k ≡ k + 0 = omega arith in ap (λ m. Some (closed_as all m b)) here
+closed_each all k (b ∷ links) (suc i) =
+    let later : suc k + i ≡ k + suc i = omega arith in
+    closed_each all (suc k) links i ∙ ap (λ m. option_map (closed_as all m) (slice_get links i)) later
 
 pub redundant_get : (links : List Link) (i : ℕ) (link : Link) → slice_get (without_redundant links) i ≡ Some link → IsClosedFrom i links link
-redundant_get links i link at = closed_get links 0 links i link at
+redundant_get links i link at = by_link (slice_get links i) refl (sym (closed_each links 0 links i) ∙ at)
+  where
+    by_link : (o : Option Link) → slice_get links i ≡ o → option_map (closed_as links (0 + i)) o ≡ Some link
+        → IsClosedFrom i links link
+    by_link None none is = cc
+    by_link (Some was) at is =
+        let same : closed_as links (0 + i) was ≡ link = cc in
+        record {
+          was = was;
+          at = at;
+          beaten = is_beaten 0 links (0 + i) was;
+          going = beaten_going 0 (0 + i) links was;
+          is = sym same;
+        }
 
 -- ---- the journal
 
@@ -258,19 +276,21 @@ pub record Moves (clients : Meaning) (batches : List (List Entry)) (old new : Fa
   pub goes_on : GoesOn clients old batches
   pub facts : new ≡ after_batches old batches
 
-pub moves_none : (clients : Meaning) (old new : Facts) → new ≡ old → Moves clients [] old new
-moves_none clients old new same = record { goes_on = tt; facts = same }
+pub moves_none : {clients : Meaning} {old new : Facts} → new ≡ old → Moves clients [] old new
+moves_none same = record { goes_on = tt; facts = same }
 
-pub moves_one : (clients : Meaning) (b : List Entry) (old new : Facts) → Allowed clients old b → new ≡ after_all old b → Moves clients (b ∷ []) old new
-moves_one clients b old new allowed same = record { goes_on = (allowed, tt); facts = same }
+pub moves_one : {clients : Meaning} {b : List Entry} {old : Facts} → Allowed clients old b
+    → Moves clients (b ∷ []) old (after_all old b)
+moves_one allowed = record { goes_on = (allowed, tt); facts = refl }
 
-pub moves_then : (clients : Meaning) (bs cs : List (List Entry)) (f g h : Facts) → Moves clients bs f g → Moves clients cs g h → Moves clients (bs ++ cs) f h
-moves_then clients bs cs f g h first second = record {
+pub moves_then : {clients : Meaning} {bs cs : List (List Entry)} {f g h : Facts}
+    → Moves clients bs f g → Moves clients cs g h → Moves clients (bs ++ cs) f h
+moves_then {clients = clients} {bs = bs} {cs = cs} {f = f} first second = record {
   goes_on =
       goes_on_both clients f bs cs first.goes_on
-      (subst (λ (x : Facts). GoesOn clients x cs) first.facts second.goes_on);
+      (subst (λ x. GoesOn clients x cs) first.facts second.goes_on);
   facts =
-      second.facts ∙ ap (λ (x : Facts). after_batches x cs) first.facts ∙ sym (after_batches-append f bs cs);
+      second.facts ∙ ap (λ x. after_batches x cs) first.facts ∙ sym (after_batches-append f bs cs);
 }
 
 -- the facts are those of a legal journal
@@ -279,11 +299,15 @@ pub record IsOfJournal (clients : Meaning) (f : Facts) : Type 0 where
   pub legal : Legal clients journal
   pub facts_are : facts journal ≡ f
 
-pub journal_moves : (clients : Meaning) (bs : List (List Entry)) (f g : Facts) → Moves clients bs f g → IsOfJournal clients f → IsOfJournal clients g
-journal_moves clients bs f g m o = record {
+pub journal_moves : {clients : Meaning} {bs : List (List Entry)} {f g : Facts}
+    → Moves clients bs f g → IsOfJournal clients f → IsOfJournal clients g
+journal_moves {clients = clients} {bs = bs} m o = record {
   journal = o.journal ++ bs;
-  legal = legal-append clients o.journal bs o.legal (subst (λ (x : Facts). GoesOn clients x bs) (sym o.facts_are) m.goes_on);
-  facts_are = facts-append o.journal bs ∙ ap (λ (x : Facts). after_batches x bs) o.facts_are ∙ sym m.facts;
+  legal =
+      legal-append clients o.journal bs o.legal
+      (subst (λ x. GoesOn clients x bs) (sym o.facts_are) m.goes_on);
+  facts_are =
+      facts-append o.journal bs ∙ ap (λ x. after_batches x bs) o.facts_are ∙ sym m.facts;
 }
 
 -- ---- before the first turn

@@ -1,5 +1,5 @@
 -- What was sent and what is owed on a link is a front of its session's output, and all of it unless a call of the link failed.
-use Rattle.std.proofs.Common.{◌≡◌, ℕ, ◌+◌, ◌<◌, Bool, true, false, cond, ◌||◌, nat_eq, eqb-true, List, [], ◌∷◌, ◌++◌, length, take, drop, take-append-drop, append-nil, append_assoc, refl, sym, ◌∙◌, ap, subst, inl, inr, arith, Option, None, Some}
+use Rattle.std.proofs.Common.{◌≡◌, ℕ, ◌+◌, ◌<◌, Bool, true, false, cond, ◌||◌, nat_eq, eqb-true, List, [], ◌∷◌, ◌++◌, length, take, drop, take-append-drop, append-nil, append_assoc, refl, sym, ◌∙◌, ap, subst, subst₂, inl, inr, arith, Option, None, Some}
 use Rattle.std.specs.Prelude.{slice_get}
 use Rattle.std.proofs.lemmas.Bool.{false≢true, ne_eqb}
 use Rattle.std.proofs.lemmas.Grind.{flat_map-append}
@@ -30,7 +30,7 @@ use Rattle.sync_course.specs.Owing.{ActStep, Owing, adds_to, paid}
 use Rattle.sync_course.specs.Paths.{Path}
 use Rattle.sync_course.specs.Story.{AllIsSent, FreeActs, LinkFailed}
 use Rattle.sync_course.proofs.ActLaws.{batches_in-append, events_of-append, sends_on-append}
-use Rattle.sync_course.proofs.FailLaws.{FailsJust, HoldsOpen, fails_step, first_fails, path_fails, push_failure}
+use Rattle.sync_course.proofs.FailLaws.{FailsAsTold, HoldsOpen, failed_there, fails_step, first_fails, path_fails, push_failure}
 use Rattle.sync_course.proofs.FreeSound.{IsBegunAt, IsFreeSound, first_free_sound, free_path_sound, free_sound, get_same}
 use Rattle.sync_course.proofs.FreeSteps.{step_adds, free_batches, plain_adds}
 use Rattle.sync_course.proofs.LiftLaws.{get_within}
@@ -46,6 +46,48 @@ front_before xs ys zs f = record { rest = f.rest; whole = ap (λ (l : List ℕ).
 
 front_take : (n : ℕ) (xs : List ℕ) → IsFront (take n xs) xs
 front_take n xs = record { rest = drop n xs; whole = sym (take-append-drop n xs) }
+
+-- what was sent of an output: all of it, or a front of it where a call failed
+abbrev pub SentSo : Bool → List ℕ → List ℕ → Type 0
+SentSo false went all = went ≡ all
+SentSo true went all = IsFront went all
+
+whole_so : {went all : List ℕ} (failed : Bool) → went ≡ all → SentSo failed went all
+whole_so false same = same
+whole_so true same = front_same _ _ (sym same)
+
+pub front_so : {went all : List ℕ} (failed : Bool) → SentSo failed went all → IsFront went all
+front_so false same = front_same _ _ (sym same)
+front_so true front = front
+
+-- more goes out of what is owed and is added; where a call failed before, nothing is added
+module _ (failed fails : Bool) (sent owed went left all added : List ℕ)
+    (none : failed ≡ true → added ≡ []) (was : SentSo failed (sent ++ owed) all)
+    (goes : SentSo fails (went ++ left) (owed ++ added)) where
+  sent_front : IsFront ((sent ++ went) ++ left) (all ++ added)
+  sent_front =
+      subst (λ l. IsFront l (all ++ added)) (sym (append_assoc sent went left))
+      (front_then _ _ _ (front_before _ _ sent (front_so fails goes)) (before failed none was))
+    where
+      before : (t : Bool) → (t ≡ true → added ≡ []) → SentSo t (sent ++ owed) all
+          → IsFront (sent ++ (owed ++ added)) (all ++ added)
+      before false none same =
+          front_same _ _ (ap (λ l. l ++ added) (sym same) ∙ append_assoc sent owed added)
+      before true none front =
+          subst (λ l. IsFront (sent ++ (owed ++ l)) (all ++ l)) (sym (none refl))
+          (subst₂ IsFront (ap (λ l. sent ++ l) (sym (append-nil owed))) (sym (append-nil all)) front)
+
+sent_then : (failed fails : Bool) (sent owed went left all added : List ℕ)
+    → (failed ≡ true → added ≡ []) → SentSo failed (sent ++ owed) all
+    → SentSo fails (went ++ left) (owed ++ added)
+    → SentSo (failed || fails) ((sent ++ went) ++ left) (all ++ added)
+sent_then false false sent owed went left all added none was goes =
+    append_assoc sent went left ∙ ap (λ l. sent ++ l) goes
+    ∙ sym (append_assoc sent owed added) ∙ ap (λ l. l ++ added) was
+sent_then false true sent owed went left all added none was goes =
+    sent_front false true sent owed went left all added none was goes
+sent_then true fails sent owed went left all added none was goes =
+    sent_front true fails sent owed went left all added none was goes
 
 -- ---- the output
 
@@ -155,63 +197,48 @@ module _ (clients : Meaning) (first : ℕ) where
   events_path p q (a ∷ acts) path = (path.0.at, under clients first a p path.0 path.1, events_path path.0 q acts path.2)
 
   -- what an act sends and leaves owed is what was owed and what it adds, or a front of that where it fails
-  act_whole : (a : Act) (p q : Owing Free) (i : ℕ) → ActsOn p a q → is_failure i (event_of a) ≡ false
-      → sent_by i a ++ q.owed i ≡ p.owed i ++ adds_to p.at.facts first (event_of a) i
-  act_whole (Does e) p q i s well = s.2 i ∙ ap (λ (l : List ℕ). l ++ adds_to p.at.facts first e i) (sym (s.0 i))
-  act_whole (Send n bytes) p q i s well =
+  act_sends : (a : Act) (p q : Owing Free) (i : ℕ) → ActsOn p a q
+      → SentSo (is_failure i (event_of a)) (sent_by i a ++ q.owed i)
+      (p.owed i ++ adds_to p.at.facts first (event_of a) i)
+  act_sends (Does e) p q i s =
+      whole_so (is_failure i e)
+      (s.2 i ∙ ap (λ l. l ++ adds_to p.at.facts first e i) (sym (s.0 i)))
+  act_sends (Send n bytes) p q i s =
       elim s [
-        | inl all ↦
-            ap (λ (l : List ℕ). cond (nat_eq n i) bytes [] ++ l) (all.2 i)
-            ∙ paid_by [] (sym all.0 ∙ sym (append-nil bytes)) (nat_eq n i) refl
-        | inr some ↦
-            ap (λ (l : List ℕ). cond (nat_eq n i) bytes [] ++ l) (some.left i) ∙ paid_by some.rest some.parts (nat_eq n i) refl
+        | inl all ↦ left_so [] (all.2 i) (sym all.0 ∙ sym (append-nil bytes))
+        | inr some ↦ left_so some.rest (some.left i) some.parts
       ]
     where
       paid_by : (rest : List ℕ) → p.owed n ≡ bytes ++ rest → (t : Bool) → nat_eq n i ≡ t
           → cond t bytes [] ++ cond t rest (p.owed i) ≡ p.owed i ++ []
       paid_by rest parts true is = sym parts ∙ ap p.owed (eqb-true n i is) ∙ sym (append-nil (p.owed i))
       paid_by rest parts false is = sym (append-nil (p.owed i))
-  act_whole (Fail n bytes count) p q i s well =
-      ap (λ (l : List ℕ). cond (nat_eq n i) (take count bytes) [] ++ l) (s.2 i) ∙ paid_by (nat_eq n i) well
-    where
-      paid_by : (t : Bool) → t ≡ false → cond t (take count bytes) [] ++ cond t [] (p.owed i) ≡ p.owed i ++ []
-      paid_by true is = cc
-      paid_by false is = sym (append-nil (p.owed i))
 
-  act_front : (a : Act) (p q : Owing Free) (i : ℕ) → ActsOn p a q
-      → IsFront (sent_by i a ++ q.owed i) (p.owed i ++ adds_to p.at.facts first (event_of a) i)
-  act_front a p q i s =
-      elim (is_failure i (event_of a)) as (λ t. is_failure i (event_of a) ≡ t → IsFront (sent_by i a ++ q.owed i) (p.owed i ++ adds_to p.at.facts first (event_of a) i)) [
-        | true ↦ λ is. failed a s is
-        | false ↦ λ is.
-            front_same _ _ (sym (act_whole a p q i s is))
-      ] refl
+      left_so : (rest : List ℕ) → q.owed i ≡ cond (nat_eq n i) rest (p.owed i)
+          → p.owed n ≡ bytes ++ rest
+          → cond (nat_eq n i) bytes [] ++ q.owed i ≡ p.owed i ++ []
+      left_so rest left parts =
+          ap (λ l. cond (nat_eq n i) bytes [] ++ l) left ∙ paid_by rest parts (nat_eq n i) refl
+  act_sends (Fail n bytes count) p q i s =
+      subst (λ l. SentSo (nat_eq n i) (cond (nat_eq n i) (take count bytes) [] ++ l) (p.owed i ++ []))
+      (sym (s.2 i)) (paid_by (nat_eq n i) refl)
     where
-      failed : (a : Act) → ActsOn p a q → is_failure i (event_of a) ≡ true
-          → IsFront (sent_by i a ++ q.owed i) (p.owed i ++ adds_to p.at.facts first (event_of a) i)
-      failed (Does e) s is =
-          front_same _ _
-          (ap (λ (l : List ℕ). l ++ adds_to p.at.facts first e i) (s.0 i) ∙ sym (s.2 i))
-      failed (Send n bytes) s is = cc
-      failed (Fail n bytes count) s is =
-          let there : IsFront bytes (p.owed i) = subst (λ (k : ℕ). IsFront bytes (p.owed k)) (eqb-true n i is) s.0 in
-          let went : cond (nat_eq n i) (take count bytes) [] ++ q.owed i ≡ take count bytes =
-          ap (λ (l : List ℕ). cond (nat_eq n i) (take count bytes) [] ++ l) (s.2 i)
-          ∙ ap (λ (t : Bool). cond t (take count bytes) [] ++ cond t [] (p.owed i)) is
-          ∙ append-nil (take count bytes) in
-          subst (λ (l : List ℕ). IsFront l (p.owed i ++ [])) (sym went)
-          (subst (λ (l : List ℕ). IsFront (take count bytes) l) (sym (append-nil (p.owed i)))
-          (front_then (take count bytes) bytes (p.owed i) (front_take count bytes) there))
+      paid_by : (t : Bool) → nat_eq n i ≡ t
+          → SentSo t (cond t (take count bytes) [] ++ cond t [] (p.owed i)) (p.owed i ++ [])
+      paid_by true is =
+          subst₂ IsFront (sym (append-nil (take count bytes))) (sym (append-nil (p.owed i)))
+          (front_then (take count bytes) bytes (p.owed i) (front_take count bytes)
+          (subst (λ k. IsFront bytes (p.owed k)) (eqb-true n i is) s.0))
+      paid_by false is = sym (append-nil (p.owed i))
 
 -- behind acts from a journal on: the journal, the place, and what was sent and is owed
 pub record HasSent (clients : Meaning) (first : ℕ) (j : List (List Entry)) (acts : List Act) (p : Owing Free) : Type 0 where
   pub legal : Legal clients (j ++ batches_in acts)
   pub same : facts (j ++ batches_in acts) ≡ p.at.facts
   pub sound : IsFreeSound clients first p.at
-  pub fails : FailsJust clients first (events_of acts) p.at
-  pub front : (i : ℕ) → IsFront (sends_on i acts ++ p.owed i) (output (j ++ batches_in acts) (first + i))
-  pub whole : (i : ℕ) → has_failure i (events_of acts) ≡ false
-      → sends_on i acts ++ p.owed i ≡ output (j ++ batches_in acts) (first + i)
+  pub fails : FailsAsTold clients first (events_of acts) p.at
+  pub sent : (i : ℕ) → SentSo (has_failure i (events_of acts)) (sends_on i acts ++ p.owed i)
+      (output (j ++ batches_in acts) (first + i))
 
 module _ (go_on : StreamsGoOn) (join : RecordsJoin) (clients : Meaning) (first : ℕ) (j : List (List Entry)) where
   sent_step : (acts : List Act) (p q : Owing Free) (a : Act) → HasSent clients first j acts p → ActsOn clients first p a q
@@ -222,73 +249,42 @@ module _ (go_on : StreamsGoOn) (join : RecordsJoin) (clients : Meaning) (first :
       let new : List (List Entry) = batches_of (e ∷ []) in
       let step : FreeStep clients first p.at e q.at = under clients first a p q s in
       let m = (step_adds clients first p.at q.at e step).moves in
-      let goes : GoesOn clients (facts old) new = subst (λ (f : Facts). GoesOn clients f new) (sym k.same) m.goes_on in
+      let goes : GoesOn clients (facts old) new = subst (λ f. GoesOn clients f new) (sym k.same) m.goes_on in
       let is : j ++ batches_in (acts ++ a ∷ []) ≡ old ++ new =
-      ap (λ (l : List (List Entry)). j ++ l) (batches_in-append acts (a ∷ [])) ∙ sym (append_assoc j (batches_in acts) new) in
+      ap (λ l. j ++ l) (batches_in-append acts (a ∷ [])) ∙ sym (append_assoc j (batches_in acts) new) in
       let events : events_of (acts ++ a ∷ []) ≡ events_of acts ++ e ∷ [] = events_of-append acts (a ∷ []) in
+      let sends : (i : ℕ) → sends_on i (acts ++ a ∷ []) ≡ sends_on i acts ++ sent_by i a =
+      λ i. sends_on-append i acts (a ∷ []) ∙ ap (λ l. sends_on i acts ++ l) (append-nil (sent_by i a)) in
       let grown : (i : ℕ) → output (j ++ batches_in (acts ++ a ∷ [])) (first + i)
       ≡ output old (first + i) ++ adds_to p.at.facts first e i =
-      λ i. ap (λ (l : List (List Entry)). output l (first + i)) is
+      λ i. ap (λ l. output l (first + i)) is
       ∙ event_adds clients first old e i k.legal goes
-      ∙ ap (λ (f : Facts). output old (first + i) ++ adds_to f first e i) k.same in
-      let sends : (i : ℕ) → sends_on i (acts ++ a ∷ []) ++ q.owed i ≡ sends_on i acts ++ (sent_by i a ++ q.owed i) =
-      λ i. ap (λ (l : List ℕ). l ++ q.owed i)
-      (sends_on-append i acts (a ∷ []) ∙ ap (λ (l : List ℕ). sends_on i acts ++ l) (append-nil (sent_by i a)))
-      ∙ append_assoc (sends_on i acts) (sent_by i a) (q.owed i) in
-      let was_whole : (i : ℕ) → has_failure i (events_of acts) ≡ false
-      → sends_on i acts ++ (p.owed i ++ adds_to p.at.facts first e i) ≡ output (j ++ batches_in (acts ++ a ∷ [])) (first + i) =
-      λ i well. sym (append_assoc (sends_on i acts) (p.owed i) (adds_to p.at.facts first e i))
-      ∙ ap (λ (l : List ℕ). l ++ adds_to p.at.facts first e i) (k.whole i well)
-      ∙ sym (grown i) in
-      let was_front : (i : ℕ) (t : Bool) → has_failure i (events_of acts) ≡ t
-      → IsFront (sends_on i acts ++ (p.owed i ++ adds_to p.at.facts first e i)) (output (j ++ batches_in (acts ++ a ∷ [])) (first + i)) =
-      λ i t. elim t as (λ t. has_failure i (events_of acts) ≡ t
-      → IsFront (sends_on i acts ++ (p.owed i ++ adds_to p.at.facts first e i)) (output (j ++ batches_in (acts ++ a ∷ [])) (first + i))) [
-        | true ↦ λ failed.
-            let none : adds_to p.at.facts first e i ≡ [] =
-            none_owed p.at.facts first i e
-            (event_spares clients first e p.at q.at i step k.sound k.fails.opens
-            (k.fails.stays i failed)) in
-            let owed : sends_on i acts ++ p.owed i ≡ sends_on i acts ++ (p.owed i ++ adds_to p.at.facts first e i) =
-            ap (λ (l : List ℕ). sends_on i acts ++ l)
-            (sym (append-nil (p.owed i)) ∙ ap (λ (l : List ℕ). p.owed i ++ l) (sym none)) in
-            let out : output old (first + i) ≡ output (j ++ batches_in (acts ++ a ∷ [])) (first + i) =
-            sym (append-nil (output old (first + i))) ∙ ap (λ (l : List ℕ). output old (first + i) ++ l) (sym none) ∙ sym (grown i) in
-            subst (λ (l : List ℕ). IsFront l (output (j ++ batches_in (acts ++ a ∷ [])) (first + i))) owed
-            (subst (λ (l : List ℕ). IsFront (sends_on i acts ++ p.owed i) l) out (k.front i))
-        | false ↦ λ well.
-            front_same _ _ (sym (was_whole i well))
-      ] in
+      ∙ ap (λ f. output old (first + i) ++ adds_to f first e i) k.same in
+      let failed : (i : ℕ) → has_failure i (events_of (acts ++ a ∷ []))
+      ≡ (has_failure i (events_of acts) || is_failure i e) =
+      λ i. ap (has_failure i) events ∙ push_failure clients first i (events_of acts) e in
+      let none : (i : ℕ) → has_failure i (events_of acts) ≡ true → adds_to p.at.facts first e i ≡ [] =
+      λ i had.
+      none_owed p.at.facts first i e
+      (event_spares clients first e p.at q.at i step k.sound k.fails.opens
+      (failed_there p.at.links i (k.fails.each i ∙ had))) in
       record {
         legal = subst (Legal clients) (sym is) (legal-append clients old new k.legal goes);
         same =
-            ap facts is ∙ facts-append old new ∙ ap (λ (f : Facts). after_batches f new) k.same ∙ sym m.facts;
+            ap facts is ∙ facts-append old new ∙ ap (λ f. after_batches f new) k.same ∙ sym m.facts;
         sound = free_sound go_on join clients first p.at q.at e step k.sound;
         fails =
-            subst (λ (l : List Event). FailsJust clients first l q.at) (sym events)
+            subst (λ l. FailsAsTold clients first l q.at) (sym events)
             (fails_step clients first (events_of acts) p.at q.at e k.fails step);
-        front = λ i.
-            subst (λ (l : List ℕ). IsFront l (output (j ++ batches_in (acts ++ a ∷ [])) (first + i))) (sym (sends i))
-            (front_then (sends_on i acts ++ (sent_by i a ++ q.owed i))
-            (sends_on i acts ++ (p.owed i ++ adds_to p.at.facts first e i)) (output (j ++ batches_in (acts ++ a ∷ [])) (first + i))
-            (front_before (sent_by i a ++ q.owed i) (p.owed i ++ adds_to p.at.facts first e i) (sends_on i acts) (act_front clients first a p q i s))
-            (was_front i (has_failure i (events_of acts)) refl));
-        whole = λ i well.
-            let both : (has_failure i (events_of acts) || is_failure i e) ≡ false =
-            sym (push_failure clients first i (events_of acts) e) ∙ ap (has_failure i) (sym events) ∙ well in
-            let parts = or_false (has_failure i (events_of acts)) (is_failure i e) both in
-            sends i
-            ∙ ap (λ (l : List ℕ). sends_on i acts ++ l) (act_whole clients first a p q i s parts.1)
-            ∙ was_whole i parts.0;
+        sent = λ i.
+            subst (λ t. SentSo t (sends_on i (acts ++ a ∷ []) ++ q.owed i)
+            (output (j ++ batches_in (acts ++ a ∷ [])) (first + i))) (sym (failed i))
+            (subst₂ (λ l o. SentSo (has_failure i (events_of acts) || is_failure i e) (l ++ q.owed i) o)
+            (sym (sends i)) (sym (grown i))
+            (sent_then (has_failure i (events_of acts)) (is_failure i e) (sends_on i acts) (p.owed i)
+            (sent_by i a) (q.owed i) (output old (first + i)) (adds_to p.at.facts first e i) (none i)
+            (k.sent i) (act_sends clients first a p q i s)));
       }
-    where
-      or_false : (a b : Bool) → (a || b) ≡ false → (a ≡ false) × (b ≡ false)
-      or_false true b is = cc
-      or_false false b is = (refl, is)
-
-  pub path_sent : (acts : List Act) (p q : Owing Free) → HasSent clients first j [] p → Path (ActsOn clients first) p acts q
-      → HasSent clients first j acts q
-  path_sent acts p q k path = path_keeps (ActsOn clients first) (HasSent clients first j) sent_step [] acts p q k path
 
 -- where a node begins nothing was sent
 nothing_sent : (clients : Meaning) (j : List (List Entry)) (i : ℕ) → Legal clients j → output j ((facts j).begun + i) ≡ []
@@ -313,22 +309,29 @@ first_sent clients j legal =
       same = ap facts same;
       sound = first_free_sound clients j legal;
       fails = first_fails clients (facts j).begun (facts j);
-      front = λ i. front_of_none (output (j ++ []) ((facts j).begun + i));
-      whole = λ i well. sym (ap (λ (l : List (List Entry)). output l ((facts j).begun + i)) same ∙ nothing_sent clients j i legal);
+      sent = λ i. sym (ap (λ l. output l ((facts j).begun + i)) same ∙ nothing_sent clients j i legal);
     }
 
 -- behind the acts of a node
 pub acts_sent : StreamsGoOn → RecordsJoin → (clients : Meaning) (j : List (List Entry)) (acts : List Act) (to : Owing Free) → Legal clients j
     → FreeActs clients j acts to → HasSent clients (facts j).begun j acts to
 acts_sent go_on join clients j acts to legal path =
-    path_sent go_on join clients (facts j).begun j acts (paid (first_free (facts j))) to (first_sent clients j legal) path
+    let first : ℕ = (facts j).begun in
+    path_keeps (ActsOn clients first) (HasSent clients first j)
+    (sent_step go_on join clients first j) [] acts (paid (first_free (facts j))) to
+    (first_sent clients j legal) path
 
 pub all_sent : StreamsGoOn → RecordsJoin → (clients : Meaning) (j : List (List Entry)) (acts : List Act) (to : Owing Free) → Legal clients j
     → FreeActs clients j acts to → ((link : ℕ) → to.owed link ≡ []) → AllIsSent j acts
 all_sent go_on join clients j acts to legal path clear link well =
+    let sent : SentSo false (sends_on link acts ++ to.owed link)
+    (output (j ++ batches_in acts) ((facts j).begun + link)) =
+    subst (λ t. SentSo t (sends_on link acts ++ to.owed link)
+    (output (j ++ batches_in acts) ((facts j).begun + link))) well
+    ((acts_sent go_on join clients j acts to legal path).sent link) in
     sym (append-nil (sends_on link acts))
-    ∙ ap (λ (l : List ℕ). sends_on link acts ++ l) (sym (clear link))
-    ∙ (acts_sent go_on join clients j acts to legal path).whole link well
+    ∙ ap (λ l. sends_on link acts ++ l) (sym (clear link))
+    ∙ sent
 
 -- nothing is committed for a link on which a call failed
 pub failed_spared : StreamsGoOn → RecordsJoin → (clients : Meaning) (j : List (List Entry)) (es : List Event) (p q : Free) (b : List Entry)

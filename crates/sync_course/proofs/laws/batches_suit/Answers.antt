@@ -6,6 +6,6 @@ use Rattle.sync_course.proofs.laws.batches_suit.Goals as goal
 
 pub returns : goal.returns
 returns c = λ clients terms sessions j events last legal broken.
-    planned_suits c.fronts_have_fronts.ensures clients terms.first sessions (heard_on last) (facts j) (batches_of events)
+    planned_suits clients terms.first sessions (heard_on last) (facts j) (batches_of events)
     (run_suits c.streams_go_on.ensures c.records_join.ensures c.fronts_have_fronts.ensures clients terms sessions j events
     last legal broken)
