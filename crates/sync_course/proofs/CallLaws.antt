@@ -20,14 +20,14 @@ module _ {P : Type 0} (step : P → Event → P → Type 0) (Before After : List
     path = path_one step p q e s;
     told = told;
     journal = λ j before.
-        subst After (sym (append-nil j) ∙ ap (λ (l : List (List Entry)). j ++ l) (sym none)) (stays j before);
-    calls = subst (λ (l : List (List Entry)). MakesAtMost (4 * length l) o o') (sym none) made;
+        subst After (sym (append-nil j) ∙ ap (λ l. j ++ l) (sym none)) (stays j before);
+    calls = subst (λ l. MakesAtMost (4 * length l) o o') (sym none) made;
   }
 
 -- the batches of a front, and the others
 pub calls_parts : (bs front others : List (List Entry)) → bs ≡ front ++ others → 4 * length bs ≡ 4 * length (others ++ front)
 calls_parts bs front others parts =
-    let all : length bs ≡ length front + length others = ap (λ (l : List (List Entry)). length l) parts ∙ length-append front others in
+    let all : length bs ≡ length front + length others = ap (λ l. length l) parts ∙ length-append front others in
     let turned : length (others ++ front) ≡ length others + length front = length-append others front in
     omega (arith, all, turned)
 

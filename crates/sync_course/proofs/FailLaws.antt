@@ -188,7 +188,7 @@ module _ (clients : Meaning) (first : ℕ) where
   spared_same e p q i spares same =
       same
       ∙ sym (or-false (failed_at p.links i))
-      ∙ ap (λ (b : Bool). failed_at p.links i || b) (sym (spared_well i e spares))
+      ∙ ap (λ b. failed_at p.links i || b) (sym (spared_well i e spares))
 
   -- a link stands Failed behind a step where it did before it, or a call of it failed
   goes_fail : (e : Event) (p q : Free) (i : ℕ) → LinkGoes clients first e p q i
@@ -208,13 +208,13 @@ module _ (clients : Meaning) (first : ℕ) where
         | inl passes ↦ ap is_failed passes.1 ∙ sym (ap (is_failure i) passes.0)
         | inr broke ↦ ap is_failed broke.1 ∙ sym (ap (is_failure i) broke.0 ∙ eq-eqb i i refl)
       ] in
-      ap is_failed_in j.now ∙ way ∙ ap (λ (b : Bool). b || is_failure i e) (sym none)
+      ap is_failed_in j.now ∙ way ∙ ap (λ b. b || is_failure i e) (sym none)
   goes_fail e p q i (Stepped t) o =
       let fails =
       link_step_fails clients i (first + i) (spot_in t.doing t.link t.moved p) t.spot e t.steps
-      (subst (λ (h : Hold). HoldsOpen h p.links) t.held o t.link t.at) in
+      (subst (λ h. HoldsOpen h p.links) t.held o t.link t.at) in
       ap is_failed_in t.now ∙ fails.failed
-      ∙ ap (λ (x : Option Link). is_failed_in x || is_failure i e) (sym t.at)
+      ∙ ap (λ x. is_failed_in x || is_failure i e) (sym t.at)
 
   abbrev Opens : Free → Type 0
   Opens p = HoldsOpen p.hold p.links
@@ -228,13 +228,13 @@ module _ (clients : Meaning) (first : ℕ) where
         sends = λ n now link calm there is_open other at.
             subst (λ (l : Link). is_sent_to l.stands ≡ true) (get_same there at) is_open;
         closes = λ calm. tt;
-        adds = λ b rests adds. subst (λ (h : Hold). HoldsOpen h p.links) (sym rests) tt;
+        adds = λ b rests adds. subst (λ h. HoldsOpen h p.links) (sym rests) tt;
         begins = λ x rests allowed. tt;
         greets = λ x begins. tt;
         breaks = λ x begins. tt;
         works = λ n doing link moved x spot holds there steps other at.
             let opens : DoesOpen doing link.stands =
-            subst (λ (h : Hold). HoldsOpen h p.links) holds o link there in
+            subst (λ h. HoldsOpen h p.links) holds o link there in
             subst (λ (l : Link). DoesOpen spot.doing l.stands)
             (get_same (get_set p.links n spot.link (get_within p.links n link there)) at)
             (link_step_fails clients n (first + n) (spot_in doing link moved p) spot x steps

@@ -100,7 +100,7 @@ module _ (clients : Meaning) (first : ℕ) where
       let calmly : IsNothingUnderWay p.hold → p.facts.begun ≡ first + links =
       λ calm. idle_begun first links p.facts p.hold calm s in
       let held : (hold : Hold) → p.hold ≡ hold → IsBegunAt first hold links p.facts =
-      λ hold is. subst (λ (h : Hold). IsBegunAt first h links p.facts) is s in
+      λ hold is. subst (λ h. IsBegunAt first h links p.facts) is s in
       free_by_cases clients first p
       (λ (x : Event) (r : Free). ((p.hold ≡ Rests → ⊥) → r.facts.begun ≡ p.facts.begun)
       → Begun r) (record {
@@ -108,9 +108,9 @@ module _ (clients : Meaning) (first : ℕ) where
         turns = λ hold calm then same. begun_idle first links p.facts hold then (calmly calm);
         sends = λ n now link calm there is_open same. calmly calm;
         closes = λ calm same.
-            calmly calm ∙ ap (λ (k : ℕ). first + k) (sym (redundant_length p.links));
+            calmly calm ∙ ap (λ k. first + k) (sym (redundant_length p.links));
         adds = λ b rests adds same.
-            subst (λ (h : Hold). IsBegunAt first h links (after_all p.facts b)) (sym rests)
+            subst (λ h. IsBegunAt first h links (after_all p.facts b)) (sym rests)
             ((elim adds [
               | inl settles ↦ settled_begun clients p.facts b settles
               | inr plain ↦ (plain_adds p.facts b plain.0).begun
@@ -118,14 +118,14 @@ module _ (clients : Meaning) (first : ℕ) where
         begins = λ x rests allowed same.
             let was : p.facts.begun ≡ first + links = held Rests rests in (
               omega (arith, was),
-              subst (λ (n : ℕ). takes_of p.facts.takes n ≡ 0) was (untaken clients p.facts journal),
+              subst (λ n. takes_of p.facts.takes n ≡ 0) was (untaken clients p.facts journal),
             );
         greets = λ x begins same. joins_begun p x end.Going (held (Begins x) begins);
         breaks = λ x begins same. joins_begun p x end.Failed (held (Begins x) begins);
         works = λ n doing link moved x spot holds there steps same.
             same (λ rests. let both : Holds n doing ≡ Rests = sym holds ∙ rests in cc)
             ∙ held (Holds n doing) holds
-            ∙ ap (λ (k : ℕ). first + k) (sym (set_length p.links n spot.link));
+            ∙ ap (λ k. first + k) (sym (set_length p.links n spot.link));
       }) q e t (step_adds clients first p q e t).stays
 
 module _ (go_on : StreamsGoOn) (join : RecordsJoin) (clients : Meaning) (first : ℕ) where
@@ -204,7 +204,7 @@ run_counted go_on join clients terms sessions j events last legal broken i link 
     let sound : IsFreeSound clients terms.first (forget last) =
     free_path_sound go_on join clients terms.first (first_free (facts j)) (forget last) events
     (run_is_free clients terms (first_place sessions (facts j)) last events broken.path)
-    (subst (λ (k : ℕ). IsFreeSound clients k (first_free (facts j))) (sym broken.numbered)
+    (subst (λ k. IsFreeSound clients k (first_free (facts j))) (sym broken.numbered)
     (first_free_sound clients j legal)) in
-    subst (λ (its : List Item). IsCounted last.facts (terms.first + i) its link)
+    subst (λ its. IsCounted last.facts (terms.first + i) its link)
     (same_pending last.stage i) (sound.counted i link at)

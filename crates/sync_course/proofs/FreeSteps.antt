@@ -244,7 +244,7 @@ pub record StepAdds (clients : Meaning) (first : ℕ) (p : Free) (e : Event)
 none_begins : (bs : List (List Entry)) (f g : Facts) → begun_by bs ≡ [] → g.begun ≡ f.begun
     → g.begun ≡ f.begun + length (begun_by bs)
 none_begins bs f g none same =
-    let more : length (begun_by bs) ≡ 0 = ap (λ (l : List Session). length l) none in
+    let more : length (begun_by bs) ≡ 0 = ap (λ l. length l) none in
     let is : g.begun ≡ f.begun = same in
     omega (arith, more, is)
 
@@ -304,7 +304,7 @@ module _ (clients : Meaning) (first : ℕ) (p : Free) where
             takes_other clients p.facts (first + n) (first + i) r allowed
             (apart first n i
             (λ same. others (item.One place r ∷ its)
-            (subst (λ (k : ℕ). p.hold ≡ Holds k (Takes (item.One place r ∷ its))) same holds))));
+            (subst (λ k. p.hold ≡ Holds k (Takes (item.One place r ∷ its))) same holds))));
         puts = λ n now room what link holds at is_due allowed.
             adds_none (out_batch (first + n) now what) allowed refl refl (λ busy plain. plain)
             (λ i others. refl);
@@ -434,7 +434,7 @@ module _ (clients : Meaning) (first : ℕ) where
               is_next = same;
               begins = is;
               now =
-                  subst (λ (k : ℕ). slice_get (p.links ++ link_of x stands ∷ []) k
+                  subst (λ k. slice_get (p.links ++ link_of x stands ∷ []) k
                   ≡ Some (link_of x stands))
                   (sym same) (get_middle p.links [] (link_of x stands));
               pends = refl;
@@ -445,7 +445,7 @@ module _ (clients : Meaning) (first : ℕ) where
             Kept (record {
               same = get_push_other p.links (link_of x stands) i other;
               spares = spares other;
-              pends = sym (ap (λ (h : Hold). pending_in h i) is);
+              pends = sym (ap (λ h. pending_in h i) is);
               takes = refl;
             })
       ]
@@ -459,7 +459,7 @@ module _ (clients : Meaning) (first : ℕ) where
   works_go n doing link moved e spot p i is there steps takes =
       elim (cases_eq i n) [
         | inl same ↦
-            subst (λ (k : ℕ). Goes e p (holding n spot p) k) (sym same)
+            subst (λ k. Goes e p (holding n spot p) k) (sym same)
             (Stepped (record {
               doing = doing;
               link = link;
@@ -480,9 +480,9 @@ module _ (clients : Meaning) (first : ℕ) where
                   link_spares clients n (first + n) i (spot_in doing link moved p) spot e other
                   steps;
               pends =
-                  ap (λ (b : Bool). cond b (pending spot.doing) []) apart
-                  ∙ sym (ap (λ (b : Bool). cond b (pending doing) []) apart)
-                  ∙ sym (ap (λ (h : Hold). pending_in h i) is);
+                  ap (λ b. cond b (pending spot.doing) []) apart
+                  ∙ sym (ap (λ b. cond b (pending doing) []) apart)
+                  ∙ sym (ap (λ h. pending_in h i) is);
               takes = takes other;
             })
       ]
@@ -509,7 +509,7 @@ module _ (clients : Meaning) (first : ℕ) where
         breaks = λ x begins takes.
             joins_go (Break (length p.links)) p x end.Failed i begins (λ other same.
             other (sym same))
-            (λ same. inr (ap (λ (k : ℕ). Break k) (sym same), refl));
+            (λ same. inr (ap (λ k. Break k) (sym same), refl));
         works = λ n doing link moved x spot holds there steps takes.
             works_go n doing link moved x spot p i holds there steps
             (λ other. takes

@@ -1,39 +1,56 @@
--- Each batch of a node suits it, and what a crash leaves in the middle of its acts stands.
-use Rattle.std.proofs.Common.{◌≡◌, ℕ, ◌+◌, Bool, true, false, cond, nat_eq, eq-eqb, eqb-true, List, [], ◌∷◌, ◌++◌, length, length-append, append-nil, append_assoc, refl, sym, ◌∙◌, ap, subst, inl, inr, arith, Option, Some}
+-- Each batch of a node suits it, and what a crash leaves in the middle of its acts stands. The batches
+-- of a run suit it as planned: its k-th session is the k-th of those it was given, and no plain entry
+-- is among them.
+use Rattle.std.proofs.Common.{◌≡◌, ℕ, ◌+◌, Bool, true, false, cond, nat_eq, eq-eqb, eqb-true, List}
+use Rattle.std.proofs.Common.{[], ◌∷◌, ◌++◌, length, length-append, append-nil, append_assoc, refl}
+use Rattle.std.proofs.Common.{sym, ◌∙◌, ap, subst, inl, inr, arith, Option, Some, zero, suc, subst₂}
 use Rattle.std.specs.Prelude.{slice_get}
 use Rattle.outside.specs.Outside.{Moment}
-use Rattle.outside.specs.Runs as runs
-use Rattle.outside.proofs.RunLaws as runs_laws
 use Rattle.record_grammar.specs.Laws.{FrontsHaveFronts, RecordsJoin, StreamsGoOn}
 use Rattle.record_grammar.specs.declared.stream.Item.{Item}
-use Rattle.record_grammar.specs.declared.stream.Item.TheVariants as item
 use Rattle.sync_rules.specs.declared.entries.Entry.{Entry}
-use Rattle.sync_rules.specs.declared.entries.Entry.TheVariants as entry
 use Rattle.sync_rules.specs.declared.entries.Session.{Session}
 use Rattle.sync_rules.specs.Clients.{Meaning}
 use Rattle.sync_rules.specs.Facts.{Facts, after_all, after_batches, facts, takes_of}
 use Rattle.sync_rules.specs.Sessions.{taken}
 use Rattle.sync_rules.specs.Growth.{IsFront}
-use Rattle.sync_rules.specs.Legal.{Legal}
+use Rattle.sync_rules.specs.Legal.{Legal, IsSettlingBatch}
 use Rattle.sync_rules.proofs.Continuing.{front_itself, front_then}
-use Rattle.sync_course.specs.Acts.{Act, AtFront, Does, Send, Fail, batches_in, events_of, next_bytes, sends_on}
-use Rattle.sync_course.specs.Events.{Event, Commit, batches_of, has_failure}
-use Rattle.sync_course.specs.Free.{Free, FreeStep, Hold, first_free}
+use Rattle.sync_course.specs.Acts.{Act, AtFront, Does, Send, Fail, batches_in, events_of}
+use Rattle.sync_course.specs.Acts.{next_bytes, sends_on}
+use Rattle.sync_course.specs.Events.{Event, Commit, batches_of, has_failure, Break, Pass}
+use Rattle.sync_course.specs.Free.{Free, FreeStep, Hold, first_free, IsPlain, Rests, forget}
+use Rattle.sync_course.specs.Free.{hold_at}
 use Rattle.sync_course.specs.Links.{Link}
 use Rattle.sync_course.specs.Owing.{Owing, paid}
 use Rattle.sync_course.specs.Paths.{Path}
-use Rattle.sync_course.specs.Story.{AllSuitNode, BeginsAsPlanned, FreeActs, MomentStands, begun_by, heard_at}
-use Rattle.sync_course.specs.Suits.{IsCounted, TakesHeard, heard_in}
+use Rattle.sync_course.specs.Story.{AllSuitNode, BeginsAsPlanned, FreeActs, MomentStands, begun_by}
+use Rattle.sync_course.specs.Story.{heard_at, AllSuitPlanned, IsOfCourse}
+use Rattle.sync_course.specs.Suits.{IsCounted, TakesHeard, heard_in, AllSuitCourse, SuitsCourse}
+use Rattle.sync_course.specs.Suits.{heard_on}
 use Rattle.sync_course.proofs.ActLaws.{batches_in-append}
 use Rattle.sync_course.proofs.FreeSound.{IsBegunAt, IsFreeSound, first_free_sound, free_sound}
-use Rattle.sync_course.proofs.FreeSteps.{step_adds, free_batches, pending_in}
+use Rattle.sync_course.proofs.FreeSteps.{step_adds, free_batches, pending_in, NotPlain}
+use Rattle.sync_course.proofs.FreeSteps.{settling_adds}
 use Rattle.sync_course.proofs.HeardLaws.{bytes_of, free_path_adds}
-use Rattle.sync_course.proofs.PathLaws.{path_parts}
+use Rattle.sync_course.proofs.PathLaws.{path_parts, path_keeps}
 use Rattle.sync_course.proofs.RunLaws.{get_behind, get_front, get_middle}
-use Rattle.sync_course.proofs.SendLaws.{ActsOn, HasSent, acts_sent, events_path, front_before, front_of_none, front_so, output}
+use Rattle.sync_course.proofs.SendLaws.{ActsOn, HasSent, acts_sent, events_path, front_before}
+use Rattle.sync_course.proofs.SendLaws.{front_of_none, front_so, output}
 use Rattle.sync_course.proofs.ToldLaws.{batches_of-append}
 use Rattle.record_grammar.specs.Stream.{records, records_of}
 use Rattle.sync_ids.specs.declared.records.Record.{Record}
+use Rattle.sync_rules.proofs.StepLaws.{next_is_settling, IsSettlingEntry}
+use Rattle.sync_course.specs.LinkTurns.{Asks}
+use Rattle.sync_rules.specs.Lists.{In}
+use Rattle.sync_course.specs.Turns.{Attaches, Between, Broken, Ended, Greets, Place, RunStep}
+use Rattle.sync_course.specs.Turns.{Settles, Stage, Terms, Works, attached, first_place, turn_ended}
+use Rattle.sync_course.specs.Turns.{unattached, with_spot}
+use Rattle.sync_course.proofs.FreeLaws.{run_is_free, step_is_free, run_by_cases, staged}
+use Rattle.outside.specs.Runs as runs
+use Rattle.outside.proofs.RunLaws as runs_laws
+use Rattle.record_grammar.specs.declared.stream.Item.TheVariants as item
+use Rattle.sync_rules.specs.declared.entries.Entry.TheVariants as entry
 
 -- what was heard only grows
 free_path_heard : (clients : Meaning) (first : ℕ) (p q : Free) (es : List Event)
@@ -49,7 +66,7 @@ begun_by-append [] cs = refl
 begun_by-append (b ∷ bs) cs = one b (begun_by-append bs cs)
   where
     one : (b : List Entry) → begun_by (bs ++ cs) ≡ begun_by bs ++ begun_by cs → begun_by (b ∷ (bs ++ cs)) ≡ begun_by (b ∷ bs) ++ begun_by cs
-    one (entry.Session s ∷ rest) is = ap (λ (l : List Session). s ∷ l) is
+    one (entry.Session s ∷ rest) is = ap (λ l. s ∷ l) is
     one _ is = is
 
 -- ---- each batch suits
@@ -67,9 +84,9 @@ next_stands fronts heard f session place n r its link front c =
     let whole : records (heard n) ≡ (c.done ++ r ∷ behind) ++ later =
     ap records front.goes_on
     ∙ (fronts link.heard front.more).1
-    ∙ ap (λ (l : List Record). l ++ later) c.parts in
-    subst (λ (l : List Record). slice_get l (takes_of f.takes session) ≡ Some r) (sym whole)
-    (subst (λ (k : ℕ). slice_get ((c.done ++ r ∷ behind) ++ later) k ≡ Some r) (sym c.count)
+    ∙ ap (λ l. l ++ later) c.parts in
+    subst (λ l. slice_get l (takes_of f.takes session) ≡ Some r) (sym whole)
+    (subst (λ k. slice_get ((c.done ++ r ∷ behind) ++ later) k ≡ Some r) (sym c.count)
     (get_front (c.done ++ r ∷ behind) later (length c.done) r (get_middle c.done behind r)))
 
 module _ (fronts : FrontsHaveFronts) (clients : Meaning) (first : ℕ) (plans : List Session) (heard : ℕ → List ℕ) where
@@ -100,8 +117,8 @@ module _ (fronts : FrontsHaveFronts) (clients : Meaning) (first : ℕ) (plans : 
         takes = λ n place r its link holds at allowed planned.
             let itself : nat_eq n n ≡ true = eq-eqb n n refl in
             let pends : pending_in p.hold n ≡ item.One place r ∷ its =
-            ap (λ (h : Hold). pending_in h n) holds
-            ∙ ap (λ (b : Bool). cond b (item.One place r ∷ its) []) itself in (
+            ap (λ h. pending_in h n) holds
+            ∙ ap (λ b. cond b (item.One place r ∷ its) []) itself in (
               inr (inr (record {
                 link = n;
                 on = refl;
@@ -172,7 +189,7 @@ owed_there : (n : ℕ) (bytes : List ℕ) (p : Owing Free) (i : ℕ) → runs.Is
 owed_there n bytes p i front = to_link (nat_eq n i) refl
   where
     to_link : (t : Bool) → nat_eq n i ≡ t → runs.IsFront (cond t bytes []) (p.owed i)
-    to_link true is = subst (λ (k : ℕ). runs.IsFront bytes (p.owed k)) (eqb-true n i is) front
+    to_link true is = subst (λ k. runs.IsFront bytes (p.owed k)) (eqb-true n i is) front
     to_link false is = front_of_none (p.owed i)
 
 -- what the first of some acts is to send is owed before them
@@ -195,7 +212,7 @@ moment_stands go_on join fronts clients j acts to m legal path front =
     let first : ℕ = (facts j).begun in
     let start : Owing Free = paid (first_free (facts j)) in
     let parts = path_parts (ActsOn clients first) start to front.before front.behind
-    (subst (λ (l : List Act). Path (ActsOn clients first) start l to) front.parts path) in
+    (subst (λ l. Path (ActsOn clients first) start l to) front.parts path) in
     let mid : Owing Free = parts.0 in
     let sent : HasSent clients first j front.before mid =
     acts_sent go_on join clients j front.before mid legal parts.1 in
@@ -227,3 +244,133 @@ moment_stands go_on join fronts clients j acts to m legal path front =
           (next_owed clients first front.behind mid to link parts.2)))
           (front_so (has_failure link (events_of front.before)) (sent.sent link)));
     }
+
+-- ---- a run
+
+-- the sessions that are yet to begin at a stage
+abbrev pub left_at : Stage → List Session
+left_at (Settles left) = left
+left_at (Attaches left) = left
+left_at (Greets s left) = left
+left_at _ = []
+
+-- a step commits no plain entry, and the sessions that begin by it are the next ones
+pub record StepPlans (e : Event) (from to : Stage) : Type 0 where
+  pub plain : NotPlain e
+  pub begins : left_at from ≡ begun_by (batches_of (e ∷ [])) ++ left_at to
+
+passes : {from to : Stage} → left_at from ≡ left_at to → StepPlans Pass from to
+passes same = record { plain = tt; begins = same }
+
+module _ (clients : Meaning) (terms : Terms) where
+  step_plans : (p q : Place) (e : Event) → RunStep clients terms p e q
+      → StepPlans e p.stage q.stage
+  step_plans p q e t =
+      run_by_cases clients terms p
+      (λ (stage : Stage) (x : Event) (r : Place). ((hold_at stage ≡ Rests → ⊥)
+      → NotPlain x × (begun_by (batches_of (x ∷ [])) ≡ [])) → StepPlans x stage r.stage) (record {
+        settles = λ left b settling link.
+            let only = settling_adds clients p.facts b settling in
+            record { plain = only.plain; begins = ap (λ l. l ++ left) (sym only.begins) };
+        settled = λ left settled link. passes refl;
+        begins = λ x left allowed link. record { plain = λ plain. plain; begins = refl };
+        greets = λ x left link. passes refl;
+        breaks = λ x left link. record { plain = tt; begins = refl };
+        all_begun = λ link. passes refl;
+        ends = λ over link. passes refl;
+        turns = λ on link. passes refl;
+        works = λ n doing link x spot at steps adds.
+            let adds = adds (λ holds. cc) in
+            record { plain = adds.0; begins = ap (λ l. l ++ []) (sym adds.1) };
+        goes_on = λ n link at adds. passes refl;
+        turn_ends = λ n none link. passes refl;
+      }) q e t
+      (λ busy.
+      let adds = step_adds clients terms.first (forget p) (forget q) e
+      (step_is_free clients terms p q e t) in
+      (adds.plain busy, adds.begins busy))
+
+  -- the sessions that begin on a path are the first of those that were yet to begin
+  path_begins : (p q : Place) (es : List Event) → Path (RunStep clients terms) p es q
+      → left_at p.stage ≡ begun_by (batches_of es) ++ left_at q.stage
+  path_begins p q [] path = ap (λ x. left_at x.stage) (sym path)
+  path_begins p q (e ∷ es) path =
+      let new : List (List Entry) = batches_of (e ∷ []) in
+      (step_plans p path.0 e path.1).begins
+      ∙ ap (λ l. begun_by new ++ l) (path_begins path.0 q es path.2)
+      ∙ sym (append_assoc (begun_by new) (begun_by (batches_of es)) (left_at q.stage))
+      ∙ ap (λ l. l ++ left_at q.stage)
+      (sym (begun_by-append new (batches_of es)) ∙ ap begun_by (sym (batches_of-append (e ∷ []) es)))
+
+  -- what suits a node suits a run
+  path_planned : (plans : List Session) (heard : ℕ → List ℕ) (f : Facts) (p q : Place)
+      (es : List Event) → Path (RunStep clients terms) p es q
+      → AllSuitNode clients terms.first plans heard f (batches_of es)
+      → AllSuitPlanned clients terms.first plans heard f (batches_of es)
+  path_planned plans heard f p q [] path suits = tt
+  path_planned plans heard f p q (Commit b ∷ es) path suits = (
+    elim suits.0 [
+      | inl plain ↦ absurd ((step_plans p path.0 (Commit b) path.1).plain plain)
+      | inr planned ↦ planned
+    ],
+    path_planned plans heard (after_all f b) path.0 q es path.2 suits.1,
+  )
+  path_planned plans heard f p q (_ ∷ es) path suits =
+      path_planned plans heard f path.0 q es path.2 suits
+
+pub run_suits : StreamsGoOn → RecordsJoin → FrontsHaveFronts → (clients : Meaning) (terms : Terms) (sessions : List Session)
+    (j : List (List Entry)) (events : List Event) (last : Place) → Legal clients j → Broken clients terms sessions (facts j) events last
+    → AllSuitPlanned clients terms.first sessions (heard_on last) (facts j) (batches_of events)
+run_suits go_on join fronts clients terms sessions j events last legal broken =
+    let start : Place = first_place sessions (facts j) in
+    let first : ℕ = terms.first in
+    let numbered : first ≡ (facts j).begun = broken.numbered in
+    let begun : (facts j).begun ≡ first + 0 = omega (arith, numbered) in
+    path_planned clients terms sessions (heard_on last) (facts j) start last events broken.path
+    (free_path_suits go_on join fronts clients first sessions (heard_on last) 0
+    (first_free (facts j)) (forget last) events (run_is_free clients terms start last events broken.path)
+    (λ i. front_itself (heard_on last i))
+    (subst (λ k. IsFreeSound clients k (first_free (facts j))) (sym numbered)
+    (first_free_sound clients j legal)) begun
+    (λ k i x number at.
+    let same : k ≡ i = omega (arith, number) in
+    subst₂ (λ l m. slice_get l m ≡ Some x)
+    (sym (path_begins clients terms start last events broken.path)) same
+    (get_front (begun_by (batches_of events)) (left_at last.stage) k x at)))
+
+-- ---- as one of those that it was given
+
+in_get : (xs : List Session) (i : ℕ) (x : Session) → slice_get xs i ≡ Some x → In x xs
+in_get [] i x at = cc
+in_get (y ∷ ys) zero x at = let same : y ≡ x = cc in inl (sym same)
+in_get (y ∷ ys) (suc i) x at = inr (in_get ys i x at)
+
+module _ (clients : Meaning) (first : ℕ) (plans : List Session) (heard : ℕ → List ℕ) where
+  settling_suits : (f : Facts) (b : List Entry) → IsSettlingBatch clients f b
+      → SuitsCourse clients first plans heard f b
+  settling_suits f [] s = absurd (omega arith)
+  settling_suits f (e ∷ es) s = by_entry e es (next_is_settling clients f e s.2.0) s
+    where
+      by_entry : (e : Entry) (es : List Entry) → IsSettlingEntry e
+          → IsSettlingBatch clients f (e ∷ es) → SuitsCourse clients first plans heard f (e ∷ es)
+      by_entry (entry.Judged id) es k s = s
+      by_entry (entry.Deliver id) es k s = s
+      by_entry (entry.Invalid id) es k s = s
+      by_entry _ es k s = absurd k
+
+  one_suits : (f : Facts) (b : List Entry) → IsOfCourse first plans heard f b → SuitsCourse clients first plans heard f b
+  one_suits f (entry.Session s ∷ rest) is = in_get plans is.link s is.planned
+  one_suits f (entry.Take s k ∷ rest) is = is
+  one_suits f (entry.Out s now what ∷ rest) is = is
+  one_suits f _ is = absurd is
+
+  pub planned_suits : (f : Facts) (bs : List (List Entry)) → AllSuitPlanned clients first plans heard f bs
+      → AllSuitCourse clients first plans heard f bs
+  planned_suits f [] suits = tt
+  planned_suits f (b ∷ bs) suits = (
+    elim suits.0 [
+      | inl settles ↦ settling_suits f b settles
+      | inr of_run ↦ one_suits f b of_run
+    ],
+    planned_suits (after_all f b) bs suits.1,
+  )

@@ -36,12 +36,12 @@ none_more : (a b : List ℕ) → a ≡ b → a ≡ b ++ []
 none_more a b same = same ∙ sym (append-nil b)
 
 here : (n : ℕ) (x : List ℕ) → cond (nat_eq n n) x [] ≡ x
-here n x = ap (λ (b : Bool). cond b x []) (eq-eqb n n refl)
+here n x = ap (λ b. cond b x []) (eq-eqb n n refl)
 
 -- on another link an event brings nothing
 spared_bytes : (i : ℕ) (e : Event) → Spares i e → bytes_by i e ≡ []
 spared_bytes i (Hear on reply) apart =
-    ap (λ (b : Bool). cond b (reply_bytes reply) []) (ne_eqb on i apart)
+    ap (λ b. cond b (reply_bytes reply) []) (ne_eqb on i apart)
 spared_bytes i _ spares = refl
 
 -- on its own link a step adds what its event brings
@@ -51,7 +51,7 @@ link_adds clients n session p q e s =
     let none : p.link.heard ≡ p.link.heard ++ [] = sym (append-nil p.link.heard) in
     let replied : (reply : Reply) → p.link.heard ++ reply_bytes reply
     ≡ p.link.heard ++ bytes_by n (Hear n reply) =
-    λ reply. ap (λ (l : List ℕ). p.link.heard ++ l) (sym (here n (reply_bytes reply))) in
+    λ reply. ap (λ l. p.link.heard ++ l) (sym (here n (reply_bytes reply))) in
     link_by_cases clients n session p
     (λ (doing : Doing) (x : Event) (r : Spot). r.link.heard ≡ p.link.heard ++ bytes_by n x)
     (record {
@@ -78,7 +78,7 @@ module _ (clients : Meaning) (first : ℕ) where
       → heard_at q i ≡ heard_at p i ++ bytes_by i e
   stays_heard e p q i spares same =
       none_more (heard_at q i) (heard_at p i) same
-      ∙ ap (λ (l : List ℕ). heard_at p i ++ l) (sym (spared_bytes i e spares))
+      ∙ ap (λ l. heard_at p i ++ l) (sym (spared_bytes i e spares))
 
   goes_add : (e : Event) (p q : Free) (i : ℕ) → LinkGoes clients first e p q i
       → heard_at q i ≡ heard_at p i ++ bytes_by i e
@@ -91,11 +91,11 @@ module _ (clients : Meaning) (first : ℕ) where
       let nothing : bytes_by i e ≡ [] =
       elim j.way [ inl passes ↦ ap (bytes_by i) passes.0 | inr broke ↦ ap (bytes_by i) broke.0 ] in
       none_more (heard_at q i) (heard_at p i) (ap heard_in j.now ∙ sym none)
-      ∙ ap (λ (l : List ℕ). heard_at p i ++ l) (sym nothing)
+      ∙ ap (λ l. heard_at p i ++ l) (sym nothing)
   goes_add e p q i (Stepped t) =
       ap heard_in t.now
       ∙ link_adds clients i (first + i) (spot_in t.doing t.link t.moved p) t.spot e t.steps
-      ∙ ap (λ (o : Option Link). heard_in o ++ bytes_by i e) (sym t.at)
+      ∙ ap (λ o. heard_in o ++ bytes_by i e) (sym t.at)
 
   free_adds : (p q : Free) (e : Event) → FreeStep clients first p e q → (i : ℕ)
       → heard_at q i ≡ heard_at p i ++ bytes_by i e
@@ -103,10 +103,10 @@ module _ (clients : Meaning) (first : ℕ) where
 
   -- so does a path
   pub free_path_adds : (es : List Event) (p q : Free) (i : ℕ) → Path (FreeStep clients first) p es q → heard_at q i ≡ heard_at p i ++ bytes_of i es
-  free_path_adds [] p q i path = none_more (heard_at q i) (heard_at p i) (ap (λ (x : Free). heard_at x i) path)
+  free_path_adds [] p q i path = none_more (heard_at q i) (heard_at p i) (ap (λ x. heard_at x i) path)
   free_path_adds (e ∷ es) p q i path =
       free_path_adds es path.0 q i path.2
-      ∙ ap (λ (l : List ℕ). l ++ bytes_of i es) (free_adds p path.0 e path.1 i)
+      ∙ ap (λ l. l ++ bytes_of i es) (free_adds p path.0 e path.1 i)
       ∙ append_assoc (heard_at p i) (bytes_by i e) (bytes_of i es)
 
 -- ---- what is told
@@ -115,7 +115,7 @@ module _ (clients : Meaning) (first : ℕ) where
 replied : (h : HeardOn) (room : ℕ) (reply : Reply) → heard_bytes (hear_reply room reply h).answers ≡ heard_bytes h.answers ++ reply_bytes reply
 replied h room reply =
     flat_map-append (λ (a : Answered). reply_bytes a.reply) h.answers (record { failures = h.failures; room = room; reply = reply } ∷ [])
-    ∙ ap (λ (l : List ℕ). heard_bytes h.answers ++ l) (append-nil (reply_bytes reply))
+    ∙ ap (λ l. heard_bytes h.answers ++ l) (append-nil (reply_bytes reply))
 
 -- the bytes that are told to be heard on a link
 abbrev pub at_of : List HeardOn → ℕ → List ℕ
@@ -162,7 +162,7 @@ pub events_tell : (es : List Event) (h : List HeardOn) (i : ℕ) → i < length 
 events_tell [] h i within = sym (append-nil (at_of h i))
 events_tell (e ∷ es) h i within =
     events_tell es (heard_by e h) i (omega (arith, within, length_heard e h))
-    ∙ ap (λ (l : List ℕ). l ++ bytes_of i es) (event_tells e h i within)
+    ∙ ap (λ l. l ++ bytes_of i es) (event_tells e h i within)
     ∙ append_assoc (at_of h i) (bytes_by i e) (bytes_of i es)
 
 length_after : (es : List Event) (h : List HeardOn) → length (heard_after es h) ≡ length h

@@ -25,7 +25,7 @@ use Rattle.sync_course.specs.Idle.{greeting, idle_turn, idle_turns, idle_run, id
 one_link : (link : Link) → without_redundant (link ∷ []) ≡ link ∷ []
 one_link link =
     let none : beats 0 link 0 link ≡ false = never (beats 0 link 0 link) (not_itself 0 link) in
-    ap (λ (b : Bool). record link { stands = cond (b || false) end.Redundant link.stands } ∷ []) none
+    ap (λ b. record link { stands = cond (b || false) end.Redundant link.stands } ∷ []) none
 
 module _ (clients : Meaning) (terms : Terms) (s : Session) (now : ℕ) (f : Facts)
     (nothing_due : IsNothingDue clients f (session_at f.sessions (terms.first + 0)) now) where
@@ -39,7 +39,7 @@ module _ (clients : Meaning) (terms : Terms) (s : Session) (now : ℕ) (f : Fact
       let begins : p1 ≡ cond (is_at_end terms (idle_place s n f)) (record (idle_place s n f) { stage = Ended }) p1 =
       ap (λ b. cond b (record (idle_place s n f) { stage = Ended }) p1) (sym on) in
       let ends : idle_place s (suc n) f ≡ turn_ended p5 =
-      ap (λ (links : List Link). record (idle_place s (suc n) f) { links = links }) (sym (one_link (link_of s end.Going))) in
+      ap (λ links. record (idle_place s (suc n) f) { links = links }) (sym (one_link (link_of s end.Going))) in
       let works : (doing : Doing) → Place = λ doing. with_spot 0 (at doing) p1 in (
         p1,
         begins,
@@ -69,7 +69,7 @@ module _ (clients : Meaning) (terms : Terms) (s : Session) (now : ℕ) (f : Fact
   idle_end_path n over =
       let ends : idle_end s n f ≡ cond (is_at_end terms (idle_place s n f)) (idle_end s n f)
       (record (idle_place s n f) { stage = Works 0 Asks; moved = false }) =
-      ap (λ (b : Bool). cond b (idle_end s n f) (record (idle_place s n f) { stage = Works 0 Asks; moved = false })) (sym over) in
+      ap (λ b. cond b (idle_end s n f) (record (idle_place s n f) { stage = Works 0 Asks; moved = false })) (sym over) in
       (idle_end s n f, ends, refl)
 
 module _ (clients : Meaning) (terms : Terms) (s : Session) (now : ℕ) (f : Facts) (numbered : terms.first ≡ f.begun) (settled : IsSettled clients f)
@@ -103,9 +103,9 @@ module _ (clients : Meaning) (terms : Terms) (s : Session) (now : ℕ) (f : Fact
   -- not over and with turns left
   goes_on_at : (k : ℕ) → k < terms.quiet → k < terms.turns → is_at_end terms (idle_place s k began) ≡ false
   goes_on_at k quiet turns =
-      ap (λ (x : Bool). (nat_lt 0 k && x) || nat_le terms.turns k) (lt-leb terms.quiet k quiet)
-      ∙ ap (λ (x : Bool). (nat_lt 0 k && false) || x) (lt-leb terms.turns k turns)
-      ∙ ap (λ (x : Bool). x || false) (and-false (nat_lt 0 k))
+      ap (λ x. (nat_lt 0 k && x) || nat_le terms.turns k) (lt-leb terms.quiet k quiet)
+      ∙ ap (λ x. (nat_lt 0 k && false) || x) (lt-leb terms.turns k turns)
+      ∙ ap (λ x. x || false) (and-false (nat_lt 0 k))
 
   -- after so many turns it ends, over or with no turn left
   ends_after : (n : ℕ) (over : Bool) → n ≤ terms.quiet → n ≤ terms.turns
@@ -114,8 +114,8 @@ module _ (clients : Meaning) (terms : Terms) (s : Session) (now : ℕ) (f : Fact
       × (closing terms.quiet (idle_end s n began) ≡ record { over = over; ends = end.Going ∷ [] })
   ends_after n over quiet turns is ended = (
     idle_course n (λ k less. goes_on_at k (omega (arith, less, quiet)) (omega (arith, less, turns)))
-        (ap (λ (x : Bool). x || nat_le terms.turns n) is ∙ ended),
-    ap (λ (x : Bool). record { over = x; ends = end.Going ∷ [] }) is,
+        (ap (λ x. x || nat_le terms.turns n) is ∙ ended),
+    ap (λ x. record { over = x; ends = end.Going ∷ [] }) is,
   )
 
   -- as many turns as were to be quiet: the link is quiet
@@ -126,7 +126,7 @@ module _ (clients : Meaning) (terms : Terms) (s : Session) (now : ℕ) (f : Fact
       let last : nat_le terms.quiet terms.quiet ≡ true =
       le-leb terms.quiet terms.quiet (omega arith) in
       ends_after terms.quiet true (omega arith) enough
-      (ap (λ (x : Bool). x && nat_le terms.quiet terms.quiet) (lt-ltb 0 terms.quiet some)
+      (ap (λ x. x && nat_le terms.quiet terms.quiet) (lt-ltb 0 terms.quiet some)
       ∙ last) refl
 
   -- fewer turns than were to be quiet: it is unfinished
@@ -135,6 +135,6 @@ module _ (clients : Meaning) (terms : Terms) (s : Session) (now : ℕ) (f : Fact
       × (closing terms.quiet (idle_end s terms.turns began) ≡ record { over = false; ends = end.Going ∷ [] })
   ends_unfinished some fewer =
       ends_after terms.turns false (omega (arith, fewer)) (omega arith)
-      (ap (λ (x : Bool). nat_lt 0 terms.turns && x) (lt-leb terms.quiet terms.turns fewer)
+      (ap (λ x. nat_lt 0 terms.turns && x) (lt-leb terms.quiet terms.turns fewer)
       ∙ and-false (nat_lt 0 terms.turns))
       (le-leb terms.turns terms.turns (omega arith))

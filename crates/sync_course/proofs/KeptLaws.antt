@@ -27,15 +27,15 @@ before_then x y z first second whole both ordering.Greater ordering.Less e f a b
 before_then x y z first second whole both ordering.Greater ordering.Greater e f a b =
     let low : slice_cmp nat_cmp z x ≡ ordering.Less =
     nat_list_cmp_total.trans z y x (turned y z ordering.Greater f) (turned x y ordering.Greater e) in
-    ap (λ (o : Ordering). is_before o whole) (turned z x ordering.Less low)
+    ap (λ o. is_before o whole) (turned z x ordering.Less low)
 before_then x y z first second whole both ordering.Greater ordering.Equal e f a b =
     let low : slice_cmp nat_cmp z x ≡ ordering.Less =
     sym (nat_list_cmp_total.congr y z x f) ∙ turned x y ordering.Greater e in
-    ap (λ (o : Ordering). is_before o whole) (turned z x ordering.Less low)
+    ap (λ o. is_before o whole) (turned z x ordering.Less low)
 before_then x y z first second whole both ordering.Equal ordering.Greater e f a b =
-    ap (λ (o : Ordering). is_before o whole) (nat_list_cmp_total.congr x y z e ∙ f)
+    ap (λ o. is_before o whole) (nat_list_cmp_total.congr x y z e ∙ f)
 before_then x y z first second whole both ordering.Equal ordering.Equal e f a b =
-    ap (λ (o : Ordering). is_before o whole) (nat_list_cmp_total.congr x y z e ∙ f) ∙ both a b
+    ap (λ o. is_before o whole) (nat_list_cmp_total.congr x y z e ∙ f) ∙ both a b
 
 kept_then : (x y z : Option (List ℕ)) (first second whole : Bool) → (first ≡ true → second ≡ true → whole ≡ true) → is_kept x y first ≡ true
     → is_kept y z second ≡ true → is_kept x z whole ≡ true
@@ -50,11 +50,11 @@ not_kept None = refl
 not_kept (Some x) = not_before (slice_cmp nat_cmp x x) refl
   where
     not_before : (o : Ordering) → slice_cmp nat_cmp x x ≡ o → is_before (slice_cmp nat_cmp x x) false ≡ false
-    not_before ordering.Less is = ap (λ (o : Ordering). is_before o false) is
-    not_before ordering.Equal is = ap (λ (o : Ordering). is_before o false) is
+    not_before ordering.Less is = ap (λ o. is_before o false) is
+    not_before ordering.Equal is = ap (λ o. is_before o false) is
     not_before ordering.Greater is =
         let low : slice_cmp nat_cmp x x ≡ ordering.Less = turned x x ordering.Greater is in
-        ap (λ (o : Ordering). is_before o false) low
+        ap (λ o. is_before o false) low
 
 -- the parts of a comparison of two links
 pub record Beats (i : ℕ) (a : Link) (k : ℕ) (b : Link) : Type 0 where
@@ -102,7 +102,7 @@ never false absent = refl
 pub not_itself : {A : Type 0} → (i : ℕ) (a : Link) → beats i a i a ≡ true → A
 not_itself i a is =
     let none : nat_lt i i ≡ false = never (nat_lt i i) (λ is. let less : i < i = ltb-true i i is in omega (arith, less)) in
-    absurd (false≢true (sym (not_kept a.nonce) ∙ ap (λ (b : Bool). is_kept a.nonce a.nonce b) (sym none) ∙ (beats_parts i a i a is).kept))
+    absurd (false≢true (sym (not_kept a.nonce) ∙ ap (λ b. is_kept a.nonce a.nonce b) (sym none) ∙ (beats_parts i a i a is).kept))
 
 -- ---- the one that is kept
 
@@ -127,7 +127,7 @@ module _ {A : Type 0} (over : A → A → Bool) where
   under_one : (xs : List A) (a b : A) → In a xs → over a b ≡ true → is_under xs b ≡ true
   under_one [] a b there is = absurd there
   under_one (x ∷ xs) a b (inl same) is =
-      or_left (over x b) (is_under xs b) (subst (λ (y : A). over y b ≡ true) same is)
+      or_left (over x b) (is_under xs b) (subst (λ y. over y b ≡ true) same is)
   under_one (x ∷ xs) a b (inr later) is =
       or_right (over x b) (is_under xs b) (under_one xs a b later is)
 
@@ -146,14 +146,14 @@ module _ {A : Type 0} (over : A → A → Bool) where
       best = r.best;
       is =
           inr (elim r.is [
-            | inl same ↦ (inl same, subst (λ (x : A). over x b ≡ true) (sym same) t)
+            | inl same ↦ (inl same, subst (λ x. over x b ≡ true) (sym same) t)
             | inr there ↦ (inr there.0, then r.best c b there.1 t)
           ]);
       free =
           or_false (over c r.best) (is_under xs r.best)
           (never (over c r.best)
           (λ x. elim r.is [
-            | inl same ↦ itself c (subst (λ (y : A). over c y ≡ true) same x)
+            | inl same ↦ itself c (subst (λ y. over c y ≡ true) same x)
             | inr there ↦ itself c (then c r.best c x there.1)
           ]))
           r.free;
@@ -165,7 +165,7 @@ module _ {A : Type 0} (over : A → A → Bool) where
           or_false (over c r.best) (is_under xs r.best)
           (never (over c r.best)
           (λ x. false≢true (sym t ∙ elim r.is [
-            | inl same ↦ subst (λ (y : A). over c y ≡ true) same x
+            | inl same ↦ subst (λ y. over c y ≡ true) same x
             | inr there ↦ then c r.best b x there.1
           ])))
           r.free;
@@ -187,7 +187,7 @@ beaten_numbered : (j : ℕ) (links : List Link) (k : ℕ) (b : Link)
     → is_beaten j links k b ≡ is_under over_by (numbered j links) (k, b)
 beaten_numbered j [] k b = refl
 beaten_numbered j (a ∷ links) k b =
-    ap (λ (t : Bool). beats j a k b || t) (beaten_numbered (suc j) links k b)
+    ap (λ t. beats j a k b || t) (beaten_numbered (suc j) links k b)
 
 at_number : (j : ℕ) (links : List Link) (n : ℕ) (a : Link) → In (n, a) (numbered j links)
     → (m : ℕ) × (n ≡ j + m) × (slice_get links m ≡ Some a)
@@ -228,14 +228,14 @@ kept_rather links k b beaten =
     record {
       number = r.0.0;
       link = r.0.1;
-      at = subst (λ (n : ℕ). slice_get links n ≡ Some r.0.1) same at.2;
+      at = subst (λ n. slice_get links n ≡ Some r.0.1) same at.2;
       beats_it = r.2;
       unbeaten = r.3;
     }
 
 pub closed_whole : (all : List Link) (k : ℕ) (links : List Link) → closed_upto all k (length links) links ≡ closed_from all k links
 closed_whole all k [] = refl
-closed_whole all k (b ∷ links) = ap (λ (l : List Link). closed_as all k b ∷ l) (closed_whole all (suc k) links)
+closed_whole all k (b ∷ links) = ap (λ l. closed_as all k b ∷ l) (closed_whole all (suc k) links)
 
 -- one more is closed
 closed_more : (all : List Link) (k m : ℕ) (links : List Link) (b : Link) → slice_get links m ≡ Some b
@@ -247,8 +247,8 @@ closed_more all k zero (x ∷ links) b at =
     ap₂ (λ y n. closed_as all n y ∷ links) same here
 closed_more all k (suc m) (x ∷ links) b at =
     let later : suc k + m ≡ k + suc m = omega arith in
-    ap (λ (l : List Link). closed_as all k x ∷ l)
-    (closed_more all (suc k) m links b at ∙ ap (λ (n : ℕ). slice_set (closed_upto all (suc k) m links) m (closed_as all n b)) later)
+    ap (λ l. closed_as all k x ∷ l)
+    (closed_more all (suc k) m links b at ∙ ap (λ n. slice_set (closed_upto all (suc k) m links) m (closed_as all n b)) later)
 
 -- a link of the list in which some are closed
 was_in : (all : List Link) (j m : ℕ) (links : List Link) (n : ℕ) (now : Link)
@@ -260,8 +260,8 @@ was_in all j (suc m) (x ∷ links) n now (inl same) =
     let number : n ≡ j = ap (λ (y : ℕ × Link). y.0) same in
     let link : now ≡ closed_as all j x = ap (λ (y : ℕ × Link). y.1) same in (
       x,
-      inl (ap (λ (i : ℕ). (i, x)) number),
-      inr (link ∙ ap (λ (i : ℕ). closed_as all i x) (sym number)),
+      inl (ap (λ i. (i, x)) number),
+      inr (link ∙ ap (λ i. closed_as all i x) (sym number)),
     )
 was_in all j (suc m) (x ∷ links) n now (inr later) =
     let r = was_in all (suc j) m links n now later in (r.0, inr r.1, r.2)
@@ -276,7 +276,7 @@ stays_in all j (suc m) (x ∷ links) n a (inl same) free =
     let free_here : is_beaten 0 all j x ≡ false =
     ap (λ (y : ℕ × Link). is_beaten 0 all y.0 y.1) (sym same) ∙ free in
     inl (same
-    ∙ ap (λ (t : Bool). (j, record x { stands = cond t end.Redundant x.stands })) (sym free_here))
+    ∙ ap (λ t. (j, record x { stands = cond t end.Redundant x.stands })) (sym free_here))
 stays_in all j (suc m) (x ∷ links) n a (inr later) free =
     inr (stays_in all (suc j) m links n a later free)
 
@@ -302,10 +302,10 @@ same_beaten links m k b = both_so (is_beaten 0 (closed_upto links 0 m links) k b
         let w = was_in links 0 m links r.0.0 r.0.1 r.1 in
         let beats_it : beats r.0.0 w.0 k b ≡ true =
         elim w.2 [
-          | inl same ↦ subst (λ (y : Link). beats r.0.0 y k b ≡ true) same r.2
+          | inl same ↦ subst (λ y. beats r.0.0 y k b ≡ true) same r.2
           | inr closed ↦
               closed_beats (is_beaten 0 links r.0.0 w.0) r.0.0 w.0 k b
-              (subst (λ (y : Link). beats r.0.0 y k b ≡ true) closed r.2)
+              (subst (λ y. beats r.0.0 y k b ≡ true) closed r.2)
         ] in
         beaten_numbered 0 links k b
         ∙ under_one over_by (numbered 0 links) (r.0.0, w.0) (k, b) w.1 beats_it
@@ -325,6 +325,6 @@ pub closes_next : (links : List Link) (m : ℕ) (b : Link) → slice_get links m
 closes_next links m b at =
     let same : 0 + m ≡ m = omega arith in
     closed_more links 0 m links b at
-    ∙ ap (λ (n : ℕ). slice_set (closed_upto links 0 m links) m (closed_as links n b)) same
-    ∙ ap (λ (t : Bool). slice_set (closed_upto links 0 m links) m (record b { stands = cond t end.Redundant b.stands }))
+    ∙ ap (λ n. slice_set (closed_upto links 0 m links) m (closed_as links n b)) same
+    ∙ ap (λ t. slice_set (closed_upto links 0 m links) m (record b { stands = cond t end.Redundant b.stands }))
     (sym (same_beaten links m m b))

@@ -28,7 +28,7 @@ module _ {A : Type 0} where
   pub set_twice : (xs : List A) (n : ℕ) (x y : A) → slice_set (slice_set xs n x) n y ≡ slice_set xs n y
   set_twice [] n x y = refl
   set_twice (z ∷ xs) zero x y = refl
-  set_twice (z ∷ xs) (suc n) x y = ap (λ (l : List A). z ∷ l) (set_twice xs n x y)
+  set_twice (z ∷ xs) (suc n) x y = ap (λ l. z ∷ l) (set_twice xs n x y)
 
   pub get_other : (xs : List A) (n i : ℕ) (x : A) → (i ≡ n → ⊥) → slice_get (slice_set xs n x) i ≡ slice_get xs i
   get_other [] n i x other = refl
@@ -39,8 +39,8 @@ module _ {A : Type 0} where
 
   pub set_same : (xs : List A) (n : ℕ) (x : A) → slice_get xs n ≡ Some x → slice_set xs n x ≡ xs
   set_same [] n x at = refl
-  set_same (y ∷ xs) zero x at = let same : y ≡ x = cc in ap (λ (z : A). z ∷ xs) (sym same)
-  set_same (y ∷ xs) (suc n) x at = ap (λ (l : List A). y ∷ l) (set_same xs n x at)
+  set_same (y ∷ xs) zero x at = let same : y ≡ x = cc in ap (λ z. z ∷ xs) (sym same)
+  set_same (y ∷ xs) (suc n) x at = ap (λ l. y ∷ l) (set_same xs n x at)
 
   pub get_within : (xs : List A) (n : ℕ) (x : A) → slice_get xs n ≡ Some x → n < length xs
   get_within xs n x at = slice_get_within xs n x at
@@ -55,13 +55,13 @@ module _ (clients : Meaning) (terms : Terms) (n : ℕ) (place : Place) (within :
   pub lifted_step : (p q : Spot) (e : Event) → LinkStep clients n (terms.first + n) p e q
       → RunStep clients terms (with_spot n p place) e (with_spot n q place)
   lifted_step p q e s =
-      subst (λ (o : Option Link). TurnStep clients terms n p.doing o e (with_spot n p place) (with_spot n q place))
+      subst (λ o. TurnStep clients terms n p.doing o e (with_spot n p place) (with_spot n q place))
       (sym (get_set place.links n p.link within))
       (inl (record {
         spot = q;
         steps = s;
         leads =
-            ap (λ (l : List Link). record {
+            ap (λ l. record {
               stage = Works n q.doing;
               links = l;
               moved = q.moved;
@@ -93,19 +93,19 @@ module _ (clients : Meaning) (terms : Terms) where
       → RunStep clients terms p Pass (record p { stage = Works (suc n) Asks })
   next_step n link p works at =
       let q : Place = record p { stage = Works (suc n) Asks } in
-      stage_at p q Pass (Works n Done) works (subst (λ (o : Option Link). TurnStep clients terms n Done o Pass p q) (sym at) (inr refl))
+      stage_at p q Pass (Works n Done) works (subst (λ o. TurnStep clients terms n Done o Pass p q) (sym at) (inr refl))
 
   -- a turn ends
   pub end_step : (p : Place) → p.stage ≡ Works (length p.links) Asks → RunStep clients terms p Pass (turn_ended p)
   end_step p works =
       stage_at p (turn_ended p) Pass (Works (length p.links) Asks) works
-      (subst (λ (o : Option Link). TurnStep clients terms (length p.links) Asks o Pass p (turn_ended p)) (sym (get_past p.links)) refl)
+      (subst (λ o. TurnStep clients terms (length p.links) Asks o Pass p (turn_ended p)) (sym (get_past p.links)) refl)
 
   pub begin_step : (p : Place) → p.stage ≡ Between → is_at_end terms p ≡ false
       → RunStep clients terms p Pass (record p { stage = Works 0 Asks; moved = false })
   begin_step p between on =
       let q : Place = record p { stage = Works 0 Asks; moved = false } in
-      stage_at p q Pass Between between (ap (λ (b : Bool). cond b (record p { stage = Ended }) q) (sym on))
+      stage_at p q Pass Between between (ap (λ b. cond b (record p { stage = Ended }) q) (sym on))
 
   -- the journal is settled, at the begin
   pub runs_settled_begun : (Before After : List (List Entry) → Type 0)

@@ -1,36 +1,200 @@
--- What the last still turns of a run had, Idle answers alone and nothing due at the readings made
--- in them; and how a run stands that is over.
-use Rattle.std.proofs.Common.{◌≡◌, ℕ, zero, suc, ◌+◌, ◌<◌, ◌≤◌, Bool, true, false, cond, nat_eq, eq-eqb, List, [], ◌∷◌, length, refl, sym, ◌∙◌, ap, subst, subst₂, inl, inr, arith, Option, None, Some, not, ◌||◌, nat_le, ◌++◌, append-nil}
-use Rattle.std.specs.Prelude.{slice_get, nat_lt}
-use Rattle.std.proofs.lemmas.Bool.{cases_eq, false≢true, ne_eqb, and_parts, leb-true, ltb-true, or_left, or_right}
-use Rattle.outside.specs.Links.{idle}
+-- What each place of a run keeps: where the journal is settled, and at which reading a link sends; so
+-- each output is due at its place. What the last still turns had, Idle answers alone and nothing due
+-- at the readings made in them; and how a run stands that is over.
+use Rattle.std.proofs.Common.{◌≡◌, ℕ, ◌+◌, Bool, cond, eq-eqb, List, [], ◌∷◌, refl, sym, ap, subst}
+use Rattle.std.proofs.Common.{Option, Some, suc, ◌++◌, None, zero, ◌<◌, ◌≤◌, true, false, nat_eq}
+use Rattle.std.proofs.Common.{length, ◌∙◌, subst₂, inl, inr, arith, not, ◌||◌, nat_le, append-nil}
+use Rattle.sync_rules.specs.declared.entries.Entry.{Entry}
 use Rattle.sync_rules.specs.Clients.{Meaning}
 use Rattle.sync_rules.specs.Facts.{Facts, facts}
+use Rattle.sync_rules.specs.Steps.{IsSettled}
+use Rattle.sync_rules.proofs.StepKinds.{settled_stays}
+use Rattle.sync_course.specs.Events.{Event, Commit, batches_of, Hear, Miss, Read}
+use Rattle.sync_course.specs.LinkTurns.{Doing, LinkStep, Puts, Sends, Spot, Takes, out_batch, Asks}
+use Rattle.sync_course.specs.LinkTurns.{Waits, Done, IsEnough}
+use Rattle.sync_course.specs.Paths.{Path}
+use Rattle.sync_course.specs.Quiet.{reading_after, reading_by, last_reading, IsQuietAt, idles_after}
+use Rattle.sync_course.specs.Quiet.{idles_by, idles_with, EndsQuiet, idle_answers}
+use Rattle.sync_course.specs.Turns.{Place, RunStep, Settles, Stage, Terms, Works, spot_of, Greets}
+use Rattle.sync_course.specs.Turns.{Attaches, Between, Ended, turn_ended, with_spot, Course}
+use Rattle.sync_course.specs.Turns.{first_place, is_over, some_going}
+use Rattle.sync_course.proofs.LinkSteps.{link_by_cases, Spares, link_spares}
+use Rattle.sync_course.proofs.FreeLaws.{run_by_cases, step_is_free}
+use Rattle.sync_rules.specs.declared.entries.Out.{Out}
+use Rattle.sync_rules.specs.Legal.{IsSettlingBatch, Legal}
+use Rattle.sync_rules.proofs.StepLaws.{next_is_settling}
+use Rattle.sync_course.proofs.PathLaws.{path_parts}
+use Rattle.sync_course.specs.Free.{Holds, IsPlain, forget, hold_at}
+use Rattle.sync_course.proofs.FreeSteps.{free_batches}
+use Rattle.sync_course.specs.DueOutputs.{IsDueAt, OutIsDue}
+use Rattle.std.specs.Prelude.{slice_get, nat_lt}
+use Rattle.std.proofs.lemmas.Bool.{cases_eq, false≢true, ne_eqb, and_parts, leb-true, ltb-true}
+use Rattle.std.proofs.lemmas.Bool.{or_left, or_right}
+use Rattle.outside.specs.Links.{idle}
 use Rattle.sync_course.specs.declared.TheConstants.{MAX_OUTPUTS}
 use Rattle.sync_course.specs.declared.ends.LinkEnd.{LinkEnd}
-use Rattle.sync_course.specs.declared.ends.LinkEnd.TheVariants as end
-use Rattle.sync_course.specs.Events.{Event, Hear, Miss, Read}
-use Rattle.sync_course.specs.Paths.{Path}
 use Rattle.sync_course.specs.Links.{Link, is_going, is_sent_to}
-use Rattle.sync_course.specs.LinkTurns.{Asks, Takes, Waits, Sends, Puts, Done, Doing, IsEnough, LinkStep, Spot}
-use Rattle.sync_course.specs.Turns.{Attaches, Between, Ended, Greets, Place, RunStep, Settles, Stage, Terms, Works, spot_of, turn_ended, with_spot, Course, first_place, is_over, some_going}
 use Rattle.sync_course.proofs.LiftLaws.{get_other, get_set, get_within}
-use Rattle.sync_course.proofs.LinkSteps.{Spares, link_by_cases, link_spares}
 use Rattle.sync_course.proofs.RunLaws.{IsClosedFrom, redundant_get}
-use Rattle.sync_course.proofs.FreeLaws.{run_by_cases}
-use Rattle.sync_course.specs.Quiet.{IsQuietAt, idles_after, idles_by, idles_with, reading_after, reading_by, EndsQuiet, idle_answers, last_reading}
 use Rattle.record_grammar.specs.Laws.{RecordsJoin, StreamsGoOn}
 use Rattle.record_grammar.specs.Stream.{records, records_of}
 use Rattle.record_grammar.specs.declared.stream.Item.{Item}
 use Rattle.sync_ids.specs.declared.records.Record.{Record}
-use Rattle.sync_rules.specs.declared.entries.Entry.{Entry}
 use Rattle.sync_rules.specs.declared.entries.Session.{Session}
-use Rattle.sync_rules.specs.Legal.{Legal}
-use Rattle.sync_rules.specs.Steps.{IsSettled}
 use Rattle.sync_course.specs.Pending.{pending_at}
 use Rattle.sync_course.proofs.FreeSound.{get_same, run_counted}
-use Rattle.sync_course.proofs.PlaceLaws.{PlaceKeeps, path_stays}
 use Rattle.sync_course.specs.Suits.{IsCounted, AreRecordsTaken, keeps_all}
+use Rattle.sync_rules.specs.declared.entries.Entry.TheVariants as entry
+use Rattle.sync_course.specs.declared.ends.LinkEnd.TheVariants as end
+
+-- the journal is settled but while items are taken
+abbrev pub SettledDoing : Meaning → Doing → Facts → Type 0
+SettledDoing clients (Takes its) f = Unit {0}
+SettledDoing clients _ f = IsSettled clients f
+
+-- what sends at a reading sends at the last one
+abbrev pub IsRead : Option ℕ → Doing → Type 0
+IsRead reading (Sends now room) = reading ≡ Some now
+IsRead reading (Puts now room) = reading ≡ Some now
+IsRead reading _ = Unit {0}
+
+abbrev pub SpotKeeps : Meaning → Option ℕ → Doing → Facts → Type 0
+SpotKeeps clients reading doing f = SettledDoing clients doing f × IsRead reading doing
+
+-- so it is at each place, but before the first session
+abbrev pub PlaceKeeps : Meaning → (ℕ → Option ℕ) → Stage → Facts → Type 0
+PlaceKeeps clients readings (Settles left) f = Unit {0}
+PlaceKeeps clients readings (Works n doing) f = SpotKeeps clients (readings n) doing f
+PlaceKeeps clients readings _ f = IsSettled clients f
+
+link_keeps : (clients : Meaning) (n session : ℕ) (reading : Option ℕ) (p q : Spot) (e : Event)
+    → LinkStep clients n session p e q → SpotKeeps clients reading p.doing p.facts
+    → SpotKeeps clients (reading_by n reading e) q.doing q.facts
+link_keeps clients n session reading p q e s =
+    link_by_cases clients n session p
+    (λ (doing : Doing) (x : Event) (r : Spot). SpotKeeps clients reading doing p.facts
+    → SpotKeeps clients (reading_by n reading x) r.doing r.facts) (record {
+      hears = λ bytes going k. (tt, tt);
+      idles = λ going k. (k.0, tt);
+      ends = λ going k. (k.0, tt);
+      misses = λ going k. (k.0, tt);
+      unasked = λ is k. (k.0, tt);
+      settles = λ its b settling k. (tt, tt);
+      takes = λ place r its allowed k. (tt, tt);
+      skips = λ place type_byte len its k. (tt, tt);
+      all_taken = λ settled k. (settled, tt);
+      reads =
+          λ now is_open k. (k.0, ap (λ b. cond b (Some now) reading) (eq-eqb n n refl));
+      closed = λ is k. (k.0, tt);
+      puts = λ now room what is_due allowed k.
+          (settled_stays clients p.facts (out_batch session now what) refl k.0, k.1);
+      enough = λ now room is k. (k.0, tt);
+      put = λ now room k. k;
+      breaks = λ now room k. (k.0, tt);
+    }) q e s
+
+module _ (clients : Meaning) (terms : Terms) where
+  step_keeps : (readings : ℕ → Option ℕ) (p q : Place) (e : Event) → RunStep clients terms p e q
+      → PlaceKeeps clients readings p.stage p.facts
+      → PlaceKeeps clients (λ i. reading_by i (readings i) e) q.stage q.facts
+  step_keeps readings p q e t =
+      run_by_cases clients terms p
+      (λ (stage : Stage) (x : Event) (r : Place). PlaceKeeps clients readings stage p.facts
+      → PlaceKeeps clients (λ i. reading_by i (readings i) x) r.stage r.facts) (record {
+        settles = λ left b settling k. tt;
+        settled = λ left settled k. settled;
+        begins = λ x left allowed k. settled_stays clients p.facts (entry.Session x ∷ []) refl k;
+        greets = λ x left k. k;
+        breaks = λ x left k. k;
+        all_begun = λ k. k;
+        ends = λ over k. k;
+        turns = λ on k. (k, tt);
+        works = λ n doing link x spot at steps k.
+            link_keeps clients n (terms.first + n) (readings n) (spot_of doing link p) spot x steps
+            k;
+        goes_on = λ n link at k. (k.0, tt);
+        turn_ends = λ n none k. k.0;
+      }) q e t
+
+  pub path_stays : (readings : ℕ → Option ℕ) (p q : Place) (es : List Event)
+      → Path (RunStep clients terms) p es q → PlaceKeeps clients readings p.stage p.facts
+      → PlaceKeeps clients (λ i. reading_after i (readings i) es) q.stage q.facts
+  path_stays readings p q [] path k =
+      subst (λ (x : Place). PlaceKeeps clients readings x.stage x.facts) (sym path) k
+  path_stays readings p q (e ∷ es) path k =
+      path_stays (λ i. reading_by i (readings i) e) path.0 q es path.2
+      (step_keeps readings p path.0 e path.1 k)
+
+-- ---- outputs
+
+-- a link that is in hand sends at the last reading
+in_hand : (clients : Meaning) (readings : ℕ → Option ℕ) (stage : Stage) (f : Facts) (n : ℕ)
+    (doing : Doing) → hold_at stage ≡ Holds n doing → PlaceKeeps clients readings stage f
+    → IsRead (readings n) doing
+in_hand clients readings (Works m does) f n doing is k =
+    let number : m ≡ n = cc in
+    let same : does ≡ doing = cc in
+    subst (λ i. IsRead (readings i) doing) number
+    (subst (λ d. IsRead (readings m) d) same k.1)
+in_hand clients readings (Greets x left) f n doing is k = cc
+in_hand clients readings _ f n doing is k = cc
+
+-- the output that an event commits, if it commits one, is due
+abbrev pub OutDue : Meaning → ℕ → (ℕ → Option ℕ) → Facts → Event → Type 0
+OutDue clients first readings f (Commit (entry.Out session now what ∷ rest)) =
+    IsDueAt clients first readings f session now what
+OutDue clients first readings f _ = Unit {0}
+
+module _ (clients : Meaning) (first : ℕ) (readings : ℕ → Option ℕ) (f : Facts) where
+  none_due : (e : Event) → batches_of (e ∷ []) ≡ [] → OutDue clients first readings f e
+  none_due (Commit b) none = cc
+  none_due _ none = tt
+
+  settling_due : (b : List Entry) → IsSettlingBatch clients f b
+      → OutDue clients first readings f (Commit b)
+  settling_due (entry.Out session now what ∷ rest) settling =
+      absurd (next_is_settling clients f (entry.Out session now what) settling.2.0)
+  settling_due _ settling = tt
+
+  plain_due : (b : List Entry) → IsPlain b → OutDue clients first readings f (Commit b)
+  plain_due (entry.Out session now what ∷ rest) plain = absurd plain
+  plain_due _ plain = tt
+
+step_out : (clients : Meaning) (terms : Terms) (readings : ℕ → Option ℕ) (p q : Place) (e : Event)
+    → RunStep clients terms p e q → PlaceKeeps clients readings p.stage p.facts
+    → OutDue clients terms.first readings p.facts e
+step_out clients terms readings p q e t k =
+    free_batches clients terms.first (forget p)
+    (λ (x : Event) (g : Facts). OutDue clients terms.first readings p.facts x) (record {
+      none = λ x none. none_due clients terms.first readings p.facts x none;
+      settles = λ b settling. settling_due clients terms.first readings p.facts b settling;
+      adds = λ b rests plain allowed. plain_due clients terms.first readings p.facts b plain;
+      begins = λ x rests allowed. tt;
+      takes = λ n place r its link holds at allowed. tt;
+      puts = λ n now room what link holds at is_due allowed. record {
+        link = n;
+        on = refl;
+        read = in_hand clients readings p.stage p.facts n (Sends now (suc room)) holds k;
+        is_due = is_due;
+      };
+    }) (forget q) e (step_is_free clients terms p q e t)
+
+pub out_is_due : (clients : Meaning) (terms : Terms) (from to : Place) (before behind : List Event)
+    (session now : ℕ) (what : Out) → PlaceKeeps clients (λ i. None) from.stage from.facts
+    → Path (RunStep clients terms) from (before ++ Commit (out_batch session now what) ∷ behind) to
+    → OutIsDue clients terms from before session now what
+out_is_due clients terms from to before behind session now what start path =
+    let parts =
+    path_parts (RunStep clients terms) from to before (Commit (out_batch session now what) ∷ behind)
+    path in
+    record {
+      at = parts.0;
+      leads = parts.1;
+      is_due =
+          step_out clients terms (λ i. last_reading i before) parts.0 parts.2.0
+          (Commit (out_batch session now what)) parts.2.1
+          (path_stays clients terms (λ i. None) from parts.0 before parts.1 start);
+    }
 
 -- ---- a link in a turn that did not move
 
@@ -81,8 +245,8 @@ still_step clients n session still idles reading p q e s =
         so = λ asked.
             let before : still ≤ idles = claim unmoved asked in
             let more : idles_by n idles (Hear n idle) ≡ suc idles =
-            ap (λ (b : Bool). cond b (suc idles) idles) itself in
-            subst (λ (k : ℕ). suc still ≤ k) (sym more) (omega (arith, before));
+            ap (λ b. cond b (suc idles) idles) itself in
+            subst (λ k. suc still ≤ k) (sym more) (omega (arith, before));
       };
       ends = λ going unmoved claim. moved unmoved;
       misses = λ going unmoved claim. moved unmoved;
@@ -98,7 +262,7 @@ still_step clients n session still idles reading p q e s =
       reads = λ now is_open unmoved claim. record {
         unmoved = unmoved;
         facts = refl;
-        so = (refl, ap (λ (b : Bool). cond b (Some now) reading) itself, claim unmoved);
+        so = (refl, ap (λ b. cond b (Some now) reading) itself, claim unmoved);
       };
       closed = λ is unmoved claim. record {
         unmoved = unmoved;
@@ -116,7 +280,7 @@ still_step clients n session still idles reading p q e s =
               idle = so.2;
               quiet = λ sent.
                   subst (IsQuietAt clients p.facts session) (sym so.1)
-                  (subst (λ (k : ℕ). IsEnough clients p.facts session now k) so.0 enough);
+                  (subst (λ k. IsEnough clients p.facts session now k) so.0 enough);
             };
           };
       put = λ now room unmoved claim. absurd (claim unmoved);
@@ -130,11 +294,11 @@ Leaves i e = (idles : ℕ) (reading : Option ℕ)
 
 spared_leaves : (i : ℕ) (e : Event) → Spares i e → Leaves i e
 spared_leaves i (Hear on reply) apart idles reading =
-    (ap (λ (b : Bool). cond b (idles_with reply idles) idles) (ne_eqb on i apart), refl)
+    (ap (λ b. cond b (idles_with reply idles) idles) (ne_eqb on i apart), refl)
 spared_leaves i (Miss on) apart idles reading =
-    (ap (λ (b : Bool). cond b 0 idles) (ne_eqb on i apart), refl)
+    (ap (λ b. cond b 0 idles) (ne_eqb on i apart), refl)
 spared_leaves i (Read on now) apart idles reading =
-    (refl, ap (λ (b : Bool). cond b (Some now) reading) (ne_eqb on i apart))
+    (refl, ap (λ b. cond b (Some now) reading) (ne_eqb on i apart))
 spared_leaves i _ spares idles reading = (refl, refl)
 
 -- ---- a place of a run
@@ -325,7 +489,7 @@ had_quiet false enough over is = absurd (false≢true is)
 all_counted : (f : Facts) (session : ℕ) (link : Link) → keeps_all link.stands ≡ true → IsCounted f session [] link → AreRecordsTaken f session link
 unfolding records_of
 all_counted f session link keeps c =
-    let whole : records link.heard ≡ c.done = c.parts ∙ ap (λ (l : List Record). c.done ++ l) (c.whole keeps) ∙ append-nil c.done in
+    let whole : records link.heard ≡ c.done = c.parts ∙ ap (λ l. c.done ++ l) (c.whole keeps) ∙ append-nil c.done in
     c.count ∙ ap length (sym whole)
 
 pub course_ends_quiet : StreamsGoOn → RecordsJoin → (clients : Meaning) (terms : Terms) (sessions : List Session) (j : List (List Entry)) (events : List Event) (last : Place)
@@ -334,11 +498,11 @@ pub course_ends_quiet : StreamsGoOn → RecordsJoin → (clients : Meaning) (ter
 course_ends_quiet go_on join clients terms sessions j events last legal course over =
     let start : Place = first_place sessions (facts j) in
     let settled : IsSettled clients last.facts =
-    subst (λ (st : Stage). PlaceKeeps clients (λ i. last_reading i events) st last.facts)
+    subst (λ st. PlaceKeeps clients (λ i. last_reading i events) st last.facts)
     course.at_end
     (path_stays clients terms (λ i. None) start last events course.path tt) in
     let still : BetweenTurns clients terms (λ i. idle_answers i events) (λ i. last_reading i events) last =
-    subst (λ (st : Stage). IsStillAt clients terms (λ i. idle_answers i events) (λ i. last_reading i events) st last) course.at_end
+    subst (λ st. IsStillAt clients terms (λ i. idle_answers i events) (λ i. last_reading i events) st last) course.at_end
     (path_still clients terms (λ i. 0) (λ i. None) start last events course.path refl) in
     let counted = run_counted go_on join clients terms sessions j events last legal
     (record { numbered = course.numbered; path = course.path }) in
@@ -355,6 +519,6 @@ course_ends_quiet go_on join clients terms sessions j events last legal course o
       nothing_due = still.quiet some;
       all_taken = λ i link at keeps.
           all_counted last.facts (terms.first + i) link keeps
-          (subst (λ (its : List Item). IsCounted last.facts (terms.first + i) its link)
-          (ap (λ (st : Stage). pending_at st i) course.at_end) (counted i link at));
+          (subst (λ its. IsCounted last.facts (terms.first + i) its link)
+          (ap (λ st. pending_at st i) course.at_end) (counted i link at));
     }

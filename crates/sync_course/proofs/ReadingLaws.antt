@@ -18,7 +18,7 @@ use Rattle.sync_course.specs.Reading.{HasRead, IsReading}
 pub fresh_has_read : AwaitsBytes fresh → items 0 [] ≡ [] → HasRead [] fresh
 fresh_has_read awaits none = record {
   reads = record {
-    items_stay = λ more. ap (λ (l : List Item). l ++ items 0 ([] ++ ([] ++ more))) (sym none);
+    items_stay = λ more. ap (λ l. l ++ items 0 ([] ++ ([] ++ more))) (sym none);
     ending_stays = λ more. refl;
   };
   awaits = awaits;
@@ -40,9 +40,9 @@ answer_comes follow heard left left' r r' its has reading reads =
     let parts : items r.place (r.bytes ++ (left ++ [])) ≡ has ++ items r'.place (r'.bytes ++ (left' ++ [])) = reads.items_stay [] in (
       others,
       reading.to_come
-          ∙ ap (λ (l : List ℕ). items r.place (r.bytes ++ l)) (sym (append-nil left))
+          ∙ ap (λ l. items r.place (r.bytes ++ l)) (sym (append-nil left))
           ∙ parts
-          ∙ ap (λ (l : List ℕ). has ++ items r'.place (r'.bytes ++ l)) (append-nil left'),
+          ∙ ap (λ l. has ++ items r'.place (r'.bytes ++ l)) (append-nil left'),
       record {
         given = reading.given ++ has;
         reads = follow heard left left' fresh r r' reading.given has reading.reads reads;
@@ -55,17 +55,17 @@ pub none_come : (heard left : List ℕ) (r : ReaderState) (its : List Item) → 
     → (its ≡ []) × HasRead heard r
 none_come heard left r its reading none awaits =
     let nothing : items r.place (r.bytes ++ left) ≡ [] =
-    ap (λ (l : List ℕ). items r.place (r.bytes ++ l)) none ∙ ap (items r.place) (append-nil r.bytes) ∙ awaits.nothing in
-    let reads : ReadsOn heard fresh reading.given [] r = subst (λ (l : List ℕ). ReadsOn heard fresh reading.given l r) none reading.reads in
+    ap (λ l. items r.place (r.bytes ++ l)) none ∙ ap (items r.place) (append-nil r.bytes) ∙ awaits.nothing in
+    let reads : ReadsOn heard fresh reading.given [] r = subst (λ l. ReadsOn heard fresh reading.given l r) none reading.reads in
     let stays : items 0 (heard ++ []) ≡ reading.given ++ items r.place (r.bytes ++ []) = reads.items_stay [] in
     let whole : items 0 heard ≡ reading.given =
     ap (items 0) (sym (append-nil heard))
     ∙ stays
-    ∙ ap (λ (l : List Item). reading.given ++ l) (ap (items r.place) (append-nil r.bytes) ∙ awaits.nothing)
+    ∙ ap (λ l. reading.given ++ l) (ap (items r.place) (append-nil r.bytes) ∙ awaits.nothing)
     ∙ append-nil reading.given in (
       reading.to_come ∙ nothing,
       record {
-        reads = subst (λ (given : List Item). ReadsOn heard fresh given [] r) (sym whole) reads;
+        reads = subst (λ given. ReadsOn heard fresh given [] r) (sym whole) reads;
         awaits = awaits;
       },
     )

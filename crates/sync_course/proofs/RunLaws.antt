@@ -43,7 +43,7 @@ new_items_follow go_on heard bytes =
     let parts : items 0 (heard ++ bytes) ≡ items 0 heard ++ behind = (go_on 0 heard).begins bytes in
     let new : new_items heard bytes ≡ behind =
     ap (drop (length (items 0 heard))) parts ∙ drop-append_seam (items 0 heard) behind in
-    parts ∙ ap (λ (l : List Item). items 0 heard ++ l) (sym new)
+    parts ∙ ap (λ l. items 0 heard ++ l) (sym new)
 
 -- whatever follows those of before are the new ones
 pub new_items_are : (heard bytes : List ℕ) (its : List Item) → items 0 (heard ++ bytes) ≡ items 0 heard ++ its → new_items heard bytes ≡ its
@@ -115,15 +115,15 @@ module _ (go_on : StreamsGoOn) (join : RecordsJoin) where
   unfolding records_of
   counted_got f session link bytes keeps c =
       let none : c.dropped ≡ [] = c.whole keeps in
-      let before : records link.heard ≡ c.done = c.parts ∙ ap (λ (l : List Record). c.done ++ l) none ∙ append-nil c.done in
+      let before : records link.heard ≡ c.done = c.parts ∙ ap (λ l. c.done ++ l) none ∙ append-nil c.done in
       record {
         done = c.done;
         dropped = [];
         parts =
             ap records_of (new_items_follow go_on link.heard bytes)
             ∙ join (items 0 link.heard) (new_items link.heard bytes)
-            ∙ ap (λ (l : List Record). l ++ records_of (new_items link.heard bytes)) before
-            ∙ ap (λ (l : List Record). c.done ++ l) (sym (append-nil (records_of (new_items link.heard bytes))));
+            ∙ ap (λ l. l ++ records_of (new_items link.heard bytes)) before
+            ∙ ap (λ l. c.done ++ l) (sym (append-nil (records_of (new_items link.heard bytes))));
         count = c.count;
         whole = λ k. refl;
       }
@@ -135,7 +135,7 @@ module _ (go_on : StreamsGoOn) (join : RecordsJoin) where
   unfolding records_of
   counted_taken f g session place r its link one c =
       let count : takes_of g.takes session ≡ length (c.done ++ r ∷ []) =
-      one ∙ ap (λ (n : ℕ). n + 1) c.count ∙ sym (length-append c.done (r ∷ [])) in
+      one ∙ ap (λ n. n + 1) c.count ∙ sym (length-append c.done (r ∷ [])) in
       elim (closes r) as (λ b. IsCounted g session (cond b [] its)
       (record link { nonce = (link_after place r link).nonce; stands = cond b (end.NoVersion place) link.stands })) [
         | true ↦ record {

@@ -42,7 +42,7 @@ pub front_of_none : (xs : List ℕ) → IsFront [] xs
 front_of_none xs = record { rest = xs; whole = refl }
 
 pub front_before : (xs ys zs : List ℕ) → IsFront xs ys → IsFront (zs ++ xs) (zs ++ ys)
-front_before xs ys zs f = record { rest = f.rest; whole = ap (λ (l : List ℕ). zs ++ l) f.whole ∙ sym (append_assoc zs xs f.rest) }
+front_before xs ys zs f = record { rest = f.rest; whole = ap (λ l. zs ++ l) f.whole ∙ sym (append_assoc zs xs f.rest) }
 
 front_take : (n : ℕ) (xs : List ℕ) → IsFront (take n xs) xs
 front_take n xs = record { rest = drop n xs; whole = sym (take-append-drop n xs) }
@@ -98,13 +98,13 @@ output j session = spelled (sent j session)
 commit_adds : (clients : Meaning) (j : List (List Entry)) (b : List Entry) (session : ℕ) → Legal clients j → Allowed clients (facts j) b
     → output (j ++ b ∷ []) session ≡ output j session ++ spelled (output_in (facts j) session b)
 commit_adds clients j b session legal allowed =
-    ap (λ (rs : List Record). spelled rs) (sent_push clients j b session legal allowed)
+    ap (λ rs. spelled rs) (sent_push clients j b session legal allowed)
     ∙ flat_map-append spelling (sent j session) (output_in (facts j) session b)
 
 -- so does each event
 none_added : (first : ℕ) (j : List (List Entry)) (link : ℕ) → output (j ++ []) (first + link) ≡ output j (first + link) ++ []
 none_added first j link =
-    ap (λ (k : List (List Entry)). output k (first + link)) (append-nil j) ∙ sym (append-nil (output j (first + link)))
+    ap (λ k. output k (first + link)) (append-nil j) ∙ sym (append-nil (output j (first + link)))
 
 event_adds : (clients : Meaning) (first : ℕ) (j : List (List Entry)) (e : Event) (link : ℕ) → Legal clients j
     → GoesOn clients (facts j) (batches_of (e ∷ []))
@@ -122,11 +122,11 @@ settling_puts clients f b session s =
 -- the session that begins is no other
 begins_adds : (f : Facts) (x : Session) (session : ℕ) → (x.number ≡ session → ⊥) → output_in f session (entry.Session x ∷ []) ≡ []
 begins_adds f x session other =
-    ap (λ (b : Bool). cond b (first_records x) [] ++ []) (ne_eqb x.number session other)
+    ap (λ b. cond b (first_records x) [] ++ []) (ne_eqb x.number session other)
 
 out_adds : (f : Facts) (at session now : ℕ) (what : Out) → (at ≡ session → ⊥) → output_in f session (out_batch at now what) ≡ []
 out_adds f at session now what other =
-    ap (λ (b : Bool). cond b (records_of f.held what) [] ++ []) (ne_eqb at session other)
+    ap (λ b. cond b (records_of f.held what) [] ++ []) (ne_eqb at session other)
 
 -- the records that an event adds to the output of a session
 abbrev pub records_by : Facts → ℕ → Event → List Record
@@ -153,7 +153,7 @@ event_spares clients first e p q i t s o f =
           let within : i < length p.links = get_within p.links i f.link f.there in
           let numbered : x.number ≡ p.facts.begun = may.numbered in
           let begun : p.facts.begun ≡ first + length p.links =
-          subst (λ (h : Hold). IsBegunAt first h (length p.links) p.facts) rests s.begun in
+          subst (λ h. IsBegunAt first h (length p.links) p.facts) rests s.begun in
           begins_adds p.facts x (first + i)
           (λ same.
           let at : x.number ≡ first + i = same in
@@ -163,7 +163,7 @@ event_spares clients first e p q i t s o f =
           (take_silent clients p.facts (first + n) _ _ allowed);
       puts = λ n now room what link holds at is_due allowed.
           let is_open : is_sent_to link.stands ≡ true =
-          subst (λ (h : Hold). HoldsOpen h p.links) holds o link at in
+          subst (λ h. HoldsOpen h p.links) holds o link at in
           out_adds p.facts (first + n) (first + i) now what
           (λ same.
           let is : first + n ≡ first + i = same in
@@ -175,7 +175,7 @@ event_spares clients first e p q i t s o f =
 
 none_owed : (f : Facts) (first i : ℕ) (e : Event) → records_by f (first + i) e ≡ []
     → adds_to f first e i ≡ []
-none_owed f first i (Commit b) none = ap (λ (rs : List Record). spelled rs) none
+none_owed f first i (Commit b) none = ap (λ rs. spelled rs) none
 none_owed f first i _ none = refl
 
 -- ---- acts
@@ -289,7 +289,7 @@ module _ (go_on : StreamsGoOn) (join : RecordsJoin) (clients : Meaning) (first :
 -- where a node begins nothing was sent
 nothing_sent : (clients : Meaning) (j : List (List Entry)) (i : ℕ) → Legal clients j → output j ((facts j).begun + i) ≡ []
 nothing_sent clients j i legal =
-    ap (λ (rs : List Record). spelled rs)
+    ap (λ rs. spelled rs)
     (not_begun_sent clients j ((facts j).begun + i) legal
     (none_at (session_at (facts j).sessions ((facts j).begun + i)) refl)).1
   where

@@ -22,12 +22,12 @@ use Rattle.sync_course.specs.Events.{Event, Commit, Hear, Miss, Read, Break, Pas
 pub batches_of-append : (es fs : List Event) → batches_of (es ++ fs) ≡ batches_of es ++ batches_of fs
 batches_of-append [] fs = refl
 batches_of-append (Commit b ∷ es) fs =
-    ap (λ (l : List (List Entry)). b ∷ l) (batches_of-append es fs)
+    ap (λ l. b ∷ l) (batches_of-append es fs)
 batches_of-append (_ ∷ es) fs = batches_of-append es fs
 
 pub readings_of-append : (es fs : List Event) → readings_of (es ++ fs) ≡ readings_of es ++ readings_of fs
 readings_of-append [] fs = refl
-readings_of-append (Read link now ∷ es) fs = ap (λ (l : List ℕ). now ∷ l) (readings_of-append es fs)
+readings_of-append (Read link now ∷ es) fs = ap (λ l. now ∷ l) (readings_of-append es fs)
 readings_of-append (_ ∷ es) fs = readings_of-append es fs
 
 heard_after-append : (es fs : List Event) (heard : List HeardOn) → heard_after (es ++ fs) heard ≡ heard_after fs (heard_after es heard)
@@ -37,7 +37,7 @@ heard_after-append (e ∷ es) fs heard = heard_after-append es fs (heard_by e he
 pub has_failure-append : (link : ℕ) (es fs : List Event) → has_failure link (es ++ fs) ≡ (has_failure link es || has_failure link fs)
 has_failure-append link [] fs = refl
 has_failure-append link (e ∷ es) fs =
-    ap (λ (b : Bool). is_failure link e || b) (has_failure-append link es fs)
+    ap (λ b. is_failure link e || b) (has_failure-append link es fs)
     ∙ sym (or_assoc (is_failure link e) (has_failure link es) (has_failure link fs))
 
 -- ---- what is told grows
@@ -49,7 +49,7 @@ option_map_same f same (Some x) = ap (λ y. Some y) (sym (same x))
 heard_then : (es fs : List Event) (heard : Option (List HeardOn))
     → option_map (heard_after fs) (option_map (heard_after es) heard) ≡ option_map (heard_after (es ++ fs)) heard
 heard_then es fs None = refl
-heard_then es fs (Some heard) = ap (λ (h : List HeardOn). Some h) (sym (heard_after-append es fs heard))
+heard_then es fs (Some heard) = ap (λ h. Some h) (sym (heard_after-append es fs heard))
 
 grows_none : (readings : Option (List ℕ)) → GrowsBy [] readings readings
 grows_none None = tt
@@ -60,7 +60,7 @@ grows_then more others a b None first second = tt
 grows_then more others a None (Some c) first second = absurd second
 grows_then more others None (Some b) (Some c) first second = absurd first
 grows_then more others (Some a) (Some b) (Some c) first second =
-    second ∙ ap (λ (l : List ℕ). l ++ others) first ∙ append_assoc a more others
+    second ∙ ap (λ l. l ++ others) first ∙ append_assoc a more others
 
 rose_then : (a b : Bool) (x y z : ℕ) → RoseIf a x y → RoseIf b y z → RoseIf (a || b) x z
 rose_then true true x y z first second = let f : one_more x ≤ y = first in let s : one_more y ≤ z = second in omega (arith, f, s)
@@ -125,7 +125,7 @@ told_then es fs o o1 o2 first second = record {
 
 pub batches_of_commits : (bs : List (List Entry)) → batches_of (commits bs) ≡ bs
 batches_of_commits [] = refl
-batches_of_commits (b ∷ bs) = ap (λ (l : List (List Entry)). b ∷ l) (batches_of_commits bs)
+batches_of_commits (b ∷ bs) = ap (λ l. b ∷ l) (batches_of_commits bs)
 
 -- one event, by what it says of each thing that is told
 told_one : (e : Event) (o o' : Outside)
@@ -187,7 +187,7 @@ told_commits (b ∷ bs) o o' same =
 other_faults : (n link : ℕ) (old new : ℕ → ℕ) → old n ≤ new n → ((i : ℕ) → (i ≡ n → ⊥) → new i ≡ old i) → old link ≤ new link
 other_faults n link old new later others =
     elim (cases_eq link n) [
-      | inl same ↦ subst (λ (i : ℕ). old i ≤ new i) (sym same) later
+      | inl same ↦ subst (λ i. old i ≤ new i) (sym same) later
       | inr other ↦ le_of_eq (sym (others link other))
     ]
 
@@ -195,7 +195,7 @@ failed_faults : (n link : ℕ) (old new : ℕ → ℕ) → CountRose (old n) (ne
     → RoseIf (nat_eq n link || false) (old link) (new link)
 failed_faults n link old new rose later others =
     elim (nat_eq n link) as (λ b. nat_eq n link ≡ b → RoseIf (b || false) (old link) (new link)) [
-      | true ↦ λ is. subst (λ (i : ℕ). CountRose (old i) (new i)) (eqb-true n link is) rose
+      | true ↦ λ is. subst (λ i. CountRose (old i) (new i)) (eqb-true n link is) rose
       | false ↦ λ is. other_faults n link old new later others
     ] refl
 
@@ -245,7 +245,7 @@ told_read link now o o' reads =
     told_one (Read link now) o o'
     (reads.same_heard ∙ option_map_same (heard_after []) (λ heard. refl) o.links.heard)
     (grows_one now o.links.readings o'.links.readings reads.readings)
-    (λ i. le_of_eq (ap (λ (f : ℕ → ℕ). f i) (sym reads.same_faults)))
+    (λ i. le_of_eq (ap (λ f. f i) (sym reads.same_faults)))
     (told_as (PlansAfter (Read link now)) _ _ (λ x. refl) reads.same_planned) reads.upcoming
 
 -- all bytes were sent

@@ -1,7 +1,7 @@
 use Rattle.sync_rules.specs.Facts.{facts}
 use Rattle.sync_course.specs.Events.{batches_of}
 use Rattle.sync_course.specs.Suits.{heard_on}
-use Rattle.sync_course.proofs.PlanLaws.{planned_suits, run_suits}
+use Rattle.sync_course.proofs.FreeSuits.{planned_suits, run_suits}
 use Rattle.sync_course.proofs.laws.batches_suit.Goals as goal
 
 pub returns : goal.returns

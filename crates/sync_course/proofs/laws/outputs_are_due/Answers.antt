@@ -1,4 +1,4 @@
-use Rattle.sync_course.proofs.PlaceLaws.{out_is_due}
+use Rattle.sync_course.proofs.QuietLaws.{out_is_due}
 use Rattle.sync_course.specs.Turns.{first_place}
 use Rattle.sync_course.proofs.laws.outputs_are_due.Goals as goal
 
