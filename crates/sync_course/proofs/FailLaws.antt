@@ -1,12 +1,11 @@
 -- A link on which a call failed stands Failed from then on, and no other link does; nothing is
 -- committed for one.
-use Rattle.std.proofs.Common.{◌≡◌, ◌⊎◌, ℕ, ◌+◌, Bool, true, false, cond, ◌||◌, nat_eq, eq-eqb, List}
+use Rattle.std.proofs.Common.{◌≡◌, ◌⊎◌, ℕ, ◌+◌, Bool, true, false, cond, ◌||◌, eq-eqb, List}
 use Rattle.std.proofs.Common.{[], ◌∷◌, ◌++◌, refl, sym, ◌∙◌, ap, subst, inl, inr, Option, None}
 use Rattle.std.proofs.Common.{Some}
 use Rattle.std.specs.Prelude.{slice_get}
 use Rattle.std.proofs.Math.Bool.{or-false}
 use Rattle.std.proofs.lemmas.Bool.{ne_eqb, or_cases, or_left, or_right}
-use Rattle.outside.specs.Links.{got, idle, ended}
 use Rattle.record_grammar.specs.Stream.{ending}
 use Rattle.record_grammar.specs.declared.stream.Ending.{Ending}
 use Rattle.record_grammar.specs.declared.stream.Ending.TheVariants as ending_kind
@@ -14,17 +13,16 @@ use Rattle.record_grammar.specs.declared.stream.Item.{Item}
 use Rattle.sync_rules.specs.declared.entries.Entry.{Entry}
 use Rattle.sync_rules.specs.Clients.{Meaning}
 use Rattle.sync_rules.specs.Facts.{Facts}
-use Rattle.sync_course.specs.declared.TheConstants.{MAX_OUTPUTS}
 use Rattle.sync_course.specs.declared.ends.LinkEnd.{LinkEnd}
 use Rattle.sync_course.specs.declared.ends.LinkEnd.TheVariants as end
-use Rattle.sync_course.specs.Events.{Event, Commit, Hear, Miss, Read, Break, Pass, has_failure}
+use Rattle.sync_course.specs.Events.{Event, Commit, Miss, Break, has_failure}
 use Rattle.sync_course.specs.Events.{is_failure}
 use Rattle.sync_course.specs.Free.{Begins, Free, FreeStep, Hold, Holds, IsNothingUnderWay, Rests}
 use Rattle.sync_course.specs.Free.{first_free, spot_in}
 use Rattle.sync_course.specs.Links.{Link, closes, is_going, is_sent_to, new_items, stands_behind}
 use Rattle.sync_course.specs.Links.{stands_ended}
 use Rattle.sync_course.specs.LinkTurns.{Asks, Takes, Waits, Sends, Puts, Done, Doing, LinkStep}
-use Rattle.sync_course.specs.LinkTurns.{Spot, out_batch}
+use Rattle.sync_course.specs.LinkTurns.{Spot}
 use Rattle.sync_course.specs.Paths.{Path}
 use Rattle.sync_course.specs.Story.{LinkFailed}
 use Rattle.sync_course.proofs.FreeSound.{get_same}

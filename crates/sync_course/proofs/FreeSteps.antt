@@ -27,7 +27,7 @@ use Rattle.sync_course.specs.Events.{Event, Commit, Break, Pass, batches_of}
 use Rattle.sync_course.specs.Free.{Begins, Free, FreeFrom, FreeStep, Hold, HoldStep, Holds}
 use Rattle.sync_course.specs.Free.{IsNothingUnderWay, IsPlain, Rests, TakesUpOrCloses, holding}
 use Rattle.sync_course.specs.Free.{joined_by, spot_in}
-use Rattle.sync_course.specs.Links.{Link, closed_from, is_beaten, is_going, is_sent_to, link_of}
+use Rattle.sync_course.specs.Links.{Link, is_beaten, is_going, is_sent_to, link_of}
 use Rattle.sync_course.specs.Links.{without_redundant}
 use Rattle.sync_course.specs.LinkTurns.{Asks, Takes, Waits, Sends, Done, Doing, LinkStep, Spot}
 use Rattle.sync_course.specs.LinkTurns.{next_take, out_batch}

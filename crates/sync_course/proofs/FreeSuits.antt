@@ -2,8 +2,8 @@
 -- of a run suit it as planned: its k-th session is the k-th of those it was given, and no plain entry
 -- is among them.
 use Rattle.std.proofs.Common.{◌≡◌, ℕ, ◌+◌, Bool, true, false, cond, nat_eq, eq-eqb, eqb-true, List}
-use Rattle.std.proofs.Common.{[], ◌∷◌, ◌++◌, length, length-append, append-nil, append_assoc, refl}
-use Rattle.std.proofs.Common.{sym, ◌∙◌, ap, subst, inl, inr, arith, Option, Some, zero, suc, subst₂}
+use Rattle.std.proofs.Common.{[], ◌∷◌, ◌++◌, length, append-nil, append_assoc, refl}
+use Rattle.std.proofs.Common.{sym, ◌∙◌, ap, subst, inl, inr, arith, Some, zero, suc, subst₂}
 use Rattle.std.specs.Prelude.{slice_get}
 use Rattle.outside.specs.Outside.{Moment}
 use Rattle.record_grammar.specs.Laws.{FrontsHaveFronts, RecordsJoin, StreamsGoOn}
@@ -12,28 +12,27 @@ use Rattle.sync_rules.specs.declared.entries.Entry.{Entry}
 use Rattle.sync_rules.specs.declared.entries.Session.{Session}
 use Rattle.sync_rules.specs.Clients.{Meaning}
 use Rattle.sync_rules.specs.Facts.{Facts, after_all, after_batches, facts, takes_of}
-use Rattle.sync_rules.specs.Sessions.{taken}
 use Rattle.sync_rules.specs.Growth.{IsFront}
 use Rattle.sync_rules.specs.Legal.{Legal, IsSettlingBatch}
 use Rattle.sync_rules.proofs.Continuing.{front_itself, front_then}
 use Rattle.sync_course.specs.Acts.{Act, AtFront, Does, Send, Fail, batches_in, events_of}
 use Rattle.sync_course.specs.Acts.{next_bytes, sends_on}
-use Rattle.sync_course.specs.Events.{Event, Commit, batches_of, has_failure, Break, Pass}
-use Rattle.sync_course.specs.Free.{Free, FreeStep, Hold, first_free, IsPlain, Rests, forget}
+use Rattle.sync_course.specs.Events.{Event, Commit, batches_of, has_failure, Pass}
+use Rattle.sync_course.specs.Free.{Free, FreeStep, first_free, Rests, forget}
 use Rattle.sync_course.specs.Free.{hold_at}
 use Rattle.sync_course.specs.Links.{Link}
 use Rattle.sync_course.specs.Owing.{Owing, paid}
 use Rattle.sync_course.specs.Paths.{Path}
-use Rattle.sync_course.specs.Story.{AllSuitNode, BeginsAsPlanned, FreeActs, MomentStands, begun_by}
+use Rattle.sync_course.specs.Story.{AllSuitNode, FreeActs, MomentStands, begun_by}
 use Rattle.sync_course.specs.Story.{heard_at, AllSuitPlanned, IsOfCourse}
-use Rattle.sync_course.specs.Suits.{IsCounted, TakesHeard, heard_in, AllSuitCourse, SuitsCourse}
+use Rattle.sync_course.specs.Suits.{IsCounted, heard_in, AllSuitCourse, SuitsCourse}
 use Rattle.sync_course.specs.Suits.{heard_on}
 use Rattle.sync_course.proofs.ActLaws.{batches_in-append}
 use Rattle.sync_course.proofs.FreeSound.{IsBegunAt, IsFreeSound, first_free_sound, free_sound}
 use Rattle.sync_course.proofs.FreeSteps.{step_adds, free_batches, pending_in, NotPlain}
 use Rattle.sync_course.proofs.FreeSteps.{settling_adds}
 use Rattle.sync_course.proofs.HeardLaws.{bytes_of, free_path_adds}
-use Rattle.sync_course.proofs.PathLaws.{path_parts, path_keeps}
+use Rattle.sync_course.proofs.PathLaws.{path_parts}
 use Rattle.sync_course.proofs.RunLaws.{get_behind, get_front, get_middle}
 use Rattle.sync_course.proofs.SendLaws.{ActsOn, HasSent, acts_sent, events_path, front_before}
 use Rattle.sync_course.proofs.SendLaws.{front_of_none, front_so, output}
@@ -41,12 +40,10 @@ use Rattle.sync_course.proofs.ToldLaws.{batches_of-append}
 use Rattle.record_grammar.specs.Stream.{records, records_of}
 use Rattle.sync_ids.specs.declared.records.Record.{Record}
 use Rattle.sync_rules.proofs.StepLaws.{next_is_settling, IsSettlingEntry}
-use Rattle.sync_course.specs.LinkTurns.{Asks}
 use Rattle.sync_rules.specs.Lists.{In}
-use Rattle.sync_course.specs.Turns.{Attaches, Between, Broken, Ended, Greets, Place, RunStep}
-use Rattle.sync_course.specs.Turns.{Settles, Stage, Terms, Works, attached, first_place, turn_ended}
-use Rattle.sync_course.specs.Turns.{unattached, with_spot}
-use Rattle.sync_course.proofs.FreeLaws.{run_is_free, step_is_free, run_by_cases, staged}
+use Rattle.sync_course.specs.Turns.{Attaches, Broken, Greets, Place, RunStep}
+use Rattle.sync_course.specs.Turns.{Settles, Stage, Terms, first_place}
+use Rattle.sync_course.proofs.FreeLaws.{run_is_free, step_is_free, run_by_cases}
 use Rattle.outside.specs.Runs as runs
 use Rattle.outside.proofs.RunLaws as runs_laws
 use Rattle.record_grammar.specs.declared.stream.Item.TheVariants as item

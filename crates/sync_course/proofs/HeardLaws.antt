@@ -1,5 +1,5 @@
 -- The bytes heard on each link of a node grow by those of the answers that its events have; and so do those that are told.
-use Rattle.std.proofs.Common.{◌≡◌, ℕ, zero, suc, ◌+◌, ◌<◌, ◌≤◌, Bool, cond, nat_eq, eq-eqb, List, [], ◌∷◌, ◌++◌, length, append-nil, append_assoc, refl, sym, ◌∙◌, ap, subst, inl, inr, arith, Option}
+use Rattle.std.proofs.Common.{◌≡◌, ℕ, zero, suc, ◌+◌, ◌<◌, ◌≤◌, cond, nat_eq, eq-eqb, List, [], ◌∷◌, ◌++◌, length, append-nil, append_assoc, refl, sym, ◌∙◌, ap, subst, inl, inr, arith}
 use Rattle.std.specs.Prelude.{slice_get, slice_index_or}
 use Rattle.std.proofs.lemmas.List.{get_or_past}
 use Rattle.std.proofs.lemmas.Bool.{cases_eq, ne_eqb}
@@ -11,7 +11,6 @@ use Rattle.sync_rules.specs.Clients.{Meaning}
 use Rattle.sync_course.specs.declared.TheConstants.{PIECE_LEN}
 use Rattle.sync_course.specs.Events.{Event, Hear, Miss, heard_after, heard_by}
 use Rattle.sync_course.specs.Free.{Free, FreeStep, spot_in}
-use Rattle.sync_course.specs.Links.{Link}
 use Rattle.sync_course.specs.LinkTurns.{Doing, LinkStep, Spot}
 use Rattle.sync_course.specs.Paths.{Path}
 use Rattle.sync_course.specs.Story.{heard_at}

@@ -1,6 +1,6 @@
 -- A run of one link that is always Idle, where nothing is due on its session: it ends after as many turns as were to be quiet, or after
 -- the turns that it may make where these are fewer.
-use Rattle.std.proofs.Common.{◌≡◌, ℕ, zero, suc, ◌+◌, ◌<◌, ◌≤◌, Bool, true, false, cond, ◌&&◌, ◌||◌, nat_le, List, [], ◌∷◌, ◌++◌, refl, sym, ◌∙◌, ap, inl, inr, arith}
+use Rattle.std.proofs.Common.{◌≡◌, ℕ, zero, suc, ◌+◌, ◌<◌, ◌≤◌, Bool, true, false, cond, ◌&&◌, ◌||◌, nat_le, [], ◌∷◌, ◌++◌, refl, sym, ◌∙◌, ap, inl, inr, arith}
 use Rattle.std.specs.Prelude.{nat_lt}
 use Rattle.std.proofs.Math.Bool.{and-false}
 use Rattle.std.proofs.lemmas.Bool.{le-leb, lt-leb, lt-ltb}
@@ -19,7 +19,7 @@ use Rattle.sync_course.specs.LinkTurns.{Asks, Doing, Done, IsNothingDue, Sends, 
 use Rattle.sync_course.specs.Paths.{Path}
 use Rattle.sync_course.proofs.PathLaws.{path_then}
 use Rattle.sync_course.proofs.KeptLaws.{never, not_itself}
-use Rattle.sync_course.specs.Turns.{Attaches, Between, Course, Ended, Greets, Place, RunStep, Terms, Works, attached, first_place, is_at_end, is_over, turn_ended, with_spot}
+use Rattle.sync_course.specs.Turns.{Attaches, Course, Ended, Greets, Place, RunStep, Terms, Works, attached, first_place, is_at_end, is_over, turn_ended, with_spot}
 use Rattle.sync_course.specs.Idle.{greeting, idle_turn, idle_turns, idle_run, idle_place, idle_end}
 
 one_link : (link : Link) → without_redundant (link ∷ []) ≡ link ∷ []

@@ -1,21 +1,14 @@
 -- A link's turn as a part of the run, and the steps of the run between the turns of its links.
-use Rattle.std.proofs.Common.{◌≡◌, ℕ, zero, suc, ◌+◌, ◌<◌, Bool, false, cond, List, [], ◌∷◌, length, refl, sym, ap, subst, inl, inr, arith, Option, None, Some}
+use Rattle.std.proofs.Common.{◌≡◌, ℕ, zero, suc, ◌+◌, ◌<◌, false, cond, List, [], ◌∷◌, length, refl, sym, ap, subst, inl, inr, arith, None, Some}
 use Rattle.std.proofs.lemmas.Option.{slice_get_within}
 use Rattle.std.specs.Prelude.{slice_get, slice_set}
-use Rattle.outside.specs.Outside.{Outside}
-use Rattle.outside.proofs.CallCounts.{most_none}
-use Rattle.sync_rules.specs.declared.entries.Entry.{Entry}
-use Rattle.sync_rules.specs.declared.entries.Session.{Session}
 use Rattle.sync_rules.specs.Clients.{Meaning}
-use Rattle.sync_rules.specs.Steps.{IsSettled}
 use Rattle.sync_course.specs.Events.{Event, Pass}
-use Rattle.sync_course.specs.Paths.{Path, RunsPath}
+use Rattle.sync_course.specs.Paths.{Path}
 use Rattle.sync_course.proofs.PathLaws.{path_maps}
-use Rattle.sync_course.proofs.ToldLaws.{told_pass}
-use Rattle.sync_course.proofs.CallLaws.{runs_quiet}
 use Rattle.sync_course.specs.Links.{Link}
 use Rattle.sync_course.specs.LinkTurns.{Asks, Done, LinkStep, Spot}
-use Rattle.sync_course.specs.Turns.{Attaches, Between, Ended, Place, RunStep, Settles, StageStep, Terms, TurnStep, Works, is_at_end, turn_ended, with_spot}
+use Rattle.sync_course.specs.Turns.{Between, Ended, Place, RunStep, StageStep, Terms, TurnStep, Works, is_at_end, turn_ended, with_spot}
 
 -- ---- one item of a list
 
@@ -106,15 +99,3 @@ module _ (clients : Meaning) (terms : Terms) where
   begin_step p between on =
       let q : Place = record p { stage = Works 0 Asks; moved = false } in
       stage_at p q Pass Between between (ap (λ b. cond b (record p { stage = Ended }) q) (sym on))
-
-  -- the journal is settled, at the begin
-  pub runs_settled_begun : (Before After : List (List Entry) → Type 0)
-      → ((j : List (List Entry)) → Before j → After j) → (sessions : List Session) (p : Place)
-      (o : Outside) → p.stage ≡ Settles sessions → IsSettled clients p.facts
-      → RunsPath (RunStep clients terms) Before After p (record p { stage = Attaches sessions }) o o
-      []
-  runs_settled_begun Before After stays sessions p o settles settled =
-      let q : Place = record p { stage = Attaches sessions } in
-      runs_quiet (RunStep clients terms) Before After stays p q Pass o o refl
-      (stage_at p q Pass (Settles sessions) settles (settled, refl)) (told_pass o o refl)
-      (most_none 0 o)

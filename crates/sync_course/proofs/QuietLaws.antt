@@ -38,8 +38,6 @@ use Rattle.sync_course.proofs.LiftLaws.{get_other, get_set, get_within}
 use Rattle.sync_course.proofs.RunLaws.{IsClosedFrom, redundant_get}
 use Rattle.record_grammar.specs.Laws.{RecordsJoin, StreamsGoOn}
 use Rattle.record_grammar.specs.Stream.{records, records_of}
-use Rattle.record_grammar.specs.declared.stream.Item.{Item}
-use Rattle.sync_ids.specs.declared.records.Record.{Record}
 use Rattle.sync_rules.specs.declared.entries.Session.{Session}
 use Rattle.sync_course.specs.Pending.{pending_at}
 use Rattle.sync_course.proofs.FreeSound.{get_same, run_counted}
@@ -92,109 +90,6 @@ link_keeps clients n session reading p q e s =
       put = λ now room k. k;
       breaks = λ now room k. (k.0, tt);
     }) q e s
-
-module _ (clients : Meaning) (terms : Terms) where
-  step_keeps : (readings : ℕ → Option ℕ) (p q : Place) (e : Event) → RunStep clients terms p e q
-      → PlaceKeeps clients readings p.stage p.facts
-      → PlaceKeeps clients (λ i. reading_by i (readings i) e) q.stage q.facts
-  step_keeps readings p q e t =
-      run_by_cases clients terms p
-      (λ (stage : Stage) (x : Event) (r : Place). PlaceKeeps clients readings stage p.facts
-      → PlaceKeeps clients (λ i. reading_by i (readings i) x) r.stage r.facts) (record {
-        settles = λ left b settling k. tt;
-        settled = λ left settled k. settled;
-        begins = λ x left allowed k. settled_stays clients p.facts (entry.Session x ∷ []) refl k;
-        greets = λ x left k. k;
-        breaks = λ x left k. k;
-        all_begun = λ k. k;
-        ends = λ over k. k;
-        turns = λ on k. (k, tt);
-        works = λ n doing link x spot at steps k.
-            link_keeps clients n (terms.first + n) (readings n) (spot_of doing link p) spot x steps
-            k;
-        goes_on = λ n link at k. (k.0, tt);
-        turn_ends = λ n none k. k.0;
-      }) q e t
-
-  pub path_stays : (readings : ℕ → Option ℕ) (p q : Place) (es : List Event)
-      → Path (RunStep clients terms) p es q → PlaceKeeps clients readings p.stage p.facts
-      → PlaceKeeps clients (λ i. reading_after i (readings i) es) q.stage q.facts
-  path_stays readings p q [] path k =
-      subst (λ (x : Place). PlaceKeeps clients readings x.stage x.facts) (sym path) k
-  path_stays readings p q (e ∷ es) path k =
-      path_stays (λ i. reading_by i (readings i) e) path.0 q es path.2
-      (step_keeps readings p path.0 e path.1 k)
-
--- ---- outputs
-
--- a link that is in hand sends at the last reading
-in_hand : (clients : Meaning) (readings : ℕ → Option ℕ) (stage : Stage) (f : Facts) (n : ℕ)
-    (doing : Doing) → hold_at stage ≡ Holds n doing → PlaceKeeps clients readings stage f
-    → IsRead (readings n) doing
-in_hand clients readings (Works m does) f n doing is k =
-    let number : m ≡ n = cc in
-    let same : does ≡ doing = cc in
-    subst (λ i. IsRead (readings i) doing) number
-    (subst (λ d. IsRead (readings m) d) same k.1)
-in_hand clients readings (Greets x left) f n doing is k = cc
-in_hand clients readings _ f n doing is k = cc
-
--- the output that an event commits, if it commits one, is due
-abbrev pub OutDue : Meaning → ℕ → (ℕ → Option ℕ) → Facts → Event → Type 0
-OutDue clients first readings f (Commit (entry.Out session now what ∷ rest)) =
-    IsDueAt clients first readings f session now what
-OutDue clients first readings f _ = Unit {0}
-
-module _ (clients : Meaning) (first : ℕ) (readings : ℕ → Option ℕ) (f : Facts) where
-  none_due : (e : Event) → batches_of (e ∷ []) ≡ [] → OutDue clients first readings f e
-  none_due (Commit b) none = cc
-  none_due _ none = tt
-
-  settling_due : (b : List Entry) → IsSettlingBatch clients f b
-      → OutDue clients first readings f (Commit b)
-  settling_due (entry.Out session now what ∷ rest) settling =
-      absurd (next_is_settling clients f (entry.Out session now what) settling.2.0)
-  settling_due _ settling = tt
-
-  plain_due : (b : List Entry) → IsPlain b → OutDue clients first readings f (Commit b)
-  plain_due (entry.Out session now what ∷ rest) plain = absurd plain
-  plain_due _ plain = tt
-
-step_out : (clients : Meaning) (terms : Terms) (readings : ℕ → Option ℕ) (p q : Place) (e : Event)
-    → RunStep clients terms p e q → PlaceKeeps clients readings p.stage p.facts
-    → OutDue clients terms.first readings p.facts e
-step_out clients terms readings p q e t k =
-    free_batches clients terms.first (forget p)
-    (λ (x : Event) (g : Facts). OutDue clients terms.first readings p.facts x) (record {
-      none = λ x none. none_due clients terms.first readings p.facts x none;
-      settles = λ b settling. settling_due clients terms.first readings p.facts b settling;
-      adds = λ b rests plain allowed. plain_due clients terms.first readings p.facts b plain;
-      begins = λ x rests allowed. tt;
-      takes = λ n place r its link holds at allowed. tt;
-      puts = λ n now room what link holds at is_due allowed. record {
-        link = n;
-        on = refl;
-        read = in_hand clients readings p.stage p.facts n (Sends now (suc room)) holds k;
-        is_due = is_due;
-      };
-    }) (forget q) e (step_is_free clients terms p q e t)
-
-pub out_is_due : (clients : Meaning) (terms : Terms) (from to : Place) (before behind : List Event)
-    (session now : ℕ) (what : Out) → PlaceKeeps clients (λ i. None) from.stage from.facts
-    → Path (RunStep clients terms) from (before ++ Commit (out_batch session now what) ∷ behind) to
-    → OutIsDue clients terms from before session now what
-out_is_due clients terms from to before behind session now what start path =
-    let parts =
-    path_parts (RunStep clients terms) from to before (Commit (out_batch session now what) ∷ behind)
-    path in
-    record {
-      at = parts.0;
-      leads = parts.1;
-      is_due =
-          step_out clients terms (λ i. last_reading i before) parts.0 parts.2.0
-          (Commit (out_batch session now what)) parts.2.1
-          (path_stays clients terms (λ i. None) from parts.0 before parts.1 start);
-    }
 
 -- ---- a link in a turn that did not move
 
@@ -439,38 +334,131 @@ module _ (clients : Meaning) (terms : Terms) where
 
   -- ---- the steps of the run
 
-  abbrev StillSo : (ℕ → ℕ) → (ℕ → Option ℕ) → Place → Type 0
-  StillSo idles readings p = IsStillAt clients terms idles readings p.stage p
+  abbrev KeepsAt : (ℕ → ℕ) → (ℕ → Option ℕ) → Stage → Place → Type 0
+  KeepsAt idles readings stage p =
+      PlaceKeeps clients readings stage p.facts × IsStillAt clients terms idles readings stage p
 
-  step_still : (idles : ℕ → ℕ) (readings : ℕ → Option ℕ) (p q : Place) (e : Event)
-      → RunStep clients terms p e q → StillSo idles readings p
-      → StillSo (λ i. idles_by i (idles i) e) (λ i. reading_by i (readings i) e) q
-  step_still idles readings p q e t =
+  step_keeps : (idles : ℕ → ℕ) (readings : ℕ → Option ℕ) (p q : Place) (e : Event)
+      → RunStep clients terms p e q → KeepsAt idles readings p.stage p
+      → KeepsAt (λ i. idles_by i (idles i) e) (λ i. reading_by i (readings i) e) q.stage q
+  step_keeps idles readings p q e t =
       run_by_cases clients terms p
-      (λ (stage : Stage) (x : Event) (r : Place). IsStillAt clients terms idles readings stage p
-      → StillSo (λ i. idles_by i (idles i) x) (λ i. reading_by i (readings i) x) r) (record {
-        settles = λ left b settling s. s;
-        settled = λ left settled s. s;
-        begins = λ x left allowed s. s;
-        greets = λ x left s. s;
-        breaks = λ x left s. s;
-        all_begun = λ s. still_first idles readings p s;
-        ends = λ over s. record { idle = s.idle; quiet = s.quiet };
-        turns = λ on s unmoved i link at.
-            subst (StillLink clients terms idles readings p i link) (sym (phase_first i)) (s.idle i link at);
-        works = λ n doing link x spot at steps s unmoved.
-            still_works idles readings n doing link x spot p at steps s unmoved;
-        goes_on = λ n link at s unmoved i other there.
-            subst (StillLink clients terms idles readings p i other) (phase_next n i) (s unmoved i other there);
-        turn_ends = λ n none s. still_closed idles readings n Asks p none p.moved s;
+      (λ (stage : Stage) (x : Event) (r : Place). KeepsAt idles readings stage p
+      → KeepsAt (λ i. idles_by i (idles i) x) (λ i. reading_by i (readings i) x) r.stage r) (record {
+        settles = λ left b settling k. (tt, k.1);
+        settled = λ left settled k. (settled, k.1);
+        begins = λ x left allowed k.
+            (settled_stays clients p.facts (entry.Session x ∷ []) refl k.0, k.1);
+        greets = λ x left k. k;
+        breaks = λ x left k. k;
+        all_begun = λ k. (k.0, still_first idles readings p k.1);
+        ends = λ over k. (k.0, record { idle = k.1.idle; quiet = k.1.quiet });
+        turns = λ on k. (
+          (k.0, tt),
+          λ unmoved i link at.
+              subst (StillLink clients terms idles readings p i link) (sym (phase_first i))
+              (k.1.idle i link at),
+        );
+        works = λ n doing link x spot at steps k. (
+          link_keeps clients n (terms.first + n) (readings n) (spot_of doing link p) spot x steps k.0,
+          λ unmoved. still_works idles readings n doing link x spot p at steps k.1 unmoved,
+        );
+        goes_on = λ n link at k. (
+          (k.0.0, tt),
+          λ unmoved i other there.
+              subst (StillLink clients terms idles readings p i other) (phase_next n i)
+              (k.1 unmoved i other there),
+        );
+        turn_ends = λ n none k. (k.0.0, still_closed idles readings n Asks p none p.moved k.1);
       }) q e t
 
-  pub path_still : (idles : ℕ → ℕ) (readings : ℕ → Option ℕ) (p q : Place) (es : List Event) → Path (RunStep clients terms) p es q
-      → StillSo idles readings p → StillSo (λ i. idles_after i (idles i) es) (λ i. reading_after i (readings i) es) q
-  path_still idles readings p q [] path s = subst (StillSo idles readings) (sym path) s
-  path_still idles readings p q (e ∷ es) path s =
-      path_still (λ i. idles_by i (idles i) e) (λ i. reading_by i (readings i) e) path.0 q es path.2
-      (step_still idles readings p path.0 e path.1 s)
+  path_keeps_still : (idles : ℕ → ℕ) (readings : ℕ → Option ℕ) (p q : Place) (es : List Event)
+      → Path (RunStep clients terms) p es q → KeepsAt idles readings p.stage p
+      → KeepsAt (λ i. idles_after i (idles i) es) (λ i. reading_after i (readings i) es) q.stage q
+  path_keeps_still idles readings p q [] path k =
+      subst (λ (x : Place). KeepsAt idles readings x.stage x) (sym path) k
+  path_keeps_still idles readings p q (e ∷ es) path k =
+      path_keeps_still (λ i. idles_by i (idles i) e) (λ i. reading_by i (readings i) e) path.0 q es
+      path.2 (step_keeps idles readings p path.0 e path.1 k)
+
+  -- behind events from the first place on
+  pub run_keeps : (sessions : List Session) (f : Facts) (q : Place) (es : List Event)
+      → Path (RunStep clients terms) (first_place sessions f) es q
+      → KeepsAt (λ i. idle_answers i es) (λ i. last_reading i es) q.stage q
+  run_keeps sessions f q es path =
+      path_keeps_still (λ i. 0) (λ i. None) (first_place sessions f) q es path (tt, refl)
+
+-- ---- outputs
+
+-- a link that is in hand sends at the last reading
+in_hand : (clients : Meaning) (readings : ℕ → Option ℕ) (stage : Stage) (f : Facts) (n : ℕ)
+    (doing : Doing) → hold_at stage ≡ Holds n doing → PlaceKeeps clients readings stage f
+    → IsRead (readings n) doing
+in_hand clients readings (Works m does) f n doing is k =
+    let number : m ≡ n = cc in
+    let same : does ≡ doing = cc in
+    subst (λ i. IsRead (readings i) doing) number
+    (subst (λ d. IsRead (readings m) d) same k.1)
+in_hand clients readings (Greets x left) f n doing is k = cc
+in_hand clients readings _ f n doing is k = cc
+
+-- the output that an event commits, if it commits one, is due
+abbrev pub OutDue : Meaning → ℕ → (ℕ → Option ℕ) → Facts → Event → Type 0
+OutDue clients first readings f (Commit (entry.Out session now what ∷ rest)) =
+    IsDueAt clients first readings f session now what
+OutDue clients first readings f _ = Unit {0}
+
+module _ (clients : Meaning) (first : ℕ) (readings : ℕ → Option ℕ) (f : Facts) where
+  none_due : (e : Event) → batches_of (e ∷ []) ≡ [] → OutDue clients first readings f e
+  none_due (Commit b) none = cc
+  none_due _ none = tt
+
+  settling_due : (b : List Entry) → IsSettlingBatch clients f b
+      → OutDue clients first readings f (Commit b)
+  settling_due (entry.Out session now what ∷ rest) settling =
+      absurd (next_is_settling clients f (entry.Out session now what) settling.2.0)
+  settling_due _ settling = tt
+
+  plain_due : (b : List Entry) → IsPlain b → OutDue clients first readings f (Commit b)
+  plain_due (entry.Out session now what ∷ rest) plain = absurd plain
+  plain_due _ plain = tt
+
+step_out : (clients : Meaning) (terms : Terms) (readings : ℕ → Option ℕ) (p q : Place) (e : Event)
+    → RunStep clients terms p e q → PlaceKeeps clients readings p.stage p.facts
+    → OutDue clients terms.first readings p.facts e
+step_out clients terms readings p q e t k =
+    free_batches clients terms.first (forget p)
+    (λ (x : Event) (g : Facts). OutDue clients terms.first readings p.facts x) (record {
+      none = λ x none. none_due clients terms.first readings p.facts x none;
+      settles = λ b settling. settling_due clients terms.first readings p.facts b settling;
+      adds = λ b rests plain allowed. plain_due clients terms.first readings p.facts b plain;
+      begins = λ x rests allowed. tt;
+      takes = λ n place r its link holds at allowed. tt;
+      puts = λ n now room what link holds at is_due allowed. record {
+        link = n;
+        on = refl;
+        read = in_hand clients readings p.stage p.facts n (Sends now (suc room)) holds k;
+        is_due = is_due;
+      };
+    }) (forget q) e (step_is_free clients terms p q e t)
+
+pub out_is_due : (clients : Meaning) (terms : Terms) (sessions : List Session) (f : Facts)
+    (before behind : List Event) (session now : ℕ) (what : Out) (to : Place)
+    → Path (RunStep clients terms) (first_place sessions f)
+    (before ++ Commit (out_batch session now what) ∷ behind) to
+    → OutIsDue clients terms (first_place sessions f) before session now what
+out_is_due clients terms sessions f before behind session now what to path =
+    let parts =
+    path_parts (RunStep clients terms) (first_place sessions f) to before
+    (Commit (out_batch session now what) ∷ behind) path in
+    record {
+      at = parts.0;
+      leads = parts.1;
+      is_due =
+          step_out clients terms (λ i. last_reading i before) parts.0 parts.2.0
+          (Commit (out_batch session now what)) parts.2.1
+          (run_keeps clients terms sessions f parts.0 before parts.1).0;
+    }
 
 -- ---- a run that is over
 
@@ -496,14 +484,12 @@ pub course_ends_quiet : StreamsGoOn → RecordsJoin → (clients : Meaning) (ter
     → Legal clients j → Course clients terms sessions (facts j) events last
     → is_over terms.quiet last ≡ true → EndsQuiet clients terms events last
 course_ends_quiet go_on join clients terms sessions j events last legal course over =
-    let start : Place = first_place sessions (facts j) in
+    let keeps = run_keeps clients terms sessions (facts j) last events course.path in
     let settled : IsSettled clients last.facts =
-    subst (λ st. PlaceKeeps clients (λ i. last_reading i events) st last.facts)
-    course.at_end
-    (path_stays clients terms (λ i. None) start last events course.path tt) in
+    subst (λ st. PlaceKeeps clients (λ i. last_reading i events) st last.facts) course.at_end keeps.0 in
     let still : BetweenTurns clients terms (λ i. idle_answers i events) (λ i. last_reading i events) last =
-    subst (λ st. IsStillAt clients terms (λ i. idle_answers i events) (λ i. last_reading i events) st last) course.at_end
-    (path_still clients terms (λ i. 0) (λ i. None) start last events course.path refl) in
+    subst (λ st. IsStillAt clients terms (λ i. idle_answers i events) (λ i. last_reading i events) st last)
+    course.at_end keeps.1 in
     let counted = run_counted go_on join clients terms sessions j events last legal
     (record { numbered = course.numbered; path = course.path }) in
     let parts = and_parts (nat_lt 0 last.still) (not (some_going last.links) || nat_le terms.quiet last.still) over in

@@ -21,16 +21,14 @@ use Rattle.sync_course.specs.Links.{Link, beats, closed_from, is_beaten, is_goin
 use Rattle.sync_course.specs.Redundant.{closed_as}
 use Rattle.sync_course.specs.Suits.{IsCounted, keeps_all}
 use Rattle.std.specs.Option.{option_map}
-use Rattle.outside.specs.Links.{ended}
 use Rattle.record_grammar.specs.Laws.{RecordsJoin, StreamsGoOn}
 use Rattle.record_grammar.specs.declared.stream.Ending.{Ending}
 use Rattle.record_grammar.specs.declared.stream.Item.{Item}
 use Rattle.record_grammar.specs.declared.stream.Item.TheVariants as item
 use Rattle.sync_ids.specs.declared.records.Record.{Record}
-use Rattle.sync_rules.specs.Growth.{TakesOne}
 use Rattle.sync_rules.specs.Sessions.{taken}
 use Rattle.sync_course.specs.Events.{Event}
-use Rattle.sync_course.specs.LinkTurns.{Doing, LinkStep, Spot, all_taken_spot, failed_spot, heard_spot, next_take, out_batch}
+use Rattle.sync_course.specs.LinkTurns.{Doing, LinkStep, Spot, next_take}
 use Rattle.sync_course.proofs.LinkSteps.{link_by_cases}
 use Rattle.sync_course.specs.Pending.{pending}
 

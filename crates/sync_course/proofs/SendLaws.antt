@@ -23,7 +23,7 @@ use Rattle.sync_rules.proofs.SessionLaws.{legal_sessions}
 use Rattle.sync_course.specs.declared.ends.LinkEnd.TheVariants as end
 use Rattle.sync_course.specs.Acts.{Act, Does, Send, Fail, batches_in, event_of, events_of, sends_on, sent_by}
 use Rattle.sync_course.specs.Events.{Event, Commit, batches_of, has_failure, is_failure}
-use Rattle.sync_course.specs.Free.{Free, FreeStep, Hold, first_free}
+use Rattle.sync_course.specs.Free.{Free, FreeStep, first_free}
 use Rattle.sync_course.specs.Links.{Link, is_sent_to}
 use Rattle.sync_course.specs.LinkTurns.{next_take, out_batch}
 use Rattle.sync_course.specs.Owing.{ActStep, Owing, adds_to, paid}

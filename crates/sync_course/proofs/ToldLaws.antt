@@ -10,7 +10,7 @@ use Rattle.outside.specs.Faults.{CountRose, one_more}
 use Rattle.outside.specs.Host.{GrowsReadings, HearsAnswer, IsAnswerCaused, ReadsClock, SendsOnLink}
 use Rattle.outside.specs.Disk.{RelatesTold}
 use Rattle.outside.specs.Links.{HeardOn, Links, Planned, Reply, changed_at, got, idle, ended, hear_reply}
-use Rattle.outside.specs.Planned.{AnswersAsPlanned, UsesPlan, UsesReading}
+use Rattle.outside.specs.Planned.{AnswersAsPlanned, UsesPlan}
 use Rattle.outside.specs.Outside.{Outside}
 use Rattle.outside.proofs.CallSteps.{becomes_map, becomes_none, becomes_then}
 use Rattle.sync_rules.specs.declared.entries.Entry.{Entry}

@@ -1,6 +1,5 @@
 use Rattle.std.proofs.Common.{subst, sym}
 use Rattle.sync_rules.proofs.Continuing.{legal-append}
-use Rattle.sync_rules.specs.Facts.{Facts}
 use Rattle.sync_rules.specs.Legal.{GoesOn}
 use Rattle.sync_rules.proofs.OutputLaws.{sent_append}
 use Rattle.sync_course.specs.Events.{batches_of}
