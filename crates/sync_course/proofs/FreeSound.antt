@@ -1,46 +1,228 @@
 -- What every place of a node keeps: its journal is legal, the sessions that began are those of its links, and on each link the
 -- records taken are a front of those heard.
-use Rattle.std.proofs.Common.{◌≡◌, ℕ, zero, suc, ◌+◌, cond, eq-eqb, List, [], ◌∷◌, ◌++◌, length, length-append, refl, sym, ◌∙◌, ap, subst, subst₂, inl, inr, arith, Option, Some}
+use Rattle.std.proofs.Common.{◌≡◌, ℕ, zero, suc, ◌+◌, cond, eq-eqb, List, [], ◌∷◌, ◌++◌, length}
+use Rattle.std.proofs.Common.{length-append, refl, sym, ◌∙◌, ap, subst, subst₂, inl, inr, arith}
+use Rattle.std.proofs.Common.{Option, Some, ◌<◌, Bool, true, false, None}
+use Rattle.std.proofs.Common.{append-nil, append_assoc}
 use Rattle.std.specs.Prelude.{slice_get, slice_set}
 use Rattle.record_grammar.specs.Laws.{RecordsJoin, StreamsGoOn}
 use Rattle.sync_rules.specs.declared.entries.Entry.{Entry}
 use Rattle.sync_rules.specs.declared.entries.Session.{Session}
 use Rattle.sync_rules.specs.Clients.{Meaning}
-use Rattle.sync_rules.specs.Facts.{Facts, after_all, facts, takes_of}
-use Rattle.sync_rules.specs.Legal.{Legal}
+use Rattle.sync_rules.specs.Facts.{Facts, after_all, facts, takes_of, after_batches, session_at}
+use Rattle.sync_rules.specs.Legal.{Legal, Allowed, GoesOn}
 use Rattle.sync_course.specs.declared.ends.LinkEnd.{LinkEnd}
-use Rattle.sync_course.specs.declared.ends.LinkEnd.TheVariants as end
 use Rattle.sync_course.specs.Events.{Event, batches_of}
-use Rattle.sync_course.specs.Free.{Begins, Free, FreeStep, Hold, Holds, IsNothingUnderWay, Rests, first_free, forget, hold_at, joined_by, spot_in}
+use Rattle.sync_course.specs.Free.{Begins, Free, FreeStep, Hold, Holds, IsNothingUnderWay, Rests}
+use Rattle.sync_course.specs.Free.{first_free, forget, hold_at, joined_by, spot_in}
 use Rattle.sync_course.specs.Links.{Link, closed_from, link_of, without_redundant}
-use Rattle.sync_course.specs.LinkTurns.{Doing}
+use Rattle.sync_course.specs.Links.{is_going, closes, items_after, link_after, new_items}
+use Rattle.sync_course.specs.Links.{stands_behind}
+use Rattle.sync_course.specs.LinkTurns.{Doing, LinkStep, Spot, next_take}
 use Rattle.sync_course.specs.Paths.{Path}
 use Rattle.sync_course.specs.Pending.{pending, pending_at}
 use Rattle.sync_course.specs.Turns.{Broken, Place, RunStep, Settles, Stage, Terms, first_place}
 use Rattle.sync_course.proofs.FreeLaws.{run_is_free}
 use Rattle.sync_course.specs.Suits.{IsCounted, keeps_all}
-use Rattle.sync_course.proofs.RunLaws.{counted_ends, counted_same, link_step_counted, IsOfJournal, Moves as MovesOn, moves_none, moves_then, ended_keeps, journal_moves, new_counted, settled_begun, untaken}
-use Rattle.sync_course.proofs.FreeSteps.{step_adds, Closed, Joined, Kept, LinkGoes, Stepped, free_by_cases, free_link, pending_in, plain_adds}
+use Rattle.sync_course.proofs.RunLaws.{moves_none, moves_then, settled_begun, Moves}
+use Rattle.sync_course.proofs.RunLaws.{new_items_follow, settled_takes, takes_by}
+use Rattle.sync_course.proofs.FreeSteps.{step_adds, Closed, Joined, Kept, LinkGoes, Stepped}
+use Rattle.sync_course.proofs.FreeSteps.{free_by_cases, free_link, pending_in, plain_adds}
 use Rattle.sync_course.proofs.ToldLaws.{batches_of-append}
+use Rattle.record_grammar.specs.Stream.{items, parsed, records_of, ending, records}
+use Rattle.sync_rules.specs.Consistency.{HasSessions}
+use Rattle.sync_rules.proofs.Continuing.{legal-append, facts-append}
+use Rattle.sync_rules.proofs.SessionLaws.{legal_sessions}
+use Rattle.record_grammar.specs.declared.stream.Ending.{Ending}
+use Rattle.record_grammar.specs.declared.stream.Item.{Item}
+use Rattle.sync_ids.specs.declared.records.Record.{Record}
+use Rattle.sync_course.proofs.LinkSteps.{link_by_cases}
+use Rattle.sync_course.specs.declared.ends.LinkEnd.TheVariants as end
+use Rattle.record_grammar.specs.declared.stream.Item.TheVariants as item
 
 -- ---- the journal
 
 module _ (clients : Meaning) (first : ℕ) where
   -- the batches of a path may follow one behind the other
   pub free_path_moves : (p q : Free) (es : List Event) → Path (FreeStep clients first) p es q
-      → MovesOn clients (batches_of es) p.facts q.facts
+      → Moves clients (batches_of es) p.facts q.facts
   free_path_moves p q [] path = moves_none (ap (λ (x : Free). x.facts) path)
   free_path_moves p q (e ∷ es) path =
-      subst (λ bs. MovesOn clients bs p.facts q.facts) (sym (batches_of-append (e ∷ []) es))
+      subst (λ bs. Moves clients bs p.facts q.facts) (sym (batches_of-append (e ∷ []) es))
       (moves_then (step_adds clients first p path.0 e path.1).moves
       (free_path_moves path.0 q es path.2))
 
 pub run_moves : (clients : Meaning) (terms : Terms) (p q : Place) (es : List Event)
-    → Path (RunStep clients terms) p es q → MovesOn clients (batches_of es) p.facts q.facts
+    → Path (RunStep clients terms) p es q → Moves clients (batches_of es) p.facts q.facts
 run_moves clients terms p q es path =
     free_path_moves clients terms.first (forget p) (forget q) es (run_is_free clients terms p q es path)
 
+-- the facts are those of a legal journal
+pub record IsOfJournal (clients : Meaning) (f : Facts) : Type 0 where
+  pub journal : List (List Entry)
+  pub legal : Legal clients journal
+  pub facts_are : facts journal ≡ f
+
+pub journal_moves : {clients : Meaning} {bs : List (List Entry)} {f g : Facts}
+    → Moves clients bs f g → IsOfJournal clients f → IsOfJournal clients g
+journal_moves {clients = clients} {bs = bs} m o = record {
+  journal = o.journal ++ bs;
+  legal =
+      legal-append clients o.journal bs o.legal
+      (subst (λ x. GoesOn clients x bs) (sym o.facts_are) m.goes_on);
+  facts_are =
+      facts-append o.journal bs ∙ ap (λ x. after_batches x bs) o.facts_are ∙ sym m.facts;
+}
+
+-- ---- counted links
+
+takes_here : (clients : Meaning) (f : Facts) (session : ℕ) (r : Record) → Allowed clients f (next_take f session r)
+    → takes_of (after_all f (next_take f session r)).takes session ≡ takes_of f.takes session + 1
+takes_here clients f session r allowed =
+    takes_by clients f session session r allowed
+    ∙ ap (λ b. cond b (takes_of f.takes session + 1) (takes_of f.takes session)) (eq-eqb session session refl)
+
+pub counted_same : {f g : Facts} {session : ℕ} {its : List Item} {link : Link}
+    → takes_of g.takes session ≡ takes_of f.takes session
+    → IsCounted f session its link → IsCounted g session its link
+counted_same same c = record {
+  done = c.done;
+  dropped = c.dropped;
+  parts = c.parts;
+  count = same ∙ c.count;
+  whole = c.whole;
+}
+
+-- the same bytes, where the link's records were all kept or need not be
+pub counted_ends : {f : Facts} {session : ℕ} {its : List Item} {link other : Link}
+    → other.heard ≡ link.heard → (keeps_all other.stands ≡ true → keeps_all link.stands ≡ true)
+    → IsCounted f session its link → IsCounted f session its other
+counted_ends same keeps c = record {
+  done = c.done;
+  dropped = c.dropped;
+  parts = ap records same ∙ c.parts;
+  count = c.count;
+  whole = λ k. c.whole (keeps k);
+}
+
+pub going_keeps : (stands : LinkEnd) → is_going stands ≡ true → keeps_all stands ≡ true
+going_keeps (end.NoVersion place) is = cc
+going_keeps end.Failed is = cc
+going_keeps _ is = refl
+
+behind_keeps : (stands : LinkEnd) (e : Ending) → keeps_all (stands_behind stands e) ≡ true → keeps_all stands ≡ true
+behind_keeps (end.NoVersion place) e is = is
+behind_keeps end.Failed e is = is
+behind_keeps _ e is = refl
+
+module _ (go_on : StreamsGoOn) (join : RecordsJoin) where
+  -- bytes came
+  counted_got : (f : Facts) (session : ℕ) (link : Link) (bytes : List ℕ) → keeps_all link.stands ≡ true → IsCounted f session [] link
+      → IsCounted f session (new_items link.heard bytes) (record link { heard = link.heard ++ bytes })
+  unfolding records_of
+  counted_got f session link bytes keeps c =
+      let none : c.dropped ≡ [] = c.whole keeps in
+      let before : records link.heard ≡ c.done = c.parts ∙ ap (λ l. c.done ++ l) none ∙ append-nil c.done in
+      record {
+        done = c.done;
+        dropped = [];
+        parts =
+            ap records_of (new_items_follow go_on link.heard bytes)
+            ∙ join (items 0 link.heard) (new_items link.heard bytes)
+            ∙ ap (λ l. l ++ records_of (new_items link.heard bytes)) before
+            ∙ ap (λ l. c.done ++ l) (sym (append-nil (records_of (new_items link.heard bytes))));
+        count = c.count;
+        whole = λ k. refl;
+      }
+
+  -- a record is taken
+  counted_taken : (f g : Facts) (session place : ℕ) (r : Record) (its : List Item) (link : Link)
+      → takes_of g.takes session ≡ takes_of f.takes session + 1 → IsCounted f session (item.One place r ∷ its) link
+      → IsCounted g session (items_after r its) (link_after place r link)
+  unfolding records_of
+  counted_taken f g session place r its link one c =
+      let count : takes_of g.takes session ≡ length (c.done ++ r ∷ []) =
+      one ∙ ap (λ n. n + 1) c.count ∙ sym (length-append c.done (r ∷ [])) in
+      elim (closes r) as (λ b. IsCounted g session (cond b [] its)
+      (record link { nonce = (link_after place r link).nonce; stands = cond b (end.NoVersion place) link.stands })) [
+        | true ↦ record {
+          done = c.done ++ r ∷ [];
+          dropped = records_of its ++ c.dropped;
+          parts = c.parts ∙ sym (append_assoc c.done (r ∷ []) (records_of its ++ c.dropped));
+          count = count;
+          whole = λ k. cc;
+        }
+        | false ↦ record {
+          done = c.done ++ r ∷ [];
+          dropped = c.dropped;
+          parts = c.parts ∙ sym (append_assoc c.done (r ∷ []) (records_of its ++ c.dropped));
+          count = count;
+          whole = c.whole;
+        }
+      ]
+
+  -- a skipped record is passed over
+  counted_skipped : (f : Facts) (session place type_byte len : ℕ) (its : List Item) (link : Link)
+      → IsCounted f session (item.Skipped place type_byte len ∷ its) link → IsCounted f session its link
+  unfolding records_of
+  counted_skipped f session place type_byte len its link c = record {
+    done = c.done;
+    dropped = c.dropped;
+    parts = c.parts;
+    count = c.count;
+    whole = c.whole;
+  }
+
+  pub link_step_counted : (clients : Meaning) (n session : ℕ) (p q : Spot) (e : Event)
+      → LinkStep clients n session p e q → IsCounted p.facts session (pending p.doing) p.link
+      → IsCounted q.facts session (pending q.doing) q.link
+  link_step_counted clients n session p q e s =
+      link_by_cases clients n session p
+      (λ (doing : Doing) (x : Event) (r : Spot). IsCounted p.facts session (pending doing) p.link
+      → IsCounted r.facts session (pending r.doing) r.link) (record {
+        hears = λ bytes going c.
+            counted_got p.facts session p.link bytes (going_keeps p.link.stands going) c;
+        idles = λ going c. c;
+        ends = λ going c. counted_ends refl (λ k. going_keeps p.link.stands going) c;
+        misses = λ going c. counted_ends refl (λ k. cc) c;
+        unasked = λ is c. c;
+        settles = λ its b settling c. counted_same (settled_takes clients p.facts b session settling) c;
+        takes = λ place r its allowed c.
+            counted_taken p.facts (after_all p.facts (next_take p.facts session r)) session place r its
+            p.link (takes_here clients p.facts session r allowed) c;
+        skips = λ place type_byte len its c.
+            counted_skipped p.facts session place type_byte len its p.link c;
+        all_taken = λ settled c.
+            counted_ends refl (behind_keeps p.link.stands (ending 0 p.link.heard)) c;
+        reads = λ now is_open c. c;
+        closed = λ is c. c;
+        puts = λ now room what is_due allowed c. counted_same refl c;
+        enough = λ now room is c. c;
+        put = λ now room c. c;
+        breaks = λ now room c. counted_ends refl (λ k. cc) c;
+      }) q e s
+
+pub new_counted : (f : Facts) (session : ℕ) (x : Session) (stands : LinkEnd) → takes_of f.takes session ≡ 0 → IsCounted f session [] (link_of x stands)
+unfolding items parsed records_of
+new_counted f session x stands none = record { done = []; dropped = []; parts = refl; count = none; whole = λ k. refl }
+
+pub ended_keeps : (b : Bool) (stands : LinkEnd) → (b ≡ true → is_going stands ≡ true)
+    → keeps_all (cond b end.Redundant stands) ≡ true
+    → keeps_all stands ≡ true
+ended_keeps true stands going k = going_keeps stands (going refl)
+ended_keeps false stands going k = k
+
 -- ---- every place
+
+-- a session that has not begun has taken nothing
+pub untaken : (clients : Meaning) (f : Facts) → IsOfJournal clients f → takes_of f.takes f.begun ≡ 0
+untaken clients f o =
+    let has : HasSessions f = subst HasSessions o.facts_are (legal_sessions clients o.journal o.legal) in
+    has.untaken f.begun (none_at has (session_at f.sessions f.begun) refl)
+  where
+    none_at : HasSessions f → (x : Option Session) → session_at f.sessions f.begun ≡ x → session_at f.sessions f.begun ≡ None
+    none_at has None at = at
+    none_at has (Some s) at = let below : f.begun < f.begun = (has.each f.begun s at).begun in absurd (omega (arith, below))
 
 -- the sessions that began are those of the links, and one more while it is to greet, on which nothing was taken
 abbrev pub IsBegunAt : ℕ → Hold → ℕ → Facts → Type 0

@@ -1,6 +1,6 @@
 -- Redundant links: behind each that is closed stands one that is kept, and closing them one after the other, each by the links as they
 -- then stand, closes the same ones.
-use Rattle.std.proofs.Common.{◌≡◌, ◌⊎◌, ℕ, zero, suc, ◌+◌, ◌<◌, Bool, true, false, cond, ◌&&◌, ◌||◌, nat_eq, eq-eqb, eqb-true, List, [], ◌∷◌, length, refl, sym, ◌∙◌, ap, ap₂, subst, inl, inr, arith, Option, None, Some}
+use Rattle.std.proofs.Common.{◌≡◌, ◌⊎◌, ℕ, zero, suc, ◌+◌, ◌<◌, Bool, true, false, cond, ◌||◌, nat_eq, eq-eqb, eqb-true, List, [], ◌∷◌, length, refl, sym, ◌∙◌, ap, ap₂, subst, inl, inr, arith, Option, None, Some}
 use Rattle.std.specs.Cmp.Lexicographic.{nat_list_cmp_total, slice_cmp}
 use Rattle.std.specs.Ordering.{nat_cmp, ordering_reverse}
 use Rattle.std.specs.Prelude.{nat_lt, slice_get, slice_set}
@@ -63,18 +63,18 @@ pub record Beats (i : ℕ) (a : Link) (k : ℕ) (b : Link) : Type 0 where
   pub same_contact : nat_eq a.contact b.contact ≡ true
   pub kept : is_kept a.nonce b.nonce (nat_lt i k) ≡ true
 
-beats_parts : (i : ℕ) (a : Link) (k : ℕ) (b : Link) → beats i a k b ≡ true → Beats i a k b
+pub beats_parts : (i : ℕ) (a : Link) (k : ℕ) (b : Link) → beats i a k b ≡ true → Beats i a k b
 beats_parts i a k b is =
-    let one = and_parts (is_going a.stands) (is_going b.stands && (nat_eq a.contact b.contact && is_kept a.nonce b.nonce (nat_lt i k))) is in
-    let two = and_parts (is_going b.stands) (nat_eq a.contact b.contact && is_kept a.nonce b.nonce (nat_lt i k)) one.1 in
-    let three = and_parts (nat_eq a.contact b.contact) (is_kept a.nonce b.nonce (nat_lt i k)) two.1 in
+    let one = and_parts (is_going a.stands) _ is in
+    let two = and_parts (is_going b.stands) _ one.1 in
+    let three = and_parts (nat_eq a.contact b.contact) _ two.1 in
     record { first_going = one.0; second_going = two.0; same_contact = three.0; kept = three.1 }
 
 beats_from : (i : ℕ) (a : Link) (k : ℕ) (b : Link) → Beats i a k b → beats i a k b ≡ true
 beats_from i a k b p =
-    and_from (is_going a.stands) (is_going b.stands && (nat_eq a.contact b.contact && is_kept a.nonce b.nonce (nat_lt i k))) p.first_going
-    (and_from (is_going b.stands) (nat_eq a.contact b.contact && is_kept a.nonce b.nonce (nat_lt i k)) p.second_going
-    (and_from (nat_eq a.contact b.contact) (is_kept a.nonce b.nonce (nat_lt i k)) p.same_contact p.kept))
+    and_from (is_going a.stands) _ p.first_going
+    (and_from (is_going b.stands) _ p.second_going
+    (and_from (nat_eq a.contact b.contact) _ p.same_contact p.kept))
 
 smaller_then : (i m k : ℕ) → nat_lt i m ≡ true → nat_lt m k ≡ true → nat_lt i k ≡ true
 smaller_then i m k first second =

@@ -54,14 +54,8 @@ module _ (clients : Meaning) (terms : Terms) (n : ℕ) (place : Place) (within :
         spot = q;
         steps = s;
         leads =
-            ap (λ l. record {
-              stage = Works n q.doing;
-              links = l;
-              moved = q.moved;
-              still = place.still;
-              made = place.made;
-              facts = q.facts;
-            }) (sym (set_twice place.links n p.link q.link));
+            ap (λ l. record (with_spot n q place) { links = l })
+            (sym (set_twice place.links n p.link q.link));
       }))
 
   pub link_lifts : (p q : Spot) (es : List Event) → Path (LinkStep clients n (terms.first + n)) p es q

@@ -6,7 +6,7 @@ use Rattle.std.proofs.lemmas.Bool.{cases_eq}
 use Rattle.outside.specs.declared.failed.Failed.{Failed}
 use Rattle.outside.specs.declared.host.Heard.{Heard}
 use Rattle.outside.specs.declared.host.Heard.TheVariants as answer
-use Rattle.outside.specs.Faults.{CountRose, one_more}
+use Rattle.outside.specs.Faults.{CountRose}
 use Rattle.outside.specs.Host.{GrowsReadings, HearsAnswer, IsAnswerCaused, ReadsClock, SendsOnLink}
 use Rattle.outside.specs.Disk.{RelatesTold}
 use Rattle.outside.specs.Links.{HeardOn, Links, Planned, Reply, changed_at, got, idle, ended, hear_reply}
@@ -63,10 +63,10 @@ grows_then more others (Some a) (Some b) (Some c) first second =
     second ∙ ap (λ l. l ++ others) first ∙ append_assoc a more others
 
 rose_then : (a b : Bool) (x y z : ℕ) → RoseIf a x y → RoseIf b y z → RoseIf (a || b) x z
-rose_then true true x y z first second = let f : one_more x ≤ y = first in let s : one_more y ≤ z = second in omega (arith, f, s)
-rose_then true false x y z first second = let f : one_more x ≤ y = first in let s : y ≤ z = second in omega (arith, f, s)
-rose_then false true x y z first second = let f : x ≤ y = first in let s : one_more y ≤ z = second in omega (arith, f, s)
-rose_then false false x y z first second = let f : x ≤ y = first in let s : y ≤ z = second in omega (arith, f, s)
+rose_then true true x y z first second = omega (arith, first, second)
+rose_then true false x y z first second = omega (arith, first, second)
+rose_then false true x y z first second = omega (arith, first, second)
+rose_then false false x y z first second = omega (arith, first, second)
 
 -- ---- what is left
 
