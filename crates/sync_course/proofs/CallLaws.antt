@@ -25,12 +25,8 @@ module _ (clients : Meaning) (n session : ℕ) where
   pub asked_step : (given : Heard) (buf : List ℕ) (p : Spot) → is_going p.link.stands ≡ true
       → StepOf clients n session Asks (asked_event n given buf) p (answered_spot given buf p)
   asked_step (answer.Got k) buf p going = (refl, going, refl)
-  asked_step answer.Idle buf p going = (refl, going, refl)
-  asked_step answer.End buf p going = (refl, going, refl)
-  asked_step answer.Failed buf p going = (refl, going, refl)
+  asked_step _ buf p going = (refl, going, refl)
 
   pub asked_commits : (given : Heard) (buf : List ℕ) → batches_of (asked_event n given buf ∷ []) ≡ []
   asked_commits (answer.Got k) buf = refl
-  asked_commits answer.Idle buf = refl
-  asked_commits answer.End buf = refl
-  asked_commits answer.Failed buf = refl
+  asked_commits _ buf = refl

@@ -82,28 +82,24 @@ takes_here clients f session r allowed =
     takes_by clients f session session r allowed
     ∙ ap (λ b. cond b (takes_of f.takes session + 1) (takes_of f.takes session)) (eq-eqb session session refl)
 
-pub counted_same : {f g : Facts} {session : ℕ} {its : List Item} {link : Link}
+-- the same records heard and to be taken, where the link's records were all kept or need not be
+pub counted_as : {f g : Facts} {session : ℕ} {its others : List Item} {link other : Link}
     → takes_of g.takes session ≡ takes_of f.takes session
-    → IsCounted f session its link → IsCounted g session its link
-counted_same same c = record {
+    → records other.heard ≡ records link.heard → records_of others ≡ records_of its
+    → (keeps_all other.stands ≡ true → keeps_all link.stands ≡ true)
+    → IsCounted f session its link → IsCounted g session others other
+counted_as taken heard pending keeps c = record {
   done = c.done;
   dropped = c.dropped;
-  parts = c.parts;
-  count = same ∙ c.count;
-  whole = c.whole;
-}
-
--- the same bytes, where the link's records were all kept or need not be
-pub counted_ends : {f : Facts} {session : ℕ} {its : List Item} {link other : Link}
-    → other.heard ≡ link.heard → (keeps_all other.stands ≡ true → keeps_all link.stands ≡ true)
-    → IsCounted f session its link → IsCounted f session its other
-counted_ends same keeps c = record {
-  done = c.done;
-  dropped = c.dropped;
-  parts = ap records same ∙ c.parts;
-  count = c.count;
+  parts = heard ∙ c.parts ∙ ap (λ l. c.done ++ (l ++ c.dropped)) (sym pending);
+  count = taken ∙ c.count;
   whole = λ k. c.whole (keeps k);
 }
+
+skipped_gives_none : (place type_byte len : ℕ) (its : List Item)
+    → records_of its ≡ records_of (item.Skipped place type_byte len ∷ its)
+unfolding records_of
+skipped_gives_none place type_byte len its = refl
 
 pub going_keeps : (stands : LinkEnd) → is_going stands ≡ true → keeps_all stands ≡ true
 going_keeps (end.NoVersion place) is = cc
@@ -161,18 +157,6 @@ module _ (go_on : StreamsGoOn) (join : RecordsJoin) where
         }
       ]
 
-  -- a skipped record is passed over
-  counted_skipped : (f : Facts) (session place type_byte len : ℕ) (its : List Item) (link : Link)
-      → IsCounted f session (item.Skipped place type_byte len ∷ its) link → IsCounted f session its link
-  unfolding records_of
-  counted_skipped f session place type_byte len its link c = record {
-    done = c.done;
-    dropped = c.dropped;
-    parts = c.parts;
-    count = c.count;
-    whole = c.whole;
-  }
-
   pub link_step_counted : (clients : Meaning) (n session : ℕ) (p q : Spot) (e : Event)
       → LinkStep clients n session p e q → IsCounted p.facts session (pending p.doing) p.link
       → IsCounted q.facts session (pending q.doing) q.link
@@ -183,23 +167,24 @@ module _ (go_on : StreamsGoOn) (join : RecordsJoin) where
         hears = λ bytes going c.
             counted_got p.facts session p.link bytes (going_keeps p.link.stands going) c;
         idles = λ going c. c;
-        ends = λ going c. counted_ends refl (λ k. going_keeps p.link.stands going) c;
-        misses = λ going c. counted_ends refl (λ k. cc) c;
+        ends = λ going c. counted_as refl refl refl (λ k. going_keeps p.link.stands going) c;
+        misses = λ going c. counted_as refl refl refl (λ k. cc) c;
         unasked = λ is c. c;
-        settles = λ its b settling c. counted_same (settled_takes clients p.facts b session settling) c;
+        settles = λ its b settling c.
+            counted_as (settled_takes clients p.facts b session settling) refl refl (λ k. k) c;
         takes = λ place r its allowed c.
             counted_taken p.facts (after_all p.facts (next_take p.facts session r)) session place r its
             p.link (takes_here clients p.facts session r allowed) c;
         skips = λ place type_byte len its c.
-            counted_skipped p.facts session place type_byte len its p.link c;
+            counted_as refl refl (skipped_gives_none place type_byte len its) (λ k. k) c;
         all_taken = λ settled c.
-            counted_ends refl (behind_keeps p.link.stands (ending 0 p.link.heard)) c;
+            counted_as refl refl refl (behind_keeps p.link.stands (ending 0 p.link.heard)) c;
         reads = λ now is_open c. c;
         closed = λ is c. c;
-        puts = λ now room what is_due allowed c. counted_same refl c;
+        puts = λ now room what is_due allowed c. counted_as refl refl refl (λ k. k) c;
         enough = λ now room is c. c;
         put = λ now room c. c;
-        breaks = λ now room c. counted_ends refl (λ k. cc) c;
+        breaks = λ now room c. counted_as refl refl refl (λ k. cc) c;
       }) q e s
 
 pub new_counted : (f : Facts) (session : ℕ) (x : Session) (stands : LinkEnd) → takes_of f.takes session ≡ 0 → IsCounted f session [] (link_of x stands)
@@ -318,17 +303,16 @@ module _ (go_on : StreamsGoOn) (join : RecordsJoin) (clients : Meaning) (first :
       → slice_get q.links i ≡ Some link
       → LinkGoes clients first e p q i → IsCounted q.facts (first + i) (pending_in q.hold i) link
   link_counted e p q i link s at (Kept k) =
-      subst (λ its. IsCounted q.facts (first + i) its link) (sym k.pends)
-      (counted_same k.takes (s.counted i link (sym k.same ∙ at)))
+      counted_as k.takes refl (ap records_of k.pends) (λ keeps. keeps)
+      (s.counted i link (sym k.same ∙ at))
   link_counted e p q i link s at (Closed c) =
       let same : link ≡ record c.was { stands = cond c.beaten end.Redundant c.was.stands } =
       get_same at c.now in
-      subst₂ (λ its f. IsCounted f (first + i) its link) (sym c.pends) (sym c.facts)
-      (counted_ends (ap (λ (l : Link). l.heard) same)
+      counted_as (ap (λ (f : Facts). takes_of f.takes (first + i)) c.facts)
+      (ap (λ (l : Link). records l.heard) same) (ap records_of c.pends)
       (λ keeps.
       ended_keeps c.beaten c.was.stands c.going
-      (sym (ap (λ (l : Link). keeps_all l.stands) same) ∙ keeps))
-      (s.counted i c.was c.at))
+      (sym (ap (λ (l : Link). keeps_all l.stands) same) ∙ keeps)) (s.counted i c.was c.at)
   link_counted e p q i link s at (Joined j) =
       let begun : IsBegunAt first (Begins j.session) (length p.links) p.facts =
       subst (λ h. IsBegunAt first h (length p.links) p.facts) j.begins s.begun in

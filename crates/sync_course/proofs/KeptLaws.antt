@@ -140,40 +140,42 @@ module _ {A : Type 0} (over : A → A → Bool) where
 
   module _ (itself : (a : A) → over a a ≡ true → ⊥)
       (then : (a b c : A) → over a b ≡ true → over b c ≡ true → over a c ≡ true) where
-    best_with : (c : A) (xs : List A) (b : A) (t : Bool) → over c b ≡ t → Best xs c → Best xs b
-        → Best (c ∷ xs) b
-    best_with c xs b true t r other = record {
-      best = r.best;
-      is =
-          inr (elim r.is [
-            | inl same ↦ (inl same, subst (λ x. over x b ≡ true) (sym same) t)
-            | inr there ↦ (inr there.0, then r.best c b there.1 t)
-          ]);
-      free =
-          or_false (over c r.best) (is_under xs r.best)
-          (never (over c r.best)
-          (λ x. elim r.is [
-            | inl same ↦ itself c (subst (λ y. over c y ≡ true) same x)
-            | inr there ↦ itself c (then c r.best c x there.1)
-          ]))
-          r.free;
-    }
-    best_with c xs b false t other r = record {
-      best = r.best;
-      is = elim r.is [ inl same ↦ inl same | inr there ↦ inr (inr there.0, there.1) ];
-      free =
-          or_false (over c r.best) (is_under xs r.best)
-          (never (over c r.best)
-          (λ x. false≢true (sym t ∙ elim r.is [
-            | inl same ↦ subst (λ y. over c y ≡ true) same x
-            | inr there ↦ then c r.best b x there.1
-          ])))
-          r.free;
-    }
-
     best_of : (xs : List A) (b : A) → Best xs b
     best_of [] b = record { best = b; is = inl refl; free = refl }
-    best_of (c ∷ xs) b = best_with c xs b (over c b) refl (best_of xs c) (best_of xs b)
+    best_of (c ∷ xs) b = with_one (best_of xs b) (best_of xs c)
+      where
+        under : (r : Best xs b) → over c r.best ≡ true → over c b ≡ true
+        under r t =
+            elim r.is [
+              | inl same ↦ subst (λ x. over c x ≡ true) same t
+              | inr there ↦ then c r.best b t there.1
+            ]
+
+        not_over : (s : Best xs c) → over c s.best ≡ true → ⊥
+        not_over s t =
+            elim s.is [
+              | inl same ↦ itself c (subst (λ x. over c x ≡ true) same t)
+              | inr there ↦ itself c (then c s.best c t there.1)
+            ]
+
+        with_one : Best xs b → Best xs c → Best (c ∷ xs) b
+        with_one r s =
+            elim (over c r.best) as (λ t. over c r.best ≡ t → Best (c ∷ xs) b) [
+              | true ↦ λ t. record {
+                best = s.best;
+                is =
+                    inr (elim s.is [
+                      | inl same ↦ (inl same, subst (λ x. over x b ≡ true) (sym same) (under r t))
+                      | inr there ↦ (inr there.0, then s.best c b there.1 (under r t))
+                    ]);
+                free = or_false (over c s.best) _ (never (over c s.best) (not_over s)) s.free;
+              }
+              | false ↦ λ t. record {
+                best = r.best;
+                is = elim r.is [ inl same ↦ inl same | inr there ↦ inr (inr there.0, there.1) ];
+                free = or_false (over c r.best) _ t r.free;
+              }
+            ] refl
 
 -- the links of a list with their numbers, whose first has the number j
 abbrev pub numbered : ℕ → List Link → List (ℕ × Link)

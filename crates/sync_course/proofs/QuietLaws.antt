@@ -399,7 +399,6 @@ in_hand clients readings (Works m does) f n doing is k =
     let same : does ≡ doing = cc in
     subst (λ i. IsRead (readings i) doing) number
     (subst (λ d. IsRead (readings m) d) same k.1)
-in_hand clients readings (Greets x left) f n doing is k = cc
 in_hand clients readings _ f n doing is k = cc
 
 -- the output that an event commits, if it commits one, is due
