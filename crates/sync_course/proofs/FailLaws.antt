@@ -104,7 +104,7 @@ link_step_fails clients n session p q e s =
     let old : LinkEnd = p.link.stands in
     let end_of : Ending = ending 0 p.link.heard in
     link_by_cases clients n session p
-    (λ (doing : Doing) (x : Event) (r : Spot). DoesOpen doing old
+    (λ doing x r. DoesOpen doing old
     → StepFails n x old r.link.stands r.doing) (record {
       hears = λ bytes going o. well refl refl (going_opens (new_items p.link.heard bytes) old going);
       idles = λ going o. well refl refl tt;
@@ -220,11 +220,11 @@ module _ (clients : Meaning) (first : ℕ) where
   -- the link that is in hand is open behind a step
   stays_open : (p q : Free) (e : Event) → FreeStep clients first p e q → Opens p → Opens q
   stays_open p q e t o =
-      free_by_cases clients first p (λ (x : Event) (r : Free). Opens r) (record {
+      free_by_cases clients first p (λ x r. Opens r) (record {
         stays = o;
         turns = λ hold calm then. idle_opens hold p.links then;
         sends = λ n now link calm there is_open other at.
-            subst (λ (l : Link). is_sent_to l.stands ≡ true) (get_same there at) is_open;
+            subst (λ l. is_sent_to l.stands ≡ true) (get_same there at) is_open;
         closes = λ calm. tt;
         adds = λ b rests adds. subst (λ h. HoldsOpen h p.links) (sym rests) tt;
         begins = λ x rests allowed. tt;
@@ -233,7 +233,7 @@ module _ (clients : Meaning) (first : ℕ) where
         works = λ n doing link moved x spot holds there steps other at.
             let opens : DoesOpen doing link.stands =
             subst (λ h. HoldsOpen h p.links) holds o link there in
-            subst (λ (l : Link). DoesOpen spot.doing l.stands)
+            subst (λ l. DoesOpen spot.doing l.stands)
             (get_same (get_set p.links n spot.link (get_within p.links n link there)) at)
             (link_step_fails clients n (first + n) (spot_in doing link moved p) spot x steps
             opens).opens;

@@ -124,7 +124,7 @@ module _ (clients : Meaning) (terms : Terms) where
       → FreeStep clients terms.first (forget p) e (forget q)
   step_is_free p q e t =
       run_by_cases clients terms p
-      (λ (stage : Stage) (x : Event) (r : Place).
+      (λ stage x r.
       FreeFrom clients terms.first (hold_at stage) x (record (forget p) { hold = hold_at stage })
       (forget r)) (record {
         settles = λ left b settling. inl (inl settling, refl);
@@ -157,10 +157,10 @@ module _ (clients : Meaning) (terms : Terms) where
       path
 
   pub run_acts_are_free : (p q : Owing Place) (acts : List Act)
-      → Path (ActStep (λ (x : Place). x.facts) terms.first (RunStep clients terms)) p acts q
-      → Path (ActStep (λ (x : Free). x.facts) terms.first (FreeStep clients terms.first))
+      → Path (ActStep (λ x. x.facts) terms.first (RunStep clients terms)) p acts q
+      → Path (ActStep (λ x. x.facts) terms.first (FreeStep clients terms.first))
       (owing_free p) acts (owing_free q)
   run_acts_are_free p q acts path =
-      acts_map (λ (x : Place). x.facts) (λ (x : Free). x.facts) terms.first (RunStep clients terms)
+      acts_map (λ x. x.facts) (λ x. x.facts) terms.first (RunStep clients terms)
       (FreeStep clients terms.first) forget
       (λ x. refl) step_is_free p q acts path

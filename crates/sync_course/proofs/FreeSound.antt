@@ -46,7 +46,7 @@ module _ (clients : Meaning) (first : ℕ) where
   -- the batches of a path may follow one behind the other
   pub free_path_moves : (p q : Free) (es : List Event) → Path (FreeStep clients first) p es q
       → Moves clients (batches_of es) p.facts q.facts
-  free_path_moves p q [] path = moves_none (ap (λ (x : Free). x.facts) path)
+  free_path_moves p q [] path = moves_none (ap (λ x. x.facts) path)
   free_path_moves p q (e ∷ es) path =
       subst (λ bs. Moves clients bs p.facts q.facts) (sym (batches_of-append (e ∷ []) es))
       (moves_then (step_adds clients first p path.0 e path.1).moves
@@ -162,7 +162,7 @@ module _ (go_on : StreamsGoOn) (join : RecordsJoin) where
       → IsCounted q.facts session (pending q.doing) q.link
   link_step_counted clients n session p q e s =
       link_by_cases clients n session p
-      (λ (doing : Doing) (x : Event) (r : Spot). IsCounted p.facts session (pending doing) p.link
+      (λ doing x r. IsCounted p.facts session (pending doing) p.link
       → IsCounted r.facts session (pending r.doing) r.link) (record {
         hears = λ bytes going c.
             counted_got p.facts session p.link bytes (going_keeps p.link.stands going) c;
@@ -268,7 +268,7 @@ module _ (clients : Meaning) (first : ℕ) where
       let held : (hold : Hold) → p.hold ≡ hold → IsBegunAt first hold links p.facts =
       λ hold is. subst (λ h. IsBegunAt first h links p.facts) is s in
       free_by_cases clients first p
-      (λ (x : Event) (r : Free). ((p.hold ≡ Rests → ⊥) → r.facts.begun ≡ p.facts.begun)
+      (λ x r. ((p.hold ≡ Rests → ⊥) → r.facts.begun ≡ p.facts.begun)
       → Begun r) (record {
         stays = λ same. s;
         turns = λ hold calm then same. begun_idle first links p.facts hold then (calmly calm);
@@ -308,16 +308,16 @@ module _ (go_on : StreamsGoOn) (join : RecordsJoin) (clients : Meaning) (first :
   link_counted e p q i link s at (Closed c) =
       let same : link ≡ record c.was { stands = cond c.beaten end.Redundant c.was.stands } =
       get_same at c.now in
-      counted_as (ap (λ (f : Facts). takes_of f.takes (first + i)) c.facts)
-      (ap (λ (l : Link). records l.heard) same) (ap records_of c.pends)
+      counted_as (ap (λ f. takes_of f.takes (first + i)) c.facts)
+      (ap (λ l. records l.heard) same) (ap records_of c.pends)
       (λ keeps.
       ended_keeps c.beaten c.was.stands c.going
-      (sym (ap (λ (l : Link). keeps_all l.stands) same) ∙ keeps)) (s.counted i c.was c.at)
+      (sym (ap (λ l. keeps_all l.stands) same) ∙ keeps)) (s.counted i c.was c.at)
   link_counted e p q i link s at (Joined j) =
       let begun : IsBegunAt first (Begins j.session) (length p.links) p.facts =
       subst (λ h. IsBegunAt first h (length p.links) p.facts) j.begins s.begun in
       let none : takes_of q.facts.takes (first + i) ≡ 0 =
-      ap (λ (f : Facts). takes_of f.takes (first + i)) j.facts
+      ap (λ f. takes_of f.takes (first + i)) j.facts
       ∙ ap (λ k. takes_of p.facts.takes (first + k)) j.is_next
       ∙ begun.1 in
       subst₂ (IsCounted q.facts (first + i)) (sym j.pends) (sym (get_same at j.now))

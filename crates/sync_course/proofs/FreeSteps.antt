@@ -144,7 +144,7 @@ module _ (clients : Meaning) (first : ℕ) (p : Free) (T : Event → Facts → T
         → LinkStep clients n (first + n) (spot_in doing link moved p) e spot → T e spot.facts
     by_link n doing link moved e spot holds there steps =
         link_by_cases clients n (first + n) (spot_in doing link moved p)
-        (λ (d : Doing) (x : Event) (r : Spot). p.hold ≡ Holds n d → T x r.facts) (record {
+        (λ d x r. p.hold ≡ Holds n d → T x r.facts) (record {
           hears = λ bytes going holds. cases.none _ refl;
           idles = λ going holds. cases.none _ refl;
           ends = λ going holds. cases.none _ refl;
@@ -165,7 +165,7 @@ module _ (clients : Meaning) (first : ℕ) (p : Free) (T : Event → Facts → T
 
     pub free_batches : (q : Free) (e : Event) → FreeStep clients first p e q → T e q.facts
     free_batches q e t =
-        free_by_cases clients first p (λ (x : Event) (r : Free). T x r.facts) (record {
+        free_by_cases clients first p (λ x r. T x r.facts) (record {
           stays = cases.none Pass refl;
           turns = λ hold calm then. cases.none Pass refl;
           sends = λ n now link calm there is_open. cases.none Pass refl;
@@ -277,7 +277,7 @@ module _ (clients : Meaning) (first : ℕ) (p : Free) where
   pub step_adds : (q : Free) (e : Event) → FreeStep clients first p e q
       → StepAdds clients first p e q.facts
   step_adds q e t =
-      free_batches clients first p (λ (x : Event) (g : Facts). StepAdds clients first p x g)
+      free_batches clients first p (λ x g. StepAdds clients first p x g)
       (record {
         none = adds_nothing;
         settles = λ b settling.
@@ -490,7 +490,7 @@ module _ (clients : Meaning) (first : ℕ) where
   pub free_link : (p q : Free) (e : Event) (i : ℕ) → FreeStep clients first p e q → Goes e p q i
   free_link p q e i t =
       free_by_cases clients first p
-      (λ (x : Event) (r : Free). (((its : List Item) → p.hold ≡ Holds i (Takes its) → ⊥)
+      (λ x r. (((its : List Item) → p.hold ≡ Holds i (Takes its) → ⊥)
       → takes_of r.facts.takes (first + i) ≡ takes_of p.facts.takes (first + i))
       → Goes x p r i) (record {
         stays = λ takes. links_stay refl tt refl refl;

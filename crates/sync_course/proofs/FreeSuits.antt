@@ -94,7 +94,7 @@ module _ (fronts : FrontsHaveFronts) (clients : Meaning) (first : ℕ) (plans : 
       → AllSuitNode clients first plans heard p.facts (batches_of (e ∷ []))
   free_suits e p q t grows s =
       free_batches clients first p
-      (λ (x : Event) (g : Facts). ((s : Session) → x ≡ Commit (entry.Session s ∷ [])
+      (λ x g. ((s : Session) → x ≡ Commit (entry.Session s ∷ [])
       → p.facts.begun ≡ first + length p.links → slice_get plans (length p.links) ≡ Some s)
       → AllSuitNode clients first plans heard p.facts (batches_of (x ∷ []))) (record {
         none =
@@ -264,7 +264,7 @@ module _ (clients : Meaning) (terms : Terms) where
       → StepPlans e p.stage q.stage
   step_plans p q e t =
       run_by_cases clients terms p
-      (λ (stage : Stage) (x : Event) (r : Place). ((hold_at stage ≡ Rests → ⊥)
+      (λ stage x r. ((hold_at stage ≡ Rests → ⊥)
       → NotPlain x × (begun_by (batches_of (x ∷ [])) ≡ [])) → StepPlans x stage r.stage) (record {
         settles = λ left b settling link.
             let only = settling_adds clients p.facts b settling in

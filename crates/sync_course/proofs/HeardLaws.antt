@@ -52,7 +52,7 @@ link_adds clients n session p q e s =
     ≡ p.link.heard ++ bytes_by n (Hear n reply) =
     λ reply. ap (λ l. p.link.heard ++ l) (sym (here n (reply_bytes reply))) in
     link_by_cases clients n session p
-    (λ (doing : Doing) (x : Event) (r : Spot). r.link.heard ≡ p.link.heard ++ bytes_by n x)
+    (λ doing x r. r.link.heard ≡ p.link.heard ++ bytes_by n x)
     (record {
       hears = λ bytes going. replied (got bytes);
       idles = λ going. none ∙ replied idle;
@@ -113,7 +113,7 @@ module _ (clients : Meaning) (first : ℕ) where
 -- what one answer adds to the bytes of a link's answers
 replied : (h : HeardOn) (room : ℕ) (reply : Reply) → heard_bytes (hear_reply room reply h).answers ≡ heard_bytes h.answers ++ reply_bytes reply
 replied h room reply =
-    flat_map-append (λ (a : Answered). reply_bytes a.reply) h.answers (record { failures = h.failures; room = room; reply = reply } ∷ [])
+    flat_map-append (λ a. reply_bytes a.reply) h.answers (record { failures = h.failures; room = room; reply = reply } ∷ [])
     ∙ ap (λ l. heard_bytes h.answers ++ l) (append-nil (reply_bytes reply))
 
 -- the bytes that are told to be heard on a link
@@ -171,5 +171,5 @@ length_after (e ∷ es) h = length_after es (heard_by e h) ∙ length_heard e h
 -- of a link that is not told of nothing is heard
 pub none_tell : (es : List Event) (h : List HeardOn) (i : ℕ) → length h ≤ i → at_of (heard_after es h) i ≡ []
 none_tell es h i past =
-    ap (λ (x : HeardOn). heard_bytes x.answers)
+    ap (λ x. heard_bytes x.answers)
     (get_or_past (heard_after es h) i nothing_heard (omega (arith, past, length_after es h)))

@@ -195,8 +195,8 @@ at_number : (j : ℕ) (links : List Link) (n : ℕ) (a : Link) → In (n, a) (nu
     → (m : ℕ) × (n ≡ j + m) × (slice_get links m ≡ Some a)
 at_number j [] n a there = absurd there
 at_number j (x ∷ links) n a (inl same) =
-    let here : n ≡ j = ap (λ (y : ℕ × Link). y.0) same in
-    (0, omega (arith, here), ap (λ (y : ℕ × Link). Some y.1) (sym same))
+    let here : n ≡ j = ap (λ y. y.0) same in
+    (0, omega (arith, here), ap (λ y. Some y.1) (sym same))
 at_number j (x ∷ links) n a (inr later) =
     let r = at_number (suc j) links n a later in
     let number : n ≡ suc j + r.0 = r.1 in
@@ -216,7 +216,7 @@ kept_in links k b beaten =
     elim r.is [
       | inl same ↦
           absurd (false≢true (sym free
-          ∙ ap (λ (y : ℕ × Link). is_beaten 0 links y.0 y.1) same
+          ∙ ap (λ y. is_beaten 0 links y.0 y.1) same
           ∙ beaten))
       | inr there ↦ (r.best, there.0, there.1, free)
     ]
@@ -259,8 +259,8 @@ was_in : (all : List Link) (j m : ℕ) (links : List Link) (n : ℕ) (now : Link
 was_in all j zero links n now there = (now, there, inl refl)
 was_in all j (suc m) [] n now there = absurd there
 was_in all j (suc m) (x ∷ links) n now (inl same) =
-    let number : n ≡ j = ap (λ (y : ℕ × Link). y.0) same in
-    let link : now ≡ closed_as all j x = ap (λ (y : ℕ × Link). y.1) same in (
+    let number : n ≡ j = ap (λ y. y.0) same in
+    let link : now ≡ closed_as all j x = ap (λ y. y.1) same in (
       x,
       inl (ap (λ i. (i, x)) number),
       inr (link ∙ ap (λ i. closed_as all i x) (sym number)),
@@ -276,7 +276,7 @@ stays_in all j zero links n a there free = there
 stays_in all j (suc m) [] n a there free = absurd there
 stays_in all j (suc m) (x ∷ links) n a (inl same) free =
     let free_here : is_beaten 0 all j x ≡ false =
-    ap (λ (y : ℕ × Link). is_beaten 0 all y.0 y.1) (sym same) ∙ free in
+    ap (λ y. is_beaten 0 all y.0 y.1) (sym same) ∙ free in
     inl (same
     ∙ ap (λ t. (j, record x { stands = cond t end.Redundant x.stands })) (sym free_here))
 stays_in all j (suc m) (x ∷ links) n a (inr later) free =

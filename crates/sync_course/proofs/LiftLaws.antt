@@ -61,7 +61,7 @@ module _ (clients : Meaning) (terms : Terms) (n : ℕ) (place : Place) (within :
   pub link_lifts : (p q : Spot) (es : List Event) → Path (LinkStep clients n (terms.first + n)) p es q
       → Path (RunStep clients terms) (with_spot n p place) es (with_spot n q place)
   link_lifts p q es path =
-      path_maps (LinkStep clients n (terms.first + n)) (RunStep clients terms) (λ (s : Spot). with_spot n s place) lifted_step p q es path
+      path_maps (LinkStep clients n (terms.first + n)) (RunStep clients terms) (λ s. with_spot n s place) lifted_step p q es path
 
 -- a link's turn leaves the other links
 pub others_keep : (n i : ℕ) (spot : Spot) (place : Place) → (i ≡ n → ⊥)

@@ -70,7 +70,7 @@ link_keeps : (clients : Meaning) (n session : ℕ) (reading : Option ℕ) (p q :
     → SpotKeeps clients (reading_by n reading e) q.doing q.facts
 link_keeps clients n session reading p q e s =
     link_by_cases clients n session p
-    (λ (doing : Doing) (x : Event) (r : Spot). SpotKeeps clients reading doing p.facts
+    (λ doing x r. SpotKeeps clients reading doing p.facts
     → SpotKeeps clients (reading_by n reading x) r.doing r.facts) (record {
       hears = λ bytes going k. (tt, tt);
       idles = λ going k. (k.0, tt);
@@ -130,7 +130,7 @@ still_step : (clients : Meaning) (n session still idles : ℕ)
 still_step clients n session still idles reading p q e s =
     let itself : nat_eq n n ≡ true = eq-eqb n n refl in
     link_by_cases clients n session p
-    (λ (doing : Doing) (x : Event) (r : Spot). r.moved ≡ false
+    (λ doing x r. r.moved ≡ false
     → (p.moved ≡ false → IsStill clients p.facts session still idles reading doing p.link)
     → StillStep clients session still (idles_by n idles x) (reading_by n reading x) p r) (record {
       hears = λ bytes going unmoved claim. moved unmoved;
@@ -294,12 +294,12 @@ module _ (clients : Meaning) (terms : Terms) where
             let c = redundant_get p.links i link at in
             (had i link c).idle
             (closed_so is_going refl c.beaten c.was.stands
-            (sym (ap (λ (l : Link). is_going l.stands) c.is) ∙ going));
+            (sym (ap (λ l. is_going l.stands) c.is) ∙ going));
         quiet = λ some i link at sent.
             let c = redundant_get p.links i link at in
             (had i link c).quiet
             (closed_so is_sent_to refl c.beaten c.was.stands
-            (sym (ap (λ (l : Link). is_sent_to l.stands) c.is) ∙ sent));
+            (sym (ap (λ l. is_sent_to l.stands) c.is) ∙ sent));
       }
 
   still_works : (idles : ℕ → ℕ) (readings : ℕ → Option ℕ) (n : ℕ) (doing : Doing) (link : Link) (e : Event) (spot : Spot) (p : Place)
@@ -343,7 +343,7 @@ module _ (clients : Meaning) (terms : Terms) where
       → KeepsAt (λ i. idles_by i (idles i) e) (λ i. reading_by i (readings i) e) q.stage q
   step_keeps idles readings p q e t =
       run_by_cases clients terms p
-      (λ (stage : Stage) (x : Event) (r : Place). KeepsAt idles readings stage p
+      (λ stage x r. KeepsAt idles readings stage p
       → KeepsAt (λ i. idles_by i (idles i) x) (λ i. reading_by i (readings i) x) r.stage r) (record {
         settles = λ left b settling k. (tt, k.1);
         settled = λ left settled k. (settled, k.1);
@@ -376,7 +376,7 @@ module _ (clients : Meaning) (terms : Terms) where
       → Path (RunStep clients terms) p es q → KeepsAt idles readings p.stage p
       → KeepsAt (λ i. idles_after i (idles i) es) (λ i. reading_after i (readings i) es) q.stage q
   path_keeps_still idles readings p q [] path k =
-      subst (λ (x : Place). KeepsAt idles readings x.stage x) (sym path) k
+      subst (λ x. KeepsAt idles readings x.stage x) (sym path) k
   path_keeps_still idles readings p q (e ∷ es) path k =
       path_keeps_still (λ i. idles_by i (idles i) e) (λ i. reading_by i (readings i) e) path.0 q es
       path.2 (step_keeps idles readings p path.0 e path.1 k)
@@ -427,7 +427,7 @@ step_out : (clients : Meaning) (terms : Terms) (readings : ℕ → Option ℕ) (
     → OutDue clients terms.first readings p.facts e
 step_out clients terms readings p q e t k =
     free_batches clients terms.first (forget p)
-    (λ (x : Event) (g : Facts). OutDue clients terms.first readings p.facts x) (record {
+    (λ x g. OutDue clients terms.first readings p.facts x) (record {
       none = λ x none. none_due clients terms.first readings p.facts x none;
       settles = λ b settling. settling_due clients terms.first readings p.facts b settling;
       adds = λ b rests plain allowed. plain_due clients terms.first readings p.facts b plain;
@@ -465,7 +465,7 @@ going_there : (links : List Link) (i : ℕ) (link : Link) → slice_get links i 
 going_there [] i link at going = cc
 going_there (x ∷ links) zero link at going =
     let same : x ≡ link = cc in
-    or_left (is_going x.stands) (some_going links) (ap (λ (l : Link). is_going l.stands) same ∙ going)
+    or_left (is_going x.stands) (some_going links) (ap (λ l. is_going l.stands) same ∙ going)
 going_there (x ∷ links) (suc i) link at going = or_right (is_going x.stands) (some_going links) (going_there links i link at going)
 
 -- where a link is asked yet, a run that is over had its quiet turns

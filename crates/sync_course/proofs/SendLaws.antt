@@ -144,7 +144,7 @@ event_spares : (clients : Meaning) (first : ℕ) (e : Event) (p q : Free) (i : �
     → LinkFailed p.links i → records_by p.facts (first + i) e ≡ []
 event_spares clients first e p q i t s o f =
     free_batches clients first p
-    (λ (x : Event) (g : Facts). records_by p.facts (first + i) x ≡ []) (record {
+    (λ x g. records_by p.facts (first + i) x ≡ []) (record {
       none = λ x none. none_by p.facts (first + i) x none;
       settles = λ b settling. settling_puts clients p.facts b (first + i) settling;
       adds = λ b rests plain allowed. (plain_adds p.facts b plain).puts (first + i);
@@ -169,7 +169,7 @@ event_spares clients first e p q i t s o f =
           let is : first + n ≡ first + i = same in
           let number : i ≡ n = omega (arith, is) in
           let there : link ≡ f.link = get_same at (ap (slice_get p.links) (sym number) ∙ f.there) in
-          let failed : link.stands ≡ end.Failed = ap (λ (l : Link). l.stands) there ∙ f.failed in
+          let failed : link.stands ≡ end.Failed = ap (λ l. l.stands) there ∙ f.failed in
           absurd (false≢true (ap is_sent_to (sym failed) ∙ is_open)));
     }) q e t
 
@@ -182,18 +182,18 @@ none_owed f first i _ none = refl
 
 -- an act is an event
 pub under : (clients : Meaning) (first : ℕ) (a : Act) (p q : Owing Free)
-    → ActStep (λ (x : Free). x.facts) first (FreeStep clients first) p a q → FreeStep clients first p.at (event_of a) q.at
+    → ActStep (λ x. x.facts) first (FreeStep clients first) p a q → FreeStep clients first p.at (event_of a) q.at
 under clients first (Does e) p q s = s.1
 under clients first (Send n bytes) p q s = elim s [ inl all ↦ all.1 | inr some ↦ inl some.stays ]
 under clients first (Fail n bytes count) p q s = s.1
 
 module _ (clients : Meaning) (first : ℕ) where
   abbrev pub ActsOn : Owing Free → Act → Owing Free → Type 0
-  ActsOn p a q = ActStep (λ (x : Free). x.facts) first (FreeStep clients first) p a q
+  ActsOn p a q = ActStep (λ x. x.facts) first (FreeStep clients first) p a q
 
   -- the path of the events
   pub events_path : (p q : Owing Free) (acts : List Act) → Path ActsOn p acts q → Path (FreeStep clients first) p.at (events_of acts) q.at
-  events_path p q [] path = ap (λ (x : Owing Free). x.at) path
+  events_path p q [] path = ap (λ x. x.at) path
   events_path p q (a ∷ acts) path = (path.0.at, under clients first a p path.0 path.1, events_path path.0 q acts path.2)
 
   -- what an act sends and leaves owed is what was owed and what it adds, or a front of that where it fails

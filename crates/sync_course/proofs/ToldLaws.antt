@@ -86,16 +86,16 @@ told_as R a b stays same = subst (RelatesTold R a) (sym same) (becomes_none R a 
 told_stays : (o o' : Outside) → o'.links ≡ o.links → TellsEvents [] o o'
 told_stays o o' same = record {
   heard =
-      ap (λ (l : Links). l.heard) same
+      ap (λ l. l.heard) same
       ∙ option_map_same (heard_after []) (λ heard. refl) o.links.heard;
   readings =
-      subst (λ (l : Links). GrowsBy [] o.links.readings l.readings) (sym same)
+      subst (λ l. GrowsBy [] o.links.readings l.readings) (sym same)
       (grows_none o.links.readings);
-  faults = λ link. le_of_eq (ap (λ (l : Links). l.faults link) (sym same));
+  faults = λ link. le_of_eq (ap (λ l. l.faults link) (sym same));
   planned =
-      told_as (ChangesThrough PlansAfter []) _ _ (λ x. refl) (ap (λ (l : Links). l.planned) same);
+      told_as (ChangesThrough PlansAfter []) _ _ (λ x. refl) (ap (λ l. l.planned) same);
   upcoming =
-      told_as (ChangesThrough UpcomingAfter []) _ _ (λ x. refl) (ap (λ (l : Links). l.upcoming) same);
+      told_as (ChangesThrough UpcomingAfter []) _ _ (λ x. refl) (ap (λ l. l.upcoming) same);
 }
 
 pub told_none : (o : Outside) → TellsEvents [] o o
