@@ -93,54 +93,68 @@ link_keeps clients n session reading p q e s =
 
 -- ---- a link in a turn that did not move
 
+-- what events say of a link: how many of its last answers were all Idle, and the last reading made for it
+pub record LinkTold : Type 0 where
+  pub idles : ℕ
+  pub reading : Option ℕ
+
+abbrev pub nothing_told : LinkTold
+nothing_told = record { idles = 0; reading = None }
+
+abbrev pub told_by : ℕ → LinkTold → Event → LinkTold
+told_by i told e = record { idles = idles_by i told.idles e; reading = reading_by i told.reading e }
+
+abbrev pub told_after : ℕ → LinkTold → List Event → LinkTold
+told_after i told es =
+    record { idles = idles_after i told.idles es; reading = reading_after i told.reading es }
+
 -- a link that is asked answered Idle so often
 abbrev pub IsIdle : ℕ → ℕ → Link → Type 0
 IsIdle turns idles link = is_going link.stands ≡ true → turns ≤ idles
 
 -- a link behind its turn
-pub record HadTurn (clients : Meaning) (f : Facts) (session still idles : ℕ) (reading : Option ℕ) (link : Link) : Type 0 where
-  pub idle : IsIdle (suc still) idles link
-  pub quiet : is_sent_to link.stands ≡ true → IsQuietAt clients f session reading
+pub record HadTurn (clients : Meaning) (f : Facts) (session still : ℕ) (told : LinkTold) (link : Link) : Type 0 where
+  pub idle : IsIdle (suc still) told.idles link
+  pub quiet : is_sent_to link.stands ≡ true → IsQuietAt clients f session told.reading
 
 -- a link in its turn, by what it does
-abbrev pub IsStill : Meaning → Facts → ℕ → ℕ → ℕ → Option ℕ → Doing → Link → Type 0
-IsStill clients f session still idles reading Asks link = IsIdle still idles link
-IsStill clients f session still idles reading (Takes its) link = ⊥
-IsStill clients f session still idles reading Waits link = IsIdle (suc still) idles link
-IsStill clients f session still idles reading (Sends now room) link =
-    (room ≡ MAX_OUTPUTS) × (reading ≡ Some now) × IsIdle (suc still) idles link
-IsStill clients f session still idles reading (Puts now room) link = ⊥
-IsStill clients f session still idles reading Done link = HadTurn clients f session still idles reading link
+abbrev pub IsStill : Meaning → Facts → ℕ → ℕ → LinkTold → Doing → Link → Type 0
+IsStill clients f session still told Asks link = IsIdle still told.idles link
+IsStill clients f session still told (Takes its) link = ⊥
+IsStill clients f session still told Waits link = IsIdle (suc still) told.idles link
+IsStill clients f session still told (Sends now room) link =
+    (room ≡ MAX_OUTPUTS) × (told.reading ≡ Some now) × IsIdle (suc still) told.idles link
+IsStill clients f session still told (Puts now room) link = ⊥
+IsStill clients f session still told Done link = HadTurn clients f session still told link
 
 -- a step behind which the turn has not moved: it had not moved before, and the facts are the same
-pub record StillStep (clients : Meaning) (session still idles : ℕ) (reading : Option ℕ) (p q : Spot) : Type 0 where
+pub record StillStep (clients : Meaning) (session still : ℕ) (told : LinkTold) (p q : Spot) : Type 0 where
   pub unmoved : p.moved ≡ false
   pub facts : q.facts ≡ p.facts
-  pub so : IsStill clients q.facts session still idles reading q.doing q.link
+  pub so : IsStill clients q.facts session still told q.doing q.link
 
 -- an event behind which a spot has moved is no step of a still turn
 moved : {A : Type 0} → true ≡ false → A
 moved is = absurd (false≢true (sym is))
 
-still_step : (clients : Meaning) (n session still idles : ℕ)
-    (reading : Option ℕ) (p q : Spot) (e : Event)
+still_step : (clients : Meaning) (n session still : ℕ) (told : LinkTold) (p q : Spot) (e : Event)
     → LinkStep clients n session p e q → q.moved ≡ false
-    → (p.moved ≡ false → IsStill clients p.facts session still idles reading p.doing p.link)
-    → StillStep clients session still (idles_by n idles e) (reading_by n reading e) p q
-still_step clients n session still idles reading p q e s =
+    → (p.moved ≡ false → IsStill clients p.facts session still told p.doing p.link)
+    → StillStep clients session still (told_by n told e) p q
+still_step clients n session still told p q e s =
     let itself : nat_eq n n ≡ true = eq-eqb n n refl in
     link_by_cases clients n session p
     (λ doing x r. r.moved ≡ false
-    → (p.moved ≡ false → IsStill clients p.facts session still idles reading doing p.link)
-    → StillStep clients session still (idles_by n idles x) (reading_by n reading x) p r) (record {
+    → (p.moved ≡ false → IsStill clients p.facts session still told doing p.link)
+    → StillStep clients session still (told_by n told x) p r) (record {
       hears = λ bytes going unmoved claim. moved unmoved;
       idles = λ going unmoved claim. record {
         unmoved = unmoved;
         facts = refl;
         so = λ asked.
-            let before : still ≤ idles = claim unmoved asked in
-            let more : idles_by n idles (Hear n idle) ≡ suc idles =
-            ap (λ b. cond b (suc idles) idles) itself in
+            let before : still ≤ told.idles = claim unmoved asked in
+            let more : idles_by n told.idles (Hear n idle) ≡ suc told.idles =
+            ap (λ b. cond b (suc told.idles) told.idles) itself in
             subst (λ k. suc still ≤ k) (sym more) (omega (arith, before));
       };
       ends = λ going unmoved claim. moved unmoved;
@@ -157,7 +171,7 @@ still_step clients n session still idles reading p q e s =
       reads = λ now is_open unmoved claim. record {
         unmoved = unmoved;
         facts = refl;
-        so = (refl, ap (λ b. cond b (Some now) reading) itself, claim unmoved);
+        so = (refl, ap (λ b. cond b (Some now) told.reading) itself, claim unmoved);
       };
       closed = λ is unmoved claim. record {
         unmoved = unmoved;
@@ -166,7 +180,7 @@ still_step clients n session still idles reading p q e s =
       };
       puts = λ now room what is_due allowed unmoved claim. moved unmoved;
       enough = λ now room enough unmoved claim.
-          let so : (room ≡ MAX_OUTPUTS) × (reading ≡ Some now) × IsIdle (suc still) idles p.link =
+          let so : (room ≡ MAX_OUTPUTS) × (told.reading ≡ Some now) × IsIdle (suc still) told.idles p.link =
           claim unmoved in
           record {
             unmoved = unmoved;
@@ -182,27 +196,23 @@ still_step clients n session still idles reading p q e s =
       breaks = λ now room unmoved claim. moved unmoved;
     }) q e s
 
--- what an event says of another link
-abbrev pub Leaves : ℕ → Event → Type 0
-Leaves i e = (idles : ℕ) (reading : Option ℕ)
-    → (idles_by i idles e ≡ idles) × (reading_by i reading e ≡ reading)
-
-spared_leaves : (i : ℕ) (e : Event) → Spares i e → Leaves i e
-spared_leaves i (Hear on reply) apart idles reading =
-    (ap (λ b. cond b (idles_with reply idles) idles) (ne_eqb on i apart), refl)
-spared_leaves i (Miss on) apart idles reading =
-    (ap (λ b. cond b 0 idles) (ne_eqb on i apart), refl)
-spared_leaves i (Read on now) apart idles reading =
-    (refl, ap (λ b. cond b (Some now) reading) (ne_eqb on i apart))
-spared_leaves i _ spares idles reading = (refl, refl)
+-- an event says nothing of another link
+spared_told : (i : ℕ) (told : LinkTold) (e : Event) → Spares i e → told_by i told e ≡ told
+spared_told i told (Hear on reply) apart =
+    ap (λ b. record told { idles = cond b (idles_with reply told.idles) told.idles }) (ne_eqb on i apart)
+spared_told i told (Miss on) apart =
+    ap (λ b. record told { idles = cond b 0 told.idles }) (ne_eqb on i apart)
+spared_told i told (Read on now) apart =
+    ap (λ b. record told { reading = cond b (Some now) told.reading }) (ne_eqb on i apart)
+spared_told i told _ spares = refl
 
 -- ---- a place of a run
 
 -- between two turns: each link that is asked answered Idle in as many turns as were still, and behind a still turn nothing is due
-pub record BetweenTurns (clients : Meaning) (terms : Terms) (idles : ℕ → ℕ) (readings : ℕ → Option ℕ) (p : Place) : Type 0 where
-  pub idle : (i : ℕ) (link : Link) → slice_get p.links i ≡ Some link → IsIdle p.still (idles i) link
+pub record BetweenTurns (clients : Meaning) (terms : Terms) (told : ℕ → LinkTold) (p : Place) : Type 0 where
+  pub idle : (i : ℕ) (link : Link) → slice_get p.links i ≡ Some link → IsIdle p.still (told i).idles link
   pub quiet : 0 < p.still → (i : ℕ) (link : Link) → slice_get p.links i ≡ Some link → is_sent_to link.stands ≡ true
-      → IsQuietAt clients p.facts (terms.first + i) (readings i)
+      → IsQuietAt clients p.facts (terms.first + i) (told i).reading
 
 -- what a link does in a turn, where the one of a number does this: those before it are done, and those behind it are yet to ask
 abbrev pub phase : ℕ → Doing → ℕ → Doing
@@ -238,22 +248,22 @@ phase_next (suc n) zero = refl
 phase_next (suc n) (suc i) = phase_next n i
 
 -- the link of a number, by what it does
-abbrev pub StillLink : Meaning → Terms → (ℕ → ℕ) → (ℕ → Option ℕ) → Place → ℕ → Link → Doing → Type 0
-StillLink clients terms idles readings p i link doing =
-    IsStill clients p.facts (terms.first + i) p.still (idles i) (readings i) doing link
+abbrev pub StillLink : Meaning → Terms → (ℕ → LinkTold) → Place → ℕ → Link → Doing → Type 0
+StillLink clients terms told p i link doing =
+    IsStill clients p.facts (terms.first + i) p.still (told i) doing link
 
 -- in a turn that did not move: each link, by its phase
-abbrev pub InTurn : Meaning → Terms → (ℕ → ℕ) → (ℕ → Option ℕ) → ℕ → Doing → Place → Type 0
-InTurn clients terms idles readings n doing p = (i : ℕ) (link : Link) → slice_get p.links i ≡ Some link
-    → StillLink clients terms idles readings p i link (phase n doing i)
+abbrev pub InTurn : Meaning → Terms → (ℕ → LinkTold) → ℕ → Doing → Place → Type 0
+InTurn clients terms told n doing p = (i : ℕ) (link : Link) → slice_get p.links i ≡ Some link
+    → StillLink clients terms told p i link (phase n doing i)
 
-abbrev pub IsStillAt : Meaning → Terms → (ℕ → ℕ) → (ℕ → Option ℕ) → Stage → Place → Type 0
-IsStillAt clients terms idles readings (Settles left) p = p.still ≡ 0
-IsStillAt clients terms idles readings (Attaches left) p = p.still ≡ 0
-IsStillAt clients terms idles readings (Greets s left) p = p.still ≡ 0
-IsStillAt clients terms idles readings Between p = BetweenTurns clients terms idles readings p
-IsStillAt clients terms idles readings (Works n doing) p = p.moved ≡ false → InTurn clients terms idles readings n doing p
-IsStillAt clients terms idles readings Ended p = BetweenTurns clients terms idles readings p
+abbrev pub IsStillAt : Meaning → Terms → (ℕ → LinkTold) → Stage → Place → Type 0
+IsStillAt clients terms told (Settles left) p = p.still ≡ 0
+IsStillAt clients terms told (Attaches left) p = p.still ≡ 0
+IsStillAt clients terms told (Greets s left) p = p.still ≡ 0
+IsStillAt clients terms told Between p = BetweenTurns clients terms told p
+IsStillAt clients terms told (Works n doing) p = p.moved ≡ false → InTurn clients terms told n doing p
+IsStillAt clients terms told Ended p = BetweenTurns clients terms told p
 
 get_none : {A : Type 0} (xs : List A) (n : ℕ) → slice_get xs n ≡ None → length xs ≤ n
 get_none [] n none = omega arith
@@ -267,27 +277,27 @@ closed_so test none true stands is = absurd (false≢true (sym none ∙ is))
 closed_so test none false stands is = is
 
 module _ (clients : Meaning) (terms : Terms) where
-  still_first : (idles : ℕ → ℕ) (readings : ℕ → Option ℕ) (p : Place) → p.still ≡ 0
-      → BetweenTurns clients terms idles readings (record p { stage = Between })
-  still_first idles readings p none = record {
+  still_first : (told : ℕ → LinkTold) (p : Place) → p.still ≡ 0
+      → BetweenTurns clients terms told (record p { stage = Between })
+  still_first told p none = record {
     idle = λ i link at going. omega (arith, none);
     quiet = λ some i link at sent. let s : 0 < p.still = some in absurd (omega (arith, none, s));
   }
 
-  still_closed : (idles : ℕ → ℕ) (readings : ℕ → Option ℕ) (n : ℕ) (doing : Doing) (p : Place) → slice_get p.links n ≡ None
-      → (b : Bool) → (b ≡ false → InTurn clients terms idles readings n doing p)
-      → BetweenTurns clients terms idles readings (record (turn_ended p) { still = cond b 0 (suc p.still) })
-  still_closed idles readings n doing p none true t = record {
+  still_closed : (told : ℕ → LinkTold) (n : ℕ) (doing : Doing) (p : Place) → slice_get p.links n ≡ None
+      → (b : Bool) → (b ≡ false → InTurn clients terms told n doing p)
+      → BetweenTurns clients terms told (record (turn_ended p) { still = cond b 0 (suc p.still) })
+  still_closed told n doing p none true t = record {
     idle = λ i link at going. omega arith;
     quiet = λ some i link at sent. absurd (omega arith);
   }
-  still_closed idles readings n doing p none false t =
+  still_closed told n doing p none false t =
       let had : (i : ℕ) (link : Link) → (c : IsClosedFrom i p.links link)
-      → StillLink clients terms idles readings p i c.was Done =
+      → StillLink clients terms told p i c.was Done =
       λ i link c.
       let within : i < length p.links = get_within p.links i c.was c.at in
       let past : length p.links ≤ n = get_none p.links n none in
-      subst (StillLink clients terms idles readings p i c.was)
+      subst (StillLink clients terms told p i c.was)
       (phase_past n i doing (omega (arith, within, past))) (t refl i c.was c.at) in
       record {
         idle = λ i link at going.
@@ -302,91 +312,88 @@ module _ (clients : Meaning) (terms : Terms) where
             (sym (ap (λ l. is_sent_to l.stands) c.is) ∙ sent));
       }
 
-  still_works : (idles : ℕ → ℕ) (readings : ℕ → Option ℕ) (n : ℕ) (doing : Doing) (link : Link) (e : Event) (spot : Spot) (p : Place)
+  still_works : (told : ℕ → LinkTold) (n : ℕ) (doing : Doing) (link : Link) (e : Event) (spot : Spot) (p : Place)
       → slice_get p.links n ≡ Some link → LinkStep clients n (terms.first + n) (spot_of doing link p) e spot
-      → (p.moved ≡ false → InTurn clients terms idles readings n doing p) → spot.moved ≡ false
-      → InTurn clients terms (λ i. idles_by i (idles i) e) (λ i. reading_by i (readings i) e) n spot.doing (with_spot n spot p)
-  still_works idles readings n doing link e spot p at steps t unmoved i other there =
+      → (p.moved ≡ false → InTurn clients terms told n doing p) → spot.moved ≡ false
+      → InTurn clients terms (λ i. told_by i (told i) e) n spot.doing (with_spot n spot p)
+  still_works told n doing link e spot p at steps t unmoved i other there =
       let from : Spot = spot_of doing link p in
       let q : Place = with_spot n spot p in
-      let more : ℕ → ℕ = λ k. idles_by k (idles k) e in
-      let now : ℕ → Option ℕ = λ k. reading_by k (readings k) e in
-      let st : StillStep clients (terms.first + n) p.still (more n) (now n) from spot =
-      still_step clients n (terms.first + n) p.still (idles n) (readings n) from spot e steps unmoved
-      (λ was. subst (StillLink clients terms idles readings p n link) (phase_here n doing) (t was n link at)) in
+      let now : ℕ → LinkTold = λ k. told_by k (told k) e in
+      let st : StillStep clients (terms.first + n) p.still (now n) from spot =
+      still_step clients n (terms.first + n) p.still (told n) from spot e steps unmoved
+      (λ was. subst (StillLink clients terms told p n link) (phase_here n doing) (t was n link at)) in
       elim (cases_eq i n) [
         | inl same ↦
             subst (λ k. (l : Link) → slice_get q.links k ≡ Some l
-            → StillLink clients terms more now q k l (phase n spot.doing k)) (sym same)
-            (λ l at_n. subst₂ (IsStill clients spot.facts (terms.first + n) p.still (more n) (now n))
+            → StillLink clients terms now q k l (phase n spot.doing k)) (sym same)
+            (λ l at_n. subst₂ (IsStill clients spot.facts (terms.first + n) p.still (now n))
             (sym (phase_here n spot.doing))
             (get_same (get_set p.links n spot.link (get_within p.links n link at)) at_n) st.so) other there
         | inr apart ↦
-            let leaves =
-            spared_leaves i e (link_spares clients n (terms.first + n) i from spot e apart steps) (idles i) (readings i) in
-            subst (λ f. IsStill clients f (terms.first + i) p.still (more i) (now i) (phase n spot.doing i) other)
-            (sym st.facts)
-            (subst₂ (λ k r. IsStill clients p.facts (terms.first + i) p.still k r (phase n spot.doing i) other)
-            (sym leaves.0) (sym leaves.1)
-            (subst (StillLink clients terms idles readings p i other) (phase_other n i doing spot.doing apart)
-            (t st.unmoved i other (sym (get_other p.links n i spot.link apart) ∙ there))))
+            let same : now i ≡ told i =
+            spared_told i (told i) e (link_spares clients n (terms.first + n) i from spot e apart steps) in
+            subst₂ (λ f x. IsStill clients f (terms.first + i) p.still x (phase n spot.doing i) other)
+            (sym st.facts) (sym same)
+            (subst (StillLink clients terms told p i other) (phase_other n i doing spot.doing apart)
+            (t st.unmoved i other (sym (get_other p.links n i spot.link apart) ∙ there)))
       ]
 
   -- ---- the steps of the run
 
-  abbrev KeepsAt : (ℕ → ℕ) → (ℕ → Option ℕ) → Stage → Place → Type 0
-  KeepsAt idles readings stage p =
-      PlaceKeeps clients readings stage p.facts × IsStillAt clients terms idles readings stage p
+  abbrev KeepsAt : (ℕ → LinkTold) → Stage → Place → Type 0
+  KeepsAt told stage p =
+      PlaceKeeps clients (λ i. (told i).reading) stage p.facts × IsStillAt clients terms told stage p
 
-  step_keeps : (idles : ℕ → ℕ) (readings : ℕ → Option ℕ) (p q : Place) (e : Event)
-      → RunStep clients terms p e q → KeepsAt idles readings p.stage p
-      → KeepsAt (λ i. idles_by i (idles i) e) (λ i. reading_by i (readings i) e) q.stage q
-  step_keeps idles readings p q e t =
+  step_keeps : (told : ℕ → LinkTold) (p q : Place) (e : Event)
+      → RunStep clients terms p e q → KeepsAt told p.stage p
+      → KeepsAt (λ i. told_by i (told i) e) q.stage q
+  step_keeps told p q e t =
       run_by_cases clients terms p
-      (λ stage x r. KeepsAt idles readings stage p
-      → KeepsAt (λ i. idles_by i (idles i) x) (λ i. reading_by i (readings i) x) r.stage r) (record {
+      (λ stage x r. KeepsAt told stage p
+      → KeepsAt (λ i. told_by i (told i) x) r.stage r) (record {
         settles = λ left b settling k. (tt, k.1);
         settled = λ left settled k. (settled, k.1);
         begins = λ x left allowed k.
             (settled_stays clients p.facts (entry.Session x ∷ []) refl k.0, k.1);
         greets = λ x left k. k;
         breaks = λ x left k. k;
-        all_begun = λ k. (k.0, still_first idles readings p k.1);
+        all_begun = λ k. (k.0, still_first told p k.1);
         ends = λ over k. (k.0, record { idle = k.1.idle; quiet = k.1.quiet });
         turns = λ on k. (
           (k.0, tt),
           λ unmoved i link at.
-              subst (StillLink clients terms idles readings p i link) (sym (phase_first i))
+              subst (StillLink clients terms told p i link) (sym (phase_first i))
               (k.1.idle i link at),
         );
         works = λ n doing link x spot at steps k. (
-          link_keeps clients n (terms.first + n) (readings n) (spot_of doing link p) spot x steps k.0,
-          λ unmoved. still_works idles readings n doing link x spot p at steps k.1 unmoved,
+          link_keeps clients n (terms.first + n) (told n).reading (spot_of doing link p) spot x steps k.0,
+          λ unmoved. still_works told n doing link x spot p at steps k.1 unmoved,
         );
         goes_on = λ n link at k. (
           (k.0.0, tt),
           λ unmoved i other there.
-              subst (StillLink clients terms idles readings p i other) (phase_next n i)
+              subst (StillLink clients terms told p i other) (phase_next n i)
               (k.1 unmoved i other there),
         );
-        turn_ends = λ n none k. (k.0.0, still_closed idles readings n Asks p none p.moved k.1);
+        turn_ends = λ n none k. (k.0.0, still_closed told n Asks p none p.moved k.1);
       }) q e t
 
-  path_keeps_still : (idles : ℕ → ℕ) (readings : ℕ → Option ℕ) (p q : Place) (es : List Event)
-      → Path (RunStep clients terms) p es q → KeepsAt idles readings p.stage p
-      → KeepsAt (λ i. idles_after i (idles i) es) (λ i. reading_after i (readings i) es) q.stage q
-  path_keeps_still idles readings p q [] path k =
-      subst (λ x. KeepsAt idles readings x.stage x) (sym path) k
-  path_keeps_still idles readings p q (e ∷ es) path k =
-      path_keeps_still (λ i. idles_by i (idles i) e) (λ i. reading_by i (readings i) e) path.0 q es
-      path.2 (step_keeps idles readings p path.0 e path.1 k)
+  path_keeps_still : (told : ℕ → LinkTold) (p q : Place) (es : List Event)
+      → Path (RunStep clients terms) p es q → KeepsAt told p.stage p
+      → KeepsAt (λ i. told_after i (told i) es) q.stage q
+  path_keeps_still told p q [] path k =
+      subst (λ x. KeepsAt told x.stage x) (sym path) k
+  path_keeps_still told p q (e ∷ es) path k =
+      path_keeps_still (λ i. told_by i (told i) e) path.0 q es
+      path.2 (step_keeps told p path.0 e path.1 k)
 
   -- behind events from the first place on
   pub run_keeps : (sessions : List Session) (f : Facts) (q : Place) (es : List Event)
       → Path (RunStep clients terms) (first_place sessions f) es q
-      → KeepsAt (λ i. idle_answers i es) (λ i. last_reading i es) q.stage q
+      → KeepsAt (λ i. told_after i nothing_told es) q.stage q
   run_keeps sessions f q es path =
-      path_keeps_still (λ i. 0) (λ i. None) (first_place sessions f) q es path (tt, refl)
+      path_keeps_still (λ i. nothing_told) (first_place sessions f) q es path (tt, refl)
 
 -- ---- outputs
 
@@ -486,9 +493,9 @@ course_ends_quiet go_on join clients terms sessions j events last legal course o
     let keeps = run_keeps clients terms sessions (facts j) last events course.path in
     let settled : IsSettled clients last.facts =
     subst (λ st. PlaceKeeps clients (λ i. last_reading i events) st last.facts) course.at_end keeps.0 in
-    let still : BetweenTurns clients terms (λ i. idle_answers i events) (λ i. last_reading i events) last =
-    subst (λ st. IsStillAt clients terms (λ i. idle_answers i events) (λ i. last_reading i events) st last)
-    course.at_end keeps.1 in
+    let told : ℕ → LinkTold = λ i. told_after i nothing_told events in
+    let still : BetweenTurns clients terms told last =
+    subst (λ st. IsStillAt clients terms told st last) course.at_end keeps.1 in
     let counted = run_counted go_on join clients terms sessions j events last legal
     (record { numbered = course.numbered; path = course.path }) in
     let parts = and_parts (nat_lt 0 last.still) (not (some_going last.links) || nat_le terms.quiet last.still) over in
