@@ -12,7 +12,7 @@ use Rattle.sync_course.specs.LinkTurns.{Asks, Spot, LinkStep, StepOf, answered_s
 pub calls_parts : (bs front others : List (List Entry)) → bs ≡ front ++ others → 4 * length bs ≡ 4 * length (others ++ front)
 calls_parts bs front others parts =
     let all : length bs ≡ length front + length others = ap (λ l. length l) parts ∙ length-append front others in
-    let turned : length (others ++ front) ≡ length others + length front = length-append others front in
+    let turned = length-append others front in
     omega (arith, all, turned)
 
 module _ (clients : Meaning) (n session : ℕ) where

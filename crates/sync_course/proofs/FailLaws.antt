@@ -102,7 +102,7 @@ pub link_step_fails : (clients : Meaning) (n session : ℕ) (p q : Spot) (e : Ev
     → StepFails n e p.link.stands q.link.stands q.doing
 link_step_fails clients n session p q e s =
     let old : LinkEnd = p.link.stands in
-    let end_of : Ending = ending 0 p.link.heard in
+    let end_of = ending 0 p.link.heard in
     link_by_cases clients n session p
     (λ doing x r. DoesOpen doing old
     → StepFails n x old r.link.stands r.doing) (record {

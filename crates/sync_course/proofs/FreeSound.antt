@@ -117,7 +117,7 @@ module _ (go_on : StreamsGoOn) (join : RecordsJoin) where
       → IsCounted f session (new_items link.heard bytes) (record link { heard = link.heard ++ bytes })
   unfolding records_of
   counted_got f session link bytes keeps c =
-      let none : c.dropped ≡ [] = c.whole keeps in
+      let none = c.whole keeps in
       let before : records link.heard ≡ c.done = c.parts ∙ ap (λ l. c.done ++ l) none ∙ append-nil c.done in
       record {
         done = c.done;
@@ -255,14 +255,14 @@ module _ (clients : Meaning) (first : ℕ) where
       → Begun (joined_by x stands p)
   joins_begun p x stands s =
       let begun : p.facts.begun ≡ suc (first + length p.links) = s.0 in
-      let more : length (p.links ++ link_of x stands ∷ []) ≡ length p.links + 1 =
+      let more =
       length-append p.links (link_of x stands ∷ []) in
       omega (arith, begun, more)
 
   free_begun : (p q : Free) (e : Event) → FreeStep clients first p e q → IsOfJournal clients p.facts
       → Begun p → Begun q
   free_begun p q e t journal s =
-      let links : ℕ = length p.links in
+      let links = length p.links in
       let calmly : IsNothingUnderWay p.hold → p.facts.begun ≡ first + links =
       λ calm. idle_begun first links p.facts p.hold calm s in
       let held : (hold : Hold) → p.hold ≡ hold → IsBegunAt first hold links p.facts =
@@ -282,7 +282,7 @@ module _ (clients : Meaning) (first : ℕ) where
               | inr plain ↦ (plain_adds p.facts b plain.0).begun
             ]) ∙ held Rests rests);
         begins = λ x rests allowed same.
-            let was : p.facts.begun ≡ first + links = held Rests rests in (
+            let was = held Rests rests in (
               omega (arith, was),
               subst (λ n. takes_of p.facts.takes n ≡ 0) was (untaken clients p.facts journal),
             );
@@ -306,7 +306,7 @@ module _ (go_on : StreamsGoOn) (join : RecordsJoin) (clients : Meaning) (first :
       counted_as k.takes refl (ap records_of k.pends) (λ keeps. keeps)
       (s.counted i link (sym k.same ∙ at))
   link_counted e p q i link s at (Closed c) =
-      let same : link ≡ record c.was { stands = cond c.beaten end.Redundant c.was.stands } =
+      let same =
       get_same at c.now in
       counted_as (ap (λ f. takes_of f.takes (first + i)) c.facts)
       (ap (λ l. records l.heard) same) (ap records_of c.pends)
@@ -366,7 +366,7 @@ pub run_counted : StreamsGoOn → RecordsJoin → (clients : Meaning) (terms : T
     → slice_get last.links i ≡ Some link
     → IsCounted last.facts (terms.first + i) (pending_at last.stage i) link
 run_counted go_on join clients terms sessions j events last legal broken i link at =
-    let sound : IsFreeSound clients terms.first (forget last) =
+    let sound =
     free_path_sound go_on join clients terms.first (first_free (facts j)) (forget last) events
     (run_is_free clients terms (first_place sessions (facts j)) last events broken.path)
     (subst (λ k. IsFreeSound clients k (first_free (facts j))) (sym broken.numbered)

@@ -473,7 +473,7 @@ module _ (clients : Meaning) (first : ℕ) where
               facts = refl;
             }))
         | inr other ↦
-            let apart : nat_eq n i ≡ false = ne_eqb n i (λ same. other (sym same)) in
+            let apart = ne_eqb n i (λ same. other (sym same)) in
             Kept (record {
               same = get_other p.links n i spot.link other;
               spares =

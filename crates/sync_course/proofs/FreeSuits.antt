@@ -77,7 +77,7 @@ pub next_stands : FrontsHaveFronts → (heard : ℕ → List ℕ) (f : Facts) (s
 unfolding records_of
 next_stands fronts heard f session place n r its link front c =
     let later : List Record = (fronts link.heard front.more).0 in
-    let behind : List Record = records_of its ++ c.dropped in
+    let behind = records_of its ++ c.dropped in
     let whole : records (heard n) ≡ (c.done ++ r ∷ behind) ++ later =
     ap records front.goes_on
     ∙ (fronts link.heard front.more).1
@@ -153,10 +153,10 @@ module _ (go_on : StreamsGoOn) (join : RecordsJoin) (fronts : FrontsHaveFronts) 
   free_path_suits n p q [] path grows s count planned = tt
   free_path_suits n p q (e ∷ es) path grows s count planned =
       let next : Free = path.0 in
-      let new : List (List Entry) = batches_of (e ∷ []) in
-      let later : List (List Entry) = batches_of es in
+      let new = batches_of (e ∷ []) in
+      let later = batches_of es in
       let adds = step_adds clients first p next e path.1 in
-      let parts : batches_of (e ∷ es) ≡ new ++ later = batches_of-append (e ∷ []) es in
+      let parts = batches_of-append (e ∷ []) es in
       let grown : next.facts.begun ≡ p.facts.begun + length (begun_by new) = adds.begun in
       let here : (x : Session) → e ≡ Commit (entry.Session x ∷ [])
       → p.facts.begun ≡ first + length p.links → slice_get plans (length p.links) ≡ Some x =
@@ -207,16 +207,16 @@ pub moment_stands : StreamsGoOn → RecordsJoin → FrontsHaveFronts → (client
     → MomentStands clients j (begun_by (batches_in acts)) (heard_at to.at) m
 moment_stands go_on join fronts clients j acts to m legal path front =
     let first : ℕ = (facts j).begun in
-    let start : Owing Free = paid (first_free (facts j)) in
+    let start = paid (first_free (facts j)) in
     let parts = path_parts (ActsOn clients first) start to front.before front.behind
     (subst (λ l. Path (ActsOn clients first) start l to) front.parts path) in
     let mid : Owing Free = parts.0 in
-    let sent : HasSent clients first j front.before mid =
+    let sent =
     acts_sent go_on join clients j front.before mid legal parts.1 in
-    let events : Path (FreeStep clients first) (first_free (facts j)) (events_of acts) to.at =
+    let events =
     events_path clients first start to acts path in
     let begun : first ≡ first + 0 = omega arith in
-    let whole : AllSuitNode clients first (begun_by (batches_in acts)) (heard_at to.at) (facts j) (batches_in acts) =
+    let whole =
     free_path_suits go_on join fronts clients first (begun_by (batches_in acts)) (heard_at to.at) 0
     (first_free (facts j)) to.at (events_of acts) events (λ i. front_itself (heard_at to.at i))
     (first_free_sound clients j legal) begun
@@ -292,7 +292,7 @@ module _ (clients : Meaning) (terms : Terms) where
       → left_at p.stage ≡ begun_by (batches_of es) ++ left_at q.stage
   path_begins p q [] path = ap (λ x. left_at x.stage) (sym path)
   path_begins p q (e ∷ es) path =
-      let new : List (List Entry) = batches_of (e ∷ []) in
+      let new = batches_of (e ∷ []) in
       (step_plans p path.0 e path.1).begins
       ∙ ap (λ l. begun_by new ++ l) (path_begins path.0 q es path.2)
       ∙ sym (append_assoc (begun_by new) (begun_by (batches_of es)) (left_at q.stage))
@@ -319,7 +319,7 @@ pub run_suits : StreamsGoOn → RecordsJoin → FrontsHaveFronts → (clients : 
     (j : List (List Entry)) (events : List Event) (last : Place) → Legal clients j → Broken clients terms sessions (facts j) events last
     → AllSuitPlanned clients terms.first sessions (heard_on last) (facts j) (batches_of events)
 run_suits go_on join fronts clients terms sessions j events last legal broken =
-    let start : Place = first_place sessions (facts j) in
+    let start = first_place sessions (facts j) in
     let first : ℕ = terms.first in
     let numbered : first ≡ (facts j).begun = broken.numbered in
     let begun : (facts j).begun ≡ first + 0 = omega (arith, numbered) in

@@ -24,7 +24,7 @@ use Rattle.sync_course.specs.Idle.{greeting, idle_turn, idle_turns, idle_run, id
 
 one_link : (link : Link) → without_redundant (link ∷ []) ≡ link ∷ []
 one_link link =
-    let none : beats 0 link 0 link ≡ false = never (beats 0 link 0 link) (not_itself 0 link) in
+    let none = never (beats 0 link 0 link) (not_itself 0 link) in
     ap (λ b. record link { stands = cond (b || false) end.Redundant link.stands } ∷ []) none
 
 module _ (clients : Meaning) (terms : Terms) (s : Session) (now : ℕ) (f : Facts)
@@ -82,10 +82,10 @@ module _ (clients : Meaning) (terms : Terms) (s : Session) (now : ℕ) (f : Fact
 
   greeting_path : Path (RunStep clients terms) (first_place (s ∷ []) f) (greeting s) (idle_place s 0 began)
   greeting_path =
-      let p0 : Place = first_place (s ∷ []) f in
+      let p0 = first_place (s ∷ []) f in
       let p1 : Place = record p0 { stage = Attaches (s ∷ []) } in
       let p2 : Place = record p1 { stage = Greets s []; facts = began } in
-      let p3 : Place = attached s [] p2 in
+      let p3 = attached s [] p2 in
       (p1, (settled, refl), (p2, (refl, allowed, refl), (p3, refl, (idle_place s 0 began, refl, refl))))
 
   idle_course : (n : ℕ) → ((k : ℕ) → k < n → is_at_end terms (idle_place s k began) ≡ false) → is_at_end terms (idle_place s n began) ≡ true
@@ -123,7 +123,7 @@ module _ (clients : Meaning) (terms : Terms) (s : Session) (now : ℕ) (f : Fact
       → Course clients terms (s ∷ []) f (idle_run s now terms.quiet) (idle_end s terms.quiet began)
       × (closing terms.quiet (idle_end s terms.quiet began) ≡ record { over = true; ends = end.Going ∷ [] })
   ends_quiet some enough =
-      let last : nat_le terms.quiet terms.quiet ≡ true =
+      let last =
       le-leb terms.quiet terms.quiet (omega arith) in
       ends_after terms.quiet true (omega arith) enough
       (ap (λ x. x && nat_le terms.quiet terms.quiet) (lt-ltb 0 terms.quiet some)

@@ -25,7 +25,7 @@ before_then x y z first second whole both ordering.Less r e f a b = cc
 before_then x y z first second whole both ordering.Equal ordering.Less e f a b = cc
 before_then x y z first second whole both ordering.Greater ordering.Less e f a b = cc
 before_then x y z first second whole both ordering.Greater ordering.Greater e f a b =
-    let low : slice_cmp nat_cmp z x ≡ ordering.Less =
+    let low =
     nat_list_cmp_total.trans z y x (turned y z ordering.Greater f) (turned x y ordering.Greater e) in
     ap (λ o. is_before o whole) (turned z x ordering.Less low)
 before_then x y z first second whole both ordering.Greater ordering.Equal e f a b =
@@ -53,7 +53,7 @@ not_kept (Some x) = not_before (slice_cmp nat_cmp x x) refl
     not_before ordering.Less is = ap (λ o. is_before o false) is
     not_before ordering.Equal is = ap (λ o. is_before o false) is
     not_before ordering.Greater is =
-        let low : slice_cmp nat_cmp x x ≡ ordering.Less = turned x x ordering.Greater is in
+        let low = turned x x ordering.Greater is in
         ap (λ o. is_before o false) low
 
 -- the parts of a comparison of two links
@@ -86,8 +86,8 @@ pub beats_then : (i : ℕ) (a : Link) (m : ℕ) (c : Link) (k : ℕ) (b : Link) 
 beats_then i a m c k b first second =
     let p = beats_parts i a m c first in
     let q = beats_parts m c k b second in
-    let ac : a.contact ≡ c.contact = eqb-true a.contact c.contact p.same_contact in
-    let cb : c.contact ≡ b.contact = eqb-true c.contact b.contact q.same_contact in
+    let ac = eqb-true a.contact c.contact p.same_contact in
+    let cb = eqb-true c.contact b.contact q.same_contact in
     beats_from i a k b (record {
       first_going = p.first_going;
       second_going = q.second_going;
@@ -101,7 +101,7 @@ never false absent = refl
 
 pub not_itself : {A : Type 0} → (i : ℕ) (a : Link) → beats i a i a ≡ true → A
 not_itself i a is =
-    let none : nat_lt i i ≡ false = never (nat_lt i i) (λ is. let less : i < i = ltb-true i i is in omega (arith, less)) in
+    let none = never (nat_lt i i) (λ is. let less : i < i = ltb-true i i is in omega (arith, less)) in
     absurd (false≢true (sym (not_kept a.nonce) ∙ ap (λ b. is_kept a.nonce a.nonce b) (sym none) ∙ (beats_parts i a i a is).kept))
 
 -- ---- the one that is kept

@@ -152,7 +152,7 @@ still_step clients n session still told p q e s =
         unmoved = unmoved;
         facts = refl;
         so = λ asked.
-            let before : still ≤ told.idles = claim unmoved asked in
+            let before = claim unmoved asked in
             let more : idles_by n told.idles (Hear n idle) ≡ suc told.idles =
             ap (λ b. cond b (suc told.idles) told.idles) itself in
             subst (λ k. suc still ≤ k) (sym more) (omega (arith, before));
@@ -180,7 +180,7 @@ still_step clients n session still told p q e s =
       };
       puts = λ now room what is_due allowed unmoved claim. moved unmoved;
       enough = λ now room enough unmoved claim.
-          let so : (room ≡ MAX_OUTPUTS) × (told.reading ≡ Some now) × IsIdle (suc still) told.idles p.link =
+          let so =
           claim unmoved in
           record {
             unmoved = unmoved;
@@ -268,7 +268,7 @@ IsStillAt clients terms told Ended p = BetweenTurns clients terms told p
 get_none : {A : Type 0} (xs : List A) (n : ℕ) → slice_get xs n ≡ None → length xs ≤ n
 get_none [] n none = omega arith
 get_none (x ∷ xs) zero none = cc
-get_none (x ∷ xs) (suc n) none = let rest : length xs ≤ n = get_none xs n none in omega (arith, rest)
+get_none (x ∷ xs) (suc n) none = let rest = get_none xs n none in omega (arith, rest)
 
 -- what no redundant link is, a link was that it is where redundant ones were closed
 closed_so : (test : LinkEnd → Bool) → test end.Redundant ≡ false → (b : Bool) (stands : LinkEnd)
@@ -295,8 +295,8 @@ module _ (clients : Meaning) (terms : Terms) where
       let had : (i : ℕ) (link : Link) → (c : IsClosedFrom i p.links link)
       → StillLink clients terms told p i c.was Done =
       λ i link c.
-      let within : i < length p.links = get_within p.links i c.was c.at in
-      let past : length p.links ≤ n = get_none p.links n none in
+      let within = get_within p.links i c.was c.at in
+      let past = get_none p.links n none in
       subst (StillLink clients terms told p i c.was)
       (phase_past n i doing (omega (arith, within, past))) (t refl i c.was c.at) in
       record {
@@ -317,10 +317,10 @@ module _ (clients : Meaning) (terms : Terms) where
       → (p.moved ≡ false → InTurn clients terms told n doing p) → spot.moved ≡ false
       → InTurn clients terms (λ i. told_by i (told i) e) n spot.doing (with_spot n spot p)
   still_works told n doing link e spot p at steps t unmoved i other there =
-      let from : Spot = spot_of doing link p in
-      let q : Place = with_spot n spot p in
+      let from = spot_of doing link p in
+      let q = with_spot n spot p in
       let now : ℕ → LinkTold = λ k. told_by k (told k) e in
-      let st : StillStep clients (terms.first + n) p.still (now n) from spot =
+      let st =
       still_step clients n (terms.first + n) p.still (told n) from spot e steps unmoved
       (λ was. subst (StillLink clients terms told p n link) (phase_here n doing) (t was n link at)) in
       elim (cases_eq i n) [
@@ -331,7 +331,7 @@ module _ (clients : Meaning) (terms : Terms) where
             (sym (phase_here n spot.doing))
             (get_same (get_set p.links n spot.link (get_within p.links n link at)) at_n) st.so) other there
         | inr apart ↦
-            let same : now i ≡ told i =
+            let same =
             spared_told i (told i) e (link_spares clients n (terms.first + n) i from spot e apart steps) in
             subst₂ (λ f x. IsStill clients f (terms.first + i) p.still x (phase n spot.doing i) other)
             (sym st.facts) (sym same)
@@ -506,7 +506,7 @@ course_ends_quiet go_on join clients terms sessions j events last legal course o
           let quiet : terms.quiet ≤ last.still =
           leb-true terms.quiet last.still
           (had_quiet (some_going last.links) (nat_le terms.quiet last.still) parts.1 (going_there last.links i link at going)) in
-          let idles : last.still ≤ idle_answers i events = still.idle i link at going in
+          let idles = still.idle i link at going in
           omega (arith, quiet, idles);
       nothing_due = still.quiet some;
       all_taken = λ i link at keeps.

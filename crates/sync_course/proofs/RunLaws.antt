@@ -27,7 +27,7 @@ use Rattle.sync_course.proofs.KeptLaws.{beats_parts}
 -- the items of all are those of what was heard before and the new ones
 pub new_items_follow : StreamsGoOn → (heard bytes : List ℕ) → items 0 (heard ++ bytes) ≡ items 0 heard ++ new_items heard bytes
 new_items_follow go_on heard bytes =
-    let behind : List Item = items (rest_place 0 heard) (rest 0 heard ++ bytes) in
+    let behind = items (rest_place 0 heard) (rest 0 heard ++ bytes) in
     let parts : items 0 (heard ++ bytes) ≡ items 0 heard ++ behind = (go_on 0 heard).begins bytes in
     let new : new_items heard bytes ≡ behind =
     ap (drop (length (items 0 heard))) parts ∙ drop-append_seam (items 0 heard) behind in

@@ -150,7 +150,7 @@ event_spares clients first e p q i t s o f =
       adds = λ b rests plain allowed. (plain_adds p.facts b plain).puts (first + i);
       begins = λ x rests allowed.
           let may : MayBegin p.facts x = allowed.2 in
-          let within : i < length p.links = get_within p.links i f.link f.there in
+          let within = get_within p.links i f.link f.there in
           let numbered : x.number ≡ p.facts.begun = may.numbered in
           let begun : p.facts.begun ≡ first + length p.links =
           subst (λ h. IsBegunAt first h (length p.links) p.facts) rests s.begun in
@@ -244,15 +244,15 @@ module _ (go_on : StreamsGoOn) (join : RecordsJoin) (clients : Meaning) (first :
   sent_step : (acts : List Act) (p q : Owing Free) (a : Act) → HasSent clients first j acts p → ActsOn clients first p a q
       → HasSent clients first j (acts ++ a ∷ []) q
   sent_step acts p q a k s =
-      let e : Event = event_of a in
-      let old : List (List Entry) = j ++ batches_in acts in
-      let new : List (List Entry) = batches_of (e ∷ []) in
-      let step : FreeStep clients first p.at e q.at = under clients first a p q s in
+      let e = event_of a in
+      let old = j ++ batches_in acts in
+      let new = batches_of (e ∷ []) in
+      let step = under clients first a p q s in
       let m = (step_adds clients first p.at q.at e step).moves in
       let goes : GoesOn clients (facts old) new = subst (λ f. GoesOn clients f new) (sym k.same) m.goes_on in
       let is : j ++ batches_in (acts ++ a ∷ []) ≡ old ++ new =
       ap (λ l. j ++ l) (batches_in-append acts (a ∷ [])) ∙ sym (append_assoc j (batches_in acts) new) in
-      let events : events_of (acts ++ a ∷ []) ≡ events_of acts ++ e ∷ [] = events_of-append acts (a ∷ []) in
+      let events = events_of-append acts (a ∷ []) in
       let sends : (i : ℕ) → sends_on i (acts ++ a ∷ []) ≡ sends_on i acts ++ sent_by i a =
       λ i. sends_on-append i acts (a ∷ []) ∙ ap (λ l. sends_on i acts ++ l) (append-nil (sent_by i a)) in
       let grown : (i : ℕ) → output (j ++ batches_in (acts ++ a ∷ [])) (first + i)
@@ -303,7 +303,7 @@ nothing_sent clients j i legal =
 first_sent : (clients : Meaning) (j : List (List Entry)) → Legal clients j
     → HasSent clients (facts j).begun j [] (paid (first_free (facts j)))
 first_sent clients j legal =
-    let same : j ++ [] ≡ j = append-nil j in
+    let same = append-nil j in
     record {
       legal = subst (Legal clients) (sym same) legal;
       same = ap facts same;
