@@ -255,8 +255,7 @@ module _ (clients : Meaning) (first : ℕ) where
       → Begun (joined_by x stands p)
   joins_begun p x stands s =
       let begun : p.facts.begun ≡ suc (first + length p.links) = s.0 in
-      let more =
-      length-append p.links (link_of x stands ∷ []) in
+      let more = length-append p.links (link_of x stands ∷ []) in
       omega (arith, begun, more)
 
   free_begun : (p q : Free) (e : Event) → FreeStep clients first p e q → IsOfJournal clients p.facts
@@ -306,8 +305,7 @@ module _ (go_on : StreamsGoOn) (join : RecordsJoin) (clients : Meaning) (first :
       counted_as k.takes refl (ap records_of k.pends) (λ keeps. keeps)
       (s.counted i link (sym k.same ∙ at))
   link_counted e p q i link s at (Closed c) =
-      let same =
-      get_same at c.now in
+      let same = get_same at c.now in
       counted_as (ap (λ f. takes_of f.takes (first + i)) c.facts)
       (ap (λ l. records l.heard) same) (ap records_of c.pends)
       (λ keeps.

@@ -396,30 +396,6 @@ module _ (clients : Meaning) (first : ℕ) where
         takes = takes;
       })
 
-  closes_go : (p : Free) (i : ℕ) → IsNothingUnderWay p.hold
-      → Goes Pass p (record p { hold = Rests; links = without_redundant p.links }) i
-  closes_go p i calm = by_link (slice_get p.links i) refl
-    where
-      pends : [] ≡ pending_in p.hold i
-      pends = sym (idle_pends p.hold i calm)
-
-      by_link : (o : Option Link) → slice_get p.links i ≡ o
-          → Goes Pass p (record p { hold = Rests; links = without_redundant p.links }) i
-      by_link None none =
-          let closed = closed_each p.links 0 p.links i ∙ ap (option_map (closed_as p.links (0 + i))) none in
-          Kept (record { same = closed ∙ sym none; spares = tt; pends = pends; takes = refl })
-      by_link (Some was) at =
-          Closed (record {
-            was = was;
-            at = at;
-            beaten = is_beaten 0 p.links (0 + i) was;
-            going = beaten_going 0 (0 + i) p.links was;
-            now = closed_each p.links 0 p.links i ∙ ap (option_map (closed_as p.links (0 + i))) at;
-            spares = tt;
-            pends = pends;
-            facts = refl;
-          })
-
   joins_go : (e : Event) (p : Free) (x : Session) (stands : LinkEnd) (i : ℕ) → p.hold ≡ Begins x
       → ((i ≡ length p.links → ⊥) → Spares i e)
       → (i ≡ length p.links
@@ -450,43 +426,6 @@ module _ (clients : Meaning) (first : ℕ) where
             })
       ]
 
-  works_go : (n : ℕ) (doing : Doing) (link : Link) (moved : Bool) (e : Event) (spot : Spot)
-      (p : Free)
-      (i : ℕ) → p.hold ≡ Holds n doing → slice_get p.links n ≡ Some link
-      → LinkStep clients n (first + n) (spot_in doing link moved p) e spot
-      → ((i ≡ n → ⊥) → takes_of spot.facts.takes (first + i) ≡ takes_of p.facts.takes (first + i))
-      → Goes e p (holding n spot p) i
-  works_go n doing link moved e spot p i is there steps takes =
-      elim (cases_eq i n) [
-        | inl same ↦
-            subst (λ k. Goes e p (holding n spot p) k) (sym same)
-            (Stepped (record {
-              doing = doing;
-              link = link;
-              moved = moved;
-              spot = spot;
-              at = there;
-              now = get_set p.links n spot.link (get_within p.links n link there);
-              held = is;
-              holds = refl;
-              steps = steps;
-              facts = refl;
-            }))
-        | inr other ↦
-            let apart = ne_eqb n i (λ same. other (sym same)) in
-            Kept (record {
-              same = get_other p.links n i spot.link other;
-              spares =
-                  link_spares clients n (first + n) i (spot_in doing link moved p) spot e other
-                  steps;
-              pends =
-                  ap (λ b. cond b (pending spot.doing) []) apart
-                  ∙ sym (ap (λ b. cond b (pending doing) []) apart)
-                  ∙ sym (ap (λ h. pending_in h i) is);
-              takes = takes other;
-            })
-      ]
-
   pub free_link : (p q : Free) (e : Event) (i : ℕ) → FreeStep clients first p e q → Goes e p q i
   free_link p q e i t =
       free_by_cases clients first p
@@ -498,7 +437,30 @@ module _ (clients : Meaning) (first : ℕ) where
             links_stay refl tt (idle_pends hold i then ∙ sym (idle_pends p.hold i calm)) refl;
         sends = λ n now link calm there is_open takes.
             links_stay refl tt (cond_same (nat_eq n i) [] ∙ sym (idle_pends p.hold i calm)) refl;
-        closes = λ calm takes. closes_go p i calm;
+        closes = λ calm takes.
+            let closed = closed_each p.links 0 p.links i in
+            let pends = sym (idle_pends p.hold i calm) in
+            elim (slice_get p.links i) as (λ o. slice_get p.links i ≡ o
+            → Goes Pass p (record p { hold = Rests; links = without_redundant p.links }) i) [
+              | None ↦ λ none.
+                  Kept (record {
+                    same = closed ∙ ap (option_map (closed_as p.links (0 + i))) none ∙ sym none;
+                    spares = tt;
+                    pends = pends;
+                    takes = refl;
+                  })
+              | Some was ↦ λ at.
+                  Closed (record {
+                    was = was;
+                    at = at;
+                    beaten = is_beaten 0 p.links (0 + i) was;
+                    going = beaten_going 0 (0 + i) p.links was;
+                    now = closed ∙ ap (option_map (closed_as p.links (0 + i))) at;
+                    spares = tt;
+                    pends = pends;
+                    facts = refl;
+                  })
+            ] refl;
         adds = λ b rests adds takes.
             links_stay refl tt refl
             (takes (λ its holds. let both : Rests ≡ Holds i (Takes its) = sym rests ∙ holds in cc));
@@ -511,9 +473,36 @@ module _ (clients : Meaning) (first : ℕ) where
             other (sym same))
             (λ same. inr (ap (λ k. Break k) (sym same), refl));
         works = λ n doing link moved x spot holds there steps takes.
-            works_go n doing link moved x spot p i holds there steps
-            (λ other. takes
-            (λ its held.
-            let both : Holds n doing ≡ Holds i (Takes its) = sym holds ∙ held in
-            other (let at : n ≡ i = cc in sym at)));
+            elim (cases_eq i n) [
+              | inl same ↦
+                  subst (λ k. Goes x p (holding n spot p) k) (sym same)
+                  (Stepped (record {
+                    doing = doing;
+                    link = link;
+                    moved = moved;
+                    spot = spot;
+                    at = there;
+                    now = get_set p.links n spot.link (get_within p.links n link there);
+                    held = holds;
+                    holds = refl;
+                    steps = steps;
+                    facts = refl;
+                  }))
+              | inr other ↦
+                  let apart = ne_eqb n i (λ same. other (sym same)) in
+                  Kept (record {
+                    same = get_other p.links n i spot.link other;
+                    spares =
+                        link_spares clients n (first + n) i (spot_in doing link moved p) spot x
+                        other steps;
+                    pends =
+                        ap (λ b. cond b (pending spot.doing) []) apart
+                        ∙ sym (ap (λ b. cond b (pending doing) []) apart)
+                        ∙ sym (ap (λ h. pending_in h i) holds);
+                    takes =
+                        takes (λ its held.
+                        let both : Holds n doing ≡ Holds i (Takes its) = sym holds ∙ held in
+                        other (let at : n ≡ i = cc in sym at));
+                  })
+            ];
       }) q e t ((step_adds clients first p q e t).takes i)

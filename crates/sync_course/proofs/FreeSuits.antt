@@ -211,10 +211,8 @@ moment_stands go_on join fronts clients j acts to m legal path front =
     let parts = path_parts (ActsOn clients first) start to front.before front.behind
     (subst (λ l. Path (ActsOn clients first) start l to) front.parts path) in
     let mid : Owing Free = parts.0 in
-    let sent =
-    acts_sent go_on join clients j front.before mid legal parts.1 in
-    let events =
-    events_path clients first start to acts path in
+    let sent = acts_sent go_on join clients j front.before mid legal parts.1 in
+    let events = events_path clients first start to acts path in
     let begun : first ≡ first + 0 = omega arith in
     let whole =
     free_path_suits go_on join fronts clients first (begun_by (batches_in acts)) (heard_at to.at) 0

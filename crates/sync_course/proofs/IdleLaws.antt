@@ -123,8 +123,7 @@ module _ (clients : Meaning) (terms : Terms) (s : Session) (now : ℕ) (f : Fact
       → Course clients terms (s ∷ []) f (idle_run s now terms.quiet) (idle_end s terms.quiet began)
       × (closing terms.quiet (idle_end s terms.quiet began) ≡ record { over = true; ends = end.Going ∷ [] })
   ends_quiet some enough =
-      let last =
-      le-leb terms.quiet terms.quiet (omega arith) in
+      let last = le-leb terms.quiet terms.quiet (omega arith) in
       ends_after terms.quiet true (omega arith) enough
       (ap (λ x. x && nat_le terms.quiet terms.quiet) (lt-ltb 0 terms.quiet some)
       ∙ last) refl

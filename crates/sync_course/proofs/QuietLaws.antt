@@ -180,8 +180,7 @@ still_step clients n session still told p q e s =
       };
       puts = λ now room what is_due allowed unmoved claim. moved unmoved;
       enough = λ now room enough unmoved claim.
-          let so =
-          claim unmoved in
+          let so = claim unmoved in
           record {
             unmoved = unmoved;
             facts = refl;

@@ -164,23 +164,18 @@ told_same e o o' says heard readings planned upcoming faults =
     (told_as (PlansAfter e) _ _ (λ x. refl) planned)
     (told_as (UpcomingAfter e) _ _ (λ x. refl) upcoming)
 
-told_silent : (e : Event) (o : Outside) → SaysNothing e
-    → ((link : ℕ) → has_failure link (e ∷ []) ≡ false) → TellsEvents (e ∷ []) o o
-told_silent e o says well =
-    told_same e o o says refl refl refl refl (λ link.
-    subst (λ b. RoseIf b (o.links.faults link) (o.links.faults link)) (sym (well link))
-    (omega arith))
-
 -- nothing that is told of
 pub told_pass : (o o' : Outside) → o'.links ≡ o.links → TellsEvents (Pass ∷ []) o o'
 told_pass o o' same =
-    told_then (Pass ∷ []) [] o o o' (told_silent Pass o tt (λ link. refl)) (told_stays o o' same)
+    told_then (Pass ∷ []) [] o o o' (told_same Pass o o tt refl refl refl refl (λ link. omega arith))
+    (told_stays o o' same)
 
 -- batches that were committed while the links stayed as they were
 pub told_commits : (bs : List (List Entry)) (o o' : Outside) → o'.links ≡ o.links → TellsEvents (commits bs) o o'
 told_commits [] o o' same = told_stays o o' same
 told_commits (b ∷ bs) o o' same =
-    told_then (Commit b ∷ []) (commits bs) o o o' (told_silent (Commit b) o tt (λ link. refl))
+    told_then (Commit b ∷ []) (commits bs) o o o'
+    (told_same (Commit b) o o tt refl refl refl refl (λ link. omega arith))
     (told_commits bs o o' same)
 
 -- a count of a link that rose where the call of another one failed
