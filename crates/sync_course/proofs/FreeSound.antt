@@ -234,9 +234,6 @@ closed_length : (all : List Link) (k : ℕ) (links : List Link) → length (clos
 closed_length all k [] = refl
 closed_length all k (b ∷ links) = ap suc (closed_length all (suc k) links)
 
-redundant_length : (links : List Link) → length (without_redundant links) ≡ length links
-redundant_length links = closed_length links 0 links
-
 set_length : {A : Type 0} (xs : List A) (n : ℕ) (x : A) → length (slice_set xs n x) ≡ length xs
 set_length [] n x = refl
 set_length (y ∷ xs) zero x = refl
@@ -273,7 +270,7 @@ module _ (clients : Meaning) (first : ℕ) where
         turns = λ hold calm then same. begun_idle first links p.facts hold then (calmly calm);
         sends = λ n now link calm there is_open same. calmly calm;
         closes = λ calm same.
-            calmly calm ∙ ap (λ k. first + k) (sym (redundant_length p.links));
+            calmly calm ∙ ap (λ k. first + k) (sym (closed_length p.links 0 p.links));
         adds = λ b rests adds same.
             subst (λ h. IsBegunAt first h links (after_all p.facts b)) (sym rests)
             ((elim adds [

@@ -49,12 +49,6 @@ use Rattle.outside.proofs.RunLaws as runs_laws
 use Rattle.record_grammar.specs.declared.stream.Item.TheVariants as item
 use Rattle.sync_rules.specs.declared.entries.Entry.TheVariants as entry
 
--- what was heard only grows
-free_path_heard : (clients : Meaning) (first : ℕ) (p q : Free) (es : List Event)
-    → Path (FreeStep clients first) p es q → (i : ℕ) → IsFront (heard_at p i) (heard_at q i)
-free_path_heard clients first p q es path i =
-    record { more = bytes_of i es; goes_on = free_path_adds clients first es p q i path }
-
 -- ---- which sessions began
 
 -- sessions of batches one behind the other
@@ -175,7 +169,10 @@ module _ (go_on : StreamsGoOn) (join : RecordsJoin) (fronts : FrontsHaveFronts) 
       subst (AllSuitNode clients first plans heard p.facts) (sym parts)
       (suit_then fronts clients first plans heard p.facts new later
       (free_suits fronts clients first plans heard e p next path.1
-      (λ i. front_then _ _ _ (free_path_heard clients first p q (e ∷ es) path i) (grows i)) s here)
+      (λ i.
+      front_then _ _ _
+      (record { more = bytes_of i (e ∷ es); goes_on = free_path_adds clients first (e ∷ es) p q i path })
+      (grows i)) s here)
       (subst (λ f. AllSuitNode clients first plans heard f later) adds.moves.facts behind))
 
 -- ---- moments

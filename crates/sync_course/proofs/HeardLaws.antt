@@ -96,16 +96,12 @@ module _ (clients : Meaning) (first : ℕ) where
       ∙ link_adds clients i (first + i) (spot_in t.doing t.link t.moved p) t.spot e t.steps
       ∙ ap (λ o. heard_in o ++ bytes_by i e) (sym t.at)
 
-  free_adds : (p q : Free) (e : Event) → FreeStep clients first p e q → (i : ℕ)
-      → heard_at q i ≡ heard_at p i ++ bytes_by i e
-  free_adds p q e t i = goes_add e p q i (free_link clients first p q e i t)
-
   -- so does a path
   pub free_path_adds : (es : List Event) (p q : Free) (i : ℕ) → Path (FreeStep clients first) p es q → heard_at q i ≡ heard_at p i ++ bytes_of i es
   free_path_adds [] p q i path = none_more (heard_at q i) (heard_at p i) (ap (λ x. heard_at x i) path)
   free_path_adds (e ∷ es) p q i path =
       free_path_adds es path.0 q i path.2
-      ∙ ap (λ l. l ++ bytes_of i es) (free_adds p path.0 e path.1 i)
+      ∙ ap (λ l. l ++ bytes_of i es) (goes_add e p path.0 i (free_link clients first p path.0 e i path.1))
       ∙ append_assoc (heard_at p i) (bytes_by i e) (bytes_of i es)
 
 -- ---- what is told

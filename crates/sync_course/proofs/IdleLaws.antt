@@ -17,6 +17,7 @@ use Rattle.sync_course.specs.Events.{Pass}
 use Rattle.sync_course.specs.Links.{Link, beats, link_of, without_redundant}
 use Rattle.sync_course.specs.LinkTurns.{Asks, Doing, Done, IsNothingDue, Sends, Spot, Waits}
 use Rattle.sync_course.specs.Paths.{Path}
+use Rattle.sync_course.proofs.LiftLaws.{begin_step}
 use Rattle.sync_course.proofs.PathLaws.{path_then}
 use Rattle.sync_course.proofs.KeptLaws.{never, not_itself}
 use Rattle.sync_course.specs.Turns.{Attaches, Course, Ended, Greets, Place, RunStep, Terms, Works, attached, first_place, is_at_end, is_over, turn_ended, with_spot}
@@ -36,13 +37,11 @@ module _ (clients : Meaning) (terms : Terms) (s : Session) (now : ℕ) (f : Fact
       let at : Doing → Spot = λ doing.
       record { doing = doing; link = link_of s end.Going; moved = false; facts = f } in
       let p5 : Place = record (with_spot 0 (at Done) p1) { stage = Works 1 Asks } in
-      let begins : p1 ≡ cond (is_at_end terms (idle_place s n f)) (record (idle_place s n f) { stage = Ended }) p1 =
-      ap (λ b. cond b (record (idle_place s n f) { stage = Ended }) p1) (sym on) in
       let ends : idle_place s (suc n) f ≡ turn_ended p5 =
       ap (λ links. record (idle_place s (suc n) f) { links = links }) (sym (one_link (link_of s end.Going))) in
       let works : (doing : Doing) → Place = λ doing. with_spot 0 (at doing) p1 in (
         p1,
-        begins,
+        begin_step clients terms (idle_place s n f) refl on,
         (
           works Waits,
           inl (record { spot = at Waits; steps = (refl, refl, refl); leads = refl }),

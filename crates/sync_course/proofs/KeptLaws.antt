@@ -18,24 +18,26 @@ turned : (x y : List ℕ) (o : Ordering) → slice_cmp nat_cmp x y ≡ o → sli
 turned x y o is = nat_list_cmp_total.antisymm y x ∙ ap ordering_reverse is
 
 -- what is kept by two comparisons is kept by the one
-before_then : (x y z : List ℕ) (first second whole : Bool) → (first ≡ true → second ≡ true → whole ≡ true) → (o r : Ordering)
-    → slice_cmp nat_cmp x y ≡ o → slice_cmp nat_cmp y z ≡ r → is_before o first ≡ true → is_before r second ≡ true
-    → is_before (slice_cmp nat_cmp x z) whole ≡ true
-before_then x y z first second whole both ordering.Less r e f a b = cc
-before_then x y z first second whole both ordering.Equal ordering.Less e f a b = cc
-before_then x y z first second whole both ordering.Greater ordering.Less e f a b = cc
-before_then x y z first second whole both ordering.Greater ordering.Greater e f a b =
-    let low =
-    nat_list_cmp_total.trans z y x (turned y z ordering.Greater f) (turned x y ordering.Greater e) in
-    ap (λ o. is_before o whole) (turned z x ordering.Less low)
-before_then x y z first second whole both ordering.Greater ordering.Equal e f a b =
-    let low : slice_cmp nat_cmp z x ≡ ordering.Less =
-    sym (nat_list_cmp_total.congr y z x f) ∙ turned x y ordering.Greater e in
-    ap (λ o. is_before o whole) (turned z x ordering.Less low)
-before_then x y z first second whole both ordering.Equal ordering.Greater e f a b =
-    ap (λ o. is_before o whole) (nat_list_cmp_total.congr x y z e ∙ f)
-before_then x y z first second whole both ordering.Equal ordering.Equal e f a b =
-    ap (λ o. is_before o whole) (nat_list_cmp_total.congr x y z e ∙ f) ∙ both a b
+module _ (x y z : List ℕ) (first second whole : Bool)
+    (both : first ≡ true → second ≡ true → whole ≡ true) where
+  before_then : (o r : Ordering)
+      → slice_cmp nat_cmp x y ≡ o → slice_cmp nat_cmp y z ≡ r → is_before o first ≡ true → is_before r second ≡ true
+      → is_before (slice_cmp nat_cmp x z) whole ≡ true
+  before_then ordering.Less r e f a b = cc
+  before_then ordering.Equal ordering.Less e f a b = cc
+  before_then ordering.Greater ordering.Less e f a b = cc
+  before_then ordering.Greater ordering.Greater e f a b =
+      let low =
+      nat_list_cmp_total.trans z y x (turned y z ordering.Greater f) (turned x y ordering.Greater e) in
+      ap (λ o. is_before o whole) (turned z x ordering.Less low)
+  before_then ordering.Greater ordering.Equal e f a b =
+      let low : slice_cmp nat_cmp z x ≡ ordering.Less =
+      sym (nat_list_cmp_total.congr y z x f) ∙ turned x y ordering.Greater e in
+      ap (λ o. is_before o whole) (turned z x ordering.Less low)
+  before_then ordering.Equal ordering.Greater e f a b =
+      ap (λ o. is_before o whole) (nat_list_cmp_total.congr x y z e ∙ f)
+  before_then ordering.Equal ordering.Equal e f a b =
+      ap (λ o. is_before o whole) (nat_list_cmp_total.congr x y z e ∙ f) ∙ both a b
 
 kept_then : (x y z : Option (List ℕ)) (first second whole : Bool) → (first ≡ true → second ≡ true → whole ≡ true) → is_kept x y first ≡ true
     → is_kept y z second ≡ true → is_kept x z whole ≡ true
@@ -50,11 +52,8 @@ not_kept None = refl
 not_kept (Some x) = not_before (slice_cmp nat_cmp x x) refl
   where
     not_before : (o : Ordering) → slice_cmp nat_cmp x x ≡ o → is_before (slice_cmp nat_cmp x x) false ≡ false
-    not_before ordering.Less is = ap (λ o. is_before o false) is
-    not_before ordering.Equal is = ap (λ o. is_before o false) is
-    not_before ordering.Greater is =
-        let low = turned x x ordering.Greater is in
-        ap (λ o. is_before o false) low
+    not_before ordering.Greater is = ap (λ o. is_before o false) (turned x x ordering.Greater is)
+    not_before _ is = ap (λ o. is_before o false) is
 
 -- the parts of a comparison of two links
 pub record Beats (i : ℕ) (a : Link) (k : ℕ) (b : Link) : Type 0 where

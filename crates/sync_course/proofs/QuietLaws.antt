@@ -276,13 +276,6 @@ closed_so test none true stands is = absurd (false≢true (sym none ∙ is))
 closed_so test none false stands is = is
 
 module _ (clients : Meaning) (terms : Terms) where
-  still_first : (told : ℕ → LinkTold) (p : Place) → p.still ≡ 0
-      → BetweenTurns clients terms told (record p { stage = Between })
-  still_first told p none = record {
-    idle = λ i link at going. omega (arith, none);
-    quiet = λ some i link at sent. let s : 0 < p.still = some in absurd (omega (arith, none, s));
-  }
-
   still_closed : (told : ℕ → LinkTold) (n : ℕ) (doing : Doing) (p : Place) → slice_get p.links n ≡ None
       → (b : Bool) → (b ≡ false → InTurn clients terms told n doing p)
       → BetweenTurns clients terms told (record (turn_ended p) { still = cond b 0 (suc p.still) })
@@ -357,7 +350,13 @@ module _ (clients : Meaning) (terms : Terms) where
             (settled_stays clients p.facts (entry.Session x ∷ []) refl k.0, k.1);
         greets = λ x left k. k;
         breaks = λ x left k. k;
-        all_begun = λ k. (k.0, still_first told p k.1);
+        all_begun = λ k. (
+          k.0,
+          record {
+            idle = λ i link at going. omega (arith, k.1);
+            quiet = λ some i link at sent. absurd (omega (arith, k.1, some));
+          },
+        );
         ends = λ over k. (k.0, record { idle = k.1.idle; quiet = k.1.quiet });
         turns = λ on k. (
           (k.0, tt),

@@ -94,39 +94,18 @@ sent_then true fails sent owed went left all added none was goes =
 abbrev pub output : List (List Entry) → ℕ → List ℕ
 output j session = spelled (sent j session)
 
--- a batch adds what it adds
-commit_adds : (clients : Meaning) (j : List (List Entry)) (b : List Entry) (session : ℕ) → Legal clients j → Allowed clients (facts j) b
-    → output (j ++ b ∷ []) session ≡ output j session ++ spelled (output_in (facts j) session b)
-commit_adds clients j b session legal allowed =
-    ap (λ rs. spelled rs) (sent_push clients j b session legal allowed)
-    ∙ flat_map-append spelling (sent j session) (output_in (facts j) session b)
-
--- so does each event
-none_added : (first : ℕ) (j : List (List Entry)) (link : ℕ) → output (j ++ []) (first + link) ≡ output j (first + link) ++ []
-none_added first j link =
-    ap (λ k. output k (first + link)) (append-nil j) ∙ sym (append-nil (output j (first + link)))
-
+-- an event adds what it adds
 event_adds : (clients : Meaning) (first : ℕ) (j : List (List Entry)) (e : Event) (link : ℕ) → Legal clients j
     → GoesOn clients (facts j) (batches_of (e ∷ []))
     → output (j ++ batches_of (e ∷ [])) (first + link) ≡ output j (first + link) ++ adds_to (facts j) first e link
-event_adds clients first j (Commit b) link legal goes = commit_adds clients j b (first + link) legal goes.0
-event_adds clients first j _ link legal goes = none_added first j link
+event_adds clients first j (Commit b) link legal goes =
+    ap (λ rs. spelled rs) (sent_push clients j b (first + link) legal goes.0)
+    ∙ flat_map-append spelling (sent j (first + link)) (output_in (facts j) (first + link) b)
+event_adds clients first j _ link legal goes =
+    ap (λ k. output k (first + link)) (append-nil j)
+    ∙ sym (append-nil (output j (first + link)))
 
 -- ---- nothing is committed for a link that failed
-
-settling_puts : (clients : Meaning) (f : Facts) (b : List Entry) (session : ℕ)
-    → IsSettlingBatch clients f b → output_in f session b ≡ []
-settling_puts clients f b session s =
-    silent_adds_nothing f session b (settling_silent clients f b s.2)
-
--- the session that begins is no other
-begins_adds : (f : Facts) (x : Session) (session : ℕ) → (x.number ≡ session → ⊥) → output_in f session (entry.Session x ∷ []) ≡ []
-begins_adds f x session other =
-    ap (λ b. cond b (first_records x) [] ++ []) (ne_eqb x.number session other)
-
-out_adds : (f : Facts) (at session now : ℕ) (what : Out) → (at ≡ session → ⊥) → output_in f session (out_batch at now what) ≡ []
-out_adds f at session now what other =
-    ap (λ b. cond b (records_of f.held what) [] ++ []) (ne_eqb at session other)
 
 -- the records that an event adds to the output of a session
 abbrev pub records_by : Facts → ℕ → Event → List Record
@@ -146,7 +125,8 @@ event_spares clients first e p q i t s o f =
     free_batches clients first p
     (λ x g. records_by p.facts (first + i) x ≡ []) (record {
       none = λ x none. none_by p.facts (first + i) x none;
-      settles = λ b settling. settling_puts clients p.facts b (first + i) settling;
+      settles = λ b settling.
+          silent_adds_nothing p.facts (first + i) b (settling_silent clients p.facts b settling.2);
       adds = λ b rests plain allowed. (plain_adds p.facts b plain).puts (first + i);
       begins = λ x rests allowed.
           let may : MayBegin p.facts x = allowed.2 in
@@ -154,23 +134,25 @@ event_spares clients first e p q i t s o f =
           let numbered : x.number ≡ p.facts.begun = may.numbered in
           let begun : p.facts.begun ≡ first + length p.links =
           subst (λ h. IsBegunAt first h (length p.links) p.facts) rests s.begun in
-          begins_adds p.facts x (first + i)
+          ap (λ b. cond b (first_records x) [] ++ [])
+          (ne_eqb x.number (first + i)
           (λ same.
           let at : x.number ≡ first + i = same in
-          absurd (omega (arith, within, numbered, at, begun)));
+          absurd (omega (arith, within, numbered, at, begun))));
       takes = λ n place r its link holds at allowed.
           silent_adds_nothing p.facts (first + i) (next_take p.facts (first + n) r)
           (take_silent clients p.facts (first + n) _ _ allowed);
       puts = λ n now room what link holds at is_due allowed.
           let is_open : is_sent_to link.stands ≡ true =
           subst (λ h. HoldsOpen h p.links) holds o link at in
-          out_adds p.facts (first + n) (first + i) now what
+          ap (λ b. cond b (records_of p.facts.held what) [] ++ [])
+          (ne_eqb (first + n) (first + i)
           (λ same.
           let is : first + n ≡ first + i = same in
           let number : i ≡ n = omega (arith, is) in
           let there : link ≡ f.link = get_same at (ap (slice_get p.links) (sym number) ∙ f.there) in
           let failed : link.stands ≡ end.Failed = ap (λ l. l.stands) there ∙ f.failed in
-          absurd (false≢true (ap is_sent_to (sym failed) ∙ is_open)));
+          absurd (false≢true (ap is_sent_to (sym failed) ∙ is_open))));
     }) q e t
 
 none_owed : (f : Facts) (first i : ℕ) (e : Event) → records_by f (first + i) e ≡ []
