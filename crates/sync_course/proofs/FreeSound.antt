@@ -15,7 +15,7 @@ use Rattle.sync_course.specs.declared.ends.LinkEnd.{LinkEnd}
 use Rattle.sync_course.specs.Events.{Event, batches_of}
 use Rattle.sync_course.specs.Free.{Begins, Free, FreeStep, Hold, Holds, IsNothingUnderWay, Rests}
 use Rattle.sync_course.specs.Free.{first_free, forget, hold_at, joined_by, spot_in}
-use Rattle.sync_course.specs.Links.{Link, closed_from, link_of, without_redundant}
+use Rattle.sync_course.specs.Links.{Link, closed_from, link_of}
 use Rattle.sync_course.specs.Links.{is_going, closes, items_after, link_after, new_items}
 use Rattle.sync_course.specs.Links.{stands_behind}
 use Rattle.sync_course.specs.LinkTurns.{Doing, LinkStep, Spot, next_take}

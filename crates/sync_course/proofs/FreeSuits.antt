@@ -34,7 +34,7 @@ use Rattle.sync_course.proofs.FreeSteps.{settling_adds}
 use Rattle.sync_course.proofs.HeardLaws.{bytes_of, free_path_adds}
 use Rattle.sync_course.proofs.PathLaws.{path_parts}
 use Rattle.sync_course.proofs.RunLaws.{get_behind, get_front, get_middle}
-use Rattle.sync_course.proofs.SendLaws.{ActsOn, HasSent, acts_sent, events_path, front_before}
+use Rattle.sync_course.proofs.SendLaws.{ActsOn, acts_sent, events_path, front_before}
 use Rattle.sync_course.proofs.SendLaws.{front_of_none, front_so, output}
 use Rattle.sync_course.proofs.ToldLaws.{batches_of-append}
 use Rattle.record_grammar.specs.Stream.{records, records_of}

@@ -4,14 +4,14 @@ use Rattle.std.specs.Prelude.{slice_get, slice_index_or}
 use Rattle.std.proofs.lemmas.List.{get_or_past}
 use Rattle.std.proofs.lemmas.Bool.{cases_eq, ne_eqb}
 use Rattle.std.proofs.lemmas.Grind.{flat_map-append}
-use Rattle.outside.specs.Links.{Answered, HeardOn, Reply, changed_at, ended, got, hear_failure, hear_reply, idle, nothing_heard}
+use Rattle.outside.specs.Links.{HeardOn, Reply, changed_at, ended, got, hear_failure, hear_reply, idle, nothing_heard}
 use Rattle.outside.specs.Runs.{heard_bytes, reply_bytes}
 use Rattle.outside.proofs.RunLaws.{changed_at_other, changed_at_same}
 use Rattle.sync_rules.specs.Clients.{Meaning}
 use Rattle.sync_course.specs.declared.TheConstants.{PIECE_LEN}
 use Rattle.sync_course.specs.Events.{Event, Hear, Miss, heard_after, heard_by}
 use Rattle.sync_course.specs.Free.{Free, FreeStep, spot_in}
-use Rattle.sync_course.specs.LinkTurns.{Doing, LinkStep, Spot}
+use Rattle.sync_course.specs.LinkTurns.{LinkStep, Spot}
 use Rattle.sync_course.specs.Paths.{Path}
 use Rattle.sync_course.specs.Story.{heard_at}
 use Rattle.sync_course.specs.Suits.{heard_in}

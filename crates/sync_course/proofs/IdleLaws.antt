@@ -20,7 +20,7 @@ use Rattle.sync_course.specs.Paths.{Path}
 use Rattle.sync_course.proofs.LiftLaws.{begin_step}
 use Rattle.sync_course.proofs.PathLaws.{path_then}
 use Rattle.sync_course.proofs.KeptLaws.{never, not_itself}
-use Rattle.sync_course.specs.Turns.{Attaches, Course, Ended, Greets, Place, RunStep, Terms, Works, attached, first_place, is_at_end, is_over, turn_ended, with_spot}
+use Rattle.sync_course.specs.Turns.{Attaches, Course, Greets, Place, RunStep, Terms, Works, attached, first_place, is_at_end, is_over, turn_ended, with_spot}
 use Rattle.sync_course.specs.Idle.{greeting, idle_turn, idle_turns, idle_run, idle_place, idle_end}
 
 one_link : (link : Link) → without_redundant (link ∷ []) ≡ link ∷ []

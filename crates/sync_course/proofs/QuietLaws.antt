@@ -14,7 +14,7 @@ use Rattle.sync_course.specs.LinkTurns.{Doing, LinkStep, Puts, Sends, Spot, Take
 use Rattle.sync_course.specs.LinkTurns.{Waits, Done, IsEnough}
 use Rattle.sync_course.specs.Paths.{Path}
 use Rattle.sync_course.specs.Quiet.{reading_after, reading_by, last_reading, IsQuietAt, idles_after}
-use Rattle.sync_course.specs.Quiet.{idles_by, idles_with, EndsQuiet, idle_answers}
+use Rattle.sync_course.specs.Quiet.{idles_by, idles_with, EndsQuiet}
 use Rattle.sync_course.specs.Turns.{Place, RunStep, Settles, Stage, Terms, Works, spot_of, Greets}
 use Rattle.sync_course.specs.Turns.{Attaches, Between, Ended, turn_ended, with_spot, Course}
 use Rattle.sync_course.specs.Turns.{first_place, is_over, some_going}

@@ -9,13 +9,11 @@ use Rattle.record_grammar.specs.Laws.{RecordsJoin, StreamsGoOn}
 use Rattle.record_grammar.specs.Spelling.{spelled, spelling}
 use Rattle.sync_ids.specs.declared.records.Record.{Record}
 use Rattle.sync_rules.specs.declared.entries.Entry.{Entry}
-use Rattle.sync_rules.specs.declared.entries.Entry.TheVariants as entry
 use Rattle.sync_rules.specs.declared.entries.Session.{Session}
 use Rattle.sync_rules.specs.Clients.{Meaning}
 use Rattle.sync_rules.specs.Facts.{Facts, after_batches, facts, session_at}
 use Rattle.sync_rules.specs.Growth.{output_in}
-use Rattle.sync_rules.specs.Legal.{Allowed, GoesOn, IsSettlingBatch, Legal, MayBegin}
-use Rattle.sync_rules.specs.declared.entries.Out.{Out}
+use Rattle.sync_rules.specs.Legal.{GoesOn, Legal, MayBegin}
 use Rattle.sync_rules.specs.Output.{first_records, records_of, sent}
 use Rattle.sync_rules.proofs.Continuing.{facts-append, legal-append}
 use Rattle.sync_rules.proofs.OutputLaws.{not_begun_sent, sent_push, settling_silent, silent_adds_nothing, take_silent}
@@ -24,8 +22,8 @@ use Rattle.sync_course.specs.declared.ends.LinkEnd.TheVariants as end
 use Rattle.sync_course.specs.Acts.{Act, Does, Send, Fail, batches_in, event_of, events_of, sends_on, sent_by}
 use Rattle.sync_course.specs.Events.{Event, Commit, batches_of, has_failure, is_failure}
 use Rattle.sync_course.specs.Free.{Free, FreeStep, first_free}
-use Rattle.sync_course.specs.Links.{Link, is_sent_to}
-use Rattle.sync_course.specs.LinkTurns.{next_take, out_batch}
+use Rattle.sync_course.specs.Links.{is_sent_to}
+use Rattle.sync_course.specs.LinkTurns.{next_take}
 use Rattle.sync_course.specs.Owing.{ActStep, Owing, adds_to, paid}
 use Rattle.sync_course.specs.Paths.{Path}
 use Rattle.sync_course.specs.Story.{AllIsSent, FreeActs, LinkFailed}

@@ -9,7 +9,7 @@ use Rattle.outside.specs.declared.host.Heard.TheVariants as answer
 use Rattle.outside.specs.Faults.{CountRose}
 use Rattle.outside.specs.Host.{GrowsReadings, HearsAnswer, IsAnswerCaused, ReadsClock, SendsOnLink}
 use Rattle.outside.specs.Disk.{RelatesTold}
-use Rattle.outside.specs.Links.{HeardOn, Links, Planned, Reply, changed_at, got, idle, ended, hear_reply}
+use Rattle.outside.specs.Links.{HeardOn, Planned, Reply, changed_at, got, idle, ended, hear_reply}
 use Rattle.outside.specs.Planned.{AnswersAsPlanned, UsesPlan}
 use Rattle.outside.specs.Outside.{Outside}
 use Rattle.outside.proofs.CallSteps.{becomes_map, becomes_none, becomes_then}
