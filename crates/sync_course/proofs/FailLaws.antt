@@ -66,14 +66,12 @@ going_well _ going = refl
 
 ended_well : (e : Ending) → is_failed (stands_ended e) ≡ false
 ended_well ending_kind.Clean = refl
-ended_well (ending_kind.Inside place) = refl
-ended_well (ending_kind.Bad place why) = refl
+ended_well _ = refl
 
 behind_same : (stands : LinkEnd) (e : Ending)
     → is_failed (stands_behind stands e) ≡ is_failed stands
 behind_same end.Going ending_kind.Clean = refl
-behind_same end.Going (ending_kind.Inside place) = refl
-behind_same end.Going (ending_kind.Bad place why) = refl
+behind_same end.Going _ = refl
 behind_same _ e = refl
 
 -- no call failed

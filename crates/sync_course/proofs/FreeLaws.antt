@@ -157,8 +157,8 @@ module _ (clients : Meaning) (terms : Terms) where
       path
 
   pub run_acts_are_free : (p q : Owing Place) (acts : List Act)
-      → Path (ActStep (λ x. x.facts) terms.first (RunStep clients terms)) p acts q
-      → Path (ActStep (λ x. x.facts) terms.first (FreeStep clients terms.first))
+      → Path (ActStep (λ (x : Place). x.facts) terms.first (RunStep clients terms)) p acts q
+      → Path (ActStep (λ (x : Free). x.facts) terms.first (FreeStep clients terms.first))
       (owing_free p) acts (owing_free q)
   run_acts_are_free p q acts path =
       acts_map (λ x. x.facts) (λ x. x.facts) terms.first (RunStep clients terms)

@@ -212,8 +212,7 @@ untaken clients f o =
 -- the sessions that began are those of the links, and one more while it is to greet, on which nothing was taken
 abbrev pub IsBegunAt : ℕ → Hold → ℕ → Facts → Type 0
 IsBegunAt first (Begins s) links f = (f.begun ≡ suc (first + links)) × (takes_of f.takes (first + links) ≡ 0)
-IsBegunAt first Rests links f = f.begun ≡ first + links
-IsBegunAt first (Holds n doing) links f = f.begun ≡ first + links
+IsBegunAt first _ links f = f.begun ≡ first + links
 
 pub record IsFreeSound (clients : Meaning) (first : ℕ) (p : Free) : Type 0 where
   pub of_journal : IsOfJournal clients p.facts
@@ -221,14 +220,12 @@ pub record IsFreeSound (clients : Meaning) (first : ℕ) (p : Free) : Type 0 whe
   pub counted : (i : ℕ) (link : Link) → slice_get p.links i ≡ Some link → IsCounted p.facts (first + i) (pending_in p.hold i) link
 
 pub idle_begun : (first links : ℕ) (f : Facts) (hold : Hold) → IsNothingUnderWay hold → IsBegunAt first hold links f → f.begun ≡ first + links
-idle_begun first links f Rests calm b = b
 idle_begun first links f (Begins s) calm b = absurd calm
-idle_begun first links f (Holds n doing) calm b = b
+idle_begun first links f _ calm b = b
 
 begun_idle : (first links : ℕ) (f : Facts) (hold : Hold) → IsNothingUnderWay hold → f.begun ≡ first + links → IsBegunAt first hold links f
-begun_idle first links f Rests calm b = b
 begun_idle first links f (Begins s) calm b = absurd calm
-begun_idle first links f (Holds n doing) calm b = b
+begun_idle first links f _ calm b = b
 
 closed_length : (all : List Link) (k : ℕ) (links : List Link) → length (closed_from all k links) ≡ length links
 closed_length all k [] = refl

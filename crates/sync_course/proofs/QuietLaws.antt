@@ -207,12 +207,6 @@ spared_told i told _ spares = refl
 
 -- ---- a place of a run
 
--- between two turns: each link that is asked answered Idle in as many turns as were still, and behind a still turn nothing is due
-pub record BetweenTurns (clients : Meaning) (terms : Terms) (told : ℕ → LinkTold) (p : Place) : Type 0 where
-  pub idle : (i : ℕ) (link : Link) → slice_get p.links i ≡ Some link → IsIdle p.still (told i).idles link
-  pub quiet : 0 < p.still → (i : ℕ) (link : Link) → slice_get p.links i ≡ Some link → is_sent_to link.stands ≡ true
-      → IsQuietAt clients p.facts (terms.first + i) (told i).reading
-
 -- what a link does in a turn, where the one of a number does this: those before it are done, and those behind it are yet to ask
 abbrev pub phase : ℕ → Doing → ℕ → Doing
 phase zero doing zero = doing
@@ -246,24 +240,6 @@ phase_next zero (suc i) = sym (phase_first i)
 phase_next (suc n) zero = refl
 phase_next (suc n) (suc i) = phase_next n i
 
--- the link of a number, by what it does
-abbrev pub StillLink : Meaning → Terms → (ℕ → LinkTold) → Place → ℕ → Link → Doing → Type 0
-StillLink clients terms told p i link doing =
-    IsStill clients p.facts (terms.first + i) p.still (told i) doing link
-
--- in a turn that did not move: each link, by its phase
-abbrev pub InTurn : Meaning → Terms → (ℕ → LinkTold) → ℕ → Doing → Place → Type 0
-InTurn clients terms told n doing p = (i : ℕ) (link : Link) → slice_get p.links i ≡ Some link
-    → StillLink clients terms told p i link (phase n doing i)
-
-abbrev pub IsStillAt : Meaning → Terms → (ℕ → LinkTold) → Stage → Place → Type 0
-IsStillAt clients terms told (Settles left) p = p.still ≡ 0
-IsStillAt clients terms told (Attaches left) p = p.still ≡ 0
-IsStillAt clients terms told (Greets s left) p = p.still ≡ 0
-IsStillAt clients terms told Between p = BetweenTurns clients terms told p
-IsStillAt clients terms told (Works n doing) p = p.moved ≡ false → InTurn clients terms told n doing p
-IsStillAt clients terms told Ended p = BetweenTurns clients terms told p
-
 get_none : {A : Type 0} (xs : List A) (n : ℕ) → slice_get xs n ≡ None → length xs ≤ n
 get_none [] n none = omega arith
 get_none (x ∷ xs) zero none = cc
@@ -276,20 +252,45 @@ closed_so test none true stands is = absurd (false≢true (sym none ∙ is))
 closed_so test none false stands is = is
 
 module _ (clients : Meaning) (terms : Terms) where
+  -- between two turns: each link that is asked answered Idle in as many turns as were still, and
+  -- behind a still turn nothing is due
+  pub record BetweenTurns (told : ℕ → LinkTold) (p : Place) : Type 0 where
+    pub idle : (i : ℕ) (link : Link) → slice_get p.links i ≡ Some link
+        → IsIdle p.still (told i).idles link
+    pub quiet : 0 < p.still → (i : ℕ) (link : Link) → slice_get p.links i ≡ Some link
+        → is_sent_to link.stands ≡ true
+        → IsQuietAt clients p.facts (terms.first + i) (told i).reading
+
+  -- the link of a number, by what it does
+  abbrev pub StillLink : (ℕ → LinkTold) → Place → ℕ → Link → Doing → Type 0
+  StillLink told p i link doing =
+      IsStill clients p.facts (terms.first + i) p.still (told i) doing link
+
+  -- in a turn that did not move: each link, by its phase
+  abbrev pub InTurn : (ℕ → LinkTold) → ℕ → Doing → Place → Type 0
+  InTurn told n doing p = (i : ℕ) (link : Link) → slice_get p.links i ≡ Some link
+      → StillLink told p i link (phase n doing i)
+
+  abbrev pub IsStillAt : (ℕ → LinkTold) → Stage → Place → Type 0
+  IsStillAt told Between p = BetweenTurns told p
+  IsStillAt told Ended p = BetweenTurns told p
+  IsStillAt told (Works n doing) p = p.moved ≡ false → InTurn told n doing p
+  IsStillAt told _ p = p.still ≡ 0
+
   still_closed : (told : ℕ → LinkTold) (n : ℕ) (doing : Doing) (p : Place) → slice_get p.links n ≡ None
-      → (b : Bool) → (b ≡ false → InTurn clients terms told n doing p)
-      → BetweenTurns clients terms told (record (turn_ended p) { still = cond b 0 (suc p.still) })
+      → (b : Bool) → (b ≡ false → InTurn told n doing p)
+      → BetweenTurns told (record (turn_ended p) { still = cond b 0 (suc p.still) })
   still_closed told n doing p none true t = record {
     idle = λ i link at going. omega arith;
     quiet = λ some i link at sent. absurd (omega arith);
   }
   still_closed told n doing p none false t =
       let had : (i : ℕ) (link : Link) → (c : IsClosedFrom i p.links link)
-      → StillLink clients terms told p i c.was Done =
+      → StillLink told p i c.was Done =
       λ i link c.
       let within = get_within p.links i c.was c.at in
       let past = get_none p.links n none in
-      subst (StillLink clients terms told p i c.was)
+      subst (StillLink told p i c.was)
       (phase_past n i doing (omega (arith, within, past))) (t refl i c.was c.at) in
       record {
         idle = λ i link at going.
@@ -306,19 +307,19 @@ module _ (clients : Meaning) (terms : Terms) where
 
   still_works : (told : ℕ → LinkTold) (n : ℕ) (doing : Doing) (link : Link) (e : Event) (spot : Spot) (p : Place)
       → slice_get p.links n ≡ Some link → LinkStep clients n (terms.first + n) (spot_of doing link p) e spot
-      → (p.moved ≡ false → InTurn clients terms told n doing p) → spot.moved ≡ false
-      → InTurn clients terms (λ i. told_by i (told i) e) n spot.doing (with_spot n spot p)
+      → (p.moved ≡ false → InTurn told n doing p) → spot.moved ≡ false
+      → InTurn (λ i. told_by i (told i) e) n spot.doing (with_spot n spot p)
   still_works told n doing link e spot p at steps t unmoved i other there =
       let from = spot_of doing link p in
       let q = with_spot n spot p in
       let now : ℕ → LinkTold = λ k. told_by k (told k) e in
       let st =
       still_step clients n (terms.first + n) p.still (told n) from spot e steps unmoved
-      (λ was. subst (StillLink clients terms told p n link) (phase_here n doing) (t was n link at)) in
+      (λ was. subst (StillLink told p n link) (phase_here n doing) (t was n link at)) in
       elim (cases_eq i n) [
         | inl same ↦
             subst (λ k. (l : Link) → slice_get q.links k ≡ Some l
-            → StillLink clients terms now q k l (phase n spot.doing k)) (sym same)
+            → StillLink now q k l (phase n spot.doing k)) (sym same)
             (λ l at_n. subst₂ (IsStill clients spot.facts (terms.first + n) p.still (now n))
             (sym (phase_here n spot.doing))
             (get_same (get_set p.links n spot.link (get_within p.links n link at)) at_n) st.so) other there
@@ -327,7 +328,7 @@ module _ (clients : Meaning) (terms : Terms) where
             spared_told i (told i) e (link_spares clients n (terms.first + n) i from spot e apart steps) in
             subst₂ (λ f x. IsStill clients f (terms.first + i) p.still x (phase n spot.doing i) other)
             (sym st.facts) (sym same)
-            (subst (StillLink clients terms told p i other) (phase_other n i doing spot.doing apart)
+            (subst (StillLink told p i other) (phase_other n i doing spot.doing apart)
             (t st.unmoved i other (sym (get_other p.links n i spot.link apart) ∙ there)))
       ]
 
@@ -335,7 +336,7 @@ module _ (clients : Meaning) (terms : Terms) where
 
   abbrev KeepsAt : (ℕ → LinkTold) → Stage → Place → Type 0
   KeepsAt told stage p =
-      PlaceKeeps clients (λ i. (told i).reading) stage p.facts × IsStillAt clients terms told stage p
+      PlaceKeeps clients (λ i. (told i).reading) stage p.facts × IsStillAt told stage p
 
   step_keeps : (told : ℕ → LinkTold) (p q : Place) (e : Event)
       → RunStep clients terms p e q → KeepsAt told p.stage p
@@ -361,7 +362,7 @@ module _ (clients : Meaning) (terms : Terms) where
         turns = λ on k. (
           (k.0, tt),
           λ unmoved i link at.
-              subst (StillLink clients terms told p i link) (sym (phase_first i))
+              subst (StillLink told p i link) (sym (phase_first i))
               (k.1.idle i link at),
         );
         works = λ n doing link x spot at steps k. (
@@ -371,7 +372,7 @@ module _ (clients : Meaning) (terms : Terms) where
         goes_on = λ n link at k. (
           (k.0.0, tt),
           λ unmoved i other there.
-              subst (StillLink clients terms told p i other) (phase_next n i)
+              subst (StillLink told p i other) (phase_next n i)
               (k.1 unmoved i other there),
         );
         turn_ends = λ n none k. (k.0.0, still_closed told n Asks p none p.moved k.1);

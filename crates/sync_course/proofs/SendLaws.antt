@@ -292,33 +292,34 @@ first_sent clients j legal =
       sent = λ i. sym (ap (λ l. output l ((facts j).begun + i)) same ∙ nothing_sent clients j i legal);
     }
 
--- behind the acts of a node
-pub acts_sent : StreamsGoOn → RecordsJoin → (clients : Meaning) (j : List (List Entry)) (acts : List Act) (to : Owing Free) → Legal clients j
-    → FreeActs clients j acts to → HasSent clients (facts j).begun j acts to
-acts_sent go_on join clients j acts to legal path =
-    let first : ℕ = (facts j).begun in
-    path_keeps (ActsOn clients first) (HasSent clients first j)
-    (sent_step go_on join clients first j) [] acts (paid (first_free (facts j))) to
-    (first_sent clients j legal) path
+module _ (go_on : StreamsGoOn) (join : RecordsJoin) (clients : Meaning) (j : List (List Entry)) where
+  -- behind the acts of a node
+  pub acts_sent : (acts : List Act) (to : Owing Free) → Legal clients j → FreeActs clients j acts to
+      → HasSent clients (facts j).begun j acts to
+  acts_sent acts to legal path =
+      let first : ℕ = (facts j).begun in
+      path_keeps (ActsOn clients first) (HasSent clients first j)
+      (sent_step go_on join clients first j) [] acts (paid (first_free (facts j))) to
+      (first_sent clients j legal) path
 
-pub all_sent : StreamsGoOn → RecordsJoin → (clients : Meaning) (j : List (List Entry)) (acts : List Act) (to : Owing Free) → Legal clients j
-    → FreeActs clients j acts to → ((link : ℕ) → to.owed link ≡ []) → AllIsSent j acts
-all_sent go_on join clients j acts to legal path clear link well =
-    let sent : SentSo false (sends_on link acts ++ to.owed link)
-    (output (j ++ batches_in acts) ((facts j).begun + link)) =
-    subst (λ t. SentSo t (sends_on link acts ++ to.owed link)
-    (output (j ++ batches_in acts) ((facts j).begun + link))) well
-    ((acts_sent go_on join clients j acts to legal path).sent link) in
-    sym (append-nil (sends_on link acts))
-    ∙ ap (λ l. sends_on link acts ++ l) (sym (clear link))
-    ∙ sent
+  pub all_sent : (acts : List Act) (to : Owing Free) → Legal clients j → FreeActs clients j acts to
+      → ((link : ℕ) → to.owed link ≡ []) → AllIsSent j acts
+  all_sent acts to legal path clear link well =
+      sym (append-nil (sends_on link acts))
+      ∙ ap (λ l. sends_on link acts ++ l) (sym (clear link))
+      ∙ subst (λ t. SentSo t (sends_on link acts ++ to.owed link)
+      (output (j ++ batches_in acts) ((facts j).begun + link))) well
+      ((acts_sent acts to legal path).sent link)
 
--- nothing is committed for a link on which a call failed
-pub failed_spared : StreamsGoOn → RecordsJoin → (clients : Meaning) (j : List (List Entry)) (es : List Event) (p q : Free) (b : List Entry)
-    (link : ℕ) → Legal clients j → Path (FreeStep clients (facts j).begun) (first_free (facts j)) es p
-    → FreeStep clients (facts j).begun p (Commit b) q → has_failure link es ≡ true → output_in p.facts ((facts j).begun + link) b ≡ []
-failed_spared go_on join clients j es p q b link legal path step failed =
-    let fails = path_fails clients (facts j).begun (facts j) p es path in
-    let sound = free_path_sound go_on join clients (facts j).begun (first_free (facts j)) p es path (first_free_sound clients j legal) in
-    event_spares clients (facts j).begun (Commit b) p q link step sound fails.opens
-    (fails.stays link failed)
+  -- nothing is committed for a link on which a call failed
+  pub failed_spared : (es : List Event) (p q : Free) (b : List Entry) (link : ℕ) → Legal clients j
+      → Path (FreeStep clients (facts j).begun) (first_free (facts j)) es p
+      → FreeStep clients (facts j).begun p (Commit b) q → has_failure link es ≡ true
+      → output_in p.facts ((facts j).begun + link) b ≡ []
+  failed_spared es p q b link legal path step failed =
+      let fails = path_fails clients (facts j).begun (facts j) p es path in
+      let sound =
+      free_path_sound go_on join clients (facts j).begun (first_free (facts j)) p es path
+      (first_free_sound clients j legal) in
+      event_spares clients (facts j).begun (Commit b) p q link step sound fails.opens
+      (fails.stays link failed)
