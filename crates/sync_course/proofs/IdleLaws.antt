@@ -87,18 +87,6 @@ module _ (clients : Meaning) (terms : Terms) (s : Session) (now : ℕ) (f : Fact
       let p3 = attached s [] p2 in
       (p1, (settled, refl), (p2, (refl, allowed, refl), (p3, refl, (idle_place s 0 began, refl, refl))))
 
-  idle_course : (n : ℕ) → ((k : ℕ) → k < n → is_at_end terms (idle_place s k began) ≡ false) → is_at_end terms (idle_place s n began) ≡ true
-      → Course clients terms (s ∷ []) f (idle_run s now n) (idle_end s n began)
-  idle_course n on over = record {
-    numbered = numbered;
-    path =
-        path_then (RunStep clients terms) (first_place (s ∷ []) f) (idle_place s 0 began) (idle_end s n began) (greeting s)
-        (idle_turns now n ++ Pass ∷ []) greeting_path
-        (path_then (RunStep clients terms) (idle_place s 0 began) (idle_place s n began) (idle_end s n began) (idle_turns now n) (Pass ∷ [])
-        (idle_turns_path clients terms s now began nothing_due n on) (idle_end_path clients terms s now began nothing_due n over));
-    at_end = refl;
-  }
-
   -- not over and with turns left
   goes_on_at : (k : ℕ) → k < terms.quiet → k < terms.turns → is_at_end terms (idle_place s k began) ≡ false
   goes_on_at k quiet turns =
@@ -112,8 +100,18 @@ module _ (clients : Meaning) (terms : Terms) (s : Session) (now : ℕ) (f : Fact
       → Course clients terms (s ∷ []) f (idle_run s now n) (idle_end s n began)
       × (closing terms.quiet (idle_end s n began) ≡ record { over = over; ends = end.Going ∷ [] })
   ends_after n over quiet turns is ended = (
-    idle_course n (λ k less. goes_on_at k (omega (arith, less, quiet)) (omega (arith, less, turns)))
-        (ap (λ x. x || nat_le terms.turns n) is ∙ ended),
+    record {
+      numbered = numbered;
+      path =
+          path_then (RunStep clients terms) (first_place (s ∷ []) f) (idle_place s 0 began) _ (greeting s)
+          (idle_turns now n ++ Pass ∷ []) greeting_path
+          (path_then (RunStep clients terms) (idle_place s 0 began) (idle_place s n began) _ (idle_turns now n) (Pass ∷ [])
+          (idle_turns_path clients terms s now began nothing_due n
+          (λ k less. goes_on_at k (omega (arith, less, quiet)) (omega (arith, less, turns))))
+          (idle_end_path clients terms s now began nothing_due n
+          (ap (λ x. x || nat_le terms.turns n) is ∙ ended)));
+      at_end = refl;
+    },
     ap (λ x. record { over = x; ends = end.Going ∷ [] }) is,
   )
 

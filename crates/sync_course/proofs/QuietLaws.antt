@@ -133,6 +133,12 @@ pub record StillStep (clients : Meaning) (session still : ℕ) (told : LinkTold)
   pub facts : q.facts ≡ p.facts
   pub so : IsStill clients q.facts session still told q.doing q.link
 
+stays_still : {clients : Meaning} {session still : ℕ} {told : LinkTold} {p q : Spot}
+    → p.moved ≡ false → q.facts ≡ p.facts
+    → IsStill clients q.facts session still told q.doing q.link
+    → StillStep clients session still told p q
+stays_still unmoved same so = record { unmoved = unmoved; facts = same; so = so }
+
 -- an event behind which a spot has moved is no step of a still turn
 moved : {A : Type 0} → true ≡ false → A
 moved is = absurd (false≢true (sym is))
@@ -148,49 +154,37 @@ still_step clients n session still told p q e s =
     → (p.moved ≡ false → IsStill clients p.facts session still told doing p.link)
     → StillStep clients session still (told_by n told x) p r) (record {
       hears = λ bytes going unmoved claim. moved unmoved;
-      idles = λ going unmoved claim. record {
-        unmoved = unmoved;
-        facts = refl;
-        so = λ asked.
-            let before = claim unmoved asked in
-            let more : idles_by n told.idles (Hear n idle) ≡ suc told.idles =
-            ap (λ b. cond b (suc told.idles) told.idles) itself in
-            subst (λ k. suc still ≤ k) (sym more) (omega (arith, before));
-      };
+      idles = λ going unmoved claim.
+          stays_still unmoved refl (λ asked.
+          let before = claim unmoved asked in
+          let more : idles_by n told.idles (Hear n idle) ≡ suc told.idles =
+          ap (λ b. cond b (suc told.idles) told.idles) itself in
+          subst (λ k. suc still ≤ k) (sym more) (omega (arith, before)));
       ends = λ going unmoved claim. moved unmoved;
       misses = λ going unmoved claim. moved unmoved;
-      unasked = λ is unmoved claim. record {
-        unmoved = unmoved;
-        facts = refl;
-        so = λ going. absurd (false≢true (sym is ∙ going));
-      };
+      unasked = λ is unmoved claim.
+          stays_still unmoved refl (λ going. absurd (false≢true (sym is ∙ going)));
       settles = λ its b settling unmoved claim. absurd (claim unmoved);
       takes = λ place r its allowed unmoved claim. absurd (claim unmoved);
       skips = λ place type_byte len its unmoved claim. absurd (claim unmoved);
       all_taken = λ settled unmoved claim. absurd (claim unmoved);
-      reads = λ now is_open unmoved claim. record {
-        unmoved = unmoved;
-        facts = refl;
-        so = (refl, ap (λ b. cond b (Some now) told.reading) itself, claim unmoved);
-      };
-      closed = λ is unmoved claim. record {
-        unmoved = unmoved;
-        facts = refl;
-        so = record { idle = claim unmoved; quiet = λ sent. absurd (false≢true (sym is ∙ sent)) };
-      };
+      reads = λ now is_open unmoved claim.
+          stays_still unmoved refl
+          (refl, ap (λ b. cond b (Some now) told.reading) itself, claim unmoved);
+      closed = λ is unmoved claim.
+          stays_still unmoved refl (record {
+            idle = claim unmoved;
+            quiet = λ sent. absurd (false≢true (sym is ∙ sent));
+          });
       puts = λ now room what is_due allowed unmoved claim. moved unmoved;
       enough = λ now room enough unmoved claim.
           let so = claim unmoved in
-          record {
-            unmoved = unmoved;
-            facts = refl;
-            so = record {
-              idle = so.2;
-              quiet = λ sent.
-                  subst (IsQuietAt clients p.facts session) (sym so.1)
-                  (subst (λ k. IsEnough clients p.facts session now k) so.0 enough);
-            };
-          };
+          stays_still unmoved refl (record {
+            idle = so.2;
+            quiet = λ sent.
+                subst (IsQuietAt clients p.facts session) (sym so.1)
+                (subst (λ k. IsEnough clients p.facts session now k) so.0 enough);
+          });
       put = λ now room unmoved claim. absurd (claim unmoved);
       breaks = λ now room unmoved claim. moved unmoved;
     }) q e s
