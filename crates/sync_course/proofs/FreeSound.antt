@@ -24,9 +24,9 @@ use Rattle.sync_course.specs.Pending.{pending, pending_at}
 use Rattle.sync_course.specs.Turns.{Broken, Place, RunStep, Settles, Stage, Terms, first_place}
 use Rattle.sync_course.proofs.FreeLaws.{run_is_free}
 use Rattle.sync_course.specs.Suits.{IsCounted, keeps_all}
-use Rattle.sync_course.proofs.RunLaws.{moves_none, moves_then, settled_begun, Moves}
+use Rattle.sync_course.proofs.RunLaws.{cond_self, moves_none, moves_then, settled_begun, Moves}
 use Rattle.sync_course.proofs.RunLaws.{new_items_follow, settled_takes, takes_by}
-use Rattle.sync_course.proofs.FreeSteps.{step_adds, Closed, Joined, Kept, LinkGoes, Stepped}
+use Rattle.sync_course.proofs.FreeSteps.{held_pends, step_adds, Closed, Joined, Kept, LinkGoes, Stepped}
 use Rattle.sync_course.proofs.FreeSteps.{free_by_cases, free_link, pending_in, plain_adds}
 use Rattle.sync_course.proofs.ToldLaws.{batches_of-append}
 use Rattle.record_grammar.specs.Stream.{items, parsed, records_of, ending, records}
@@ -80,7 +80,7 @@ takes_here : (clients : Meaning) (f : Facts) (session : ℕ) (r : Record) → Al
     → takes_of (after_all f (next_take f session r)).takes session ≡ takes_of f.takes session + 1
 takes_here clients f session r allowed =
     takes_by clients f session session r allowed
-    ∙ ap (λ b. cond b (takes_of f.takes session + 1) (takes_of f.takes session)) (eq-eqb session session refl)
+    ∙ cond_self session (takes_of f.takes session)
 
 -- the same records heard and to be taken, where the link's records were all kept or need not be
 pub counted_as : {f g : Facts} {session : ℕ} {its others : List Item} {link other : Link}
@@ -315,14 +315,12 @@ module _ (go_on : StreamsGoOn) (join : RecordsJoin) (clients : Meaning) (first :
       subst₂ (IsCounted q.facts (first + i)) (sym j.pends) (sym (get_same at j.now))
       (new_counted q.facts (first + i) j.session j.stands none)
   link_counted e p q i link s at (Stepped t) =
-      let held : (h : Hold) (d : Doing) → h ≡ Holds i d → pending_in h i ≡ pending d =
-      λ h d is. ap (λ x. pending_in x i) is ∙ ap (λ b. cond b (pending d) []) (eq-eqb i i refl) in
-      subst₂ (IsCounted q.facts (first + i)) (sym (held q.hold t.spot.doing t.holds))
+      subst₂ (IsCounted q.facts (first + i)) (sym (held_pends t.holds))
       (sym (get_same at t.now))
       (subst (λ f. IsCounted f (first + i) (pending t.spot.doing) t.spot.link) (sym t.facts)
       (link_step_counted go_on join clients i (first + i) (spot_in t.doing t.link t.moved p)
       t.spot e t.steps
-      (subst (λ its. IsCounted p.facts (first + i) its t.link) (held p.hold t.doing t.held)
+      (subst (λ its. IsCounted p.facts (first + i) its t.link) (held_pends t.held)
       (s.counted i t.link t.at))))
 
   pub free_sound : (p q : Free) (e : Event) → FreeStep clients first p e q → Sound p → Sound q

@@ -2,7 +2,7 @@
 -- of a number.
 use Rattle.std.proofs.Common.{◌≡◌, ◌⊎◌, ℕ, zero, suc, ◌+◌, Bool, true, cond, nat_eq, List}
 use Rattle.std.proofs.Common.{[], ◌∷◌, ◌++◌, length, refl, sym, ◌∙◌, ap, subst, inl, inr, arith}
-use Rattle.std.proofs.Common.{None, Some}
+use Rattle.std.proofs.Common.{None, Some, eq-eqb}
 use Rattle.std.specs.Option.{option_map}
 use Rattle.std.specs.Prelude.{slice_get}
 use Rattle.std.proofs.lemmas.Bool.{cases_eq, ne_eqb}
@@ -34,7 +34,7 @@ use Rattle.sync_course.specs.LinkTurns.{next_take, out_batch}
 use Rattle.sync_course.specs.Pending.{pending}
 use Rattle.sync_course.specs.Redundant.{closed_as}
 use Rattle.sync_course.specs.Story.{begun_by}
-use Rattle.sync_course.proofs.RunLaws.{settled_takes, takes_other, beaten_going, closed_each, cond_same}
+use Rattle.sync_course.proofs.RunLaws.{settled_takes, takes_other, beaten_going, closed_each, cond_same, cond_self}
 use Rattle.sync_course.proofs.RunLaws.{get_middle, Moves, moves_none, moves_one, settled_begun}
 use Rattle.sync_course.proofs.LiftLaws.{get_other, get_set, get_within}
 use Rattle.sync_course.proofs.LinkSteps.{Spares, link_by_cases, link_spares}
@@ -316,6 +316,10 @@ module _ (clients : Meaning) (first : ℕ) (p : Free) where
 abbrev pub pending_in : Hold → ℕ → List Item
 pending_in (Holds n doing) i = cond (nat_eq n i) (pending doing) []
 pending_in _ i = []
+
+pub held_pends : {h : Hold} {i : ℕ} {doing : Doing} → h ≡ Holds i doing
+    → pending_in h i ≡ pending doing
+held_pends {i = i} is = ap (λ h. pending_in h i) is ∙ cond_self i []
 
 -- the link, or that there is none, stays; the event is of no call of it, and nothing of it is taken
 pub record IsKept (first : ℕ) (e : Event) (p q : Free) (i : ℕ) : Type 0 where

@@ -29,7 +29,7 @@ use Rattle.sync_course.specs.Suits.{IsCounted, heard_in, AllSuitCourse, SuitsCou
 use Rattle.sync_course.specs.Suits.{heard_on}
 use Rattle.sync_course.proofs.ActLaws.{batches_in-append}
 use Rattle.sync_course.proofs.FreeSound.{IsBegunAt, IsFreeSound, first_free_sound, free_sound}
-use Rattle.sync_course.proofs.FreeSteps.{step_adds, free_batches, pending_in, NotPlain}
+use Rattle.sync_course.proofs.FreeSteps.{step_adds, free_batches, held_pends, NotPlain}
 use Rattle.sync_course.proofs.FreeSteps.{settling_adds}
 use Rattle.sync_course.proofs.HeardLaws.{bytes_of, free_path_adds}
 use Rattle.sync_course.proofs.PathLaws.{path_parts}
@@ -54,11 +54,8 @@ use Rattle.sync_rules.specs.declared.entries.Entry.TheVariants as entry
 -- sessions of batches one behind the other
 pub begun_by-append : (bs cs : List (List Entry)) → begun_by (bs ++ cs) ≡ begun_by bs ++ begun_by cs
 begun_by-append [] cs = refl
-begun_by-append (b ∷ bs) cs = one b (begun_by-append bs cs)
-  where
-    one : (b : List Entry) → begun_by (bs ++ cs) ≡ begun_by bs ++ begun_by cs → begun_by (b ∷ (bs ++ cs)) ≡ begun_by (b ∷ bs) ++ begun_by cs
-    one (entry.Session s ∷ rest) is = ap (λ l. s ∷ l) is
-    one _ is = is
+begun_by-append ((entry.Session s ∷ rest) ∷ bs) cs = ap (λ l. s ∷ l) (begun_by-append bs cs)
+begun_by-append (_ ∷ bs) cs = begun_by-append bs cs
 
 -- ---- each batch suits
 
@@ -80,19 +77,23 @@ next_stands fronts heard f session place n r its link front c =
     (subst (λ k. slice_get ((c.done ++ r ∷ behind) ++ later) k ≡ Some r) (sym c.count)
     (get_front (c.done ++ r ∷ behind) later (length c.done) r (get_middle c.done behind r)))
 
-module _ (fronts : FrontsHaveFronts) (clients : Meaning) (first : ℕ) (plans : List Session) (heard : ℕ → List ℕ) where
-  pub free_suits : (e : Event) (p q : Free) → FreeStep clients first p e q
+module _ (go_on : StreamsGoOn) (join : RecordsJoin) (fronts : FrontsHaveFronts) (clients : Meaning)
+    (first : ℕ) (plans : List Session) (heard : ℕ → List ℕ) where
+  abbrev AllSuit : Facts → List (List Entry) → Type 0
+  AllSuit f bs = AllSuitNode clients first plans heard f bs
+
+  free_suits : (e : Event) (p q : Free) → FreeStep clients first p e q
       → ((i : ℕ) → IsFront (heard_at p i) (heard i)) → IsFreeSound clients first p
       → ((s : Session) → e ≡ Commit (entry.Session s ∷ []) → p.facts.begun ≡ first + length p.links
       → slice_get plans (length p.links) ≡ Some s)
-      → AllSuitNode clients first plans heard p.facts (batches_of (e ∷ []))
+      → AllSuit p.facts (batches_of (e ∷ []))
   free_suits e p q t grows s =
       free_batches clients first p
       (λ x g. ((s : Session) → x ≡ Commit (entry.Session s ∷ [])
       → p.facts.begun ≡ first + length p.links → slice_get plans (length p.links) ≡ Some s)
-      → AllSuitNode clients first plans heard p.facts (batches_of (x ∷ []))) (record {
+      → AllSuit p.facts (batches_of (x ∷ []))) (record {
         none =
-            λ x none planned. subst (AllSuitNode clients first plans heard p.facts) (sym none) tt;
+            λ x none planned. subst (AllSuit p.facts) (sym none) tt;
         settles = λ b settling planned. (inr (inl settling), tt);
         adds = λ b rests plain allowed planned. (inl plain, tt);
         begins = λ x rests allowed planned.
@@ -105,45 +106,40 @@ module _ (fronts : FrontsHaveFronts) (clients : Meaning) (first : ℕ) (plans : 
               })),
               tt,
             );
-        takes = λ n place r its link holds at allowed planned.
-            let itself : nat_eq n n ≡ true = eq-eqb n n refl in
-            let pends : pending_in p.hold n ≡ item.One place r ∷ its =
-            ap (λ h. pending_in h n) holds
-            ∙ ap (λ b. cond b (item.One place r ∷ its) []) itself in (
-              inr (inr (record {
-                link = n;
-                on = refl;
-                read = r;
-                stands =
-                    next_stands fronts heard p.facts (first + n) place n r its link
-                    (subst (λ o. IsFront (heard_in o) (heard n)) at (grows n))
-                    (subst (λ l. IsCounted p.facts (first + n) l link) pends (s.counted n link at));
-                so = refl;
-              })),
-              tt,
-            );
+        takes = λ n place r its link holds at allowed planned. (
+          inr (inr (record {
+            link = n;
+            on = refl;
+            read = r;
+            stands =
+                next_stands fronts heard p.facts (first + n) place n r its link
+                (subst (λ o. IsFront (heard_in o) (heard n)) at (grows n))
+                (subst (λ l. IsCounted p.facts (first + n) l link) (held_pends holds)
+                (s.counted n link at));
+            so = refl;
+          })),
+          tt,
+        );
         puts = λ n now room what link holds at is_due allowed planned. (inr (inr (n, refl)), tt);
       }) q e t
 
-  suit_then : (f : Facts) (bs cs : List (List Entry)) → AllSuitNode clients first plans heard f bs
-      → AllSuitNode clients first plans heard (after_batches f bs) cs → AllSuitNode clients first plans heard f (bs ++ cs)
+  suit_then : (f : Facts) (bs cs : List (List Entry)) → AllSuit f bs
+      → AllSuit (after_batches f bs) cs → AllSuit f (bs ++ cs)
   suit_then f [] cs a b = b
   suit_then f (x ∷ bs) cs a b = (a.0, suit_then (after_all f x) bs cs a.1 b)
 
-  pub suit_front : (f : Facts) (bs cs : List (List Entry)) → AllSuitNode clients first plans heard f (bs ++ cs)
-      → AllSuitNode clients first plans heard f bs
+  pub suit_front : (f : Facts) (bs cs : List (List Entry)) → AllSuit f (bs ++ cs)
+      → AllSuit f bs
   suit_front f [] cs a = tt
   suit_front f (x ∷ bs) cs a = (a.0, suit_front (after_all f x) bs cs a.1)
 
-module _ (go_on : StreamsGoOn) (join : RecordsJoin) (fronts : FrontsHaveFronts) (clients : Meaning)
-    (first : ℕ) (plans : List Session) (heard : ℕ → List ℕ) where
   -- as many sessions began before, and those that begin on the path are planned behind them
   pub free_path_suits : (n : ℕ) (p q : Free) (es : List Event) → Path (FreeStep clients first) p es q
       → ((i : ℕ) → IsFront (heard_at q i) (heard i)) → IsFreeSound clients first p
       → p.facts.begun ≡ first + n
       → ((k i : ℕ) (x : Session) → i ≡ n + k → slice_get (begun_by (batches_of es)) k ≡ Some x
       → slice_get plans i ≡ Some x)
-      → AllSuitNode clients first plans heard p.facts (batches_of es)
+      → AllSuit p.facts (batches_of es)
   free_path_suits n p q [] path grows s count planned = tt
   free_path_suits n p q (e ∷ es) path grows s count planned =
       let next : Free = path.0 in
@@ -158,7 +154,7 @@ module _ (go_on : StreamsGoOn) (join : RecordsJoin) (fronts : FrontsHaveFronts) 
       let at : p.facts.begun ≡ first + length p.links = at_rest in
       planned 0 (length p.links) x (omega (arith, count, at))
       (ap (λ y. slice_get (begun_by (batches_of (y ∷ es))) 0) is) in
-      let behind : AllSuitNode clients first plans heard next.facts later =
+      let behind : AllSuit next.facts later =
       free_path_suits (n + length (begun_by new)) next q es path.2 grows
       (free_sound go_on join clients first p next e path.1 s) (omega (arith, count, grown))
       (λ k i x number at.
@@ -166,14 +162,14 @@ module _ (go_on : StreamsGoOn) (join : RecordsJoin) (fronts : FrontsHaveFronts) 
       (ap (λ l. slice_get l (length (begun_by new) + k)) (ap begun_by parts ∙ begun_by-append new later)
       ∙ get_behind (begun_by new) (begun_by later) k _ refl
       ∙ at)) in
-      subst (AllSuitNode clients first plans heard p.facts) (sym parts)
-      (suit_then fronts clients first plans heard p.facts new later
-      (free_suits fronts clients first plans heard e p next path.1
+      subst (AllSuit p.facts) (sym parts)
+      (suit_then p.facts new later
+      (free_suits e p next path.1
       (λ i.
       front_then _ _ _
       (record { more = bytes_of i (e ∷ es); goes_on = free_path_adds clients first (e ∷ es) p q i path })
       (grows i)) s here)
-      (subst (λ f. AllSuitNode clients first plans heard f later) adds.moves.facts behind))
+      (subst (λ f. AllSuit f later) adds.moves.facts behind))
 
 -- ---- moments
 
@@ -224,7 +220,7 @@ moment_stands go_on join fronts clients j acts to m legal path front =
       more = batches_in front.before;
       stands_for = front.stands_for;
       suits =
-          suit_front fronts clients first (begun_by (batches_in acts)) (heard_at to.at) (facts j) (batches_in front.before)
+          suit_front go_on join fronts clients first (begun_by (batches_in acts)) (heard_at to.at) (facts j) (batches_in front.before)
           (batches_in front.behind)
           (subst (AllSuitNode clients first (begun_by (batches_in acts)) (heard_at to.at) (facts j)) batches whole);
       has_sent = λ link.

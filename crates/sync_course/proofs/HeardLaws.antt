@@ -18,7 +18,7 @@ use Rattle.sync_course.specs.Suits.{heard_in}
 use Rattle.sync_course.proofs.FreeSteps.{Closed, Joined, Kept, LinkGoes, Stepped, free_link}
 use Rattle.sync_course.proofs.LinkSteps.{Spares, link_by_cases}
 use Rattle.sync_course.proofs.LiftLaws.{get_past}
-use Rattle.sync_course.proofs.RunLaws.{cond_same}
+use Rattle.sync_course.proofs.RunLaws.{cond_same, cond_self}
 
 -- the bytes that an event brings on a link, and those of several
 abbrev pub bytes_by : ℕ → Event → List ℕ
@@ -34,9 +34,6 @@ bytes_of i (e ∷ es) = bytes_by i e ++ bytes_of i es
 none_more : (a b : List ℕ) → a ≡ b → a ≡ b ++ []
 none_more a b same = same ∙ sym (append-nil b)
 
-here : (n : ℕ) (x : List ℕ) → cond (nat_eq n n) x [] ≡ x
-here n x = ap (λ b. cond b x []) (eq-eqb n n refl)
-
 -- on another link an event brings nothing
 spared_bytes : (i : ℕ) (e : Event) → Spares i e → bytes_by i e ≡ []
 spared_bytes i (Hear on reply) apart =
@@ -50,7 +47,7 @@ link_adds clients n session p q e s =
     let none : p.link.heard ≡ p.link.heard ++ [] = sym (append-nil p.link.heard) in
     let replied : (reply : Reply) → p.link.heard ++ reply_bytes reply
     ≡ p.link.heard ++ bytes_by n (Hear n reply) =
-    λ reply. ap (λ l. p.link.heard ++ l) (sym (here n (reply_bytes reply))) in
+    λ reply. ap (λ l. p.link.heard ++ l) (sym (cond_self n [])) in
     link_by_cases clients n session p
     (λ doing x r. r.link.heard ≡ p.link.heard ++ bytes_by n x)
     (record {
@@ -137,7 +134,7 @@ changed_bytes n f more h i within adds =
           subst (λ k. at_of (changed_at k f h) i ≡ at_of h i ++ cond (nat_eq k i) more []) same
           (ap (λ x. heard_bytes x.answers) (changed_at_same i f h nothing_heard within)
           ∙ adds (slice_index_or h i nothing_heard)
-          ∙ ap (λ l. at_of h i ++ l) (sym (here i more)))
+          ∙ ap (λ l. at_of h i ++ l) (sym (cond_self i [])))
       | inr apart ↦
           none_more _ _
           (ap (λ x. heard_bytes x.answers) (changed_at_other n f h i nothing_heard apart))

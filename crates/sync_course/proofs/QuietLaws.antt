@@ -35,7 +35,7 @@ use Rattle.sync_course.specs.declared.TheConstants.{MAX_OUTPUTS}
 use Rattle.sync_course.specs.declared.ends.LinkEnd.{LinkEnd}
 use Rattle.sync_course.specs.Links.{Link, is_going, is_sent_to}
 use Rattle.sync_course.proofs.LiftLaws.{get_other, get_set, get_within}
-use Rattle.sync_course.proofs.RunLaws.{IsClosedFrom, redundant_get}
+use Rattle.sync_course.proofs.RunLaws.{cond_self, IsClosedFrom, redundant_get}
 use Rattle.record_grammar.specs.Laws.{RecordsJoin, StreamsGoOn}
 use Rattle.record_grammar.specs.Stream.{records, records_of}
 use Rattle.sync_rules.specs.declared.entries.Session.{Session}
@@ -81,8 +81,7 @@ link_keeps clients n session reading p q e s =
       takes = λ place r its allowed k. (tt, tt);
       skips = λ place type_byte len its k. (tt, tt);
       all_taken = λ settled k. (settled, tt);
-      reads =
-          λ now is_open k. (k.0, ap (λ b. cond b (Some now) reading) (eq-eqb n n refl));
+      reads = λ now is_open k. (k.0, cond_self n reading);
       closed = λ is k. (k.0, tt);
       puts = λ now room what is_due allowed k.
           (settled_stays clients p.facts (out_batch session now what) refl k.0, k.1);
@@ -148,7 +147,6 @@ still_step : (clients : Meaning) (n session still : ℕ) (told : LinkTold) (p q 
     → (p.moved ≡ false → IsStill clients p.facts session still told p.doing p.link)
     → StillStep clients session still (told_by n told e) p q
 still_step clients n session still told p q e s =
-    let itself : nat_eq n n ≡ true = eq-eqb n n refl in
     link_by_cases clients n session p
     (λ doing x r. r.moved ≡ false
     → (p.moved ≡ false → IsStill clients p.facts session still told doing p.link)
@@ -157,8 +155,7 @@ still_step clients n session still told p q e s =
       idles = λ going unmoved claim.
           stays_still unmoved refl (λ asked.
           let before = claim unmoved asked in
-          let more : idles_by n told.idles (Hear n idle) ≡ suc told.idles =
-          ap (λ b. cond b (suc told.idles) told.idles) itself in
+          let more : idles_by n told.idles (Hear n idle) ≡ suc told.idles = cond_self n told.idles in
           subst (λ k. suc still ≤ k) (sym more) (omega (arith, before)));
       ends = λ going unmoved claim. moved unmoved;
       misses = λ going unmoved claim. moved unmoved;
@@ -169,8 +166,7 @@ still_step clients n session still told p q e s =
       skips = λ place type_byte len its unmoved claim. absurd (claim unmoved);
       all_taken = λ settled unmoved claim. absurd (claim unmoved);
       reads = λ now is_open unmoved claim.
-          stays_still unmoved refl
-          (refl, ap (λ b. cond b (Some now) told.reading) itself, claim unmoved);
+          stays_still unmoved refl (refl, cond_self n told.reading, claim unmoved);
       closed = λ is unmoved claim.
           stays_still unmoved refl (record {
             idle = claim unmoved;

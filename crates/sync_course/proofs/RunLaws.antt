@@ -1,5 +1,6 @@
 -- What laws of each place cite: items of lists, links that were closed as redundant, what was taken
 -- on a session, and batches that may follow.
+use Rattle.std.proofs.Common.{eq-eqb}
 use Rattle.std.proofs.Common.{◌≡◌, ◌⊎◌, ℕ, zero, suc, Bool, true, false, cond, nat_eq, List, [], ◌∷◌, ◌++◌, length, refl, sym, ◌∙◌, ap, subst, inl, inr, arith, Option, None, Some, ◌+◌, drop}
 use Rattle.std.specs.Prelude.{slice_get}
 use Rattle.std.proofs.Math.Seq.{drop-append_seam}
@@ -157,6 +158,9 @@ pub settled_begun : (clients : Meaning) (f : Facts) (b : List Entry) → IsSettl
 settled_begun clients f b settling = (settling_only clients f b settling.2).begun
 
 -- ---- the steps
+pub cond_self : {A : Type 0} {x : A} (n : ℕ) (y : A) → cond (nat_eq n n) x y ≡ x
+cond_self {x = x} n y = ap (λ b. cond b x y) (eq-eqb n n refl)
+
 pub cond_same : {A : Type 0} (b : Bool) (x : A) → cond b x x ≡ x
 cond_same true x = refl
 cond_same false x = refl
