@@ -1,6 +1,6 @@
 -- What every place of a node keeps: its journal is legal, the sessions that began are those of its links, and on each link the
 -- records taken are a front of those heard.
-use Rattle.std.proofs.Common.{◌≡◌, ℕ, zero, suc, ◌+◌, cond, eq-eqb, List, [], ◌∷◌, ◌++◌, length}
+use Rattle.std.proofs.Common.{◌≡◌, ℕ, zero, suc, ◌+◌, cond, List, [], ◌∷◌, ◌++◌, length}
 use Rattle.std.proofs.Common.{length-append, refl, sym, ◌∙◌, ap, subst, subst₂, inl, inr, arith}
 use Rattle.std.proofs.Common.{Option, Some, ◌<◌, Bool, true, false, None}
 use Rattle.std.proofs.Common.{append-nil, append_assoc}
@@ -18,7 +18,7 @@ use Rattle.sync_course.specs.Free.{first_free, forget, hold_at, joined_by, spot_
 use Rattle.sync_course.specs.Links.{Link, closed_from, link_of}
 use Rattle.sync_course.specs.Links.{is_going, closes, items_after, link_after, new_items}
 use Rattle.sync_course.specs.Links.{stands_behind}
-use Rattle.sync_course.specs.LinkTurns.{Doing, LinkStep, Spot, next_take}
+use Rattle.sync_course.specs.LinkTurns.{LinkStep, Spot, next_take}
 use Rattle.sync_course.specs.Paths.{Path}
 use Rattle.sync_course.specs.Pending.{pending, pending_at}
 use Rattle.sync_course.specs.Turns.{Broken, Place, RunStep, Settles, Stage, Terms, first_place}

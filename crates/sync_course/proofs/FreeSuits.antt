@@ -1,7 +1,7 @@
 -- Each batch of a node suits it, and what a crash leaves in the middle of its acts stands. The batches
 -- of a run suit it as planned: its k-th session is the k-th of those it was given, and no plain entry
 -- is among them.
-use Rattle.std.proofs.Common.{◌≡◌, ℕ, ◌+◌, Bool, true, false, cond, nat_eq, eq-eqb, eqb-true, List}
+use Rattle.std.proofs.Common.{◌≡◌, ℕ, ◌+◌, Bool, true, false, cond, nat_eq, eqb-true, List}
 use Rattle.std.proofs.Common.{[], ◌∷◌, ◌++◌, length, append-nil, append_assoc, refl}
 use Rattle.std.proofs.Common.{sym, ◌∙◌, ap, subst, inl, inr, arith, Some, zero, suc, subst₂}
 use Rattle.std.specs.Prelude.{slice_get}

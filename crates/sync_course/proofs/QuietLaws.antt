@@ -1,8 +1,8 @@
 -- What each place of a run keeps: where the journal is settled, and at which reading a link sends; so
 -- each output is due at its place. What the last still turns had, Idle answers alone and nothing due
 -- at the readings made in them; and how a run stands that is over.
-use Rattle.std.proofs.Common.{◌≡◌, ℕ, ◌+◌, Bool, cond, eq-eqb, List, [], ◌∷◌, refl, sym, ap, subst}
-use Rattle.std.proofs.Common.{Option, Some, suc, ◌++◌, None, zero, ◌<◌, ◌≤◌, true, false, nat_eq}
+use Rattle.std.proofs.Common.{◌≡◌, ℕ, ◌+◌, Bool, cond, List, [], ◌∷◌, refl, sym, ap, subst}
+use Rattle.std.proofs.Common.{Option, Some, suc, ◌++◌, None, zero, ◌<◌, ◌≤◌, true, false}
 use Rattle.std.proofs.Common.{length, ◌∙◌, subst₂, inl, inr, arith, not, ◌||◌, nat_le, append-nil}
 use Rattle.sync_rules.specs.declared.entries.Entry.{Entry}
 use Rattle.sync_rules.specs.Clients.{Meaning}
@@ -15,8 +15,8 @@ use Rattle.sync_course.specs.LinkTurns.{Waits, Done, IsEnough}
 use Rattle.sync_course.specs.Paths.{Path}
 use Rattle.sync_course.specs.Quiet.{reading_after, reading_by, last_reading, IsQuietAt, idles_after}
 use Rattle.sync_course.specs.Quiet.{idles_by, idles_with, EndsQuiet}
-use Rattle.sync_course.specs.Turns.{Place, RunStep, Settles, Stage, Terms, Works, spot_of, Greets}
-use Rattle.sync_course.specs.Turns.{Attaches, Between, Ended, turn_ended, with_spot, Course}
+use Rattle.sync_course.specs.Turns.{Place, RunStep, Settles, Stage, Terms, Works, spot_of}
+use Rattle.sync_course.specs.Turns.{Between, Ended, turn_ended, with_spot, Course}
 use Rattle.sync_course.specs.Turns.{first_place, is_over, some_going}
 use Rattle.sync_course.proofs.LinkSteps.{link_by_cases, Spares, link_spares}
 use Rattle.sync_course.proofs.FreeLaws.{run_by_cases, step_is_free}
@@ -30,7 +30,6 @@ use Rattle.sync_course.specs.DueOutputs.{IsDueAt, OutIsDue}
 use Rattle.std.specs.Prelude.{slice_get, nat_lt}
 use Rattle.std.proofs.lemmas.Bool.{cases_eq, false≢true, ne_eqb, and_parts, leb-true, ltb-true}
 use Rattle.std.proofs.lemmas.Bool.{or_left, or_right}
-use Rattle.outside.specs.Links.{idle}
 use Rattle.sync_course.specs.declared.TheConstants.{MAX_OUTPUTS}
 use Rattle.sync_course.specs.declared.ends.LinkEnd.{LinkEnd}
 use Rattle.sync_course.specs.Links.{Link, is_going, is_sent_to}
@@ -155,7 +154,7 @@ still_step clients n session still told p q e s =
       idles = λ going unmoved claim.
           stays_still unmoved refl (λ asked.
           let before = claim unmoved asked in
-          let more : idles_by n told.idles (Hear n idle) ≡ suc told.idles = cond_self n told.idles in
+          let more = cond_self n told.idles in
           subst (λ k. suc still ≤ k) (sym more) (omega (arith, before)));
       ends = λ going unmoved claim. moved unmoved;
       misses = λ going unmoved claim. moved unmoved;

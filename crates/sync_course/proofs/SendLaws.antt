@@ -59,11 +59,11 @@ front_so false same = front_same _ _ (sym same)
 front_so true front = front
 
 -- more goes out of what is owed and is added; where a call failed before, nothing is added
-module _ (failed fails : Bool) (sent owed went left all added : List ℕ)
-    (none : failed ≡ true → added ≡ []) (was : SentSo failed (sent ++ owed) all)
-    (goes : SentSo fails (went ++ left) (owed ++ added)) where
-  sent_front : IsFront ((sent ++ went) ++ left) (all ++ added)
-  sent_front =
+module _ (sent owed went left all added : List ℕ) where
+  sent_front : (failed fails : Bool) → (failed ≡ true → added ≡ [])
+      → SentSo failed (sent ++ owed) all → SentSo fails (went ++ left) (owed ++ added)
+      → IsFront ((sent ++ went) ++ left) (all ++ added)
+  sent_front failed fails none was goes =
       subst (λ l. IsFront l (all ++ added)) (sym (append_assoc sent went left))
       (front_then _ _ _ (front_before _ _ sent (front_so fails goes)) (before failed none was))
     where
@@ -75,17 +75,14 @@ module _ (failed fails : Bool) (sent owed went left all added : List ℕ)
           subst (λ l. IsFront (sent ++ (owed ++ l)) (all ++ l)) (sym (none refl))
           (subst₂ IsFront (ap (λ l. sent ++ l) (sym (append-nil owed))) (sym (append-nil all)) front)
 
-sent_then : (failed fails : Bool) (sent owed went left all added : List ℕ)
-    → (failed ≡ true → added ≡ []) → SentSo failed (sent ++ owed) all
-    → SentSo fails (went ++ left) (owed ++ added)
-    → SentSo (failed || fails) ((sent ++ went) ++ left) (all ++ added)
-sent_then false false sent owed went left all added none was goes =
-    append_assoc sent went left ∙ ap (λ l. sent ++ l) goes
-    ∙ sym (append_assoc sent owed added) ∙ ap (λ l. l ++ added) was
-sent_then false true sent owed went left all added none was goes =
-    sent_front false true sent owed went left all added none was goes
-sent_then true fails sent owed went left all added none was goes =
-    sent_front true fails sent owed went left all added none was goes
+  sent_then : (failed fails : Bool) → (failed ≡ true → added ≡ [])
+      → SentSo failed (sent ++ owed) all → SentSo fails (went ++ left) (owed ++ added)
+      → SentSo (failed || fails) ((sent ++ went) ++ left) (all ++ added)
+  sent_then false false none was goes =
+      append_assoc sent went left ∙ ap (λ l. sent ++ l) goes
+      ∙ sym (append_assoc sent owed added) ∙ ap (λ l. l ++ added) was
+  sent_then false true none was goes = sent_front false true none was goes
+  sent_then true fails none was goes = sent_front true fails none was goes
 
 -- ---- the output
 
@@ -261,8 +258,8 @@ module _ (go_on : StreamsGoOn) (join : RecordsJoin) (clients : Meaning) (first :
             (output (j ++ batches_in (acts ++ a ∷ [])) (first + i))) (sym (failed i))
             (subst₂ (λ l o. SentSo (has_failure i (events_of acts) || is_failure i e) (l ++ q.owed i) o)
             (sym (sends i)) (sym (grown i))
-            (sent_then (has_failure i (events_of acts)) (is_failure i e) (sends_on i acts) (p.owed i)
-            (sent_by i a) (q.owed i) (output old (first + i)) (adds_to p.at.facts first e i) (none i)
+            (sent_then (sends_on i acts) (p.owed i) (sent_by i a) (q.owed i) (output old (first + i))
+            (adds_to p.at.facts first e i) (has_failure i (events_of acts)) (is_failure i e) (none i)
             (k.sent i) (act_sends clients first a p q i s)));
       }
 
