@@ -12,34 +12,34 @@ use Rattle.sync_course.proofs.ToldLaws.{batches_of-append, batches_of_commits}
 
 pub events_of-append : (acts bs : List Act) → events_of (acts ++ bs) ≡ events_of acts ++ events_of bs
 events_of-append [] bs = refl
-events_of-append (a ∷ acts) bs = ap (λ (es : List Event). event_of a ∷ es) (events_of-append acts bs)
+events_of-append (a ∷ acts) bs = ap (λ es. event_of a ∷ es) (events_of-append acts bs)
 
 pub batches_in-append : (acts bs : List Act)
     → batches_in (acts ++ bs) ≡ batches_in acts ++ batches_in bs
 batches_in-append acts bs =
-    ap (λ (es : List Event). batches_of es) (events_of-append acts bs)
+    ap (λ es. batches_of es) (events_of-append acts bs)
     ∙ batches_of-append (events_of acts) (events_of bs)
 
 pub sends_on-append : (link : ℕ) (acts bs : List Act)
     → sends_on link (acts ++ bs) ≡ sends_on link acts ++ sends_on link bs
 sends_on-append link [] bs = refl
 sends_on-append link (a ∷ acts) bs =
-    ap (λ (l : List ℕ). sent_by link a ++ l) (sends_on-append link acts bs)
+    ap (λ l. sent_by link a ++ l) (sends_on-append link acts bs)
     ∙ sym (append_assoc (sent_by link a) (sends_on link acts) (sends_on link bs))
 
 pub commit_acts-append : (bs cs : List (List Entry))
     → commit_acts (bs ++ cs) ≡ commit_acts bs ++ commit_acts cs
 commit_acts-append [] cs = refl
 commit_acts-append (b ∷ bs) cs =
-    ap (λ (l : List Act). Does (Commit b) ∷ l) (commit_acts-append bs cs)
+    ap (λ l. Does (Commit b) ∷ l) (commit_acts-append bs cs)
 
 pub events_of_commits : (bs : List (List Entry)) → events_of (commit_acts bs) ≡ commits bs
 events_of_commits [] = refl
-events_of_commits (b ∷ bs) = ap (λ (es : List Event). Commit b ∷ es) (events_of_commits bs)
+events_of_commits (b ∷ bs) = ap (λ es. Commit b ∷ es) (events_of_commits bs)
 
 pub batches_in_commits : (bs : List (List Entry)) → batches_in (commit_acts bs) ≡ bs
 batches_in_commits bs =
-    ap (λ (es : List Event). batches_of es) (events_of_commits bs) ∙ batches_of_commits bs
+    ap (λ es. batches_of es) (events_of_commits bs) ∙ batches_of_commits bs
 
 pub commits_send : (link : ℕ) (bs : List (List Entry)) → sends_on link (commit_acts bs) ≡ []
 commits_send link [] = refl
@@ -50,7 +50,7 @@ pub next_wide : (link : ℕ) (part : List ℕ) (acts bs : List Act) → IsFront 
     → IsFront part (next_bytes link (acts ++ bs))
 next_wide link part [] bs front = record {
   rest = next_bytes link bs;
-  whole = ap (λ (p : List ℕ). p ++ next_bytes link bs) (sym (none part front.rest front.whole));
+  whole = ap (λ p. p ++ next_bytes link bs) (sym (none part front.rest front.whole));
 }
   where
     none : (part rest : List ℕ) → [] ≡ part ++ rest → part ≡ []
@@ -68,7 +68,7 @@ module _ {P Q : Type 0} (facts_of : P → Facts) (other_facts : Q → Facts) (fi
   act_maps : (p q : Owing P) (a : Act) → ActStep facts_of first step p a q
       → ActStep other_facts first other (owing_at p) a (owing_at q)
   act_maps p q (Does e) s =
-      (s.0, each p.at q.at e s.1, λ link. s.2 link ∙ ap (λ (g : Facts). adds_to g first e link) (sym (same p.at)))
+      (s.0, each p.at q.at e s.1, λ link. s.2 link ∙ ap (λ g. adds_to g first e link) (sym (same p.at)))
   act_maps p q (Send n bytes) s =
       elim s [
         | inl all ↦ inl (all.0, each p.at q.at Pass all.1, all.2)

@@ -1,34 +1,18 @@
 -- What each call of a link's turn does, as a step of the course: one law for each, for any journal before and after.
-use Rattle.std.proofs.Common.{◌≡◌, ℕ, ◌+◌, ◌*◌, true, List, [], ◌∷◌, ◌++◌, length, length-append, append-nil, refl, sym, ◌∙◌, ap, subst, arith}
+use Rattle.std.proofs.Common.{◌≡◌, ℕ, ◌+◌, ◌*◌, true, List, [], ◌∷◌, ◌++◌, length, length-append, refl, sym, ◌∙◌, ap, subst, arith}
 use Rattle.outside.specs.declared.host.Heard.{Heard}
 use Rattle.outside.specs.declared.host.Heard.TheVariants as answer
-use Rattle.outside.specs.Outside.{Outside, MakesAtMost}
 use Rattle.sync_rules.specs.declared.entries.Entry.{Entry}
 use Rattle.sync_rules.specs.Clients.{Meaning}
-use Rattle.sync_course.specs.Events.{Event, asked_event, batches_of, TellsEvents}
-use Rattle.sync_course.specs.Paths.{RunsPath}
-use Rattle.sync_course.proofs.PathLaws.{path_one}
+use Rattle.sync_course.specs.Events.{Event, asked_event, batches_of}
 use Rattle.sync_course.specs.Links.{is_going}
 use Rattle.sync_course.specs.LinkTurns.{Asks, Spot, LinkStep, StepOf, answered_spot}
-
--- one event that commits nothing
-module _ {P : Type 0} (step : P → Event → P → Type 0) (Before After : List (List Entry) → Type 0) (stays : (j : List (List Entry)) → Before j → After j) where
-  unfoldable pub runs_quiet : (p q : P) (e : Event) (o o' : Outside) → batches_of (e ∷ []) ≡ [] → step p e q → TellsEvents (e ∷ []) o o'
-      → MakesAtMost 0 o o' → RunsPath step Before After p q o o' []
-  runs_quiet p q e o o' none s told made = record {
-    events = e ∷ [];
-    path = path_one step p q e s;
-    told = told;
-    journal = λ j before.
-        subst After (sym (append-nil j) ∙ ap (λ (l : List (List Entry)). j ++ l) (sym none)) (stays j before);
-    calls = subst (λ (l : List (List Entry)). MakesAtMost (4 * length l) o o') (sym none) made;
-  }
 
 -- the batches of a front, and the others
 pub calls_parts : (bs front others : List (List Entry)) → bs ≡ front ++ others → 4 * length bs ≡ 4 * length (others ++ front)
 calls_parts bs front others parts =
-    let all : length bs ≡ length front + length others = ap (λ (l : List (List Entry)). length l) parts ∙ length-append front others in
-    let turned : length (others ++ front) ≡ length others + length front = length-append others front in
+    let all : length bs ≡ length front + length others = ap (λ l. length l) parts ∙ length-append front others in
+    let turned = length-append others front in
     omega (arith, all, turned)
 
 module _ (clients : Meaning) (n session : ℕ) where
@@ -41,12 +25,8 @@ module _ (clients : Meaning) (n session : ℕ) where
   pub asked_step : (given : Heard) (buf : List ℕ) (p : Spot) → is_going p.link.stands ≡ true
       → StepOf clients n session Asks (asked_event n given buf) p (answered_spot given buf p)
   asked_step (answer.Got k) buf p going = (refl, going, refl)
-  asked_step answer.Idle buf p going = (refl, going, refl)
-  asked_step answer.End buf p going = (refl, going, refl)
-  asked_step answer.Failed buf p going = (refl, going, refl)
+  asked_step _ buf p going = (refl, going, refl)
 
   pub asked_commits : (given : Heard) (buf : List ℕ) → batches_of (asked_event n given buf ∷ []) ≡ []
   asked_commits (answer.Got k) buf = refl
-  asked_commits answer.Idle buf = refl
-  asked_commits answer.End buf = refl
-  asked_commits answer.Failed buf = refl
+  asked_commits _ buf = refl

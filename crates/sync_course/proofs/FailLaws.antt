@@ -1,12 +1,11 @@
 -- A link on which a call failed stands Failed from then on, and no other link does; nothing is
 -- committed for one.
-use Rattle.std.proofs.Common.{◌≡◌, ◌⊎◌, ℕ, ◌+◌, Bool, true, false, cond, ◌||◌, nat_eq, eq-eqb, List}
+use Rattle.std.proofs.Common.{◌≡◌, ◌⊎◌, ℕ, ◌+◌, Bool, true, false, cond, ◌||◌, eq-eqb, List}
 use Rattle.std.proofs.Common.{[], ◌∷◌, ◌++◌, refl, sym, ◌∙◌, ap, subst, inl, inr, Option, None}
 use Rattle.std.proofs.Common.{Some}
 use Rattle.std.specs.Prelude.{slice_get}
 use Rattle.std.proofs.Math.Bool.{or-false}
 use Rattle.std.proofs.lemmas.Bool.{ne_eqb, or_cases, or_left, or_right}
-use Rattle.outside.specs.Links.{got, idle, ended}
 use Rattle.record_grammar.specs.Stream.{ending}
 use Rattle.record_grammar.specs.declared.stream.Ending.{Ending}
 use Rattle.record_grammar.specs.declared.stream.Ending.TheVariants as ending_kind
@@ -14,17 +13,16 @@ use Rattle.record_grammar.specs.declared.stream.Item.{Item}
 use Rattle.sync_rules.specs.declared.entries.Entry.{Entry}
 use Rattle.sync_rules.specs.Clients.{Meaning}
 use Rattle.sync_rules.specs.Facts.{Facts}
-use Rattle.sync_course.specs.declared.TheConstants.{MAX_OUTPUTS}
 use Rattle.sync_course.specs.declared.ends.LinkEnd.{LinkEnd}
 use Rattle.sync_course.specs.declared.ends.LinkEnd.TheVariants as end
-use Rattle.sync_course.specs.Events.{Event, Commit, Hear, Miss, Read, Break, Pass, has_failure}
+use Rattle.sync_course.specs.Events.{Event, Commit, Miss, Break, has_failure}
 use Rattle.sync_course.specs.Events.{is_failure}
 use Rattle.sync_course.specs.Free.{Begins, Free, FreeStep, Hold, Holds, IsNothingUnderWay, Rests}
 use Rattle.sync_course.specs.Free.{first_free, spot_in}
 use Rattle.sync_course.specs.Links.{Link, closes, is_going, is_sent_to, new_items, stands_behind}
 use Rattle.sync_course.specs.Links.{stands_ended}
 use Rattle.sync_course.specs.LinkTurns.{Asks, Takes, Waits, Sends, Puts, Done, Doing, LinkStep}
-use Rattle.sync_course.specs.LinkTurns.{Spot, out_batch}
+use Rattle.sync_course.specs.LinkTurns.{Spot}
 use Rattle.sync_course.specs.Paths.{Path}
 use Rattle.sync_course.specs.Story.{LinkFailed}
 use Rattle.sync_course.proofs.FreeSound.{get_same}
@@ -68,71 +66,59 @@ going_well _ going = refl
 
 ended_well : (e : Ending) → is_failed (stands_ended e) ≡ false
 ended_well ending_kind.Clean = refl
-ended_well (ending_kind.Inside place) = refl
-ended_well (ending_kind.Bad place why) = refl
+ended_well _ = refl
 
 behind_same : (stands : LinkEnd) (e : Ending)
     → is_failed (stands_behind stands e) ≡ is_failed stands
 behind_same end.Going ending_kind.Clean = refl
-behind_same end.Going (ending_kind.Inside place) = refl
-behind_same end.Going (ending_kind.Bad place why) = refl
+behind_same end.Going _ = refl
 behind_same _ e = refl
 
-module _ (n : ℕ) (old : LinkEnd) where
-  -- no call failed
-  well : (e : Event) (doing : Doing) (new : LinkEnd) → is_failure n e ≡ false
-      → is_failed new ≡ is_failed old → DoesOpen doing new → StepFails n e old new doing
-  well e doing new none same opens = record {
-    failed =
-        same ∙ sym (or-false (is_failed old)) ∙ ap (λ (b : Bool). is_failed old || b) (sym none);
-    opens = opens;
-  }
+-- no call failed
+well : {n : ℕ} {e : Event} {old new : LinkEnd} {doing : Doing} → is_failure n e ≡ false
+    → is_failed new ≡ is_failed old → DoesOpen doing new → StepFails n e old new doing
+well {old = old} none same opens = record {
+  failed = same ∙ sym (or-false (is_failed old)) ∙ ap (λ b. is_failed old || b) (sym none);
+  opens = opens;
+}
 
-  -- one did
-  fails : (e : Event) → is_failure n e ≡ true → StepFails n e old end.Failed Done
-  fails e is = record { failed = sym (or_right (is_failed old) (is_failure n e) is); opens = tt }
+-- one did
+broke : {n : ℕ} {e : Event} {old : LinkEnd} → is_failure n e ≡ true
+    → StepFails n e old end.Failed Done
+broke {n = n} {e = e} {old = old} is =
+    record { failed = sym (or_right (is_failed old) (is_failure n e) is); opens = tt }
 
-  taken : (place : ℕ) (its : List Item) (b : List Entry) (closing : Bool) → is_going old ≡ true
-      → StepFails n (Commit b) old (cond closing (end.NoVersion place) old)
-      (Takes (cond closing [] its))
-  taken place its b true going =
-      well (Commit b) (Takes []) (end.NoVersion place) refl (sym (going_well old going)) tt
-  taken place its b false going =
-      well (Commit b) (Takes its) old refl refl (going_opens its old going)
+taken : (n place : ℕ) (its : List Item) (b : List Entry) (old : LinkEnd) (closing : Bool)
+    → is_going old ≡ true
+    → StepFails n (Commit b) old (cond closing (end.NoVersion place) old)
+    (Takes (cond closing [] its))
+taken n place its b old true going = well refl (sym (going_well old going)) tt
+taken n place its b old false going = well refl refl (going_opens its old going)
 
 pub link_step_fails : (clients : Meaning) (n session : ℕ) (p q : Spot) (e : Event)
     → LinkStep clients n session p e q → DoesOpen p.doing p.link.stands
     → StepFails n e p.link.stands q.link.stands q.doing
 link_step_fails clients n session p q e s =
     let old : LinkEnd = p.link.stands in
-    let itself : nat_eq n n ≡ true = eq-eqb n n refl in
+    let end_of = ending 0 p.link.heard in
     link_by_cases clients n session p
-    (λ (doing : Doing) (x : Event) (r : Spot). DoesOpen doing old
+    (λ doing x r. DoesOpen doing old
     → StepFails n x old r.link.stands r.doing) (record {
-      hears = λ bytes going o.
-          well n old (Hear n (got bytes)) (Takes (new_items p.link.heard bytes)) old refl refl
-          (going_opens (new_items p.link.heard bytes) old going);
-      idles = λ going o. well n old (Hear n idle) Waits old refl refl tt;
-      ends = λ going o.
-          well n old (Hear n ended) Waits (stands_ended (ending 0 p.link.heard)) refl
-          (ended_well (ending 0 p.link.heard) ∙ sym (going_well old going)) tt;
-      misses = λ going o. fails n old (Miss n) itself;
-      unasked = λ is o. well n old Pass Waits old refl refl tt;
-      settles = λ its b settling o. well n old (Commit b) (Takes its) old refl refl o;
-      takes = λ place r its allowed o. taken n old place its _ (closes r) o;
-      skips = λ place type_byte len its o.
-          well n old Pass (Takes its) old refl refl (going_opens its old o);
-      all_taken = λ settled o.
-          well n old Pass Waits (stands_behind old (ending 0 p.link.heard)) refl
-          (behind_same old (ending 0 p.link.heard)) tt;
-      reads =
-          λ now is_open o. well n old (Read n now) (Sends now MAX_OUTPUTS) old refl refl is_open;
-      closed = λ is o. well n old Pass Done old refl refl tt;
-      puts = λ now room what is_due allowed o.
-          well n old (Commit (out_batch session now what)) (Puts now room) old refl refl o;
-      enough = λ now room is o. well n old Pass Done old refl refl tt;
-      put = λ now room o. well n old Pass (Sends now room) old refl refl o;
-      breaks = λ now room o. fails n old (Break n) itself;
+      hears = λ bytes going o. well refl refl (going_opens (new_items p.link.heard bytes) old going);
+      idles = λ going o. well refl refl tt;
+      ends = λ going o. well refl (ended_well end_of ∙ sym (going_well old going)) tt;
+      misses = λ going o. broke (eq-eqb n n refl);
+      unasked = λ is o. well refl refl tt;
+      settles = λ its b settling o. well refl refl o;
+      takes = λ place r its allowed o. taken n place its _ old (closes r) o;
+      skips = λ place type_byte len its o. well refl refl (going_opens its old o);
+      all_taken = λ settled o. well refl (behind_same old end_of) tt;
+      reads = λ now is_open o. well refl refl is_open;
+      closed = λ is o. well refl refl tt;
+      puts = λ now room what is_due allowed o. well refl refl o;
+      enough = λ now room is o. well refl refl tt;
+      put = λ now room o. well refl refl o;
+      breaks = λ now room o. broke (eq-eqb n n refl);
     }) q e s
 
 -- ---- all links
@@ -140,7 +126,6 @@ link_step_fails clients n session p q e s =
 -- an event and the links before and after it
 pub record LinksFail (e : Event) (old new : List Link) : Type 0 where
   pub stays : (i : ℕ) → LinkFailed old i → LinkFailed new i
-  pub fails : (i : ℕ) → is_failure i e ≡ true → LinkFailed new i
   pub cause : (i : ℕ) → LinkFailed new i → LinkFailed old i ⊎ (is_failure i e ≡ true)
 
 -- the link in hand
@@ -172,7 +157,7 @@ failed_is : (stands : LinkEnd) → is_failed stands ≡ true → stands ≡ end.
 failed_is end.Failed is = refl
 failed_is _ is = cc
 
-failed_there : (links : List Link) (i : ℕ) → failed_at links i ≡ true → LinkFailed links i
+pub failed_there : (links : List Link) (i : ℕ) → failed_at links i ≡ true → LinkFailed links i
 failed_there links i is = there (slice_get links i) refl is
   where
     there : (o : Option Link) → slice_get links i ≡ o → is_failed_in o ≡ true → LinkFailed links i
@@ -199,7 +184,7 @@ module _ (clients : Meaning) (first : ℕ) where
   spared_same e p q i spares same =
       same
       ∙ sym (or-false (failed_at p.links i))
-      ∙ ap (λ (b : Bool). failed_at p.links i || b) (sym (spared_well i e spares))
+      ∙ ap (λ b. failed_at p.links i || b) (sym (spared_well i e spares))
 
   -- a link stands Failed behind a step where it did before it, or a call of it failed
   goes_fail : (e : Event) (p q : Free) (i : ℕ) → LinkGoes clients first e p q i
@@ -219,13 +204,13 @@ module _ (clients : Meaning) (first : ℕ) where
         | inl passes ↦ ap is_failed passes.1 ∙ sym (ap (is_failure i) passes.0)
         | inr broke ↦ ap is_failed broke.1 ∙ sym (ap (is_failure i) broke.0 ∙ eq-eqb i i refl)
       ] in
-      ap is_failed_in j.now ∙ way ∙ ap (λ (b : Bool). b || is_failure i e) (sym none)
+      ap is_failed_in j.now ∙ way ∙ ap (λ b. b || is_failure i e) (sym none)
   goes_fail e p q i (Stepped t) o =
       let fails =
       link_step_fails clients i (first + i) (spot_in t.doing t.link t.moved p) t.spot e t.steps
-      (subst (λ (h : Hold). HoldsOpen h p.links) t.held o t.link t.at) in
+      (subst (λ h. HoldsOpen h p.links) t.held o t.link t.at) in
       ap is_failed_in t.now ∙ fails.failed
-      ∙ ap (λ (x : Option Link). is_failed_in x || is_failure i e) (sym t.at)
+      ∙ ap (λ x. is_failed_in x || is_failure i e) (sym t.at)
 
   abbrev Opens : Free → Type 0
   Opens p = HoldsOpen p.hold p.links
@@ -233,41 +218,41 @@ module _ (clients : Meaning) (first : ℕ) where
   -- the link that is in hand is open behind a step
   stays_open : (p q : Free) (e : Event) → FreeStep clients first p e q → Opens p → Opens q
   stays_open p q e t o =
-      free_by_cases clients first p (λ (x : Event) (r : Free). Opens r) (record {
+      free_by_cases clients first p (λ x r. Opens r) (record {
         stays = o;
         turns = λ hold calm then. idle_opens hold p.links then;
         sends = λ n now link calm there is_open other at.
-            subst (λ (l : Link). is_sent_to l.stands ≡ true) (get_same there at) is_open;
+            subst (λ l. is_sent_to l.stands ≡ true) (get_same there at) is_open;
         closes = λ calm. tt;
-        adds = λ b rests adds. subst (λ (h : Hold). HoldsOpen h p.links) (sym rests) tt;
+        adds = λ b rests adds. subst (λ h. HoldsOpen h p.links) (sym rests) tt;
         begins = λ x rests allowed. tt;
         greets = λ x begins. tt;
         breaks = λ x begins. tt;
         works = λ n doing link moved x spot holds there steps other at.
             let opens : DoesOpen doing link.stands =
-            subst (λ (h : Hold). HoldsOpen h p.links) holds o link there in
-            subst (λ (l : Link). DoesOpen spot.doing l.stands)
+            subst (λ h. HoldsOpen h p.links) holds o link there in
+            subst (λ l. DoesOpen spot.doing l.stands)
             (get_same (get_set p.links n spot.link (get_within p.links n link there)) at)
             (link_step_fails clients n (first + n) (spot_in doing link moved p) spot x steps
             opens).opens;
       }) q e t
 
+  -- so the links behind it stand, and the link that is in hand is open
+  fails_behind : (p q : Free) (e : Event) → FreeStep clients first p e q → Opens p → (i : ℕ)
+      → failed_at q.links i ≡ (failed_at p.links i || is_failure i e)
+  fails_behind p q e t o i = goes_fail e p q i (free_link clients first p q e i t) o
+
   pub free_fails : (p q : Free) (e : Event) → FreeStep clients first p e q
       → HoldsOpen p.hold p.links
       → StepFailsAll e p q
   free_fails p q e t o =
-      let so : (i : ℕ) → failed_at q.links i ≡ (failed_at p.links i || is_failure i e) =
-      λ i. goes_fail e p q i (free_link clients first p q e i t) o in
+      let so = fails_behind p q e t o in
       record {
         by = record {
           stays = λ i f.
-              failed_there q.links i
-              (so i ∙ or_left (failed_at p.links i) (is_failure i e) (there_failed p.links i f));
-          fails = λ i is.
-              failed_there q.links i (so i ∙ or_right (failed_at p.links i) (is_failure i e) is);
+              failed_there q.links i (so i ∙ or_left _ (is_failure i e) (there_failed p.links i f));
           cause = λ i f.
-              elim (or_cases (failed_at p.links i) (is_failure i e)
-              (sym (so i) ∙ there_failed q.links i f)) [
+              elim (or_cases _ (is_failure i e) (sym (so i) ∙ there_failed q.links i f)) [
                 | inl was ↦ inl (failed_there p.links i was)
                 | inr is ↦ inr is
               ];
@@ -281,42 +266,39 @@ module _ (clients : Meaning) (first : ℕ) where
     pub cause : (i : ℕ) → LinkFailed p.links i → has_failure i before ≡ true
     pub opens : HoldsOpen p.hold p.links
 
+  -- the same, by the test of each link
+  pub record FailsAsTold (before : List Event) (p : Free) : Type 0 where
+    pub each : (i : ℕ) → failed_at p.links i ≡ has_failure i before
+    pub opens : HoldsOpen p.hold p.links
+
   pub push_failure : (i : ℕ) (before : List Event) (e : Event) → has_failure i
       (before ++ e ∷ []) ≡ (has_failure i before || is_failure i e)
   push_failure i before e =
       has_failure-append i before (e ∷ [])
-      ∙ ap (λ (b : Bool). has_failure i before || b) (or-false (is_failure i e))
+      ∙ ap (λ b. has_failure i before || b) (or-false (is_failure i e))
 
-  pub fails_step : (before : List Event) (p q : Free) (e : Event) → FailsJust before p
+  pub fails_step : (before : List Event) (p q : Free) (e : Event) → FailsAsTold before p
       → FreeStep clients first p e q
-      → FailsJust (before ++ e ∷ []) q
-  fails_step before p q e k t =
-      let fails = free_fails p q e t k.opens in
-      record {
-        stays = λ i is.
-            elim (or_cases (has_failure i before) (is_failure i e) (sym (push_failure i before e)
-            ∙ is)) [
-              | inl old ↦ fails.by.stays i (k.stays i old)
-              | inr new ↦ fails.by.fails i new
-            ];
-        cause = λ i f.
-            push_failure i before e
-            ∙ elim (fails.by.cause i f) [
-              | inl old ↦ or_left (has_failure i before) (is_failure i e) (k.cause i old)
-              | inr new ↦ or_right (has_failure i before) (is_failure i e) new
-            ];
-        opens = fails.opens;
-      }
+      → FailsAsTold (before ++ e ∷ []) q
+  fails_step before p q e k t = record {
+    each = λ i.
+        fails_behind p q e t k.opens i
+        ∙ ap (λ b. b || is_failure i e) (k.each i)
+        ∙ sym (push_failure i before e);
+    opens = stays_open p q e t k.opens;
+  }
 
-  pub first_fails : (f : Facts) → FailsJust [] (first_free f)
-  first_fails f =
-      record { stays = λ i is. cc; cause = λ i failed. none i failed.link failed.there; opens = tt }
-    where
-      none : {A : Type 0} → (i : ℕ) (link : Link) → slice_get (first_free f).links i ≡ Some link → A
-      none i link at = cc
+  pub first_fails : (f : Facts) → FailsAsTold [] (first_free f)
+  first_fails f = record { each = λ i. refl; opens = tt }
 
   pub path_fails : (f : Facts) (q : Free) (es : List Event) → Path (FreeStep clients first)
       (first_free f) es q → FailsJust es q
   path_fails f q es path =
-      path_keeps (FreeStep clients first) FailsJust fails_step [] es (first_free f) q
-      (first_fails f) path
+      let k =
+      path_keeps (FreeStep clients first) FailsAsTold fails_step [] es (first_free f) q
+      (first_fails f) path in
+      record {
+        stays = λ i is. failed_there q.links i (k.each i ∙ is);
+        cause = λ i failed. sym (k.each i) ∙ there_failed q.links i failed;
+        opens = k.opens;
+      }

@@ -57,19 +57,18 @@ module _ (clients : Meaning) (terms : Terms) (p : Place) (T : Stage → Event �
     pub turn_ends : (n : ℕ) → slice_get p.links n ≡ None → T (Works n Asks) Pass (turn_ended p)
 
   module _ (cases : RunCases) where
-    to : (stage : Stage) (e : Event) (q r : Place) → q ≡ r → T stage e r → T stage e q
-    to stage e q r same t = subst (T stage e) (sym same) t
+    to : {stage : Stage} {e : Event} {q r : Place} → q ≡ r → T stage e r → T stage e q
+    to {stage = stage} {e = e} same t = subst (T stage e) (sym same) t
 
     by_end : (n : ℕ) (doing : Doing) (e : Event) (q : Place) → slice_get p.links n ≡ None
         → EndsTurn doing e (staged (Works n doing) p) q → T (Works n doing) e q
-    by_end n Asks Pass q none t = to (Works n Asks) Pass q (turn_ended p) t (cases.turn_ends n none)
+    by_end n Asks Pass q none t = to t (cases.turn_ends n none)
     by_end n _ _ q none t = absurd t
 
     by_next : (n : ℕ) (doing : Doing) (link : Link) (e : Event) (q : Place)
         → slice_get p.links n ≡ Some link → GoesToNext n doing e (staged (Works n doing) p) q
         → T (Works n doing) e q
-    by_next n Done link Pass q at t =
-        to (Works n Done) Pass q (staged (Works (suc n) Asks) p) t (cases.goes_on n link at)
+    by_next n Done link Pass q at t = to t (cases.goes_on n link at)
     by_next n _ link _ q at t = absurd t
 
     by_turn : (n : ℕ) (doing : Doing) (o : Option Link) (e : Event) (q : Place)
@@ -78,36 +77,29 @@ module _ (clients : Meaning) (terms : Terms) (p : Place) (T : Stage → Event �
     by_turn n doing None e q at t = by_end n doing e q at t
     by_turn n doing (Some link) e q at t =
         elim t [
-          | inl works ↦
-              to (Works n doing) e q (with_spot n works.spot p) works.leads
-              (cases.works n doing link e works.spot at works.steps)
+          | inl works ↦ to works.leads (cases.works n doing link e works.spot at works.steps)
           | inr next ↦ by_next n doing link e q at next
         ]
 
     by_end_test : (q : Place) (t : Bool) → is_at_end terms p ≡ t
         → q ≡ cond t (staged Ended p) (record (staged (Works 0 Asks) p) { moved = false })
         → T Between Pass q
-    by_end_test q true over same = to Between Pass q (staged Ended p) same (cases.ends over)
-    by_end_test q false on same = to Between Pass q _ same (cases.turns on)
+    by_end_test q true over same = to same (cases.ends over)
+    by_end_test q false on same = to same (cases.turns on)
 
     by_stage : (stage : Stage) (e : Event) (q : Place)
         → StageStep clients terms stage e (staged stage p) q → T stage e q
-    by_stage (Settles left) (Commit b) q t =
-        to (Settles left) (Commit b) q _ t.1 (cases.settles left b t.0)
-    by_stage (Settles left) Pass q t =
-        to (Settles left) Pass q (staged (Attaches left) p) t.1 (cases.settled left t.0)
+    by_stage (Settles left) (Commit b) q t = to t.1 (cases.settles left b t.0)
+    by_stage (Settles left) Pass q t = to t.1 (cases.settled left t.0)
     by_stage (Attaches (x ∷ left)) (Commit b) q t =
-        to (Attaches (x ∷ left)) (Commit b) q _ t.2
-        (subst (λ (c : List Entry). T (Attaches (x ∷ left)) (Commit c)
+        to t.2
+        (subst (λ c. T (Attaches (x ∷ left)) (Commit c)
         (record (staged (Greets x left) p) { facts = after_all p.facts c })) (sym t.0)
         (cases.begins x left (subst (Allowed clients p.facts) t.0 t.1)))
-    by_stage (Attaches []) Pass q t = to (Attaches []) Pass q (staged Between p) t cases.all_begun
-    by_stage (Greets x left) Pass q t =
-        to (Greets x left) Pass q (attached x left p) t (cases.greets x left)
+    by_stage (Attaches []) Pass q t = to t cases.all_begun
+    by_stage (Greets x left) Pass q t = to t (cases.greets x left)
     by_stage (Greets x left) (Break on) q t =
-        subst (λ (k : ℕ). T (Greets x left) (Break k) q) (sym t.0)
-        (to (Greets x left) (Break (length p.links)) q (unattached x left p) t.1
-        (cases.breaks x left))
+        subst (λ k. T (Greets x left) (Break k) q) (sym t.0) (to t.1 (cases.breaks x left))
     by_stage Between Pass q t = by_end_test q (is_at_end terms p) refl t
     by_stage (Works n doing) e q t = by_turn n doing (slice_get p.links n) e q refl t
     by_stage _ _ q t = absurd t
@@ -132,7 +124,7 @@ module _ (clients : Meaning) (terms : Terms) where
       → FreeStep clients terms.first (forget p) e (forget q)
   step_is_free p q e t =
       run_by_cases clients terms p
-      (λ (stage : Stage) (x : Event) (r : Place).
+      (λ stage x r.
       FreeFrom clients terms.first (hold_at stage) x (record (forget p) { hold = hold_at stage })
       (forget r)) (record {
         settles = λ left b settling. inl (inl settling, refl);
@@ -169,6 +161,6 @@ module _ (clients : Meaning) (terms : Terms) where
       → Path (ActStep (λ (x : Free). x.facts) terms.first (FreeStep clients terms.first))
       (owing_free p) acts (owing_free q)
   run_acts_are_free p q acts path =
-      acts_map (λ (x : Place). x.facts) (λ (x : Free). x.facts) terms.first (RunStep clients terms)
+      acts_map (λ x. x.facts) (λ x. x.facts) terms.first (RunStep clients terms)
       (FreeStep clients terms.first) forget
       (λ x. refl) step_is_free p q acts path

@@ -1,8 +1,9 @@
 -- The steps of a node, case by case; what each adds to the journal, and what it leaves of the link
 -- of a number.
-use Rattle.std.proofs.Common.{◌≡◌, ◌⊎◌, ℕ, zero, suc, ◌+◌, Bool, true, false, cond, nat_eq, List}
+use Rattle.std.proofs.Common.{◌≡◌, ◌⊎◌, ℕ, zero, suc, ◌+◌, Bool, true, cond, nat_eq, List}
 use Rattle.std.proofs.Common.{[], ◌∷◌, ◌++◌, length, refl, sym, ◌∙◌, ap, subst, inl, inr, arith}
-use Rattle.std.proofs.Common.{Option, None, Some}
+use Rattle.std.proofs.Common.{None, Some}
+use Rattle.std.specs.Option.{option_map}
 use Rattle.std.specs.Prelude.{slice_get}
 use Rattle.std.proofs.lemmas.Bool.{cases_eq, ne_eqb}
 use Rattle.record_grammar.specs.declared.stream.Item.{Item}
@@ -26,14 +27,14 @@ use Rattle.sync_course.specs.Events.{Event, Commit, Break, Pass, batches_of}
 use Rattle.sync_course.specs.Free.{Begins, Free, FreeFrom, FreeStep, Hold, HoldStep, Holds}
 use Rattle.sync_course.specs.Free.{IsNothingUnderWay, IsPlain, Rests, TakesUpOrCloses, holding}
 use Rattle.sync_course.specs.Free.{joined_by, spot_in}
-use Rattle.sync_course.specs.Links.{Link, closed_from, is_beaten, is_going, is_sent_to, link_of}
+use Rattle.sync_course.specs.Links.{Link, is_beaten, is_going, is_sent_to, link_of}
 use Rattle.sync_course.specs.Links.{without_redundant}
 use Rattle.sync_course.specs.LinkTurns.{Asks, Takes, Waits, Sends, Done, Doing, LinkStep, Spot}
 use Rattle.sync_course.specs.LinkTurns.{next_take, out_batch}
 use Rattle.sync_course.specs.Pending.{pending}
 use Rattle.sync_course.specs.Redundant.{closed_as}
 use Rattle.sync_course.specs.Story.{begun_by}
-use Rattle.sync_course.proofs.RunLaws.{settled_takes, takes_other, beaten_going, cond_same}
+use Rattle.sync_course.proofs.RunLaws.{settled_takes, takes_other, beaten_going, closed_each, cond_same, cond_self}
 use Rattle.sync_course.proofs.RunLaws.{get_middle, Moves, moves_none, moves_one, settled_begun}
 use Rattle.sync_course.proofs.LiftLaws.{get_other, get_set, get_within}
 use Rattle.sync_course.proofs.LinkSteps.{Spares, link_by_cases, link_spares}
@@ -67,18 +68,18 @@ module _ (clients : Meaning) (first : ℕ) (p : Free) (T : Event → Free → Ty
         → T e (holding n spot p)
 
   module _ (cases : FreeCases) where
-    to : (e : Event) (q r : Free) → q ≡ r → T e r → T e q
-    to e q r same t = subst (T e) (sym same) t
+    to : {e : Event} {q r : Free} → q ≡ r → T e r → T e q
+    to {e = e} same t = subst (T e) (sym same) t
 
     by_move : (q : Free) → TakesUpOrCloses p.hold p q → T Pass q
     by_move q m =
         elim m.1 [
-          | inl turns ↦ to Pass q _ turns.leads (cases.turns turns.hold m.0 turns.idle)
+          | inl turns ↦ to turns.leads (cases.turns turns.hold m.0 turns.idle)
           | inr others ↦ elim others [
             | inl sends ↦
-                to Pass q _ sends.leads
+                to sends.leads
                 (cases.sends sends.number sends.now sends.link m.0 sends.there sends.is_open)
-            | inr closes ↦ to Pass q _ closes (cases.closes m.0)
+            | inr closes ↦ to closes (cases.closes m.0)
           ]
         ]
 
@@ -86,28 +87,26 @@ module _ (clients : Meaning) (first : ℕ) (p : Free) (T : Event → Free → Ty
         → HoldStep clients first hold e p q → T e q
     by_hold Rests (Commit b) q is t =
         elim t [
-          | inl adds ↦ to (Commit b) q _ adds.1 (cases.adds b is adds.0)
+          | inl adds ↦ to adds.1 (cases.adds b is adds.0)
           | inr begins ↦
-              to (Commit b) q _ begins.leads
-              (subst (λ (c : List Entry). T (Commit c)
+              to begins.leads
+              (subst (λ c. T (Commit c)
               (record p { hold = Begins begins.session; facts = after_all p.facts c }))
               (sym begins.is)
               (cases.begins begins.session is
               (subst (Allowed clients p.facts) begins.is begins.allowed)))
         ]
-    by_hold (Begins x) Pass q is t = to Pass q (joined_by x end.Going p) t (cases.greets x is)
+    by_hold (Begins x) Pass q is t = to t (cases.greets x is)
     by_hold (Begins x) (Break on) q is t =
-        to (Break on) q (joined_by x end.Failed p) t.1
-        (subst (λ (k : ℕ). T (Break k) (joined_by x end.Failed p)) (sym t.0) (cases.breaks x is))
+        to t.1 (subst (λ k. T (Break k) (joined_by x end.Failed p)) (sym t.0) (cases.breaks x is))
     by_hold (Holds n doing) e q is t =
-        to e q (holding n t.spot p) t.leads
-        (cases.works n doing t.link t.moved e t.spot is t.there t.steps)
+        to t.leads (cases.works n doing t.link t.moved e t.spot is t.there t.steps)
     by_hold _ _ q is t = absurd t
 
     by_event : (e : Event) (q : Free) → FreeFrom clients first p.hold e p q → T e q
     by_event Pass q t =
         elim t [
-          | inl same ↦ to Pass q p same cases.stays
+          | inl same ↦ to same cases.stays
           | inr others ↦ elim others [ inl m ↦ by_move q m | inr h ↦ by_hold p.hold Pass q refl h ]
         ]
     by_event e q t = by_hold p.hold e q refl t
@@ -145,7 +144,7 @@ module _ (clients : Meaning) (first : ℕ) (p : Free) (T : Event → Facts → T
         → LinkStep clients n (first + n) (spot_in doing link moved p) e spot → T e spot.facts
     by_link n doing link moved e spot holds there steps =
         link_by_cases clients n (first + n) (spot_in doing link moved p)
-        (λ (d : Doing) (x : Event) (r : Spot). p.hold ≡ Holds n d → T x r.facts) (record {
+        (λ d x r. p.hold ≡ Holds n d → T x r.facts) (record {
           hears = λ bytes going holds. cases.none _ refl;
           idles = λ going holds. cases.none _ refl;
           ends = λ going holds. cases.none _ refl;
@@ -166,7 +165,7 @@ module _ (clients : Meaning) (first : ℕ) (p : Free) (T : Event → Facts → T
 
     pub free_batches : (q : Free) (e : Event) → FreeStep clients first p e q → T e q.facts
     free_batches q e t =
-        free_by_cases clients first p (λ (x : Event) (r : Free). T x r.facts) (record {
+        free_by_cases clients first p (λ x r. T x r.facts) (record {
           stays = cases.none Pass refl;
           turns = λ hold calm then. cases.none Pass refl;
           sends = λ n now link calm there is_open. cases.none Pass refl;
@@ -221,6 +220,15 @@ settling_adds clients f (e ∷ es) s = by_entry e es (next_is_settling clients f
     by_entry (entry.Invalid id) es k = record { begins = refl; plain = λ plain. plain }
     by_entry _ es k = absurd k
 
+-- an event that commits no plain entry
+abbrev pub NotPlain : Event → Type 0
+NotPlain (Commit b) = IsPlain b → ⊥
+NotPlain _ = Unit {0}
+
+none_plain : (e : Event) → batches_of (e ∷ []) ≡ [] → NotPlain e
+none_plain (Commit b) none = cc
+none_plain _ none = tt
+
 -- What a step adds: its batch may follow; sessions begin by it, and no link that is in hand begins
 -- one or adds a plain entry; what was taken on a link stays, unless it is the one that takes.
 pub record StepAdds (clients : Meaning) (first : ℕ) (p : Free) (e : Event)
@@ -229,14 +237,14 @@ pub record StepAdds (clients : Meaning) (first : ℕ) (p : Free) (e : Event)
   pub begun : g.begun ≡ p.facts.begun + length (begun_by (batches_of (e ∷ [])))
   pub begins : (p.hold ≡ Rests → ⊥) → begun_by (batches_of (e ∷ [])) ≡ []
   pub stays : (p.hold ≡ Rests → ⊥) → g.begun ≡ p.facts.begun
-  pub plain : (p.hold ≡ Rests → ⊥) → (b : List Entry) → e ≡ Commit b → IsPlain b → ⊥
+  pub plain : (p.hold ≡ Rests → ⊥) → NotPlain e
   pub takes : (i : ℕ) → ((its : List Item) → p.hold ≡ Holds i (Takes its) → ⊥)
       → takes_of g.takes (first + i) ≡ takes_of p.facts.takes (first + i)
 
 none_begins : (bs : List (List Entry)) (f g : Facts) → begun_by bs ≡ [] → g.begun ≡ f.begun
     → g.begun ≡ f.begun + length (begun_by bs)
 none_begins bs f g none same =
-    let more : length (begun_by bs) ≡ 0 = ap (λ (l : List Session). length l) none in
+    let more : length (begun_by bs) ≡ 0 = ap (λ l. length l) none in
     let is : g.begun ≡ f.begun = same in
     omega (arith, more, is)
 
@@ -248,34 +256,28 @@ module _ (clients : Meaning) (first : ℕ) (p : Free) where
       → takes_of (after_all p.facts b).takes (first + i) ≡ takes_of p.facts.takes (first + i))
       → StepAdds clients first p (Commit b) (after_all p.facts b)
   adds_none b allowed begins begun plain takes = record {
-    moves = moves_one clients b p.facts (after_all p.facts b) allowed refl;
+    moves = moves_one allowed;
     begun = none_begins (b ∷ []) p.facts (after_all p.facts b) begins begun;
     begins = λ busy. begins;
     stays = λ busy. begun;
-    plain = λ busy c is c_plain.
-        let same : b ≡ c = cc in
-        plain busy (subst IsPlain (sym same) c_plain);
+    plain = plain;
     takes = takes;
   }
 
   adds_nothing : (e : Event) → batches_of (e ∷ []) ≡ [] → StepAdds clients first p e p.facts
   adds_nothing e none = record {
-    moves =
-        subst (λ (bs : List (List Entry)). Moves clients bs p.facts p.facts) (sym none)
-        (moves_none clients p.facts p.facts refl);
+    moves = subst (λ bs. Moves clients bs p.facts p.facts) (sym none) (moves_none refl);
     begun = none_begins (batches_of (e ∷ [])) p.facts p.facts (ap begun_by none) refl;
     begins = λ busy. ap begun_by none;
     stays = λ busy. refl;
-    plain = λ busy b is plain.
-        let some : b ∷ [] ≡ [] = sym (ap (λ (x : Event). batches_of (x ∷ [])) is) ∙ none in
-        cc;
+    plain = λ busy. none_plain e none;
     takes = λ i others. refl;
   }
 
   pub step_adds : (q : Free) (e : Event) → FreeStep clients first p e q
       → StepAdds clients first p e q.facts
   step_adds q e t =
-      free_batches clients first p (λ (x : Event) (g : Facts). StepAdds clients first p x g)
+      free_batches clients first p (λ x g. StepAdds clients first p x g)
       (record {
         none = adds_nothing;
         settles = λ b settling.
@@ -288,7 +290,7 @@ module _ (clients : Meaning) (first : ℕ) (p : Free) where
             adds_none b allowed only.begins only.begun (λ busy. absurd (busy rests))
             (λ i others. only.takes (first + i));
         begins = λ x rests allowed. record {
-          moves = moves_one clients (entry.Session x ∷ []) p.facts _ allowed refl;
+          moves = moves_one allowed;
           begun = refl;
           begins = λ busy. absurd (busy rests);
           stays = λ busy. absurd (busy rests);
@@ -302,7 +304,7 @@ module _ (clients : Meaning) (first : ℕ) (p : Free) where
             takes_other clients p.facts (first + n) (first + i) r allowed
             (apart first n i
             (λ same. others (item.One place r ∷ its)
-            (subst (λ (k : ℕ). p.hold ≡ Holds k (Takes (item.One place r ∷ its))) same holds))));
+            (subst (λ k. p.hold ≡ Holds k (Takes (item.One place r ∷ its))) same holds))));
         puts = λ n now room what link holds at is_due allowed.
             adds_none (out_batch (first + n) now what) allowed refl refl (λ busy plain. plain)
             (λ i others. refl);
@@ -314,6 +316,10 @@ module _ (clients : Meaning) (first : ℕ) (p : Free) where
 abbrev pub pending_in : Hold → ℕ → List Item
 pending_in (Holds n doing) i = cond (nat_eq n i) (pending doing) []
 pending_in _ i = []
+
+pub held_pends : {h : Hold} {i : ℕ} {doing : Doing} → h ≡ Holds i doing
+    → pending_in h i ≡ pending doing
+held_pends {i = i} is = ap (λ h. pending_in h i) is ∙ cond_self i []
 
 -- the link, or that there is none, stays; the event is of no call of it, and nothing of it is taken
 pub record IsKept (first : ℕ) (e : Event) (p q : Free) (i : ℕ) : Type 0 where
@@ -372,25 +378,6 @@ idle_pends (Holds n Waits) i calm = cond_same (nat_eq n i) []
 idle_pends (Holds n Done) i calm = cond_same (nat_eq n i) []
 idle_pends (Holds n _) i calm = absurd calm
 
-closed_at : (all : List Link) (k : ℕ) (links : List Link) (i : ℕ) (link : Link)
-    → slice_get links i ≡ Some link
-    → slice_get (closed_from all k links) i ≡ Some (closed_as all (k + i) link)
-closed_at all k [] i link at = cc
-closed_at all k (b ∷ links) zero link at =
-    let same : b ≡ link = cc in
-    let here : k ≡ k + 0 = omega arith in
-    subst (λ (m : ℕ). Some (closed_as all k b) ≡ Some (closed_as all m link)) here
-    (ap (λ (x : Link). Some (closed_as all k x)) same)
-closed_at all k (b ∷ links) (suc i) link at =
-    let later : suc k + i ≡ k + suc i = omega arith in
-    closed_at all (suc k) links i link at ∙ ap (λ (m : ℕ). Some (closed_as all m link)) later
-
-closed_none : (all : List Link) (k : ℕ) (links : List Link) (i : ℕ) → slice_get links i ≡ None
-    → slice_get (closed_from all k links) i ≡ None
-closed_none all k [] i none = refl
-closed_none all k (b ∷ links) zero none = cc
-closed_none all k (b ∷ links) (suc i) none = closed_none all (suc k) links i none
-
 get_push_other : {A : Type 0} (xs : List A) (x : A) (i : ℕ) → (i ≡ length xs → ⊥)
     → slice_get (xs ++ x ∷ []) i ≡ slice_get xs i
 get_push_other [] x zero other = absurd (other refl)
@@ -402,44 +389,16 @@ module _ (clients : Meaning) (first : ℕ) where
   abbrev Goes : Event → Free → Free → ℕ → Type 0
   Goes e p q i = LinkGoes clients first e p q i
 
-  links_stay : (e : Event) (p r : Free) (i : ℕ) → r.links ≡ p.links → Spares i e
+  links_stay : {e : Event} {p r : Free} {i : ℕ} → r.links ≡ p.links → Spares i e
       → pending_in r.hold i ≡ pending_in p.hold i
       → takes_of r.facts.takes (first + i) ≡ takes_of p.facts.takes (first + i) → Goes e p r i
-  links_stay e p r i same spares pends takes =
+  links_stay {i = i} same spares pends takes =
       Kept (record {
-        same = ap (λ (l : List Link). slice_get l i) same;
+        same = ap (λ l. slice_get l i) same;
         spares = spares;
         pends = pends;
         takes = takes;
       })
-
-  closes_go : (p : Free) (i : ℕ) → IsNothingUnderWay p.hold
-      → Goes Pass p (record p { hold = Rests; links = without_redundant p.links }) i
-  closes_go p i calm = by_link (slice_get p.links i) refl
-    where
-      pends : [] ≡ pending_in p.hold i
-      pends = sym (idle_pends p.hold i calm)
-
-      by_link : (o : Option Link) → slice_get p.links i ≡ o
-          → Goes Pass p (record p { hold = Rests; links = without_redundant p.links }) i
-      by_link None none =
-          Kept (record {
-            same = closed_none p.links 0 p.links i none ∙ sym none;
-            spares = tt;
-            pends = pends;
-            takes = refl;
-          })
-      by_link (Some was) at =
-          Closed (record {
-            was = was;
-            at = at;
-            beaten = is_beaten 0 p.links (0 + i) was;
-            going = beaten_going 0 (0 + i) p.links was;
-            now = closed_at p.links 0 p.links i was at;
-            spares = tt;
-            pends = pends;
-            facts = refl;
-          })
 
   joins_go : (e : Event) (p : Free) (x : Session) (stands : LinkEnd) (i : ℕ) → p.hold ≡ Begins x
       → ((i ≡ length p.links → ⊥) → Spares i e)
@@ -455,7 +414,7 @@ module _ (clients : Meaning) (first : ℕ) where
               is_next = same;
               begins = is;
               now =
-                  subst (λ (k : ℕ). slice_get (p.links ++ link_of x stands ∷ []) k
+                  subst (λ k. slice_get (p.links ++ link_of x stands ∷ []) k
                   ≡ Some (link_of x stands))
                   (sym same) (get_middle p.links [] (link_of x stands));
               pends = refl;
@@ -466,80 +425,88 @@ module _ (clients : Meaning) (first : ℕ) where
             Kept (record {
               same = get_push_other p.links (link_of x stands) i other;
               spares = spares other;
-              pends = sym (ap (λ (h : Hold). pending_in h i) is);
+              pends = sym (ap (λ h. pending_in h i) is);
               takes = refl;
-            })
-      ]
-
-  works_go : (n : ℕ) (doing : Doing) (link : Link) (moved : Bool) (e : Event) (spot : Spot)
-      (p : Free)
-      (i : ℕ) → p.hold ≡ Holds n doing → slice_get p.links n ≡ Some link
-      → LinkStep clients n (first + n) (spot_in doing link moved p) e spot
-      → ((i ≡ n → ⊥) → takes_of spot.facts.takes (first + i) ≡ takes_of p.facts.takes (first + i))
-      → Goes e p (holding n spot p) i
-  works_go n doing link moved e spot p i is there steps takes =
-      elim (cases_eq i n) [
-        | inl same ↦
-            subst (λ (k : ℕ). Goes e p (holding n spot p) k) (sym same)
-            (Stepped (record {
-              doing = doing;
-              link = link;
-              moved = moved;
-              spot = spot;
-              at = there;
-              now = get_set p.links n spot.link (get_within p.links n link there);
-              held = is;
-              holds = refl;
-              steps = steps;
-              facts = refl;
-            }))
-        | inr other ↦
-            let apart : nat_eq n i ≡ false = ne_eqb n i (λ same. other (sym same)) in
-            Kept (record {
-              same = get_other p.links n i spot.link other;
-              spares =
-                  link_spares clients n (first + n) i (spot_in doing link moved p) spot e other
-                  steps;
-              pends =
-                  ap (λ (b : Bool). cond b (pending spot.doing) []) apart
-                  ∙ sym (ap (λ (b : Bool). cond b (pending doing) []) apart)
-                  ∙ sym (ap (λ (h : Hold). pending_in h i) is);
-              takes = takes other;
             })
       ]
 
   pub free_link : (p q : Free) (e : Event) (i : ℕ) → FreeStep clients first p e q → Goes e p q i
   free_link p q e i t =
       free_by_cases clients first p
-      (λ (x : Event) (r : Free). (((its : List Item) → p.hold ≡ Holds i (Takes its) → ⊥)
+      (λ x r. (((its : List Item) → p.hold ≡ Holds i (Takes its) → ⊥)
       → takes_of r.facts.takes (first + i) ≡ takes_of p.facts.takes (first + i))
       → Goes x p r i) (record {
-        stays = λ takes. links_stay Pass p p i refl tt refl refl;
+        stays = λ takes. links_stay refl tt refl refl;
         turns = λ hold calm then takes.
-            links_stay Pass p (record p { hold = hold }) i refl tt
-            (idle_pends hold i then ∙ sym (idle_pends p.hold i calm)) refl;
+            links_stay refl tt (idle_pends hold i then ∙ sym (idle_pends p.hold i calm)) refl;
         sends = λ n now link calm there is_open takes.
-            links_stay Pass p (record p { hold = Holds n (Sends now MAX_OUTPUTS) }) i refl tt
-            (cond_same (nat_eq n i) [] ∙ sym (idle_pends p.hold i calm)) refl;
-        closes = λ calm takes. closes_go p i calm;
+            links_stay refl tt (cond_same (nat_eq n i) [] ∙ sym (idle_pends p.hold i calm)) refl;
+        closes = λ calm takes.
+            let closed = closed_each p.links 0 p.links i in
+            let pends = sym (idle_pends p.hold i calm) in
+            elim (slice_get p.links i) as (λ o. slice_get p.links i ≡ o
+            → Goes Pass p (record p { hold = Rests; links = without_redundant p.links }) i) [
+              | None ↦ λ none.
+                  Kept (record {
+                    same = closed ∙ ap (option_map (closed_as p.links (0 + i))) none ∙ sym none;
+                    spares = tt;
+                    pends = pends;
+                    takes = refl;
+                  })
+              | Some was ↦ λ at.
+                  Closed (record {
+                    was = was;
+                    at = at;
+                    beaten = is_beaten 0 p.links (0 + i) was;
+                    going = beaten_going 0 (0 + i) p.links was;
+                    now = closed ∙ ap (option_map (closed_as p.links (0 + i))) at;
+                    spares = tt;
+                    pends = pends;
+                    facts = refl;
+                  })
+            ] refl;
         adds = λ b rests adds takes.
-            links_stay (Commit b) p (record p { facts = after_all p.facts b }) i refl tt refl
+            links_stay refl tt refl
             (takes (λ its holds. let both : Rests ≡ Holds i (Takes its) = sym rests ∙ holds in cc));
         begins = λ x rests allowed takes.
-            links_stay _ p
-            (record p { hold = Begins x; facts = after_all p.facts (entry.Session x ∷ []) }) i refl
-            tt
-            (sym (ap (λ (h : Hold). pending_in h i) rests)) refl;
+            links_stay refl tt (sym (ap (λ h. pending_in h i) rests)) refl;
         greets = λ x begins takes.
             joins_go Pass p x end.Going i begins (λ other. tt) (λ same. inl (refl, refl));
         breaks = λ x begins takes.
             joins_go (Break (length p.links)) p x end.Failed i begins (λ other same.
             other (sym same))
-            (λ same. inr (ap (λ (k : ℕ). Break k) (sym same), refl));
+            (λ same. inr (ap (λ k. Break k) (sym same), refl));
         works = λ n doing link moved x spot holds there steps takes.
-            works_go n doing link moved x spot p i holds there steps
-            (λ other. takes
-            (λ its held.
-            let both : Holds n doing ≡ Holds i (Takes its) = sym holds ∙ held in
-            other (let at : n ≡ i = cc in sym at)));
+            elim (cases_eq i n) [
+              | inl same ↦
+                  subst (λ k. Goes x p (holding n spot p) k) (sym same)
+                  (Stepped (record {
+                    doing = doing;
+                    link = link;
+                    moved = moved;
+                    spot = spot;
+                    at = there;
+                    now = get_set p.links n spot.link (get_within p.links n link there);
+                    held = holds;
+                    holds = refl;
+                    steps = steps;
+                    facts = refl;
+                  }))
+              | inr other ↦
+                  let apart = ne_eqb n i (λ same. other (sym same)) in
+                  Kept (record {
+                    same = get_other p.links n i spot.link other;
+                    spares =
+                        link_spares clients n (first + n) i (spot_in doing link moved p) spot x
+                        other steps;
+                    pends =
+                        ap (λ b. cond b (pending spot.doing) []) apart
+                        ∙ sym (ap (λ b. cond b (pending doing) []) apart)
+                        ∙ sym (ap (λ h. pending_in h i) holds);
+                    takes =
+                        takes (λ its held.
+                        let both : Holds n doing ≡ Holds i (Takes its) = sym holds ∙ held in
+                        other (let at : n ≡ i = cc in sym at));
+                  })
+            ];
       }) q e t ((step_adds clients first p q e t).takes i)

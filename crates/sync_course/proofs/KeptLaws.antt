@@ -1,6 +1,6 @@
 -- Redundant links: behind each that is closed stands one that is kept, and closing them one after the other, each by the links as they
 -- then stand, closes the same ones.
-use Rattle.std.proofs.Common.{◌≡◌, ◌⊎◌, ℕ, zero, suc, ◌+◌, ◌<◌, Bool, true, false, cond, ◌&&◌, ◌||◌, nat_eq, eq-eqb, eqb-true, List, [], ◌∷◌, length, refl, sym, ◌∙◌, ap, subst, inl, inr, arith, Option, None, Some}
+use Rattle.std.proofs.Common.{◌≡◌, ◌⊎◌, ℕ, zero, suc, ◌+◌, ◌<◌, Bool, true, false, cond, ◌||◌, nat_eq, eq-eqb, eqb-true, List, [], ◌∷◌, length, refl, sym, ◌∙◌, ap, ap₂, subst, inl, inr, arith, Option, None, Some}
 use Rattle.std.specs.Cmp.Lexicographic.{nat_list_cmp_total, slice_cmp}
 use Rattle.std.specs.Ordering.{nat_cmp, ordering_reverse}
 use Rattle.std.specs.Prelude.{nat_lt, slice_get, slice_set}
@@ -18,24 +18,26 @@ turned : (x y : List ℕ) (o : Ordering) → slice_cmp nat_cmp x y ≡ o → sli
 turned x y o is = nat_list_cmp_total.antisymm y x ∙ ap ordering_reverse is
 
 -- what is kept by two comparisons is kept by the one
-before_then : (x y z : List ℕ) (first second whole : Bool) → (first ≡ true → second ≡ true → whole ≡ true) → (o r : Ordering)
-    → slice_cmp nat_cmp x y ≡ o → slice_cmp nat_cmp y z ≡ r → is_before o first ≡ true → is_before r second ≡ true
-    → is_before (slice_cmp nat_cmp x z) whole ≡ true
-before_then x y z first second whole both ordering.Less r e f a b = cc
-before_then x y z first second whole both ordering.Equal ordering.Less e f a b = cc
-before_then x y z first second whole both ordering.Greater ordering.Less e f a b = cc
-before_then x y z first second whole both ordering.Greater ordering.Greater e f a b =
-    let low : slice_cmp nat_cmp z x ≡ ordering.Less =
-    nat_list_cmp_total.trans z y x (turned y z ordering.Greater f) (turned x y ordering.Greater e) in
-    ap (λ (o : Ordering). is_before o whole) (turned z x ordering.Less low)
-before_then x y z first second whole both ordering.Greater ordering.Equal e f a b =
-    let low : slice_cmp nat_cmp z x ≡ ordering.Less =
-    sym (nat_list_cmp_total.congr y z x f) ∙ turned x y ordering.Greater e in
-    ap (λ (o : Ordering). is_before o whole) (turned z x ordering.Less low)
-before_then x y z first second whole both ordering.Equal ordering.Greater e f a b =
-    ap (λ (o : Ordering). is_before o whole) (nat_list_cmp_total.congr x y z e ∙ f)
-before_then x y z first second whole both ordering.Equal ordering.Equal e f a b =
-    ap (λ (o : Ordering). is_before o whole) (nat_list_cmp_total.congr x y z e ∙ f) ∙ both a b
+module _ (x y z : List ℕ) (first second whole : Bool)
+    (both : first ≡ true → second ≡ true → whole ≡ true) where
+  before_then : (o r : Ordering)
+      → slice_cmp nat_cmp x y ≡ o → slice_cmp nat_cmp y z ≡ r → is_before o first ≡ true → is_before r second ≡ true
+      → is_before (slice_cmp nat_cmp x z) whole ≡ true
+  before_then ordering.Less r e f a b = cc
+  before_then ordering.Equal ordering.Less e f a b = cc
+  before_then ordering.Greater ordering.Less e f a b = cc
+  before_then ordering.Greater ordering.Greater e f a b =
+      let low =
+      nat_list_cmp_total.trans z y x (turned y z ordering.Greater f) (turned x y ordering.Greater e) in
+      ap (λ o. is_before o whole) (turned z x ordering.Less low)
+  before_then ordering.Greater ordering.Equal e f a b =
+      let low : slice_cmp nat_cmp z x ≡ ordering.Less =
+      sym (nat_list_cmp_total.congr y z x f) ∙ turned x y ordering.Greater e in
+      ap (λ o. is_before o whole) (turned z x ordering.Less low)
+  before_then ordering.Equal ordering.Greater e f a b =
+      ap (λ o. is_before o whole) (nat_list_cmp_total.congr x y z e ∙ f)
+  before_then ordering.Equal ordering.Equal e f a b =
+      ap (λ o. is_before o whole) (nat_list_cmp_total.congr x y z e ∙ f) ∙ both a b
 
 kept_then : (x y z : Option (List ℕ)) (first second whole : Bool) → (first ≡ true → second ≡ true → whole ≡ true) → is_kept x y first ≡ true
     → is_kept y z second ≡ true → is_kept x z whole ≡ true
@@ -50,11 +52,8 @@ not_kept None = refl
 not_kept (Some x) = not_before (slice_cmp nat_cmp x x) refl
   where
     not_before : (o : Ordering) → slice_cmp nat_cmp x x ≡ o → is_before (slice_cmp nat_cmp x x) false ≡ false
-    not_before ordering.Less is = ap (λ (o : Ordering). is_before o false) is
-    not_before ordering.Equal is = ap (λ (o : Ordering). is_before o false) is
-    not_before ordering.Greater is =
-        let low : slice_cmp nat_cmp x x ≡ ordering.Less = turned x x ordering.Greater is in
-        ap (λ (o : Ordering). is_before o false) low
+    not_before ordering.Greater is = ap (λ o. is_before o false) (turned x x ordering.Greater is)
+    not_before _ is = ap (λ o. is_before o false) is
 
 -- the parts of a comparison of two links
 pub record Beats (i : ℕ) (a : Link) (k : ℕ) (b : Link) : Type 0 where
@@ -63,18 +62,18 @@ pub record Beats (i : ℕ) (a : Link) (k : ℕ) (b : Link) : Type 0 where
   pub same_contact : nat_eq a.contact b.contact ≡ true
   pub kept : is_kept a.nonce b.nonce (nat_lt i k) ≡ true
 
-beats_parts : (i : ℕ) (a : Link) (k : ℕ) (b : Link) → beats i a k b ≡ true → Beats i a k b
+pub beats_parts : (i : ℕ) (a : Link) (k : ℕ) (b : Link) → beats i a k b ≡ true → Beats i a k b
 beats_parts i a k b is =
-    let one = and_parts (is_going a.stands) (is_going b.stands && (nat_eq a.contact b.contact && is_kept a.nonce b.nonce (nat_lt i k))) is in
-    let two = and_parts (is_going b.stands) (nat_eq a.contact b.contact && is_kept a.nonce b.nonce (nat_lt i k)) one.1 in
-    let three = and_parts (nat_eq a.contact b.contact) (is_kept a.nonce b.nonce (nat_lt i k)) two.1 in
+    let one = and_parts (is_going a.stands) _ is in
+    let two = and_parts (is_going b.stands) _ one.1 in
+    let three = and_parts (nat_eq a.contact b.contact) _ two.1 in
     record { first_going = one.0; second_going = two.0; same_contact = three.0; kept = three.1 }
 
 beats_from : (i : ℕ) (a : Link) (k : ℕ) (b : Link) → Beats i a k b → beats i a k b ≡ true
 beats_from i a k b p =
-    and_from (is_going a.stands) (is_going b.stands && (nat_eq a.contact b.contact && is_kept a.nonce b.nonce (nat_lt i k))) p.first_going
-    (and_from (is_going b.stands) (nat_eq a.contact b.contact && is_kept a.nonce b.nonce (nat_lt i k)) p.second_going
-    (and_from (nat_eq a.contact b.contact) (is_kept a.nonce b.nonce (nat_lt i k)) p.same_contact p.kept))
+    and_from (is_going a.stands) _ p.first_going
+    (and_from (is_going b.stands) _ p.second_going
+    (and_from (nat_eq a.contact b.contact) _ p.same_contact p.kept))
 
 smaller_then : (i m k : ℕ) → nat_lt i m ≡ true → nat_lt m k ≡ true → nat_lt i k ≡ true
 smaller_then i m k first second =
@@ -86,8 +85,8 @@ pub beats_then : (i : ℕ) (a : Link) (m : ℕ) (c : Link) (k : ℕ) (b : Link) 
 beats_then i a m c k b first second =
     let p = beats_parts i a m c first in
     let q = beats_parts m c k b second in
-    let ac : a.contact ≡ c.contact = eqb-true a.contact c.contact p.same_contact in
-    let cb : c.contact ≡ b.contact = eqb-true c.contact b.contact q.same_contact in
+    let ac = eqb-true a.contact c.contact p.same_contact in
+    let cb = eqb-true c.contact b.contact q.same_contact in
     beats_from i a k b (record {
       first_going = p.first_going;
       second_going = q.second_going;
@@ -95,24 +94,20 @@ beats_then i a m c k b first second =
       kept = kept_then a.nonce c.nonce b.nonce (nat_lt i m) (nat_lt m k) (nat_lt i k) (smaller_then i m k) p.kept q.kept;
     })
 
-not_smaller : (i : ℕ) (b : Bool) → nat_lt i i ≡ b → b ≡ false
-not_smaller i true is = let less : i < i = ltb-true i i is in absurd (omega (arith, less))
-not_smaller i false is = refl
+pub never : (t : Bool) → (t ≡ true → ⊥) → t ≡ false
+never true absent = absurd (absent refl)
+never false absent = refl
 
 pub not_itself : {A : Type 0} → (i : ℕ) (a : Link) → beats i a i a ≡ true → A
 not_itself i a is =
-    let none : nat_lt i i ≡ false = not_smaller i (nat_lt i i) refl in
-    absurd (false≢true (sym (not_kept a.nonce) ∙ ap (λ (b : Bool). is_kept a.nonce a.nonce b) (sym none) ∙ (beats_parts i a i a is).kept))
+    let none = never (nat_lt i i) (λ is. let less : i < i = ltb-true i i is in omega (arith, less)) in
+    absurd (false≢true (sym (not_kept a.nonce) ∙ ap (λ b. is_kept a.nonce a.nonce b) (sym none) ∙ (beats_parts i a i a is).kept))
 
 -- ---- the one that is kept
 
 or_false : (a b : Bool) → a ≡ false → b ≡ false → (a || b) ≡ false
 or_false true b e f = cc
 or_false false b e f = f
-
-never : (t : Bool) → (t ≡ true → ⊥) → t ≡ false
-never true absent = absurd (absent refl)
-never false absent = refl
 
 module _ {A : Type 0} (over : A → A → Bool) where
   -- one of a list is over this one
@@ -131,7 +126,7 @@ module _ {A : Type 0} (over : A → A → Bool) where
   under_one : (xs : List A) (a b : A) → In a xs → over a b ≡ true → is_under xs b ≡ true
   under_one [] a b there is = absurd there
   under_one (x ∷ xs) a b (inl same) is =
-      or_left (over x b) (is_under xs b) (subst (λ (y : A). over y b ≡ true) same is)
+      or_left (over x b) (is_under xs b) (subst (λ y. over y b ≡ true) same is)
   under_one (x ∷ xs) a b (inr later) is =
       or_right (over x b) (is_under xs b) (under_one xs a b later is)
 
@@ -144,40 +139,42 @@ module _ {A : Type 0} (over : A → A → Bool) where
 
   module _ (itself : (a : A) → over a a ≡ true → ⊥)
       (then : (a b c : A) → over a b ≡ true → over b c ≡ true → over a c ≡ true) where
-    best_with : (c : A) (xs : List A) (b : A) (t : Bool) → over c b ≡ t → Best xs c → Best xs b
-        → Best (c ∷ xs) b
-    best_with c xs b true t r other = record {
-      best = r.best;
-      is =
-          inr (elim r.is [
-            | inl same ↦ (inl same, subst (λ (x : A). over x b ≡ true) (sym same) t)
-            | inr there ↦ (inr there.0, then r.best c b there.1 t)
-          ]);
-      free =
-          or_false (over c r.best) (is_under xs r.best)
-          (never (over c r.best)
-          (λ x. elim r.is [
-            | inl same ↦ itself c (subst (λ (y : A). over c y ≡ true) same x)
-            | inr there ↦ itself c (then c r.best c x there.1)
-          ]))
-          r.free;
-    }
-    best_with c xs b false t other r = record {
-      best = r.best;
-      is = elim r.is [ inl same ↦ inl same | inr there ↦ inr (inr there.0, there.1) ];
-      free =
-          or_false (over c r.best) (is_under xs r.best)
-          (never (over c r.best)
-          (λ x. false≢true (sym t ∙ elim r.is [
-            | inl same ↦ subst (λ (y : A). over c y ≡ true) same x
-            | inr there ↦ then c r.best b x there.1
-          ])))
-          r.free;
-    }
-
     best_of : (xs : List A) (b : A) → Best xs b
     best_of [] b = record { best = b; is = inl refl; free = refl }
-    best_of (c ∷ xs) b = best_with c xs b (over c b) refl (best_of xs c) (best_of xs b)
+    best_of (c ∷ xs) b = with_one (best_of xs b) (best_of xs c)
+      where
+        under : (r : Best xs b) → over c r.best ≡ true → over c b ≡ true
+        under r t =
+            elim r.is [
+              | inl same ↦ subst (λ x. over c x ≡ true) same t
+              | inr there ↦ then c r.best b t there.1
+            ]
+
+        not_over : (s : Best xs c) → over c s.best ≡ true → ⊥
+        not_over s t =
+            elim s.is [
+              | inl same ↦ itself c (subst (λ x. over c x ≡ true) same t)
+              | inr there ↦ itself c (then c s.best c t there.1)
+            ]
+
+        with_one : Best xs b → Best xs c → Best (c ∷ xs) b
+        with_one r s =
+            elim (over c r.best) as (λ t. over c r.best ≡ t → Best (c ∷ xs) b) [
+              | true ↦ λ t. record {
+                best = s.best;
+                is =
+                    inr (elim s.is [
+                      | inl same ↦ (inl same, subst (λ x. over x b ≡ true) (sym same) (under r t))
+                      | inr there ↦ (inr there.0, then s.best c b there.1 (under r t))
+                    ]);
+                free = or_false (over c s.best) _ (never (over c s.best) (not_over s)) s.free;
+              }
+              | false ↦ λ t. record {
+                best = r.best;
+                is = elim r.is [ inl same ↦ inl same | inr there ↦ inr (inr there.0, there.1) ];
+                free = or_false (over c r.best) _ t r.free;
+              }
+            ] refl
 
 -- the links of a list with their numbers, whose first has the number j
 abbrev pub numbered : ℕ → List Link → List (ℕ × Link)
@@ -191,14 +188,14 @@ beaten_numbered : (j : ℕ) (links : List Link) (k : ℕ) (b : Link)
     → is_beaten j links k b ≡ is_under over_by (numbered j links) (k, b)
 beaten_numbered j [] k b = refl
 beaten_numbered j (a ∷ links) k b =
-    ap (λ (t : Bool). beats j a k b || t) (beaten_numbered (suc j) links k b)
+    ap (λ t. beats j a k b || t) (beaten_numbered (suc j) links k b)
 
 at_number : (j : ℕ) (links : List Link) (n : ℕ) (a : Link) → In (n, a) (numbered j links)
     → (m : ℕ) × (n ≡ j + m) × (slice_get links m ≡ Some a)
 at_number j [] n a there = absurd there
 at_number j (x ∷ links) n a (inl same) =
-    let here : n ≡ j = ap (λ (y : ℕ × Link). y.0) same in
-    (0, omega (arith, here), ap (λ (y : ℕ × Link). Some y.1) (sym same))
+    let here : n ≡ j = ap (λ y. y.0) same in
+    (0, omega (arith, here), ap (λ y. Some y.1) (sym same))
 at_number j (x ∷ links) n a (inr later) =
     let r = at_number (suc j) links n a later in
     let number : n ≡ suc j + r.0 = r.1 in
@@ -218,7 +215,7 @@ kept_in links k b beaten =
     elim r.is [
       | inl same ↦
           absurd (false≢true (sym free
-          ∙ ap (λ (y : ℕ × Link). is_beaten 0 links y.0 y.1) same
+          ∙ ap (λ y. is_beaten 0 links y.0 y.1) same
           ∙ beaten))
       | inr there ↦ (r.best, there.0, there.1, free)
     ]
@@ -232,14 +229,14 @@ kept_rather links k b beaten =
     record {
       number = r.0.0;
       link = r.0.1;
-      at = subst (λ (n : ℕ). slice_get links n ≡ Some r.0.1) same at.2;
+      at = subst (λ n. slice_get links n ≡ Some r.0.1) same at.2;
       beats_it = r.2;
       unbeaten = r.3;
     }
 
 pub closed_whole : (all : List Link) (k : ℕ) (links : List Link) → closed_upto all k (length links) links ≡ closed_from all k links
 closed_whole all k [] = refl
-closed_whole all k (b ∷ links) = ap (λ (l : List Link). closed_as all k b ∷ l) (closed_whole all (suc k) links)
+closed_whole all k (b ∷ links) = ap (λ l. closed_as all k b ∷ l) (closed_whole all (suc k) links)
 
 -- one more is closed
 closed_more : (all : List Link) (k m : ℕ) (links : List Link) (b : Link) → slice_get links m ≡ Some b
@@ -248,12 +245,11 @@ closed_more all k m [] b at = cc
 closed_more all k zero (x ∷ links) b at =
     let same : x ≡ b = cc in
     let here : k ≡ k + 0 = omega arith in
-    subst (λ (n : ℕ). closed_as all k x ∷ links ≡ closed_as all n b ∷ links) here
-    (ap (λ (y : Link). closed_as all k y ∷ links) same)
+    ap₂ (λ y n. closed_as all n y ∷ links) same here
 closed_more all k (suc m) (x ∷ links) b at =
     let later : suc k + m ≡ k + suc m = omega arith in
-    ap (λ (l : List Link). closed_as all k x ∷ l)
-    (closed_more all (suc k) m links b at ∙ ap (λ (n : ℕ). slice_set (closed_upto all (suc k) m links) m (closed_as all n b)) later)
+    ap (λ l. closed_as all k x ∷ l)
+    (closed_more all (suc k) m links b at ∙ ap (λ n. slice_set (closed_upto all (suc k) m links) m (closed_as all n b)) later)
 
 -- a link of the list in which some are closed
 was_in : (all : List Link) (j m : ℕ) (links : List Link) (n : ℕ) (now : Link)
@@ -262,11 +258,11 @@ was_in : (all : List Link) (j m : ℕ) (links : List Link) (n : ℕ) (now : Link
 was_in all j zero links n now there = (now, there, inl refl)
 was_in all j (suc m) [] n now there = absurd there
 was_in all j (suc m) (x ∷ links) n now (inl same) =
-    let number : n ≡ j = ap (λ (y : ℕ × Link). y.0) same in
-    let link : now ≡ closed_as all j x = ap (λ (y : ℕ × Link). y.1) same in (
+    let number : n ≡ j = ap (λ y. y.0) same in
+    let link : now ≡ closed_as all j x = ap (λ y. y.1) same in (
       x,
-      inl (ap (λ (i : ℕ). (i, x)) number),
-      inr (link ∙ ap (λ (i : ℕ). closed_as all i x) (sym number)),
+      inl (ap (λ i. (i, x)) number),
+      inr (link ∙ ap (λ i. closed_as all i x) (sym number)),
     )
 was_in all j (suc m) (x ∷ links) n now (inr later) =
     let r = was_in all (suc j) m links n now later in (r.0, inr r.1, r.2)
@@ -279,9 +275,9 @@ stays_in all j zero links n a there free = there
 stays_in all j (suc m) [] n a there free = absurd there
 stays_in all j (suc m) (x ∷ links) n a (inl same) free =
     let free_here : is_beaten 0 all j x ≡ false =
-    ap (λ (y : ℕ × Link). is_beaten 0 all y.0 y.1) (sym same) ∙ free in
+    ap (λ y. is_beaten 0 all y.0 y.1) (sym same) ∙ free in
     inl (same
-    ∙ ap (λ (t : Bool). (j, record x { stands = cond t end.Redundant x.stands })) (sym free_here))
+    ∙ ap (λ t. (j, record x { stands = cond t end.Redundant x.stands })) (sym free_here))
 stays_in all j (suc m) (x ∷ links) n a (inr later) free =
     inr (stays_in all (suc j) m links n a later free)
 
@@ -307,10 +303,10 @@ same_beaten links m k b = both_so (is_beaten 0 (closed_upto links 0 m links) k b
         let w = was_in links 0 m links r.0.0 r.0.1 r.1 in
         let beats_it : beats r.0.0 w.0 k b ≡ true =
         elim w.2 [
-          | inl same ↦ subst (λ (y : Link). beats r.0.0 y k b ≡ true) same r.2
+          | inl same ↦ subst (λ y. beats r.0.0 y k b ≡ true) same r.2
           | inr closed ↦
               closed_beats (is_beaten 0 links r.0.0 w.0) r.0.0 w.0 k b
-              (subst (λ (y : Link). beats r.0.0 y k b ≡ true) closed r.2)
+              (subst (λ y. beats r.0.0 y k b ≡ true) closed r.2)
         ] in
         beaten_numbered 0 links k b
         ∙ under_one over_by (numbered 0 links) (r.0.0, w.0) (k, b) w.1 beats_it
@@ -330,6 +326,6 @@ pub closes_next : (links : List Link) (m : ℕ) (b : Link) → slice_get links m
 closes_next links m b at =
     let same : 0 + m ≡ m = omega arith in
     closed_more links 0 m links b at
-    ∙ ap (λ (n : ℕ). slice_set (closed_upto links 0 m links) m (closed_as links n b)) same
-    ∙ ap (λ (t : Bool). slice_set (closed_upto links 0 m links) m (record b { stands = cond t end.Redundant b.stands }))
+    ∙ ap (λ n. slice_set (closed_upto links 0 m links) m (closed_as links n b)) same
+    ∙ ap (λ t. slice_set (closed_upto links 0 m links) m (record b { stands = cond t end.Redundant b.stands }))
     (sym (same_beaten links m m b))

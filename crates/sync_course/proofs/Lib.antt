@@ -12,10 +12,8 @@ pub mod QuietLaws
 pub mod SendLaws
 pub mod FreeSuits
 pub mod HeardLaws
-pub mod PlanLaws
 pub mod ToldLaws
 pub mod IdleLaws
 pub mod KeptLaws
 pub mod ReadingLaws
 pub mod RunLaws
-pub mod PlaceLaws

@@ -55,77 +55,63 @@ module _ (clients : Meaning) (n session : ℕ) (p : Spot) (T : Doing → Event �
     pub breaks : (now room : ℕ) → T (Puts now room) (Break n) (failed_spot p)
 
   module _ (cases : LinkCases) where
-    to : (doing : Doing) (e : Event) (q r : Spot) → q ≡ r → T doing e r → T doing e q
-    to doing e q r same t = subst (T doing e) (sym same) t
+    to : {doing : Doing} {e : Event} {q r : Spot} → q ≡ r → T doing e r → T doing e q
+    to {doing = doing} {e = e} same t = subst (T doing e) (sym same) t
 
-    on_it : (doing : Doing) (on : ℕ) (e : ℕ → Event) (q r : Spot) → on ≡ n → q ≡ r → T doing (e n) r
-        → T doing (e on) q
-    on_it doing on e q r here same t =
-        subst (λ (k : ℕ). T doing (e k) q) (sym here) (to doing (e n) q r same t)
+    on_it : {doing : Doing} {on : ℕ} {q r : Spot} (e : ℕ → Event) → on ≡ n → q ≡ r
+        → T doing (e n) r → T doing (e on) q
+    on_it {doing = doing} {q = q} e here same t =
+        subst (λ k. T doing (e k) q) (sym here) (to same t)
 
-    by_batch : (doing : Doing) (b c : List Entry) (q : Spot) (r : List Entry → Spot) → b ≡ c
-        → q ≡ r b
-        → T doing (Commit c) (r c) → T doing (Commit b) q
-    by_batch doing b c q r is same t =
-        subst (λ (x : List Entry). T doing (Commit x) q) (sym is)
-        (to doing (Commit c) q (r c) (same ∙ ap r is) t)
+    by_batch : {doing : Doing} {b c : List Entry} {q : Spot} (r : List Entry → Spot) → b ≡ c
+        → q ≡ r b → T doing (Commit c) (r c) → T doing (Commit b) q
+    by_batch {doing = doing} {q = q} r is same t =
+        subst (λ x. T doing (Commit x) q) (sym is) (to (same ∙ ap r is) t)
 
     by_take : (its : List Item) (b : List Entry) (q : Spot)
         → TakesNext clients session its b (does (Takes its) p) q → T (Takes its) (Commit b) q
     by_take [] b q s = absurd s
     by_take (item.Skipped place type_byte len ∷ its) b q s = absurd s
     by_take (item.One place r ∷ its) b q s =
-        by_batch (Takes (item.One place r ∷ its)) b (next_take p.facts session r) q
-        (λ (x : List Entry). taken_spot place r its x p) s.0 s.2
+        by_batch (λ x. taken_spot place r its x p) s.0 s.2
         (cases.takes place r its (subst (Allowed clients p.facts) s.0 s.1))
 
     by_pass : (its : List Item) (q : Spot) → IsSettled clients p.facts
         → PassesItem its (does (Takes its) p) q → T (Takes its) Pass q
-    by_pass [] q settled s = to (Takes []) Pass q (all_taken_spot p) s (cases.all_taken settled)
+    by_pass [] q settled s = to s (cases.all_taken settled)
     by_pass (item.One place r ∷ its) q settled s = absurd s
     by_pass (item.Skipped place type_byte len ∷ its) q settled s =
-        to (Takes (item.Skipped place type_byte len ∷ its)) Pass q (does (Takes its) p) s
-        (cases.skips place type_byte len its)
+        to s (cases.skips place type_byte len its)
 
     by_send : (now room : ℕ) (b : List Entry) (q : Spot)
         → SendsNext clients session now room b (does (Sends now room) p) q
         → T (Sends now room) (Commit b) q
     by_send now zero b q s = absurd s
     by_send now (suc room) b q s =
-        by_batch (Sends now (suc room)) b (out_batch session now s.what) q
-        (λ (x : List Entry). out_spot now room x p) s.is s.leads
+        by_batch (λ x. out_spot now room x p) s.is s.leads
         (cases.puts now room s.what s.is_due (subst (Allowed clients p.facts) s.is s.allowed))
 
     by_case : (doing : Doing) (e : Event) (q : Spot) → StepOf clients n session doing e
         (does doing p) q
         → T doing e q
     by_case Asks (Hear on (got bytes)) q s =
-        on_it Asks on (λ k. Hear k (got bytes)) q (heard_spot (got bytes) p) s.0 s.2
-        (cases.hears bytes s.1)
-    by_case Asks (Hear on idle) q s =
-        on_it Asks on (λ k. Hear k idle) q (does Waits p) s.0 s.2 (cases.idles s.1)
-    by_case Asks (Hear on ended) q s =
-        on_it Asks on (λ k. Hear k ended) q (heard_spot ended p) s.0 s.2 (cases.ends s.1)
-    by_case Asks (Miss on) q s =
-        on_it Asks on (λ k. Miss k) q (failed_spot p) s.0 s.2 (cases.misses s.1)
-    by_case Asks Pass q s = to Asks Pass q (does Waits p) s.1 (cases.unasked s.0)
+        on_it (λ k. Hear k (got bytes)) s.0 s.2 (cases.hears bytes s.1)
+    by_case Asks (Hear on idle) q s = on_it (λ k. Hear k idle) s.0 s.2 (cases.idles s.1)
+    by_case Asks (Hear on ended) q s = on_it (λ k. Hear k ended) s.0 s.2 (cases.ends s.1)
+    by_case Asks (Miss on) q s = on_it Miss s.0 s.2 (cases.misses s.1)
+    by_case Asks Pass q s = to s.1 (cases.unasked s.0)
     by_case (Takes its) (Commit b) q s =
         elim s [
-          | inl settles ↦ to (Takes its) (Commit b) q _ settles.1 (cases.settles its b settles.0)
+          | inl settles ↦ to settles.1 (cases.settles its b settles.0)
           | inr takes ↦ by_take its b q takes
         ]
     by_case (Takes its) Pass q s = by_pass its q s.0 s.1
-    by_case Waits (Read on now) q s =
-        on_it Waits on (λ k. Read k now) q (does (Sends now MAX_OUTPUTS) p) s.0 s.2
-        (cases.reads now s.1)
-    by_case Waits Pass q s = to Waits Pass q (does Done p) s.1 (cases.closed s.0)
+    by_case Waits (Read on now) q s = on_it (λ k. Read k now) s.0 s.2 (cases.reads now s.1)
+    by_case Waits Pass q s = to s.1 (cases.closed s.0)
     by_case (Sends now room) (Commit b) q s = by_send now room b q s
-    by_case (Sends now room) Pass q s =
-        to (Sends now room) Pass q (does Done p) s.1 (cases.enough now room s.0)
-    by_case (Puts now room) Pass q s =
-        to (Puts now room) Pass q (does (Sends now room) p) s (cases.put now room)
-    by_case (Puts now room) (Break on) q s =
-        on_it (Puts now room) on (λ k. Break k) q (failed_spot p) s.0 s.1 (cases.breaks now room)
+    by_case (Sends now room) Pass q s = to s.1 (cases.enough now room s.0)
+    by_case (Puts now room) Pass q s = to s (cases.put now room)
+    by_case (Puts now room) (Break on) q s = on_it Break s.0 s.1 (cases.breaks now room)
     by_case _ _ q s = absurd s
 
     pub link_by_cases : (q : Spot) (e : Event) → LinkStep clients n session p e q → T p.doing e q

@@ -7,7 +7,7 @@ module _ {E P : Type 0} (step : P → E → P → Type 0) where
   path_one p q e s = (q, s, refl)
 
   pub path_then : (p q r : P) (es fs : List E) → Path step p es q → Path step q fs r → Path step p (es ++ fs) r
-  path_then p q r [] fs first second = subst (λ (x : P). Path step x fs r) first second
+  path_then p q r [] fs first second = subst (λ x. Path step x fs r) first second
   path_then p q r (e ∷ es) fs first second = (first.0, first.1, path_then first.0 q r es fs first.2 second)
 
   pub path_push : (p q r : P) (es : List E) (e : E) → Path step p es q → step q e r → Path step p (es ++ e ∷ []) r
@@ -32,7 +32,7 @@ module _ {E P : Type 0} (step : P → E → P → Type 0) (Keeps : List E → P 
     (each : (before : List E) (p q : P) (e : E) → Keeps before p → step p e q → Keeps (before ++ e ∷ []) q) where
   pub path_keeps : (before es : List E) (p q : P) → Keeps before p → Path step p es q → Keeps (before ++ es) q
   path_keeps before [] p q k path =
-      subst (λ (l : List E). Keeps l q) (sym (append-nil before)) (subst (λ (x : P). Keeps before x) (sym path) k)
+      subst (λ l. Keeps l q) (sym (append-nil before)) (subst (λ x. Keeps before x) (sym path) k)
   path_keeps before (e ∷ es) p q k path =
-      subst (λ (l : List E). Keeps l q) (append_assoc before (e ∷ []) es)
+      subst (λ l. Keeps l q) (append_assoc before (e ∷ []) es)
       (path_keeps (before ++ e ∷ []) es path.0 q (each before p path.0 e k path.1) path.2)

@@ -18,7 +18,7 @@ use Rattle.sync_course.specs.Reading.{HasRead, IsReading}
 pub fresh_has_read : AwaitsBytes fresh → items 0 [] ≡ [] → HasRead [] fresh
 fresh_has_read awaits none = record {
   reads = record {
-    items_stay = λ more. ap (λ (l : List Item). l ++ items 0 ([] ++ ([] ++ more))) (sym none);
+    items_stay = λ more. ap (λ l. l ++ items 0 ([] ++ ([] ++ more))) (sym none);
     ending_stays = λ more. refl;
   };
   awaits = awaits;
@@ -36,13 +36,13 @@ piece_comes widen heard bytes r h = record {
 pub answer_comes : ReadingsFollow → (heard left left' : List ℕ) (r r' : ReaderState) (its has : List Item) → IsReading heard left r its
     → ReadsOn left r has left' r' → (others : List Item) × (its ≡ has ++ others) × IsReading heard left' r' others
 answer_comes follow heard left left' r r' its has reading reads =
-    let others : List Item = items r'.place (r'.bytes ++ left') in
-    let parts : items r.place (r.bytes ++ (left ++ [])) ≡ has ++ items r'.place (r'.bytes ++ (left' ++ [])) = reads.items_stay [] in (
+    let others = items r'.place (r'.bytes ++ left') in
+    let parts = reads.items_stay [] in (
       others,
       reading.to_come
-          ∙ ap (λ (l : List ℕ). items r.place (r.bytes ++ l)) (sym (append-nil left))
+          ∙ ap (λ l. items r.place (r.bytes ++ l)) (sym (append-nil left))
           ∙ parts
-          ∙ ap (λ (l : List ℕ). has ++ items r'.place (r'.bytes ++ l)) (append-nil left'),
+          ∙ ap (λ l. has ++ items r'.place (r'.bytes ++ l)) (append-nil left'),
       record {
         given = reading.given ++ has;
         reads = follow heard left left' fresh r r' reading.given has reading.reads reads;
@@ -55,17 +55,17 @@ pub none_come : (heard left : List ℕ) (r : ReaderState) (its : List Item) → 
     → (its ≡ []) × HasRead heard r
 none_come heard left r its reading none awaits =
     let nothing : items r.place (r.bytes ++ left) ≡ [] =
-    ap (λ (l : List ℕ). items r.place (r.bytes ++ l)) none ∙ ap (items r.place) (append-nil r.bytes) ∙ awaits.nothing in
-    let reads : ReadsOn heard fresh reading.given [] r = subst (λ (l : List ℕ). ReadsOn heard fresh reading.given l r) none reading.reads in
-    let stays : items 0 (heard ++ []) ≡ reading.given ++ items r.place (r.bytes ++ []) = reads.items_stay [] in
+    ap (λ l. items r.place (r.bytes ++ l)) none ∙ ap (items r.place) (append-nil r.bytes) ∙ awaits.nothing in
+    let reads : ReadsOn heard fresh reading.given [] r = subst (λ l. ReadsOn heard fresh reading.given l r) none reading.reads in
+    let stays = reads.items_stay [] in
     let whole : items 0 heard ≡ reading.given =
     ap (items 0) (sym (append-nil heard))
     ∙ stays
-    ∙ ap (λ (l : List Item). reading.given ++ l) (ap (items r.place) (append-nil r.bytes) ∙ awaits.nothing)
+    ∙ ap (λ l. reading.given ++ l) (ap (items r.place) (append-nil r.bytes) ∙ awaits.nothing)
     ∙ append-nil reading.given in (
       reading.to_come ∙ nothing,
       record {
-        reads = subst (λ (given : List Item). ReadsOn heard fresh given [] r) (sym whole) reads;
+        reads = subst (λ given. ReadsOn heard fresh given [] r) (sym whole) reads;
         awaits = awaits;
       },
     )
@@ -73,7 +73,7 @@ none_come heard left r its reading none awaits =
 -- how what was heard ends is how what the reader holds does
 pub ends_as : (heard : List ℕ) (r : ReaderState) → HasRead heard r → ending 0 heard ≡ ending r.place r.bytes
 ends_as heard r h =
-    let stays : ending 0 (heard ++ []) ≡ ending r.place (r.bytes ++ []) = h.reads.ending_stays [] in
+    let stays = h.reads.ending_stays [] in
     ap (ending 0) (sym (append-nil heard)) ∙ stays ∙ ap (ending r.place) (append-nil r.bytes)
 
 -- where the reader answered More the link is still asked
@@ -93,5 +93,5 @@ goes_on_behind_more ends rests_give heard r h more =
 pub closes_behind_bad : (heard : List ℕ) (r : ReaderState) (place : ℕ) (why : Reason) → HasRead heard r → EndsBad r place why
     → stands_behind end.Going (ending 0 heard) ≡ end.Bad place why
 closes_behind_bad heard r place why h bad =
-    let ends : ending r.place (r.bytes ++ []) ≡ ending_kind.Bad place why = bad.ends [] in
+    let ends = bad.ends [] in
     ap (stands_behind end.Going) (ends_as heard r h ∙ ap (ending r.place) (sym (append-nil r.bytes)) ∙ ends)

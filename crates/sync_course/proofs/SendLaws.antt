@@ -1,5 +1,5 @@
 -- What was sent and what is owed on a link is a front of its session's output, and all of it unless a call of the link failed.
-use Rattle.std.proofs.Common.{◌≡◌, ℕ, ◌+◌, ◌<◌, Bool, true, false, cond, ◌||◌, nat_eq, eqb-true, List, [], ◌∷◌, ◌++◌, length, take, drop, take-append-drop, append-nil, append_assoc, refl, sym, ◌∙◌, ap, subst, inl, inr, arith, Option, None, Some}
+use Rattle.std.proofs.Common.{◌≡◌, ℕ, ◌+◌, ◌<◌, Bool, true, false, cond, ◌||◌, nat_eq, eqb-true, List, [], ◌∷◌, ◌++◌, length, take, drop, take-append-drop, append-nil, append_assoc, refl, sym, ◌∙◌, ap, subst, subst₂, inl, inr, arith, Option, None, Some}
 use Rattle.std.specs.Prelude.{slice_get}
 use Rattle.std.proofs.lemmas.Bool.{false≢true, ne_eqb}
 use Rattle.std.proofs.lemmas.Grind.{flat_map-append}
@@ -9,13 +9,11 @@ use Rattle.record_grammar.specs.Laws.{RecordsJoin, StreamsGoOn}
 use Rattle.record_grammar.specs.Spelling.{spelled, spelling}
 use Rattle.sync_ids.specs.declared.records.Record.{Record}
 use Rattle.sync_rules.specs.declared.entries.Entry.{Entry}
-use Rattle.sync_rules.specs.declared.entries.Entry.TheVariants as entry
 use Rattle.sync_rules.specs.declared.entries.Session.{Session}
 use Rattle.sync_rules.specs.Clients.{Meaning}
 use Rattle.sync_rules.specs.Facts.{Facts, after_batches, facts, session_at}
 use Rattle.sync_rules.specs.Growth.{output_in}
-use Rattle.sync_rules.specs.Legal.{Allowed, GoesOn, IsSettlingBatch, Legal, MayBegin}
-use Rattle.sync_rules.specs.declared.entries.Out.{Out}
+use Rattle.sync_rules.specs.Legal.{GoesOn, Legal, MayBegin}
 use Rattle.sync_rules.specs.Output.{first_records, records_of, sent}
 use Rattle.sync_rules.proofs.Continuing.{facts-append, legal-append}
 use Rattle.sync_rules.proofs.OutputLaws.{not_begun_sent, sent_push, settling_silent, silent_adds_nothing, take_silent}
@@ -23,14 +21,14 @@ use Rattle.sync_rules.proofs.SessionLaws.{legal_sessions}
 use Rattle.sync_course.specs.declared.ends.LinkEnd.TheVariants as end
 use Rattle.sync_course.specs.Acts.{Act, Does, Send, Fail, batches_in, event_of, events_of, sends_on, sent_by}
 use Rattle.sync_course.specs.Events.{Event, Commit, batches_of, has_failure, is_failure}
-use Rattle.sync_course.specs.Free.{Free, FreeStep, Hold, first_free}
-use Rattle.sync_course.specs.Links.{Link, is_sent_to}
-use Rattle.sync_course.specs.LinkTurns.{next_take, out_batch}
+use Rattle.sync_course.specs.Free.{Free, FreeStep, first_free}
+use Rattle.sync_course.specs.Links.{is_sent_to}
+use Rattle.sync_course.specs.LinkTurns.{next_take}
 use Rattle.sync_course.specs.Owing.{ActStep, Owing, adds_to, paid}
 use Rattle.sync_course.specs.Paths.{Path}
 use Rattle.sync_course.specs.Story.{AllIsSent, FreeActs, LinkFailed}
 use Rattle.sync_course.proofs.ActLaws.{batches_in-append, events_of-append, sends_on-append}
-use Rattle.sync_course.proofs.FailLaws.{FailsJust, HoldsOpen, fails_step, first_fails, path_fails, push_failure}
+use Rattle.sync_course.proofs.FailLaws.{FailsAsTold, HoldsOpen, failed_there, fails_step, first_fails, path_fails, push_failure}
 use Rattle.sync_course.proofs.FreeSound.{IsBegunAt, IsFreeSound, first_free_sound, free_path_sound, free_sound, get_same}
 use Rattle.sync_course.proofs.FreeSteps.{step_adds, free_batches, plain_adds}
 use Rattle.sync_course.proofs.LiftLaws.{get_within}
@@ -42,49 +40,67 @@ pub front_of_none : (xs : List ℕ) → IsFront [] xs
 front_of_none xs = record { rest = xs; whole = refl }
 
 pub front_before : (xs ys zs : List ℕ) → IsFront xs ys → IsFront (zs ++ xs) (zs ++ ys)
-front_before xs ys zs f = record { rest = f.rest; whole = ap (λ (l : List ℕ). zs ++ l) f.whole ∙ sym (append_assoc zs xs f.rest) }
+front_before xs ys zs f = record { rest = f.rest; whole = ap (λ l. zs ++ l) f.whole ∙ sym (append_assoc zs xs f.rest) }
 
 front_take : (n : ℕ) (xs : List ℕ) → IsFront (take n xs) xs
 front_take n xs = record { rest = drop n xs; whole = sym (take-append-drop n xs) }
+
+-- what was sent of an output: all of it, or a front of it where a call failed
+abbrev pub SentSo : Bool → List ℕ → List ℕ → Type 0
+SentSo false went all = went ≡ all
+SentSo true went all = IsFront went all
+
+whole_so : {went all : List ℕ} (failed : Bool) → went ≡ all → SentSo failed went all
+whole_so false same = same
+whole_so true same = front_same _ _ (sym same)
+
+pub front_so : {went all : List ℕ} (failed : Bool) → SentSo failed went all → IsFront went all
+front_so false same = front_same _ _ (sym same)
+front_so true front = front
+
+-- more goes out of what is owed and is added; where a call failed before, nothing is added
+module _ (sent owed went left all added : List ℕ) where
+  sent_front : (failed fails : Bool) → (failed ≡ true → added ≡ [])
+      → SentSo failed (sent ++ owed) all → SentSo fails (went ++ left) (owed ++ added)
+      → IsFront ((sent ++ went) ++ left) (all ++ added)
+  sent_front failed fails none was goes =
+      subst (λ l. IsFront l (all ++ added)) (sym (append_assoc sent went left))
+      (front_then _ _ _ (front_before _ _ sent (front_so fails goes)) (before failed none was))
+    where
+      before : (t : Bool) → (t ≡ true → added ≡ []) → SentSo t (sent ++ owed) all
+          → IsFront (sent ++ (owed ++ added)) (all ++ added)
+      before false none same =
+          front_same _ _ (ap (λ l. l ++ added) (sym same) ∙ append_assoc sent owed added)
+      before true none front =
+          subst (λ l. IsFront (sent ++ (owed ++ l)) (all ++ l)) (sym (none refl))
+          (subst₂ IsFront (ap (λ l. sent ++ l) (sym (append-nil owed))) (sym (append-nil all)) front)
+
+  sent_then : (failed fails : Bool) → (failed ≡ true → added ≡ [])
+      → SentSo failed (sent ++ owed) all → SentSo fails (went ++ left) (owed ++ added)
+      → SentSo (failed || fails) ((sent ++ went) ++ left) (all ++ added)
+  sent_then false false none was goes =
+      append_assoc sent went left ∙ ap (λ l. sent ++ l) goes
+      ∙ sym (append_assoc sent owed added) ∙ ap (λ l. l ++ added) was
+  sent_then false true none was goes = sent_front false true none was goes
+  sent_then true fails none was goes = sent_front true fails none was goes
 
 -- ---- the output
 
 abbrev pub output : List (List Entry) → ℕ → List ℕ
 output j session = spelled (sent j session)
 
--- a batch adds what it adds
-commit_adds : (clients : Meaning) (j : List (List Entry)) (b : List Entry) (session : ℕ) → Legal clients j → Allowed clients (facts j) b
-    → output (j ++ b ∷ []) session ≡ output j session ++ spelled (output_in (facts j) session b)
-commit_adds clients j b session legal allowed =
-    ap (λ (rs : List Record). spelled rs) (sent_push clients j b session legal allowed)
-    ∙ flat_map-append spelling (sent j session) (output_in (facts j) session b)
-
--- so does each event
-none_added : (first : ℕ) (j : List (List Entry)) (link : ℕ) → output (j ++ []) (first + link) ≡ output j (first + link) ++ []
-none_added first j link =
-    ap (λ (k : List (List Entry)). output k (first + link)) (append-nil j) ∙ sym (append-nil (output j (first + link)))
-
+-- an event adds what it adds
 event_adds : (clients : Meaning) (first : ℕ) (j : List (List Entry)) (e : Event) (link : ℕ) → Legal clients j
     → GoesOn clients (facts j) (batches_of (e ∷ []))
     → output (j ++ batches_of (e ∷ [])) (first + link) ≡ output j (first + link) ++ adds_to (facts j) first e link
-event_adds clients first j (Commit b) link legal goes = commit_adds clients j b (first + link) legal goes.0
-event_adds clients first j _ link legal goes = none_added first j link
+event_adds clients first j (Commit b) link legal goes =
+    ap (λ rs. spelled rs) (sent_push clients j b (first + link) legal goes.0)
+    ∙ flat_map-append spelling (sent j (first + link)) (output_in (facts j) (first + link) b)
+event_adds clients first j _ link legal goes =
+    ap (λ k. output k (first + link)) (append-nil j)
+    ∙ sym (append-nil (output j (first + link)))
 
 -- ---- nothing is committed for a link that failed
-
-settling_puts : (clients : Meaning) (f : Facts) (b : List Entry) (session : ℕ)
-    → IsSettlingBatch clients f b → output_in f session b ≡ []
-settling_puts clients f b session s =
-    silent_adds_nothing f session b (settling_silent clients f b s.2)
-
--- the session that begins is no other
-begins_adds : (f : Facts) (x : Session) (session : ℕ) → (x.number ≡ session → ⊥) → output_in f session (entry.Session x ∷ []) ≡ []
-begins_adds f x session other =
-    ap (λ (b : Bool). cond b (first_records x) [] ++ []) (ne_eqb x.number session other)
-
-out_adds : (f : Facts) (at session now : ℕ) (what : Out) → (at ≡ session → ⊥) → output_in f session (out_batch at now what) ≡ []
-out_adds f at session now what other =
-    ap (λ (b : Bool). cond b (records_of f.held what) [] ++ []) (ne_eqb at session other)
 
 -- the records that an event adds to the output of a session
 abbrev pub records_by : Facts → ℕ → Event → List Record
@@ -102,198 +118,155 @@ event_spares : (clients : Meaning) (first : ℕ) (e : Event) (p q : Free) (i : �
     → LinkFailed p.links i → records_by p.facts (first + i) e ≡ []
 event_spares clients first e p q i t s o f =
     free_batches clients first p
-    (λ (x : Event) (g : Facts). records_by p.facts (first + i) x ≡ []) (record {
+    (λ x g. records_by p.facts (first + i) x ≡ []) (record {
       none = λ x none. none_by p.facts (first + i) x none;
-      settles = λ b settling. settling_puts clients p.facts b (first + i) settling;
+      settles = λ b settling.
+          silent_adds_nothing p.facts (first + i) b (settling_silent clients p.facts b settling.2);
       adds = λ b rests plain allowed. (plain_adds p.facts b plain).puts (first + i);
       begins = λ x rests allowed.
           let may : MayBegin p.facts x = allowed.2 in
-          let within : i < length p.links = get_within p.links i f.link f.there in
+          let within = get_within p.links i f.link f.there in
           let numbered : x.number ≡ p.facts.begun = may.numbered in
           let begun : p.facts.begun ≡ first + length p.links =
-          subst (λ (h : Hold). IsBegunAt first h (length p.links) p.facts) rests s.begun in
-          begins_adds p.facts x (first + i)
+          subst (λ h. IsBegunAt first h (length p.links) p.facts) rests s.begun in
+          ap (λ b. cond b (first_records x) [] ++ [])
+          (ne_eqb x.number (first + i)
           (λ same.
           let at : x.number ≡ first + i = same in
-          absurd (omega (arith, within, numbered, at, begun)));
+          absurd (omega (arith, within, numbered, at, begun))));
       takes = λ n place r its link holds at allowed.
           silent_adds_nothing p.facts (first + i) (next_take p.facts (first + n) r)
           (take_silent clients p.facts (first + n) _ _ allowed);
       puts = λ n now room what link holds at is_due allowed.
           let is_open : is_sent_to link.stands ≡ true =
-          subst (λ (h : Hold). HoldsOpen h p.links) holds o link at in
-          out_adds p.facts (first + n) (first + i) now what
+          subst (λ h. HoldsOpen h p.links) holds o link at in
+          ap (λ b. cond b (records_of p.facts.held what) [] ++ [])
+          (ne_eqb (first + n) (first + i)
           (λ same.
           let is : first + n ≡ first + i = same in
           let number : i ≡ n = omega (arith, is) in
           let there : link ≡ f.link = get_same at (ap (slice_get p.links) (sym number) ∙ f.there) in
-          let failed : link.stands ≡ end.Failed = ap (λ (l : Link). l.stands) there ∙ f.failed in
-          absurd (false≢true (ap is_sent_to (sym failed) ∙ is_open)));
+          let failed : link.stands ≡ end.Failed = ap (λ l. l.stands) there ∙ f.failed in
+          absurd (false≢true (ap is_sent_to (sym failed) ∙ is_open))));
     }) q e t
 
 none_owed : (f : Facts) (first i : ℕ) (e : Event) → records_by f (first + i) e ≡ []
     → adds_to f first e i ≡ []
-none_owed f first i (Commit b) none = ap (λ (rs : List Record). spelled rs) none
+none_owed f first i (Commit b) none = ap (λ rs. spelled rs) none
 none_owed f first i _ none = refl
 
 -- ---- acts
 
 -- an act is an event
 pub under : (clients : Meaning) (first : ℕ) (a : Act) (p q : Owing Free)
-    → ActStep (λ (x : Free). x.facts) first (FreeStep clients first) p a q → FreeStep clients first p.at (event_of a) q.at
+    → ActStep (λ x. x.facts) first (FreeStep clients first) p a q → FreeStep clients first p.at (event_of a) q.at
 under clients first (Does e) p q s = s.1
 under clients first (Send n bytes) p q s = elim s [ inl all ↦ all.1 | inr some ↦ inl some.stays ]
 under clients first (Fail n bytes count) p q s = s.1
 
 module _ (clients : Meaning) (first : ℕ) where
   abbrev pub ActsOn : Owing Free → Act → Owing Free → Type 0
-  ActsOn p a q = ActStep (λ (x : Free). x.facts) first (FreeStep clients first) p a q
+  ActsOn p a q = ActStep (λ x. x.facts) first (FreeStep clients first) p a q
 
   -- the path of the events
   pub events_path : (p q : Owing Free) (acts : List Act) → Path ActsOn p acts q → Path (FreeStep clients first) p.at (events_of acts) q.at
-  events_path p q [] path = ap (λ (x : Owing Free). x.at) path
+  events_path p q [] path = ap (λ x. x.at) path
   events_path p q (a ∷ acts) path = (path.0.at, under clients first a p path.0 path.1, events_path path.0 q acts path.2)
 
   -- what an act sends and leaves owed is what was owed and what it adds, or a front of that where it fails
-  act_whole : (a : Act) (p q : Owing Free) (i : ℕ) → ActsOn p a q → is_failure i (event_of a) ≡ false
-      → sent_by i a ++ q.owed i ≡ p.owed i ++ adds_to p.at.facts first (event_of a) i
-  act_whole (Does e) p q i s well = s.2 i ∙ ap (λ (l : List ℕ). l ++ adds_to p.at.facts first e i) (sym (s.0 i))
-  act_whole (Send n bytes) p q i s well =
+  act_sends : (a : Act) (p q : Owing Free) (i : ℕ) → ActsOn p a q
+      → SentSo (is_failure i (event_of a)) (sent_by i a ++ q.owed i)
+      (p.owed i ++ adds_to p.at.facts first (event_of a) i)
+  act_sends (Does e) p q i s =
+      whole_so (is_failure i e)
+      (s.2 i ∙ ap (λ l. l ++ adds_to p.at.facts first e i) (sym (s.0 i)))
+  act_sends (Send n bytes) p q i s =
       elim s [
-        | inl all ↦
-            ap (λ (l : List ℕ). cond (nat_eq n i) bytes [] ++ l) (all.2 i)
-            ∙ paid_by [] (sym all.0 ∙ sym (append-nil bytes)) (nat_eq n i) refl
-        | inr some ↦
-            ap (λ (l : List ℕ). cond (nat_eq n i) bytes [] ++ l) (some.left i) ∙ paid_by some.rest some.parts (nat_eq n i) refl
+        | inl all ↦ left_so [] (all.2 i) (sym all.0 ∙ sym (append-nil bytes))
+        | inr some ↦ left_so some.rest (some.left i) some.parts
       ]
     where
       paid_by : (rest : List ℕ) → p.owed n ≡ bytes ++ rest → (t : Bool) → nat_eq n i ≡ t
           → cond t bytes [] ++ cond t rest (p.owed i) ≡ p.owed i ++ []
       paid_by rest parts true is = sym parts ∙ ap p.owed (eqb-true n i is) ∙ sym (append-nil (p.owed i))
       paid_by rest parts false is = sym (append-nil (p.owed i))
-  act_whole (Fail n bytes count) p q i s well =
-      ap (λ (l : List ℕ). cond (nat_eq n i) (take count bytes) [] ++ l) (s.2 i) ∙ paid_by (nat_eq n i) well
-    where
-      paid_by : (t : Bool) → t ≡ false → cond t (take count bytes) [] ++ cond t [] (p.owed i) ≡ p.owed i ++ []
-      paid_by true is = cc
-      paid_by false is = sym (append-nil (p.owed i))
 
-  act_front : (a : Act) (p q : Owing Free) (i : ℕ) → ActsOn p a q
-      → IsFront (sent_by i a ++ q.owed i) (p.owed i ++ adds_to p.at.facts first (event_of a) i)
-  act_front a p q i s =
-      elim (is_failure i (event_of a)) as (λ t. is_failure i (event_of a) ≡ t → IsFront (sent_by i a ++ q.owed i) (p.owed i ++ adds_to p.at.facts first (event_of a) i)) [
-        | true ↦ λ is. failed a s is
-        | false ↦ λ is.
-            front_same _ _ (sym (act_whole a p q i s is))
-      ] refl
+      left_so : (rest : List ℕ) → q.owed i ≡ cond (nat_eq n i) rest (p.owed i)
+          → p.owed n ≡ bytes ++ rest
+          → cond (nat_eq n i) bytes [] ++ q.owed i ≡ p.owed i ++ []
+      left_so rest left parts =
+          ap (λ l. cond (nat_eq n i) bytes [] ++ l) left ∙ paid_by rest parts (nat_eq n i) refl
+  act_sends (Fail n bytes count) p q i s =
+      subst (λ l. SentSo (nat_eq n i) (cond (nat_eq n i) (take count bytes) [] ++ l) (p.owed i ++ []))
+      (sym (s.2 i)) (paid_by (nat_eq n i) refl)
     where
-      failed : (a : Act) → ActsOn p a q → is_failure i (event_of a) ≡ true
-          → IsFront (sent_by i a ++ q.owed i) (p.owed i ++ adds_to p.at.facts first (event_of a) i)
-      failed (Does e) s is =
-          front_same _ _
-          (ap (λ (l : List ℕ). l ++ adds_to p.at.facts first e i) (s.0 i) ∙ sym (s.2 i))
-      failed (Send n bytes) s is = cc
-      failed (Fail n bytes count) s is =
-          let there : IsFront bytes (p.owed i) = subst (λ (k : ℕ). IsFront bytes (p.owed k)) (eqb-true n i is) s.0 in
-          let went : cond (nat_eq n i) (take count bytes) [] ++ q.owed i ≡ take count bytes =
-          ap (λ (l : List ℕ). cond (nat_eq n i) (take count bytes) [] ++ l) (s.2 i)
-          ∙ ap (λ (t : Bool). cond t (take count bytes) [] ++ cond t [] (p.owed i)) is
-          ∙ append-nil (take count bytes) in
-          subst (λ (l : List ℕ). IsFront l (p.owed i ++ [])) (sym went)
-          (subst (λ (l : List ℕ). IsFront (take count bytes) l) (sym (append-nil (p.owed i)))
-          (front_then (take count bytes) bytes (p.owed i) (front_take count bytes) there))
+      paid_by : (t : Bool) → nat_eq n i ≡ t
+          → SentSo t (cond t (take count bytes) [] ++ cond t [] (p.owed i)) (p.owed i ++ [])
+      paid_by true is =
+          subst₂ IsFront (sym (append-nil (take count bytes))) (sym (append-nil (p.owed i)))
+          (front_then (take count bytes) bytes (p.owed i) (front_take count bytes)
+          (subst (λ k. IsFront bytes (p.owed k)) (eqb-true n i is) s.0))
+      paid_by false is = sym (append-nil (p.owed i))
 
 -- behind acts from a journal on: the journal, the place, and what was sent and is owed
 pub record HasSent (clients : Meaning) (first : ℕ) (j : List (List Entry)) (acts : List Act) (p : Owing Free) : Type 0 where
   pub legal : Legal clients (j ++ batches_in acts)
   pub same : facts (j ++ batches_in acts) ≡ p.at.facts
   pub sound : IsFreeSound clients first p.at
-  pub fails : FailsJust clients first (events_of acts) p.at
-  pub front : (i : ℕ) → IsFront (sends_on i acts ++ p.owed i) (output (j ++ batches_in acts) (first + i))
-  pub whole : (i : ℕ) → has_failure i (events_of acts) ≡ false
-      → sends_on i acts ++ p.owed i ≡ output (j ++ batches_in acts) (first + i)
+  pub fails : FailsAsTold clients first (events_of acts) p.at
+  pub sent : (i : ℕ) → SentSo (has_failure i (events_of acts)) (sends_on i acts ++ p.owed i)
+      (output (j ++ batches_in acts) (first + i))
 
 module _ (go_on : StreamsGoOn) (join : RecordsJoin) (clients : Meaning) (first : ℕ) (j : List (List Entry)) where
   sent_step : (acts : List Act) (p q : Owing Free) (a : Act) → HasSent clients first j acts p → ActsOn clients first p a q
       → HasSent clients first j (acts ++ a ∷ []) q
   sent_step acts p q a k s =
-      let e : Event = event_of a in
-      let old : List (List Entry) = j ++ batches_in acts in
-      let new : List (List Entry) = batches_of (e ∷ []) in
-      let step : FreeStep clients first p.at e q.at = under clients first a p q s in
+      let e = event_of a in
+      let old = j ++ batches_in acts in
+      let new = batches_of (e ∷ []) in
+      let step = under clients first a p q s in
       let m = (step_adds clients first p.at q.at e step).moves in
-      let goes : GoesOn clients (facts old) new = subst (λ (f : Facts). GoesOn clients f new) (sym k.same) m.goes_on in
+      let goes : GoesOn clients (facts old) new = subst (λ f. GoesOn clients f new) (sym k.same) m.goes_on in
       let is : j ++ batches_in (acts ++ a ∷ []) ≡ old ++ new =
-      ap (λ (l : List (List Entry)). j ++ l) (batches_in-append acts (a ∷ [])) ∙ sym (append_assoc j (batches_in acts) new) in
-      let events : events_of (acts ++ a ∷ []) ≡ events_of acts ++ e ∷ [] = events_of-append acts (a ∷ []) in
+      ap (λ l. j ++ l) (batches_in-append acts (a ∷ [])) ∙ sym (append_assoc j (batches_in acts) new) in
+      let events = events_of-append acts (a ∷ []) in
+      let sends : (i : ℕ) → sends_on i (acts ++ a ∷ []) ≡ sends_on i acts ++ sent_by i a =
+      λ i. sends_on-append i acts (a ∷ []) ∙ ap (λ l. sends_on i acts ++ l) (append-nil (sent_by i a)) in
       let grown : (i : ℕ) → output (j ++ batches_in (acts ++ a ∷ [])) (first + i)
       ≡ output old (first + i) ++ adds_to p.at.facts first e i =
-      λ i. ap (λ (l : List (List Entry)). output l (first + i)) is
+      λ i. ap (λ l. output l (first + i)) is
       ∙ event_adds clients first old e i k.legal goes
-      ∙ ap (λ (f : Facts). output old (first + i) ++ adds_to f first e i) k.same in
-      let sends : (i : ℕ) → sends_on i (acts ++ a ∷ []) ++ q.owed i ≡ sends_on i acts ++ (sent_by i a ++ q.owed i) =
-      λ i. ap (λ (l : List ℕ). l ++ q.owed i)
-      (sends_on-append i acts (a ∷ []) ∙ ap (λ (l : List ℕ). sends_on i acts ++ l) (append-nil (sent_by i a)))
-      ∙ append_assoc (sends_on i acts) (sent_by i a) (q.owed i) in
-      let was_whole : (i : ℕ) → has_failure i (events_of acts) ≡ false
-      → sends_on i acts ++ (p.owed i ++ adds_to p.at.facts first e i) ≡ output (j ++ batches_in (acts ++ a ∷ [])) (first + i) =
-      λ i well. sym (append_assoc (sends_on i acts) (p.owed i) (adds_to p.at.facts first e i))
-      ∙ ap (λ (l : List ℕ). l ++ adds_to p.at.facts first e i) (k.whole i well)
-      ∙ sym (grown i) in
-      let was_front : (i : ℕ) (t : Bool) → has_failure i (events_of acts) ≡ t
-      → IsFront (sends_on i acts ++ (p.owed i ++ adds_to p.at.facts first e i)) (output (j ++ batches_in (acts ++ a ∷ [])) (first + i)) =
-      λ i t. elim t as (λ t. has_failure i (events_of acts) ≡ t
-      → IsFront (sends_on i acts ++ (p.owed i ++ adds_to p.at.facts first e i)) (output (j ++ batches_in (acts ++ a ∷ [])) (first + i))) [
-        | true ↦ λ failed.
-            let none : adds_to p.at.facts first e i ≡ [] =
-            none_owed p.at.facts first i e
-            (event_spares clients first e p.at q.at i step k.sound k.fails.opens
-            (k.fails.stays i failed)) in
-            let owed : sends_on i acts ++ p.owed i ≡ sends_on i acts ++ (p.owed i ++ adds_to p.at.facts first e i) =
-            ap (λ (l : List ℕ). sends_on i acts ++ l)
-            (sym (append-nil (p.owed i)) ∙ ap (λ (l : List ℕ). p.owed i ++ l) (sym none)) in
-            let out : output old (first + i) ≡ output (j ++ batches_in (acts ++ a ∷ [])) (first + i) =
-            sym (append-nil (output old (first + i))) ∙ ap (λ (l : List ℕ). output old (first + i) ++ l) (sym none) ∙ sym (grown i) in
-            subst (λ (l : List ℕ). IsFront l (output (j ++ batches_in (acts ++ a ∷ [])) (first + i))) owed
-            (subst (λ (l : List ℕ). IsFront (sends_on i acts ++ p.owed i) l) out (k.front i))
-        | false ↦ λ well.
-            front_same _ _ (sym (was_whole i well))
-      ] in
+      ∙ ap (λ f. output old (first + i) ++ adds_to f first e i) k.same in
+      let failed : (i : ℕ) → has_failure i (events_of (acts ++ a ∷ []))
+      ≡ (has_failure i (events_of acts) || is_failure i e) =
+      λ i. ap (has_failure i) events ∙ push_failure clients first i (events_of acts) e in
+      let none : (i : ℕ) → has_failure i (events_of acts) ≡ true → adds_to p.at.facts first e i ≡ [] =
+      λ i had.
+      none_owed p.at.facts first i e
+      (event_spares clients first e p.at q.at i step k.sound k.fails.opens
+      (failed_there p.at.links i (k.fails.each i ∙ had))) in
       record {
         legal = subst (Legal clients) (sym is) (legal-append clients old new k.legal goes);
         same =
-            ap facts is ∙ facts-append old new ∙ ap (λ (f : Facts). after_batches f new) k.same ∙ sym m.facts;
+            ap facts is ∙ facts-append old new ∙ ap (λ f. after_batches f new) k.same ∙ sym m.facts;
         sound = free_sound go_on join clients first p.at q.at e step k.sound;
         fails =
-            subst (λ (l : List Event). FailsJust clients first l q.at) (sym events)
+            subst (λ l. FailsAsTold clients first l q.at) (sym events)
             (fails_step clients first (events_of acts) p.at q.at e k.fails step);
-        front = λ i.
-            subst (λ (l : List ℕ). IsFront l (output (j ++ batches_in (acts ++ a ∷ [])) (first + i))) (sym (sends i))
-            (front_then (sends_on i acts ++ (sent_by i a ++ q.owed i))
-            (sends_on i acts ++ (p.owed i ++ adds_to p.at.facts first e i)) (output (j ++ batches_in (acts ++ a ∷ [])) (first + i))
-            (front_before (sent_by i a ++ q.owed i) (p.owed i ++ adds_to p.at.facts first e i) (sends_on i acts) (act_front clients first a p q i s))
-            (was_front i (has_failure i (events_of acts)) refl));
-        whole = λ i well.
-            let both : (has_failure i (events_of acts) || is_failure i e) ≡ false =
-            sym (push_failure clients first i (events_of acts) e) ∙ ap (has_failure i) (sym events) ∙ well in
-            let parts = or_false (has_failure i (events_of acts)) (is_failure i e) both in
-            sends i
-            ∙ ap (λ (l : List ℕ). sends_on i acts ++ l) (act_whole clients first a p q i s parts.1)
-            ∙ was_whole i parts.0;
+        sent = λ i.
+            subst (λ t. SentSo t (sends_on i (acts ++ a ∷ []) ++ q.owed i)
+            (output (j ++ batches_in (acts ++ a ∷ [])) (first + i))) (sym (failed i))
+            (subst₂ (λ l o. SentSo (has_failure i (events_of acts) || is_failure i e) (l ++ q.owed i) o)
+            (sym (sends i)) (sym (grown i))
+            (sent_then (sends_on i acts) (p.owed i) (sent_by i a) (q.owed i) (output old (first + i))
+            (adds_to p.at.facts first e i) (has_failure i (events_of acts)) (is_failure i e) (none i)
+            (k.sent i) (act_sends clients first a p q i s)));
       }
-    where
-      or_false : (a b : Bool) → (a || b) ≡ false → (a ≡ false) × (b ≡ false)
-      or_false true b is = cc
-      or_false false b is = (refl, is)
-
-  pub path_sent : (acts : List Act) (p q : Owing Free) → HasSent clients first j [] p → Path (ActsOn clients first) p acts q
-      → HasSent clients first j acts q
-  path_sent acts p q k path = path_keeps (ActsOn clients first) (HasSent clients first j) sent_step [] acts p q k path
 
 -- where a node begins nothing was sent
 nothing_sent : (clients : Meaning) (j : List (List Entry)) (i : ℕ) → Legal clients j → output j ((facts j).begun + i) ≡ []
 nothing_sent clients j i legal =
-    ap (λ (rs : List Record). spelled rs)
+    ap (λ rs. spelled rs)
     (not_begun_sent clients j ((facts j).begun + i) legal
     (none_at (session_at (facts j).sessions ((facts j).begun + i)) refl)).1
   where
@@ -307,35 +280,43 @@ nothing_sent clients j i legal =
 first_sent : (clients : Meaning) (j : List (List Entry)) → Legal clients j
     → HasSent clients (facts j).begun j [] (paid (first_free (facts j)))
 first_sent clients j legal =
-    let same : j ++ [] ≡ j = append-nil j in
+    let same = append-nil j in
     record {
       legal = subst (Legal clients) (sym same) legal;
       same = ap facts same;
       sound = first_free_sound clients j legal;
       fails = first_fails clients (facts j).begun (facts j);
-      front = λ i. front_of_none (output (j ++ []) ((facts j).begun + i));
-      whole = λ i well. sym (ap (λ (l : List (List Entry)). output l ((facts j).begun + i)) same ∙ nothing_sent clients j i legal);
+      sent = λ i. sym (ap (λ l. output l ((facts j).begun + i)) same ∙ nothing_sent clients j i legal);
     }
 
--- behind the acts of a node
-pub acts_sent : StreamsGoOn → RecordsJoin → (clients : Meaning) (j : List (List Entry)) (acts : List Act) (to : Owing Free) → Legal clients j
-    → FreeActs clients j acts to → HasSent clients (facts j).begun j acts to
-acts_sent go_on join clients j acts to legal path =
-    path_sent go_on join clients (facts j).begun j acts (paid (first_free (facts j))) to (first_sent clients j legal) path
+module _ (go_on : StreamsGoOn) (join : RecordsJoin) (clients : Meaning) (j : List (List Entry)) where
+  -- behind the acts of a node
+  pub acts_sent : (acts : List Act) (to : Owing Free) → Legal clients j → FreeActs clients j acts to
+      → HasSent clients (facts j).begun j acts to
+  acts_sent acts to legal path =
+      let first : ℕ = (facts j).begun in
+      path_keeps (ActsOn clients first) (HasSent clients first j)
+      (sent_step go_on join clients first j) [] acts (paid (first_free (facts j))) to
+      (first_sent clients j legal) path
 
-pub all_sent : StreamsGoOn → RecordsJoin → (clients : Meaning) (j : List (List Entry)) (acts : List Act) (to : Owing Free) → Legal clients j
-    → FreeActs clients j acts to → ((link : ℕ) → to.owed link ≡ []) → AllIsSent j acts
-all_sent go_on join clients j acts to legal path clear link well =
-    sym (append-nil (sends_on link acts))
-    ∙ ap (λ (l : List ℕ). sends_on link acts ++ l) (sym (clear link))
-    ∙ (acts_sent go_on join clients j acts to legal path).whole link well
+  pub all_sent : (acts : List Act) (to : Owing Free) → Legal clients j → FreeActs clients j acts to
+      → ((link : ℕ) → to.owed link ≡ []) → AllIsSent j acts
+  all_sent acts to legal path clear link well =
+      sym (append-nil (sends_on link acts))
+      ∙ ap (λ l. sends_on link acts ++ l) (sym (clear link))
+      ∙ subst (λ t. SentSo t (sends_on link acts ++ to.owed link)
+      (output (j ++ batches_in acts) ((facts j).begun + link))) well
+      ((acts_sent acts to legal path).sent link)
 
--- nothing is committed for a link on which a call failed
-pub failed_spared : StreamsGoOn → RecordsJoin → (clients : Meaning) (j : List (List Entry)) (es : List Event) (p q : Free) (b : List Entry)
-    (link : ℕ) → Legal clients j → Path (FreeStep clients (facts j).begun) (first_free (facts j)) es p
-    → FreeStep clients (facts j).begun p (Commit b) q → has_failure link es ≡ true → output_in p.facts ((facts j).begun + link) b ≡ []
-failed_spared go_on join clients j es p q b link legal path step failed =
-    let fails = path_fails clients (facts j).begun (facts j) p es path in
-    let sound = free_path_sound go_on join clients (facts j).begun (first_free (facts j)) p es path (first_free_sound clients j legal) in
-    event_spares clients (facts j).begun (Commit b) p q link step sound fails.opens
-    (fails.stays link failed)
+  -- nothing is committed for a link on which a call failed
+  pub failed_spared : (es : List Event) (p q : Free) (b : List Entry) (link : ℕ) → Legal clients j
+      → Path (FreeStep clients (facts j).begun) (first_free (facts j)) es p
+      → FreeStep clients (facts j).begun p (Commit b) q → has_failure link es ≡ true
+      → output_in p.facts ((facts j).begun + link) b ≡ []
+  failed_spared es p q b link legal path step failed =
+      let fails = path_fails clients (facts j).begun (facts j) p es path in
+      let sound =
+      free_path_sound go_on join clients (facts j).begun (first_free (facts j)) p es path
+      (first_free_sound clients j legal) in
+      event_spares clients (facts j).begun (Commit b) p q link step sound fails.opens
+      (fails.stays link failed)

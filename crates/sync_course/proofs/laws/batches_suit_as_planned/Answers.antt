@@ -1,4 +1,4 @@
-use Rattle.sync_course.proofs.PlanLaws.{run_suits}
+use Rattle.sync_course.proofs.FreeSuits.{run_suits}
 use Rattle.sync_course.proofs.laws.batches_suit_as_planned.Goals as goal
 
 pub returns : goal.returns
