@@ -1,17 +1,13 @@
--- The turns of all links as a course has them.
+-- The links of a node as those of a course, and what was heard on them.
 use Rattle.std.proofs.Common.{◌≡◌, ℕ, zero, suc, ◌+◌, ◌<◌, Bool, true, false, cond, ◌&&◌, nat_eq, eq-eqb, List, [], ◌∷◌, length, refl, sym, ◌∙◌, ap, subst, inl, inr, arith, Some}
 use Rattle.std.specs.Prelude.{slice_get, slice_set}
 use Rattle.std.proofs.lemmas.Bool.{cases_eq, ne_eqb}
-use Rattle.outside.specs.Outside.{Outside}
-use Rattle.sync_rules.specs.Clients.{Meaning}
-use Rattle.sync_rules.specs.Facts.{Facts}
-use Rattle.sync_store.specs.Store.{StoreValue}
-use Rattle.sync_course.proofs.LiftLaws.{get_other, get_set, get_within, set_same}
+use Rattle.sync_course.proofs.LiftLaws.{get_other, get_set, get_within}
 use Rattle.sync_course.specs.Links as course_links
-use Rattle.sync_course.specs.LinkTurns.{Doing}
-use Rattle.sync_course.specs.Turns.{Terms, Works, with_spot}
 use Rattle.sync_node.specs.declared.link.Link.{Link}
-use Rattle.sync_node.specs.Courses.{AllRead, IsLinkRead, link_at, links_from, place_at, spot_at}
+use Rattle.sync_course.specs.declared.ends.LinkEnd.TheVariants as link_end
+use Rattle.sync_node.specs.Courses.{AllRead, IsLinkRead, link_at, links_from}
+use Rattle.sync_node.specs.Redundant.{ClosesSome}
 
 -- ---- lists of links
 
@@ -90,46 +86,29 @@ pub still_else : (a b r : Bool) → a ≡ false → r ≡ a → r ≡ (a && b)
 still_else true b r is same = cc
 still_else false b r is same = same
 
--- ---- one link in the run
+-- ---- what was heard
 
-module _ (clients : Meaning) (first n : ℕ) (links : List Link) (l : Link) (s : StoreValue) (o : Outside) (at : slice_get links n ≡ Some l)
-    (numbered : l.session.number ≡ first + n) where
-  module _ (terms : Terms) (same : terms.first ≡ first) (heard : ℕ → List ℕ) (moved : Bool)
-      (still made : ℕ) where
-    pub at_course : slice_get (links_from 0 links heard) n ≡ Some (link_at l (heard n))
-    at_course =
-        let plain : 0 + n ≡ n = omega arith in
-        get_at 0 n links heard l at ∙ ap (λ (j : ℕ). Some (link_at l (heard j))) plain
+-- links that are closed have read what they are to have read
+pub closed_read : (mid links' : List Link) (heard : ℕ → List ℕ) → ClosesSome mid links'
+    → AllRead heard mid → AllRead heard links'
+closed_read mid links' heard closes read i l at =
+    let one = closes.each i l at in
+    elim one.is [
+      | inl same ↦ subst (IsLinkRead (heard i)) (sym same) (read i one.before one.was)
+      | inr closing ↦ subst (IsLinkRead (heard i)) (sym closing.1) (λ going. absurd (let e : link_end.Redundant ≡ link_end.Going = going in cc))
+    ]
 
-    pub in_terms : l.session.number ≡ terms.first + n
-    in_terms = numbered ∙ ap (λ (f : ℕ). f + n) (sym same)
+-- what was heard, as it was
+pub same_cond : (k n : ℕ) (heard : ℕ → List ℕ) → cond (nat_eq k n) (heard n) (heard k) ≡ heard k
+same_cond k n heard =
+    elim (cases_eq k n) [
+      | inl same ↦ ap (λ (b : Bool). cond b (heard n) (heard k)) (eq-eqb k n same) ∙ ap heard (sym same)
+      | inr other ↦ ap (λ (b : Bool). cond b (heard n) (heard k)) (ne_eqb k n other)
+    ]
 
-    pub start_here : (doing : Doing)
-        → with_spot n (spot_at doing l (heard n) moved s.state.facts)
-        (place_at (Works n doing) links heard moved still made s.state.facts)
-        ≡ place_at (Works n doing) links heard moved still made s.state.facts
-    start_here doing =
-        ap (λ (ls : List course_links.Link). record {
-          stage = Works n doing;
-          links = ls;
-          moved = moved;
-          still = still;
-          made = made;
-          facts = s.state.facts;
-        }) (set_same (links_from 0 links heard) n (link_at l (heard n)) at_course)
-
-    pub end_there : (doing doing' : Doing) (l' : Link) (f : Facts) (bytes : List ℕ) (moved' : Bool)
-        → with_spot n (spot_at doing' l' bytes moved' f)
-        (place_at (Works n doing) links heard moved still made s.state.facts)
-        ≡ place_at (Works n doing') (slice_set links n l') (heard_with n bytes heard) moved' still made f
-    end_there doing doing' l' f bytes moved' =
-        let plain : 0 + n ≡ n = omega arith in
-        ap (λ (ls : List course_links.Link). record {
-          stage = Works n doing';
-          links = ls;
-          moved = moved';
-          still = still;
-          made = made;
-          facts = f;
-        })
-        (set_at 0 n links heard l' bytes ∙ ap (λ (j : ℕ). links_from 0 (slice_set links n l') (heard_with j bytes heard)) plain)
+pub same_heard : (k n : ℕ) (links : List Link) (heard : ℕ → List ℕ)
+    → links_from k links (heard_with n (heard n) heard) ≡ links_from k links heard
+same_heard k n [] heard = refl
+same_heard k n (x ∷ links) heard =
+    ap (λ (bytes : List ℕ). link_at x bytes ∷ links_from (suc k) links (heard_with n (heard n) heard)) (same_cond k n heard)
+    ∙ ap (λ (ls : List course_links.Link). link_at x (heard k) ∷ ls) (same_heard (suc k) n links heard)

@@ -1,5 +1,7 @@
 -- What each call of a store or of a host did, as acts.
-use Rattle.std.proofs.Common.{◌≡◌, ◌≢◌, ℕ, ◌+◌, ◌*◌, ◌<◌, ◌≤◌, false, true, Bool, cond, nat_eq, eq-eqb, arith, List, [], ◌∷◌, ◌++◌, append-nil, length, take, refl, sym, ◌∙◌, ap, subst, inl, inr, Some, Result, Ok, Err, slice_index_or}
+use Rattle.std.proofs.Common.{ℕ, List, ◌++◌, take, drop, sym, ap, ◌∙◌, append_assoc, ◌≡◌, ◌≢◌, ◌+◌, ◌*◌, ◌<◌, ◌≤◌, false, true, Bool, cond, nat_eq, eq-eqb, arith, [], ◌∷◌, append-nil, length, refl, subst, inl, inr, Some, Result, Ok, Err, slice_index_or}
+use Rattle.std.proofs.lemmas.List.{take-append-drop}
+use Rattle.outside.specs.Runs.{IsFront, TellsAll, sent_at}
 use Rattle.std.specs.Option.{option_map}
 use Rattle.std.proofs.lemmas.Bool.{cases_eq, ne_eqb}
 use Rattle.outside.specs.declared.failed.Failed.{Failed}
@@ -9,7 +11,6 @@ use Rattle.outside.specs.Files.{Two, File}
 use Rattle.outside.specs.Host.{SendsOnLink, SendsPart}
 use Rattle.outside.specs.Links.{Links, sent_of, with_sent}
 use Rattle.outside.specs.Outside.{DiskRun, LinkCall, MakesAtMost, Moment, Outside, QuietCall}
-use Rattle.outside.specs.Runs.{IsFront, TellsAll, sent_at}
 use Rattle.outside.proofs.RunLaws.{grow_send, quiet_moments, send_moments, sent_at-other, sent_at-with_sent, went_out}
 use Rattle.sync_rules.specs.Clients.{Meaning}
 use Rattle.entry_codec.specs.Standing.{journal, room_of}
@@ -28,8 +29,13 @@ use Rattle.sync_node.specs.Going.{LetsNothingFall, specs_of}
 use Rattle.sync_node.specs.Output.{Journal, sent_on}
 use Rattle.sync_node.proofs.CourseLaws.{fits_grown, fits_on, quiet_most, reads_front}
 use Rattle.sync_node.proofs.DidLaws.{did_none, since_none}
-use Rattle.sync_node.proofs.Fronts.{front_taken}
 use Rattle.sync_node.proofs.SafeLaws.{goes_led, goes_link, specs_told}
+
+pub front_taken : {A : Type 0} (n : ℕ) (a b : List A) → IsFront (a ++ take n b) (a ++ b)
+front_taken n a b = record {
+  rest = drop n b;
+  whole = ap (λ l. a ++ l) (sym (take-append-drop n b)) ∙ sym (append_assoc a (take n b) (drop n b));
+}
 
 -- ---- batches that were committed
 

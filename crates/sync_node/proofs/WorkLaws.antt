@@ -1,5 +1,5 @@
 -- Work on a link: one piece of it after another, and what each call does.
-use Rattle.std.proofs.Common.{◌≡◌, ◌≢◌, ℕ, List, sym, ap, ◌∙◌, subst, arith, Option, Result, Ok, Err, OnOk}
+use Rattle.std.proofs.Common.{◌≡◌, ◌≢◌, ℕ, List, sym, ap, ◌∙◌, subst, arith, Option}
 use Rattle.outside.specs.declared.host.Heard.{Heard}
 use Rattle.outside.specs.Files.{Two, File}
 use Rattle.outside.specs.Host.{HearsAnswer, ReadsClock}
@@ -17,10 +17,6 @@ use Rattle.record_grammar.specs.declared.stream.Ending.TheVariants as ending_kin
 use Rattle.sync_node.specs.Going.{LetsNothingFall, specs_of}
 use Rattle.sync_node.specs.Working.{IsAble}
 use Rattle.sync_node.proofs.SafeLaws.{goes_link}
-
-pub on_ok : {T E : Type 0} (r : Result T E) (P Q : Type 0) → (P → Q) → OnOk r P → OnOk r Q
-on_ok (Ok _) P Q then p = then p
-on_ok (Err _) P Q then p = tt
 
 pub goes_then : (o o1 o2 : Outside) → LetsNothingFall o o1 → LetsNothingFall o1 o2 → LetsNothingFall o o2
 goes_then o o1 o2 first second = record {
