@@ -28,9 +28,8 @@ use Rattle.sync_node.specs.Going.{LetsNothingFall}
 use Rattle.sync_node.specs.Sending.{EndsBy, LearnsNonce, SendsOn}
 use Rattle.sync_course.proofs.RunLaws.{get_push_cases}
 use Rattle.sync_node.proofs.TakeLaws.{end_same}
-use Rattle.sync_node.proofs.OutLaws.{goes_send}
 use Rattle.sync_node.proofs.SafeLaws.{goes_none}
-use Rattle.sync_node.proofs.WorkLaws.{goes_then}
+use Rattle.sync_node.proofs.WorkLaws.{goes_then, goes_sent}
 use Rattle.sync_course.specs.declared.ends.LinkEnd.TheVariants as link_end
 use Rattle.record_grammar.specs.declared.stream.Ending.TheVariants as ending_kind
 
@@ -243,7 +242,7 @@ link_sent {number = n} {bytes = bytes} {l = l} {l' = l'} {o = o} {o' = o'} sends
     by_result sends.result sends.sends sends.ends
   where
     goes : LetsNothingFall o o'
-    goes = goes_send o o' n bytes l l' sends
+    goes = goes_sent n bytes sends.result o o' sends.call sends.sends
 
     by_result : (result : Result (Unit {0}) Failed) → SendsOnLink n bytes result o.links o'.links
         → EndsBy result l l' → LinkGoes n l l' o o'

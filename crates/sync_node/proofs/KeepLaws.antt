@@ -13,7 +13,7 @@ use Rattle.sync_rules.specs.Sessions.{taken}
 use Rattle.sync_rules.specs.Steps.{IsSettled}
 use Rattle.sync_rules.specs.declared.entries.Out.{Out}
 use Rattle.sync_ids.specs.declared.records.Record.{Record}
-use Rattle.record_stream.specs.Reading.{AwaitsBytes, ReaderState}
+use Rattle.record_stream.specs.Reading.{AwaitsBytes}
 use Rattle.sync_course.specs.Acts.{Act, commit_acts}
 use Rattle.sync_rules.specs.Growth.{OnlySettles}
 use Rattle.sync_rules.proofs.StepKinds.{all_settling_only, settled_stays, takes_one}
@@ -28,12 +28,13 @@ use Rattle.sync_node.specs.Going.{LetsNothingFall}
 use Rattle.sync_node.specs.Output.{Journal}
 use Rattle.sync_node.specs.Keeps.{HasOrStops, IsReadyOrRose, LinkKeeps, LinkWorks, OfLink, StaysSettled, StoreKeeps, stop_of}
 use Rattle.sync_node.specs.Working.{HasGivenItems, IsAble, MayWork}
-use Rattle.sync_node.specs.OnRuns.{GreetsBy, IsGreeting}
+use Rattle.sync_node.specs.OnRuns.{GreetsBy}
 use Rattle.sync_node.specs.Sending.{SendsOn}
 use Rattle.sync_node.specs.Starting.{HasBegun, StartStops}
 use Rattle.sync_course.specs.LinkTurns.{next_take, out_batch}
 use Rattle.sync_node.proofs.CauseLaws.{link_kept, link_sent, link_then, rose_before}
 use Rattle.sync_node.proofs.StartLaws.{session_batch}
+use Rattle.sync_node.proofs.OutLaws.{still_so}
 use Rattle.sync_node.proofs.TakeLaws.{IsNextTake}
 use Rattle.sync_course.specs.declared.ends.LinkEnd.TheVariants as link_end
 use Rattle.sync_node.specs.declared.fault.Fault.TheVariants as fault
@@ -335,19 +336,6 @@ take_keeps {clients = clients} {session = session} {r = r} {s = s} {mid = mid} {
 
 -- ---- a session that begins
 
-pub greeted_reader : (n : ℕ) (first second : List ℕ) (l l' : Link) (acts : List Act)
-    → IsGreeting n first second l l' acts → l'.reader ≡ l.reader
-greeted_reader n first second l l' acts greeting = elim greeting [
-  | inl one ↦ ap (λ (y : Link). y.reader) one.2
-  | inr others ↦ elim others [
-    | inl both ↦ ap (λ (y : Link). y.reader) both.1
-    | inr failed ↦ elim failed [
-      | inl at_first ↦ ap (λ (y : Link). y.reader) at_first.2
-      | inr at_second ↦ ap (λ (y : Link). y.reader) at_second.2
-    ]
-  ]
-]
-
 pub has_begun : (clients : Meaning) (n : ℕ) (x begun : Session) (first second : List ℕ)
     (l0 l : Link) (s s1 : StoreValue) (o o1 o2 : Outside) (batch : List Entry)
     → batch ≡ session_batch x → IsSettled clients s.state.facts
@@ -371,9 +359,7 @@ has_begun clients n x begun first second l0 l s s1 o o1 o2 batch is settled comm
       known =
           subst (λ (y : Session). session_at s1.state.facts.sessions y.number ≡ Some y) (sym same)
           there;
-      waits = λ _.
-          subst (λ (r : ReaderState). AwaitsBytes r)
-          (sym (greeted_reader n first second l0 l greets.acts greets.is)) awaits;
+      waits = still_so AwaitsBytes l0 l greets.sent (λ _. awaits);
       cause = λ failed.
           let all = link_then {l = l0} {l1 = l0} (link_kept commits.did.goes refl refl) goes in
           elim (all.cause failed) [

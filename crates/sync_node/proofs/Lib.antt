@@ -8,7 +8,6 @@ mod KeepLaws
 mod CallLaws
 pub mod SentLaws
 mod CourseRuns
-mod CourseRedundant
 pub mod CourseLaws
 pub mod DidLaws
 pub mod WentLaws

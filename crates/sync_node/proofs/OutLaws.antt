@@ -1,5 +1,5 @@
 -- A link that may be sent on, and what is sent there.
-use Rattle.std.proofs.Common.{◌≡◌, ℕ, zero, suc, ◌+◌, ◌≤◌, true, false, refl, ap, arith, Option, None, Some, ◌≢◌, Bool, cond, nat_eq, eq-eqb, List, [], ◌∷◌, take, sym, ◌∙◌, subst, inl, inr, Result, Ok, Err, IfSome}
+use Rattle.std.proofs.Common.{◌≡◌, ℕ, zero, suc, ◌+◌, ◌≤◌, true, false, refl, ap, arith, Option, None, Some, ◌≢◌, Bool, cond, nat_eq, eq-eqb, List, [], ◌∷◌, sym, ◌∙◌, subst, inl, inr, Result, Ok, Err, IfSome}
 use Rattle.sync_rules.specs.declared.entries.Session.{Session}
 use Rattle.sync_rules.specs.Clients.{Meaning}
 use Rattle.sync_rules.specs.Facts.{Facts, session_at}
@@ -8,16 +8,12 @@ use Rattle.sync_course.specs.declared.TheConstants.{MAX_OUTPUTS}
 use Rattle.sync_course.specs.Links.{is_going, is_sent_to}
 use Rattle.sync_course.specs.LinkTurns.{IsEnough, IsNothingDue}
 use Rattle.sync_course.specs.declared.ends.LinkEnd.{LinkEnd}
-use Rattle.sync_node.specs.Sending.{EndsBy, MaySend, SendsOn, StaysOrFails}
+use Rattle.sync_node.specs.Sending.{EndsBy, MaySend, StaysOrFails}
 use Rattle.std.proofs.lemmas.Bool.{cases_eq, ne_eqb}
 use Rattle.outside.specs.declared.failed.Failed.{Failed}
-use Rattle.outside.specs.Outside.{Outside}
-use Rattle.outside.proofs.RunLaws.{grow_send, went_out}
 use Rattle.record_stream.specs.Reading.{ReaderState}
 use Rattle.sync_rules.specs.declared.entries.Out.{Out}
 use Rattle.sync_node.specs.declared.link.Link.{Link}
-use Rattle.sync_node.specs.Going.{LetsNothingFall, specs_of}
-use Rattle.sync_node.proofs.SafeLaws.{goes_link, specs_told}
 use Rattle.sync_rules.specs.Legal.{Allowed}
 use Rattle.sync_rules.specs.Steps.{IsSettled}
 use Rattle.journal_state.specs.Whole.{KnowsJudgements, StateValue}
@@ -67,13 +63,6 @@ none_due clients f session now none (suc room) = by_session (session_at f.sessio
     by_session : (x : Option Session) → due_of clients f x now ≡ None → IsNothingDue clients f x now
     by_session None none = tt
     by_session (Some x) none = none
-
-pub goes_send : (o o' : Outside) (link : ℕ) (bytes : List ℕ) (l l' : Link)
-    → SendsOn link bytes l l' o o' → LetsNothingFall o o'
-goes_send o o' link bytes l l' sends =
-    let out = went_out link bytes sends.result o.links o'.links sends.sends in
-    goes_link _ o o' sends.call (grow_send link bytes sends.result o.links o'.links sends.sends) sends.sends.same_dialled
-    (ap specs_of out.1 ∙ specs_told link (take out.0 bytes) o.links.told)
 
 -- the link is as it was, or failed
 pub kept_by : (result : Result (Unit {0}) Failed) (l l' : Link) → EndsBy result l l'

@@ -1,5 +1,5 @@
 -- Outputs that are committed and sent, as steps of a link's turn, and a whole turn.
-use Rattle.std.proofs.Common.{◌≡◌, ◌≢◌, ℕ, zero, suc, ◌+◌, ◌<◌, ◌≤◌, Bool, true, false, cond, nat_eq, eq-eqb, List, [], ◌∷◌, ◌++◌, append-nil, length, length-append, refl, sym, ◌∙◌, ap, subst, inl, inr, arith, Result, Ok, Err}
+use Rattle.std.proofs.Common.{◌≡◌, ◌≢◌, ℕ, zero, suc, ◌+◌, ◌<◌, ◌≤◌, Bool, true, false, cond, nat_eq, List, [], ◌∷◌, ◌++◌, append-nil, length, length-append, refl, sym, ◌∙◌, ap, subst, inl, inr, arith, Result, Ok, Err}
 use Rattle.std.specs.Prelude.{nat_lt}
 use Rattle.std.proofs.lemmas.Bool.{false≢true, lt-ltb, ne_eqb}
 use Rattle.entry_codec.specs.Standing.{room_of}
@@ -13,8 +13,7 @@ use Rattle.sync_rules.specs.declared.entries.Entry.{Entry}
 use Rattle.sync_rules.specs.declared.entries.Out.{Out}
 use Rattle.sync_rules.specs.declared.entries.Session.{Session}
 use Rattle.sync_rules.specs.Clients.{Meaning}
-use Rattle.sync_rules.specs.Facts.{Facts, after_all}
-use Rattle.sync_rules.specs.Growth.{output_in}
+use Rattle.sync_rules.specs.Facts.{after_all}
 use Rattle.sync_rules.specs.Legal.{Allowed}
 use Rattle.sync_rules.specs.Output.{records_of}
 use Rattle.sync_store.specs.Fitting.{ImagesStand}
@@ -42,7 +41,7 @@ use Rattle.sync_node.proofs.OutLaws.{all_paid, kept_by, may_end, may_not_end, se
 use Rattle.sync_node.proofs.OutLaws.{sent_then, still_so}
 use Rattle.sync_node.proofs.DidLaws.{did_none, did_then}
 use Rattle.sync_node.proofs.LinkActs.{link_does, link_joins, link_no_memory, link_pass, link_stays, link_stops_then}
-use Rattle.sync_node.proofs.PrimLaws.{did_fail, did_pass, did_quiet, did_send}
+use Rattle.sync_node.proofs.PrimLaws.{did_fail, did_pass, did_quiet, did_send, off_link, on_link}
 use Rattle.sync_node.proofs.WentLaws.{commit_stopped}
 use Rattle.sync_node.proofs.WorkLaws.{goes_read}
 use Rattle.sync_course.specs.Reading.{HasRead}
@@ -127,17 +126,6 @@ module _ {clients : Meaning} (n : ℕ) {session : ℕ} where
 
 -- ---- one output
 
--- what an output adds to that of its own session, and to that of another one
-adds_own : (f : Facts) (session other now : ℕ) (what : Out) → session ≡ other
-    → output_in f other (out_batch session now what) ≡ records_of f.held what
-adds_own f session other now what same =
-    append-nil _ ∙ ap (λ b. cond b (records_of f.held what) []) (eq-eqb session other same)
-
-adds_none : (f : Facts) (session other now : ℕ) (what : Out) → session ≢ other
-    → output_in f other (out_batch session now what) ≡ []
-adds_none f session other now what apart =
-    append-nil _ ∙ ap (λ b. cond b (records_of f.held what) []) (ne_eqb session other apart)
-
 module _ (clients : Meaning) (n now : ℕ) (what : Out) (l : Link) (s : StoreValue) (o : Outside)
     (batch : List Entry) (is : batch ≡ entry.Out l.session.number now what ∷ [])
     (allowed : Allowed clients s.state.facts (entry.Out l.session.number now what ∷ [])) where
@@ -177,7 +165,8 @@ module _ (clients : Meaning) (n now : ℕ) (what : Out) (l : Link) (s : StoreVal
       (adds_to s.state.facts first (Commit its_batch) link)
   out_paid first at link =
       all_paid n link _
-      (λ other. ap spelled (adds_none s.state.facts l.session.number (first + link) now what
+      (λ other. ap spelled (append-nil _
+      ∙ off_link l.session.number (first + link) (records_of s.state.facts.held what)
       (λ same. other (omega (arith, same, at)))))
 
   module _ (stand : ImagesStand) (s1 : StoreValue) (o1 o' : Outside) (l' : Link) (bytes : List ℕ)
@@ -189,7 +178,8 @@ module _ (clients : Meaning) (n now : ℕ) (what : Out) (l : Link) (s : StoreVal
         → bytes ≡ adds_to s.state.facts first (Commit its_batch) n
     owed_bytes first at =
         is_bytes
-        ∙ ap spelled (sym (adds_own s.state.facts l.session.number (first + n) now what at))
+        ∙ ap spelled (sym (append-nil _
+        ∙ on_link l.session.number (first + n) (records_of s.state.facts.held what) at))
 
     facts_are : after_all s.state.facts its_batch ≡ s1.state.facts
     facts_are = ap (after_all s.state.facts) (sym is) ∙ sym commits.facts

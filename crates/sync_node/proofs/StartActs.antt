@@ -14,7 +14,6 @@ use Rattle.sync_rules.specs.declared.entries.Entry.{Entry}
 use Rattle.sync_rules.specs.declared.entries.Session.{Session}
 use Rattle.sync_rules.specs.Clients.{Meaning}
 use Rattle.sync_rules.specs.Facts.{Facts, after_all, session_at}
-use Rattle.sync_rules.specs.Growth.{output_in}
 use Rattle.sync_rules.specs.Legal.{Allowed, suits_nonce}
 use Rattle.sync_rules.specs.Output.{first_records}
 use Rattle.sync_store.specs.Fitting.{ImagesStand}
@@ -41,9 +40,9 @@ use Rattle.sync_node.specs.Sending.{EndsBy, SendsOn}
 use Rattle.sync_node.specs.Starting.{HasBegun}
 use Rattle.sync_node.proofs.CourseRuns.{length_from}
 use Rattle.sync_node.proofs.DidLaws.{did_then}
-use Rattle.sync_node.proofs.KeepLaws.{commit_left, greeted_reader, start_stops as leaves_by, stays_none, was}
-use Rattle.sync_node.proofs.OutLaws.{all_paid}
-use Rattle.sync_node.proofs.PrimLaws.{did_fail, did_send}
+use Rattle.sync_node.proofs.KeepLaws.{commit_left, start_stops as leaves_by, stays_none, was}
+use Rattle.sync_node.proofs.OutLaws.{all_paid, still_so}
+use Rattle.sync_node.proofs.PrimLaws.{did_fail, did_send, off_link, on_link}
 use Rattle.sync_node.proofs.SafeLaws.{goes_none}
 use Rattle.sync_node.proofs.StartLaws.{begins_as, begun_is, is_free, push_from, session_batch}
 use Rattle.sync_node.proofs.WentLaws.{commit_stopped, no_memory}
@@ -75,12 +74,14 @@ greeted_once stand n first second l l' o o' within sends over =
     by_result (Ok u) went ends = record {
       acts = Send n first ∷ [];
       is = inl (refl, over ends, ends);
+      sent = inl ends;
       same_files = sends.call.same_files;
       did = λ clients s roomy. did_send stand clients n first s o o' roomy within sends.call u went;
     }
     by_result (Err why) went ends = record {
       acts = Fail n first went.sent.0 ∷ [];
       is = inr (inr (inl (went.sent.0, refl, ends)));
+      sent = inr ends;
       same_files = sends.call.same_files;
       did = λ clients s roomy. did_fail stand clients n first s o o' roomy within sends.call why went;
     }
@@ -98,34 +99,29 @@ greeted_twice stand n first second l mid l' o o1 o' within within1 unfailed one 
     by_results (Ok u) (Ok v) went ends went' ends' = record {
       acts = Send n first ∷ (Send n second ∷ []);
       is = inr (inl (refl, ends' ∙ ends));
+      sent = inl (ends' ∙ ends);
       same_files = two.call.same_files ∙ one.call.same_files;
       did = λ clients s roomy.
           did_then
           (did_send stand clients n first s o o1 roomy within one.call u went)
           (did_send stand clients n second s o1 o' roomy within1 two.call v went');
     }
-    by_results (Ok u) (Err why) went ends went' ends' = record {
-      acts = Send n first ∷ (Fail n second went'.sent.0 ∷ []);
-      is = inr (inr (inr (went'.sent.0, refl, ends' ∙ ap (λ (x : Link). record x { end = link_end.Failed }) ends)));
-      same_files = two.call.same_files ∙ one.call.same_files;
-      did = λ clients s roomy.
-          did_then
-          (did_send stand clients n first s o o1 roomy within one.call u went)
-          (did_fail stand clients n second s o1 o' roomy within1 two.call why went');
-    }
+    by_results (Ok u) (Err why) went ends went' ends' =
+        let failed : l' ≡ record l { end = link_end.Failed } =
+        ends' ∙ ap (λ (x : Link). record x { end = link_end.Failed }) ends in
+        record {
+          acts = Send n first ∷ (Fail n second went'.sent.0 ∷ []);
+          is = inr (inr (inr (went'.sent.0, refl, failed)));
+          sent = inr failed;
+          same_files = two.call.same_files ∙ one.call.same_files;
+          did = λ clients s roomy.
+              did_then
+              (did_send stand clients n first s o o1 roomy within one.call u went)
+              (did_fail stand clients n second s o1 o' roomy within1 two.call why went');
+        }
     by_results (Err why) b went ends went' ends' = absurd (unfailed (ap (λ (x : Link). x.end) ends))
 
 -- ---- what is owed by a session that begins
-
-begins_own : (f : Facts) (x : Session) (number : ℕ) → x.number ≡ number
-    → output_in f number (session_batch x) ≡ first_records x
-begins_own f x number same =
-    append-nil _ ∙ ap (λ b. cond b (first_records x) []) (eq-eqb x.number number same)
-
-begins_none : (f : Facts) (x : Session) (number : ℕ) → x.number ≢ number
-    → output_in f number (session_batch x) ≡ []
-begins_none f x number apart =
-    append-nil _ ∙ ap (λ b. cond b (first_records x) []) (ne_eqb x.number number apart)
 
 module _ (clients : Meaning) (x : Session) (s : StoreValue) (o : Outside) (batch : List Entry) (is : batch ≡ session_batch x)
     (allowed : Allowed clients s.state.facts (session_batch x)) where
@@ -155,12 +151,13 @@ module _ (clients : Meaning) (x : Session) (s : StoreValue) (o : Outside) (batch
     module _ (n : ℕ) (long : length links ≡ n) (numbered : x.number ≡ terms.first + n)
         (first second : List ℕ) (bytes : first ++ second ≡ spelled (first_records x)) where
       owed_here : adds_to s.state.facts terms.first (Commit (session_batch x)) n ≡ first ++ second
-      owed_here = ap spelled (begins_own s.state.facts x (terms.first + n) numbered) ∙ sym bytes
+      owed_here = ap spelled (append-nil _ ∙ on_link x.number (terms.first + n) (first_records x) numbered) ∙ sym bytes
 
       owed_off : (link : ℕ) → link ≢ n
           → adds_to s.state.facts terms.first (Commit (session_batch x)) link ≡ []
       owed_off link other =
-          ap spelled (begins_none s.state.facts x (terms.first + link) (λ same. other (omega (arith, same, numbered))))
+          ap spelled (append-nil _ ∙ off_link x.number (terms.first + link) (first_records x)
+          (λ same. other (omega (arith, same, numbered))))
 
       -- the second part is owed still
       abbrev owing_second : Owing Place
@@ -306,9 +303,10 @@ module _ (clients : Meaning) (x : Session) (s : StoreValue) (o : Outside) (batch
       record {
         begun = has;
         facts = as_is;
-        has_read = λ going. subst (λ (r : ReaderState). HasRead [] r)
-            (sym (greeted_reader n first second _ l greets.acts greets.is ∙ is_fresh))
-            (fresh_has_read awaits awaits.nothing);
+        has_read =
+            still_so (HasRead []) _ l greets.sent
+            (λ _. subst (λ (r : ReaderState). HasRead [] r) (sym is_fresh)
+            (fresh_has_read awaits awaits.nothing));
         went = λ two told terms left links moved still made long numbered.
             let some = ready.fits two told in
             let same : begun ≡ x = begun_is s.state.facts s1.state.facts x begun (is_free clients s.state.facts x some.0 some.1.legal some.1.facts_are allowed) as_is found in

@@ -25,6 +25,7 @@ use Rattle.sync_node.specs.declared.node.Turned.{Turned}
 use Rattle.sync_node.specs.Courses.{AllRead, IsLinkRead, IsReadyToSend, is_still, link_at, links_from, place_at, place_with}
 use Rattle.sync_node.specs.Did.{Did}
 use Rattle.sync_node.specs.Going.{LetsNothingFall}
+use Rattle.sync_node.specs.Sending.{StaysOrFails}
 use Rattle.sync_node.specs.Starting.{HasBegun, StartStops}
 use Rattle.sync_node.specs.Went.{Makes, Stopped, Went}
 
@@ -174,6 +175,7 @@ IsGreeting n first second l l' acts =
 pub record GreetsBy (n : ℕ) (first second : List ℕ) (l l' : Link) (o o' : Outside) : Type 0 where
   pub acts : List Act
   pub is : IsGreeting n first second l l' acts
+  pub sent : StaysOrFails l l'
   pub same_files : o'.files ≡ o.files
   pub did : (clients : Meaning) (s : StoreValue)
       → s.end + room_of (written_in s) s.state.facts ≤ MAX_JOURNAL → Did clients acts s s o o'

@@ -1,4 +1,4 @@
-use Rattle.sync_node.proofs.CourseRedundant.{outdoes_when}
+use Rattle.sync_node.proofs.CourseRuns.{outdoes_when}
 use Rattle.sync_node.proofs.redundant.outdoes.Goals as goal
 
 pub returns-in-Some-Some-clause-exact : goal.returns-in-Some-Some-clause-exact
