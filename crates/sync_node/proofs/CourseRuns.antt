@@ -1,17 +1,21 @@
--- The turns of all links as a course has them.
-use Rattle.std.proofs.Common.{◌≡◌, ℕ, zero, suc, ◌+◌, ◌<◌, Bool, true, false, cond, ◌&&◌, nat_eq, eq-eqb, List, [], ◌∷◌, length, refl, sym, ◌∙◌, ap, subst, inl, inr, arith, Some}
-use Rattle.std.specs.Prelude.{slice_get, slice_set}
+-- The links of a node as those of a course, what was heard on them, and which of them a course closes
+-- as redundant.
+use Rattle.std.proofs.Common.{◌≡◌, ℕ, zero, suc, ◌+◌, ◌<◌, Bool, true, false, cond, ◌&&◌, nat_eq, eq-eqb, List, [], ◌∷◌, length, refl, sym, ◌∙◌, ap, subst, inl, inr, arith, Some, ◌≤◌, ◌||◌, drop, Option}
+use Rattle.std.specs.Prelude.{slice_get, slice_set, nat_lt}
 use Rattle.std.proofs.lemmas.Bool.{cases_eq, ne_eqb}
-use Rattle.outside.specs.Outside.{Outside}
-use Rattle.sync_rules.specs.Clients.{Meaning}
-use Rattle.sync_rules.specs.Facts.{Facts}
-use Rattle.sync_store.specs.Store.{StoreValue}
 use Rattle.sync_course.proofs.LiftLaws.{get_other, get_set, get_within, set_same}
-use Rattle.sync_course.specs.Links as course_links
-use Rattle.sync_course.specs.LinkTurns.{Doing}
-use Rattle.sync_course.specs.Turns.{Terms, Works, with_spot}
 use Rattle.sync_node.specs.declared.link.Link.{Link}
-use Rattle.sync_node.specs.Courses.{AllRead, IsLinkRead, link_at, links_from, place_at, spot_at}
+use Rattle.sync_node.specs.Courses.{AllRead, IsLinkRead, link_at, links_from, outdoes_of}
+use Rattle.sync_node.specs.Redundant.{ClosesSome}
+use Rattle.std.specs.Cmp.Lexicographic.{slice_cmp}
+use Rattle.std.specs.Ordering.{nat_cmp}
+use Rattle.std.specs.declared.cmp.Ordering.{Ordering}
+use Rattle.sync_course.specs.Links.{beats, is_beaten, is_before, is_going, is_kept, without_redundant}
+use Rattle.sync_course.specs.Redundant.{closed_upto}
+use Rattle.sync_course.proofs.KeptLaws.{closed_whole, closes_next}
+use Rattle.sync_course.specs.declared.ends.LinkEnd.{LinkEnd}
+use Rattle.sync_course.specs.Links as course_links
+use Rattle.sync_course.specs.declared.ends.LinkEnd.TheVariants as link_end
 
 -- ---- lists of links
 
@@ -90,46 +94,218 @@ pub still_else : (a b r : Bool) → a ≡ false → r ≡ a → r ≡ (a && b)
 still_else true b r is same = cc
 still_else false b r is same = same
 
--- ---- one link in the run
+-- ---- what was heard
 
-module _ (clients : Meaning) (first n : ℕ) (links : List Link) (l : Link) (s : StoreValue) (o : Outside) (at : slice_get links n ≡ Some l)
-    (numbered : l.session.number ≡ first + n) where
-  module _ (terms : Terms) (same : terms.first ≡ first) (heard : ℕ → List ℕ) (moved : Bool)
-      (still made : ℕ) where
-    pub at_course : slice_get (links_from 0 links heard) n ≡ Some (link_at l (heard n))
-    at_course =
-        let plain : 0 + n ≡ n = omega arith in
-        get_at 0 n links heard l at ∙ ap (λ (j : ℕ). Some (link_at l (heard j))) plain
+-- links that are closed have read what they are to have read
+pub closed_read : (mid links' : List Link) (heard : ℕ → List ℕ) → ClosesSome mid links'
+    → AllRead heard mid → AllRead heard links'
+closed_read mid links' heard closes read i l at =
+    let one = closes.each i l at in
+    elim one.is [
+      | inl same ↦ subst (IsLinkRead (heard i)) (sym same) (read i one.before one.was)
+      | inr closing ↦ subst (IsLinkRead (heard i)) (sym closing.1) (λ going. absurd (let e : link_end.Redundant ≡ link_end.Going = going in cc))
+    ]
 
-    pub in_terms : l.session.number ≡ terms.first + n
-    in_terms = numbered ∙ ap (λ (f : ℕ). f + n) (sym same)
+-- what was heard, as it was
+pub same_cond : (k n : ℕ) (heard : ℕ → List ℕ) → cond (nat_eq k n) (heard n) (heard k) ≡ heard k
+same_cond k n heard =
+    elim (cases_eq k n) [
+      | inl same ↦ ap (λ (b : Bool). cond b (heard n) (heard k)) (eq-eqb k n same) ∙ ap heard (sym same)
+      | inr other ↦ ap (λ (b : Bool). cond b (heard n) (heard k)) (ne_eqb k n other)
+    ]
 
-    pub start_here : (doing : Doing)
-        → with_spot n (spot_at doing l (heard n) moved s.state.facts)
-        (place_at (Works n doing) links heard moved still made s.state.facts)
-        ≡ place_at (Works n doing) links heard moved still made s.state.facts
-    start_here doing =
-        ap (λ (ls : List course_links.Link). record {
-          stage = Works n doing;
-          links = ls;
-          moved = moved;
-          still = still;
-          made = made;
-          facts = s.state.facts;
-        }) (set_same (links_from 0 links heard) n (link_at l (heard n)) at_course)
+pub same_heard : (k n : ℕ) (links : List Link) (heard : ℕ → List ℕ)
+    → links_from k links (heard_with n (heard n) heard) ≡ links_from k links heard
+same_heard k n [] heard = refl
+same_heard k n (x ∷ links) heard =
+    ap (λ (bytes : List ℕ). link_at x bytes ∷ links_from (suc k) links (heard_with n (heard n) heard)) (same_cond k n heard)
+    ∙ ap (λ (ls : List course_links.Link). link_at x (heard k) ∷ ls) (same_heard (suc k) n links heard)
 
-    pub end_there : (doing doing' : Doing) (l' : Link) (f : Facts) (bytes : List ℕ) (moved' : Bool)
-        → with_spot n (spot_at doing' l' bytes moved' f)
-        (place_at (Works n doing) links heard moved still made s.state.facts)
-        ≡ place_at (Works n doing') (slice_set links n l') (heard_with n bytes heard) moved' still made f
-    end_there doing doing' l' f bytes moved' =
-        let plain : 0 + n ≡ n = omega arith in
-        ap (λ (ls : List course_links.Link). record {
-          stage = Works n doing';
-          links = ls;
-          moved = moved';
-          still = still;
-          made = made;
-          facts = f;
-        })
-        (set_at 0 n links heard l' bytes ∙ ap (λ (j : ℕ). links_from 0 (slice_set links n l') (heard_with j bytes heard)) plain)
+-- both links are asked, with one contact and known nonces
+pub outdoes_when : (a b : Link) (before r : Bool) (o : Ordering) (theirs own : List ℕ)
+    → a.end ≡ link_end.Going → b.end ≡ link_end.Going → a.session.contact ≡ b.session.contact
+    → a.nonce ≡ Some theirs → b.nonce ≡ Some own → o ≡ slice_cmp nat_cmp theirs own
+    → r ≡ is_before o before → r ≡ outdoes_of a b before
+outdoes_when a b before r o theirs own first second same one two order is =
+    is ∙ ap (λ (x : Ordering). is_before x before) order ∙ sym (whole first second same one two)
+  where
+    whole : a.end ≡ link_end.Going → b.end ≡ link_end.Going
+        → a.session.contact ≡ b.session.contact → a.nonce ≡ Some theirs → b.nonce ≡ Some own
+        → outdoes_of a b before ≡ is_before (slice_cmp nat_cmp theirs own) before
+    whole first second same one two =
+        ap (λ (e : LinkEnd). is_going e && (is_going b.end
+        && (nat_eq a.session.contact b.session.contact && is_kept a.nonce b.nonce before))) first
+        ∙ ap (λ (e : LinkEnd). is_going e
+        && (nat_eq a.session.contact b.session.contact && is_kept a.nonce b.nonce before)) second
+        ∙ ap (λ (t : Bool). t && is_kept a.nonce b.nonce before)
+        (eq-eqb a.session.contact b.session.contact same)
+        ∙ ap (λ (n : Option (List ℕ)). is_kept n b.nonce before) one
+        ∙ ap (λ (n : Option (List ℕ)). is_kept (Some theirs) n before) two
+
+-- ---- some link of a list is kept rather than one
+
+module _ (k : ℕ) (b : course_links.Link) where
+  pub beaten_step : (j i : ℕ) (links : List course_links.Link) (a : course_links.Link)
+      → slice_get links i ≡ Some a
+      → is_beaten (j + i)
+      (drop i links) k b ≡ (beats (j + i) a k b || is_beaten (suc (j + i)) (drop (suc i) links) k b)
+  beaten_step j i [] a at = cc
+  beaten_step j zero (x ∷ links) a at =
+      let same : x ≡ a = cc in
+      ap (λ y. beats (j + 0) y k b || is_beaten (suc (j + 0)) links k b) same
+  beaten_step j (suc i) (x ∷ links) a at =
+      let later : suc j + i ≡ j + suc i = omega arith in
+      subst (λ (n : ℕ). is_beaten n (drop i links) k b ≡ (beats n a k b || is_beaten (suc n) (drop (suc i) links) k b)) later
+      (beaten_step (suc j) i links a at)
+
+  pub beaten_end : (j i : ℕ) (links : List course_links.Link) → length links ≤ i
+      → is_beaten j (drop i links) k b ≡ false
+  beaten_end j zero [] past = refl
+  beaten_end j (suc i) [] past = refl
+  beaten_end j zero (x ∷ links) past = absurd (omega (arith, past))
+  beaten_end j (suc i) (x ∷ links) past = beaten_end j i links (omega (arith, past))
+
+-- so far none of the links was
+pub record NoneSoFar (links : List Link) (place i : ℕ) : Type 0 where
+  pub rest : (heard : ℕ → List ℕ) (l : Link) → slice_get links place ≡ Some l
+      → is_beaten 0 (links_from 0 links heard) place (link_at l (heard place))
+      ≡ is_beaten i (drop i (links_from 0 links heard)) place (link_at l (heard place))
+
+pub none_yet : (links : List Link) (place : ℕ) → NoneSoFar links place 0
+none_yet links place = record { rest = λ heard l at. refl }
+
+one_more_of : (links : List Link) (place i : ℕ) (a : Link) → slice_get links i ≡ Some a
+    → NoneSoFar links place i → (heard : ℕ → List ℕ) (l : Link)
+    → slice_get links place ≡ Some l
+    → is_beaten 0 (links_from 0 links heard) place (link_at l (heard place))
+    ≡ (outdoes_of a l (nat_lt i place) || is_beaten (suc i) (drop (suc i) (links_from 0 links heard)) place (link_at l (heard place)))
+one_more_of links place i a at so heard l here =
+    let plain : 0 + i ≡ i = omega arith in
+    let found : slice_get (links_from 0 links heard) i ≡ Some (link_at a (heard i)) =
+    get_at 0 i links heard a at ∙ ap (λ (j : ℕ). Some (link_at a (heard j))) plain in
+    so.rest heard l here
+    ∙ subst (λ (n : ℕ). is_beaten n (drop i (links_from 0 links heard)) place (link_at l (heard place))
+    ≡ (beats n (link_at a (heard i)) place (link_at l (heard place))
+    || is_beaten (suc n) (drop (suc i) (links_from 0 links heard)) place (link_at l (heard place)))) plain
+    (beaten_step place (link_at l (heard place)) 0 i (links_from 0 links heard) (link_at a (heard i)) found)
+
+-- this one was
+pub some_beats : (links : List Link) (place i : ℕ) (a l0 : Link) (r : Bool)
+    → slice_get links i ≡ Some a → slice_get links place ≡ Some l0
+    → r ≡ outdoes_of a l0 (nat_lt i place) → r ≡ true → NoneSoFar links place i
+    → (heard : ℕ → List ℕ) (l : Link) → slice_get links place ≡ Some l
+    → true ≡ is_beaten 0 (links_from 0 links heard) place (link_at l (heard place))
+some_beats links place i a l0 r at here is so before heard l at_l =
+    let both : Some l0 ≡ Some l = sym here ∙ at_l in
+    let same : l0 ≡ l = cc in
+    let first : outdoes_of a l (nat_lt i place) ≡ true = ap (λ x. outdoes_of a x (nat_lt i place)) (sym same) ∙ sym is ∙ so in
+    sym (one_more_of links place i a at before heard l at_l
+    ∙ ap (λ (t : Bool). t || is_beaten (suc i) (drop (suc i) (links_from 0 links heard)) place (link_at l (heard place))) first)
+
+-- this one was not
+pub one_more : (links : List Link) (place i k : ℕ) (a l0 : Link) (r : Bool)
+    → slice_get links i ≡ Some a → slice_get links place ≡ Some l0
+    → r ≡ outdoes_of a l0 (nat_lt i place) → r ≡ false → k ≡ i + 1 → NoneSoFar links place i
+    → NoneSoFar links place k
+one_more links place i k a l0 r at here is so next before =
+    let suc_is : suc i ≡ k = omega (arith, next) in
+    subst (NoneSoFar links place) suc_is (record {
+      rest = λ heard l at_l.
+          let both : Some l0 ≡ Some l = sym here ∙ at_l in
+          let same : l0 ≡ l = cc in
+          let first : outdoes_of a l (nat_lt i place) ≡ false = ap (λ x. outdoes_of a x (nat_lt i place)) (sym same) ∙ sym is ∙ so in
+          one_more_of links place i a at before heard l at_l
+          ∙ ap (λ (t : Bool). t || is_beaten (suc i) (drop (suc i) (links_from 0 links heard)) place (link_at l (heard place))) first;
+    })
+
+-- none was
+pub none_at_all : (links : List Link) (place i : ℕ) → length links ≤ i → NoneSoFar links place i
+    → (heard : ℕ → List ℕ) (l : Link) → slice_get links place ≡ Some l
+    → false ≡ is_beaten 0 (links_from 0 links heard) place (link_at l (heard place))
+none_at_all links place i past so heard l at =
+    let len : length (links_from 0 links heard) ≡ length links = length_from 0 links heard in
+    sym (so.rest heard l at ∙ beaten_end place (link_at l (heard place)) i i (links_from 0 links heard) (omega (arith, len, past)))
+
+-- ---- closing one after the other
+
+rest_of : (all : List course_links.Link) (k m : ℕ) (links : List course_links.Link)
+    → slice_get (closed_upto all k m links) m ≡ slice_get links m
+rest_of all k zero links = refl
+rest_of all k (suc m) [] = refl
+rest_of all k (suc m) (x ∷ links) = rest_of all (suc k) m links
+
+set_there : (k n : ℕ) (links : List Link) (heard : ℕ → List ℕ) (l' : Link)
+    → slice_set (links_from k links heard) n (link_at l' (heard (k + n))) ≡ links_from k (slice_set links n l') heard
+set_there k n [] heard l' = refl
+set_there k zero (x ∷ links) heard l' =
+    let here : k + 0 ≡ k = omega arith in
+    ap (λ (j : ℕ). link_at l' (heard j) ∷ links_from (suc k) links heard) here
+set_there k (suc n) (x ∷ links) heard l' =
+    let later : k + suc n ≡ suc k + n = omega arith in
+    ap (λ (ls : List course_links.Link). link_at x (heard k) ∷ ls)
+    (ap (λ (j : ℕ). slice_set (links_from (suc k) links heard) n (link_at l' (heard j))) later ∙ set_there (suc k) n links heard l')
+
+-- the first links, so many, are closed as a course has it
+pub record ClosedSo (old links : List Link) (m : ℕ) : Type 0 where
+  pub closed : (heard : ℕ → List ℕ)
+      → links_from 0 links heard ≡ closed_upto (links_from 0 old heard) 0 m (links_from 0 old heard)
+
+pub closed_none : (old : List Link) → ClosedSo old old 0
+closed_none old = record { closed = λ heard. refl }
+
+module _ (old links : List Link) (m : ℕ) (l : Link) (at : slice_get links m ≡ Some l) (r : Bool)
+    (exact : (heard : ℕ → List ℕ) (x : Link) → slice_get links m ≡ Some x → r ≡ is_beaten 0 (links_from 0 links heard) m (link_at x (heard m)))
+    (before : ClosedSo old links m) where
+  next_closed : (heard : ℕ → List ℕ)
+      → closed_upto (links_from 0 old heard) 0 (suc m) (links_from 0 old heard)
+      ≡ slice_set (links_from 0 links heard) m (record (link_at l (heard m)) { stands = cond r link_end.Redundant l.end })
+  next_closed heard =
+      let whole : List course_links.Link = links_from 0 old heard in
+      let now : List course_links.Link = links_from 0 links heard in
+      let b : course_links.Link = link_at l (heard m) in
+      let plain : 0 + m ≡ m = omega arith in
+      let found : slice_get now m ≡ Some b = get_at 0 m links heard l at ∙ ap (λ (j : ℕ). Some (link_at l (heard j))) plain in
+      let in_old : slice_get whole m ≡ Some b =
+      sym (rest_of whole 0 m whole) ∙ ap (λ (ls : List course_links.Link). slice_get ls m) (sym (before.closed heard)) ∙ found in
+      closes_next whole m b in_old
+      ∙ ap (λ (ls : List course_links.Link). slice_set ls m (record b { stands = cond (is_beaten 0 ls m b) link_end.Redundant b.stands })) (sym (before.closed heard))
+      ∙ ap (λ (t : Bool). slice_set now m (record b { stands = cond t link_end.Redundant b.stands })) (sym (exact heard l at))
+
+  pub closes_it : r ≡ true → (k : ℕ) → k ≡ m + 1 → ClosedSo old (slice_set links m (record l { end = link_end.Redundant })) k
+  closes_it so k next =
+      let more : suc m ≡ k = omega (arith, next) in
+      subst (ClosedSo old (slice_set links m (record l { end = link_end.Redundant }))) more (record {
+        closed = λ heard.
+            let plain : m ≡ 0 + m = omega arith in
+            sym (next_closed heard
+            ∙ ap (λ (t : Bool). slice_set (links_from 0 links heard) m (record (link_at l (heard m)) { stands = cond t link_end.Redundant l.end })) so
+            ∙ ap (λ (j : ℕ). slice_set (links_from 0 links heard) m (link_at (record l { end = link_end.Redundant }) (heard j))) plain
+            ∙ set_there 0 m links heard (record l { end = link_end.Redundant }));
+      })
+
+  pub leaves_it : r ≡ false → (k : ℕ) → k ≡ m + 1 → ClosedSo old links k
+  leaves_it so k next =
+      let more : suc m ≡ k = omega (arith, next) in
+      subst (ClosedSo old links) more (record {
+        closed = λ heard.
+            let plain : 0 + m ≡ m = omega arith in
+            let found : slice_get (links_from 0 links heard) m ≡ Some (link_at l (heard m)) =
+            get_at 0 m links heard l at ∙ ap (λ (j : ℕ). Some (link_at l (heard j))) plain in
+            sym (next_closed heard
+            ∙ ap (λ (t : Bool). slice_set (links_from 0 links heard) m (record (link_at l (heard m)) { stands = cond t link_end.Redundant l.end })) so
+            ∙ set_same (links_from 0 links heard) m (link_at l (heard m)) found);
+      })
+
+pub get_there : (links : List Link) (i : ℕ) → i < length links
+    → (l : Link) × (slice_get links i ≡ Some l)
+get_there [] i less = absurd (omega (arith, less))
+get_there (x ∷ links) zero less = (x, refl)
+get_there (x ∷ links) (suc i) less = get_there links i (omega (arith, less))
+
+pub closed_all : (old links : List Link) (m : ℕ) → m ≡ length old → ClosedSo old links m
+    → (heard : ℕ → List ℕ)
+    → links_from 0 links heard ≡ without_redundant (links_from 0 old heard)
+closed_all old links m all so heard =
+    let whole : List course_links.Link = links_from 0 old heard in
+    let count : m ≡ length whole = all ∙ sym (length_from 0 old heard) in
+    so.closed heard ∙ ap (λ (k : ℕ). closed_upto whole 0 k whole) count ∙ closed_whole whole 0 whole

@@ -1,44 +1,61 @@
 -- What work leaves, whatever was heard: one piece of it after another.
-use Rattle.std.proofs.Common.{◌≡◌, ℕ, ◌≤◌, List, [], ◌∷◌, refl, sym, ap, ◌∙◌, subst, arith, inl}
-use Rattle.std.proofs.Common.{inr, Option, None, Some, Result, Ok, Err}
-use Rattle.std.specs.Prelude.{IfErr, IsErrAnd, OnOk}
+use Rattle.std.proofs.Common.{◌≡◌, refl, sym, subst, Result, Ok, Err, ℕ, ◌≤◌, List, [], ◌∷◌, ap, ◌∙◌, arith, inl, inr, Option, None, Some}
+use Rattle.std.specs.Prelude.{IsErrAnd, IfErr, OnOk}
+use Rattle.sync_store.specs.Commits.{KeepsStore}
+use Rattle.sync_store.specs.Store.{StoreValue}
 use Rattle.outside.specs.Outside.{Outside}
 use Rattle.sync_rules.specs.declared.entries.Entry.{Entry}
 use Rattle.sync_rules.specs.declared.entries.Session.{Session}
 use Rattle.sync_rules.specs.Clients.{Meaning}
 use Rattle.sync_rules.specs.Facts.{Facts, after_all, session_at, takes_of}
 use Rattle.sync_rules.specs.Legal.{Allowed}
-use Rattle.sync_rules.specs.Sessions.{taken_from}
+use Rattle.sync_rules.specs.Sessions.{taken}
 use Rattle.sync_rules.specs.Steps.{IsSettled}
 use Rattle.sync_rules.specs.declared.entries.Out.{Out}
 use Rattle.sync_ids.specs.declared.records.Record.{Record}
-use Rattle.record_stream.specs.Reading.{AwaitsBytes, ReaderState}
+use Rattle.record_stream.specs.Reading.{AwaitsBytes}
 use Rattle.sync_course.specs.Acts.{Act, commit_acts}
-use Rattle.sync_course.specs.declared.ends.LinkEnd.TheVariants as link_end
 use Rattle.sync_rules.specs.Growth.{OnlySettles}
 use Rattle.sync_rules.proofs.StepKinds.{all_settling_only, settled_stays, takes_one}
 use Rattle.sync_store.specs.Ready.{IsReady}
-use Rattle.sync_store.specs.Store.{StoreValue}
 use Rattle.sync_node.specs.declared.fault.Fault.{Fault}
-use Rattle.sync_node.specs.declared.fault.Fault.TheVariants as fault
 use Rattle.sync_node.specs.declared.link.Link.{Link}
-use Rattle.sync_node.specs.Batches.{AddStops, Breaks, CommitStops, Committed, SettleStops, Settled}
-use Rattle.sync_node.specs.Causes.{LinkGoes, PushesOne}
+use Rattle.sync_node.specs.Batches.{AddStops, Breaks, CommitStops, Committed, IsUndoneBy}
+use Rattle.sync_node.specs.Batches.{SettleStops, Settled}
+use Rattle.sync_node.specs.Causes.{LinkGoes}
 use Rattle.sync_node.specs.Did.{Did}
 use Rattle.sync_node.specs.Going.{LetsNothingFall}
 use Rattle.sync_node.specs.Output.{Journal}
-use Rattle.sync_node.specs.Keeps.{HasOrStops, IsReadyOrRose, LinkKeeps, StaysSettled, StoreKeeps}
-use Rattle.sync_node.specs.Keeps.{stop_of}
+use Rattle.sync_node.specs.Keeps.{HasOrStops, IsReadyOrRose, LinkKeeps, LinkWorks, OfLink, StaysSettled, StoreKeeps, stop_of}
 use Rattle.sync_node.specs.Working.{HasGivenItems, IsAble, MayWork}
-use Rattle.sync_node.specs.OnRuns.{GreetsBy, IsGreeting}
+use Rattle.sync_node.specs.OnRuns.{GreetsBy}
 use Rattle.sync_node.specs.Sending.{SendsOn}
-use Rattle.sync_node.specs.Starting.{HasBegun, StartStops, StartsNone}
-use Rattle.sync_node.specs.Stays.{IsUndoneBy}
-use Rattle.sync_node.specs.Taking.{next_take}
+use Rattle.sync_node.specs.Starting.{HasBegun, StartStops}
+use Rattle.sync_course.specs.LinkTurns.{next_take, out_batch}
 use Rattle.sync_node.proofs.CauseLaws.{link_kept, link_sent, link_then, rose_before}
-use Rattle.sync_node.proofs.OutLaws.{out_batch}
 use Rattle.sync_node.proofs.StartLaws.{session_batch}
-use Rattle.sync_node.proofs.Undone.{stays_none, was}
+use Rattle.sync_node.proofs.OutLaws.{still_so}
+use Rattle.sync_node.proofs.TakeLaws.{IsNextTake}
+use Rattle.sync_course.specs.declared.ends.LinkEnd.TheVariants as link_end
+use Rattle.sync_node.specs.declared.fault.Fault.TheVariants as fault
+
+pub stays_none : (s : StoreValue) → KeepsStore s s
+stays_none s = record {
+  facts = refl;
+  answers = refl;
+  file = refl;
+  format = refl;
+  generation = refl;
+  end = refl;
+  limit = refl;
+  closed = refl;
+}
+
+-- what is said of a call that handed an error on
+pub was : {T E : Type 0} (r : Result T E) (e : E) (P : Result T E → Type 0)
+    → IsErrAnd r (λ y. y ≡ e) → P (Err e) → P r
+was (Ok x) e P is p = absurd is
+was (Err y) e P is p = subst (λ x. P (Err x)) (sym is) p
 
 -- ---- answers
 
@@ -58,20 +75,6 @@ answered_then P Q clients s o o1 o2 (Some e) then later p =
     stops_later clients s o o1 o2 e later p
 
 -- ---- a store
-
--- an error that was handed on
-pub store_was : {T : Type 0} (P : Type 0) (clients : Meaning) (s s' : StoreValue) (o o' : Outside)
-    (r : Result T Fault) (e : Fault) → IsErrAnd r (λ y. y ≡ e)
-    → StoreKeeps P clients s s' o o' (Some e) → StoreKeeps P clients s s' o o' (stop_of r)
-store_was P clients s s' o o' r e is keeps =
-    was r e (StoreKeeps P clients s s' o o') is keeps
-
-pub store_memory : {T : Type 0} (P : Type 0) (clients : Meaning) (s : StoreValue) (o o' : Outside)
-    (r : Result T Fault) → IsErrAnd r (λ y. y ≡ fault.Memory) → IsReady clients s o'.files
-    → StoreKeeps P clients s s o o' (stop_of r)
-store_memory P clients s o o' r is ready =
-    store_was P clients s s o o' r fault.Memory is
-    (record { same_limit = refl; same_format = refl; answered = ready })
 
 pub settled_then : (clients : Meaning) (s s1 s2 : StoreValue) (o1 o2 : Outside)
     → StaysSettled clients s s1 o1 → StaysSettled clients s1 s2 o2 → StaysSettled clients s s2 o2
@@ -197,15 +200,6 @@ pub work_none : {clients : Meaning} {n : ℕ} {l l' : Link} {s : StoreValue} {o 
     → LinkGoes n l l' o o → IsAble clients n l.session s o → LinkKeeps clients n l l' s s o o None
 work_none goes able = work_link goes refl able
 
-pub work_memory : {T : Type 0} {clients : Meaning} {n : ℕ} {l l' : Link} {s : StoreValue}
-    {o : Outside} (r : Result T Fault) → IsErrAnd r (λ y. y ≡ fault.Memory) → LinkGoes n l l' o o
-    → IsReady clients s o.files → LinkKeeps clients n l l' s s o o (stop_of r)
-work_memory {clients = clients} {s = s} {o = o} r is goes ready =
-    record {
-      link = goes;
-      store = store_memory (StaysSettled clients s s o) clients s o o r is ready;
-    }
-
 pub work_then : {clients : Meaning} {n : ℕ} {l l1 l2 : Link} {s s1 s2 : StoreValue}
     {o o1 o2 : Outside} {stop : Option Fault} → LinkKeeps clients n l l1 s s1 o o1 None
     → LinkKeeps clients n l1 l2 s1 s2 o1 o2 stop → LinkKeeps clients n l l2 s s2 o o2 stop
@@ -223,27 +217,35 @@ work_then {clients = clients} {s = s} {s1 = s1} {s2 = s2} {o = o} {o1 = o1} {o2 
       };
     }
 
-pub work_was : {T : Type 0} {clients : Meaning} {n : ℕ} {l l' : Link} {s s' : StoreValue}
-    {o o' : Outside} (r : Result T Fault) (e : Fault) → IsErrAnd r (λ y. y ≡ e)
-    → LinkKeeps clients n l l' s s' o o' (Some e)
-    → LinkKeeps clients n l l' s s' o o' (stop_of r)
-work_was {clients = clients} {n = n} {l = l} {l' = l'} {s = s} {s' = s'} {o = o} {o' =
-    o'} r e is keeps =
-    was r e (LinkKeeps clients n l l' s s' o o') is keeps
-
 -- what is wanting then is memory
-pub work_halts : {T : Type 0} {clients : Meaning} {n : ℕ} {l l' : Link} {s s' : StoreValue}
-    {o o' : Outside} (r : Result T Fault) → IsErrAnd r (λ y. y ≡ fault.Memory)
-    → LinkKeeps clients n l l' s s' o o' None → LinkKeeps clients n l l' s s' o o' (stop_of r)
-work_halts r is keeps =
-    work_was r fault.Memory is (record {
-      link = keeps.link;
-      store = record {
-        same_limit = keeps.store.same_limit;
-        same_format = keeps.store.same_format;
-        answered = keeps.store.answered.ready;
-      };
-    })
+pub memory_keeps : {clients : Meaning} {n : ℕ} {l l' : Link} {s s' : StoreValue} {o o' : Outside}
+    → LinkKeeps clients n l l' s s' o o' None
+    → LinkKeeps clients n l l' s s' o o' (Some fault.Memory)
+memory_keeps keeps = record {
+  link = keeps.link;
+  store = record {
+    same_limit = keeps.store.same_limit;
+    same_format = keeps.store.same_format;
+    answered = keeps.store.answered.ready;
+  };
+}
+
+-- ---- work on a link, by what it answers
+
+module _ {T : Type 0} {Went : OfLink T} {Stops : OfLink Fault} {clients : Meaning} {n : ℕ}
+    {l l' : Link} {s s' : StoreValue} {o o' : Outside} (r : Result T Fault) where
+  -- a fault that was handed on
+  pub works_was : (e : Fault) → IsErrAnd r (λ y. y ≡ e) → Stops clients n l l' s s' o o' e
+      → LinkKeeps clients n l l' s s' o o' (Some e)
+      → LinkWorks Went Stops clients n l l' s s' o o' r
+  works_was e is stops keeps =
+      was r e (LinkWorks Went Stops clients n l l' s s' o o') is
+      (record { went = tt; stopped = stops; keeps = keeps })
+
+  -- what is wanting is memory
+  pub works_halt : IsErrAnd r (λ y. y ≡ fault.Memory) → Stops clients n l l' s s' o o' fault.Memory
+      → LinkKeeps clients n l l' s s' o o' None → LinkWorks Went Stops clients n l l' s s' o o' r
+  works_halt is stops keeps = works_was fault.Memory is stops (memory_keeps keeps)
 
 -- ---- what the next piece of work needs
 
@@ -267,16 +269,15 @@ may_kept may keeps waits = record { able = able_kept may.able keeps; waits = wai
 
 -- ---- an output
 
-pub put_broke : {T : Type 0} (clients : Meaning) (n : ℕ) (l : Link) (s s' : StoreValue)
-    (o o' : Outside) (r : Result T Fault) (batch : List Entry) (e : Fault)
-    → IsErrAnd r (λ y. y ≡ e) → CommitStops clients batch s s' o o' e
-    → LinkKeeps clients n l l s s' o o' (stop_of r)
-put_broke clients n l s s' o o' r batch e is stops =
+pub put_broke : (clients : Meaning) (n : ℕ) (l : Link) (s s' : StoreValue) (o o' : Outside)
+    (batch : List Entry) (e : Fault) → CommitStops clients batch s s' o o' e
+    → LinkKeeps clients n l l s s' o o' (Some e)
+put_broke clients n l s s' o o' batch e stops =
     let left = commit_left clients batch s s' o o' e stops in
-    work_was r e is (record {
+    record {
       link = link_kept left.goes refl refl;
       store = keeps_left (StaysSettled clients s s' o') clients s s' o o' e left;
-    })
+    }
 
 pub put_keeps : (clients : Meaning) (n now : ℕ) (what : Out) (l l' : Link)
     (s s1 : StoreValue) (o o1 o2 : Outside) (bytes : List ℕ) (batch : List Entry)
@@ -305,19 +306,19 @@ put_keeps clients n now what l l' s s1 o o1 o2 bytes batch is able commits sends
 
 -- ---- a record
 
-pub take_keeps : (clients : Meaning) (session : Session) (r : Record) (s mid s' : StoreValue)
-    (o m o' : Outside) (batch : List Entry) (stop : Option Fault)
-    → batch ≡ next_take s.state.facts session r → Allowed clients s.state.facts batch
-    → Committed clients batch s mid o m
+pub take_keeps : {clients : Meaning} {session : ℕ} {r : Record} {s mid s' : StoreValue}
+    {o m o' : Outside} {batch : List Entry} {stop : Option Fault}
+    → IsNextTake clients session r s batch → Committed clients batch s mid o m
     → StoreKeeps (StaysSettled clients mid s' o') clients mid s' m o' stop
     → StoreKeeps (StaysSettled clients s s' o') clients s s' o o' stop
-take_keeps clients session r s mid s' o m o' batch stop is allowed commits keeps =
+take_keeps {clients = clients} {session = session} {r = r} {s = s} {mid = mid} {s' = s'} {o = o} {m =
+    m} {o' = o'} {stop = stop} take commits keeps =
     let one =
-    takes_one clients s.state.facts session.number (takes_of s.state.facts.takes session.number)
-    (taken_from s.state.facts session.number session.contact r)
-    (subst (λ (b : List Entry). Allowed clients s.state.facts b) is allowed) in
+    takes_one clients s.state.facts session (takes_of s.state.facts.takes session)
+    (taken s.state.facts session r)
+    (subst (λ (b : List Entry). Allowed clients s.state.facts b) take.is take.allowed) in
     let facts : mid.state.facts ≡ after_all s.state.facts (next_take s.state.facts session r) =
-    commits.facts ∙ ap (λ (b : List Entry). after_all s.state.facts b) is in
+    commits.facts ∙ ap (λ (b : List Entry). after_all s.state.facts b) take.is in
     record {
       same_limit = keeps.same_limit ∙ commits.did.limit;
       same_format = keeps.same_format ∙ commits.did.format;
@@ -334,19 +335,6 @@ take_keeps clients session r s mid s' o m o' batch stop is allowed commits keeps
     }
 
 -- ---- a session that begins
-
-pub greeted_reader : (n : ℕ) (first second : List ℕ) (l l' : Link) (acts : List Act)
-    → IsGreeting n first second l l' acts → l'.reader ≡ l.reader
-greeted_reader n first second l l' acts greeting = elim greeting [
-  | inl one ↦ ap (λ (y : Link). y.reader) one.2
-  | inr others ↦ elim others [
-    | inl both ↦ ap (λ (y : Link). y.reader) both.1
-    | inr failed ↦ elim failed [
-      | inl at_first ↦ ap (λ (y : Link). y.reader) at_first.2
-      | inr at_second ↦ ap (λ (y : Link). y.reader) at_second.2
-    ]
-  ]
-]
 
 pub has_begun : (clients : Meaning) (n : ℕ) (x begun : Session) (first second : List ℕ)
     (l0 l : Link) (s s1 : StoreValue) (o o1 o2 : Outside) (batch : List Entry)
@@ -371,9 +359,7 @@ has_begun clients n x begun first second l0 l s s1 o o1 o2 batch is settled comm
       known =
           subst (λ (y : Session). session_at s1.state.facts.sessions y.number ≡ Some y) (sym same)
           there;
-      waits = λ _.
-          subst (λ (r : ReaderState). AwaitsBytes r)
-          (sym (greeted_reader n first second l0 l greets.acts greets.is)) awaits;
+      waits = still_so AwaitsBytes l0 l greets.sent (λ _. awaits);
       cause = λ failed.
           let all = link_then {l = l0} {l1 = l0} (link_kept commits.did.goes refl refl) goes in
           elim (all.cause failed) [
@@ -383,11 +369,6 @@ has_begun clients n x begun first second l0 l s s1 o o1 o2 batch is settled comm
           ];
     }
 
-pub starts_none : {H : Type 0} (clients : Meaning) (s : StoreValue) (host : H) (o : Outside)
-    → IsReady clients s o.files → StartsNone clients s s host host o
-starts_none clients s host o ready =
-    record { ready = ready; undone = record { stays = stays_none s; same_host = refl } }
-
 pub start_stops : {H : Type 0} (clients : Meaning) (batch : List Entry) (s s' : StoreValue)
     (host host' : H) (o o' : Outside) (e : Fault) → CommitStops clients batch s s' o o' e
     → IsUndoneBy s s' host host' e → StartStops clients s s' host host' o o' e
@@ -396,9 +377,3 @@ start_stops clients batch s s' host host' o o' fault.Memory stops undone =
 start_stops clients batch s s' host host' o o' fault.Full stops undone =
     record { ready = stops.idle.ready; undone = undone }
 start_stops clients batch s s' host host' o o' fault.DiskFault stops undone = stops.rose
-
--- where it failed the links are as before
-pub pushes_none : {T E : Type 0} (links links' : List Link) (r : Result T E) (e : E)
-    → IsErrAnd r (λ x. x ≡ e) → links' ≡ links → PushesOne r links links'
-pushes_none links links' (Ok x) e is same = absurd is
-pushes_none links links' (Err x) e is same = same

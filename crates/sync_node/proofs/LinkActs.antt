@@ -28,7 +28,8 @@ use Rattle.sync_node.specs.Batches.{CommitStops, Committed, Settled, SettleStops
 use Rattle.sync_node.specs.Did.{Did}
 use Rattle.sync_node.specs.OnLinks.{LinkActs, LinkStopped, LinkWent, RecordStopped, RecordTaken}
 use Rattle.sync_node.specs.Output.{Journal}
-use Rattle.sync_node.proofs.CommitLaws.{settling_front}
+use Rattle.sync_node.proofs.BatchLaws.{settling_front}
+use Rattle.sync_node.proofs.TakeLaws.{IsNextTake}
 use Rattle.sync_node.proofs.PrimLaws.{did_pass}
 use Rattle.sync_node.proofs.WentLaws.{commit_stopped, no_memory, stopped_then, went_none, went_one, went_then}
 
@@ -176,35 +177,39 @@ module _ (clients : Meaning) (n session : ℕ) where
   module _ (place : ℕ) (r : Record) (its : List Item) (p : Spot)
       (takes : p.doing ≡ Takes (item.One place r ∷ its))
       (allowed : Allowed clients p.facts (next_take p.facts session r)) where
+    -- the batch of the record
+    abbrev its_batch : List Entry
+    its_batch = next_take p.facts session r
+
     abbrev take_spot : Spot
-    take_spot = taken_spot place r its (next_take p.facts session r) p
+    take_spot = taken_spot place r its its_batch p
 
     take_owes : (first link : ℕ)
-        → adds_to p.facts first (Commit (next_take p.facts session r)) link ≡ []
+        → adds_to p.facts first (Commit its_batch) link ≡ []
     take_owes first link =
         ap spelled
-        (silent_adds_nothing p.facts (first + link) (next_take p.facts session r)
+        (silent_adds_nothing p.facts (first + link) its_batch
         (take_silent clients p.facts session _ _ allowed))
 
-    take_step : LinkStep clients n session p (Commit (next_take p.facts session r)) take_spot
+    take_step : LinkStep clients n session p (Commit its_batch) take_spot
     take_step =
-        step_at clients n session p take_spot (Commit (next_take p.facts session r))
+        step_at clients n session p take_spot (Commit its_batch)
         (Takes (item.One place r ∷ its)) takes (inr (refl, allowed, refl))
 
     pub link_takes : (s s' : StoreValue) (o o' : Outside)
-        → Did clients (commit_acts (next_take p.facts session r ∷ [])) s s' o o'
-        → LinkWent clients n session p (taken_spot place r its (next_take p.facts session r) p) s s' o o'
+        → Did clients (commit_acts (its_batch ∷ [])) s s' o o'
+        → LinkWent clients n session p (taken_spot place r its its_batch p) s s' o o'
     link_takes s s' o o' did =
-        link_does p take_spot (Commit (next_take p.facts session r)) s s' o o' take_owes take_step did
+        link_does p take_spot (Commit its_batch) s s' o o' take_owes take_step did
 
     pub link_take_stops : (s s' : StoreValue) (o o' : Outside) (e : Fault)
-        → CommitStops clients (next_take p.facts session r) s s' o o' e
+        → CommitStops clients its_batch s s' o o' e
         → LinkStopped clients n session p (link_after place r p.link) s s' o o' e
     link_take_stops s s' o o' e stops = λ first is.
         commit_stopped clients (LinkActs clients first n)
         (λ (x : Owing Spot). x.at.link ≡ link_after place r p.link) (paid p) (paid take_spot)
-        (next_take p.facts session r)
-        (step_of first is p take_spot (Commit (next_take p.facts session r)) take_step (take_owes first))
+        its_batch
+        (step_of first is p take_spot (Commit its_batch) take_step (take_owes first))
         refl s s' o o' e stops
 
     pub link_take_no_memory : (s : StoreValue) (o : Outside) → IsReady clients s o.files
@@ -213,75 +218,83 @@ module _ (clients : Meaning) (n session : ℕ) where
         no_memory clients (LinkActs clients first n)
         (λ (x : Owing Spot). x.at.link ≡ link_after place r p.link) (paid p) s o ready
         (inr (record {
-          batch = next_take p.facts session r;
+          batch = its_batch;
           next = paid take_spot;
           steps =
-              step_of first is p take_spot (Commit (next_take p.facts session r)) take_step (take_owes first);
+              step_of first is p take_spot (Commit its_batch) take_step (take_owes first);
           has = refl;
         }))
 
 -- ---- a record, with the batch that the code makes of it
 
-module _ (clients : Meaning) (session : ℕ) (r : Record) (s : StoreValue) (o : Outside)
-    (batch : List Entry) (is : batch ≡ next_take s.state.facts session r)
-    (allowed : Allowed clients s.state.facts batch) where
+-- the spot behind it
+abbrev behind_take : Record → ℕ → List Item → Spot → Facts → Spot
+behind_take r place its p f = record {
+  doing = Takes (items_after r its);
+  link = link_after place r p.link;
+  moved = p.moved;
+  facts = f;
+}
+
+module _ {clients : Meaning} {session : ℕ} {r : Record} {s : StoreValue} {batch : List Entry}
+    (take : IsNextTake clients session r s batch) where
   may_take : (p : Spot) → p.facts ≡ s.state.facts
       → Allowed clients p.facts (next_take p.facts session r)
   may_take p same =
       subst (λ (f : Facts). Allowed clients f (next_take f session r)) (sym same)
-      (subst (λ (b : List Entry). Allowed clients s.state.facts b) is allowed)
+      (subst (λ (b : List Entry). Allowed clients s.state.facts b) take.is take.allowed)
 
   is_take : (p : Spot) → p.facts ≡ s.state.facts → batch ≡ next_take p.facts session r
-  is_take p same = is ∙ ap (λ (f : Facts). next_take f session r) (sym same)
+  is_take p same = take.is ∙ ap (λ (f : Facts). next_take f session r) (sym same)
 
   -- it was committed
-  committed_take : (mid : StoreValue) (m : Outside) → Committed clients batch s mid o m
+  committed_take : (mid : StoreValue) (o m : Outside) → Committed clients batch s mid o m
       → (n place : ℕ) (its : List Item) (p : Spot) → p.doing ≡ Takes (item.One place r ∷ its)
       → p.facts ≡ s.state.facts
       → LinkWent clients n session p
-      (record { doing = Takes (items_after r its); link = link_after place r p.link; moved = p.moved; facts = mid.state.facts }) s mid o m
-  committed_take mid m commits n place its p takes same =
+      (behind_take r place its p mid.state.facts) s mid o m
+  committed_take mid o m commits n place its p takes same =
       let b : List Entry = next_take p.facts session r in
       let q_facts : after_all p.facts b ≡ mid.state.facts =
       ap (λ (f : Facts). after_all f b) same ∙ ap (after_all s.state.facts) (sym (is_take p same)) ∙ sym commits.facts in
-      subst (λ (f : Facts). LinkWent clients n session p (record { doing = Takes (items_after r its); link = link_after place r p.link; moved = p.moved; facts = f }) s mid o m)
+      subst (λ (f : Facts). LinkWent clients n session p (behind_take r place its p f) s mid o m)
       q_facts
       (link_takes clients n session place r its p takes (may_take p same) s mid o m
       (subst (λ (x : List Entry). Did clients (commit_acts (x ∷ [])) s mid o m) (is_take p same) commits.did))
 
-  pub record_taken : (mid s' : StoreValue) (m o' : Outside) → Committed clients batch s mid o m
+  pub record_taken : {mid s' : StoreValue} {o m o' : Outside} → Committed clients batch s mid o m
       → Settled clients mid s' m o' → RecordTaken clients session r s s' o o'
-  record_taken mid s' m o' commits settles = record {
+  record_taken {mid = mid} {s' = s'} {o = o} {m = m} {o' = o'} commits settles = record {
     settled = settles.settled;
     went = λ n place its p takes same.
-        let q : Spot = record { doing = Takes (items_after r its); link = link_after place r p.link; moved = p.moved; facts = mid.state.facts } in
+        let q : Spot = behind_take r place its p mid.state.facts in
         link_joins n
-        (committed_take mid m commits n place its p takes same)
+        (committed_take mid o m commits n place its p takes same)
         (link_settles clients n session q (items_after r its) mid s' m o' refl refl settles.by);
   }
 
-  pub record_stops_at_commit : (s' : StoreValue) (o' : Outside) (e : Fault)
+  pub record_stops_at_commit : {s' : StoreValue} {o o' : Outside} (e : Fault)
       → CommitStops clients batch s s' o o' e → RecordStopped clients session r s s' o o' e
-  record_stops_at_commit s' o' e stops = record {
+  record_stops_at_commit {s' = s'} {o = o} {o' = o'} e stops = record {
     stops = λ n place its p takes same.
         link_take_stops clients n session place r its p takes (may_take p same) s s' o o' e
         (subst (λ (x : List Entry). CommitStops clients x s s' o o' e) (is_take p same) stops);
   }
 
-  pub record_stops_at_settle : (mid s' : StoreValue) (m o' : Outside) (e : Fault)
-      → Committed clients batch s mid o m → SettleStops clients mid s' m o' e
+  pub record_stops_at_settle : {mid s' : StoreValue} {o m o' : Outside}
+      → Committed clients batch s mid o m → (e : Fault) → SettleStops clients mid s' m o' e
       → RecordStopped clients session r s s' o o' e
-  record_stops_at_settle mid s' m o' e commits stops = record {
+  record_stops_at_settle {mid = mid} {s' = s'} {o = o} {m = m} {o' = o'} commits e stops = record {
     stops = λ n place its p takes same.
-        let q : Spot = record { doing = Takes (items_after r its); link = link_after place r p.link; moved = p.moved; facts = mid.state.facts } in
+        let q : Spot = behind_take r place its p mid.state.facts in
         link_stops_then n (link_after place r p.link) s' o' e
-        (committed_take mid m commits n place its p takes same)
+        (committed_take mid o m commits n place its p takes same)
         (link_settle_stops clients n session q (items_after r its) mid s' m o' e refl refl stops);
   }
 
-  pub record_no_memory : IsReady clients s o.files
+  pub record_no_memory : {o : Outside} → IsReady clients s o.files
       → RecordStopped clients session r s s o o fault.Memory
-  record_no_memory ready = record {
+  record_no_memory {o = o} ready = record {
     stops = λ n place its p takes same.
         link_take_no_memory clients n session place r its p takes (may_take p same) s o ready;
   }

@@ -1,5 +1,7 @@
 -- What each call of a store or of a host did, as acts.
-use Rattle.std.proofs.Common.{◌≡◌, ◌≢◌, ℕ, ◌+◌, ◌*◌, ◌<◌, ◌≤◌, false, true, Bool, cond, nat_eq, eq-eqb, arith, List, [], ◌∷◌, ◌++◌, append-nil, length, take, refl, sym, ◌∙◌, ap, subst, inl, inr, Some, Result, Ok, Err, slice_index_or}
+use Rattle.std.proofs.Common.{ℕ, List, ◌++◌, take, drop, sym, ap, ◌∙◌, append_assoc, ◌≡◌, ◌≢◌, ◌+◌, ◌*◌, ◌<◌, ◌≤◌, false, true, Bool, cond, nat_eq, eq-eqb, arith, [], ◌∷◌, append-nil, length, refl, subst, inl, inr, Some, Ok, Err, slice_index_or}
+use Rattle.std.proofs.lemmas.List.{take-append-drop}
+use Rattle.outside.specs.Runs.{IsFront, TellsAll, sent_at}
 use Rattle.std.specs.Option.{option_map}
 use Rattle.std.proofs.lemmas.Bool.{cases_eq, ne_eqb}
 use Rattle.outside.specs.declared.failed.Failed.{Failed}
@@ -9,8 +11,7 @@ use Rattle.outside.specs.Files.{Two, File}
 use Rattle.outside.specs.Host.{SendsOnLink, SendsPart}
 use Rattle.outside.specs.Links.{Links, sent_of, with_sent}
 use Rattle.outside.specs.Outside.{DiskRun, LinkCall, MakesAtMost, Moment, Outside, QuietCall}
-use Rattle.outside.specs.Runs.{IsFront, TellsAll, sent_at}
-use Rattle.outside.proofs.RunLaws.{grow_send, quiet_moments, send_moments, sent_at-other, sent_at-with_sent, went_out}
+use Rattle.outside.proofs.RunLaws.{quiet_moments, send_moments, sent_at-other, sent_at-with_sent}
 use Rattle.sync_rules.specs.Clients.{Meaning}
 use Rattle.entry_codec.specs.Standing.{journal, room_of}
 use Rattle.sync_store.specs.Fitting.{FitsFiles, FitsSome, ImagesStand}
@@ -24,12 +25,18 @@ use Rattle.sync_course.proofs.ToldLaws.{told_broken, told_commits, told_sent}
 use Rattle.sync_node.specs.Batches.{Breaks}
 use Rattle.sync_node.specs.Courses.{FitsWith, ReadsAs, ReadsFront}
 use Rattle.sync_node.specs.Did.{ComesAtFronts, Did, DidSome, HasSentBy}
-use Rattle.sync_node.specs.Going.{LetsNothingFall, specs_of}
+use Rattle.sync_node.specs.Going.{LetsNothingFall}
 use Rattle.sync_node.specs.Output.{Journal, sent_on}
 use Rattle.sync_node.proofs.CourseLaws.{fits_grown, fits_on, quiet_most, reads_front}
 use Rattle.sync_node.proofs.DidLaws.{did_none, since_none}
-use Rattle.sync_node.proofs.Fronts.{front_taken}
-use Rattle.sync_node.proofs.SafeLaws.{goes_led, goes_link, specs_told}
+use Rattle.sync_node.proofs.WorkLaws.{goes_sent}
+use Rattle.sync_node.proofs.SafeLaws.{goes_led}
+
+pub front_taken : {A : Type 0} (n : ℕ) (a b : List A) → IsFront (a ++ take n b) (a ++ b)
+front_taken n a b = record {
+  rest = drop n b;
+  whole = ap (λ l. a ++ l) (sym (take-append-drop n b)) ∙ sym (append_assoc a (take n b) (drop n b));
+}
 
 -- ---- batches that were committed
 
@@ -224,12 +231,11 @@ front_on link i count bytes = by (nat_eq link i)
     by true = front_taken count [] bytes
     by false = record { rest = []; whole = refl }
 
-on_link : (link : ℕ) (bytes : List ℕ) → cond (nat_eq link link) bytes [] ≡ bytes
-on_link link bytes = ap (λ (b : Bool). cond b bytes []) (eq-eqb link link refl)
+pub on_link : {A : Type 0} (a b : ℕ) (xs : List A) → a ≡ b → cond (nat_eq a b) xs [] ≡ xs
+on_link a b xs same = ap (λ (t : Bool). cond t xs []) (eq-eqb a b same)
 
-off_link : (link i : ℕ) (bytes : List ℕ) → i ≢ link → cond (nat_eq link i) bytes [] ≡ []
-off_link link i bytes other =
-    ap (λ (b : Bool). cond b bytes []) (ne_eqb link i (λ same. other (sym same)))
+pub off_link : {A : Type 0} (a b : ℕ) (xs : List A) → a ≢ b → cond (nat_eq a b) xs [] ≡ []
+off_link a b xs apart = ap (λ (t : Bool). cond t xs []) (ne_eqb a b apart)
 
 -- the bytes of one link, and those of another
 by_link : (link i : ℕ) (at before : ℕ → List ℕ) (bytes : List ℕ)
@@ -238,10 +244,10 @@ by_link : (link i : ℕ) (at before : ℕ → List ℕ) (bytes : List ℕ)
 by_link link i at before bytes here others = elim (cases_eq i link) [
   | inl is ↦
       subst (λ (k : ℕ). at k ≡ before k ++ cond (nat_eq link k) bytes []) (sym is)
-      (here ∙ ap (λ (l : List ℕ). before link ++ l) (sym (on_link link bytes)))
+      (here ∙ ap (λ (l : List ℕ). before link ++ l) (sym (on_link link link bytes refl)))
   | inr other ↦
       others i other ∙ sym (append-nil (before i))
-      ∙ ap (λ (l : List ℕ). before i ++ l) (sym (off_link link i bytes other))
+      ∙ ap (λ (l : List ℕ). before i ++ l) (sym (off_link link i bytes (λ same. other (sym same))))
 ]
 
 module _ (stand : ImagesStand) (clients : Meaning) (link : ℕ) (bytes : List ℕ) (s : StoreValue)
@@ -287,13 +293,6 @@ module _ (stand : ImagesStand) (clients : Meaning) (link : ℕ) (bytes : List �
       (λ k other. ap (λ t. sent_at t k) went ∙ sent_at-other o.links.told link gone k other)
       ∙ ap (λ (l : List ℕ). sent_on o.links i ++ l) (sym (append-nil (cond (nat_eq link i) gone [])))
 
-  goes_out : (result : Result (Unit {0}) Failed) → SendsOnLink link bytes result o.links o'.links
-      → LetsNothingFall o o'
-  goes_out result sends =
-      let out = went_out link bytes result o.links o'.links sends in
-      goes_link _ o o' call (grow_send link bytes result o.links o'.links sends) sends.same_dialled
-      (ap specs_of out.1 ∙ specs_told link (take out.0 bytes) o.links.told)
-
   none_behind : (j : Journal) → FitsWith clients s o.files j → FitsWith clients s o'.files (j ++ [])
   none_behind j fit =
       subst (λ (k : Journal). FitsWith clients s o'.files k) (sym (append-nil j))
@@ -303,7 +302,7 @@ module _ (stand : ImagesStand) (clients : Meaning) (link : ℕ) (bytes : List �
   pub did_send : (u : Unit {0}) → SendsOnLink link bytes (Ok u) o.links o'.links
       → Did clients (Send link bytes ∷ []) s s o o'
   did_send u sends = record {
-    goes = goes_out (Ok u) sends;
+    goes = goes_sent link bytes (Ok u) o o' call sends;
     tells = told_sent link bytes o o' sends;
     sent = out_by bytes sends.sent;
     limit = refl;
@@ -317,7 +316,7 @@ module _ (stand : ImagesStand) (clients : Meaning) (link : ℕ) (bytes : List �
   pub did_fail : (why : Failed) (sends : SendsOnLink link bytes (Err why) o.links o'.links)
       → Did clients (Fail link bytes sends.sent.0 ∷ []) s s o o'
   did_fail why sends = record {
-    goes = goes_out (Err why) sends;
+    goes = goes_sent link bytes (Err why) o o' call sends;
     tells = told_broken link bytes why o o' sends;
     sent = out_by (take sends.sent.0 bytes) sends.sent.1;
     limit = refl;

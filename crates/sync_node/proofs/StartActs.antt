@@ -1,10 +1,10 @@
 -- A session that begins on the next link, as acts of a run.
-use Rattle.std.proofs.Common.{◌≡◌, ◌≢◌, ◌⊎◌, ℕ, ◌+◌, ◌<◌, ◌≤◌, Bool, cond, nat_eq, eq-eqb, List, [], ◌∷◌, ◌++◌, append-nil, length, refl, sym, ◌∙◌, ap, subst, inl, inr, arith, Some, Result, Ok, Err}
-use Rattle.std.specs.Prelude.{slice_get}
+use Rattle.std.proofs.Common.{◌≡◌, ◌≢◌, ◌⊎◌, ℕ, ◌+◌, ◌<◌, ◌≤◌, Bool, cond, nat_eq, eq-eqb, List, [], ◌∷◌, ◌++◌, append-nil, length, refl, sym, ◌∙◌, ap, subst, inl, inr, arith, Some, Result, Ok, Err, false, true}
+use Rattle.std.specs.Prelude.{IfErr, IfSome, IsErrAnd, OnErr, slice_get, OnOk}
 use Rattle.std.proofs.lemmas.Bool.{ne_eqb}
 use Rattle.entry_codec.specs.Standing.{room_of}
 use Rattle.outside.specs.declared.failed.Failed.{Failed}
-use Rattle.outside.specs.declared.limits.TheConstants.{MAX_JOURNAL}
+use Rattle.outside.specs.declared.limits.TheConstants.{MAX_JOURNAL, LINKS}
 use Rattle.outside.specs.Host.{SendsOnLink}
 use Rattle.outside.specs.Outside.{Outside}
 use Rattle.outside.proofs.RunLaws.{front_same}
@@ -14,38 +14,52 @@ use Rattle.sync_rules.specs.declared.entries.Entry.{Entry}
 use Rattle.sync_rules.specs.declared.entries.Session.{Session}
 use Rattle.sync_rules.specs.Clients.{Meaning}
 use Rattle.sync_rules.specs.Facts.{Facts, after_all, session_at}
-use Rattle.sync_rules.specs.Growth.{output_in}
-use Rattle.sync_rules.specs.Legal.{Allowed}
+use Rattle.sync_rules.specs.Legal.{Allowed, suits_nonce}
 use Rattle.sync_rules.specs.Output.{first_records}
 use Rattle.sync_store.specs.Fitting.{ImagesStand}
 use Rattle.sync_store.specs.Ready.{IsReady}
 use Rattle.sync_store.specs.Store.{StoreValue, written_in}
 use Rattle.sync_course.specs.Acts.{Act, Does, Fail, Send, commit_acts}
 use Rattle.sync_course.specs.Events.{Commit}
-use Rattle.sync_course.specs.Links as course_links
 use Rattle.sync_course.specs.Owing.{Owing, adds_to, paid}
 use Rattle.sync_course.specs.Paths.{Path}
 use Rattle.sync_course.specs.Reading.{HasRead}
 use Rattle.sync_course.specs.Turns.{Attaches, Greets, Place, Terms, attached, unattached}
-use Rattle.sync_course.specs.declared.ends.LinkEnd.TheVariants as link_end
+use Rattle.sync_course.specs.Links.{link_of}
+use Rattle.sync_course.specs.declared.ends.LinkEnd.{LinkEnd}
 use Rattle.sync_course.proofs.ReadingLaws.{fresh_has_read}
 use Rattle.sync_course.proofs.RunLaws.{get_push_cases}
 use Rattle.sync_node.specs.declared.fault.Fault.{Fault}
-use Rattle.sync_node.specs.declared.fault.Fault.TheVariants as fault
 use Rattle.sync_node.specs.declared.link.Link.{Link}
-use Rattle.sync_node.specs.Batches.{CommitStops, Committed}
-use Rattle.sync_node.specs.Courses.{IsLinkRead, attaching_at, link_at, links_from, place_at}
+use Rattle.sync_node.specs.Batches.{CommitStops, Committed, IsUndoneBy}
+use Rattle.sync_node.specs.Courses.{IsLinkRead, link_at, links_from, place_at, place_with}
 use Rattle.sync_node.specs.Did.{Did}
-use Rattle.sync_node.specs.OnRuns.{BeginStopped, BeginWent, GreetsBy, IsGreeting, RunActs, RunStopped, RunWent, StartStopped, StartWent, StartWentLast}
+use Rattle.sync_node.specs.OnRuns.{BeginStopped, BeginWent, GreetsBy, IsGreeting, RunActs, RunStopped, RunWent, StartStopped, StartWent, StartWentLast, StartWorks}
+use Rattle.sync_node.specs.Keeps.{stop_of}
 use Rattle.sync_node.specs.Sending.{EndsBy, SendsOn}
+use Rattle.sync_node.specs.Starting.{HasBegun}
 use Rattle.sync_node.proofs.CourseRuns.{length_from}
-use Rattle.sync_node.proofs.CourseStart.{begins_as, begun_is, is_free, push_from}
 use Rattle.sync_node.proofs.DidLaws.{did_then}
-use Rattle.sync_node.proofs.KeepLaws.{greeted_reader}
-use Rattle.sync_node.proofs.OutLaws.{all_paid}
-use Rattle.sync_node.proofs.PrimLaws.{did_fail, did_send}
-use Rattle.sync_node.proofs.StartLaws.{session_batch}
+use Rattle.sync_node.proofs.KeepLaws.{commit_left, start_stops as leaves_by, stays_none, was}
+use Rattle.sync_node.proofs.OutLaws.{all_paid, still_so}
+use Rattle.sync_node.proofs.PrimLaws.{did_fail, did_send, off_link, on_link}
+use Rattle.sync_node.proofs.SafeLaws.{goes_none}
+use Rattle.sync_node.proofs.StartLaws.{begins_as, begun_is, is_free, push_from, session_batch}
 use Rattle.sync_node.proofs.WentLaws.{commit_stopped, no_memory}
+use Rattle.std.proofs.lemmas.List.{length-append}
+use Rattle.sync_rules.proofs.Continuing.{continues_all}
+use Rattle.sync_rules.specs.declared.limits.TheConstants.{MAX_SESSIONS}
+use Rattle.sync_rules.specs.Steps.{IsSettled}
+use Rattle.sync_node.specs.Going.{LetsNothingFall}
+use Rattle.sync_node.specs.Causes.{LinksGo, PushesOne}
+use Rattle.sync_node.specs.Faults.{answer_of, has_failed}
+use Rattle.sync_node.specs.Node.{AreAttached, IsAttached, IsNode, MayGoOn, NodeValue}
+use Rattle.sync_node.proofs.CallLaws.{never}
+use Rattle.sync_node.proofs.CauseLaws.{links_go_push, links_go_same}
+use Rattle.sync_course.specs.Links as course_links
+use Rattle.sync_course.specs.declared.ends.LinkEnd.TheVariants as link_end
+use Rattle.sync_node.specs.declared.fault.NodeFault.{NodeFault}
+use Rattle.sync_node.specs.declared.fault.Fault.TheVariants as fault
 
 -- ---- a greeting
 
@@ -60,12 +74,14 @@ greeted_once stand n first second l l' o o' within sends over =
     by_result (Ok u) went ends = record {
       acts = Send n first ∷ [];
       is = inl (refl, over ends, ends);
+      sent = inl ends;
       same_files = sends.call.same_files;
       did = λ clients s roomy. did_send stand clients n first s o o' roomy within sends.call u went;
     }
     by_result (Err why) went ends = record {
       acts = Fail n first went.sent.0 ∷ [];
       is = inr (inr (inl (went.sent.0, refl, ends)));
+      sent = inr ends;
       same_files = sends.call.same_files;
       did = λ clients s roomy. did_fail stand clients n first s o o' roomy within sends.call why went;
     }
@@ -83,44 +99,40 @@ greeted_twice stand n first second l mid l' o o1 o' within within1 unfailed one 
     by_results (Ok u) (Ok v) went ends went' ends' = record {
       acts = Send n first ∷ (Send n second ∷ []);
       is = inr (inl (refl, ends' ∙ ends));
+      sent = inl (ends' ∙ ends);
       same_files = two.call.same_files ∙ one.call.same_files;
       did = λ clients s roomy.
           did_then
           (did_send stand clients n first s o o1 roomy within one.call u went)
           (did_send stand clients n second s o1 o' roomy within1 two.call v went');
     }
-    by_results (Ok u) (Err why) went ends went' ends' = record {
-      acts = Send n first ∷ (Fail n second went'.sent.0 ∷ []);
-      is = inr (inr (inr (went'.sent.0, refl, ends' ∙ ap (λ (x : Link). record x { end = link_end.Failed }) ends)));
-      same_files = two.call.same_files ∙ one.call.same_files;
-      did = λ clients s roomy.
-          did_then
-          (did_send stand clients n first s o o1 roomy within one.call u went)
-          (did_fail stand clients n second s o1 o' roomy within1 two.call why went');
-    }
+    by_results (Ok u) (Err why) went ends went' ends' =
+        let failed : l' ≡ record l { end = link_end.Failed } =
+        ends' ∙ ap (λ (x : Link). record x { end = link_end.Failed }) ends in
+        record {
+          acts = Send n first ∷ (Fail n second went'.sent.0 ∷ []);
+          is = inr (inr (inr (went'.sent.0, refl, failed)));
+          sent = inr failed;
+          same_files = two.call.same_files ∙ one.call.same_files;
+          did = λ clients s roomy.
+              did_then
+              (did_send stand clients n first s o o1 roomy within one.call u went)
+              (did_fail stand clients n second s o1 o' roomy within1 two.call why went');
+        }
     by_results (Err why) b went ends went' ends' = absurd (unfailed (ap (λ (x : Link). x.end) ends))
 
 -- ---- what is owed by a session that begins
-
-begins_own : (f : Facts) (x : Session) (number : ℕ) → x.number ≡ number
-    → output_in f number (session_batch x) ≡ first_records x
-begins_own f x number same =
-    append-nil _ ∙ ap (λ b. cond b (first_records x) []) (eq-eqb x.number number same)
-
-begins_none : (f : Facts) (x : Session) (number : ℕ) → x.number ≢ number
-    → output_in f number (session_batch x) ≡ []
-begins_none f x number apart =
-    append-nil _ ∙ ap (λ b. cond b (first_records x) []) (ne_eqb x.number number apart)
 
 module _ (clients : Meaning) (x : Session) (s : StoreValue) (o : Outside) (batch : List Entry) (is : batch ≡ session_batch x)
     (allowed : Allowed clients s.state.facts (session_batch x)) where
   module _ (terms : Terms) (left : List Session) (links : List course_links.Link) (moved : Bool)
       (still made : ℕ) where
     abbrev before_at : Place
-    before_at = attaching_at (x ∷ left) links moved still made s.state.facts
+    before_at = place_with (Attaches (x ∷ left)) links moved still made s.state.facts
 
     abbrev greets_at : Place
-    greets_at = record { stage = Greets x left; links = links; moved = moved; still = still; made = made; facts = after_all s.state.facts (session_batch x) }
+    greets_at =
+        place_with (Greets x left) links moved still made (after_all s.state.facts (session_batch x))
 
     abbrev owing_greeting : Owing Place
     owing_greeting = record { at = greets_at; owed = adds_to s.state.facts terms.first (Commit (session_batch x)) }
@@ -139,12 +151,13 @@ module _ (clients : Meaning) (x : Session) (s : StoreValue) (o : Outside) (batch
     module _ (n : ℕ) (long : length links ≡ n) (numbered : x.number ≡ terms.first + n)
         (first second : List ℕ) (bytes : first ++ second ≡ spelled (first_records x)) where
       owed_here : adds_to s.state.facts terms.first (Commit (session_batch x)) n ≡ first ++ second
-      owed_here = ap spelled (begins_own s.state.facts x (terms.first + n) numbered) ∙ sym bytes
+      owed_here = ap spelled (append-nil _ ∙ on_link x.number (terms.first + n) (first_records x) numbered) ∙ sym bytes
 
       owed_off : (link : ℕ) → link ≢ n
           → adds_to s.state.facts terms.first (Commit (session_batch x)) link ≡ []
       owed_off link other =
-          ap spelled (begins_none s.state.facts x (terms.first + link) (λ same. other (omega (arith, same, numbered))))
+          ap spelled (append-nil _ ∙ off_link x.number (terms.first + link) (first_records x)
+          (λ same. other (omega (arith, same, numbered))))
 
       -- the second part is owed still
       abbrev owing_second : Owing Place
@@ -232,25 +245,49 @@ module _ (clients : Meaning) (x : Session) (s : StoreValue) (o : Outside) (batch
               (greets.did clients s1 roomy);
         }
 
-        pub starts_there : RunWent clients terms before_at (attaching_at left (links ++ link_at l [] ∷ []) moved still made s1.state.facts) s s1 o o2
-        starts_there =
-            subst (λ (f : Facts). RunWent clients terms before_at (attaching_at left (links ++ link_at l [] ∷ []) moved still made f) s s1 o o2) facts_are
-            (elim (greets_by _ l greets.acts greets.is) [
-              | inl went ↦
-                  subst (λ (q : Place). RunWent clients terms before_at q s s1 o o2)
-                  (begins_as clients x s o batch is allowed terms left links moved still made begun reader same l link_end.Going (after_all s.state.facts (session_batch x)) went.0)
-                  (goes_by (attached x left greets_at) went.1)
-              | inr failed ↦
-                  subst (λ (q : Place). RunWent clients terms before_at q s s1 o o2)
-                  (begins_as clients x s o batch is allowed terms left links moved still made begun reader same l link_end.Failed (after_all s.state.facts (session_batch x)) failed.0)
-                  (goes_by (unattached x left greets_at) failed.1)
-            ])
+        -- the link behind the others, once the greeting is over
+        ended_so : (e : LinkEnd)
+            → l ≡ record { session = begun; reader = reader; nonce = begun.nonce; end = e }
+            → Path (RunActs clients terms) owing_greeting greets.acts
+            (paid (record greets_at { stage = Attaches left; links = links ++ link_of x e ∷ [] }))
+            → RunWent clients terms before_at
+            (place_with (Attaches left) (links ++ link_at l [] ∷ []) moved still made s1.state.facts)
+            s s1 o o2
+        ended_so e is_l path =
+            subst (λ (f : Facts). RunWent clients terms before_at
+            (place_with (Attaches left) (links ++ link_at l [] ∷ []) moved still made f) s s1 o o2)
+            facts_are
+            (subst (λ (k : course_links.Link). RunWent clients terms before_at
+            (record greets_at { stage = Attaches left; links = links ++ k ∷ [] }) s s1 o o2)
+            (begins_as same is_l) (goes_by _ path))
+
+        pub starts_there : RunWent clients terms before_at
+            (place_with (Attaches left) (links ++ link_at l [] ∷ []) moved still made s1.state.facts)
+            s s1 o o2
+        starts_there = elim (greets_by _ l greets.acts greets.is) [
+          | inl went ↦ ended_so link_end.Going went.0 went.1
+          | inr failed ↦ ended_so link_end.Failed failed.0 failed.1
+        ]
 
   pub start_stopped : (s' : StoreValue) (o' : Outside) (e : Fault)
       → CommitStops clients batch s s' o o' e → StartStopped clients x s s' o o' e
   start_stopped s' o' e stops = record {
     stops = λ terms left links moved still made. start_stops terms left links moved still made s' o' e stops;
   }
+
+  -- by the commit
+  pub starts_broke : {H : Type 0} (s' : StoreValue) (host host' : H) (o' : Outside) (e : Fault)
+      → CommitStops clients batch s s' o o' e → IsUndoneBy s s' host host' e
+      → StartWorks clients x s s' host host' o o' (Some e)
+  starts_broke s' host host' o' e stops undone =
+      let left = commit_left clients batch s s' o o' e stops in
+      record {
+        goes = left.goes;
+        same_limit = left.same_limit;
+        same_format = left.same_format;
+        stopped = start_stopped s' o' e stops;
+        stops = leaves_by clients batch s s' host host' o o' e stops undone;
+      }
 
   pub start_went : (n : ℕ) (first second : List ℕ) (begun : Session) (reader : ReaderState)
       (l : Link) (s1 : StoreValue) (o1 o2 : Outside) → IsReady clients s o.files
@@ -260,27 +297,49 @@ module _ (clients : Meaning) (x : Session) (s : StoreValue) (o : Outside) (batch
       → Some begun ≡ session_at s1.state.facts.sessions x.number
       → reader ≡ fresh → AwaitsBytes fresh
       → GreetsBy n first second (record { session = begun; reader = reader; nonce = begun.nonce; end = link_end.Going }) l o1 o2
-      → StartWent clients n x l s s1 o o2
-  start_went n first second begun reader l s1 o1 o2 ready commits roomy bytes found is_fresh awaits greets =
+      → HasBegun clients n x l s s1 o o2 → StartWent clients n x l s s1 o o2
+  start_went n first second begun reader l s1 o1 o2 ready commits roomy bytes found is_fresh awaits greets has =
       let as_is : s1.state.facts ≡ after_all s.state.facts (session_batch x) = commits.facts ∙ ap (λ (b : List Entry). after_all s.state.facts b) is in
       record {
+        begun = has;
         facts = as_is;
-        has_read = λ going. subst (λ (r : ReaderState). HasRead [] r)
-            (sym (greeted_reader n first second _ l greets.acts greets.is ∙ is_fresh))
-            (fresh_has_read awaits awaits.nothing);
+        has_read =
+            still_so (HasRead []) _ l greets.sent
+            (λ _. subst (λ (r : ReaderState). HasRead [] r) (sym is_fresh)
+            (fresh_has_read awaits awaits.nothing));
         went = λ two told terms left links moved still made long numbered.
             let some = ready.fits two told in
             let same : begun ≡ x = begun_is s.state.facts s1.state.facts x begun (is_free clients s.state.facts x some.0 some.1.legal some.1.facts_are allowed) as_is found in
             starts_there terms left links moved still made n long numbered first second bytes s1 o1 o2 commits roomy begun reader same l greets;
       }
 
-pub start_no_memory : (clients : Meaning) (x : Session) (s : StoreValue) (o : Outside)
-    → IsReady clients s o.files → StartStopped clients x s s o o fault.Memory
-start_no_memory clients x s o ready = record {
-  stops = λ terms left links moved still made.
-      no_memory clients (RunActs clients terms) (λ (q : Owing Place). q.at.links ≡ links)
-      (paid (attaching_at (x ∷ left) links moved still made s.state.facts)) s o ready (inl refl);
-}
+-- a fault that was handed on
+pub starts_was : {H T : Type 0} {clients : Meaning} {x : Session} {s s' : StoreValue} {host host' : H}
+    {o o' : Outside} (r : Result T Fault) (e : Fault) → IsErrAnd r (λ y. y ≡ e)
+    → StartWorks clients x s s' host host' o o' (Some e)
+    → StartWorks clients x s s' host host' o o' (stop_of r)
+starts_was {T = T} {clients = clients} {x = x} {s = s} {s' = s'} {host = host} {host' = host'} {o =
+    o} {o' = o'} r e is works =
+    was r e (λ (y : Result T Fault). StartWorks clients x s s' host host' o o' (stop_of y)) is works
+
+-- memory was wanting before anything was done
+pub starts_memory : {H T : Type 0} {clients : Meaning} {x : Session} {s : StoreValue} {host : H}
+    {o : Outside} (r : Result T Fault) → IsErrAnd r (λ y. y ≡ fault.Memory)
+    → IsReady clients s o.files → StartWorks clients x s s host host o o (stop_of r)
+starts_memory {clients = clients} {x = x} {s = s} {o = o} r is ready =
+    starts_was r fault.Memory is (record {
+      goes = goes_none o;
+      same_limit = refl;
+      same_format = refl;
+      stopped = record {
+        stops = λ terms left links moved still made.
+            no_memory clients (RunActs clients terms) (λ (q : Owing Place). q.at.links ≡ links)
+            (paid (place_with (Attaches (x ∷ left)) links moved still made s.state.facts)) s o ready
+            (inl refl);
+      };
+      stops =
+          record { ready = ready; undone = record { stays = stays_none s; same_host = refl } };
+    })
 
 -- ---- behind the links of a node
 
@@ -314,16 +373,18 @@ module _ (clients : Meaning) (x y : Session) (is : x ≡ y) (links : List Link) 
             (λ (ls : List course_links.Link).
             RunWent clients terms
             (place_at (Attaches (x ∷ left)) links heard moved still made s.state.facts)
-            (attaching_at left ls moved still made s'.state.facts) s s' o o')
+            (place_with (Attaches left) ls moved still made s'.state.facts) s s' o o')
             ends
             (behind.starts.went two told terms left (links_from 0 links heard) moved still made
             (length_from 0 links heard ∙ last)
             (numbered ∙ ap (λ (k : ℕ). terms.first + k) last));
       })
 
-  pub begin_stopped : (links' : List Link) (s' : StoreValue) (e : Fault) → links' ≡ links
-      → StartStopped clients x s s' o o' e → BeginStopped clients y links links' s s' o o' e
-  begin_stopped links' s' e same stopped =
+  pub begin_stopped : {T : Type 0} (links' : List Link) (s' : StoreValue) (work : Result T Fault)
+      → OnErr work (links' ≡ links) → IfSome (stop_of work) (StartStopped clients x s s' o o')
+      → IfErr work (BeginStopped clients y links links' s s' o o')
+  begin_stopped links' s' (Ok u) same stopped = tt
+  begin_stopped links' s' (Err e) same stopped =
       subst (λ (z : Session). BeginStopped clients z links links' s s' o o' e) is (record {
         stops = λ terms left heard moved still made.
             subst (λ (ls : List Link).
@@ -332,3 +393,105 @@ module _ (clients : Meaning) (x y : Session) (is : x ≡ y) (links : List Link) 
             (links_from 0 ls heard) s s' o o' e)
             (sym same) (stopped.stops terms left (links_from 0 links heard) moved still made);
       })
+
+-- a session of a plan may begin
+pub plan_allowed : (clients : Meaning) (f : Facts) (x : Session) → IsSettled clients f
+    → x.number ≡ f.begun → f.begun < MAX_SESSIONS → x.contact < f.contacts → 1 ≤ x.latency
+    → suits_nonce x.mode x.nonce ≡ true
+    → Allowed clients f (session_batch x)
+plan_allowed clients f x settled number few contact latency nonce = (
+  refl,
+  settled,
+  record {
+    numbered = number;
+    few = subst (λ (n : ℕ). n < MAX_SESSIONS) (sym number) few;
+    known_contact = contact;
+    some_latency = latency;
+    suited_nonce = nonce;
+  },
+)
+
+module _ (clients : Meaning) (first link : ℕ) (x : Session) (links : List Link) (l : Link)
+    (s s' : StoreValue) (o o' : Outside) (attached : AreAttached first links s.state.facts)
+    (number : x.number ≡ s.state.facts.begun) (last : length links ≡ link)
+    (facts : s'.state.facts ≡ after_all s.state.facts (session_batch x))
+    (begun : HasBegun clients link x l s s' o o') where
+  attached_push : AreAttached first (links ++ l ∷ []) s'.state.facts
+  attached_push = record {
+    begun =
+        let one : s'.state.facts.begun ≡ s.state.facts.begun + 1 = ap (λ (f : Facts). f.begun) facts in
+        let long : length (links ++ l ∷ []) ≡ length links + 1 = length-append links (l ∷ []) in
+        omega (arith, one, long, attached.begun);
+    each = λ n y there. elim (get_push_cases links l n y there) [
+      | inl here ↦
+          let was = attached.each n y here in
+          record {
+            numbered = was.numbered;
+            known = ap (λ (f : Facts). session_at f.sessions y.session.number) facts
+                ∙ (continues_all s.state.facts (session_batch x)).same_session y.session.number y.session was.known;
+            waits = was.waits;
+          }
+      | inr end ↦
+          let mine : IsAttached first s'.state.facts link l = record {
+            numbered = omega (arith, begun.numbered, number, attached.begun, last);
+            known = begun.known;
+            waits = begun.waits;
+          } in
+          subst (λ (k : ℕ). IsAttached first s'.state.facts k y) (sym (end.0 ∙ last))
+          (subst (λ (z : Link). IsAttached first s'.state.facts link z) (sym end.1) mine)
+    ];
+  }
+
+-- ---- what a call that is to begin a session came to
+
+pub record AttachComes (clients : Meaning) (n n' : NodeValue) (o o' : Outside)
+    (work : Result (Unit {0}) Fault) : Type 0 where
+  pub node : IsNode n'
+  pub go : LinksGo n.links n'.links o o'
+  pub pushes : (result : Result (Unit {0}) NodeFault) → result ≡ answer_of work
+      → PushesOne result n.links n'.links
+  pub may : OnOk work (MayGoOn clients n'.links n'.store o')
+
+module _ (clients : Meaning) (n n' : NodeValue) (link : ℕ) (x : Session) (o o' : Outside)
+    (node : IsNode n) (opened : n.closed ≡ false) (number : x.number ≡ n.store.state.facts.begun)
+    (last : length n.links ≡ link) (few : link < LINKS) (dialled : link < o.links.dialled)
+    (first : n'.first ≡ n.first) (goes : LetsNothingFall o o') where
+  pub attach_comes : (work : Result (Unit {0}) Fault) → n'.closed ≡ has_failed work
+      → OnOk work (StartWentLast clients link x n.links n'.links n.store n'.store o o')
+      → OnErr work (n'.links ≡ n.links) → AttachComes clients n n' o o' work
+  attach_comes (Ok u) closed behind same =
+      let longer : length n'.links ≡ length n.links + 1 =
+      ap (λ (ls : List Link). length ls) behind.pushed
+      ∙ length-append n.links (behind.link ∷ []) in
+      record {
+        node = record {
+          few = omega (arith, longer, last, few);
+          attached = λ _.
+              subst (λ (k : ℕ). AreAttached k n'.links n'.store.state.facts) (sym first)
+              (subst (λ (ls : List Link). AreAttached n.first ls n'.store.state.facts)
+              (sym behind.pushed)
+              (attached_push clients n.first link x n.links behind.link n.store n'.store o o'
+              (node.attached opened) number last behind.starts.facts behind.starts.begun));
+        };
+        go =
+            links_go_push link n.links n'.links behind.link o o' last behind.pushed goes
+            behind.starts.begun.cause;
+        pushes = λ result is.
+            subst (λ (r : Result (Unit {0}) NodeFault). PushesOne r n.links n'.links) (sym is)
+            (behind.link, behind.pushed);
+        may = record {
+          ready = behind.starts.begun.ready;
+          settled = λ _. behind.starts.begun.settled;
+          dialled = omega (arith, dialled, last, longer, goes.links.dialled);
+        };
+      }
+  attach_comes (Err e) closed behind same = record {
+    node = record {
+      few = omega (arith, ap (λ (ls : List Link). length ls) same, node.few);
+      attached = never n'.closed closed;
+    };
+    go = links_go_same n.links n'.links o o' same goes;
+    pushes = λ result is.
+        subst (λ (r : Result (Unit {0}) NodeFault). PushesOne r n.links n'.links) (sym is) same;
+    may = tt;
+  }

@@ -1,11 +1,12 @@
 -- Work on a link: one piece of it after another, and what each call does.
-use Rattle.std.proofs.Common.{◌≡◌, ◌≢◌, ℕ, List, sym, ap, ◌∙◌, subst, arith, Option, Result, Ok, Err, OnOk}
+use Rattle.std.proofs.Common.{◌≡◌, ◌≢◌, ℕ, List, sym, ap, ◌∙◌, subst, arith, Option, take, Result}
 use Rattle.outside.specs.declared.host.Heard.{Heard}
 use Rattle.outside.specs.Files.{Two, File}
-use Rattle.outside.specs.Host.{HearsAnswer, ReadsClock}
+use Rattle.outside.specs.declared.failed.Failed.{Failed}
+use Rattle.outside.specs.Host.{HearsAnswer, ReadsClock, SendsOnLink}
 use Rattle.outside.specs.Outside.{LinkCall, Moment, Outside, QuietCall}
 use Rattle.outside.proofs.CallSteps.{calls_then, told_on}
-use Rattle.outside.proofs.RunLaws.{grow_hear, grow_read, grow_then}
+use Rattle.outside.proofs.RunLaws.{grow_hear, grow_read, grow_send, grow_then, went_out}
 use Rattle.sync_rules.specs.declared.entries.Session.{Session}
 use Rattle.sync_rules.specs.Clients.{Meaning}
 use Rattle.sync_store.specs.Ready.{IsReady}
@@ -16,11 +17,7 @@ use Rattle.record_grammar.specs.declared.stream.Ending.{Ending}
 use Rattle.record_grammar.specs.declared.stream.Ending.TheVariants as ending_kind
 use Rattle.sync_node.specs.Going.{LetsNothingFall, specs_of}
 use Rattle.sync_node.specs.Working.{IsAble}
-use Rattle.sync_node.proofs.SafeLaws.{goes_link}
-
-pub on_ok : {T E : Type 0} (r : Result T E) (P Q : Type 0) → (P → Q) → OnOk r P → OnOk r Q
-on_ok (Ok _) P Q then p = then p
-on_ok (Err _) P Q then p = tt
+use Rattle.sync_node.proofs.SafeLaws.{goes_link, specs_told}
 
 pub goes_then : (o o1 o2 : Outside) → LetsNothingFall o o1 → LetsNothingFall o1 o2 → LetsNothingFall o o2
 goes_then o o1 o2 first second = record {
@@ -39,6 +36,14 @@ pub goes_heard : (link : ℕ) (answer : Heard) (buf : List ℕ) (o o' : Outside)
     → HearsAnswer link answer buf o.links o'.links → LetsNothingFall o o'
 goes_heard link answer buf o o' call hears =
     goes_link _ o o' call (grow_hear link answer buf o.links o'.links hears) hears.same_dialled (ap specs_of hears.same_told)
+
+pub goes_sent : {during : Moment → Type 0} (link : ℕ) (bytes : List ℕ)
+    (result : Result (Unit {0}) Failed) (o o' : Outside) → LinkCall during o o'
+    → SendsOnLink link bytes result o.links o'.links → LetsNothingFall o o'
+goes_sent link bytes result o o' call sends =
+    let out = went_out link bytes result o.links o'.links sends in
+    goes_link _ o o' call (grow_send link bytes result o.links o'.links sends) sends.same_dialled
+    (ap specs_of out.1 ∙ specs_told link (take out.0 bytes) o.links.told)
 
 pub goes_read : (reading : ℕ) (o o' : Outside) → QuietCall o o'
     → ReadsClock reading o.links o'.links → LetsNothingFall o o'

@@ -1,5 +1,8 @@
 -- What came of a batch that was to be committed, and of settling.
 use Rattle.std.specs.Prelude.{◌≡◌, ◌≢◌, ◌<◌, List, [], ◌∷◌, ◌++◌}
+use Rattle.sync_store.specs.Commits.{KeepsStore, needed}
+use Rattle.sync_store.specs.Store.{StoreValue}
+use Rattle.sync_node.specs.declared.fault.Fault.{Fault}
 use Rattle.outside.specs.Faults.{CountRose}
 use Rattle.outside.specs.Outside.{Outside}
 use Rattle.sync_rules.specs.declared.entries.Entry.{Entry}
@@ -7,15 +10,22 @@ use Rattle.sync_rules.specs.Clients.{Meaning}
 use Rattle.sync_rules.specs.Facts.{after_all, after_batches}
 use Rattle.sync_rules.specs.Legal.{AllSettling}
 use Rattle.sync_rules.specs.Steps.{IsSettled}
-use Rattle.sync_store.specs.Commits.{needed}
 use Rattle.sync_store.specs.Ready.{IsReady}
 use Rattle.sync_store.specs.Runs.{AddsBatch}
-use Rattle.sync_store.specs.Store.{StoreValue}
 use Rattle.sync_course.specs.Acts.{commit_acts}
-use Rattle.sync_node.specs.declared.fault.Fault.{Fault}
-use Rattle.sync_node.specs.declared.fault.Fault.TheVariants as fault
 use Rattle.sync_node.specs.Did.{Did, DidSome}
 use Rattle.sync_node.specs.Output.{Journal}
+use Rattle.sync_node.specs.declared.fault.Fault.TheVariants as fault
+
+-- the store is as before in all that contracts ask of it, and the host is the same
+pub record IsUndone {H : Type 0} (s s' : StoreValue) (host host' : H) : Type 0 where
+  pub stays : KeepsStore s s'
+  pub same_host : host' ≡ host
+
+abbrev pub IsUndoneBy : {H : Type 0} → StoreValue → StoreValue → H → H → Fault → Type 0
+IsUndoneBy s s' host host' fault.Memory = IsUndone s s' host host'
+IsUndoneBy s s' host host' fault.Full = IsUndone s s' host host'
+IsUndoneBy s s' host host' fault.DiskFault = Unit {0}
 
 -- nothing was done, and the store is ready
 pub record NodeStaysIdle (clients : Meaning) (s s' : StoreValue) (o o' : Outside) : Type 0 where

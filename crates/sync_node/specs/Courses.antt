@@ -91,9 +91,8 @@ IsReadyToSend doing l = (doing ≡ Waits) ⊎ ((doing ≡ Done) × (is_sent_to l
 -- ---- sending
 
 -- a link goes on sending with this room, or it is closed and its turn is done
-abbrev pub GoesOnSending : ℕ → ℕ → Doing → Link → Type 0
-GoesOnSending now room doing l =
-    ((doing ≡ Sends now room) × (is_sent_to l.end ≡ true)) ⊎ ((doing ≡ Done) × (is_sent_to l.end ≡ false))
+abbrev pub sends_on : ℕ → ℕ → Link → Doing
+sends_on now room l = cond (is_sent_to l.end) (Sends now room) Done
 
 -- ---- all links
 
@@ -106,15 +105,13 @@ abbrev pub AllRead : (ℕ → List ℕ) → List Link → Type 0
 AllRead heard links = (i : ℕ) (l : Link) → slice_get links i ≡ Some l → IsLinkRead (heard i) l
 
 -- a place of a run with these links
+abbrev pub place_with : Stage → List course_links.Link → Bool → ℕ → ℕ → Facts → Place
+place_with stage links moved still made f =
+    record { stage = stage; links = links; moved = moved; still = still; made = made; facts = f }
+
 abbrev pub place_at : Stage → List Link → (ℕ → List ℕ) → Bool → ℕ → ℕ → Facts → Place
-place_at stage links heard moved still made f = record {
-  stage = stage;
-  links = links_from 0 links heard;
-  moved = moved;
-  still = still;
-  made = made;
-  facts = f;
-}
+place_at stage links heard moved still made f =
+    place_with stage (links_from 0 links heard) moved still made f
 
 -- ---- a whole turn
 
@@ -149,17 +146,6 @@ pub record BreaksTurn (clients : Meaning) (first : ℕ) (links : List Link) (s :
       → RunBreaks clients terms (place_at Between links heard moved still made s.state.facts) s o o'
 
 -- ---- a session that begins on the next link
-
--- a place of a run that is to begin these sessions
-abbrev pub attaching_at : List Session → List course_links.Link → Bool → ℕ → ℕ → Facts → Place
-attaching_at left links moved still made f = record {
-  stage = Attaches left;
-  links = links;
-  moved = moved;
-  still = still;
-  made = made;
-  facts = f;
-}
 
 -- the call was broken off, whatever its links are then
 pub record BreaksBeginning (clients : Meaning) (session : Session) (links : List Link)

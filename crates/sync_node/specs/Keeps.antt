@@ -1,6 +1,6 @@
--- What work leaves, whatever was heard: nothing falls, the store keeps its limit and its format, and
--- behind a fault it is ready or the disk failed.
-use Rattle.std.specs.Prelude.{◌≡◌, ℕ, List, Option, None, Some, Result, Ok, Err}
+-- What work comes to, and what it leaves, whatever was heard: nothing falls, the store keeps its
+-- limit and its format, and behind a fault it is ready or the disk failed.
+use Rattle.std.specs.Prelude.{◌≡◌, ℕ, List, Option, None, Some, Result, Ok, Err, IfErr, IfOk}
 use Rattle.outside.specs.Faults.{CountRose}
 use Rattle.outside.specs.Outside.{Outside}
 use Rattle.sync_rules.specs.Clients.{Meaning}
@@ -49,6 +49,19 @@ pub record LinkKeeps (clients : Meaning) (number : ℕ) (l l' : Link) (s s' : St
   pub link : LinkGoes number l l' o o'
   pub store : StoreKeeps (StaysSettled clients s s' o') clients s s' o o' stop
 
+-- What is said of work on one link that came to a value, or was stopped by a fault.
+abbrev pub OfLink : Type 0 → Type 1
+OfLink T =
+    Meaning → ℕ → Link → Link → StoreValue → StoreValue → Outside → Outside → T → Type 0
+
+-- work on one link, by what it answers: what it came to, or where it was stopped, and what it keeps
+pub record LinkWorks {T : Type 0} (Went : OfLink T) (Stops : OfLink Fault) (clients : Meaning)
+    (number : ℕ) (l l' : Link) (s s' : StoreValue) (o o' : Outside)
+    (result : Result T Fault) : Type 0 where
+  pub went : IfOk result (Went clients number l l' s s' o o')
+  pub stopped : IfErr result (Stops clients number l l' s s' o o')
+  pub keeps : LinkKeeps clients number l l' s s' o o' (stop_of result)
+
 -- links that were attached are attached still, and may go on
 pub record StayAttached (clients : Meaning) (links links' : List Link) (s s' : StoreValue)
     (o' : Outside) : Type 0 where
@@ -62,3 +75,17 @@ pub record LinksKeep (clients : Meaning) (links links' : List Link) (s s' : Stor
   pub go : LinksGo links links' o o'
   pub same_sessions : sessions_of links' ≡ sessions_of links
   pub store : StoreKeeps (StayAttached clients links links' s s' o') clients s s' o o' stop
+
+-- the same of links whose sessions are numbered from the first on
+abbrev pub OfLinks : Type 0 → Type 1
+OfLinks T =
+    Meaning → ℕ → List Link → List Link → StoreValue → StoreValue → Outside → Outside → T → Type 0
+
+pub record LinksWork {T : Type 0} (Went : OfLinks T) (Stops : OfLinks Fault) (clients : Meaning)
+    (links links' : List Link) (s s' : StoreValue) (o o' : Outside)
+    (result : Result T Fault) : Type 0 where
+  pub went : (first : ℕ) → AreAttached first links s.state.facts
+      → IfOk result (Went clients first links links' s s' o o')
+  pub stopped : (first : ℕ) → AreAttached first links s.state.facts
+      → IfErr result (Stops clients first links links' s s' o o')
+  pub keeps : LinksKeep clients links links' s s' o o' (stop_of result)

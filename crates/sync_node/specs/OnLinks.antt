@@ -1,6 +1,6 @@
 -- What the calls of one link's turn came to: where they led on the machine of the turn, or where
 -- they stopped. One name for each piece of work, and one for where it stops.
-use Rattle.std.specs.Prelude.{◌≡◌, ◌⊎◌, ℕ, suc, ◌+◌, Bool, true, false, cond, nat_lt, List, ◌∷◌, length}
+use Rattle.std.specs.Prelude.{◌≡◌, ℕ, suc, ◌+◌, Bool, true, false, cond, nat_lt, List, ◌∷◌, Result, IfErr, OnOk}
 use Rattle.outside.specs.Outside.{Outside}
 use Rattle.record_grammar.specs.declared.stream.Item.{Item}
 use Rattle.record_grammar.specs.declared.stream.Item.TheVariants as item
@@ -8,9 +8,9 @@ use Rattle.sync_ids.specs.declared.records.Record.{Record}
 use Rattle.sync_rules.specs.Clients.{Meaning}
 use Rattle.sync_rules.specs.Steps.{IsSettled}
 use Rattle.sync_store.specs.Store.{StoreValue}
-use Rattle.sync_course.specs.Acts.{Act, batches_in}
+use Rattle.sync_course.specs.Acts.{Act}
 use Rattle.sync_course.specs.Links as course_links
-use Rattle.sync_course.specs.Links.{is_sent_to, items_after, link_after}
+use Rattle.sync_course.specs.Links.{items_after, link_after}
 use Rattle.sync_course.specs.LinkTurns.{Asks, Doing, Done, LinkStep, Sends, Spot, Takes, Waits}
 use Rattle.sync_course.specs.Owing.{ActStep, Owing, paid}
 use Rattle.sync_course.specs.Reading.{HasRead, IsReading}
@@ -18,8 +18,11 @@ use Rattle.sync_course.specs.declared.TheConstants.{MAX_OUTPUTS}
 use Rattle.sync_course.specs.declared.ends.LinkEnd.TheVariants as link_end
 use Rattle.sync_node.specs.declared.fault.Fault.{Fault}
 use Rattle.sync_node.specs.declared.link.Link.{Link}
-use Rattle.sync_node.specs.Courses.{GoesOnSending, IsLinkRead, IsReadyToSend, IsTaking, link_at, spot_at}
-use Rattle.sync_node.specs.Went.{Stopped, Went}
+use Rattle.sync_node.specs.Courses.{IsLinkRead, IsReadyToSend, IsTaking, link_at, sends_on, spot_at}
+use Rattle.sync_node.specs.Going.{LetsNothingFall}
+use Rattle.sync_node.specs.Keeps.{StaysSettled, StoreKeeps, stop_of}
+use Rattle.sync_node.specs.Sending.{StaysOrFails}
+use Rattle.sync_node.specs.Went.{Makes, Stopped, Went}
 
 -- ---- the machine of a link's turn
 
@@ -35,15 +38,11 @@ LinkWent clients n session p q s s' o o' =
     → Went clients (LinkActs clients first n) (paid p) (paid q) s s' o o'
 
 -- and so many batches were committed on the way
-pub record Makes (clients : Meaning) (first n : ℕ) (p q : Spot) (s s' : StoreValue)
-    (o o' : Outside) (count : ℕ) : Type 0 where
-  pub went : Went clients (LinkActs clients first n) (paid p) (paid q) s s' o o'
-  pub counts : length (batches_in went.acts) ≡ count
-
 abbrev pub LinkMakes : Meaning → ℕ → ℕ → Spot → Spot → StoreValue → StoreValue → Outside → Outside
     → ℕ → Type 0
 LinkMakes clients n session p q s s' o o' count =
-    (first : ℕ) → session ≡ first + n → Makes clients first n p q s s' o o' count
+    (first : ℕ) → session ≡ first + n
+    → Makes clients (LinkActs clients first n) (paid p) (paid q) s s' o o' count
 
 -- it stopped at a place at which the link stands so
 abbrev pub LinkStopped : Meaning → ℕ → ℕ → Spot → course_links.Link → StoreValue → StoreValue
@@ -69,6 +68,14 @@ pub record RecordStopped (clients : Meaning) (session : ℕ) (r : Record) (s s' 
       → p.doing ≡ Takes (item.One place r ∷ its) → p.facts ≡ s.state.facts
       → LinkStopped clients n session p (link_after place r p.link) s s' o o' e
 
+-- the record, by what the work of taking it answers, and what it keeps
+pub record RecordWorks (clients : Meaning) (session : ℕ) (r : Record) (s s' : StoreValue)
+    (o o' : Outside) (result : Result (Unit {0}) Fault) : Type 0 where
+  pub went : OnOk result (RecordTaken clients session r s s' o o')
+  pub stopped : IfErr result (RecordStopped clients session r s s' o o')
+  pub goes : LetsNothingFall o o'
+  pub keeps : StoreKeeps (StaysSettled clients s s' o') clients s s' o o' (stop_of result)
+
 -- ---- the items of a piece
 
 -- the next item was taken or passed over, or there was none
@@ -84,20 +91,20 @@ TakesOrPassesItem clients n heard its moved left l l' s s' o o' false =
     (spot_at Waits l' heard moved s'.state.facts) s s' o o'
 
 -- one item was, or, where more may come, some of them
-pub record NextWent (clients : Meaning) (n : ℕ) (piece left : List ℕ) (l l' : Link)
+pub record NextWent (piece left : List ℕ) (clients : Meaning) (n : ℕ) (l l' : Link)
     (s s' : StoreValue) (o o' : Outside) (more : Bool) : Type 0 where
   pub leads : (heard : List ℕ) (its : List Item) (moved : Bool) → IsReading heard piece l.reader its
       → TakesOrPassesItem clients n heard its moved left l l' s s' o o' more
 
-pub record ItemsStopped (clients : Meaning) (n : ℕ) (piece : List ℕ) (l l' : Link)
+pub record ItemsStopped (piece : List ℕ) (clients : Meaning) (n : ℕ) (l l' : Link)
     (s s' : StoreValue) (o o' : Outside) (e : Fault) : Type 0 where
   pub stops : (heard : List ℕ) (its : List Item) (moved : Bool) → IsReading heard piece l.reader its
       → LinkStopped clients n l.session.number
       (spot_at (Takes its) l heard moved s.state.facts) (link_at l' heard) s s' o o' e
 
 -- all of them were, and the link waits for the clock
-pub record PieceWent (clients : Meaning) (n : ℕ) (piece : List ℕ) (l l' : Link)
-    (s s' : StoreValue) (o o' : Outside) : Type 0 where
+pub record PieceWent (piece : List ℕ) (clients : Meaning) (n : ℕ) (l l' : Link)
+    (s s' : StoreValue) (o o' : Outside) (u : Unit {0}) : Type 0 where
   pub has_read : (heard : List ℕ) (its : List Item) → IsReading heard piece l.reader its
       → l'.end ≡ link_end.Going → HasRead heard l'.reader
   pub went : (heard : List ℕ) (its : List Item) (moved : Bool) → IsReading heard piece l.reader its
@@ -129,61 +136,44 @@ pub record HearingStopped (clients : Meaning) (n : ℕ) (l l' : Link) (s s' : St
 
 -- ---- sending
 
-pub record PutTo (clients : Meaning) (n now : ℕ) (l l' : Link) (s s' : StoreValue)
-    (o o' : Outside) (heard : List ℕ) (moved : Bool) (room : ℕ) : Type 0 where
-  pub doing : Doing
-  pub goes_on : GoesOnSending now room doing l'
-  pub makes : LinkMakes clients n l.session.number
-      (spot_at (Sends now (suc room)) l heard moved s.state.facts)
-      (spot_at doing l' heard true s'.state.facts) s s' o o' 1
+-- so many outputs were made at a reading; the link goes on sending, unless a send failed
+pub record OutsWent (now made : ℕ) (clients : Meaning) (n : ℕ) (l l' : Link) (s s' : StoreValue)
+    (o o' : Outside) : Type 0 where
+  pub room : ℕ
+  pub rest : room + made ≡ MAX_OUTPUTS
+  pub makes : (heard : List ℕ) (moved : Bool)
+      → LinkMakes clients n l.session.number
+      (spot_at (Sends now MAX_OUTPUTS) l heard moved s.state.facts)
+      (spot_at (sends_on now room l') l' heard (cond (nat_lt 0 made) true moved) s'.state.facts) s s' o o' made
+  pub sent : StaysOrFails l l'
 
 -- an output was committed and sent, or the call failed
-pub record PutWent (clients : Meaning) (n now : ℕ) (l l' : Link) (s s' : StoreValue)
-    (o o' : Outside) : Type 0 where
-  pub leads : (heard : List ℕ) (moved : Bool) (room : ℕ) → is_sent_to l.end ≡ true
-      → PutTo clients n now l l' s s' o o' heard moved room
-  pub same_reader : l'.reader ≡ l.reader
-  pub same_session : l'.session ≡ l.session
-  pub end : (l'.end ≡ l.end) ⊎ (l'.end ≡ link_end.Failed)
+pub record PutWent (now : ℕ) (clients : Meaning) (n : ℕ) (l l' : Link) (s s' : StoreValue)
+    (o o' : Outside) (u : Unit {0}) : Type 0 where
+  pub makes : (heard : List ℕ) (moved : Bool) (room : ℕ)
+      → LinkMakes clients n l.session.number
+      (spot_at (Sends now (suc room)) l heard moved s.state.facts)
+      (spot_at (sends_on now room l') l' heard true s'.state.facts) s s' o o' 1
+  pub sent : StaysOrFails l l'
 
-pub record PutStopped (clients : Meaning) (n now : ℕ) (l l' : Link) (s s' : StoreValue)
+pub record PutStopped (now : ℕ) (clients : Meaning) (n : ℕ) (l l' : Link) (s s' : StoreValue)
     (o o' : Outside) (e : Fault) : Type 0 where
   pub stops : (heard : List ℕ) (moved : Bool) (room : ℕ)
       → LinkStopped clients n l.session.number
       (spot_at (Sends now (suc room)) l heard moved s.state.facts) (link_at l' heard) s s' o o' e
 
--- so many outputs were made at a reading
-pub record OutsMadeTo (clients : Meaning) (n now made : ℕ) (l l' : Link) (s s' : StoreValue)
-    (o o' : Outside) (heard : List ℕ) (moved : Bool) : Type 0 where
-  pub room : ℕ
-  pub rest : room + made ≡ MAX_OUTPUTS
-  pub doing : Doing
-  pub goes_on : GoesOnSending now room doing l'
-  pub makes : LinkMakes clients n l.session.number
-      (spot_at (Sends now MAX_OUTPUTS) l heard moved s.state.facts)
-      (spot_at doing l' heard (cond (nat_lt 0 made) true moved) s'.state.facts) s s' o o' made
-
-pub record OutsWent (clients : Meaning) (n now made : ℕ) (l l' : Link) (s s' : StoreValue)
-    (o o' : Outside) : Type 0 where
-  pub leads : (heard : List ℕ) (moved : Bool) → is_sent_to l.end ≡ true
-      → OutsMadeTo clients n now made l l' s s' o o' heard moved
-  pub same_reader : l'.reader ≡ l.reader
-  pub same_session : l'.session ≡ l.session
-  pub end : (l'.end ≡ l.end) ⊎ (l'.end ≡ link_end.Failed)
-
 -- all that was due at a reading was sent, so many outputs
-pub record DueWent (clients : Meaning) (n now : ℕ) (l l' : Link) (s s' : StoreValue)
+pub record DueWent (now : ℕ) (clients : Meaning) (n : ℕ) (l l' : Link) (s s' : StoreValue)
     (o o' : Outside) (made : ℕ) : Type 0 where
-  pub makes : (heard : List ℕ) (moved : Bool) → is_sent_to l.end ≡ true
+  pub makes : (heard : List ℕ) (moved : Bool)
       → LinkMakes clients n l.session.number
       (spot_at (Sends now MAX_OUTPUTS) l heard moved s.state.facts)
       (spot_at Done l' heard (cond (nat_lt 0 made) true moved) s'.state.facts) s s' o o' made
-  pub same_reader : l'.reader ≡ l.reader
-  pub end : (l'.end ≡ l.end) ⊎ (l'.end ≡ link_end.Failed)
+  pub sent : StaysOrFails l l'
 
-pub record DueStopped (clients : Meaning) (n now : ℕ) (l l' : Link) (s s' : StoreValue)
+pub record DueStopped (now : ℕ) (clients : Meaning) (n : ℕ) (l l' : Link) (s s' : StoreValue)
     (o o' : Outside) (e : Fault) : Type 0 where
-  pub stops : (heard : List ℕ) (moved : Bool) → is_sent_to l.end ≡ true
+  pub stops : (heard : List ℕ) (moved : Bool)
       → LinkStopped clients n l.session.number
       (spot_at (Sends now MAX_OUTPUTS) l heard moved s.state.facts) (link_at l' heard) s s' o o' e
 
@@ -193,8 +183,7 @@ pub record SendingWent (clients : Meaning) (n : ℕ) (l l' : Link) (s s' : Store
   pub went : (heard : List ℕ) (moved : Bool) (doing : Doing) → IsReadyToSend doing l
       → LinkWent clients n l.session.number (spot_at doing l heard moved s.state.facts)
       (spot_at Done l' heard (cond (nat_lt 0 made) true moved) s'.state.facts) s s' o o'
-  pub same_reader : l'.reader ≡ l.reader
-  pub end : (l'.end ≡ l.end) ⊎ (l'.end ≡ link_end.Failed)
+  pub sent : StaysOrFails l l'
 
 pub record SendingStopped (clients : Meaning) (n : ℕ) (l l' : Link) (s s' : StoreValue)
     (o o' : Outside) (e : Fault) : Type 0 where

@@ -1,5 +1,5 @@
 -- What the calls of a node came to: where they led on the machine of a run, or where they stopped.
-use Rattle.std.specs.Prelude.{◌≡◌, ◌⊎◌, ℕ, suc, ◌+◌, ◌≤◌, Bool, true, false, cond, not, nat_lt, slice_get, List, [], ◌∷◌, ◌++◌, length, Some}
+use Rattle.std.specs.Prelude.{◌≡◌, ◌⊎◌, ℕ, suc, ◌+◌, ◌≤◌, Bool, true, false, cond, not, nat_lt, slice_get, List, [], ◌∷◌, ◌++◌, length, IfSome, Option, Some}
 use Rattle.entry_codec.specs.Standing.{room_of}
 use Rattle.outside.specs.declared.limits.TheConstants.{MAX_JOURNAL}
 use Rattle.outside.specs.Files.{Two, File}
@@ -9,7 +9,7 @@ use Rattle.sync_rules.specs.declared.entries.Session.{Session}
 use Rattle.sync_rules.specs.Facts.{after_all}
 use Rattle.sync_rules.specs.Clients.{Meaning}
 use Rattle.sync_store.specs.Store.{StoreValue, written_in}
-use Rattle.sync_course.specs.Acts.{Act, Fail, Send, batches_in}
+use Rattle.sync_course.specs.Acts.{Act, Fail, Send}
 use Rattle.sync_course.specs.Links as course_links
 use Rattle.sync_course.specs.LinkTurns.{Asks, Doing, Done, Sends}
 use Rattle.sync_course.specs.Owing.{ActStep, Owing, paid}
@@ -21,10 +21,13 @@ use Rattle.sync_node.specs.declared.fault.NodeFault.{NodeFault}
 use Rattle.sync_node.specs.declared.fault.NodeFault.TheVariants as node
 use Rattle.sync_node.specs.declared.link.Link.{Link}
 use Rattle.sync_course.specs.declared.ends.LinkEnd.TheVariants as link_end
-use Rattle.sync_node.specs.Courses.{AllRead, IsLinkRead, IsReadyToSend, attaching_at, link_at, links_from, place_at}
+use Rattle.sync_node.specs.declared.node.Turned.{Turned}
+use Rattle.sync_node.specs.Courses.{AllRead, IsLinkRead, IsReadyToSend, is_still, link_at, links_from, place_at, place_with}
 use Rattle.sync_node.specs.Did.{Did}
-use Rattle.sync_node.specs.Starting.{HasBegun}
-use Rattle.sync_node.specs.Went.{Stopped, Went}
+use Rattle.sync_node.specs.Going.{LetsNothingFall}
+use Rattle.sync_node.specs.Sending.{StaysOrFails}
+use Rattle.sync_node.specs.Starting.{HasBegun, StartStops}
+use Rattle.sync_node.specs.Went.{Makes, Stopped, Went}
 
 abbrev pub RunActs : Meaning → Terms → Owing Place → Act → Owing Place → Type 0
 RunActs clients terms = ActStep (λ (p : Place). p.facts) terms.first (RunStep clients terms)
@@ -60,7 +63,7 @@ pub record LinksTurnedTo (clients : Meaning) (terms : Terms) (n : ℕ) (links li
       (place_at (Works 0 Asks) links heard moved still made s.state.facts)
       (place_at (Works n Asks) links' heard' (cond quiet moved true) still made s'.state.facts) s s' o o'
 
-pub record LinksWent (clients : Meaning) (first n : ℕ) (links links' : List Link)
+pub record LinksWent (n : ℕ) (clients : Meaning) (first : ℕ) (links links' : List Link)
     (s s' : StoreValue) (o o' : Outside) (quiet : Bool) : Type 0 where
   pub leads : (terms : Terms) (heard : ℕ → List ℕ) (moved : Bool) (still made : ℕ)
       → terms.first ≡ first → AllRead heard links
@@ -92,6 +95,11 @@ pub record RoundWent (clients : Meaning) (first : ℕ) (links links' : List Link
       → terms.first ≡ first → AllRead heard links
       → is_at_end terms (place_at Between links heard moved still made s.state.facts) ≡ false
       → RoundWentTo clients terms links links' s s' o o' heard moved still made quiet
+
+abbrev pub AllTurned : Meaning → ℕ → List Link → List Link → StoreValue → StoreValue → Outside
+    → Outside → Turned → Type 0
+AllTurned clients first links links' s s' o o' turned =
+    RoundWent clients first links links' s s' o o' (is_still turned)
 
 pub record RoundStopped (clients : Meaning) (first : ℕ) (links links' : List Link)
     (s s' : StoreValue) (o o' : Outside) (e : Fault) : Type 0 where
@@ -130,10 +138,10 @@ pub record AskingStopped (clients : Meaning) (first n : ℕ) (links links' : Lis
       (links_from 0 links' heard') s s' o o' e
 
 -- so many outputs were committed and sent
-pub record RunMakes (clients : Meaning) (terms : Terms) (p q : Place) (s s' : StoreValue)
-    (o o' : Outside) (count : ℕ) : Type 0 where
-  pub went : RunWent clients terms p q s s' o o'
-  pub counts : length (batches_in went.acts) ≡ count
+abbrev pub RunMakes : Meaning → Terms → Place → Place → StoreValue → StoreValue → Outside → Outside
+    → ℕ → Type 0
+RunMakes clients terms p q s s' o o' count =
+    Makes clients (RunActs clients terms) (paid p) (paid q) s s' o o' count
 
 -- all that is due on it at this reading was sent, so many outputs, and its turn is done
 pub record OutsSent (clients : Meaning) (first n now : ℕ) (links links' : List Link)
@@ -167,6 +175,7 @@ IsGreeting n first second l l' acts =
 pub record GreetsBy (n : ℕ) (first second : List ℕ) (l l' : Link) (o o' : Outside) : Type 0 where
   pub acts : List Act
   pub is : IsGreeting n first second l l' acts
+  pub sent : StaysOrFails l l'
   pub same_files : o'.files ≡ o.files
   pub did : (clients : Meaning) (s : StoreValue)
       → s.end + room_of (written_in s) s.state.facts ≤ MAX_JOURNAL → Did clients acts s s o o'
@@ -175,27 +184,36 @@ pub record GreetsBy (n : ℕ) (first second : List ℕ) (l l' : Link) (o o' : Ou
 -- there. Nothing was heard on it.
 pub record StartWent (clients : Meaning) (n : ℕ) (session : Session) (l : Link)
     (s s' : StoreValue) (o o' : Outside) : Type 0 where
+  pub begun : HasBegun clients n session l s s' o o'
   pub has_read : IsLinkRead [] l
   pub facts : s'.state.facts ≡ after_all s.state.facts (entry.Session session ∷ [])
   pub went : (two : Two File) → o.files ≡ Some two → (terms : Terms) (left : List Session)
       (links : List course_links.Link) (moved : Bool) (still made : ℕ) → length links ≡ n
       → session.number ≡ terms.first + n
-      → RunWent clients terms (attaching_at (session ∷ left) links moved still made s.state.facts)
-      (attaching_at left (links ++ link_at l [] ∷ []) moved still made s'.state.facts) s s' o o'
+      → RunWent clients terms (place_with (Attaches (session ∷ left)) links moved still made s.state.facts)
+      (place_with (Attaches left) (links ++ link_at l [] ∷ []) moved still made s'.state.facts) s s' o o'
 
 pub record StartStopped (clients : Meaning) (session : Session) (s s' : StoreValue)
     (o o' : Outside) (e : Fault) : Type 0 where
   pub stops : (terms : Terms) (left : List Session) (links : List course_links.Link) (moved : Bool)
       (still made : ℕ)
       → RunStopped clients terms
-      (attaching_at (session ∷ left) links moved still made s.state.facts) links s s' o o' e
+      (place_with (Attaches (session ∷ left)) links moved still made s.state.facts) links s s' o o' e
+
+-- where beginning it was stopped, if it was, and what it keeps
+pub record StartWorks {H : Type 0} (clients : Meaning) (session : Session) (s s' : StoreValue)
+    (host host' : H) (o o' : Outside) (stop : Option Fault) : Type 0 where
+  pub goes : LetsNothingFall o o'
+  pub same_limit : s'.limit ≡ s.limit
+  pub same_format : s'.format ≡ s.format
+  pub stopped : IfSome stop (StartStopped clients session s s' o o')
+  pub stops : IfSome stop (StartStops clients s s' host host' o o')
 
 -- that link stands behind the others
 pub record StartWentLast (clients : Meaning) (n : ℕ) (session : Session) (links links' : List Link)
     (s s' : StoreValue) (o o' : Outside) : Type 0 where
   pub link : Link
   pub starts : StartWent clients n session link s s' o o'
-  pub begun : HasBegun clients n session link s s' o o'
   pub pushed : links' ≡ links ++ link ∷ []
 
 -- The next session began: where files are told, on the link behind those of a node, on which nothing

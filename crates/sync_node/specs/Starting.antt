@@ -1,5 +1,5 @@
 -- A session that begins on a link.
-use Rattle.std.specs.Prelude.{◌≡◌, ℕ, List, Result, Some}
+use Rattle.std.specs.Prelude.{◌≡◌, ℕ, Some}
 use Rattle.outside.specs.Faults.{CountRose}
 use Rattle.outside.specs.Outside.{Outside}
 use Rattle.sync_rules.specs.declared.entries.Session.{Session}
@@ -12,9 +12,7 @@ use Rattle.sync_node.specs.declared.fault.Fault.{Fault}
 use Rattle.sync_node.specs.declared.fault.Fault.TheVariants as fault
 use Rattle.sync_node.specs.declared.link.Link.{Link}
 use Rattle.sync_course.specs.declared.ends.LinkEnd.TheVariants as link_end
-use Rattle.sync_node.specs.Causes.{LinksGo, PushesOne}
-use Rattle.sync_node.specs.Going.{LetsNothingFall}
-use Rattle.sync_node.specs.Stays.{IsUndone}
+use Rattle.sync_node.specs.Batches.{IsUndone}
 use Rattle.sync_node.specs.Working.{HasGivenItems}
 
 -- a link on which a session has begun; it failed only by a call on it
@@ -27,19 +25,6 @@ pub record HasBegun (clients : Meaning) (number : ℕ) (session : Session) (l : 
   pub waits : HasGivenItems l
   pub cause : l.end ≡ link_end.Failed
       → CountRose (o.links.faults number) (o'.links.faults number)
-
--- whatever it answers
-pub record StartKeeps (s s' : StoreValue) (o o' : Outside) : Type 0 where
-  pub goes : LetsNothingFall o o'
-  pub same_limit : s'.limit ≡ s.limit
-  pub same_format : s'.format ≡ s.format
-
-pub record AttachKeeps {T : Type 0} (links links' : List Link) (s s' : StoreValue) (o o' : Outside)
-    (result : Result T Fault) : Type 0 where
-  pub go : LinksGo links links' o o'
-  pub same_limit : s'.limit ≡ s.limit
-  pub same_format : s'.format ≡ s.format
-  pub pushes : PushesOne result links links'
 
 -- the store is ready, and nothing was done
 pub record StartsNone {H : Type 0} (clients : Meaning) (s s' : StoreValue) (host host' : H)

@@ -1,5 +1,5 @@
 -- Where calls led on a machine whose steps are acts, and where they stopped.
-use Rattle.std.specs.Prelude.{◌⊎◌, ◌<◌, List}
+use Rattle.std.specs.Prelude.{◌≡◌, ◌⊎◌, ℕ, ◌<◌, List, length}
 use Rattle.outside.specs.Faults.{CountRose}
 use Rattle.outside.specs.Outside.{Outside}
 use Rattle.sync_rules.specs.declared.entries.Entry.{Entry}
@@ -7,7 +7,7 @@ use Rattle.sync_rules.specs.Clients.{Meaning}
 use Rattle.sync_store.specs.Commits.{needed}
 use Rattle.sync_store.specs.Ready.{IsReady}
 use Rattle.sync_store.specs.Store.{StoreValue}
-use Rattle.sync_course.specs.Acts.{Act, Does, commit_acts}
+use Rattle.sync_course.specs.Acts.{Act, Does, batches_in, commit_acts}
 use Rattle.sync_course.specs.Events.{Commit}
 use Rattle.sync_course.specs.Paths.{Path}
 use Rattle.sync_node.specs.declared.fault.Fault.{Fault}
@@ -21,6 +21,12 @@ pub record Went {P : Type 0} (clients : Meaning) (step : P → Act → P → Typ
   pub acts : List Act
   pub path : Path step from acts to
   pub did : Did clients acts s s' o o'
+
+-- and so many batches were committed on the way
+pub record Makes {P : Type 0} (clients : Meaning) (step : P → Act → P → Type 0) (from to : P)
+    (s s' : StoreValue) (o o' : Outside) (count : ℕ) : Type 0 where
+  pub went : Went clients step from to s s' o o'
+  pub counts : length (batches_in went.acts) ≡ count
 
 -- the next step from a place commits a batch, and leads to one that has this
 pub record CommitsOn {P : Type 0} (step : P → Act → P → Type 0) (Has : P → Type 0)

@@ -1,5 +1,5 @@
--- What work on one link needs.
-use Rattle.std.specs.Prelude.{◌≡◌, ℕ, ◌<◌, Some}
+-- What work on one link needs, and what is left of a piece once a record was taken.
+use Rattle.std.specs.Prelude.{◌≡◌, ℕ, ◌<◌, Some, ◌+◌, Bool, true, false, List, [], length}
 use Rattle.outside.specs.Outside.{Outside}
 use Rattle.record_stream.specs.Reading.{AwaitsBytes}
 use Rattle.sync_rules.specs.declared.entries.Session.{Session}
@@ -30,3 +30,17 @@ pub record MayWork (clients : Meaning) (link : ℕ) (l : Link) (s : StoreValue)
     (o : Outside) : Type 0 where
   pub able : IsAble clients link l.session s o
   pub waits : HasGivenItems l
+
+-- a store in which a session may take a record
+pub record IsOpenToTake (clients : Meaning) (session : Session) (s : StoreValue)
+    (o : Outside) : Type 0 where
+  pub ready : IsReady clients s o.files
+  pub settled : IsSettled clients s.state.facts
+  pub known : session_at s.state.facts.sessions session.number ≡ Some session
+
+-- fewer bytes are left, held or of the piece; or nothing is left of the piece, and no item stands
+-- whole in what is held
+abbrev pub LeavesLess : Link → List ℕ → Link → List ℕ → Bool → Type 0
+LeavesLess old piece new left true =
+    length new.reader.bytes + length left < length old.reader.bytes + length piece
+LeavesLess old piece new left false = (left ≡ []) × HasGivenItems new

@@ -1,12 +1,12 @@
 //! A session that begins on a link.
-ghost use Rattle.std.specs.Prelude.{◌≡◌, ◌<◌, ◌∷◌, [], length, IfErr, IfOk, OnOk};
+ghost use Rattle.std.specs.Prelude.{◌≡◌, ◌<◌, ◌∷◌, [], length, IfOk, OnErr, OnOk};
 ghost use Rattle.record_stream.specs.Reading.{AwaitsBytes, fresh};
 ghost use Rattle.sync_rules.specs.Legal.{Allowed};
 ghost use Rattle.sync_rules.specs.declared.entries.Entry.TheVariants as entry;
 ghost use Rattle.sync_store.specs.Ready.{IsReady};
 ghost use Rattle.sync_node.specs.Causes.{LinkGoes};
-ghost use Rattle.sync_node.specs.OnRuns.{GreetsBy, StartStopped, StartWent, StartWentLast};
-ghost use Rattle.sync_node.specs.Starting.{AttachKeeps, HasBegun, StartKeeps, StartStops};
+ghost use Rattle.sync_node.specs.Keeps.{stop_of};
+ghost use Rattle.sync_node.specs.OnRuns.{GreetsBy, StartWent, StartWentLast, StartWorks};
 
 use crate::fault::Fault;
 use crate::link::Link;
@@ -22,7 +22,7 @@ use sync_store::Store;
 
 /// Begins a session on the next link, and puts the link behind the others. It takes the buffer of
 /// the link's reader, and room for the link, before anything else. `went`: the session stands in
-/// the journal, and the link greeted, or its greeting failed and it is closed. `stopped`: nothing
+/// the journal, and the link greeted, or its greeting failed and it is closed. `work`: else nothing
 /// was done for want of memory or of room; or a call of the disk failed in the commit, and nothing
 /// was sent.
 pub(crate) fn attach_on<H: Host, C: Clients>(
@@ -39,15 +39,12 @@ pub(crate) fn attach_on<H: Host, C: Clients>(
         (entry.Session session ∷ []) }
     requires last { length links.old.items ≡ number }
     requires dialled { number < (H.tells host.old).links.dialled }
+    ensures work { StartWorks (C.meaning clients.now) session store.old store.new host.old host.new
+        (H.tells host.old) (H.tells host.new) (stop_of result) }
     ensures went { OnOk result (StartWentLast (C.meaning clients.now) number session
         links.old.items links.new.items store.old store.new (H.tells host.old)
         (H.tells host.new)) }
-    ensures stopped { IfErr result (StartStopped (C.meaning clients.now) session store.old
-        store.new (H.tells host.old) (H.tells host.new)) }
-    ensures keeps { AttachKeeps links.old.items links.new.items store.old store.new
-        (H.tells host.old) (H.tells host.new) result }
-    ensures stops { IfErr result (StartStops (C.meaning clients.now) store.old store.new host.old
-        host.new (H.tells host.old) (H.tells host.new)) }
+    ensures same { OnErr result (links.new.items ≡ links.old.items) }
 {
     let reader = Reader::new(alloc)?;
     links.reserve(1)?;
@@ -73,15 +70,10 @@ fn start<H: Host, C: Clients>(
     requires fresh { reader ≡ fresh }
     requires waits { AwaitsBytes reader }
     requires dialled { number < (H.tells host.old).links.dialled }
+    ensures work { StartWorks (C.meaning clients.now) session store.old store.new host.old host.new
+        (H.tells host.old) (H.tells host.new) (stop_of result) }
     ensures went { IfOk result (λ link. StartWent (C.meaning clients.now) number session link
         store.old store.new (H.tells host.old) (H.tells host.new)) }
-    ensures begun { IfOk result (λ link. HasBegun (C.meaning clients.now) number session link
-        store.old store.new (H.tells host.old) (H.tells host.new)) }
-    ensures stopped { IfErr result (StartStopped (C.meaning clients.now) session store.old
-        store.new (H.tells host.old) (H.tells host.new)) }
-    ensures keeps { StartKeeps store.old store.new (H.tells host.old) (H.tells host.new) }
-    ensures stops { IfErr result (StartStops (C.meaning clients.now) store.old store.new host.old
-        host.new (H.tells host.old) (H.tells host.new)) }
 {
     let versions = spell_versions(alloc)?;
     let priority = spell_nonce(alloc, &session.nonce)?;

@@ -1,13 +1,11 @@
 //! What is heard on a link is taken.
-ghost use Rattle.std.specs.Prelude.{◌≡◌, length, IfErr, IfOk, OnOk};
+ghost use Rattle.std.specs.Prelude.{◌≡◌, length, IfOk, OnOk};
 ghost use Rattle.sync_course.specs.declared.TheConstants.{PIECE_LEN};
-ghost use Rattle.sync_node.specs.Going.{LetsNothingFall};
-ghost use Rattle.sync_node.specs.Hearing.{LearnsNonce};
-ghost use Rattle.sync_node.specs.Keeps.{LinkKeeps, StaysSettled, StoreKeeps, stop_of};
+ghost use Rattle.sync_node.specs.Sending.{LearnsNonce};
+ghost use Rattle.sync_node.specs.Keeps.{LinkWorks};
 ghost use Rattle.sync_node.specs.OnLinks.{HearingStopped, HearingWent, ItemsStopped, NextWent};
-ghost use Rattle.sync_node.specs.OnLinks.{PieceWent, RecordStopped, RecordTaken};
-ghost use Rattle.sync_node.specs.Taking.{IsOpenToTake, LeavesLess};
-ghost use Rattle.sync_node.specs.Working.{HasGivenItems, IsAble, MayWork};
+ghost use Rattle.sync_node.specs.OnLinks.{PieceWent, RecordWorks};
+ghost use Rattle.sync_node.specs.Working.{HasGivenItems, IsAble, IsOpenToTake, LeavesLess, MayWork};
 
 use crate::fault::Fault;
 use crate::link::{Link, ended};
@@ -22,9 +20,9 @@ use sync_rules::{Clients, Session};
 use sync_store::Store;
 
 /// Hears once on a link that is still asked, and takes what came. Answers whether nothing came for
-/// now. `went`: each record that came was taken, with the settling behind it, and the link waits
-/// for the clock or is closed. `stopped`: some records were taken, and then memory was wanting, or
-/// the next one would pass the limit, or a call of the disk failed in the next batch.
+/// now. `work`: each record that came was taken, with the settling behind it, and the link waits
+/// for the clock or is closed; or some records were taken, and then memory was wanting, or the next
+/// one would pass the limit, or a call of the disk failed in the next batch.
 pub(crate) fn receive_on<H: Host, C: Clients>(
     alloc: Global,
     store: &mut Store,
@@ -37,12 +35,8 @@ pub(crate) fn receive_on<H: Host, C: Clients>(
     requires able { MayWork (C.meaning clients.now) number link.old store.old (H.tells host.old) }
     requires asked { link.old.end ≡ LinkEnd.Going }
     requires whole { length buffer.old ≡ PIECE_LEN }
-    ensures went { IfOk result (HearingWent (C.meaning clients.now) number link.old link.new
-        store.old store.new (H.tells host.old) (H.tells host.new)) }
-    ensures stopped { IfErr result (HearingStopped (C.meaning clients.now) number link.old link.new
-        store.old store.new (H.tells host.old) (H.tells host.new)) }
-    ensures keeps { LinkKeeps (C.meaning clients.now) number link.old link.new store.old store.new
-        (H.tells host.old) (H.tells host.new) (stop_of result) }
+    ensures work { LinkWorks HearingWent HearingStopped (C.meaning clients.now) number link.old
+        link.new store.old store.new (H.tells host.old) (H.tells host.new) result }
     ensures waits { OnOk result (HasGivenItems link.new) }
 {
     cite_laws();
@@ -78,12 +72,8 @@ fn take_piece<H: Host, C: Clients>(
     requires able { IsAble (C.meaning clients.now) number link.old.session store.old
         (H.tells host.old) }
     requires asked { link.old.end ≡ LinkEnd.Going }
-    ensures went { OnOk result (PieceWent (C.meaning clients.now) number piece.old link.old
-        link.new store.old store.new (H.tells host.old) (H.tells host.new)) }
-    ensures stopped { IfErr result (ItemsStopped (C.meaning clients.now) number piece.old link.old
-        link.new store.old store.new (H.tells host.old) (H.tells host.new)) }
-    ensures keeps { LinkKeeps (C.meaning clients.now) number link.old link.new store.old store.new
-        (H.tells host.old) (H.tells host.new) (stop_of result) }
+    ensures work { LinkWorks (PieceWent piece.old) (ItemsStopped piece.old) (C.meaning clients.now)
+        number link.old link.new store.old store.new (H.tells host.old) (H.tells host.new) result }
     ensures waits { OnOk result (HasGivenItems link.new) }
 {
     'items: while link.is_asked() {
@@ -109,12 +99,9 @@ fn take_next<H: Host, C: Clients>(
     requires able { IsAble (C.meaning clients.now) number link.old.session store.old
         (H.tells host.old) }
     requires asked { link.old.end ≡ LinkEnd.Going }
-    ensures went { IfOk result (NextWent (C.meaning clients.now) number piece.old piece.new
-        link.old link.new store.old store.new (H.tells host.old) (H.tells host.new)) }
-    ensures stopped { IfErr result (ItemsStopped (C.meaning clients.now) number piece.old link.old
-        link.new store.old store.new (H.tells host.old) (H.tells host.new)) }
-    ensures keeps { LinkKeeps (C.meaning clients.now) number link.old link.new store.old store.new
-        (H.tells host.old) (H.tells host.new) (stop_of result) }
+    ensures work { LinkWorks (NextWent piece.old piece.new) (ItemsStopped piece.old)
+        (C.meaning clients.now) number link.old link.new store.old store.new (H.tells host.old)
+        (H.tells host.new) result }
     ensures left { IfOk result (LeavesLess link.old piece.old link.new piece.new) }
 {
     cite_laws();
@@ -164,14 +151,8 @@ fn take_one<H: Host, C: Clients>(
     rec: Record,
 ) -> Result<(), Fault>
     requires able { IsOpenToTake (C.meaning clients.now) session.now store.old (H.tells host.old) }
-    ensures went { OnOk result (RecordTaken (C.meaning clients.now) session.now.number rec
-        store.old store.new (H.tells host.old) (H.tells host.new)) }
-    ensures stopped { IfErr result (RecordStopped (C.meaning clients.now) session.now.number rec
-        store.old store.new (H.tells host.old) (H.tells host.new)) }
-    ensures goes { LetsNothingFall (H.tells host.old) (H.tells host.new) }
-    ensures keeps { StoreKeeps (StaysSettled (C.meaning clients.now) store.old store.new
-        (H.tells host.new)) (C.meaning clients.now) store.old store.new (H.tells host.old)
-        (H.tells host.new) (stop_of result) }
+    ensures { RecordWorks (C.meaning clients.now) session.now.number rec store.old store.new
+        (H.tells host.old) (H.tells host.new) result }
 {
     records_are_within(&rec);
     let taken = store.state().takes(session.number);

@@ -1,7 +1,7 @@
 //! A link with its session.
 ghost use Rattle.std.specs.Prelude.{◌≡◌, ◌↔◌, IsTrue};
 ghost use Rattle.sync_course.specs.Links.{stands_ended};
-ghost use Rattle.sync_node.specs.Ends.{MaySend};
+ghost use Rattle.sync_node.specs.Sending.{MaySend};
 
 use record_grammar::Ending;
 use record_stream::Reader;

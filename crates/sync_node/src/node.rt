@@ -1,7 +1,7 @@
 //! The node.
 ghost use Rattle.std.specs.Prelude.{◌≡◌, ◌<◌, ◌≤◌, false, true, length, IfOk};
 ghost use Rattle.outside.specs.declared.limits.TheConstants.{LINKS};
-ghost use Rattle.sync_node.specs.Faults.{fault_of};
+ghost use Rattle.sync_node.specs.Faults.{answer_of, has_failed};
 ghost use Rattle.sync_node.specs.Node.{asked_among};
 
 use crate::attaching::attach_on;
@@ -77,13 +77,19 @@ impl Model for Node {
     }) };
 }
 
-// What a node answers whose work failed; it is closed.
-fn close(closed: &mut bool, fault: Fault) -> NodeFault
-    ensures closed { closed.new ≡ true }
-    ensures fault { result ≡ fault_of fault }
+// What a node answers whose work came to this; where the work failed it is closed from then on.
+fn answer<T>(closed: &mut bool, work: Result<T, Fault>) -> Result<T, NodeFault>
+    requires { closed.old ≡ false }
+    ensures answer { result ≡ answer_of work }
+    ensures closed { closed.new ≡ has_failed work }
 {
-    *closed = true;
-    NodeFault::from(fault)
+    match work {
+        Ok(value) => Ok(value),
+        Err(fault) => {
+            *closed = true;
+            Err(NodeFault::from(fault))
+        }
+    }
 }
 
 // A buffer of so many bytes.
@@ -109,7 +115,7 @@ impl Node {
     ghost use Rattle.sync_node.specs.Calls.{CallStops};
     ghost use Rattle.sync_node.specs.Causes.{PushesOne};
     ghost use Rattle.sync_node.specs.Courses.{is_still};
-    ghost use Rattle.sync_node.specs.Ends.{MaySend};
+    ghost use Rattle.sync_node.specs.Sending.{MaySend};
     ghost use Rattle.sync_node.specs.Node.{IsNode, KeepsSessions, MayRun, new_node};
     ghost use Rattle.sync_node.specs.OnRuns.{AskingStopped, AskingWent, BeginStopped, BeginWent};
     ghost use Rattle.sync_node.specs.OnRuns.{ByFault, OutsSent, OutsStopped, RoundStopped};
@@ -196,10 +202,8 @@ impl Node {
         if self.closed {
             return Err(NodeFault::Closed);
         }
-        match add_settled(&mut self.store, host, clients, batch) {
-            Ok(()) => Ok(()),
-            Err(fault) => Err(close(&mut self.closed, fault)),
-        }
+        let work = add_settled(&mut self.store, host, clients, batch);
+        answer(&mut self.closed, work)
     }
 
     /// Begins a session on a link that was dialled, the next number: commits it, and sends VERSIONS
@@ -252,7 +256,7 @@ impl Node {
             latency: plan.latency,
             nonce,
         };
-        match attach_on(
+        let work = attach_on(
             self.alloc,
             &mut self.store,
             host,
@@ -260,10 +264,8 @@ impl Node {
             &mut self.links,
             link,
             session,
-        ) {
-            Ok(()) => Ok(()),
-            Err(fault) => Err(close(&mut self.closed, fault)),
-        }
+        );
+        answer(&mut self.closed, work)
     }
 
     /// Asks a link once that is attached and still asked, and takes what came: the batch of each
@@ -298,7 +300,7 @@ impl Node {
         if self.closed {
             return Err(NodeFault::Closed);
         }
-        match receive_on(
+        let idle = receive_on(
             self.alloc,
             &mut self.store,
             host,
@@ -306,10 +308,8 @@ impl Node {
             link,
             &mut self.links[link as usize],
             self.buffer.as_mut_slice(),
-        ) {
-            Ok(idle) => Ok(idle),
-            Err(fault) => Err(close(&mut self.closed, fault)),
-        }
+        );
+        answer(&mut self.closed, idle)
     }
 
     /// Commits and sends what is due at this time in milliseconds on a link that is attached and
@@ -346,7 +346,7 @@ impl Node {
         if self.closed {
             return Err(NodeFault::Closed);
         }
-        match send_all(
+        let made = send_all(
             self.alloc,
             &mut self.store,
             host,
@@ -354,10 +354,8 @@ impl Node {
             link,
             &mut self.links[link as usize],
             now,
-        ) {
-            Ok(made) => Ok(made),
-            Err(fault) => Err(close(&mut self.closed, fault)),
-        }
+        );
+        answer(&mut self.closed, made)
     }
 
     /// Goes through the links in order: asks each that is still asked, and sends what is due on
@@ -388,18 +386,15 @@ impl Node {
         if self.closed {
             return Err(NodeFault::Closed);
         }
-        match turn_all(
+        let turned = turn_all(
             self.alloc,
             &mut self.store,
             host,
             clients,
             self.links.as_mut_slice(),
             self.buffer.as_mut_slice(),
-        ) {
-            Ok(true) => Ok(Turned::Still),
-            Ok(false) => Ok(Turned::Moving),
-            Err(fault) => Err(close(&mut self.closed, fault)),
-        }
+        );
+        answer(&mut self.closed, turned)
     }
 }
 

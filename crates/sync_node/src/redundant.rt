@@ -1,10 +1,11 @@
 //! Which of several links with one contact is kept (this project's profile).
 ghost use Rattle.std.specs.Prelude.{◌≡◌, ℕ, ◌<◌, List, length, slice_get, IsTrue, Some};
-ghost use Rattle.sync_course.specs.Links.{is_beaten, without_redundant};
+ghost use Rattle.sync_course.specs.Links.{is_beaten, is_before, without_redundant};
 ghost use Rattle.sync_node.specs.Courses.{link_at, links_from, outdoes_of};
 ghost use Rattle.sync_node.specs.Redundant.{ClosesSome};
 
 use crate::link::Link;
+use std::cmp::Ordering;
 use sync_course::LinkEnd;
 
 /// Of the links with one contact that are still asked and have a known nonce keeps the one with the
@@ -48,7 +49,19 @@ fn outdoes(rival: &Link, link: &Link, before: bool) -> bool
         return false;
     }
     match (&rival.nonce, &link.nonce) {
-        (Some(theirs), Some(own)) => *theirs > *own || (before && *theirs == *own),
+        (Some(theirs), Some(own)) => goes_first(theirs.cmp(own), before),
         _ => false,
+    }
+}
+
+// Whether of two nonces that compare so the first is kept: it is greater, or the same, and its link
+// stands before the other.
+fn goes_first(order: Ordering, before: bool) -> bool
+    ensures { result ≡ is_before order before }
+{
+    match order {
+        Ordering::Greater => true,
+        Ordering::Equal => before,
+        Ordering::Less => false,
     }
 }

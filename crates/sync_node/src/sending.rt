@@ -1,11 +1,10 @@
 //! What is due on a link is committed and sent.
-ghost use Rattle.std.specs.Prelude.{◌≢◌, ◌∷◌, ◌<◌, [], IfErr, IfOk, OnOk};
+ghost use Rattle.std.specs.Prelude.{◌∷◌, ◌<◌, [], OnOk};
 ghost use Rattle.sync_rules.specs.Legal.{Allowed};
 ghost use Rattle.sync_rules.specs.declared.entries.Entry.TheVariants as entry;
-ghost use Rattle.sync_node.specs.Ends.{MaySend};
-ghost use Rattle.sync_node.specs.Keeps.{LinkKeeps, stop_of};
+ghost use Rattle.sync_node.specs.Sending.{MaySend, SendsOn};
+ghost use Rattle.sync_node.specs.Keeps.{LinkWorks};
 ghost use Rattle.sync_node.specs.OnLinks.{DueStopped, DueWent, PutStopped, PutWent};
-ghost use Rattle.sync_node.specs.Sending.{SendsOn};
 ghost use Rattle.sync_node.specs.Working.{HasGivenItems, MayWork};
 
 use crate::fault::Fault;
@@ -19,10 +18,10 @@ use sync_rules::{Batch, Clients, Entry, Out};
 use sync_store::Store;
 
 /// Commits and sends what is due on the link at this time, at most `MAX_OUTPUTS` outputs, and
-/// answers how many. A failed send closes the link. `went`: so many outputs were committed, each of
-/// them was sent behind its commit, and the link's turn is done. `stopped`: some of them were, and
-/// then memory was wanting; or the next one would pass the limit; or a call of the disk failed in
-/// its commit.
+/// answers how many. A failed send closes the link. `work`: so many outputs were committed, each of
+/// them was sent behind its commit, and the link's turn is done; or some of them were, and then
+/// memory was wanting, or the next one would pass the limit, or a call of the disk failed in its
+/// commit.
 pub(crate) fn send_all<H: Host, C: Clients>(
     alloc: Global,
     store: &mut Store,
@@ -33,12 +32,9 @@ pub(crate) fn send_all<H: Host, C: Clients>(
     now: u64,
 ) -> Result<u32, Fault>
     requires able { MayWork (C.meaning clients.now) number link.old store.old (H.tells host.old) }
-    ensures went { MaySend link.old.end → IfOk result (DueWent (C.meaning clients.now) number now
-        link.old link.new store.old store.new (H.tells host.old) (H.tells host.new)) }
-    ensures stopped { MaySend link.old.end → IfErr result (DueStopped (C.meaning clients.now) number
-        now link.old link.new store.old store.new (H.tells host.old) (H.tells host.new)) }
-    ensures keeps { LinkKeeps (C.meaning clients.now) number link.old link.new store.old store.new
-        (H.tells host.old) (H.tells host.new) (stop_of result) }
+    requires unclosed { MaySend link.old.end }
+    ensures work { LinkWorks (DueWent now) (DueStopped now) (C.meaning clients.now) number link.old
+        link.new store.old store.new (H.tells host.old) (H.tells host.new) result }
     ensures waits { OnOk result (HasGivenItems link.new) }
 {
     let mut made = 0;
@@ -53,9 +49,8 @@ pub(crate) fn send_all<H: Host, C: Clients>(
 }
 
 // Commits an output, and then sends it. It is spelled first, so that nothing may fail between the
-// two. `went`: it stands in the journal, and then it was sent, or the send failed and the link is
-// closed. `stopped`: nothing was sent, and nothing committed but what a failed call of the disk
-// left.
+// two. `work`: it stands in the journal, and then it was sent, or the send failed and the link is
+// closed; or nothing was sent, and nothing committed but what a failed call of the disk left.
 fn put_out<H: Host, C: Clients>(
     alloc: Global,
     store: &mut Store,
@@ -67,15 +62,11 @@ fn put_out<H: Host, C: Clients>(
     out: Out,
 ) -> Result<(), Fault>
     requires able { MayWork (C.meaning clients.now) number link.old store.old (H.tells host.old) }
-    requires unfailed { link.old.end ≢ LinkEnd.Failed }
+    requires unclosed { MaySend link.old.end }
     requires allowed { Allowed (C.meaning clients.now) store.old.state.facts
         (entry.Out link.old.session.number now out ∷ []) }
-    ensures went { OnOk result (PutWent (C.meaning clients.now) number now link.old link.new
-        store.old store.new (H.tells host.old) (H.tells host.new)) }
-    ensures stopped { IfErr result (PutStopped (C.meaning clients.now) number now link.old link.new
-        store.old store.new (H.tells host.old) (H.tells host.new)) }
-    ensures keeps { LinkKeeps (C.meaning clients.now) number link.old link.new store.old store.new
-        (H.tells host.old) (H.tells host.new) (stop_of result) }
+    ensures work { LinkWorks (PutWent now) (PutStopped now) (C.meaning clients.now) number link.old
+        link.new store.old store.new (H.tells host.old) (H.tells host.new) result }
     ensures waits { OnOk result (HasGivenItems link.new) }
 {
     cite_laws();

@@ -9,15 +9,14 @@ ghost use Rattle.sync_store.specs.Moments.{LeadsTo};
 ghost use Rattle.sync_store.specs.Ready.{IsReady};
 ghost use Rattle.sync_store.specs.Store.{IsStore};
 ghost use Rattle.sync_node.specs.Adding.{AddsAtMost, IsPlain};
-ghost use Rattle.sync_node.specs.Batches.{Added, AddStops, CommitStops, Committed, Settled};
-ghost use Rattle.sync_node.specs.Batches.{SettleStops};
+ghost use Rattle.sync_node.specs.Batches.{AddStops, Added, CommitStops, Committed, IsUndone};
+ghost use Rattle.sync_node.specs.Batches.{IsUndoneBy, SettleStops, Settled};
 ghost use Rattle.sync_node.specs.Cited.{NodeCallLaws};
 ghost use Rattle.sync_node.specs.Output.{Journal};
-ghost use Rattle.sync_node.specs.Stays.{IsUndone, IsUndoneBy};
 
 use crate::fault::Fault;
 use outside::Host;
-use record_grammar::{endings_are_of_rests, fronts_have_fronts, records_join, rests_give_nothing};
+use record_grammar::{endings_are_of_rests, rests_give_nothing};
 use record_stream::{readings_follow, readings_widen};
 use sync_ids::MessageId;
 use sync_rules::{Batch, Clients};
@@ -28,8 +27,6 @@ use sync_store::{Store, StoreFault};
 pub(crate) fn cite_laws()
     ensures { NodeCallLaws }
 {
-    fronts_have_fronts();
-    records_join();
     readings_widen();
     readings_follow();
     images_stand();

@@ -1,17 +1,19 @@
 //! A turn: of one link, and of all links in order.
-ghost use Rattle.std.specs.Prelude.{◌≡◌, ℕ, ◌<◌, ◌≤◌, length, IfErr, IfOk, OnOk};
+ghost use Rattle.std.specs.Prelude.{◌≡◌, ◌≤◌, length, OnOk};
 ghost use Rattle.sync_course.specs.declared.TheConstants.{PIECE_LEN};
 ghost use Rattle.outside.specs.declared.limits.TheConstants.{LINKS};
-ghost use Rattle.sync_node.specs.Keeps.{LinkKeeps, LinksKeep, stop_of};
-ghost use Rattle.sync_node.specs.Node.{AreAttached, AreSome, MayGoOn};
+ghost use Rattle.sync_node.specs.Courses.{is_still};
+ghost use Rattle.sync_node.specs.Keeps.{LinkWorks, LinksWork};
+ghost use Rattle.sync_node.specs.Node.{AreSome, MayGoOn};
 ghost use Rattle.sync_node.specs.OnLinks.{HearingStopped, HearingWent, SendingStopped};
 ghost use Rattle.sync_node.specs.OnLinks.{SendingWent, TurnWent};
-ghost use Rattle.sync_node.specs.OnRuns.{LinksStopped, LinksWent, RoundStopped, RoundWent};
+ghost use Rattle.sync_node.specs.OnRuns.{AllTurned, LinksStopped, LinksWent, RoundStopped};
 ghost use Rattle.sync_node.specs.Working.{HasGivenItems, MayWork};
 
 use crate::fault::Fault;
 use crate::hearing::receive_on;
 use crate::link::Link;
+use crate::node::Turned;
 use crate::redundant::close_redundant;
 use crate::sending::send_all;
 use outside::Host;
@@ -19,9 +21,9 @@ use std::alloc::Global;
 use sync_rules::Clients;
 use sync_store::Store;
 
-/// Makes the turn of each link in order, and then closes the redundant ones. Answers whether all
-/// links were still. `went`: a whole turn of the course. `stopped`: in some link's turn memory was
-/// wanting, or a batch would pass the limit, or a call of the disk failed.
+/// Makes the turn of each link in order, and then closes the redundant ones. It is still where all
+/// links were: a whole turn of the course. Or in some link's turn memory was wanting, or a batch
+/// would pass the limit, or a call of the disk failed.
 pub(crate) fn turn_all<H: Host, C: Clients>(
     alloc: Global,
     store: &mut Store,
@@ -29,23 +31,24 @@ pub(crate) fn turn_all<H: Host, C: Clients>(
     clients: &C,
     links: &mut [Link],
     buffer: &mut [u8],
-) -> Result<bool, Fault>
+) -> Result<Turned, Fault>
     requires may { MayGoOn (C.meaning clients.now) links.old store.old (H.tells host.old) }
     requires few { length links.old ≤ LINKS }
     requires attached { AreSome links.old store.old.state.facts }
     requires whole { length buffer.old ≡ PIECE_LEN }
-    ensures went { (first : ℕ) → AreAttached first links.old store.old.state.facts
-        → IfOk result (RoundWent (C.meaning clients.now) first links.old links.new store.old
-        store.new (H.tells host.old) (H.tells host.new)) }
-    ensures stopped { (first : ℕ) → AreAttached first links.old store.old.state.facts
-        → IfErr result (RoundStopped (C.meaning clients.now) first links.old links.new store.old
-        store.new (H.tells host.old) (H.tells host.new)) }
-    ensures keeps { LinksKeep (C.meaning clients.now) links.old links.new store.old store.new
-        (H.tells host.old) (H.tells host.new) (stop_of result) }
+    ensures { LinksWork AllTurned RoundStopped (C.meaning clients.now) links.old links.new store.old
+        store.new (H.tells host.old) (H.tells host.new) result }
 {
     let still = turn_each(alloc, store, host, clients, links, buffer)?;
     close_redundant(links);
-    Ok(still)
+    Ok(turned(still))
+}
+
+// What a turn did, by whether all links were still.
+fn turned(still: bool) -> Turned
+    ensures { is_still result ≡ still }
+{
+    if still { Turned::Still } else { Turned::Moving }
 }
 
 // Makes the turn of each link in order. Answers whether all were still.
@@ -61,14 +64,8 @@ fn turn_each<H: Host, C: Clients>(
     requires few { length links.old ≤ LINKS }
     requires attached { AreSome links.old store.old.state.facts }
     requires whole { length buffer.old ≡ PIECE_LEN }
-    ensures went { (first : ℕ) → AreAttached first links.old store.old.state.facts
-        → IfOk result (LinksWent (C.meaning clients.now) first (length links.old) links.old
-        links.new store.old store.new (H.tells host.old) (H.tells host.new)) }
-    ensures stopped { (first : ℕ) → AreAttached first links.old store.old.state.facts
-        → IfErr result (LinksStopped (C.meaning clients.now) first links.old links.new store.old
-        store.new (H.tells host.old) (H.tells host.new)) }
-    ensures keeps { LinksKeep (C.meaning clients.now) links.old links.new store.old store.new
-        (H.tells host.old) (H.tells host.new) (stop_of result) }
+    ensures { LinksWork (LinksWent (length links.old)) LinksStopped (C.meaning clients.now) links.old
+        links.new store.old store.new (H.tells host.old) (H.tells host.new) result }
 {
     let mut still = true;
     'links: for place in 0..links.len() {
@@ -93,12 +90,8 @@ fn turn_link<H: Host, C: Clients>(
 ) -> Result<bool, Fault>
     requires able { MayWork (C.meaning clients.now) number link.old store.old (H.tells host.old) }
     requires whole { length buffer.old ≡ PIECE_LEN }
-    ensures went { IfOk result (TurnWent (C.meaning clients.now) number link.old link.new
-        store.old store.new (H.tells host.old) (H.tells host.new)) }
-    ensures stopped { IfErr result (HearingStopped (C.meaning clients.now) number link.old link.new
-        store.old store.new (H.tells host.old) (H.tells host.new)) }
-    ensures keeps { LinkKeeps (C.meaning clients.now) number link.old link.new store.old store.new
-        (H.tells host.old) (H.tells host.new) (stop_of result) }
+    ensures work { LinkWorks TurnWent HearingStopped (C.meaning clients.now) number link.old link.new
+        store.old store.new (H.tells host.old) (H.tells host.new) result }
     ensures waits { OnOk result (HasGivenItems link.new) }
 {
     let quiet = hear_now(alloc, store, host, clients, number, link, buffer)?;
@@ -118,12 +111,8 @@ fn hear_now<H: Host, C: Clients>(
 ) -> Result<bool, Fault>
     requires able { MayWork (C.meaning clients.now) number link.old store.old (H.tells host.old) }
     requires whole { length buffer.old ≡ PIECE_LEN }
-    ensures went { IfOk result (HearingWent (C.meaning clients.now) number link.old link.new
-        store.old store.new (H.tells host.old) (H.tells host.new)) }
-    ensures stopped { IfErr result (HearingStopped (C.meaning clients.now) number link.old link.new
-        store.old store.new (H.tells host.old) (H.tells host.new)) }
-    ensures keeps { LinkKeeps (C.meaning clients.now) number link.old link.new store.old store.new
-        (H.tells host.old) (H.tells host.new) (stop_of result) }
+    ensures work { LinkWorks HearingWent HearingStopped (C.meaning clients.now) number link.old link.new
+        store.old store.new (H.tells host.old) (H.tells host.new) result }
     ensures waits { OnOk result (HasGivenItems link.new) }
 {
     if !link.is_asked() {
@@ -143,12 +132,8 @@ fn send_now<H: Host, C: Clients>(
     link: &mut Link,
 ) -> Result<u32, Fault>
     requires able { MayWork (C.meaning clients.now) number link.old store.old (H.tells host.old) }
-    ensures went { IfOk result (SendingWent (C.meaning clients.now) number link.old link.new
-        store.old store.new (H.tells host.old) (H.tells host.new)) }
-    ensures stopped { IfErr result (SendingStopped (C.meaning clients.now) number link.old link.new
-        store.old store.new (H.tells host.old) (H.tells host.new)) }
-    ensures keeps { LinkKeeps (C.meaning clients.now) number link.old link.new store.old store.new
-        (H.tells host.old) (H.tells host.new) (stop_of result) }
+    ensures work { LinkWorks SendingWent SendingStopped (C.meaning clients.now) number link.old link.new
+        store.old store.new (H.tells host.old) (H.tells host.new) result }
     ensures waits { OnOk result (HasGivenItems link.new) }
 {
     if !link.may_send() {

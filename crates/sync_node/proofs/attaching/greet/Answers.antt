@@ -1,5 +1,5 @@
 use Rattle.std.proofs.Common.{arith, eqb-true, sym, ◌∙◌, ap, subst}
-use Rattle.sync_node.specs.Ends.{MaySend}
+use Rattle.sync_node.specs.Sending.{MaySend}
 use Rattle.sync_node.proofs.CauseLaws.{link_sent, link_then}
 use Rattle.sync_node.proofs.OutLaws.{may_unfailed}
 use Rattle.sync_node.proofs.StartActs.{greeted_once, greeted_twice}

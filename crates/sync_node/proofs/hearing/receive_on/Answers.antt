@@ -2,8 +2,7 @@ use Rattle.std.proofs.Common.{refl, sym, ap, ◌∙◌, arith}
 use Rattle.sync_course.specs.Links.{stands_ended}
 use Rattle.sync_node.proofs.CauseLaws.{ended_unfailed, link_failed, link_kept, link_unfailed}
 use Rattle.sync_node.proofs.HearActs.{hear_ended, hear_failed, hear_idle, hear_piece, hear_stops}
-use Rattle.sync_node.proofs.KeepLaws.{work_link, work_then, work_was}
-use Rattle.sync_node.proofs.Undone.{if_err_was}
+use Rattle.sync_node.proofs.KeepLaws.{work_link, work_then, works_was}
 use Rattle.sync_node.proofs.WorkLaws.{able_calm, ended_not_going, goes_heard}
 use Rattle.sync_node.proofs.hearing.receive_on.Goals as goal
 
@@ -36,55 +35,60 @@ returns-in-End-clause-waits g c =
 pub returns-in-Failed-clause-waits : goal.returns-in-Failed-clause-waits
 returns-in-Failed-clause-waits g c = λ going. cc
 
-pub returns-in_err-take_piece-in-Got-clause-stopped : goal.returns-in_err-take_piece-in-Got-clause-stopped
-returns-in_err-take_piece-in-Got-clause-stopped g c =
-    if_err_was _ c.in_err-take_piece-in-Got.field-0.0 _ c.from_residual.ensures.1
-    (hear_stops _ _ _ _ _ _ c.recv.new.buf (c.recv.auto.buf ∙ c.requires.whole) c.requires.asked c.in-Got.ensures.call c.cite_laws.ensures.widen c.in-Got.count _ _ _ _
-    c.in-Got.ensures.links c.in-Got.ensures.answer (rw c.new-piece.ensures at c.in_err-take_piece-in-Got.ensures.stopped))
-
-pub returns-in_ok-take_piece-in-Got-clause-went : goal.returns-in_ok-take_piece-in-Got-clause-went
-returns-in_ok-take_piece-in-Got-clause-went g c =
-    hear_piece _ _ _ _ _ _ c.recv.new.buf (c.recv.auto.buf ∙ c.requires.whole) c.requires.asked c.in-Got.ensures.call c.cite_laws.ensures.widen c.in-Got.count _ _ _
-    c.in-Got.ensures.links c.in-Got.ensures.answer (rw c.new-piece.ensures at c.in_ok-take_piece-in-Got.ensures.went)
-
-pub returns-in-Idle-clause-went : goal.returns-in-Idle-clause-went
-returns-in-Idle-clause-went g c =
-    hear_idle _ _ _ _ _ _ c.recv.new.buf (c.recv.auto.buf ∙ c.requires.whole) c.requires.asked c.in-Idle.ensures.call c.in-Idle.ensures.links c.in-Idle.ensures.answer
-
-pub returns-in-End-clause-went : goal.returns-in-End-clause-went
-returns-in-End-clause-went g c =
-    hear_ended _ _ _ _ _ _ c.recv.new.buf (c.recv.auto.buf ∙ c.requires.whole) c.requires.asked c.in-End.ensures.call _
-    (c.ended-link.ensures ∙ ap stands_ended c.end.ensures.ending) c.in-End.ensures.links c.in-End.ensures.answer
-
-pub returns-in-Failed-clause-went : goal.returns-in-Failed-clause-went
-returns-in-Failed-clause-went g c =
-    hear_failed _ _ _ _ _ _ c.recv.new.buf (c.recv.auto.buf ∙ c.requires.whole) c.requires.asked c.in-Failed.ensures.call c.in-Failed.ensures.links c.in-Failed.ensures.answer
-
-pub returns-in_err-take_piece-in-Got-clause-keeps : goal.returns-in_err-take_piece-in-Got-clause-keeps
-returns-in_err-take_piece-in-Got-clause-keeps g c =
-    work_was _ c.in_err-take_piece-in-Got.field-0.0 c.from_residual.ensures.1
+pub returns-in_err-take_piece-in-Got-clause-work : goal.returns-in_err-take_piece-in-Got-clause-work
+returns-in_err-take_piece-in-Got-clause-work g c =
+    works_was _ c.in_err-take_piece-in-Got.field-0.0 c.from_residual.ensures.1
+    (hear_stops _ _ _ _ _ _ c.recv.new.buf (c.recv.auto.buf ∙ c.requires.whole) c.requires.asked c.in-Got.ensures.call
+    c.cite_laws.ensures.widen c.in-Got.count c.in-Got.ensures.links c.in-Got.ensures.answer
+    (rw c.new-piece.ensures at c.in_err-take_piece-in-Got.ensures.work.stopped))
     (work_then (work_link (link_kept (goes_heard _ _ _ _ _ c.recv.ensures.call c.recv.ensures.links)
     refl refl) c.recv.ensures.call.same_files c.requires.able.able)
-    c.in_err-take_piece-in-Got.ensures.keeps)
+    c.in_err-take_piece-in-Got.ensures.work.keeps)
 
-pub returns-in_ok-take_piece-in-Got-clause-keeps : goal.returns-in_ok-take_piece-in-Got-clause-keeps
-returns-in_ok-take_piece-in-Got-clause-keeps g c =
-    (work_then (work_link (link_kept (goes_heard _ _ _ _ _ c.recv.ensures.call c.recv.ensures.links)
-    refl refl) c.recv.ensures.call.same_files c.requires.able.able)
-    c.in_ok-take_piece-in-Got.ensures.keeps)
+pub returns-in_ok-take_piece-in-Got-clause-work : goal.returns-in_ok-take_piece-in-Got-clause-work
+returns-in_ok-take_piece-in-Got-clause-work g c = record {
+  went =
+      hear_piece _ _ _ _ _ _ c.recv.new.buf (c.recv.auto.buf ∙ c.requires.whole) c.requires.asked c.in-Got.ensures.call
+      c.cite_laws.ensures.widen c.in-Got.count c.in-Got.ensures.links c.in-Got.ensures.answer
+      (rw c.new-piece.ensures at c.in_ok-take_piece-in-Got.ensures.work.went);
+  stopped = tt;
+  keeps =
+      work_then (work_link (link_kept (goes_heard _ _ _ _ _ c.recv.ensures.call
+      c.recv.ensures.links) refl refl) c.recv.ensures.call.same_files c.requires.able.able)
+      c.in_ok-take_piece-in-Got.ensures.work.keeps;
+}
 
-pub returns-in-Idle-clause-keeps : goal.returns-in-Idle-clause-keeps
-returns-in-Idle-clause-keeps g c =
-    work_link (link_kept (goes_heard _ _ _ _ _ c.recv.ensures.call c.recv.ensures.links) refl refl)
-    c.recv.ensures.call.same_files c.requires.able.able
+pub returns-in-Idle-clause-work : goal.returns-in-Idle-clause-work
+returns-in-Idle-clause-work g c = record {
+  went =
+      hear_idle _ _ _ _ _ _ c.recv.new.buf (c.recv.auto.buf ∙ c.requires.whole) c.requires.asked c.in-Idle.ensures.call
+      c.in-Idle.ensures.links c.in-Idle.ensures.answer;
+  stopped = tt;
+  keeps =
+      work_link (link_kept (goes_heard _ _ _ _ _ c.recv.ensures.call c.recv.ensures.links) refl refl)
+      c.recv.ensures.call.same_files c.requires.able.able;
+}
 
-pub returns-in-End-clause-keeps : goal.returns-in-End-clause-keeps
-returns-in-End-clause-keeps g c =
-    work_link (link_unfailed (goes_heard _ _ _ _ _ c.recv.ensures.call c.recv.ensures.links) refl
-    (λ failed. ended_unfailed _ (sym c.ended-link.ensures ∙ failed)))
-    c.recv.ensures.call.same_files c.requires.able.able
+pub returns-in-End-clause-work : goal.returns-in-End-clause-work
+returns-in-End-clause-work g c = record {
+  went =
+      hear_ended _ _ _ _ _ _ c.recv.new.buf (c.recv.auto.buf ∙ c.requires.whole) c.requires.asked c.in-End.ensures.call
+      (c.ended-link.ensures ∙ ap stands_ended c.end.ensures.ending) c.in-End.ensures.links
+      c.in-End.ensures.answer;
+  stopped = tt;
+  keeps =
+      work_link (link_unfailed (goes_heard _ _ _ _ _ c.recv.ensures.call c.recv.ensures.links) refl
+      (λ failed. ended_unfailed _ (sym c.ended-link.ensures ∙ failed)))
+      c.recv.ensures.call.same_files c.requires.able.able;
+}
 
-pub returns-in-Failed-clause-keeps : goal.returns-in-Failed-clause-keeps
-returns-in-Failed-clause-keeps g c =
-    work_link (link_failed (goes_heard _ _ _ _ _ c.recv.ensures.call c.recv.ensures.links) refl
-    c.in-Failed.ensures.answer) c.recv.ensures.call.same_files c.requires.able.able
+pub returns-in-Failed-clause-work : goal.returns-in-Failed-clause-work
+returns-in-Failed-clause-work g c = record {
+  went =
+      hear_failed _ _ _ _ _ _ c.recv.new.buf (c.recv.auto.buf ∙ c.requires.whole) c.requires.asked c.in-Failed.ensures.call
+      c.in-Failed.ensures.links c.in-Failed.ensures.answer;
+  stopped = tt;
+  keeps =
+      work_link (link_failed (goes_heard _ _ _ _ _ c.recv.ensures.call c.recv.ensures.links) refl
+      c.in-Failed.ensures.answer) c.recv.ensures.call.same_files c.requires.able.able;
+}

@@ -7,7 +7,7 @@ abbrev pub invariant-items : goal.invariant-items
 invariant-items g l = record {
   keeps : LinkKeeps (g.C.Clients.meaning l.clients) l.number l.initial.link l.link l.initial.store
       l.store (g.H.Disk.tells l.initial.host) (g.H.Disk.tells l.host) None;
-  went : NextWent (g.C.Clients.meaning l.clients) l.number l.initial.piece l.piece l.initial.link
+  went : NextWent l.initial.piece l.piece (g.C.Clients.meaning l.clients) l.number l.initial.link
       l.link l.initial.store l.store (g.H.Disk.tells l.initial.host) (g.H.Disk.tells l.host) true;
 }
 

@@ -1,7 +1,7 @@
 use Rattle.std.proofs.Common.{◌≡◌, length, refl, arith}
 use Rattle.std.proofs.lemmas.Option.{slice_get-get_or}
-use Rattle.sync_node.proofs.CourseRedundant.{closed_all, closed_none, closes_it, get_there, leaves_it}
-use Rattle.sync_node.proofs.NodeLaws.{closes_none, closes_one}
+use Rattle.sync_node.proofs.CourseRuns.{closed_all, closed_none, closes_it, get_there, leaves_it}
+use Rattle.sync_node.proofs.CauseLaws.{closes_none, closes_one}
 use Rattle.sync_node.proofs.redundant.close_redundant.Goals as goal
 use Rattle.sync_node.proofs.redundant.close_redundant.Goals.{then-is_redundant, else-is_redundant}
 

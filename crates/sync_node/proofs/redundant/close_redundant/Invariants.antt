@@ -1,5 +1,5 @@
 use Rattle.sync_node.specs.Redundant.{ClosesSome}
-use Rattle.sync_node.proofs.CourseRedundant.{ClosedSo}
+use Rattle.sync_node.proofs.CourseRuns.{ClosedSo}
 use Rattle.sync_node.proofs.redundant.close_redundant.Given as goal
 
 abbrev pub invariant-links : goal.invariant-links

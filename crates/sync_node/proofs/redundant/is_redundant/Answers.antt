@@ -1,6 +1,6 @@
 use Rattle.std.proofs.Common.{refl, sym, ap, ◌∙◌, arith, Some}
 use Rattle.std.proofs.lemmas.Option.{slice_get-get_or}
-use Rattle.sync_node.proofs.CourseRedundant.{none_at_all, none_yet, one_more, some_beats}
+use Rattle.sync_node.proofs.CourseRuns.{none_at_all, none_yet, one_more, some_beats}
 use Rattle.sync_node.specs.declared.link.Link.{Link}
 use Rattle.sync_node.proofs.redundant.is_redundant.Goals as goal
 

@@ -1,4 +1,4 @@
-use Rattle.sync_node.proofs.CourseRedundant.{NoneSoFar}
+use Rattle.sync_node.proofs.CourseRuns.{NoneSoFar}
 use Rattle.sync_node.proofs.redundant.is_redundant.Given as goal
 
 -- none of the links so far is kept rather than this one

@@ -10,7 +10,7 @@ invariant-outs g l = record {
   keeps : LinkKeeps (g.C.Clients.meaning l.clients) l.number l.initial.link l.link l.initial.store
       l.store (g.H.Disk.tells l.initial.host) (g.H.Disk.tells l.host) None;
   waits : HasGivenItems l.link;
-  went : OutsWent (g.C.Clients.meaning l.clients) l.number l.now l.made l.initial.link l.link l.initial.store l.store (g.H.Disk.tells l.initial.host) (g.H.Disk.tells l.host);
+  went : OutsWent l.now l.made (g.C.Clients.meaning l.clients) l.number l.initial.link l.link l.initial.store l.store (g.H.Disk.tells l.initial.host) (g.H.Disk.tells l.host);
 }
 
 abbrev pub decreases-outs : goal.decreases-outs

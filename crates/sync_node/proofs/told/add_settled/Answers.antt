@@ -1,6 +1,6 @@
 use Rattle.std.proofs.Common.{Err, ap, ◌∙◌}
-use Rattle.sync_node.proofs.AddLaws.{extended_leads, plain_of}
-use Rattle.sync_node.proofs.BatchLaws.{add_breaks, add_by, add_did, add_full}
+use Rattle.sync_node.proofs.BatchLaws.{add_breaks, add_by, add_did, add_full, extended_leads}
+use Rattle.sync_node.proofs.BatchLaws.{plain_of}
 use Rattle.sync_node.proofs.told.add_settled.Goals as goal
 
 pub extend-requires-clause-kind : goal.extend-requires-clause-kind

@@ -1,7 +1,7 @@
 use Rattle.std.proofs.Common.{Err, ap}
 use Rattle.sync_store.specs.declared.fault.StoreFault.TheVariants as store_fault
 use Rattle.sync_node.proofs.BatchLaws.{commit_breaks, commit_did, commit_full, commit_idle}
-use Rattle.sync_node.proofs.CourseTakes.{over_limit}
+use Rattle.sync_node.proofs.TakeLaws.{over_limit}
 use Rattle.sync_node.proofs.told.commit.Goals as goal
 
 pub returns-in-Err-Full-clause-undone : goal.returns-in-Err-Full-clause-undone

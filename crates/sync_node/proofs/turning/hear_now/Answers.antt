@@ -9,18 +9,14 @@ returns-then-not-is_asked-clause-waits g c = c.requires.able.waits
 pub returns-clause-waits : goal.returns-clause-waits
 returns-clause-waits g c = c.receive_on.ensures.waits
 
-pub returns-then-not-is_asked-clause-went : goal.returns-then-not-is_asked-clause-went
-returns-then-not-is_asked-clause-went g c =
-    hear_nothing _ _ _ _ _ (λ going. let yes = c.is_asked.ensures.1 going in let no = c.if-not-is_asked.true in cc)
+pub returns-then-not-is_asked-clause-work : goal.returns-then-not-is_asked-clause-work
+returns-then-not-is_asked-clause-work g c = record {
+  went =
+      hear_nothing
+      (λ going. let yes = c.is_asked.ensures.1 going in let no = c.if-not-is_asked.true in cc);
+  stopped = tt;
+  keeps = work_none link_none c.requires.able.able;
+}
 
-pub returns-clause-went : goal.returns-clause-went
-returns-clause-went g c = c.receive_on.ensures.went
-
-pub returns-clause-stopped : goal.returns-clause-stopped
-returns-clause-stopped g c = c.receive_on.ensures.stopped
-
-pub returns-then-not-is_asked-clause-keeps : goal.returns-then-not-is_asked-clause-keeps
-returns-then-not-is_asked-clause-keeps g c = work_none link_none c.requires.able.able
-
-pub returns-clause-keeps : goal.returns-clause-keeps
-returns-clause-keeps g c = c.receive_on.ensures.keeps
+pub returns-clause-work : goal.returns-clause-work
+returns-clause-work g c = c.receive_on.ensures.work

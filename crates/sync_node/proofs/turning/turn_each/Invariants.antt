@@ -10,6 +10,6 @@ invariant-links g l = record {
   keeps : LinksKeep (g.C.Clients.meaning l.clients) l.initial.links l.links l.initial.store l.store
       (g.H.Disk.tells l.initial.host) (g.H.Disk.tells l.host) None;
   went : (first : ℕ) → AreAttached first l.initial.links l.initial.store.state.facts
-      → LinksWent (g.C.Clients.meaning l.clients) first l.place l.initial.links l.links l.initial.store l.store (g.H.Disk.tells l.initial.host) (g.H.Disk.tells l.host) l.still;
+      → LinksWent l.place (g.C.Clients.meaning l.clients) first l.initial.links l.links l.initial.store l.store (g.H.Disk.tells l.initial.host) (g.H.Disk.tells l.host) l.still;
   whole : length l.buffer ≡ PIECE_LEN;
 }

@@ -1,6 +1,5 @@
-use Rattle.sync_node.proofs.KeepLaws.{may_kept, work_then, work_was}
-use Rattle.sync_node.proofs.TurnActs.{turned_loud, turned_quiet, turned_stops}
-use Rattle.sync_node.proofs.Undone.{if_err_was}
+use Rattle.sync_node.proofs.KeepLaws.{may_kept, work_then, works_was}
+use Rattle.sync_node.proofs.SendActs.{turned_loud, turned_quiet, turned_stops}
 use Rattle.sync_node.proofs.turning.turn_link.Goals as goal
 
 pub returns-then-quiet-clause-waits : goal.returns-then-quiet-clause-waits
@@ -9,46 +8,37 @@ returns-then-quiet-clause-waits g c = c.in_ok-made.ensures.waits
 pub returns-else-quiet-clause-waits : goal.returns-else-quiet-clause-waits
 returns-else-quiet-clause-waits g c = c.in_ok-made.ensures.waits
 
-pub returns-in_err-quiet-clause-stopped : goal.returns-in_err-quiet-clause-stopped
-returns-in_err-quiet-clause-stopped g c =
-    if_err_was _ c.in_err-quiet.field-0.0 _ c.from_residual.ensures.1
-    c.in_err-quiet.ensures.stopped
-
-pub returns-in_err-made-clause-stopped : goal.returns-in_err-made-clause-stopped
-returns-in_err-made-clause-stopped g c =
-    if_err_was _ c.in_err-made.field-0.0 _ c.from_residual-in_err-made.ensures.1
-    (turned_stops _ _ _ _ _ _ _ _ _ c.in_ok-quiet.ensures.keeps.link.same_session c.in_ok-quiet.ensures.went _ _ _ _
-    c.in_err-made.ensures.stopped)
-
-pub returns-then-quiet-clause-went : goal.returns-then-quiet-clause-went
-returns-then-quiet-clause-went g c =
-    turned_quiet _ _ _ _ _ _ _ _ _ c.in_ok-quiet.ensures.keeps.link.same_session c.in_ok-quiet.ensures.went _ _ _ _
-    c.if-quiet.true c.in_ok-made.ensures.went
-
-pub returns-else-quiet-clause-went : goal.returns-else-quiet-clause-went
-returns-else-quiet-clause-went g c =
-    turned_loud _ _ _ _ _ _ _ _ _ c.in_ok-quiet.ensures.keeps.link.same_session c.in_ok-quiet.ensures.went _ _ _ _
-    c.if-quiet.false c.in_ok-made.ensures.went
-
 pub send_now-requires : goal.send_now-requires
-send_now-requires g c =
-    record {
-      able = may_kept c.requires.able c.in_ok-quiet.ensures.keeps c.in_ok-quiet.ensures.waits;
-    }
+send_now-requires g c = record {
+  able = may_kept c.requires.able c.in_ok-quiet.ensures.work.keeps c.in_ok-quiet.ensures.waits;
+}
 
-pub returns-in_err-quiet-clause-keeps : goal.returns-in_err-quiet-clause-keeps
-returns-in_err-quiet-clause-keeps g c =
-    work_was _ c.in_err-quiet.field-0.0 c.from_residual.ensures.1 c.in_err-quiet.ensures.keeps
+pub returns-in_err-quiet-clause-work : goal.returns-in_err-quiet-clause-work
+returns-in_err-quiet-clause-work g c =
+    works_was _ c.in_err-quiet.field-0.0 c.from_residual.ensures.1
+    c.in_err-quiet.ensures.work.stopped c.in_err-quiet.ensures.work.keeps
 
-pub returns-in_err-made-clause-keeps : goal.returns-in_err-made-clause-keeps
-returns-in_err-made-clause-keeps g c =
-    work_was _ c.in_err-made.field-0.0 c.from_residual-in_err-made.ensures.1
-    (work_then c.in_ok-quiet.ensures.keeps c.in_err-made.ensures.keeps)
+pub returns-in_err-made-clause-work : goal.returns-in_err-made-clause-work
+returns-in_err-made-clause-work g c =
+    works_was _ c.in_err-made.field-0.0 c.from_residual-in_err-made.ensures.1
+    (turned_stops c.in_ok-quiet.ensures.work.keeps.link.same_session
+    c.in_ok-quiet.ensures.work.went c.in_err-made.ensures.work.stopped)
+    (work_then c.in_ok-quiet.ensures.work.keeps c.in_err-made.ensures.work.keeps)
 
-pub returns-then-quiet-clause-keeps : goal.returns-then-quiet-clause-keeps
-returns-then-quiet-clause-keeps g c =
-    work_then c.in_ok-quiet.ensures.keeps c.in_ok-made.ensures.keeps
+pub returns-then-quiet-clause-work : goal.returns-then-quiet-clause-work
+returns-then-quiet-clause-work g c = record {
+  went =
+      turned_quiet c.in_ok-quiet.ensures.work.keeps.link.same_session
+      c.in_ok-quiet.ensures.work.went c.if-quiet.true c.in_ok-made.ensures.work.went;
+  stopped = tt;
+  keeps = work_then c.in_ok-quiet.ensures.work.keeps c.in_ok-made.ensures.work.keeps;
+}
 
-pub returns-else-quiet-clause-keeps : goal.returns-else-quiet-clause-keeps
-returns-else-quiet-clause-keeps g c =
-    work_then c.in_ok-quiet.ensures.keeps c.in_ok-made.ensures.keeps
+pub returns-else-quiet-clause-work : goal.returns-else-quiet-clause-work
+returns-else-quiet-clause-work g c = record {
+  went =
+      turned_loud c.in_ok-quiet.ensures.work.keeps.link.same_session
+      c.in_ok-quiet.ensures.work.went c.if-quiet.false c.in_ok-made.ensures.work.went;
+  stopped = tt;
+  keeps = work_then c.in_ok-quiet.ensures.work.keeps c.in_ok-made.ensures.work.keeps;
+}
