@@ -1,9 +1,11 @@
 -- What calls one after another leave, and why links stand Failed.
-use Rattle.std.proofs.Common.{◌≡◌, ℕ, zero, suc, ◌≤◌, Bool, List, [], ◌∷◌, inl, inr, arith, refl, subst, ◌∙◌, Some, Result, Ok, Err}
+use Rattle.std.proofs.Common.{◌≡◌, ℕ, zero, suc, ◌≤◌, List, [], ◌∷◌, inl, inr, arith, refl, sym}
+use Rattle.std.proofs.Common.{length, ap, subst, ◌∙◌, Bool, Some, Result, Ok, Err}
 use Rattle.std.specs.Prelude.{map, slice_get}
 use Rattle.outside.specs.Faults.{CountRose, one_more}
 use Rattle.outside.specs.Links.{Links}
 use Rattle.outside.specs.Outside.{DiskRun, Outside}
+use Rattle.sync_rules.specs.declared.states.Refused.TheVariants as refused
 use Rattle.sync_node.specs.declared.link.Link.{Link}
 use Rattle.sync_course.specs.declared.ends.LinkEnd.{LinkEnd}
 use Rattle.sync_course.specs.declared.ends.LinkEnd.TheVariants as end
@@ -11,35 +13,36 @@ use Rattle.sync_node.specs.Causes.{FailByCause, StandsFailed}
 use Rattle.sync_node.specs.Going.{LetsNothingFall}
 use Rattle.sync_course.specs.Closing.{Closing}
 use Rattle.store_commands.specs.Commit.{ExtendsBy}
+use Rattle.sync_words.specs.declared.link_words.LinkWords.{LinkWords}
 use Rattle.sync_words.specs.declared.outcome.Outcome.{Outcome}
 use Rattle.sync_words.specs.declared.outcome.Outcome.TheVariants as outcome
-use Rattle.sync_run.specs.Causes.{FailuresRose, RunCaused}
-use Rattle.sync_run.specs.Closed.{closed_by}
-
-rose_later : (a b c : ℕ) → CountRose a b → b ≤ c → CountRose a c
-rose_later a b c rose later = let r : one_more a ≤ b = rose in omega (arith, r, later)
+use Rattle.sync_run.specs.Causes.{FailuresRose, IsCaused, RunCaused}
+use Rattle.sync_run.specs.Parts.{closed_by}
 
 pub rose_before : (a b c : ℕ) → a ≤ b → CountRose b c → CountRose a c
 rose_before a b c before rose = let r : one_more b ≤ c = rose in omega (arith, before, r)
 
-pub no_causes : (links : List Link) (o : Outside) → FailByCause links links o o
-no_causes links o number stands = inl stands
-
-pub causes_then : (links mid links' : List Link) (o o1 o' : Outside) → LetsNothingFall o o1 → LetsNothingFall o1 o' → FailByCause links mid o o1 → FailByCause mid links' o1 o'
+pub causes_then : (links mid links' : List Link) (o o1 o' : Outside) → LetsNothingFall o o1
+    → LetsNothingFall o1 o' → FailByCause links mid o o1 → FailByCause mid links' o1 o'
     → FailByCause links links' o o'
 causes_then links mid links' o o1 o' first second before behind number stands =
     elim (behind number stands) [
       | inl there ↦ elim (before number there) [
         | inl at_first ↦ inl at_first
-        | inr rose ↦ inr (rose_later (o.links.faults number) (o1.links.faults number) (o'.links.faults number) rose (second.links.faults number))
+        | inr rose ↦ let r : one_more (o.links.faults number) ≤ o1.links.faults number = rose in
+            inr (omega (arith, r, second.links.faults number))
       ]
-      | inr rose ↦ inr (rose_before (o.links.faults number) (o1.links.faults number) (o'.links.faults number) (first.links.faults number) rose)
+      | inr rose ↦
+          inr (rose_before (o.links.faults number) (o1.links.faults number) (o'.links.faults number)
+          (first.links.faults number) rose)
     ]
 
 -- ---- ends
 
 -- a link that is said to have failed stands so
-end_failed : (links : List Link) (i : ℕ) (stands : LinkEnd) → slice_get (map (λ (l : Link). l.end) links) i ≡ Some stands → stands ≡ end.Failed → StandsFailed links i
+end_failed : (links : List Link) (i : ℕ) (stands : LinkEnd)
+    → slice_get (map (λ (l : Link). l.end) links) i ≡ Some stands → stands ≡ end.Failed
+    → StandsFailed links i
 end_failed [] i stands at failed = cc
 end_failed (x ∷ links) zero stands at failed =
     let is : x.end ≡ stands = cc in
@@ -53,29 +56,57 @@ pub ends_rose : (over : Bool) (links links' : List Link) (ends : Closing) (o o' 
     → links ≡ [] → ends ≡ closed_by over links'
     → FailByCause links links' o o' → FailuresRose o o' ends
 ends_rose over links links' ends o o' none are causes i stands at failed =
-    let stood = end_failed links' i stands (subst (λ (c : Closing). slice_get c.ends i ≡ Some stands) are at) failed in
+    let stood =
+    end_failed links' i stands (subst (λ (c : Closing). slice_get c.ends i ≡ Some stands) are at)
+    failed in
     elim (causes i stood) [
-      | inl before ↦ let no : slice_get [] i ≡ Some before.link = subst (λ (ls : List Link). slice_get ls i ≡ Some before.link) none before.there in cc
+      | inl before ↦
+          let no : slice_get [] i ≡ Some before.link =
+          subst (λ (ls : List Link). slice_get ls i ≡ Some before.link) none before.there in
+          cc
       | inr rose ↦ rose
     ]
 
--- settling before it changed no link
-pub caused_settled : (o o1 o' : Outside) (r : Result Closing Outcome) → DiskRun o o1
-    → RunCaused o1 o' r
-    → RunCaused o o' r
-caused_settled o o1 o' (Ok ends) run caused = λ i stands at failed.
-    subst (λ (l : Links). CountRose (l.faults i) (o'.links.faults i)) run.same_links
-    (caused i stands at failed)
-caused_settled o o1 o' (Err outcome.DiskFault) run caused =
-    rose_before o.disk_faults o1.disk_faults o'.disk_faults run.later caused
-caused_settled o o1 o' (Err outcome.Full) run caused = tt
-caused_settled o o1 o' (Err outcome.Memory) run caused = tt
-caused_settled o o1 o' (Err _) run caused = absurd caused
+-- ---- by the outcome
+
+-- calls before and behind what was caused so
+module _ (words words' : List LinkWords) (o o1 o2 o3 : Outside)
+    (more : length words ≤ length words')
+    (links : (i : ℕ) → o.links.faults i ≤ o1.links.faults i) (disk : o.disk_faults ≤ o1.disk_faults)
+    (same_links : o3.links ≡ o2.links) (same_faults : o3.disk_faults ≡ o2.disk_faults) where
+  rose_on : (i : ℕ) → CountRose (o1.links.faults i) (o2.links.faults i)
+      → CountRose (o.links.faults i) (o3.links.faults i)
+  rose_on i rose =
+      rose_before _ _ _ (links i)
+      (subst (λ (l : Links). CountRose (o1.links.faults i) (l.faults i)) (sym same_links) rose)
+
+  pub caused_amid : (r : Result Closing Outcome) → IsCaused words o1 o2 r → IsCaused words' o o3 r
+  caused_amid (Ok ends) caused = λ i stands at failed. rose_on i (caused i stands at failed)
+  caused_amid (Err outcome.DiskFault) caused =
+      rose_before _ _ _ disk (subst (CountRose o1.disk_faults) (sym same_faults) caused)
+  caused_amid (Err (outcome.LinkFailed link)) caused =
+      record { within = omega (arith, caused.within, more); rose = rose_on link caused.rose }
+  caused_amid (Err outcome.NoStore) caused = tt
+  caused_amid (Err (outcome.Damaged place)) caused = tt
+  caused_amid (Err (outcome.Refused refused.UnknownContact)) caused = tt
+  caused_amid (Err (outcome.Refused refused.TooManySessions)) caused = tt
+  caused_amid (Err outcome.Full) caused = tt
+  caused_amid (Err outcome.Memory) caused = tt
+  caused_amid (Err _) caused = absurd caused
+
+-- no call on a link failed before it
+pub caused_behind : (words : List LinkWords) (o o1 o2 o3 : Outside) → DiskRun o o1
+    → o3.links ≡ o2.links → o3.disk_faults ≡ o2.disk_faults → (r : Result Closing Outcome)
+    → IsCaused words o1 o2 r → IsCaused words o o3 r
+caused_behind words o o1 o2 o3 run same_links same_faults =
+    caused_amid words words o o1 o2 o3 (omega arith)
+    (λ i. omega (arith, ap (λ (l : Links). l.faults i) run.same_links)) run.later same_links
+    same_faults
 
 -- settling itself was broken off
 pub unsettled_caused : (o o' : Outside) (e : Outcome) → ExtendsBy o o' (Err e)
     → RunCaused o o' (Err e)
-unsettled_caused o o' outcome.DiskFault by = by
-unsettled_caused o o' outcome.Full by = tt
-unsettled_caused o o' outcome.Memory by = tt
+unsettled_caused o o' outcome.DiskFault by = (tt, by)
+unsettled_caused o o' outcome.Full by = (tt, tt)
+unsettled_caused o o' outcome.Memory by = (tt, tt)
 unsettled_caused o o' _ by = absurd by

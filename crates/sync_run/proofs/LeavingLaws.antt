@@ -1,38 +1,43 @@
--- What a run leaves on the links that ends before its first session, by the calls that it made.
-use Rattle.std.proofs.Common.{◌≡◌, ℕ, ◌+◌, true, false, List, [], ◌++◌, append-nil, inl, sym, ap, ◌∙◌, subst, refl, Option, None, Some, is_some, Result, Ok, Err}
-use Rattle.std.specs.Prelude.{IsErrAnd}
-use Rattle.outside.specs.declared.failed.Failed.{Failed}
+-- What a run comes to and leaves that ends before its first session, by the calls that it made.
+use Rattle.std.proofs.Common.{Bool, Err, List, None, Ok, Option, Result, Some, [], ap, append-nil}
+use Rattle.std.proofs.Common.{false, inl, refl, subst, sym, true, ℕ, ◌++◌, ◌+◌, ◌∙◌, ◌≡◌}
+use Rattle.std.specs.Prelude.{IsErrAnd, if◌then◌else◌}
+use Rattle.outside.proofs.CallSteps.{becomes_told}
 use Rattle.outside.specs.Disk.{RelatesTold}
-use Rattle.outside.specs.Files.{Two, File, read_files}
+use Rattle.outside.specs.Files.{File, Two, read_files}
 use Rattle.outside.specs.Links.{Links}
 use Rattle.outside.specs.Outside.{DiskRun, IsNow, MomentsAre, Outside}
 use Rattle.frame_journal.specs.Gates.{ReadsSame}
-use Rattle.sync_rules.specs.declared.states.Refused.{Refused}
+use Rattle.entry_codec.specs.Standing.{Standing, journal, stands}
+use Rattle.sync_rules.specs.Clients.{Meaning}
 use Rattle.sync_rules.specs.Facts.{Facts, facts}
-use Rattle.entry_codec.specs.Standing.{Standing, stands}
+use Rattle.sync_rules.specs.declared.states.Refused.{Refused}
+use Rattle.sync_rules.specs.declared.states.Refused.TheVariants as refused
 use Rattle.sync_store.specs.Store.{StoreValue}
-use Rattle.store_commands.specs.Load.{HasFacts, LoadedBy}
-use Rattle.sync_words.specs.declared.link_words.LinkWords.{LinkWords}
 use Rattle.sync_course.specs.Closing.{Closing}
+use Rattle.sync_node.specs.Courses.{ReadsAs}
+use Rattle.sync_node.specs.Output.{Journal, output, sent_on}
+use Rattle.store_commands.specs.Load.{HasFacts, IsLoaded, LoadedBy}
+use Rattle.sync_words.specs.declared.link_words.LinkWords.{LinkWords}
 use Rattle.sync_words.specs.declared.outcome.Outcome.{Outcome}
 use Rattle.sync_words.specs.declared.outcome.Outcome.TheVariants as outcome
-use Rattle.sync_run.specs.declared.dialling.Dialled.{Dialled}
-use Rattle.sync_run.specs.Causes.{FailsAlone, RunCaused}
-use Rattle.sync_run.specs.Dialling.{DialsAll, MakesLinks}
-use Rattle.sync_run.specs.Courses.{RunComesTo, run_test}
-use Rattle.sync_run.specs.declared.run.Limits.{Limits}
-use Rattle.sync_node.specs.Output.{output, sent_on}
-use Rattle.sync_run.specs.Headline.{Headline, LeavesFilesAtRest}
-use Rattle.sync_run.specs.Ran.{RanTold}
-use Rattle.sync_rules.specs.Clients.{Meaning}
-use Rattle.sync_run.specs.Leaving.{DoesNotBegin, LeavesLinks, MayNotBegin}
-use Rattle.sync_run.proofs.CourseLinks.{no_links_made}
+use Rattle.sync_run.proofs.DialActs.{unbegun}
+use Rattle.sync_run.proofs.DialLaws.{no_links_made}
 use Rattle.sync_run.proofs.RunActs.{passed}
 use Rattle.sync_run.proofs.TellLaws.{nothing_sent, reads_told, silent_by}
+use Rattle.sync_run.specs.Causes.{IsCaused, IsOfRun}
+use Rattle.sync_run.specs.Courses.{RunComesTo, TestsWords, WasBroken, are_too_many, is_unknown}
+use Rattle.sync_run.specs.Courses.{run_test}
+use Rattle.sync_run.specs.Headline.{Headline, LeavesFilesAtRest}
+use Rattle.sync_run.specs.Leaving.{LeavesLinks, MakesFront}
+use Rattle.sync_run.specs.Ran.{RanTold}
+use Rattle.sync_run.specs.declared.run.Limits.{Limits}
+
+-- ---- the links
 
 -- no link was touched
-pub leaves_same : (words : List LinkWords) (o o' : Outside) (r : Result Closing Outcome) → o'.links ≡ o.links → LeavesLinks words o o' r
-leaves_same words o o' (Ok ends) same = tt
+pub leaves_same : (words : List LinkWords) (o o' : Outside) (r : Result Closing Outcome)
+    → o'.links ≡ o.links → LeavesLinks words o o' r
 leaves_same words o o' (Err outcome.NoStore) same = same
 leaves_same words o o' (Err (outcome.Damaged place)) same = same
 leaves_same words o o' (Err (outcome.Refused why)) same = same
@@ -41,48 +46,72 @@ leaves_same words o o' (Err (outcome.LinkFailed named)) same = record {
   front = record { rest = words; whole = refl };
   makes = no_links_made o o' same;
 }
-leaves_same words o o' (Err came) same = tt
-
--- a call of a dial failed
-pub undialled_leaves : (words : List LinkWords) (links : List Dialled) (o o' : Outside) (e : Failed) (link : ℕ) (r : Result Closing Outcome) → DialsAll words links (Err e) o o' → FailsAlone link r
-    → LeavesLinks words o o' r
-undialled_leaves words links o o' e link (Ok ends) dials alone = tt
-undialled_leaves words links o o' e link (Err (outcome.LinkFailed named)) dials alone = record { made = dials.made; front = dials.front; makes = dials.makes }
-undialled_leaves words links o o' e link (Err _) dials alone = absurd alone
+leaves_same words o o' _ same = tt
 
 -- all links were dialled, and the run came to what it did
-pub dialled_leaves : (words : List LinkWords) (o o1 o' : Outside) (r : Result Closing Outcome) → RunCaused o1 o' r → LeavesLinks words o o' r
-dialled_leaves words o o1 o' (Ok ends) caused = tt
-dialled_leaves words o o1 o' (Err outcome.DiskFault) caused = tt
-dialled_leaves words o o1 o' (Err outcome.Full) caused = tt
-dialled_leaves words o o1 o' (Err outcome.Memory) caused = tt
-dialled_leaves words o o1 o' (Err _) caused = absurd caused
+pub dialled_leaves : (words : List LinkWords) (o o' : Outside) (r : Result Closing Outcome)
+    → IsOfRun r → LeavesLinks words o o' r
+dialled_leaves words o o' (Ok ends) of_run = tt
+dialled_leaves words o o' (Err outcome.DiskFault) of_run = tt
+dialled_leaves words o o' (Err outcome.Full) of_run = tt
+dialled_leaves words o o' (Err outcome.Memory) of_run = tt
+dialled_leaves words o o' (Err _) of_run = absurd of_run
 
 -- the same where calls before and behind it touched no link
-pub leaves_as : (words : List LinkWords) (o o1 o2 o3 : Outside) (r : Result Closing Outcome) → o1.links ≡ o.links → o3.links ≡ o2.links → LeavesLinks words o1 o2 r
+pub leaves_as : (words : List LinkWords) (o o1 o2 o3 : Outside) (r : Result Closing Outcome)
+    → o1.links ≡ o.links → o3.links ≡ o2.links → LeavesLinks words o1 o2 r
     → LeavesLinks words o o3 r
-leaves_as words o o1 o2 o3 (Ok ends) first last leaves = tt
 leaves_as words o o1 o2 o3 (Err outcome.NoStore) first last leaves = last ∙ leaves ∙ first
 leaves_as words o o1 o2 o3 (Err (outcome.Damaged place)) first last leaves = last ∙ leaves ∙ first
 leaves_as words o o1 o2 o3 (Err (outcome.Refused why)) first last leaves = last ∙ leaves ∙ first
-leaves_as words o o1 o2 o3 (Err (outcome.LinkFailed named)) first last leaves = record {
-  made = leaves.made;
-  front = leaves.front;
-  makes =
-      subst (λ (a : Links). MakesLinks leaves.made a o3.links) first
-      (subst (λ (b : Links). MakesLinks leaves.made o1.links b) (sym last) leaves.makes);
-}
-leaves_as words o o1 o2 o3 (Err came) first last leaves = tt
+leaves_as words o o1 o2 o3 (Err (outcome.LinkFailed named)) first last leaves =
+    subst (λ (a : Links). MakesFront words a o3.links) first
+    (subst (λ (b : Links). MakesFront words o1.links b) (sym last) leaves)
+leaves_as words o o1 o2 o3 _ first last leaves = tt
 
--- ---- files over which no session may begin
+-- ---- what it comes to
 
--- a load alone
-pub unbegun_loaded : (two : Two File) (o o1 : Outside) → o.files ≡ Some two → DiskRun o o1 → MomentsAre o o1 (IsNow two o.links) → RelatesTold ReadsSame o.files o1.files
-    → DoesNotBegin two o o1
-unbegun_loaded two o o1 told run moments reads = record {
-  same_links = run.same_links;
-  rests = record { moments = moments; kept = λ two' told'. reads_told o.files o1.files two two' reads told told' };
-}
+-- files that read as before
+pub reads_still : (clients : Meaning) (two : Two File) (old new : Option (Two File)) (j : Journal)
+    → old ≡ Some two → RelatesTold ReadsSame old new → stands clients (read_files two) ≡ journal j
+    → ReadsAs clients new j
+reads_still clients two old new j is reads began =
+    let now = becomes_told ReadsSame old new two is reads in
+    (now.0, now.1, ap (stands clients) now.2 ∙ began)
+
+module _ (clients : Meaning) (limits : Limits) (words : List LinkWords) (two : Two File)
+    (o o' : Outside) (none : o.links.dialled ≡ 0) (told : o.files ≡ Some two)
+    (same : o'.links ≡ o.links) (reads : RelatesTold ReadsSame o.files o'.files) where
+  abbrev stood : Standing
+  stood = stands clients (read_files two)
+
+  -- the files read as before
+  still : (begin : Journal) → stood ≡ journal begin → ReadsAs clients o'.files begin
+  still begin began = reads_still clients two o.files o'.files begin told reads began
+
+  -- it was broken off before its first session
+  pub broken_early : (begin : Journal) → stood ≡ journal begin
+      → WasBroken clients limits words begin o o'
+  broken_early begin began =
+      unbegun clients limits words [] begin o o' none (no_links_made o o' same) (still begin began)
+
+  pub load_comes : (came : Outcome) → LoadedBy o o' (Err came) → IsLoaded stood (Err came)
+      → RunComesTo clients limits words stood o o' (Err came)
+  load_comes outcome.NoStore by loaded = loaded
+  load_comes (outcome.Damaged place) by loaded = loaded
+  load_comes outcome.DiskFault by loaded = broken_early
+  load_comes outcome.Memory by loaded = broken_early
+  load_comes _ by loaded = absurd by
+
+  pub refused_comes : (s : StoreValue) → HasFacts stood s → (why : Refused)
+      → TestsWords s.state.facts words (Err why)
+      → RunComesTo clients limits words stood o o' (Err (outcome.Refused why))
+  refused_comes s loaded why tests = record {
+    begin = loaded.of;
+    began = loaded.stood;
+    tested = ap (λ (f : Facts). run_test f words) loaded.are ∙ tests;
+    has = still loaded.of loaded.stood;
+  }
 
 -- a command that ended behind its load and before its links
 pub told_early : (clients : Meaning) (limits : Limits) (words : List LinkWords) (two : Two File)
@@ -97,21 +126,20 @@ told_early clients limits words two o o1 told run moments reads r x is other res
       sent = tt;
       sent_full = λ full. absurd (other (let same : x ≡ outcome.Full = cc in same));
       comes = comes;
-      unbegun = λ none. unbegun_loaded two o o1 told run moments reads;
+      unbegun = λ none. record {
+        same_links = run.same_links;
+        rests = record {
+          moments = moments;
+          kept = λ two' told'. reads_told o.files o1.files two two' reads told told';
+        };
+      };
     })
-
--- over a journal for which the tests hold some session may
-pub tested_begins : (words : List LinkWords) (standing : Standing) (s : StoreValue) → HasFacts standing s → run_test s.state.facts words ≡ None → MayNotBegin words standing → ⊥
-tested_begins words standing s has tested none =
-    let fails : is_some (run_test (facts has.of) words) ≡ true = subst (λ (st : Standing). MayNotBegin words st) has.stood none in
-    let holds : is_some (run_test (facts has.of) words) ≡ false =
-    ap (λ (f : Facts). is_some (run_test f words)) has.are ∙ ap (λ (o : Option Refused). is_some o) tested in
-    let both : true ≡ false = sym fails ∙ holds in
-    cc
 
 -- where no session began: each moment might have been before the command, and the files read as
 -- before
-pub headline_none : (clients : Meaning) (words : List LinkWords) (o o' : Outside) → o.links.dialled ≡ 0 → DiskRun o o' → ((two : Two File) → o.files ≡ Some two → MomentsAre o o' (IsNow two o.links))
+pub headline_none : (clients : Meaning) (words : List LinkWords) (o o' : Outside)
+    → o.links.dialled ≡ 0 → DiskRun o o'
+    → ((two : Two File) → o.files ≡ Some two → MomentsAre o o' (IsNow two o.links))
     → RelatesTold ReadsSame o.files o'.files → Headline clients words o o'
 headline_none clients words o o' none run moments reads two told told' =
     let each = (moments two told).each in
@@ -122,13 +150,45 @@ headline_none clients words o o' none run moments reads two told told' =
         sessions = [];
         planned = tt;
         whole = begin;
-        stands_for = ap (stands clients) (reads_told o.files o'.files two told'.two reads told told'.files_are) ∙ stood;
+        stands_for =
+            ap (stands clients)
+            (reads_told o.files o'.files two told'.two reads told told'.files_are) ∙ stood;
         suits = record { more = []; extends = sym (append-nil begin); suits = tt };
         has_sent = λ link.
-            let nothing : sent_on o'.links link ≡ [] = ap (λ (l : Links). sent_on l link) run.same_links ∙ nothing_sent o none link in
-            record { rest = output begin ((facts begin).begun + link); whole = ap (λ (l : List ℕ). l ++ output begin ((facts begin).begun + link)) (sym nothing) };
+            let all : List ℕ = output begin ((facts begin).begun + link) in
+            let nothing : sent_on o'.links link ≡ [] =
+            ap (λ (l : Links). sent_on l link) run.same_links ∙ nothing_sent o none link in
+            record { rest = all; whole = ap (λ (l : List ℕ). l ++ all) (sym nothing) };
       };
     }
 
-pub loaded_unfull : (old new : Outside) (e : Outcome) → LoadedBy old new (Err e) → e ≡ outcome.Full → ⊥
+pub loaded_unfull : (old new : Outside) (e : Outcome) → LoadedBy old new (Err e)
+    → e ≡ outcome.Full → ⊥
 loaded_unfull old new e by is = subst (λ (x : Outcome). LoadedBy old new (Err x)) is by
+
+-- ---- causes
+
+pub load_caused : (words : List LinkWords) (o o' : Outside) (came : Outcome) → LoadedBy o o'
+    (Err came) → IsCaused words o o' (Err came)
+load_caused words o o' outcome.NoStore by = tt
+load_caused words o o' (outcome.Damaged place) by = tt
+load_caused words o o' outcome.DiskFault by = by
+load_caused words o o' outcome.Memory by = tt
+load_caused words o o' _ by = absurd by
+
+-- one of the two tests refused it
+pub refused_caused : (f : Facts) (words : List LinkWords) (o o' : Outside) (why : Refused)
+    → TestsWords f words (Err why) → IsCaused words o o' (Err (outcome.Refused why))
+refused_caused f words o o' why tests = by_tests (is_unknown f words) (are_too_many f words) tests
+  where
+    by_tests : (unknown many : Bool)
+        → (if unknown then Some refused.UnknownContact
+        else (if many then Some refused.TooManySessions else None)) ≡ Some why
+        → IsCaused words o o' (Err (outcome.Refused why))
+    by_tests true many is =
+        let same : refused.UnknownContact ≡ why = cc in
+        subst (λ (x : Refused). IsCaused words o o' (Err (outcome.Refused x))) same tt
+    by_tests false true is =
+        let same : refused.TooManySessions ≡ why = cc in
+        subst (λ (x : Refused). IsCaused words o o' (Err (outcome.Refused x))) same tt
+    by_tests false false is = cc

@@ -1,7 +1,5 @@
-mod LineLaws
 mod CourseParts
 mod CauseLaws
-mod CourseLinks
 mod StandsLaws
 mod TellLaws
 mod LeavingLaws

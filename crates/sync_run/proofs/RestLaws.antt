@@ -1,9 +1,9 @@
 -- Files at rest: nothing is pending in them, so that a crash leaves what a read gives.
-use Rattle.std.proofs.Common.{◌≡◌, ℕ, List, refl, sym, ap, ◌∙◌, subst, arith, Option, None, Some, Result, Err}
-use Rattle.std.proofs.lemmas.Grind.{same_number_lists}
+use Rattle.std.proofs.Common.{◌≡◌, ℕ, List, sym, ap, ◌∙◌, subst, Option, None, Some, Result, Err}
 use Rattle.outside.specs.Disk.{RelatesTold}
 use Rattle.outside.specs.Files.{Two, File, IsFileImage, IsImage, NothingPending, read_files, settled}
 use Rattle.frame_journal.specs.Gates.{SyncsBoth}
+use Rattle.frame_journal.proofs.Torn.{settled_only}
 use Rattle.sync_rules.specs.Clients.{Meaning}
 use Rattle.sync_store.specs.Store.{StoreValue}
 use Rattle.sync_store.specs.Ready.{IsReady}
@@ -14,20 +14,19 @@ use Rattle.sync_words.specs.declared.outcome.Outcome.{Outcome}
 use Rattle.sync_words.specs.declared.outcome.Outcome.TheVariants as outcome
 use Rattle.sync_run.specs.Headline.{AtRest, LeavesFilesAtRest}
 
-settled_only : (bytes c : List ℕ) → IsFileImage (settled bytes) c → c ≡ bytes
-settled_only bytes c image = same_number_lists c bytes (omega (arith, image.no_shorter, image.no_longer)) (λ k below. image.kept k (omega (arith, image.no_longer)) refl)
-
-abbrev two_of : List ℕ → List ℕ → Two (List ℕ)
-two_of first second = record { first = first; second = second }
-
-two_are : (x y : Two (List ℕ)) → x.first ≡ y.first → x.second ≡ y.second → x ≡ y
-two_are x y first second = ap (λ (b : List ℕ). two_of b x.second) first ∙ ap (λ (b : List ℕ). two_of y.first b) second
-
 -- a crash leaves what a read gives
-pub image_read : (two : Two File) (left : Two (List ℕ)) → NothingPending two 0 → NothingPending two 1 → IsImage two left → left ≡ read_files two
+pub image_read : (two : Two File) (left : Two (List ℕ)) → NothingPending two 0
+    → NothingPending two 1 → IsImage two left → left ≡ read_files two
 image_read two left first second image =
-    two_are left (read_files two) (settled_only two.first.now left.first (subst (λ (f : File). IsFileImage f left.first) first image.first))
-    (settled_only two.second.now left.second (subst (λ (f : File). IsFileImage f left.second) second image.second))
+    let at_first : left.first ≡ two.first.now =
+    settled_only two.first.now left.first
+    (subst (λ (f : File). IsFileImage f left.first) first image.first) in
+    let at_second : left.second ≡ two.second.now =
+    settled_only two.second.now left.second
+    (subst (λ (f : File). IsFileImage f left.second) second image.second) in
+    let of : List ℕ → List ℕ → Two (List ℕ) = λ a b. record { first = a; second = b } in
+    ap (λ (b : List ℕ). of b left.second) at_first
+    ∙ ap (λ (b : List ℕ). of two.first.now b) at_second
 
 -- ---- by what calls answered
 

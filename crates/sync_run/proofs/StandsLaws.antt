@@ -1,23 +1,21 @@
 -- How a node stands behind parts of a run, one after the other.
-use Rattle.std.proofs.Common.{◌≡◌, ℕ, ◌+◌, ◌++◌, ◌∷◌, [], ◌<◌, List, length, sym, ◌∙◌, ap, subst, refl, Result, Ok, Err, get_or}
+use Rattle.std.proofs.Common.{◌≡◌, ℕ, List, length, ap, sym, ◌∙◌, inl, refl, Result, Ok, Err}
 use Rattle.std.specs.Prelude.{IsErrAnd}
-use Rattle.std.proofs.lemmas.List.{length-append, length-map}
+use Rattle.std.proofs.lemmas.List.{length-map}
 use Rattle.outside.specs.Outside.{Outside}
 use Rattle.sync_rules.specs.Clients.{Meaning}
 use Rattle.sync_rules.specs.declared.entries.Session.{Session}
 use Rattle.sync_node.specs.Causes.{sessions_of}
+use Rattle.sync_node.specs.declared.link.Link.{Link}
 use Rattle.sync_node.specs.declared.fault.NodeFault.{NodeFault}
 use Rattle.sync_node.specs.declared.fault.NodeFault.TheVariants as fault
-use Rattle.sync_node.specs.declared.link.Link.{Link}
 use Rattle.sync_node.specs.Node.{AnswersAndCloses, IsNode, MayRun, NodeValue}
-use Rattle.sync_run.specs.declared.dialling.Dialled.{Dialled}
 use Rattle.sync_node.specs.Calls.{AttachStops, CallGoes, CallStops}
-use Rattle.sync_run.specs.NodeStands.{StandsBy}
-use Rattle.sync_run.specs.Needs.{AllMayBegin, MayBeginOn}
+use Rattle.sync_run.specs.Parts.{StandsBy}
 use Rattle.sync_node.proofs.SafeLaws.{goes_none}
 use Rattle.sync_node.proofs.WorkLaws.{goes_then}
 use Rattle.sync_run.proofs.RunActs.{passed}
-use Rattle.sync_run.proofs.CauseLaws.{causes_then, no_causes, rose_before}
+use Rattle.sync_run.proofs.CauseLaws.{causes_then, rose_before}
 
 -- ---- what is kept
 
@@ -28,7 +26,7 @@ keeps_none n o node = record {
   same_first = refl;
   same_limit = refl;
   same_format = refl;
-  cause = no_causes n.links o;
+  cause = λ number stands. inl stands;
 }
 
 pub keeps_then : (n0 n1 n2 : NodeValue) (o0 o1 o2 : Outside) → CallGoes n0 n1 o0 o1
@@ -48,31 +46,26 @@ keeps_then n0 n1 n2 o0 o1 o2 first second = record {
 -- a call of a node stopped behind others, and its fault goes on by `?`
 module _ (T U : Type 0) (clients : Meaning) (n0 n n' : NodeValue) (o0 o o' : Outside)
     (first : CallGoes n0 n o0 o) where
-  stops_on : (x : NodeFault) → CallStops {T = T} clients n' o o' (Err x)
-      → CallStops {T = U} clients n' o0 o' (Err x)
-  stops_on fault.Memory stops = stops
-  stops_on fault.Full stops = stops
-  stops_on fault.DiskFault stops =
-      rose_before o0.disk_faults o.disk_faults o'.disk_faults first.goes.later stops
-  stops_on fault.Closed stops = tt
-
-  closes_by : (x : NodeFault) → AnswersAndCloses {T = T} (Err x) n'
-      → AnswersAndCloses {T = U} (Err x) n'
-  closes_by fault.Memory answer = answer
-  closes_by fault.Full answer = answer
-  closes_by fault.DiskFault answer = answer
-  closes_by fault.Closed answer = answer
+  stopped_on : (x : NodeFault) → AnswersAndCloses {T = T} (Err x) n'
+      → CallStops {T = T} clients n' o o' (Err x)
+      → AnswersAndCloses {T = U} (Err x) n' × CallStops {T = U} clients n' o0 o' (Err x)
+  stopped_on fault.Memory answer stops = (answer, stops)
+  stopped_on fault.Full answer stops = (answer, stops)
+  stopped_on fault.DiskFault answer stops =
+      (answer, rose_before o0.disk_faults o.disk_faults o'.disk_faults first.goes.later stops)
+  stopped_on fault.Closed answer stops = absurd answer
 
   pub stands_stopped : (count : ℕ) (r : Result U NodeFault) (x : NodeFault)
       → IsErrAnd r (λ y. y ≡ x) → CallGoes n n' o o' → AnswersAndCloses {T = T} (Err x) n'
       → MayRun clients n' o' → CallStops {T = T} clients n' o o' (Err x)
       → StandsBy clients count n0 n' o0 o' r
   stands_stopped count r x is second answer may stops =
+      let both = stopped_on x answer stops in
       passed (StandsBy {T = U} clients count n0 n' o0 o') r x is (record {
         goes = keeps_then n0 n n' o0 o o' first second;
-        answer = closes_by x answer;
+        answer = both.0;
         may = may;
-        stops = stops_on x stops;
+        stops = both.1;
         number = tt;
       })
 
@@ -106,12 +99,6 @@ attach_stops T H clients n n' host host' o o' fault.Full stops = stops.ready
 attach_stops T H clients n n' host host' o o' fault.DiskFault stops = stops
 attach_stops T H clients n n' host host' o o' fault.Closed stops = tt
 
--- ---- links
-
-pub one_longer : (links links' : List Link) (l : Link) → links' ≡ links ++ l ∷ []
-    → length links' ≡ length links + 1
-one_longer links links' l is = ap (λ (ls : List Link). length ls) is ∙ length-append links (l ∷ [])
-
 -- a turn leaves the sessions on the links
 pub same_number : (links links' : List Link) → sessions_of links' ≡ sessions_of links
     → length links' ≡ length links
@@ -120,9 +107,3 @@ same_number links links' same =
   where
     long : (ls : List Link) → length (sessions_of ls) ≡ length ls
     long ls = length-map ls (λ (l : Link). l.session)
-
--- what the next session needs
-pub item_may : (contacts : ℕ) (links : List Dialled) (i : ℕ) (d : Dialled)
-    → AllMayBegin contacts links → i < length links → d ≡ get_or links i d → MayBeginOn contacts d
-item_may contacts links i d all within is =
-    subst (λ (x : Dialled). MayBeginOn contacts x) (sym is) (all i d within)

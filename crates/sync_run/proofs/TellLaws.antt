@@ -1,28 +1,24 @@
 -- What is told on one side of some calls is told on the other.
-use Rattle.std.proofs.Common.{◌≡◌, ℕ, List, [], ◌∷◌, length, arith, refl, sym, ◌∙◌, ap, Option, None, Some, is_some, slice_index_or}
+use Rattle.std.proofs.Common.{◌≡◌, ℕ, List, [], length, refl, sym, ◌∙◌, ap, Option, None}
+use Rattle.std.proofs.Common.{Some, is_some, slice_index_or}
+use Rattle.std.proofs.lemmas.List.{nil_from_length}
 use Rattle.outside.specs.Disk.{RelatesTold}
 use Rattle.outside.specs.Files.{Two, File, read_files}
-use Rattle.outside.specs.Links.{ToldLink, Links, sent_of}
+use Rattle.outside.specs.Links.{ToldLink, sent_of}
 use Rattle.outside.specs.Outside.{Moment, Outside}
 use Rattle.outside.specs.Runs.{LinksGrow, TellsAll}
 use Rattle.outside.proofs.CallSteps.{becomes_told}
 use Rattle.frame_journal.specs.Gates.{ReadsSame}
 use Rattle.sync_node.specs.Output.{sent_on}
-use Rattle.sync_run.specs.Dialling.{PassesTime}
+use Rattle.sync_node.proofs.CourseLaws.{told_as}
 use Rattle.sync_run.specs.Headline.{sent_by}
-
-pub told_too : {A : Type 0} (a b : Option A) (x : A) → is_some b ≡ is_some a → a ≡ Some x
-    → (y : A) × (b ≡ Some y)
-told_too None b x same is = cc
-told_too (Some a) None x same is = cc
-told_too (Some a) (Some b) x same is = (b, refl)
 
 pub told_back : (o o' : Outside) → is_some o'.files ≡ is_some o.files → LinksGrow o.links o'.links
     → TellsAll o' → TellsAll o
 told_back o o' same grow told =
-    let files = told_too o'.files o.files told.two (sym same) told.files_are in
-    let links = told_too o'.links.told o.links.told told.links (sym grow.same_told) told.links_are in
-    let heard = told_too o'.links.heard o.links.heard told.heard (sym grow.same_heard) told.heard_are in
+    let files = told_as o'.files o.files told.two (sym same) told.files_are in
+    let links = told_as o'.links.told o.links.told told.links (sym grow.same_told) told.links_are in
+    let heard = told_as o'.links.heard o.links.heard told.heard (sym grow.same_heard) told.heard_are in
     record {
       two = files.0;
       files_are = files.1;
@@ -32,42 +28,33 @@ told_back o o' same grow told =
       heard_are = heard.1;
     }
 
--- where nothing but the time changed, the files that are told are the same
-abbrev pub told_stills : (o o' : Outside) → PassesTime o o' → TellsAll o' → TellsAll o
-told_stills o o' stills told' = record {
-  two = told'.two;
-  files_are = sym stills.same_files ∙ told'.files_are;
-  links = told'.links;
-  links_are = ap (λ (l : Links). l.told) (sym stills.same_links) ∙ told'.links_are;
-  heard = told'.heard;
-  heard_are = ap (λ (l : Links). l.heard) (sym stills.same_links) ∙ told'.heard_are;
-}
-
 -- files that read as before
-pub reads_told : (old new : Option (Two File)) (two two' : Two File) → RelatesTold ReadsSame old new → old ≡ Some two → new ≡ Some two' → read_files two' ≡ read_files two
+pub reads_told : (old new : Option (Two File)) (two two' : Two File) → RelatesTold ReadsSame old new
+    → old ≡ Some two → new ≡ Some two' → read_files two' ≡ read_files two
 reads_told old new two two' becomes told told' =
     let at = becomes_told ReadsSame old new two told becomes in
-    let same : two' ≡ at.0 = let it = sym told' ∙ at.1 in cc in
+    let both : Some two' ≡ Some at.0 = sym told' ∙ at.1 in
+    let same : two' ≡ at.0 = cc in
     ap (λ (t : Two File). read_files t) same ∙ at.2
 
 -- ---- nothing was sent where no link was made
 
-no_link : {A : Type 0} (xs : List A) → length xs ≡ 0 → xs ≡ []
-no_link [] none = refl
-no_link (x ∷ xs) none = absurd (omega (arith, none))
-
-none_told : (told : Option (List ToldLink)) → ((links : List ToldLink) → told ≡ Some links → length links ≡ 0) → sent_of told ≡ []
+none_told : (told : Option (List ToldLink))
+    → ((links : List ToldLink) → told ≡ Some links → length links ≡ 0) → sent_of told ≡ []
 none_told None none = refl
-none_told (Some links) none = ap (λ (ls : List ToldLink). sent_of (Some ls)) (no_link links (none links refl))
+none_told (Some links) none =
+    ap (λ (ls : List ToldLink). sent_of (Some ls)) (nil_from_length links (none links refl))
 
 -- on no link of a host on which none was made
 none_sent : (o : Outside) → o.links.dialled ≡ 0 → sent_of o.links.told ≡ []
 none_sent o none = none_told o.links.told (λ links told. o.all_told links told ∙ none)
 
 pub nothing_sent : (o : Outside) → o.links.dialled ≡ 0 → (link : ℕ) → sent_on o.links link ≡ []
-nothing_sent o none link = ap (λ (s : List (List ℕ)). slice_index_or s link []) (none_sent o none)
+nothing_sent o none link =
+    ap (λ (s : List (List ℕ)). slice_index_or s link []) (none_sent o none)
 
 -- a moment before which nothing was sent
 pub silent_by : (o : Outside) (m : Moment) (link : ℕ) → o.links.dialled ≡ 0
     → m.sent ≡ sent_of o.links.told → sent_by m link ≡ []
-silent_by o m link none sent = ap (λ (s : List (List ℕ)). slice_index_or s link []) (sent ∙ none_sent o none)
+silent_by o m link none sent =
+    ap (λ (s : List (List ℕ)). slice_index_or s link []) (sent ∙ none_sent o none)

@@ -1,5 +1,5 @@
 -- Why a run of sessions ended so, whatever the outside tells.
-use Rattle.std.specs.Prelude.{◌≡◌, ℕ, ◌<◌, List, length, Result, Ok, Err, slice_get, Some}
+use Rattle.std.specs.Prelude.{◌≡◌, ℕ, ◌<◌, List, [], length, Result, Ok, Err, slice_get, Some}
 use Rattle.outside.specs.Faults.{CountRose}
 use Rattle.outside.specs.Outside.{Outside}
 use Rattle.sync_rules.specs.declared.states.Refused.TheVariants as refused
@@ -20,19 +20,6 @@ pub record DialFailed (words : List LinkWords) (old new : Outside) (link : ℕ) 
   pub within : link < length words
   pub rose : CountRose (old.links.faults link) (new.links.faults link)
 
--- this link is the one that failed
-abbrev pub FailsAlone : ℕ → Result Closing Outcome → Type 0
-FailsAlone link (Err (outcome.LinkFailed named)) = named ≡ link
-FailsAlone link _ = ⊥
-
--- the causes of what a run on links that were dialled comes to
-abbrev pub RunCaused : (old new : Outside) → Result Closing Outcome → Type 0
-RunCaused old new (Ok ends) = FailuresRose old new ends
-RunCaused old new (Err outcome.DiskFault) = CountRose old.disk_faults new.disk_faults
-RunCaused old new (Err outcome.Full) = Unit {0}
-RunCaused old new (Err outcome.Memory) = Unit {0}
-RunCaused old new (Err _) = ⊥
-
 -- the causes of what the command comes to
 abbrev pub IsCaused : List LinkWords → (old new : Outside) → Result Closing Outcome → Type 0
 IsCaused words old new (Ok ends) = FailuresRose old new ends
@@ -45,3 +32,15 @@ IsCaused words old new (Err (outcome.Refused refused.TooManySessions)) = Unit {0
 IsCaused words old new (Err outcome.Full) = Unit {0}
 IsCaused words old new (Err outcome.Memory) = Unit {0}
 IsCaused words old new (Err _) = ⊥
+
+-- sessions that run on links which were dialled come to one of these
+abbrev pub IsOfRun : Result Closing Outcome → Type 0
+IsOfRun (Ok ends) = Unit {0}
+IsOfRun (Err outcome.DiskFault) = Unit {0}
+IsOfRun (Err outcome.Full) = Unit {0}
+IsOfRun (Err outcome.Memory) = Unit {0}
+IsOfRun (Err _) = ⊥
+
+-- the causes of what they come to
+abbrev pub RunCaused : (old new : Outside) → Result Closing Outcome → Type 0
+RunCaused old new result = IsOfRun result × IsCaused [] old new result

@@ -5,7 +5,7 @@ use Rattle.std.specs.List.{list_any}
 use Rattle.std.specs.Option.{option_map}
 use Rattle.outside.specs.declared.limits.TheConstants.{MAX_JOURNAL}
 use Rattle.outside.specs.Files.{Two, File, read_files}
-use Rattle.outside.specs.Links.{HeardOn, ToldLink}
+use Rattle.outside.specs.Links.{HeardOn, Links, ToldLink}
 use Rattle.outside.specs.Outside.{Outside}
 use Rattle.outside.specs.Runs.{IsFront, TellsAll}
 use Rattle.sync_rules.specs.declared.entries.Entry.{Entry}
@@ -43,10 +43,10 @@ terms_of limits begin = terms_at limits (facts begin).begun
 
 -- From a host on which no link was made: what the links heard and what the clock gave is what the events say, wherever it is told;
 -- and the count of a link's failures rose where an event says that a call of it failed.
-pub record HearsRun (events : List Event) (old new : Outside) : Type 0 where
-  pub heard : new.links.heard ≡ option_map (λ (h : List HeardOn). heard_after events (unheard new.links.dialled)) old.links.heard
-  pub readings : GrowsBy (readings_of events) old.links.readings new.links.readings
-  pub faults : (link : ℕ) → RoseIf (has_failure link events) (old.links.faults link) (new.links.faults link)
+pub record HearsRun (events : List Event) (old new : Links) : Type 0 where
+  pub heard : new.heard ≡ option_map (λ (h : List HeardOn). heard_after events (unheard new.dialled)) old.heard
+  pub readings : GrowsBy (readings_of events) old.readings new.readings
+  pub faults : (link : ℕ) → RoseIf (has_failure link events) (old.faults link) (new.faults link)
 
 -- the links that were made have the first specs of the words, in order
 abbrev pub HaveSpecs : List LinkWords → Outside → Type 0
@@ -63,7 +63,7 @@ pub record RanToEnd (clients : Meaning) (limits : Limits) (words : List LinkWord
   pub events : List Event
   pub last : Place
   pub course : Course clients (terms_of limits begin) sessions (facts begin) events last
-  pub hears : HearsRun events old new
+  pub hears : HearsRun events old.links new.links
   pub reads : ReadsAs clients new.files (begin ++ batches_of events)
   pub closes : ends ≡ closing limits.quiet last
   pub by_heard : AllStandByHeard last
@@ -80,14 +80,8 @@ pub record WasBroken (clients : Meaning) (limits : Limits) (words : List LinkWor
   pub last : Place
   pub broken : Broken clients (terms_of limits begin) sessions (facts begin) events last
   pub all_made : (facts begin).begun < last.facts.begun → new.links.dialled ≡ length words
-  pub hears : HearsRun events old new
+  pub hears : HearsRun events old.links new.links
   pub reads : ReadsAs clients new.files (begin ++ batches_of events)
-
--- on each link that has not failed at this place of a run all output of its session was sent, as this journal has it
-abbrev pub SentAt : (begin whole : Journal) → Place → Outside → Type 0
-SentAt begin whole place new =
-    TellsAll new → (i : ℕ) (l : course_links.Link) → slice_get place.links i ≡ Some l → l.stands ≢ end.Failed
-    → sent_on new.links i ≡ output whole ((facts begin).begun + i)
 
 -- The same where there was no room: from that place the next step of the course commits a batch with which the journal, the batch's
 -- frame and the room for settling pass the greatest length of a journal; and a link that has not failed there has sent the whole.
@@ -97,7 +91,9 @@ pub record WasOver (clients : Meaning) (limits : Limits) (words : List LinkWords
   pub next : Place
   pub steps : RunStep clients (terms_of limits begin) run.last (Commit batch) next
   pub over : MAX_JOURNAL < needed_by (begin ++ batches_of run.events) batch
-  pub sent : SentAt begin (begin ++ batches_of run.events) run.last new
+  pub sent : TellsAll new → (i : ℕ) (l : course_links.Link) → slice_get run.last.links i ≡ Some l
+      → l.stands ≢ end.Failed
+      → sent_on new.links i ≡ output (begin ++ batches_of run.events) ((facts begin).begun + i)
 
 -- No generation was left for a journal in format 2: the files read as before. All links were made, and nothing was sent or heard on
 -- them.
@@ -135,15 +131,6 @@ abbrev pub TestsWords : Facts → List LinkWords → Result (Unit {0}) Refused �
 TestsWords f words (Ok _) = run_test f words ≡ None
 TestsWords f words (Err why) = run_test f words ≡ Some why
 
--- What a run comes to over a journal for which the tests hold. A dial that failed leaves the files as they read.
-abbrev pub RunComes : Meaning → Limits → List LinkWords → Journal → (old new : Outside) → Result Closing Outcome → Type 0
-RunComes clients limits words begin old new (Ok ends) = RanToEnd clients limits words begin old new ends
-RunComes clients limits words begin old new (Err (outcome.LinkFailed link)) = ReadsAs clients new.files begin
-RunComes clients limits words begin old new (Err outcome.Full) = WasFull clients limits words begin old new
-RunComes clients limits words begin old new (Err outcome.Memory) = WasBroken clients limits words begin old new
-RunComes clients limits words begin old new (Err outcome.DiskFault) = WasBroken clients limits words begin old new
-RunComes clients limits words begin old new (Err _) = ⊥
-
 -- the files stood for a journal for which the tests of the words hold, or this one fails first, and which has P
 pub record OfJournal (words : List LinkWords) (stood : Standing) (fails : Option Refused) (P : Journal → Type 0) : Type 0 where
   pub begin : Journal
@@ -153,14 +140,21 @@ pub record OfJournal (words : List LinkWords) (stood : Standing) (fails : Option
 
 -- What the command comes to, by what the files stood for; what is said of journals, answers and readings is said where the files
 -- were told. A run that ends before its first session leaves the files as they read.
-abbrev pub RunComesTo : Meaning → Limits → List LinkWords → Standing → (old new : Outside) → Result Closing Outcome → Type 0
-RunComesTo clients limits words stood old new (Ok ends) = OfJournal words stood None (λ begin. RunComes clients limits words begin old new (Ok ends))
+abbrev pub RunComesTo : Meaning → Limits → List LinkWords → Standing → (old new : Outside)
+    → Result Closing Outcome → Type 0
+RunComesTo clients limits words stood old new (Ok ends) =
+    OfJournal words stood None (λ begin. RanToEnd clients limits words begin old new ends)
 RunComesTo clients limits words stood old new (Err outcome.NoStore) = stood ≡ no_store
-RunComesTo clients limits words stood old new (Err (outcome.Damaged place)) = stood ≡ damaged place.file place.at
-RunComesTo clients limits words stood old new (Err (outcome.Refused why)) = OfJournal words stood (Some why) (λ begin. ReadsAs clients new.files begin)
+RunComesTo clients limits words stood old new (Err (outcome.Damaged place)) =
+    stood ≡ damaged place.file place.at
+RunComesTo clients limits words stood old new (Err (outcome.Refused why)) =
+    OfJournal words stood (Some why) (ReadsAs clients new.files)
 RunComesTo clients limits words stood old new (Err (outcome.LinkFailed link)) =
-    OfJournal words stood None (λ begin. RunComes clients limits words begin old new (Err (outcome.LinkFailed link)))
-RunComesTo clients limits words stood old new (Err outcome.Full) = OfJournal words stood None (λ begin. RunComes clients limits words begin old new (Err outcome.Full))
-RunComesTo clients limits words stood old new (Err outcome.Memory) = (begin : Journal) → stood ≡ journal begin → WasBroken clients limits words begin old new
-RunComesTo clients limits words stood old new (Err outcome.DiskFault) = (begin : Journal) → stood ≡ journal begin → WasBroken clients limits words begin old new
+    OfJournal words stood None (ReadsAs clients new.files)
+RunComesTo clients limits words stood old new (Err outcome.Full) =
+    OfJournal words stood None (λ begin. WasFull clients limits words begin old new)
+RunComesTo clients limits words stood old new (Err outcome.Memory) =
+    (begin : Journal) → stood ≡ journal begin → WasBroken clients limits words begin old new
+RunComesTo clients limits words stood old new (Err outcome.DiskFault) =
+    (begin : Journal) → stood ≡ journal begin → WasBroken clients limits words begin old new
 RunComesTo clients limits words stood old new (Err _) = ⊥

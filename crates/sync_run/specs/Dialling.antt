@@ -1,5 +1,6 @@
 -- Links that are dialled for the words of a command, before anything is committed.
-use Rattle.std.specs.Prelude.{◌≡◌, ◌⊎◌, ℕ, zero, suc, ◌+◌, ◌<◌, ◌≤◌, List, [], ◌∷◌, ◌++◌, length, map, is_some, Some, Result, Ok, Err, slice_index_or}
+use Rattle.std.specs.Prelude.{◌≡◌, ◌⊎◌, ℕ, zero, suc, ◌+◌, ◌<◌, ◌≤◌, List, [], ◌∷◌, ◌++◌, length}
+use Rattle.std.specs.Prelude.{map, Some, Result, Ok, Err, slice_index_or}
 use Rattle.std.specs.Option.{option_map}
 use Rattle.outside.specs.declared.failed.Failed.{Failed}
 use Rattle.outside.specs.Calls.{NoCall}
@@ -8,11 +9,11 @@ use Rattle.outside.specs.Faults.{CountRose}
 use Rattle.outside.specs.Files.{Two, File, IsImage}
 use Rattle.outside.specs.Links.{HeardOn, ToldLink, Links, nothing_heard}
 use Rattle.outside.specs.Outside.{Moment, Outside}
-use Rattle.outside.specs.Runs.{IsFront, LinksGrow, answers_at}
+use Rattle.outside.specs.Runs.{IsFront, LinksGrow}
 use Rattle.sync_node.specs.Output.{sent_on}
 use Rattle.sync_words.specs.declared.link_words.LinkWords.{LinkWords}
-use Rattle.sync_words.specs.Links.{has_nonce}
 use Rattle.sync_run.specs.declared.dialling.Dialled.{Dialled}
+use Rattle.sync_run.specs.Plans.{ArePlanned, sessions_from}
 
 -- ---- what was dialled
 
@@ -21,18 +22,9 @@ abbrev pub unheard : ℕ → List HeardOn
 unheard zero = []
 unheard (suc n) = nothing_heard ∷ unheard n
 
--- a link was dialled as its words say: it has a nonce exactly where they ask for one
-pub record IsDialled (words : LinkWords) (d : Dialled) : Type 0 where
-  pub same_contact : d.plan.contact ≡ words.contact
-  pub same_mode : d.plan.mode ≡ words.mode
-  pub same_latency : d.plan.latency ≡ words.latency
-  pub nonce : is_some d.nonce ≡ has_nonce words
-
--- links that were dialled for the first of these words, in order
+-- links that were dialled for the first of these words, in order, whatever session is the first
 abbrev pub AreDialled : List LinkWords → List Dialled → Type 0
-AreDialled words [] = Unit {0}
-AreDialled [] (d ∷ links) = ⊥
-AreDialled (w ∷ words) (d ∷ links) = IsDialled w d × AreDialled words links
+AreDialled words links = (first : ℕ) → ArePlanned first words (sessions_from first links)
 
 -- links with the specs of these words, on which nothing was sent
 abbrev pub fresh_links : List LinkWords → List ToldLink
@@ -78,8 +70,7 @@ pub record IsCalm (two : Two File) (o : Outside) (m : Moment) : Type 0 where
   pub image : IsImage two m.files
   pub same_sent : (link : ℕ) → slice_index_or m.sent link [] ≡ sent_on o.links link
 
--- Calls that ask nothing of the disk and send nothing. Links may be made; on each link the same was sent and
--- heard.
+-- Calls that ask nothing of the disk and send nothing. Links may be made.
 pub record DialsOnly (o o' : Outside) : Type 0 where
   pub same_files : o'.files ≡ o.files
   pub same_faults : o'.disk_faults ≡ o.disk_faults
@@ -87,7 +78,6 @@ pub record DialsOnly (o o' : Outside) : Type 0 where
   pub later : o.clock ≤ o'.clock
   pub grows : LinksGrow o.links o'.links
   pub sent : (link : ℕ) → sent_on o'.links link ≡ sent_on o.links link
-  pub answers : (link : ℕ) → answers_at o'.links.heard link ≡ answers_at o.links.heard link
   pub moments : (two : Two File) → o.files ≡ Some two → (t : ℕ) (m : Moment) → t ≤ o.clock
       → o'.moments t m → o.moments t m ⊎ IsCalm two o m
 

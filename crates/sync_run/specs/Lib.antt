@@ -3,10 +3,8 @@ pub mod Headline
 pub mod Dialling
 pub mod Courses
 pub mod Causes
-pub mod Closed
 pub mod Parts
 pub mod Needs
-pub mod NodeStands
 pub mod Ran
 pub mod Leaving
 pub mod Ends

@@ -1,8 +1,8 @@
 -- What the parts of a run come to, as parts of its course.
-use Rattle.std.specs.Prelude.{◌≡◌, ◌⊎◌, ℕ, suc, ◌<◌, Bool, false, List, [], ◌∷◌, ◌++◌, length, Some}
-use Rattle.std.specs.Prelude.{Result, Ok, Err}
+use Rattle.std.specs.Prelude.{◌≡◌, ◌⊎◌, ℕ, ◌<◌, Bool, false, List, [], ◌++◌, length, is_some, Some}
+use Rattle.std.specs.Prelude.{map, OnOk, Result, Ok, Err}
 use Rattle.outside.specs.declared.limits.TheConstants.{MAX_JOURNAL}
-use Rattle.outside.specs.Files.{Two, File, read_files}
+use Rattle.outside.specs.Files.{Two, File}
 use Rattle.outside.specs.Outside.{Outside}
 use Rattle.outside.specs.Runs.{LinksGrow, TellsAll}
 use Rattle.sync_rules.specs.declared.entries.Entry.{Entry}
@@ -19,40 +19,32 @@ use Rattle.sync_course.specs.Turns.{Attaches, Between, Ended, Place, Terms, firs
 use Rattle.sync_node.specs.declared.link.Link.{Link}
 use Rattle.sync_node.specs.Courses.{AllRead, FitsWith, ReadsAs, place_at}
 use Rattle.sync_node.specs.Did.{HasSentBy, SinceThen}
+use Rattle.sync_node.specs.Calls.{CallGoes, CallStops}
+use Rattle.sync_node.specs.Node.{AnswersAndCloses, MayRun, NodeValue}
 use Rattle.sync_node.specs.OnRuns.{ByFault, RunActs, RunStopped, RunWent}
 use Rattle.sync_node.specs.declared.fault.NodeFault.{NodeFault}
 use Rattle.sync_course.specs.Links as course_links
 use Rattle.sync_node.specs.Output.{Journal, sent_on}
-use Rattle.sync_node.specs.Plans.{session_of}
-use Rattle.store_commands.specs.Commit.{HasLastGeneration, MayMigrate, needed_by}
+use Rattle.store_commands.specs.Commit.{MayMigrate, needed_by}
 use Rattle.sync_words.specs.declared.link_words.LinkWords.{LinkWords}
 use Rattle.sync_words.specs.declared.outcome.Outcome.{Outcome}
 use Rattle.sync_words.specs.declared.outcome.Outcome.TheVariants as outcome
 use Rattle.sync_run.specs.declared.dialling.Dialled.{Dialled}
 use Rattle.sync_run.specs.declared.run.Limits.{Limits}
 use Rattle.sync_run.specs.Courses.{HearsRun, RunWasSpent, terms_at, terms_of}
-use Rattle.sync_run.specs.Plans.{ArePlanned}
-
--- the sessions of links that were dialled; the first has this number
-abbrev pub sessions_from : ℕ → List Dialled → List Session
-sessions_from first [] = []
-sessions_from first (d ∷ links) = session_of first d.plan d.nonce ∷ sessions_from (suc first) links
+use Rattle.sync_run.specs.Plans.{ArePlanned, sessions_from}
 
 -- links on which nothing was heard
 abbrev pub silent : ℕ → List ℕ
 silent link = []
 
--- before the first of these sessions, in a settled journal of these facts
-abbrev pub before_sessions : List Session → Facts → Place
-before_sessions sessions f = place_at (Attaches sessions) [] silent false 0 0 f
-
--- before the first session of links that were dialled
+-- before the sessions of links that were dialled
 abbrev pub before_links : List Dialled → Facts → Place
-before_links dialled f = before_sessions (sessions_from f.begun dialled) f
+before_links dialled f = first_place (sessions_from f.begun dialled) f
 
 -- before the first turn
-abbrev pub before_turns : List Link → (ℕ → List ℕ) → Facts → Place
-before_turns links heard f = place_at Between links heard false 0 0 f
+abbrev pub before_turns : List Link → Facts → Place
+before_turns links f = place_at Between links silent false 0 0 f
 
 -- a run stopped at a place, whatever its links are there, by what the node answered
 abbrev pub StopsFrom : Meaning → Terms → Place → StoreValue → StoreValue → Outside → Outside
@@ -61,53 +53,57 @@ abbrev pub StopsFrom : Meaning → Terms → Place → StoreValue → StoreValue
 StopsFrom clients terms p s s' o o' x =
     ByFault (λ e. (links : List course_links.Link) × RunStopped clients terms p links s s' o o' e) x
 
--- ---- the sessions begin
+-- where files are told, a run on these links stopped so
+pub record StopsRun (clients : Meaning) (limits : Limits) (dialled : List Dialled)
+    (n n' : NodeValue) (o o' : Outside) (x : NodeFault) : Type 0 where
+  pub stops : (two : Two File) → o.files ≡ Some two
+      → StopsFrom clients (terms_at limits n.first) (before_links dialled n.store.state.facts)
+      n.store n'.store o o' x
 
--- where files are told, the sessions of these links began, and these are the node's links
-pub record SessionsBegin (clients : Meaning) (dialled : List Dialled) (links : List Link)
-    (s s' : StoreValue) (o o' : Outside) : Type 0 where
-  pub has_read : AllRead silent links
-  pub went : (two : Two File) → o.files ≡ Some two → (terms : Terms)
-      → terms.first ≡ s.state.facts.begun
-      → RunWent clients terms (before_links dialled s.state.facts)
-      (before_turns links silent s'.state.facts) s s' o o'
+-- Where files are told, the sessions of these links began, up to those that are left. Nothing was
+-- heard on the node's links.
+pub record SessionsBegin (clients : Meaning) (dialled : List Dialled) (left : List Session)
+    (n n' : NodeValue) (o o' : Outside) : Type 0 where
+  pub same_told : is_some o'.files ≡ is_some o.files
+  pub has_read : AllRead silent n'.links
+  pub went : (two : Two File) → o.files ≡ Some two → (limits : Limits)
+      → RunWent clients (terms_at limits n.first) (before_links dialled n.store.state.facts)
+      (place_at (Attaches left) n'.links silent false 0 0 n'.store.state.facts) n.store n'.store
+      o o'
 
--- or it stopped while they began
-pub record SessionsStopped (clients : Meaning) (dialled : List Dialled) (s s' : StoreValue)
-    (o o' : Outside) (x : NodeFault) : Type 0 where
-  pub stops : (two : Two File) → o.files ≡ Some two → (terms : Terms)
-      → terms.first ≡ s.state.facts.begun
-      → StopsFrom clients terms (before_links dialled s.state.facts) s s' o o' x
-
--- ---- the turns are made
-
--- from a place a run came to its end with these links, over or not
-pub record EndsFrom (clients : Meaning) (limits : Limits) (first : ℕ) (from : Place)
-    (links : List Link) (s s' : StoreValue) (o o' : Outside) (over : Bool) : Type 0 where
+-- from a place a run came to its end, over or not
+pub record EndsFrom (clients : Meaning) (limits : Limits) (from : Place) (n n' : NodeValue)
+    (o o' : Outside) (over : Bool) : Type 0 where
   pub heard : ℕ → List ℕ
   pub moved : Bool
   pub still : ℕ
   pub made : ℕ
-  pub went : RunWent clients (terms_at limits first) from
-      (place_at Ended links heard moved still made s'.state.facts) s s' o o'
+  pub went : RunWent clients (terms_at limits n.first) from
+      (place_at Ended n'.links heard moved still made n'.store.state.facts) n.store n'.store o o'
   pub is_so : over ≡ is_over limits.quiet
-      (place_at Ended links heard moved still made s'.state.facts)
-
--- ---- both
+      (place_at Ended n'.links heard moved still made n'.store.state.facts)
 
 -- where files are told, the sessions of these links began and the turns were made
 pub record RunsSessions (clients : Meaning) (limits : Limits) (dialled : List Dialled)
-    (links : List Link) (s s' : StoreValue) (o o' : Outside) (over : Bool) : Type 0 where
+    (n n' : NodeValue) (o o' : Outside) (over : Bool) : Type 0 where
   pub ends : (two : Two File) → o.files ≡ Some two
-      → EndsFrom clients limits s.state.facts.begun (before_links dialled s.state.facts) links s s'
-      o o' over
+      → EndsFrom clients limits (before_links dialled n.store.state.facts) n n' o o' over
 
-pub record StopsRun (clients : Meaning) (limits : Limits) (dialled : List Dialled)
-    (s s' : StoreValue) (o o' : Outside) (x : NodeFault) : Type 0 where
-  pub stops : (two : Two File) → o.files ≡ Some two
-      → StopsFrom clients (terms_at limits s.state.facts.begun) (before_links dialled s.state.facts)
-      s
-      s' o o' x
+-- ---- the node
+
+-- what a part of a run keeps, and how the node stands by the answer: a fault closes it, and nothing
+-- else does; while it is open it may go on, with so many links
+pub record StandsBy {T : Type 0} (clients : Meaning) (count : ℕ) (n n' : NodeValue) (o o' : Outside)
+    (result : Result T NodeFault) : Type 0 where
+  pub goes : CallGoes n n' o o'
+  pub answer : AnswersAndCloses result n'
+  pub may : MayRun clients n' o'
+  pub stops : CallStops clients n' o o' result
+  pub number : OnOk result (length n'.links ≡ count)
+
+-- the run was over or not, and the links of the node stand so
+abbrev pub closed_by : Bool → List Link → Closing
+closed_by over links = record { over = over; ends = map (λ (l : Link). l.end) links }
 
 -- ---- the run on links that were dialled
 
@@ -141,23 +137,24 @@ pub record FillsAt (clients : Meaning) (terms : Terms) (to : Owing Place)
   pub steps : RunActs clients terms to (Does (Commit batch)) next
   pub over : MAX_JOURNAL < needed_by j batch
 
--- where a run stood at its answer, over this journal by then; what is so where it ended, and what
--- may be so beside where there was no room
-abbrev pub AnswersAt : Meaning → Limits → Terms → Owing Place → Journal → (Whole Spent : Type 0)
-    → Result Closing Outcome → Type 0
-AnswersAt clients limits terms to j Whole Spent (Ok ends) = EndsAt limits to ends × Whole
-AnswersAt clients limits terms to j Whole Spent (Err outcome.Full) =
+-- where a run stood at its answer, over this journal by then; what is so where it ended, what may be
+-- so beside where there was no room, and what is so where a dial failed
+abbrev pub AnswersAt : Meaning → Limits → Terms → Owing Place → Journal
+    → (Whole Spent Undialled : Type 0) → Result Closing Outcome → Type 0
+AnswersAt clients limits terms to j Whole Spent Undialled (Ok ends) = EndsAt limits to ends × Whole
+AnswersAt clients limits terms to j Whole Spent Undialled (Err outcome.Full) =
     FillsAt clients terms to j ⊎ Spent
-AnswersAt clients limits terms to j Whole Spent (Err outcome.Memory) = Unit {0}
-AnswersAt clients limits terms to j Whole Spent (Err outcome.DiskFault) = Unit {0}
-AnswersAt clients limits terms to j Whole Spent (Err _) = ⊥
+AnswersAt clients limits terms to j Whole Spent Undialled (Err (outcome.LinkFailed link)) = Undialled
+AnswersAt clients limits terms to j Whole Spent Undialled (Err outcome.Memory) = Unit {0}
+AnswersAt clients limits terms to j Whole Spent Undialled (Err outcome.DiskFault) = Unit {0}
+AnswersAt clients limits terms to j Whole Spent Undialled (Err _) = ⊥
 
 pub record RanOver (clients : Meaning) (limits : Limits) (terms : Terms) (from : Place)
     (j : Journal)
     (Whole Spent : Type 0) (o o' : Outside) (result : Result Closing Outcome) : Type 0 where
   pub did : RunDid clients terms from j o o'
   pub told : TellsEvents (events_of did.acts) o o'
-  pub answer : AnswersAt clients limits terms did.to (j ++ batches_in did.acts) Whole Spent result
+  pub answer : AnswersAt clients limits terms did.to (j ++ batches_in did.acts) Whole Spent ⊥ result
 
 -- sessions ran over a settled store
 abbrev pub RanSettled : Meaning → Limits → List Dialled → StoreValue → Outside → Outside
@@ -168,31 +165,16 @@ RanSettled clients limits links s o o' result =
     (before_links links s.state.facts) j
     (Unit {0}) ⊥ o o' result
 
--- no generation was left for a journal in format 2, and nothing was done
-pub record RunSpent (o o' : Outside) : Type 0 where
-  pub last : (two : Two File) → o.files ≡ Some two → HasLastGeneration (read_files two)
-  pub same_files : o'.files ≡ o.files
-  pub same_links : o'.links ≡ o.links
-
--- the journal was migrated and settled, and sessions ran over it; the first has this number
+-- the journal was migrated and settled, and sessions ran over it
 abbrev pub RanDialled : Meaning → Limits → List Dialled → StoreValue → Outside → Outside
     → Result Closing Outcome → Type 0
 RanDialled clients limits links s o o' result =
     (j : Journal) → FitsWith clients s o.files j
     → RanOver clients limits (terms_of limits j)
     (first_place (sessions_from (facts j).begun links) (facts j)) j (MayMigrate o.files)
-    (RunSpent o o')
-    o o' result
+    (RunWasSpent [] o o') o o' result
 
 -- ---- with the dials before it
-
--- what it came to, where a dial may have failed
-abbrev pub AnswersOnLinks : Meaning → Limits → List LinkWords → Terms → Owing Place
-    → (begin now : Journal) → Outside → Outside → Result Closing Outcome → Type 0
-AnswersOnLinks clients limits words terms to begin now o o' (Err (outcome.LinkFailed link)) =
-    ReadsAs clients o'.files begin
-AnswersOnLinks clients limits words terms to begin now o o' result =
-    AnswersAt clients limits terms to now (MayMigrate o.files) (RunWasSpent words o o') result
 
 -- Links were dialled for these words, and sessions of all words ran on them; or a dial failed, and
 -- nothing more was done.
@@ -204,6 +186,6 @@ pub record RanOnLinks (clients : Meaning) (limits : Limits) (words : List LinkWo
   pub did : RunDid clients (terms_of limits j) (first_place sessions (facts j)) j o o'
   pub made : (o'.links.dialled ≡ length words) ⊎ (did.acts ≡ [])
   pub grows : LinksGrow o.links o'.links
-  pub hears : HearsRun (events_of did.acts) o o'
-  pub answer : AnswersOnLinks clients limits words (terms_of limits j) did.to j
-      (j ++ batches_in did.acts) o o' result
+  pub hears : HearsRun (events_of did.acts) o.links o'.links
+  pub answer : AnswersAt clients limits (terms_of limits j) did.to (j ++ batches_in did.acts)
+      (MayMigrate o.files) (RunWasSpent words o o') (ReadsAs clients o'.files j) result

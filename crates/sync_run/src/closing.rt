@@ -1,7 +1,7 @@
 // How the links of a run end.
 ghost use Rattle.std.specs.Prelude.{◌≡◌, ◌≤◌, length, IfOk};
 ghost use Rattle.outside.specs.declared.limits.TheConstants.{LINKS};
-ghost use Rattle.sync_run.specs.Closed.{closed_by};
+ghost use Rattle.sync_run.specs.Parts.{closed_by};
 
 use outside::LINKS;
 use std::alloc::{AllocError, Global};

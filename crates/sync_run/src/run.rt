@@ -1,6 +1,6 @@
 // The command `sync`.
 ghost use Rattle.std.specs.Prelude.{◌≡◌, ◌+◌, ◌≤◌, [], false, length, vec_capacity, ◌<◌, IfErr, IfOk};
-ghost use Rattle.std.specs.Prelude.{OnOk, Some};
+ghost use Rattle.std.specs.Prelude.{Err, OnOk, Some};
 ghost use Rattle.std.specs.List.{All};
 ghost use Rattle.outside.specs.Files.{Two, File};
 ghost use Rattle.entry_codec.specs.declared.naming.Format.TheVariants as kind;
@@ -14,12 +14,13 @@ ghost use Rattle.sync_node.specs.Node.{MayRun};
 ghost use Rattle.sync_node.specs.Output.{Journal};
 ghost use Rattle.outside.specs.declared.limits.TheConstants.{LINKS, MAX_JOURNAL};
 ghost use Rattle.sync_words.specs.Links.{AreLinks};
-ghost use Rattle.sync_run.specs.Causes.{FailsAlone, IsCaused, RunCaused};
+ghost use Rattle.sync_words.specs.declared.outcome.Outcome.TheVariants as outcome;
+ghost use Rattle.sync_run.specs.Causes.{IsCaused, RunCaused};
 ghost use Rattle.sync_run.specs.Courses.{HaveSpecs, TestsContacts, TestsWords};
 ghost use Rattle.sync_run.specs.Headline.{Headline, LeavesFilesAtRest};
 ghost use Rattle.sync_run.specs.Leaving.{LeavesLinks, LinksCameTo, MayHangUp};
 ghost use Rattle.sync_run.specs.Needs.{AllMayBegin, HasRoomFor, IsKnown};
-ghost use Rattle.sync_run.specs.NodeStands.{StandsBy};
+ghost use Rattle.sync_run.specs.Parts.{StandsBy};
 ghost use Rattle.sync_run.specs.Parts.{RanDialled, RanOnLinks, RanSettled, RunsSessions, StopsRun};
 ghost use Rattle.sync_run.specs.Ran.{RanTold};
 
@@ -153,7 +154,7 @@ fn run_links<H: Host, C: Clients>(
 // What the command comes to where the call on the link of this number failed.
 fn dial_failed(link: usize) -> Result<LinkEnds, Outcome>
     requires { link < LINKS }
-    ensures { FailsAlone link result }
+    ensures { result ≡ Err (outcome.LinkFailed link) }
 {
     Err(Outcome::LinkFailed(link as u8))
 }
@@ -236,10 +237,10 @@ fn run_node<H: Host, C: Clients>(
     requires dialled { length links.now ≤ (H.tells host.old).links.dialled }
     ensures stands { StandsBy (C.meaning clients.now) (length links.now) node.old node.new
         (H.tells host.old) (H.tells host.new) result }
-    ensures went { IfOk result (RunsSessions (C.meaning clients.now) limits links.now node.new.links
-        node.old.store node.new.store (H.tells host.old) (H.tells host.new)) }
-    ensures stopped { IfErr result (StopsRun (C.meaning clients.now) limits links.now node.old.store
-        node.new.store (H.tells host.old) (H.tells host.new)) }
+    ensures went { IfOk result (RunsSessions (C.meaning clients.now) limits links.now node.old
+        node.new (H.tells host.old) (H.tells host.new)) }
+    ensures stopped { IfErr result (StopsRun (C.meaning clients.now) limits links.now node.old
+        node.new (H.tells host.old) (H.tells host.new)) }
 {
     attach_all(node, host, clients, links)?;
     make_turns(node, host, clients, limits)

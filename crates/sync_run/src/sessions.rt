@@ -1,15 +1,16 @@
 // The sessions of a run: they begin, and the turns are made.
-ghost use Rattle.std.specs.Prelude.{◌≡◌, ◌+◌, ◌≤◌, [], false, length, IfErr, IfOk, OnOk};
+ghost use Rattle.std.specs.Prelude.{◌≡◌, ◌+◌, ◌≤◌, ◌<◌, ◌^◌, [], cond, false, length, IfErr, IfOk, OnOk};
 ghost use Rattle.outside.specs.declared.limits.TheConstants.{LINKS};
 ghost use Rattle.sync_rules.specs.Steps.{IsSettled};
 ghost use Rattle.sync_rules.specs.declared.limits.TheConstants.{MAX_SESSIONS};
-ghost use Rattle.sync_node.specs.Courses.{AllRead};
+ghost use Rattle.sync_node.specs.Courses.{AllRead, is_still};
 ghost use Rattle.sync_node.specs.Node.{IsNode, MayRun};
-ghost use Rattle.sync_run.specs.NodeStands.{StandsBy};
+ghost use Rattle.sync_run.specs.Parts.{StandsBy};
 ghost use Rattle.sync_run.specs.Needs.{AllMayBegin};
 ghost use Rattle.sync_run.specs.Courses.{terms_at};
-ghost use Rattle.sync_run.specs.Parts.{before_turns, EndsFrom, SessionsBegin, SessionsStopped};
-ghost use Rattle.sync_run.specs.Parts.{silent, StopsFrom};
+ghost use Rattle.sync_run.specs.Parts.{before_turns, EndsFrom, SessionsBegin, silent, StopsFrom};
+ghost use Rattle.sync_run.specs.Parts.{StopsRun};
+ghost use Rattle.sync_run.specs.declared.run.Limits.{Limits};
 
 use crate::dialling::Dialled;
 use crate::run::Limits;
@@ -36,10 +37,10 @@ pub fn attach_all<H: Host, C: Clients>(
     requires dialled { length links.now ≤ (H.tells host.old).links.dialled }
     ensures stands { StandsBy (C.meaning clients.now) (length links.now) node.old node.new
         (H.tells host.old) (H.tells host.new) result }
-    ensures went { OnOk result (SessionsBegin (C.meaning clients.now) links.now node.new.links
-        node.old.store node.new.store (H.tells host.old) (H.tells host.new)) }
-    ensures stopped { IfErr result (SessionsStopped (C.meaning clients.now) links.now node.old.store
-        node.new.store (H.tells host.old) (H.tells host.new)) }
+    ensures went { OnOk result (SessionsBegin (C.meaning clients.now) links.now [] node.old node.new
+        (H.tells host.old) (H.tells host.new)) }
+    ensures stopped { IfErr result (λ fault. (limits : Limits) → StopsRun (C.meaning clients.now)
+        limits links.now node.old node.new (H.tells host.old) (H.tells host.new) fault) }
 {
     let mut number = 0;
     'links: for link in links {
@@ -63,23 +64,32 @@ pub fn make_turns<H: Host, C: Clients>(
     requires read { AllRead silent node.old.links }
     ensures stands { StandsBy (C.meaning clients.now) (length node.old.links) node.old node.new
         (H.tells host.old) (H.tells host.new) result }
-    ensures went { IfOk result (EndsFrom (C.meaning clients.now) limits node.old.first
-        (before_turns node.old.links silent node.old.store.state.facts) node.new.links
-        node.old.store node.new.store (H.tells host.old) (H.tells host.new)) }
+    ensures went { IfOk result (EndsFrom (C.meaning clients.now) limits
+        (before_turns node.old.links node.old.store.state.facts) node.old node.new
+        (H.tells host.old) (H.tells host.new)) }
     ensures stopped { IfErr result (StopsFrom (C.meaning clients.now)
         (terms_at limits node.old.first)
-        (before_turns node.old.links silent node.old.store.state.facts) node.old.store
-        node.new.store (H.tells host.old) (H.tells host.new)) }
+        (before_turns node.old.links node.old.store.state.facts) node.old.store node.new.store
+        (H.tells host.old) (H.tells host.new)) }
 {
     let mut still = 0;
     'turns: for _ in 0..limits.turns {
-        still = match node.turn(host, clients)? {
-            Turned::Still => still + 1,
-            Turned::Moving => 0,
-        };
+        still = count_still(node.turn(host, clients)?, still);
         if is_over(u64::from(limits.quiet), still, node.asked() > 0) {
             return Ok(true);
         }
     }
     Ok(false)
+}
+
+// How many of the last turns were still, behind one more.
+fn count_still(turned: Turned, still: u64) -> u64
+    requires { still + 1 < 2 ^ 64 }
+    ensures counts { result ≡ cond (is_still turned) (still + 1) 0 }
+    ensures few { result ≤ still + 1 }
+{
+    match turned {
+        Turned::Still => still + 1,
+        Turned::Moving => 0,
+    }
 }

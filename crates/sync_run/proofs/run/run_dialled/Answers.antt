@@ -1,9 +1,9 @@
-use Rattle.std.proofs.Common.{ap, arith, ◌∙◌, Err}
+use Rattle.std.proofs.Common.{ap, arith, ◌∙◌, [], refl, Err}
 use Rattle.outside.specs.Links.{Links}
 use Rattle.sync_node.proofs.WorkLaws.{goes_then}
 use Rattle.sync_run.specs.Headline.{LeavesFilesAtRest}
 use Rattle.sync_run.specs.Causes.{RunCaused}
-use Rattle.sync_run.proofs.CauseLaws.{caused_settled, unsettled_caused}
+use Rattle.sync_run.proofs.CauseLaws.{caused_behind, unsettled_caused}
 use Rattle.sync_run.proofs.RestLaws.{rests_stays}
 use Rattle.sync_run.proofs.RunActs.{passed, settled_ran, settling_stopped}
 use Rattle.sync_run.proofs.WordLaws.{goes_settled, may_settled, settles_only}
@@ -69,16 +69,18 @@ returns-in_err-migrate_and_settle g c =
 pub returns : goal.returns
 returns g c =
     let settle = c.migrate_and_settle.ensures in
+    let new = g.H.Disk.tells c.run_settled.new.host in
     record {
       goes =
           goes_then _ _ _ (goes_settled _ _ _ _ _ _ c.requires.ready settle.run settle.settled)
           c.run_settled.ensures.goes;
       rests = c.run_settled.ensures.rests;
-      caused =
-          caused_settled (g.H.Disk.tells c.args.host.now)
-          (g.H.Disk.tells c.migrate_and_settle.new.disk)
-          (g.H.Disk.tells c.run_settled.new.host) c.run_settled.result settle.run
-          c.run_settled.ensures.caused;
+      caused = (
+        c.run_settled.ensures.caused.0,
+        caused_behind [] (g.H.Disk.tells c.args.host.now)
+            (g.H.Disk.tells c.migrate_and_settle.new.disk) new new settle.run refl refl
+            c.run_settled.result c.run_settled.ensures.caused.1,
+      );
       ran =
           settled_ran _ c.args.limits c.args.links.now _ _ _ _ settle.run
           c.in_ok-migrate_and_settle.field-0 _ c.run_settled.result

@@ -1,8 +1,12 @@
-use Rattle.std.proofs.Common.{arith, List, length, refl, ap, sym, subst, ◌∙◌}
+use Rattle.std.proofs.Common.{arith, List, [], length, refl, ap, sym, subst, ◌∙◌}
 use Rattle.sync_run.specs.declared.dialling.Dialled.{Dialled}
+use Rattle.sync_run.specs.Causes.{DialFailed}
+use Rattle.sync_run.specs.Leaving.{LinksCameTo}
 use Rattle.sync_run.specs.Needs.{AllMayBegin}
-use Rattle.sync_run.proofs.DialActs.{dialled_caused, dialled_ran, undialled_caused, undialled_ran}
-use Rattle.sync_run.proofs.LeavingLaws.{dialled_leaves, undialled_leaves}
+use Rattle.sync_run.specs.Parts.{RanOnLinks}
+use Rattle.sync_run.proofs.DialActs.{dialled_ran, undialled_ran}
+use Rattle.sync_run.proofs.CauseLaws.{caused_amid}
+use Rattle.sync_run.proofs.LeavingLaws.{dialled_leaves}
 use Rattle.sync_run.proofs.RestLaws.{rests_at, rests_ready}
 use Rattle.sync_run.proofs.WordLaws.{made_long, ready_calms, specs_kept, specs_made, words_may}
 use Rattle.sync_run.proofs.run.run_links.Goals as goal
@@ -19,7 +23,8 @@ run_dialled-requires g c =
       limited = c.requires.limited;
       each =
           subst (λ (l : List Dialled). AllMayBegin c.args.store.state.facts.contacts l) (sym lent)
-          (words_may _ c.args.words.now _ dials.dialled c.requires.known c.requires.links.each);
+          (words_may _ 0 c.args.words.now _ (dials.dialled 0) c.requires.known
+          c.requires.links.each);
       sessions = omega (arith, long, c.requires.sessions);
       few = omega (arith, long, c.requires.links.few);
       dialled =
@@ -37,6 +42,7 @@ returns-in-Ok g c =
     let dialled = g.H.Disk.tells c.dial_all.new.host in
     let new = g.H.Disk.tells c.run_dialled.new.host in
     let dials = c.in-Ok.ensures.dials in
+    let calms = c.dial_all.ensures.calms in
     let run = c.run_dialled.ensures in
     record {
       dialled = record {
@@ -50,14 +56,13 @@ returns-in-Ok g c =
             specs_kept words dialled new run.goes.same_specs
             (specs_made words _ old dialled c.requires.unused dials.front dials.makes);
         caused =
-            dialled_caused words old dialled new c.run_dialled.result c.dial_all.ensures.calms
-            run.caused;
-        leaves = dialled_leaves words old dialled new c.run_dialled.result run.caused;
+            caused_amid [] words old dialled new new (omega arith) calms.grows.faults
+            (omega (arith, calms.same_faults)) refl refl c.run_dialled.result run.caused.1;
+        leaves = dialled_leaves words old new c.run_dialled.result run.caused.0;
       };
       ran =
-          dialled_ran _ c.args.limits words _ _ _ _ c.requires.unused c.dial_all.ensures.calms _ _ _
-          _
-          dials c.as_slice.ensures.value run.goes run.ran;
+          dialled_ran _ c.args.limits words _ _ _ _ c.requires.unused calms _ _ _ _ dials
+          c.as_slice.ensures.value run.goes run.ran;
     }
 
 pub returns-in-Err : goal.returns-in-Err
@@ -74,14 +79,18 @@ returns-in-Err g c =
         made = made_long _ _ old dialled dialled c.requires.unused dials.makes dials.count refl;
       };
       rests = rests_at _ _ (rests_ready _ _ _ (ready_calms _ _ _ _ c.requires.ready calms));
-      links = record {
-        specs = specs_made words _ old dialled c.requires.unused dials.front dials.makes;
-        caused =
-            undialled_caused words _ old dialled _ c.len.result _ dials
-            (omega (arith, c.len.ensures, c.dial_all.new.to.ok.0)) fails;
-        leaves = undialled_leaves words _ old dialled _ c.len.result _ dials fails;
-      };
-      ran =
-          undialled_ran _ c.args.limits words _ _ _ _ c.requires.unused calms _ c.len.result _ dials
-          fails;
+      links =
+          subst (LinksCameTo words old dialled) (sym fails) (record {
+            specs = specs_made words _ old dialled c.requires.unused dials.front dials.makes;
+            caused =
+                subst (DialFailed words old dialled)
+                (sym (c.len.ensures ∙ c.dial_all.new.to.ok.0))
+                (record { within = dials.all.0; rose = dials.all.1 });
+            leaves =
+                record { made = dials.made; front = dials.front; makes = dials.makes };
+          });
+      ran = λ j fit.
+          subst (RanOnLinks _ c.args.limits words j old dialled) (sym fails)
+          (undialled_ran _ c.args.limits words _ _ _ _ c.requires.unused calms _ c.len.result dials
+          j fit);
     }

@@ -39,7 +39,7 @@ returns-in_err-node g c =
     record {
       goes = goes_none old;
       rests = rests_at _ r (rests_ready _ _ _ c.requires.ready);
-      caused = passed (RunCaused old old) r outcome.Memory is tt;
+      caused = passed (RunCaused old old) r outcome.Memory is (tt, tt);
       ran =
           passed (RanSettled (g.C.Clients.meaning c.args.clients.now) c.args.limits c.args.links.now
           c.args.store old old) r outcome.Memory is (ran_none _ c.args.limits c.args.links.now _ _);
@@ -57,12 +57,12 @@ returns-in_err-close-in-Ok g c =
       rests =
           rests_at _ r
           (rests_ready _ _ _ (c.run_node.ensures.stands.may c.in-Ok.ensures.stands.answer).ready);
-      caused = passed (RunCaused old new) r outcome.Memory is tt;
+      caused = passed (RunCaused old new) r outcome.Memory is (tt, tt);
       ran =
           passed (RanSettled (g.C.Clients.meaning c.args.clients.now) c.args.limits c.args.links.now
           c.args.store old new) r outcome.Memory is
-          (ran_unclosed _ c.args.limits c.args.links.now _ _ _ _ _ (ap (λ (n : NodeValue). n.store)
-          c.in_ok-node.ensures) _ c.in-Ok.over c.in-Ok.ensures.went);
+          (ran_unclosed _ c.args.limits c.args.links.now _ _ _ _ _ c.in_ok-node.ensures c.in-Ok.over
+          c.in-Ok.ensures.went);
     }
 
 -- the run came to its end
@@ -70,14 +70,15 @@ pub returns-in-Ok : goal.returns-in-Ok
 returns-in-Ok g c = record {
   goes = c.run_node.ensures.stands.goes.goes;
   rests = rests_ready _ _ _ (c.run_node.ensures.stands.may c.in-Ok.ensures.stands.answer).ready;
-  caused =
-      ends_rose c.in-Ok.over _ _ _ (g.H.Disk.tells c.args.host.now)
-      (g.H.Disk.tells c.run_node.new.host) (ap (λ (n : NodeValue). n.links) c.in_ok-node.ensures)
-      c.in_ok-close-in-Ok.ensures c.run_node.ensures.stands.goes.cause;
+  caused = (
+    tt,
+    ends_rose c.in-Ok.over _ _ _ (g.H.Disk.tells c.args.host.now)
+        (g.H.Disk.tells c.run_node.new.host) (ap (λ (n : NodeValue). n.links) c.in_ok-node.ensures)
+        c.in_ok-close-in-Ok.ensures c.run_node.ensures.stands.goes.cause,
+  );
   ran =
-      ran_whole _ c.args.limits c.args.links.now _ _ _ _ _ (ap (λ (n : NodeValue). n.store)
-      c.in_ok-node.ensures) _ c.in-Ok.over c.in-Ok.ensures.went c.in_ok-close-in-Ok.field-0
-      c.in_ok-close-in-Ok.ensures;
+      ran_whole _ c.args.limits c.args.links.now _ _ _ _ _ c.in_ok-node.ensures c.in-Ok.over
+      c.in-Ok.ensures.went c.in_ok-close-in-Ok.field-0 c.in_ok-close-in-Ok.ensures;
 }
 
 -- ---- it was broken off
@@ -87,20 +88,19 @@ returns-in-Err-Memory g c = record {
   goes = c.run_node.ensures.stands.goes.goes;
   rests =
       rests_ready _ _ _ (rw c.in-Err-Memory.field-0-is at c.in-Err-Memory.ensures.stands.stops);
-  caused = tt;
+  caused = (tt, tt);
   ran =
-      ran_out _ c.args.limits c.args.links.now _ _ _ _ _ (ap (λ (n : NodeValue). n.store)
-      c.in_ok-node.ensures) (rw c.in-Err-Memory.field-0-is at c.in-Err-Memory.ensures.stopped);
+      ran_out _ c.args.limits c.args.links.now _ _ _ _ _ c.in_ok-node.ensures
+      (rw c.in-Err-Memory.field-0-is at c.in-Err-Memory.ensures.stopped);
 }
 
 pub returns-in-Err-DiskFault : goal.returns-in-Err-DiskFault
 returns-in-Err-DiskFault g c = record {
   goes = c.run_node.ensures.stands.goes.goes;
   rests = tt;
-  caused = rw c.in-Err-DiskFault.field-0-is at c.in-Err-DiskFault.ensures.stands.stops;
+  caused = (tt, rw c.in-Err-DiskFault.field-0-is at c.in-Err-DiskFault.ensures.stands.stops);
   ran =
-      ran_broken _ c.args.limits c.args.links.now _ _ _ _ _ (ap (λ (n : NodeValue). n.store)
-      c.in_ok-node.ensures)
+      ran_broken _ c.args.limits c.args.links.now _ _ _ _ _ c.in_ok-node.ensures
       (rw c.in-Err-DiskFault.field-0-is at c.in-Err-DiskFault.ensures.stopped);
 }
 
@@ -111,9 +111,9 @@ returns-in-Err-Full g c =
     record {
       goes = goes.goes;
       rests = rests_ready _ _ _ (rw c.in-Err-Full.field-0-is at c.in-Err-Full.ensures.stands.stops);
-      caused = tt;
+      caused = (tt, tt);
       ran =
-          ran_full _ c.args.limits c.args.links.now _ _ _ _ _ made
+          ran_full _ c.args.limits c.args.links.now _ _ _ _ _ c.in_ok-node.ensures
           (goes.same_limit ∙ ap (λ (s : _). s.limit) made ∙ c.requires.limited)
           (ap format_meant (goes.same_format ∙ ap (λ (s : _). s.format) made) ∙ c.requires.short)
           (rw c.in-Err-Full.field-0-is at c.in-Err-Full.ensures.stopped);

@@ -3,10 +3,10 @@ use Rattle.outside.specs.Links.{Links}
 use Rattle.sync_node.specs.Going.{specs_of}
 use Rattle.sync_words.specs.declared.outcome.Outcome.TheVariants as outcome
 use Rattle.sync_run.specs.Causes.{IsCaused}
-use Rattle.sync_run.proofs.CourseLinks.{broken_early, links_caused, load_caused, load_comes}
-use Rattle.sync_run.proofs.CourseLinks.{refused_caused, refused_comes}
-use Rattle.sync_run.proofs.LeavingLaws.{headline_none, leaves_as, leaves_same, loaded_unfull}
-use Rattle.sync_run.proofs.LeavingLaws.{told_early}
+use Rattle.sync_run.proofs.CauseLaws.{caused_behind}
+use Rattle.sync_run.proofs.LeavingLaws.{broken_early, headline_none, leaves_as, leaves_same}
+use Rattle.sync_run.proofs.LeavingLaws.{load_caused, load_comes, loaded_unfull, refused_caused}
+use Rattle.sync_run.proofs.LeavingLaws.{refused_comes, told_early}
 use Rattle.sync_run.proofs.RanLaws.{headline_ran, ran_told}
 use Rattle.sync_run.proofs.RestLaws.{load_rests, rests_ready}
 use Rattle.sync_run.proofs.RunActs.{passed}
@@ -122,12 +122,11 @@ returns g c =
           ran_told _ c.args.limits words _ old loaded ended new c.requires.unused load.run
           load.reads c.hang_up_all.ensures two
           told (load.rests two told).moments (c.in_ok-store.ensures.loaded two told)
-          c.in_ok-store.ensures.opened.ready.fits _ ran.ran ran.rests
-          c.in_ok-test_words.ensures.tested
-          c.all_is_sent.ensures.whole c.all_is_sent.ensures.full c.runs_end_quiet.ensures;
+          c.in_ok-store.ensures.opened.ready.fits _ ran.ran c.in_ok-test_words.ensures.tested
+          c.all_is_sent.ensures.whole c.all_is_sent.ensures.full c.runs_end_quiet.ensures ran.rests;
       specs = specs_kept words ended new (ap (λ (l : Links). specs_of l.told) same) ran.links.specs;
       caused =
-          links_caused words old loaded ended new load.run same c.hang_up_all.ensures.same_faults
+          caused_behind words old loaded ended new load.run same c.hang_up_all.ensures.same_faults
           c.run_links-ended.result ran.links.caused;
       leaves = leaves_as words old loaded ended new c.run_links-ended.result load.run.same_links
           same ran.links.leaves;

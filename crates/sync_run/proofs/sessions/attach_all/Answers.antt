@@ -1,21 +1,26 @@
-use Rattle.std.proofs.Common.{◌≡◌, ℕ, ◌+◌, false, List, length, arith, rules, refl, sym, ap, ◌∙◌}
+use Rattle.std.proofs.Common.{◌≡◌, ℕ, ◌+◌, false, List, [], ◌∷◌, length, arith, rules, refl, sym, ap}
+use Rattle.std.proofs.Common.{◌∙◌, subst}
+use Rattle.std.proofs.lemmas.List.{drop_all, length-append}
 use Rattle.sync_rules.specs.Facts.{Facts}
 use Rattle.sync_node.specs.declared.link.Link.{Link}
 use Rattle.sync_node.specs.Node.{IsNode, NodeValue}
-use Rattle.sync_run.proofs.CourseParts.{attached_all, attached_more, attaching_stopped, if_err_was, is_node_without, no_session_yet}
-use Rattle.sync_run.proofs.StandsLaws.{attach_stops, item_may, keeps_none, keeps_then, one_longer, stands_stopped}
+use Rattle.sync_run.specs.declared.dialling.Dialled.{Dialled}
+use Rattle.sync_run.specs.Needs.{MayBeginOn}
+use Rattle.sync_run.specs.Parts.{SessionsBegin}
+use Rattle.sync_run.specs.Plans.{sessions_from}
+use Rattle.sync_run.proofs.CourseParts.{attached_more, attaching_stopped, if_err_was, is_node_without}
+use Rattle.sync_run.proofs.CourseParts.{no_session_yet}
+use Rattle.sync_run.proofs.StandsLaws.{attach_stops, keeps_none, keeps_then, stands_stopped}
 use Rattle.sync_run.proofs.sessions.attach_all.Goals as goal
 
 -- how many sessions began so far
-begun_at : (n n0 : NodeValue) (number i : ℕ) → IsNode n → n.closed ≡ false → n.first ≡ n0.first
-    → n0.store.state.facts.begun ≡ n0.first → number ≡ length n.links → number ≡ i
-    → n.store.state.facts.begun ≡ n0.store.state.facts.begun + i
-begun_at n n0 number i node opened first named numbered count =
-    omega (arith, (node.attached opened).begun, first, named, numbered, count)
+begun_at : (n n0 : NodeValue) → IsNode n → n.closed ≡ false → n.first ≡ n0.first
+    → n.store.state.facts.begun ≡ n0.first + length n.links
+begun_at n n0 node opened first = omega (arith, (node.attached opened).begun, first)
 
 pub links-init : goal.links-init
 links-init g c = record {
-  went = no_session_yet _ _ _ _ _ c.requires.none;
+  went = no_session_yet _ _ _ _ c.requires.none c.requires.settled;
   keeps =
       keeps_none _ (g.H.Disk.tells c.args.host.now)
       (is_node_without _ c.requires.none c.requires.first);
@@ -32,16 +37,15 @@ links-preserved g c =
     let l = c.links.invariant in
     let e = c.in_ok-attach.ensures in
     let begins = e.went l.still_open in
-    let more = one_longer _ _ e.links.0 e.links.1 in
+    let more =
+    ap (λ (ls : List Link). length ls) e.links.1
+    ∙ length-append c.links.node.links (e.links.0 ∷ []) in
     record {
       went =
-          attached_more _ c.args.links.now c.links.link-index c.link-item.result _ _ _ _ _
-          (begun_at _ c.args.node.now c.links.number c.links.link-index l.keeps.node l.still_open
-          l.keeps.same_first c.requires.first l.numbered l.count) c.links-test.true c.link-item.is
-          (omega (arith, l.numbered, l.count)) l.went _ _ _ (ap (λ (f : Facts). f.begun) begins.facts)
-          e.goes.goes.same_files begins;
-      keeps =
-          keeps_then c.args.node.now c.links.node c.attach.new.self _ _ _ l.keeps e.goes;
+          attached_more _ _ _ c.link-item.result c.args.node.now _ _ _ _ _
+          (begun_at _ c.args.node.now l.keeps.node l.still_open l.keeps.same_first)
+          c.links-test.true c.link-item.is l.went e.goes.goes.same_files begins;
+      keeps = keeps_then _ _ _ _ _ _ l.keeps e.goes;
       still_open = e.answers.opened l.still_open;
       numbered = omega (arith, more, l.numbered);
       count = ap (λ (k : ℕ). k + 1) l.count;
@@ -55,25 +59,22 @@ returns-in_err-attach g c =
     let l = c.links.invariant in
     let e = c.in_err-attach.ensures in
     let x = c.in_err-attach.field-0.0 in
+    let r = c.from_residual.result in
+    let is = c.from_residual.ensures.1 in
     let old = g.H.Disk.tells c.links.host in
     let new = g.H.Disk.tells c.attach.new.host in
     record {
       stands =
-          stands_stopped (Unit {0}) _ _ c.args.node.now c.links.node c.attach.new.self
-          (g.H.Disk.tells c.args.host.now) old new l.keeps _ c.from_residual.result x
-          c.from_residual.ensures.1 e.goes (e.answers.opened l.still_open) e.may
+          stands_stopped (Unit {0}) _ _ _ c.links.node c.attach.new.self _ old new l.keeps _ r x is
+          e.goes (e.answers.opened l.still_open) e.may
           (attach_stops (Unit {0}) _ _ c.links.node c.attach.new.self c.links.host c.attach.new.host
-          old
-          new x (e.stops l.still_open));
+          old new x (e.stops l.still_open));
       went = search rules;
       stopped =
-          if_err_was c.from_residual.result x _ c.from_residual.ensures.1
-          (attaching_stopped _ c.args.links.now c.links.link-index c.link-item.result _ _ _ _ _
-          (begun_at _ c.args.node.now c.links.number c.links.link-index l.keeps.node l.still_open
-          l.keeps.same_first c.requires.first l.numbered l.count) c.links-test.true c.link-item.is
-          (omega (arith, l.numbered, l.count)) l.went c.attach.new.self.links
-          c.attach.new.self.store
-          new x (e.stopped l.still_open));
+          if_err_was r x _ is
+          (attaching_stopped _ _ _ c.link-item.result c.args.node.now _ c.attach.new.self _ _ _
+          (begun_at _ c.args.node.now l.keeps.node l.still_open l.keeps.same_first)
+          c.links-test.true c.link-item.is l.went x (e.stopped l.still_open));
     }
 
 pub returns : goal.returns
@@ -89,7 +90,10 @@ returns g c =
             omega (arith, l.numbered, l.count, c.links-test.false, c.links.auto.link-index-end);
       };
       went =
-          attached_all _ c.args.links.now c.links.link-index _ _ _ _ _ c.links-test.false l.went;
+          subst (λ (ds : List Dialled). SessionsBegin (g.C.Clients.meaning c.args.clients.now)
+          c.args.links.now (sessions_from c.links.node.store.state.facts.begun ds) c.args.node.now
+          c.links.node (g.H.Disk.tells c.args.host.now) (g.H.Disk.tells c.links.host))
+          (drop_all c.links.link-index c.args.links.now c.links-test.false) l.went;
       stopped = tt;
     }
 
@@ -97,17 +101,18 @@ pub attach-requires : goal.attach-requires
 attach-requires g c =
     let l = c.links.invariant in
     let item =
-    item_may _ c.args.links.now c.links.link-index c.link-item.result c.requires.each
-    c.links-test.true
-    c.link-item.is in
+    subst (MayBeginOn c.args.node.now.store.state.facts.contacts) (sym c.link-item.is)
+    (c.requires.each c.links.link-index c.link-item.result c.links-test.true) in
     record {
       may = l.may;
       settled = λ opened. l.settled;
       begun =
           omega (
             arith,
-            begun_at c.links.node c.args.node.now c.links.number c.links.link-index l.keeps.node
-                l.still_open l.keeps.same_first c.requires.first l.numbered l.count,
+            begun_at c.links.node c.args.node.now l.keeps.node l.still_open l.keeps.same_first,
+            l.numbered,
+            l.count,
+            c.requires.first,
             c.links-test.true,
             c.requires.sessions,
           );

@@ -2,16 +2,15 @@ use Rattle.std.proofs.Common.{◌≡◌, false, drop, length}
 use Rattle.sync_rules.specs.Steps.{IsSettled}
 use Rattle.sync_node.specs.Node.{MayRun}
 use Rattle.sync_node.specs.Calls.{CallGoes}
-use Rattle.sync_run.specs.Parts.{sessions_from}
-use Rattle.sync_run.proofs.CourseParts.{SessionsSoFar}
+use Rattle.sync_run.specs.Parts.{SessionsBegin}
+use Rattle.sync_run.specs.Plans.{sessions_from}
 use Rattle.sync_run.proofs.sessions.attach_all.Given as goal
 
 abbrev pub invariant-links : goal.invariant-links
 invariant-links g l = record {
-  went : SessionsSoFar (g.C.Clients.meaning l.clients)
-      (sessions_from l.initial.node.store.state.facts.begun l.links)
-      (sessions_from l.node.store.state.facts.begun (drop l.link-index l.links)) l.node.links
-      l.initial.node.store l.node.store (g.H.Disk.tells l.initial.host) (g.H.Disk.tells l.host);
+  went : SessionsBegin (g.C.Clients.meaning l.clients) l.links
+      (sessions_from l.node.store.state.facts.begun (drop l.link-index l.links)) l.initial.node
+      l.node (g.H.Disk.tells l.initial.host) (g.H.Disk.tells l.host);
   keeps : CallGoes l.initial.node l.node (g.H.Disk.tells l.initial.host) (g.H.Disk.tells l.host);
   still_open : l.node.closed ≡ false;
   numbered : l.number ≡ length l.node.links;
