@@ -10,7 +10,7 @@ use Rattle.outside.specs.HostTold.{host_told}
 use Rattle.outside.specs.MemDisk.{answers_after}
 use Rattle.outside.specs.MemHost.{MemHostValue, plans_of}
 use Rattle.sync_course.specs.declared.TheConstants.{PIECE_LEN}
-use Rattle.sync_course.specs.Events.{Event, Commit, Hear, Miss, Read, Break, Pass, PlansAfter, ChangesThrough, TellsEvents, heard_after}
+use Rattle.sync_course.specs.Events.{Event, Hear, Miss, PlansAfter, ChangesThrough, TellsEvents, heard_after}
 use Rattle.world_devices.specs.Brought.{brought_on, planned_bytes}
 use Rattle.sync_course.proofs.HeardLaws.{at_of, bytes_by, bytes_of, events_tell, none_tell}
 
@@ -34,17 +34,13 @@ answer_bytes room (close ∷ rest) reply next = let same : ended ≡ reply = cc 
 answer_bytes room (failure ∷ rest) reply next = cc
 
 failure_bytes : (room : ℕ) (plan : List Planned) → reply_to room plan ≡ None → planned_bytes (plan_after room plan) ≡ planned_bytes plan
-failure_bytes room [] next = refl
 failure_bytes room (piece bytes ∷ rest) next = cc
-failure_bytes room (pause ∷ rest) next = refl
-failure_bytes room (close ∷ rest) next = refl
-failure_bytes room (failure ∷ rest) next = refl
+failure_bytes room _ next = refl
 
 -- ---- the plans of all links, over the events of a run
 
 -- what an event brings on a link and what is left of its plan is its plan
 event_brings : (e : Event) (plans plans' : ℕ → List Planned) (link : ℕ) → PlansAfter e plans plans' → bytes_by link e ++ planned_bytes (plans' link) ≡ planned_bytes (plans link)
-event_brings (Commit b) plans plans' link after = ap (λ (p : ℕ → List Planned). planned_bytes (p link)) after
 event_brings (Hear n reply) plans plans' link after =
     elim (cases_eq link n) [
       | inl here ↦
@@ -63,9 +59,7 @@ event_brings (Miss n) plans plans' link (inl uses) =
           ap planned_bytes own.left ∙ failure_bytes PIECE_LEN (plans link) own.next
       | inr other ↦ ap planned_bytes (uses.others link other)
     ]
-event_brings (Read n now) plans plans' link after = ap (λ (p : ℕ → List Planned). planned_bytes (p link)) after
-event_brings (Break n) plans plans' link after = ap (λ (p : ℕ → List Planned). planned_bytes (p link)) after
-event_brings Pass plans plans' link after = ap (λ (p : ℕ → List Planned). planned_bytes (p link)) after
+event_brings _ plans plans' link after = ap (λ (p : ℕ → List Planned). planned_bytes (p link)) after
 
 pub plans_bring : (events : List Event) (plans plans' : ℕ → List Planned) (link : ℕ) → ChangesThrough PlansAfter events plans plans'
     → bytes_of link events ++ planned_bytes (plans' link) ≡ planned_bytes (plans link)
@@ -81,7 +75,7 @@ plans_bring (e ∷ events) plans plans' link through =
 abbrev pub told_heard : MemHostValue → List HeardOn
 told_heard h = heard_on (answers_after [] h.disk.calls) (λ i. slice_index h.silences i)
 
-no_more : (a b : List ℕ) → a ++ b ≡ [] → b ≡ []
+pub no_more : (a b : List ℕ) → a ++ b ≡ [] → b ≡ []
 no_more [] b none = none
 no_more (x ∷ a) b none = cc
 

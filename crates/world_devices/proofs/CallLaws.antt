@@ -2,9 +2,9 @@
 use Rattle.std.proofs.Common.{◌≡◌, ◌⊎◌, ℕ, ◌+◌, ◌-◌, ◌<◌, Bool, true, false, cond, nat_eq, nat_le}
 use Rattle.std.proofs.Common.{nat_lt, List, [], ◌∷◌, ◌++◌, length, length-append, suc, refl, sym}
 use Rattle.std.proofs.Common.{ap, ◌∙◌, subst, inl, inr, arith, append-nil, append_assoc, Option}
-use Rattle.std.proofs.Common.{Some, None, is_some}
+use Rattle.std.proofs.Common.{◌≤◌, Some, None, is_some}
 use Rattle.std.proofs.lemmas.Bool.{and_from, cases_lt, le-leb, lt-ltb}
-use Rattle.outside.specs.Files.{Two, File, read_files}
+use Rattle.outside.specs.Files.{read_files}
 use Rattle.outside.specs.Runs.{answers_at, heard_bytes}
 use Rattle.outside.specs.HostTold.{host_told}
 use Rattle.outside.specs.MemHost.{MemHostValue, plans_of}
@@ -22,7 +22,7 @@ use Rattle.sync_rules.specs.Facts.{Facts, after_all, facts, session_at}
 use Rattle.std.specs.Option.{option_map}
 use Rattle.std.proofs.lemmas.Bool.{eq-eqb}
 use Rattle.std.specs.List.{AllByRecursion}
-use Rattle.outside.specs.Links.{Planned, piece, pause, close, failure}
+use Rattle.outside.specs.Links.{Planned, piece}
 use Rattle.outside.specs.MemHost as host
 use Rattle.outside.specs.Planned.{pieces}
 use Rattle.outside.specs.Script.{planned_of}
@@ -32,43 +32,41 @@ use Rattle.entry_codec.specs.Spelling.{IsEntry}
 use Rattle.sync_course.specs.Links.{is_sent_to}
 use Rattle.sync_course.specs.declared.ends.LinkEnd.{LinkEnd}
 use Rattle.sync_course.specs.declared.ends.LinkEnd.TheVariants as link_end
-use Rattle.sync_rules.specs.Legal.{Allowed, Legal}
+use Rattle.sync_rules.specs.Legal.{Legal}
 use Rattle.sync_rules.specs.declared.entries.Entry.TheVariants as entry
 use Rattle.sync_rules.specs.Consistency.{IsConsistent}
 use Rattle.sync_rules.proofs.ConsistencyLaws.{legal_consistent}
-use Rattle.sync_store.specs.Fitting.{FitsFiles}
 use Rattle.sync_node.specs.declared.node.Plan.{Plan}
 use Rattle.sync_node.specs.Plans.{session_of}
 use Rattle.world_laws.specs.Worlds.{HasSession}
 use Rattle.sync_store.specs.Store.{StoreValue}
 use Rattle.sync_store.specs.Ready.{IsReady}
-use Rattle.sync_rules.specs.declared.entries.Entry.{Entry}
-use Rattle.sync_node.specs.Adding.{IsPlain}
-use Rattle.sync_node.specs.Batches.{AddStops, Added}
 use Rattle.sync_node.specs.Causes.{sessions_of}
-use Rattle.sync_node.specs.Node.{IsNode, KeepsSessions, MayRun, NodeValue}
-use Rattle.sync_node.specs.OnRuns.{BeginStopped, BeginWent, ByFault, RoundStopped, RoundWent}
-use Rattle.sync_node.specs.declared.fault.NodeFault.{NodeFault}
+use Rattle.sync_node.specs.Node.{KeepsSessions, MayRun, NodeValue}
 use Rattle.sync_node.specs.declared.link.Link.{Link}
 use Rattle.sync_node.specs.Output.{heard_on, output}
 use Rattle.world_devices.specs.Brought.{brought_on, bytes_of, planned_bytes}
 use Rattle.world_devices.specs.Linking.{AddsLink, HoldsSome, KeepsLinks, LinksStand, PlansMore}
 use Rattle.world_devices.specs.Linking.{first_of, number_of}
+use Rattle.world_devices.specs.Devices.{DeviceValue, IsDevice, IsReadyStore, IsRunning}
+use Rattle.world_devices.specs.Devices.{MayBeRunning, links_made}
+use Rattle.outside.specs.declared.limits.TheConstants.{LINKS}
+use Rattle.sync_node.specs.Calls.{CallGoes}
 use Rattle.world_devices.specs.Cited.{DeviceLaws}
-use Rattle.world_devices.specs.Devices.{DeviceValue, IsReadyStore, IsRunning, MayAddEntry, MayBeRunning, links_made}
 use Rattle.world_devices.specs.Doing.{ComesOf}
 use Rattle.world_devices.specs.Keeping.{Journal, KeepsOn, LeavesSome, StandsForSome, WentOn}
 use Rattle.world_devices.specs.Running.{DeviceRuns, HoldsAfterCrash, IsStill, ReadsAsJournal}
 use Rattle.world_devices.specs.Running.{WentHearing, is_session_of, records_for}
 use Rattle.world_devices.specs.Running as running
-use Rattle.world_devices.proofs.BroughtLaws.{plans_bring, told_brings, told_heard}
+use Rattle.world_devices.proofs.BroughtLaws.{no_more, plans_bring, told_brings, told_heard}
 use Rattle.sync_course.proofs.HeardLaws.{bytes_by, bytes_of as event_bytes}
 use Rattle.world_devices.proofs.HostLaws.{told_host}
-use Rattle.world_devices.proofs.KeepLaws.{crash_same, holds_fits, holds_some, same_files}
+use Rattle.world_devices.proofs.KeepLaws.{crash_same, fits_whole, holds_fits, holds_some}
 use Rattle.world_devices.proofs.LeaveLaws.{comes_still, hears_none, still_fits}
 use Rattle.world_devices.proofs.StartLaws.{comes_hears, comes_keeps, fits_hold}
-use Rattle.world_devices.proofs.RunLaws.{CallDid, CallEnds, add_ends, add_stopped, all_sent_on, begin_ends, begin_stopped, call_keeps, call_takes, ended_did, place_adds, turn_ends, turn_stopped}
-use Rattle.world_devices.proofs.RunningLaws.{BringsAll, journal_of, open_of, running_of, silent_past}
+use Rattle.world_devices.proofs.RunLaws.{CallDid, CallEnds, all_sent_on, call_keeps, call_takes}
+use Rattle.world_devices.proofs.RunLaws.{ended_did, place_adds, run_after}
+use Rattle.world_devices.proofs.RunningLaws.{BringsAll, journal_of, open_of, running_of}
 
 -- ---- calls that leave the files
 
@@ -99,12 +97,8 @@ known_link n h links link run =
     let made : length (told_heard h) ≡ links_made h = (host_told h).all_heard (told_heard h) refl in
     elim (cases_lt link (length (told_heard h))) [
       | inl within ↦ inl within
-      | inr past ↦ inr (no_plan_bytes _ _ (run.unused link (omega (arith, past, made, run.dialled, run.linked, run.attached.few))))
+      | inr past ↦ inr (no_more _ _ (run.unused link (omega (arith, past, made, run.dialled, run.linked, run.attached.few))))
     ]
-  where
-    no_plan_bytes : (a b : List ℕ) → a ++ b ≡ [] → b ≡ []
-    no_plan_bytes [] b none = none
-    no_plan_bytes (x ∷ a) b none = cc
 
 call_brings : (n : NodeValue) (h h' : MemHostValue) (links : ℕ) → IsRunning n h links
     → CallDid n (host_told h) (host_told h') → BringsAll h h'
@@ -150,7 +144,7 @@ was_brought fronts n h h' links run did session link r on inside =
     let bytes : List ℕ = event_bytes link (events_of did.acts) in
     let none : event_bytes link (events_of (did.acts ++ commit_acts did.next)) ≡ bytes = no_hear link did.acts did.next in
     let has : heard_at did.to.at link ≡ heard_on (host_told h).links link ++ bytes =
-    place_adds n (host_told h) (host_told h') (told_host h) (silent_past n h links run) (did.acts ++ commit_acts did.next) did.to link did.path
+    place_adds n h links run (did.acts ++ commit_acts did.next) did.to link did.path
     ∙ ap (λ (l : List ℕ). heard_on (host_told h).links link ++ l) none in
     let whole : heard_at did.to.at link ++ rest ≡ brought_on h link =
     ap (λ (l : List ℕ). l ++ rest) has
@@ -162,18 +156,6 @@ was_brought fronts n h h' links run did session link r on inside =
 
 -- ---- what calls of a node did
 
--- an entry that may be added is none of a session
-plain_of : (maybe : Option NodeValue) (n : NodeValue) (e : Entry) → maybe ≡ Some n → MayAddEntry maybe e → IsPlain (e ∷ [])
-plain_of maybe n e is may = (subst (λ (x : Option NodeValue). MayAddEntry x e) is may).plain
-
-plain_batch : (batch : List Entry) (e : Entry) → batch ≡ e ∷ [] → IsPlain (e ∷ []) → IsPlain batch
-plain_batch batch e is plain = subst (λ (b : List Entry). IsPlain b) (sym is) plain
-
--- it may follow the journal of a node that is open
-allowed_of : (maybe : Option NodeValue) (n : NodeValue) (e : Entry) (batch : List Entry) → maybe ≡ Some n → MayAddEntry maybe e → n.closed ≡ false → batch ≡ e ∷ [] → Allowed bundle_meaning n.store.state.facts batch
-allowed_of maybe n e batch is may unclosed single =
-    subst (λ (b : List Entry). Allowed bundle_meaning n.store.state.facts b) (sym single) ((subst (λ (x : Option NodeValue). MayAddEntry x e) is may).allowed unclosed)
-
 sessions_long : (links : List Link) → length (sessions_of links) ≡ length links
 sessions_long [] = refl
 sessions_long (l ∷ links) = ap suc (sessions_long links)
@@ -184,38 +166,6 @@ same_number n n' kept = sym (sessions_long n'.links) ∙ ap length kept.same_ses
 pub one_longer : (links links' : List Link) → (link : Link) × (links' ≡ links ++ link ∷ []) → length links' ≡ length links + 1
 one_longer links links' pushed = ap length pushed.1 ∙ length-append links (pushed.0 ∷ [])
 
-module _ (n n' : NodeValue) (h h' : MemHostValue) (links : ℕ) (run : IsRunning n h links) where
-  pub turn_done : (quiet : Bool) → IsNode n' → RoundWent bundle_meaning n.first n.links n'.links n.store n'.store (host_told h) (host_told h') quiet → CallEnds n n' (host_told h) (host_told h')
-  turn_done quiet is_node w =
-      turn_ends n n' (host_told h) (host_told h') (told_host h) (silent_past n h links run) run.runs quiet (omega (arith, is_node.few, run.dialled)) w
-
-  pub turn_broke : (x : NodeFault) → ByFault (RoundStopped bundle_meaning n.first n.links n'.links n.store n'.store (host_told h) (host_told h')) x → CallDid n (host_told h) (host_told h')
-  turn_broke x stopped = turn_stopped n n' (host_told h) (host_told h') (told_host h) (silent_past n h links run) run.runs x stopped
-
-  pub begin_done : (session : Session) → session.number ≡ n.store.state.facts.begun → IsNode n' → BeginWent bundle_meaning session n.links n'.links n.store n'.store (host_told h) (host_told h')
-      → CallEnds n n' (host_told h) (host_told h')
-  begin_done session number is_node w =
-      begin_ends n n' (host_told h) (host_told h') (told_host h) (silent_past n h links run) run.runs session (number ∙ (run.attached.attached run.unclosed).begun)
-      (omega (arith, is_node.few, run.dialled)) w
-
-  pub begin_broke : (session : Session) (x : NodeFault) → ByFault (BeginStopped bundle_meaning session n.links n'.links n.store n'.store (host_told h) (host_told h')) x → CallDid n (host_told h) (host_told h')
-  begin_broke session x stopped = begin_stopped n n' (host_told h) (host_told h') (told_host h) (silent_past n h links run) run.runs session x stopped
-
-  -- an entry that may be added, as a batch of its own
-  module _ (maybe : Option NodeValue) (e : Entry) (batch : List Entry) (is : maybe ≡ Some n) (may : MayAddEntry maybe e) (single : batch ≡ e ∷ []) where
-    abbrev plain : IsPlain batch
-    plain = plain_batch batch e single (plain_of maybe n e is may)
-
-    abbrev allowed : Allowed bundle_meaning n.store.state.facts batch
-    allowed = allowed_of maybe n e batch is may run.unclosed single
-
-    pub add_done : n'.links ≡ n.links → Added bundle_meaning batch n.store n'.store (host_told h) (host_told h') → CallEnds n n' (host_told h) (host_told h')
-    add_done same added =
-        add_ends n n' (host_told h) (host_told h') batch plain allowed (told_host h) (silent_past n h links run) run.runs (omega (arith, run.attached.few, run.dialled)) same added
-
-    pub add_broke : (x : NodeFault) → ByFault (AddStops bundle_meaning batch n.store n'.store (host_told h) (host_told h')) x → CallDid n (host_told h) (host_told h')
-    add_broke x stopped = add_stopped n n' (host_told h) (host_told h') batch plain allowed x stopped
-
 -- ---- what calls may leave
 
 -- what a call of its node leaves of a device: a journal that goes on from each before, and took
@@ -225,15 +175,15 @@ pub record DeviceLeaves (node : Option NodeValue) (h at : MemHostValue) : Type 0
   pub hears : (j : Journal) → HoldsAfterCrash j h → LeavesSome
       (WentHearing (running.records_of node h) j) (host_told at)
 
-pub device_leaves : DeviceLaws → (node : Option NodeValue) (n : NodeValue) (h at : MemHostValue)
-    (links : ℕ) → node ≡ Some n → IsRunning n h links → CallDid n (host_told h) (host_told at)
+pub device_leaves : DeviceLaws → (node : Option NodeValue) (n : NodeValue) (h at : MemHostValue) (links : ℕ)
+    → node ≡ Some n → IsRunning n h links → CallDid n (host_told h) (host_told at)
     → DeviceLeaves node h at
 device_leaves laws maybe n h at links is run did =
     let taken : ℕ → List Record = running.records_of (Some n) h in
     subst (λ (x : Option NodeValue). DeviceLeaves x h at) (sym is) (record {
-      keeps = call_keeps laws.moments n (host_told h) (host_told at) (told_host h) run.runs did;
+      keeps = call_keeps laws n (host_told h) (host_told at) (told_host h) run.runs did;
       hears = λ j holds.
-          call_takes laws.moments n (host_told h) (host_told at) (told_host h) run.runs did taken j
+          call_takes laws n (host_told h) (host_told at) (told_host h) run.runs did taken j
           (was_brought laws.fronts n h at links run did)
           (holds_some (WentHearing taken j) j h (hears_none taken j) holds);
     })
@@ -255,61 +205,85 @@ leaves_come node h at comes = record {
       (hears_none (running.records_of node h) j) holds);
 }
 
--- of a device that is another one by name
-pub leaves_runs : DeviceLaws → (d old new : DeviceValue) → d ≡ old
-    → DeviceLeaves d.node d.host new.host → (is_some new.node ≡ true → IsStill new.host)
-    → DeviceRuns old new
-leaves_runs laws d old new is leaves still =
-    subst (λ (x : DeviceValue). DeviceRuns x new) is
-    (record {
-      comes =
-          λ j holds. comes_still laws.legal (records_for d) j new (leaves.hears j holds) still;
-      keeps = leaves.keeps;
-    })
+pub leaves_runs : DeviceLaws → (d new : DeviceValue) → DeviceLeaves d.node d.host new.host
+    → (is_some new.node ≡ true → IsStill new.host) → DeviceRuns d new
+leaves_runs laws d new leaves still = record {
+  comes = λ j holds. comes_still laws.legal (records_for d) j new (leaves.hears j holds) still;
+  keeps = leaves.keeps;
+}
 
--- a disk that fits a store is still
+-- a disk that fits a ready store is still
 pub ready_still : (s : StoreValue) (h : MemHostValue) → IsReady bundle_meaning s (host_told h).files → IsStill h
 ready_still s h ready = let has = journal_of s h ready in still_fits s has.whole h has.fits
 
--- a call of its node that ended
-pub record DidWell (node : Option NodeValue) (n n' : NodeValue) (h h' : MemHostValue)
-    (links : ℕ) : Type 0 where
-  pub run : IsRunning n h links
-  pub ends : CallEnds n n' (host_told h) (host_told h')
-  pub leaves : DeviceLeaves node h h'
-  pub brings : BringsAll h h'
-  pub still : IsStill h'
+-- a device behind a call of its node
+abbrev pub behind : DeviceValue → NodeValue → MemHostValue → ℕ → DeviceValue
+behind d n' h' links = record d { host = h'; node = Some n'; links = links }
 
-pub did_well : DeviceLaws → (node : Option NodeValue) (n n' : NodeValue) (h h' : MemHostValue)
-    (links : ℕ) → node ≡ Some n → MayBeRunning node h links
-    → (IsRunning n h links → CallEnds n n' (host_told h) (host_told h'))
-    → (n.closed ≡ false → n'.closed ≡ false) → MayRun bundle_meaning n' (host_told h')
-    → DidWell node n n' h h' links
-did_well laws node n n' h h' links is runs ends opened may =
-    let run = running_of node n h links is runs in
-    let did = ended_did n n' (host_told h) (host_told h') (ends run) in
+-- the call ended
+pub record DidWell (d : DeviceValue) (n n' : NodeValue) (h' : MemHostValue) : Type 0 where
+  pub was : d.node ≡ Some n
+  pub run : IsRunning n d.host d.links
+  pub goes : CallGoes n n' (host_told d.host) (host_told h')
+  pub may : MayRun bundle_meaning n' (host_told h')
+  pub unclosed : n'.closed ≡ false
+  pub ends : CallEnds n n' (host_told d.host) (host_told h')
+  pub leaves : DeviceLeaves d.node d.host h'
+  pub brings : BringsAll d.host h'
+
+pub did_well : DeviceLaws → {d old : DeviceValue} → d ≡ old → (n n' : NodeValue) (h' : MemHostValue)
+    → d.node ≡ Some n → MayBeRunning d.node d.host d.links → CallGoes n n' (host_told d.host) (host_told h')
+    → MayRun bundle_meaning n' (host_told h') → (n.closed ≡ false → n'.closed ≡ false)
+    → (IsRunning n d.host d.links → CallEnds n n' (host_told d.host) (host_told h'))
+    → DidWell d n n' h'
+did_well laws {d = d} seen n n' h' was runs goes may opened ends =
+    let run = running_of d.node n d.host d.links was runs in
+    let did = ended_did n n' (host_told d.host) (host_told h') (ends run) in
     record {
+      was = was;
       run = run;
+      goes = goes;
+      may = may;
+      unclosed = opened run.unclosed;
       ends = ends run;
-      leaves = device_leaves laws node n h h' links is run did;
-      brings = call_brings n h h' links run did;
-      still = ready_still n'.store h' (may (opened run.unclosed)).ready;
+      leaves = device_leaves laws d.node n d.host h' d.links was run did;
+      brings = call_brings n d.host h' d.links run did;
     }
 
--- ---- links
+module _ (d : DeviceValue) (n n' : NodeValue) (h' : MemHostValue) (did : DidWell d n n' h') where
+  -- it is a device then, with so many links
+  pub device_well : (links : ℕ) → links ≡ length n'.links → d.links ≤ links
+      → IsDevice d.node d.host d.links → links ≤ LINKS → IsDevice (Some n') h' links
+  device_well links linked more device few = (
+    record {
+      unclosed = did.unclosed;
+      runs = run_after n n' (host_told d.host) (host_told h') (told_host d.host) did.ends
+          did.goes.same_first did.run.runs;
+      may = did.may;
+      limit = did.ends.did.limit ∙ did.run.limit;
+      linked = linked;
+      dialled = omega (arith, did.run.dialled, did.ends.did.goes.same_dialled);
+      attached = did.goes.node;
+      unused = λ link past.
+          did.brings link ∙ did.run.unused link (omega (arith, past, more));
+    },
+    did.leaves.keeps [] device.1,
+    few,
+  )
 
--- the links of a node that a call leaves
-pub keeps_links : (n n' : NodeValue) (d old new : DeviceValue) → d ≡ old → d.node ≡ Some n
-    → new.node ≡ Some n' → n'.first ≡ n.first → length n'.links ≡ length n.links
-    → new.links ≡ d.links → BringsAll d.host new.host
-    → KeepsLinks old new
-keeps_links n n' d old new seen was is first number links brings =
-    subst (λ (x : DeviceValue). KeepsLinks x new) seen (record {
-      same_first = ap first_of is ∙ ap (λ (k : ℕ). Some k) first ∙ sym (ap first_of was);
-      same_number = ap number_of is ∙ ap (λ (k : ℕ). Some k) number ∙ sym (ap number_of was);
-      same_links = links;
-      brings = brings;
-    })
+  pub well_runs : DeviceLaws → (links : ℕ) → DeviceRuns d (behind d n' h' links)
+  well_runs laws links =
+      leaves_runs laws d (behind d n' h' links) did.leaves
+      (λ _. ready_still n'.store h' (did.may did.unclosed).ready)
+
+  -- the links of a node that a call leaves
+  pub keeps_links : length n'.links ≡ length n.links → KeepsLinks d (behind d n' h' d.links)
+  keeps_links number = record {
+    same_first = ap (λ (k : ℕ). Some k) did.goes.same_first ∙ sym (ap first_of did.was);
+    same_number = ap (λ (k : ℕ). Some k) number ∙ sym (ap number_of did.was);
+    same_links = refl;
+    brings = did.brings;
+  }
 
 -- ---- a session that began
 
@@ -345,30 +319,36 @@ has_begun s s' h h' session ready ready' is numbered j holds =
     }
 
 -- a link more
-pub adds_link : (plan : Plan) (nonce : Option (List ℕ)) (session : ℕ) (n n' : NodeValue)
-    (h h' : MemHostValue) (links : ℕ) (old new : DeviceValue) → session ≡ n.store.state.facts.begun
-    → IsRunning n h links → IsReady bundle_meaning n'.store (host_told h').files
-    → n'.first ≡ n.first → length n'.links ≡ length n.links + 1 → BringsAll h h'
+pub adds_link : (plan : Plan) (nonce : Option (List ℕ)) (d : DeviceValue) (n n' : NodeValue)
+    (h' : MemHostValue) (session : ℕ) → DidWell d n n' h' → session ≡ n.store.state.facts.begun
+    → length n'.links ≡ length n.links + 1
     → n'.store.state.facts ≡ after_all n.store.state.facts (entry.Session (session_of n.store.state.facts.begun plan nonce) ∷ [])
-    → old.node ≡ Some n → new.node ≡ Some n' → old.host ≡ h → new.host ≡ h' → old.links ≡ links
-    → new.links ≡ links + 1 → AddsLink plan.contact session old new
-adds_link plan nonce session n n' h h' links old new so run ready same_first one_more brings is was
-    now its its' at at' =
-    let brought : BringsAll old.host new.host = subst (λ (x : MemHostValue). BringsAll x new.host) (sym its) (subst (λ (x : MemHostValue). BringsAll h x) (sym its') brings) in
-    let begun : n.store.state.facts.begun ≡ n.first + old.links = omega (arith, (run.attached.attached run.unclosed).begun, run.linked, at) in
-    subst (λ (k : ℕ). AddsLink plan.contact k old new) (sym so) (record {
-      same_first = ap first_of now ∙ ap (λ (k : ℕ). Some k) same_first ∙ sym (ap first_of was);
-      number = ap number_of now ∙ ap (λ (k : ℕ). Some k) (omega (arith, one_more, run.linked, at));
-      one_more = omega (arith, at, at');
-      numbered = ap (option_map (λ (m : NodeValue). m.first + old.links)) was ∙ ap (λ (k : ℕ). Some k) (sym begun);
-      brings = brought;
-      quiet = brought old.links ∙ ap (λ (x : MemHostValue). brought_on x old.links) its ∙ run.unused old.links (omega (arith, at));
-      begun = λ j holds.
-          has_begun n.store n'.store h h' (session_of n.store.state.facts.begun plan nonce) (open_of n h links run) ready is refl j (subst (λ (x : MemHostValue). HoldsAfterCrash j x) its' holds);
+    → AddsLink plan.contact session d (behind d n' h' (d.links + 1))
+adds_link plan nonce d n n' h' session did so one_more is =
+    let begun : n.store.state.facts.begun ≡ n.first + d.links =
+    omega (arith, (did.run.attached.attached did.run.unclosed).begun, did.run.linked) in
+    let new : DeviceValue = behind d n' h' (d.links + 1) in
+    subst (λ (k : ℕ). AddsLink plan.contact k d new) (sym so) (record {
+      same_first = ap (λ (k : ℕ). Some k) did.goes.same_first ∙ sym (ap first_of did.was);
+      number = ap (λ (k : ℕ). Some k) (omega (arith, one_more, did.run.linked));
+      one_more = refl;
+      numbered = ap (option_map (λ (m : NodeValue). m.first + d.links)) did.was
+          ∙ ap (λ (k : ℕ). Some k) (sym begun);
+      brings = did.brings;
+      quiet = did.brings d.links ∙ did.run.unused d.links (omega arith);
+      begun =
+          has_begun n.store n'.store d.host h' (session_of n.store.state.facts.begun plan nonce)
+          (open_of n d.host d.links did.run) (did.may did.unclosed).ready is refl;
     })
 
--- the store that is ready is the node's
-pub ready_store : (maybe : Option NodeValue) (n : NodeValue) (s : StoreValue) → maybe ≡ Some n → IsReadyStore maybe s → s ≡ n.store
+-- the store that is ready is that of a node that runs
+pub ready_in : (node : Option NodeValue) (s : StoreValue) → IsReadyStore node s
+    → (n : NodeValue) × (node ≡ Some n) × (s ≡ n.store)
+ready_in None s ready = absurd ready
+ready_in (Some n) s ready = (n, refl, ready.0)
+
+pub ready_store : (node : Option NodeValue) (n : NodeValue) (s : StoreValue) → node ≡ Some n
+    → IsReadyStore node s → s ≡ n.store
 ready_store maybe n s is ready = (subst (λ (x : Option NodeValue). IsReadyStore x s) is ready).0
 
 -- ---- what is planned
@@ -376,19 +356,15 @@ ready_store maybe n s is ready = (subst (λ (x : Option NodeValue). IsReadyStore
 planned_both : (a b : List Planned) → planned_bytes (a ++ b) ≡ planned_bytes a ++ planned_bytes b
 planned_both [] b = refl
 planned_both (piece bytes ∷ a) b = ap (λ (l : List ℕ). bytes ++ l) (planned_both a b) ∙ sym (append_assoc bytes (planned_bytes a) (planned_bytes b))
-planned_both (pause ∷ a) b = planned_both a b
-planned_both (close ∷ a) b = planned_both a b
-planned_both (failure ∷ a) b = planned_both a b
+planned_both (_ ∷ a) b = planned_both a b
 
 one_piece : (bytes : List ℕ) → planned_bytes (pieces bytes) ≡ bytes
 one_piece [] = refl
 one_piece (byte ∷ bytes) = append-nil (byte ∷ bytes)
 
-answer_planned : (answer : Answer) → planned_bytes (planned_of answer) ≡ bytes_of answer
+pub answer_planned : (answer : Answer) → planned_bytes (planned_of answer) ≡ bytes_of answer
 answer_planned (answer_kind.Bytes bytes) = one_piece bytes.items
-answer_planned answer_kind.Idle = refl
-answer_planned answer_kind.End = refl
-answer_planned answer_kind.Fail = refl
+answer_planned _ = refl
 
 pub brings_more : (h h' : MemHostValue) (link : ℕ) (answer : Answer) → h' ≡ record h { scripts = h'.scripts } → host.PlansAnswer link answer h.scripts h'.scripts
     → brought_on h' link ≡ brought_on h link ++ bytes_of answer
@@ -410,7 +386,8 @@ brings_other h h' link answer is plans i other =
 not_failed : (stands : LinkEnd) → is_sent_to stands ≡ true → stands ≡ link_end.Failed → ⊥
 not_failed stands unclosed is = let no : is_sent_to link_end.Failed ≡ true = subst (λ (e : LinkEnd). is_sent_to e ≡ true) is unclosed in cc
 
-pub links_stand : DeviceLaws → (n : NodeValue) (d : DeviceValue) (j : Journal) → IsRunning n d.host d.links → HoldsAfterCrash j d.host → LinksStand n d j
+pub links_stand : DeviceLaws → (n : NodeValue) (d : DeviceValue) (j : Journal) → IsRunning n d.host d.links
+    → HoldsAfterCrash j d.host → LinksStand n d j
 links_stand laws n d j run holds =
     let ready = open_of n d.host d.links run in
     let has = journal_of n.store d.host ready in
@@ -418,9 +395,7 @@ links_stand laws n d j run holds =
     let f = holds_facts n.store j d.host ready holds in
     let so_far : Journal = run.runs.begin ++ batches_in run.runs.acts in
     let is : so_far ≡ j =
-    holds_fits n.store j so_far d.host holds
-    (subst (λ (t : Two File). FitsFiles bundle_meaning n.store so_far t)
-    (sym (same_files d.host run.runs.fits.0 run.runs.fits.1)) run.runs.fits.2) in
+    fits_whole n.store so_far has.whole d.host run.runs.fits has.fits ∙ same in
     record {
       facts_are = sym f;
       legal = subst (λ (k : Journal). Legal bundle_meaning k) same has.fits.legal;
@@ -432,7 +407,7 @@ links_stand laws n d j run holds =
           ap (λ (g : Facts). session_at g.sessions (n.first + link)) f
           ∙ subst (λ (k : ℕ). session_at n.store.state.facts.sessions k ≡ Some l.session) at.numbered at.known;
       sent = λ link l there unclosed.
-          all_sent_on laws.whole n (host_told d.host) run.runs link l there (not_failed l.end unclosed)
+          all_sent_on laws n (host_told d.host) run.runs link l there (not_failed l.end unclosed)
           ∙ ap (λ (k : Journal). output k (n.first + link)) is;
       unused = run.unused;
     }

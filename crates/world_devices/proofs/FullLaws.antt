@@ -1,17 +1,15 @@
 -- Where a batch has no room: each link that has not failed by then has sent all output of its session.
 use Rattle.std.specs.Prelude.{◌≢◌}
-use Rattle.std.proofs.Common.{◌≡◌, ℕ, zero, suc, ◌+◌, true, false, List, [], ◌∷◌, ◌++◌, refl, sym}
+use Rattle.std.proofs.lemmas.Bool.{cases_Bool}
+use Rattle.std.proofs.Common.{◌≡◌, ℕ, zero, suc, ◌+◌, false, List, [], ◌∷◌, ◌++◌, refl, sym}
 use Rattle.std.proofs.Common.{ap, ◌∙◌, subst, inl, inr, append_assoc, Option, Some}
 use Rattle.std.specs.Prelude.{slice_get}
-use Rattle.outside.specs.Files.{Two, File, read_files}
 use Rattle.outside.specs.HostTold.{host_told}
 use Rattle.outside.specs.MemDisk.{disk_files, files_of}
 use Rattle.outside.specs.MemHost.{MemHostValue}
 use Rattle.outside.specs.Outside.{Outside}
-use Rattle.outside.specs.Runs.{TellsAll}
 use Rattle.client_basic.specs.Bodies.{bundle_meaning}
 use Rattle.record_grammar.specs.Spelling.{spelled}
-use Rattle.entry_codec.specs.Standing.{stands, journal}
 use Rattle.sync_rules.specs.declared.entries.Entry.{Entry}
 use Rattle.sync_rules.specs.Facts.{facts}
 use Rattle.sync_rules.specs.Output.{sent}
@@ -29,23 +27,24 @@ use Rattle.sync_course.specs.declared.ends.LinkEnd.TheVariants as link_end
 use Rattle.sync_course.proofs.ActLaws.{batches_in-append, sends_on-append}
 use Rattle.sync_course.proofs.FailLaws.{HoldsOpen, free_fails}
 use Rattle.sync_course.proofs.FreeLaws.{run_acts_are_free, step_is_free}
-use Rattle.sync_course.proofs.SendLaws.{events_path}
+use Rattle.sync_course.proofs.SendLaws.{all_sent, events_path}
 use Rattle.sync_node.specs.Courses.{links_from, place_at}
 use Rattle.sync_node.specs.Fulls.{RunFull}
 use Rattle.sync_node.specs.Node.{NodeValue}
-use Rattle.sync_node.specs.OnRuns.{BeginStopped, ByFault, RoundStopped, RunActs}
+use Rattle.sync_node.specs.OnRuns.{RunActs}
 use Rattle.sync_node.specs.Output.{heard_on, output, sent_on}
 use Rattle.sync_node.specs.Went.{StopsFull}
-use Rattle.sync_node.specs.declared.fault.NodeFault.{NodeFault}
 use Rattle.sync_node.specs.declared.fault.NodeFault.TheVariants as node_fault
 use Rattle.sync_node.specs.declared.link.Link.{Link}
 use Rattle.sync_node.specs.declared.node.Plan.{Plan}
 use Rattle.sync_node.proofs.EventLaws.{runs_of}
-use Rattle.world_devices.specs.Cited.{FullIsSent}
+use Rattle.world_devices.specs.Cited.{DeviceLaws}
 use Rattle.world_devices.specs.Doing.{FullAtBeginning, FullInTurn, FullSent, next_session}
 use Rattle.world_devices.proofs.HostLaws.{told_host}
 use Rattle.world_devices.specs.Keeping.{IsRunSoFar, Journal, node_place}
-use Rattle.world_devices.proofs.RunLaws.{NodeSteps, acts_fail, begin_from, free_path, node_failed, node_terms, one_of, turn_from, whole_path}
+use Rattle.world_devices.proofs.KeepLaws.{fits_whole}
+use Rattle.world_devices.proofs.RunLaws.{BeginStops, TurnStops, acts_fail, begin_from, free_path}
+use Rattle.world_devices.proofs.RunLaws.{node_failed, node_terms, turn_from, whole_path}
 
 -- ---- a place at which a batch has no room
 
@@ -117,106 +116,84 @@ failed_from k (suc i) (x ∷ links) heard l at failed =
 
 -- ---- what was sent by then
 
-module _ (law : FullIsSent) (n : NodeValue) (links' : List Link) (s' : StoreValue) (o o' : Outside) (told : TellsAll o) (run : IsRunSoFar n o)
-    (p : Place) (is : forget p ≡ node_place n o) (opens : HoldsOpen (forget p).hold (forget p).links) (heard : ℕ → List ℕ)
-    (stops : StopsAt (node_terms n) p (links_from 0 links' heard) n.store s' o o') where
+module _ (laws : DeviceLaws) (n : NodeValue) (links' : List Link) (s' : StoreValue) (h h' : MemHostValue)
+    (run : IsRunSoFar n (host_told h)) (p : Place) (is : forget p ≡ node_place n (host_told h))
+    (opens : HoldsOpen (forget p).hold (forget p).links) (heard : ℕ → List ℕ)
+    (stops : StopsAt (node_terms n) p (links_from 0 links' heard) n.store s' (host_told h)
+    (host_told h')) where
   abbrev all_acts : List Act
   all_acts = run.acts ++ stops.went.acts
 
   free_acts : FreeActs bundle_meaning run.begin all_acts (owing_free stops.to)
-  free_acts = whole_path n o run stops.went.acts (owing_free stops.to) (free_path n o o' p is stops.to stops.went.acts stops.went.path)
+  free_acts =
+      whole_path n (host_told h) run stops.went.acts (owing_free stops.to)
+      (free_path n (host_told h) p is stops.to stops.went.acts stops.went.path)
 
-  all_sent : AllIsSent run.begin all_acts
-  all_sent =
-      let one = run_acts_are_free bundle_meaning (node_terms n) stops.to stops.next (Does (Commit stops.batch) ∷ []) (stops.next, stops.steps, refl) in
-      law bundle_meaning run.begin all_acts (owing_free stops.to) one.0 (Commit stops.batch) run.legal free_acts
-      (subst (λ (k : ℕ). NodeSteps k (owing_free stops.to) (Does (Commit stops.batch)) one.0) (sym run.first) one.1)
+  -- an event is to come next, so that nothing is owed
+  sent_whole : AllIsSent run.begin all_acts
+  sent_whole =
+      let one = run_acts_are_free bundle_meaning (node_terms n) stops.to stops.next
+      (Does (Commit stops.batch) ∷ []) (stops.next, stops.steps, refl) in
+      all_sent laws.go_on laws.join bundle_meaning run.begin all_acts (owing_free stops.to)
+      run.legal free_acts one.1.0
 
-  -- a link on which a call failed is one of the node that failed
-  has_failed : (i : ℕ) → has_failure i (events_of all_acts) ≡ true → (l : Link) × (slice_get links' i ≡ Some l) × (l.end ≡ link_end.Failed)
-  has_failed i failed =
-      node_failed links' heard i
-      (fails_then (node_terms n) p links' heard n.store s' o o' stops opens i ((acts_fail n o run stops.went.acts (owing_free stops.to) free_acts).stays i failed))
-
-  link_sent : (i : ℕ) → has_failure i (events_of all_acts) ≡ false → (two : Two File)
-      → o'.files ≡ Some two → (whole : Journal)
-      → FitsFiles bundle_meaning s' whole two → sent_on o'.links i ≡ output whole (n.first + i)
+  link_sent : (i : ℕ) → has_failure i (events_of all_acts) ≡ false → (whole : Journal)
+      → FitsFiles bundle_meaning s' whole (files_of (disk_files h'.disk))
+      → sent_on (host_told h').links i ≡ output whole (n.first + i)
   unfolding output
-  link_sent i well two is_two whole fits =
+  link_sent i well whole fits =
       let so_far : Journal = run.begin ++ batches_in run.acts in
       let behind = stops.went.did.fits so_far run.fits in
-      let one : behind.0 ≡ two = (let both : Some behind.0 ≡ Some two = sym behind.1 ∙ is_two in
-      cc) in
-      let reads : stands bundle_meaning (read_files two)
-      ≡ journal (so_far ++ batches_in stops.went.acts) =
-      subst (λ (t : Two File). stands bundle_meaning (read_files t)
-      ≡ journal (so_far ++ batches_in stops.went.acts)) one behind.2.stands_for in
-      let both : journal (so_far ++ batches_in stops.went.acts) ≡ journal whole = sym reads ∙ fits.stands_for in
-      let same : so_far ++ batches_in stops.went.acts ≡ whole = cc in
+      let reads = fits_whole s' (so_far ++ batches_in stops.went.acts) whole h' behind fits in
       let all : run.begin ++ batches_in all_acts ≡ whole =
       ap (λ (l : Journal). run.begin ++ l) (batches_in-append run.acts stops.went.acts)
-      ∙ sym (append_assoc run.begin (batches_in run.acts) (batches_in stops.went.acts)) ∙ same in
-      stops.went.did.sent told i
+      ∙ sym (append_assoc run.begin (batches_in run.acts) (batches_in stops.went.acts)) ∙ reads in
+      stops.went.did.sent (told_host h) i
       ∙ ap (λ (l : List ℕ). l ++ sends_on i stops.went.acts) (run.sent i)
       ∙ sym (sends_on-append i run.acts stops.went.acts)
-      ∙ all_sent i well
+      ∙ sent_whole i well
       ∙ ap (λ (j : Journal). spelled (sent j ((facts run.begin).begun + i))) all
       ∙ ap (λ (k : ℕ). spelled (sent whole (k + i))) run.first
 
   -- on whatever course, a link that has not failed has sent the whole
-  unfailed_sent : (terms : Terms) (p1 : Place) (heard1 : ℕ → List ℕ) → HoldsOpen (forget p1).hold
-      (forget p1).links
-      → (stops1 : StopsAt terms p1 (links_from 0 links' heard1) n.store s' o o') (i : ℕ)
-      (x : course_links.Link)
-      → slice_get stops1.to.at.links i ≡ Some x → x.stands ≢ link_end.Failed
-      → has_failure i (events_of all_acts) ≡ false
+  unfailed_sent : (terms : Terms) (p1 : Place) (heard1 : ℕ → List ℕ)
+      → HoldsOpen (forget p1).hold (forget p1).links
+      → (stops1 : StopsAt terms p1 (links_from 0 links' heard1) n.store s' (host_told h)
+      (host_told h')) (i : ℕ) (x : course_links.Link) → slice_get stops1.to.at.links i ≡ Some x
+      → x.stands ≢ link_end.Failed → has_failure i (events_of all_acts) ≡ false
   unfailed_sent terms p1 heard1 opens1 stops1 i x there unfailed =
-      elim (one_of (has_failure i (events_of all_acts))) [
+      elim (cases_Bool (has_failure i (events_of all_acts))) [
         | inl failed ↦
-            let at = has_failed i failed in
+            let at = node_failed links' heard i
+            (fails_then (node_terms n) p links' heard n.store s' (host_told h) (host_told h') stops
+            opens i ((acts_fail run.begin all_acts (owing_free stops.to) free_acts).stays i failed)) in
             let so : LinkFailed stops1.to.at.links i =
-            failed_there terms p1 links' heard1 n.store s' o o' stops1 opens1 i (failed_from 0 i links' heard1 at.0 at.1 at.2) in
+            failed_there terms p1 links' heard1 n.store s' (host_told h) (host_told h') stops1
+            opens1 i (failed_from 0 i links' heard1 at.0 at.1 at.2) in
             let both : Some so.link ≡ Some x = sym so.there ∙ there in
             let same : so.link ≡ x = cc in
             absurd (unfailed (sym (ap (λ (l : course_links.Link). l.stands) same) ∙ so.failed))
         | inr well ↦ well
       ]
 
-module _ (law : FullIsSent) (n : NodeValue) (links' : List Link) (s' : StoreValue)
-    (h h' : MemHostValue) (run : IsRunSoFar n (host_told h))
-    (p : Place) (is : forget p ≡ node_place n (host_told h))
-    (opens : HoldsOpen (forget p).hold (forget p).links) (heard : ℕ → List ℕ)
-    (stops : StopsAt (node_terms n) p (links_from 0 links' heard) n.store s' (host_told h)
-    (host_told h')) where
-  full_sent : (terms : Terms) (p1 : Place) (heard1 : ℕ → List ℕ) → HoldsOpen (forget p1).hold
-      (forget p1).links
+  full_sent : (terms : Terms) (p1 : Place) (heard1 : ℕ → List ℕ)
+      → HoldsOpen (forget p1).hold (forget p1).links
       → StopsAt terms p1 (links_from 0 links' heard1) n.store s' (host_told h) (host_told h')
       → FullSent terms p1 n s' h h'
   unfolding full_there
   full_sent terms p1 heard1 opens1 stops1 = record {
     full = full_there terms p1 (links_from 0 links' heard1) n.store s' (host_told h) (host_told h')
         stops1;
-    sent = λ i x there unfailed whole fits.
-        link_sent law n links' s' (host_told h) (host_told h') (told_host h) run p is opens heard
-        stops i
-        (unfailed_sent law n links' s' (host_told h) (host_told h') (told_host h) run p is opens
-        heard stops terms p1 heard1 opens1 stops1 i x there unfailed)
-        (files_of (disk_files h'.disk)) refl whole fits;
+    sent = λ i x there unfailed.
+        link_sent i (unfailed_sent terms p1 heard1 opens1 stops1 i x there unfailed);
   }
 
 -- ---- calls
 
-module _ (law : FullIsSent) (n n' : NodeValue) (h h' : MemHostValue)
-    (run : IsRunSoFar n (host_told h)) (limit : n'.store.limit ≡ n.store.limit)
-    (x : NodeFault) (is : x ≡ node_fault.Full) where
-  pub full_turn : ByFault
-      (RoundStopped bundle_meaning n.first n.links n'.links n.store n'.store (host_told h)
-      (host_told h')) x → FullInTurn h h' n
-  full_turn stopped =
-      let w =
-      subst (λ (y : NodeFault).
-      ByFault (RoundStopped bundle_meaning n.first n.links n'.links n.store n'.store
-      (host_told h) (host_told h')) y) is stopped in
+module _ (laws : DeviceLaws) (n n' : NodeValue) (h h' : MemHostValue) (run : IsRunSoFar n (host_told h))
+    (limit : n'.store.limit ≡ n.store.limit) where
+  pub full_turn : TurnStops n n' h h' node_fault.Full → FullInTurn h h' n
+  full_turn w =
       let own = w.stops (node_terms n) (heard_on (host_told h).links) false 0 0 refl run.has_read
       refl in
       record {
@@ -224,27 +201,22 @@ module _ (law : FullIsSent) (n n' : NodeValue) (h h' : MemHostValue)
         limit = limit;
         fills = λ terms heard moved still made first read on.
             let t = w.stops terms heard moved still made first read on in
-            full_sent law n n'.links n'.store h h' run (turn_from n (host_told h)) refl tt own.0
+            full_sent laws n n'.links n'.store h h' run (turn_from n (host_told h)) refl tt own.0
             own.1 terms
             (place_at Between n.links heard moved still made n.store.state.facts) t.0 tt t.1;
       }
 
   pub full_beginning : (plan : Plan) (its_nonce : Option (List ℕ))
-      → ByFault (BeginStopped bundle_meaning (next_session plan its_nonce n) n.links n'.links
-      n.store n'.store (host_told h) (host_told h')) x
+      → BeginStops (next_session plan its_nonce n) n n' h h' node_fault.Full
       → FullAtBeginning plan its_nonce h h' n
-  full_beginning plan its_nonce stopped =
+  full_beginning plan its_nonce w =
       let session = next_session plan its_nonce n in
-      let w =
-      subst (λ (y : NodeFault).
-      ByFault (BeginStopped bundle_meaning session n.links n'.links n.store n'.store
-      (host_told h) (host_told h')) y) is stopped in
       let own = w.stops (node_terms n) [] (heard_on (host_told h).links) false 0 0 in
       record {
         store = n'.store;
         limit = limit;
         fills = λ terms left heard moved still made.
-            full_sent law n n'.links n'.store h h' run (begin_from session n (host_told h)) refl tt
+            full_sent laws n n'.links n'.store h h' run (begin_from session n (host_told h)) refl tt
             (heard_on (host_told h).links) own terms
             (place_at (Attaches (session ∷ left)) n.links heard moved still made n.store.state.facts) heard tt (w.stops terms left heard moved still made);
       }

@@ -56,14 +56,7 @@ tells_own : (h : MemHostValue) (clock : Readings) (scripts : List (List Planned)
       disk = record h.disk { failing = failing; stop = stop };
     })
 tells_own h clock scripts failing stop =
-    record {
-      files = refl;
-      told = refl;
-      heard = refl;
-      clock = refl;
-      moments = λ t m w. w;
-      dialled = refl;
-    }
+    record { files = refl; told = refl; heard = refl; dialled = refl }
 
 tells_same : (h : MemHostValue) → SameAs h h
 tells_same h = tells_own h h.clock h.scripts h.disk.failing h.disk.stop
@@ -84,8 +77,6 @@ told_then a b c first second = record {
     files = second.same.files ∙ first.same.files;
     told = second.same.told ∙ first.same.told;
     heard = second.same.heard ∙ first.same.heard;
-    clock = second.same.clock ∙ first.same.clock;
-    moments = λ t m w. first.same.moments t m (second.same.moments t m w);
     dialled = second.same.dialled ∙ first.same.dialled;
   };
   scripts = second.scripts ∙ first.scripts;

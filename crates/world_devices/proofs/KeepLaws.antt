@@ -15,6 +15,7 @@ use Rattle.entry_codec.specs.Standing.{stands, journal}
 use Rattle.sync_store.specs.Fitting.{FitsFiles}
 use Rattle.sync_store.specs.Moments.{LeadsTo}
 use Rattle.sync_store.specs.Store.{StoreValue}
+use Rattle.sync_node.specs.Courses.{FitsWith}
 use Rattle.world_devices.specs.Keeping.{AfterCrash, Journal, LeavesSome, StandsForSome}
 use Rattle.world_devices.specs.Running.{HoldsAfterCrash, IsStill}
 
@@ -108,3 +109,18 @@ pub holds_fits : (s : StoreValue) (j j0 : Journal) (h : MemHostValue) → HoldsA
 holds_fits s j j0 h holds fits =
     fits_some (λ (k : Journal). k ≡ j) j0 (host_told h) s (files_of (disk_files h.disk)) refl
     (holds_some (λ (k : Journal). k ≡ j) j h refl holds) fits
+
+-- where files are told, they are the ones that a host has
+pub fits_here : (s : StoreValue) (j : Journal) (h : MemHostValue)
+    → FitsWith bundle_meaning s (host_told h).files j
+    → FitsFiles bundle_meaning s j (files_of (disk_files h.disk))
+fits_here s j h fits =
+    subst (λ (t : Two File). FitsFiles bundle_meaning s j t) (sym (same_files h fits.0 fits.1)) fits.2
+
+-- two journals that the disk fits are one
+pub fits_whole : (s : StoreValue) (j whole : Journal) (h : MemHostValue)
+    → FitsWith bundle_meaning s (host_told h).files j
+    → FitsFiles bundle_meaning s whole (files_of (disk_files h.disk)) → j ≡ whole
+fits_whole s j whole h first fits =
+    let both : journal j ≡ journal whole = sym (fits_here s j h first).stands_for ∙ fits.stands_for in
+    cc

@@ -1,78 +1,41 @@
 -- What a new device has: the journal of so many contacts.
-use Rattle.std.proofs.Common.{◌≡◌, ℕ, suc, ◌+◌, Bool, true, false, if◌then◌else◌, nat_lt, List, [], ◌∷◌, ◌++◌, refl, sym, ap, ◌∙◌, subst, arith, Option, Some, None, is_some, Result, Ok, Err, OnOk}
-use Rattle.std.specs.Result.{is_err}
-use Rattle.outside.specs.Files.{read_files}
-use Rattle.outside.specs.HostTold.{host_told}
-use Rattle.outside.specs.MemDisk.{disk_files, files_of}
+use Rattle.std.proofs.Common.{◌≡◌, ℕ, suc, ◌+◌, Bool, true, false, if◌then◌else◌, nat_lt, List, [], ◌∷◌, ◌++◌, refl, ap, ◌∙◌, subst, arith, Some, None, Result, Ok, Err}
 use Rattle.outside.specs.MemHost.{MemHostValue}
 use Rattle.client_basic.specs.Bodies.{bundle_meaning}
-use Rattle.entry_codec.specs.Standing.{stands, journal}
 use Rattle.sync_rules.specs.declared.entries.Entry.{Entry}
 use Rattle.sync_rules.specs.declared.entries.Entry.TheVariants as entry
 use Rattle.sync_rules.specs.declared.limits.TheConstants.{MAX_CONTACTS}
 use Rattle.sync_rules.specs.declared.states.Refused.TheVariants as refused
 use Rattle.sync_rules.specs.Clients.{Meaning}
-use Rattle.sync_rules.specs.Facts.{Facts, Held, after_all, after_batches, facts}
-use Rattle.sync_rules.specs.Legal.{AllSettling, IsSettlingBatch, Legal}
+use Rattle.sync_rules.specs.Facts.{Facts, Held, after_all, facts}
+use Rattle.sync_rules.specs.Legal.{AllSettling, IsSettlingBatch}
 use Rattle.sync_rules.specs.Steps.{first_step}
-use Rattle.sync_store.specs.Loading.{StandsFor}
 use Rattle.sync_store.specs.Refusals.{contact_answer}
 use Rattle.sync_store.specs.Store.{StoreValue}
-use Rattle.sync_node.specs.Node.{NodeValue}
-use Rattle.world_devices.specs.Cited.{SettlingLeaves}
-use Rattle.world_devices.specs.Devices.{DeviceValue, IsAnew, IsReadyStore, MayBeRunning}
+use Rattle.world_devices.specs.Devices.{DeviceValue, IsAnew, IsReadyStore}
 use Rattle.world_devices.specs.Doing.{DeviceAddsEntry, SettlesFrom}
-use Rattle.world_devices.specs.Linking.{IsBare, IsBareIn, IsNewDevice, IsUnlinked, KeepsLinks, LinksBy, WhenDone, new_journal}
-use Rattle.world_devices.proofs.NewJournals.{new_holds}
+use Rattle.world_devices.specs.Linking.{DeviceLinksStand, IsNewDevice, IsUnlinked, KeepsLinks}
+use Rattle.world_devices.specs.Linking.{LinksBy, WhenDone, new_journal}
+use Rattle.world_devices.proofs.NewJournals.{new_holds, new_knows}
 use Rattle.world_devices.specs.Running.{HoldsAfterCrash}
-use Rattle.world_devices.specs.declared.starting.StartFault.{StartFault}
 use Rattle.world_devices.specs.declared.stop.Ran.{Ran}
 use Rattle.world_devices.specs.declared.stop.StepFault.{StepFault}
 use Rattle.world_devices.specs.declared.stop.Ran.TheVariants as ran
-use Rattle.world_devices.proofs.KeepLaws.{holds_fits}
-use Rattle.world_devices.proofs.RunningLaws.{journal_of, open_of}
+use Rattle.world_devices.proofs.CallLaws.{ready_in}
+use Rattle.world_devices.proofs.StartLaws.{node_unlinked, runs_unlinked}
 
--- a store that was loaded of the empty journal
-bare_of : (done : List (List Entry)) (s : StoreValue) → done ≡ [] → facts done ≡ s.state.facts → IsBare 0 s
-bare_of done s none are =
-    let f : s.state.facts ≡ facts [] = sym are ∙ ap facts none in
-    record { empty = ap (λ (g : Facts). g.held) f; counted = ap (λ (g : Facts). g.contacts) f }
-
-pub bare_loaded : (h : MemHostValue) (s : StoreValue) → HoldsAfterCrash [] h
-    → StandsFor bundle_meaning (read_files (files_of (disk_files h.disk))) s → IsBare 0 s
-bare_loaded h s holds so =
-    let two = files_of (disk_files h.disk) in
-    let is : stands bundle_meaning (read_files two) ≡ journal [] =
-    holds.each two refl (read_files two) ((host_told h).reads two refl) in
-    let both : journal so.done ≡ journal [] = sym so.stands_for ∙ is in
-    let none : so.done ≡ [] = cc in
-    bare_of so.done s none so.facts_are
-
--- settling leaves a bare store so
-pub bare_settled : SettlingLeaves → (contacts : ℕ) (s s' : StoreValue) (more : List (List Entry)) → AllSettling bundle_meaning s.state.facts more
-    → s'.state.facts ≡ after_batches s.state.facts more → IsBare contacts s → IsBare contacts s'
-bare_settled laws contacts s s' more settling is bare =
-    let kept = laws bundle_meaning s.state.facts more settling in
+-- what a device without links is that holds the journal of so many contacts
+pub new_device : (contacts clock : ℕ) (d : DeviceValue) → DeviceLinksStand d → IsUnlinked d
+    → HoldsAfterCrash (new_journal contacts) d.host → d.clock ≡ clock → IsAnew clock d.host
+    → d.stop ≡ None → IsNewDevice contacts clock d
+new_device contacts clock d stands unlinked holds clock_is anew unstopped =
+    let at = node_unlinked d.node unlinked.unlinked in
     record {
-      empty = ap (λ (f : Facts). f.held) is ∙ (kept.held ∙ bare.empty);
-      counted = ap (λ (f : Facts). f.contacts) is ∙ (kept.contacts ∙ bare.counted);
-    }
-
--- what a bare device without links is
-pub new_device : (contacts : ℕ) (node : Option NodeValue) (d : DeviceValue) → d.node ≡ node → MayBeRunning node d.host d.links → IsBareIn contacts node → HoldsAfterCrash (new_journal contacts) d.host
-    → IsUnlinked d → IsAnew d.clock d.host → d.stop ≡ None → IsNewDevice contacts d.clock d
-new_device contacts None d is run bare holds unlinked anew unstopped = absurd bare
-new_device contacts (Some n) d is run bare holds unlinked anew unstopped =
-    let has = journal_of n.store d.host (open_of n d.host d.links run) in
-    record {
-      runs = ap is_some is;
+      runs = runs_unlinked d unlinked;
       holds = holds;
-      legal =
-          subst (Legal bundle_meaning)
-          (holds_fits n.store (new_journal contacts) has.whole d.host holds has.fits)
-          has.fits.legal;
+      legal = (stands.each at.0 at.1 (new_journal contacts) holds).legal;
       unlinked = unlinked;
-      clock_is = refl;
+      clock_is = clock_is;
       anew = anew;
       unstopped = unstopped;
     }
@@ -103,10 +66,15 @@ answered true number known is = cc
 answered false number known is = cc
 
 -- the number that a further contact gets
-pub number_is : (contacts number : ℕ) (node : Option NodeValue) (s : StoreValue) → IsReadyStore node s → Ok number ≡ contact_answer s.state.facts → IsBareIn contacts node → number ≡ contacts
-number_is contacts number None s ready is bare = absurd bare
-number_is contacts number (Some n) s ready is bare =
-    answered (nat_lt s.state.facts.contacts MAX_CONTACTS) number s.state.facts.contacts is ∙ (ap (λ (x : StoreValue). x.state.facts.contacts) ready.0 ∙ bare.counted)
+pub number_is : (contacts number : ℕ) (d : DeviceValue) (s : StoreValue) → DeviceLinksStand d
+    → IsReadyStore d.node s → Ok number ≡ contact_answer s.state.facts
+    → HoldsAfterCrash (new_journal contacts) d.host → number ≡ contacts
+number_is contacts number d s stands ready is holds =
+    let at = ready_in d.node s ready in
+    answered (nat_lt s.state.facts.contacts MAX_CONTACTS) number s.state.facts.contacts is
+    ∙ ap (λ (x : StoreValue). x.state.facts.contacts) at.2
+    ∙ ap (λ (f : Facts). f.contacts)
+    (stands.each at.0 at.1 (new_journal contacts) holds).facts_are ∙ new_knows contacts
 
 -- one contact more, with nothing to settle behind it
 pub new_journal_kept : (contacts number : ℕ) (r : Result Ran StepFault) (old new : DeviceValue) → number ≡ contacts → DeviceAddsEntry (entry.Contact number) r old new → HoldsAfterCrash (new_journal contacts) old.host
@@ -127,16 +95,15 @@ new_journal_kept contacts number (Ok ran.Done) old new is adds holds =
 new_journal_kept contacts number (Ok ran.Crashed) old new is adds holds = tt
 new_journal_kept contacts number (Err fault) old new is adds holds = tt
 
--- ---- a contact more
-
-pub when_begun : (P : Type 0) (r : Result (Unit {0}) StartFault) → is_err r ≡ false → OnOk r P → P
-when_begun P (Ok u) begun ok = ok
-when_begun P (Err e) begun ok = cc
-
 pub when_done : (P : Type 0) (r : Ran) → r ≡ ran.Done → WhenDone (Ok r) P → P
 when_done P r is done = subst (λ (x : Ran). WhenDone (Ok x) P) is done
 
-pub unlinked_kept : (r : Ran) (old new : DeviceValue) → r ≡ ran.Done → LinksBy (Ok r) old new → IsUnlinked old → IsUnlinked new
+-- without links it stays
+pub unlinked_kept : (r : Ran) (old new : DeviceValue) → r ≡ ran.Done → LinksBy (Ok r) old new
+    → IsUnlinked old → IsUnlinked new
 unlinked_kept r old new is links unlinked =
     let keeps : KeepsLinks old new = subst (λ (x : Ran). LinksBy (Ok x) old new) is links in
-    record { none = keeps.same_links ∙ unlinked.none; unlinked = keeps.same_number ∙ unlinked.unlinked }
+    record {
+      none = keeps.same_links ∙ unlinked.none;
+      unlinked = keeps.same_number ∙ unlinked.unlinked;
+    }

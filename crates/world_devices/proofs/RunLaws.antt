@@ -1,10 +1,14 @@
 -- What a node did since it began, as acts: what a call of it adds to them, and what each moment of the call leaves.
-use Rattle.std.proofs.Common.{◌≡◌, ◌⊎◌, ℕ, zero, suc, ◌+◌, ◌<◌, ◌≤◌, Bool, true, false, List, [], ◌∷◌, ◌++◌, length, refl, sym, ap, ◌∙◌, subst, inl, inr, arith, append-nil, append_assoc, Option, Some}
+use Rattle.std.proofs.Common.{◌≡◌, ◌⊎◌, ℕ, zero, suc, ◌+◌, ◌<◌, ◌≤◌, Bool, false, List, [], ◌∷◌, ◌++◌, length, refl, sym, ap, ◌∙◌, subst, inl, inr, arith, append-nil, append_assoc, Option, Some}
 use Rattle.std.specs.Prelude.{slice_get}
 use Rattle.std.specs.Option.{option_map}
-use Rattle.std.proofs.lemmas.Bool.{cases_lt}
+use Rattle.std.proofs.lemmas.Bool.{cases_Bool, cases_lt}
+use Rattle.std.proofs.lemmas.List.{append_cancel_left}
 use Rattle.outside.specs.Files.{Two, File, IsImage}
 use Rattle.outside.specs.Links.{ToldLink, HeardOn}
+use Rattle.outside.specs.HostTold.{host_told}
+use Rattle.outside.specs.MemDisk.{disk_files, files_of}
+use Rattle.outside.specs.MemHost.{MemHostValue}
 use Rattle.outside.specs.Outside.{Outside, Moment}
 use Rattle.outside.specs.Runs.{TellsAll, answers_at, heard_bytes, sent_at}
 use Rattle.client_basic.specs.Bodies.{bundle_meaning}
@@ -25,8 +29,8 @@ use Rattle.sync_rules.specs.Growth.{output_in}
 use Rattle.sync_store.specs.Fitting.{FitsFiles}
 use Rattle.sync_store.specs.Runs.{AddsBatch}
 use Rattle.sync_store.specs.Store.{StoreValue}
-use Rattle.sync_course.specs.Acts.{Act, AtFront, batches_in, commit_acts, events_of, sends_on}
-use Rattle.sync_course.specs.Events.{TellsEvents, has_failure, heard_after}
+use Rattle.sync_course.specs.Acts.{Act, AtFront, Does, batches_in, commit_acts, events_of, sends_on}
+use Rattle.sync_course.specs.Events.{Commit, TellsEvents, has_failure, heard_after}
 use Rattle.sync_course.specs.Free.{Free, FreeStep, Rests, first_free, forget, owing_free}
 use Rattle.sync_course.specs.Links as course_links
 use Rattle.sync_course.specs.Owing.{ActStep, Owing, paid}
@@ -40,25 +44,29 @@ use Rattle.sync_course.proofs.FailLaws.{FailsJust, path_fails}
 use Rattle.sync_course.proofs.FreeLaws.{run_acts_are_free}
 use Rattle.sync_course.proofs.LiftLaws.{get_within}
 use Rattle.sync_course.proofs.PathLaws.{path_then}
-use Rattle.sync_course.proofs.SendLaws.{events_path}
+use Rattle.sync_course.proofs.FreeSuits.{moment_stands}
+use Rattle.sync_course.proofs.SendLaws.{all_sent, events_path}
 use Rattle.sync_node.specs.Adding.{IsPlain}
 use Rattle.sync_node.specs.Batches.{AddStops, Added, CommitsAndSettles}
 use Rattle.sync_node.specs.Courses.{AllRead, IsLinkRead, links_from, place_at}
 use Rattle.sync_node.specs.Did.{ComesAtFronts, Did, SinceThen}
-use Rattle.sync_node.specs.Node.{NodeValue}
-use Rattle.sync_node.specs.OnRuns.{BeginStopped, BeginWent, ByFault, RoundStopped, RoundWent, RunActs, RunStopped}
+use Rattle.sync_node.specs.Node.{IsNode, NodeValue}
+use Rattle.sync_node.specs.OnRuns.{BeginStopped, BeginWent, ByFault, RoundStopped, RoundWent}
+use Rattle.sync_node.specs.OnRuns.{RunActs, RunStopped}
 use Rattle.sync_node.specs.Output.{heard_on, output, sent_on}
-use Rattle.sync_node.specs.Went.{StopsBroken, Went}
+use Rattle.sync_node.specs.Went.{Went}
 use Rattle.sync_node.specs.declared.fault.NodeFault.{NodeFault}
 use Rattle.sync_node.specs.declared.fault.NodeFault.TheVariants as node_fault
 use Rattle.sync_node.specs.declared.link.Link.{Link}
 use Rattle.sync_node.proofs.DidLaws.{front_shift}
 use Rattle.sync_node.proofs.SentLaws.{from_at}
-use Rattle.world_devices.specs.Cited.{MomentsStand, WholeIsSent}
 use Rattle.world_devices.specs.Keeping.{AreLinksQuiet, IsRunSoFar, Journal, KeepsOn, LeavesSome}
 use Rattle.world_devices.specs.Keeping.{StandsForSome, TellsSame, WentOn, node_place}
 use Rattle.world_devices.specs.Running.{WentHearing}
 use Rattle.sync_course.proofs.HeardLaws.{bytes_of, events_tell, free_path_adds}
+use Rattle.world_devices.specs.Cited.{DeviceLaws}
+use Rattle.world_devices.specs.Devices.{IsRunning, MayAddTo}
+use Rattle.world_devices.proofs.HostLaws.{told_host}
 use Rattle.world_devices.proofs.KeepLaws.{crash_since, fits_some}
 use Rattle.world_devices.proofs.LeaveLaws.{all_suit, hears_on, node_plain, went_then}
 
@@ -109,30 +117,35 @@ run_on n o o' same run = record {
 abbrev pub NodeSteps : ℕ → Owing Free → Act → Owing Free → Type 0
 NodeSteps first = ActStep (λ (p : Free). p.facts) first (FreeStep bundle_meaning first)
 
+-- acts of a node from where it stands between two calls
+abbrev pub NodePath : NodeValue → Outside → List Act → Owing Free → Type 0
+NodePath n o acts to = Path (NodeSteps n.first) (paid (node_place n o)) acts to
+
 -- these acts, from where the node stood; and these batches were to be committed next
 pub record CallDid (n : NodeValue) (o o' : Outside) : Type 0 where
   pub acts : List Act
   pub next : Journal
   pub to : Owing Free
-  pub path : Path (NodeSteps n.first) (paid (node_place n o)) (acts ++ commit_acts next) to
+  pub path : NodePath n o (acts ++ commit_acts next) to
   pub tells : TellsEvents (events_of acts) o o'
   pub moments : ComesAtFronts bundle_meaning (acts ++ commit_acts next) n.store o o'
 
 -- they led to where the node stands then
 pub record CallEnds (n n' : NodeValue) (o o' : Outside) : Type 0 where
   pub acts : List Act
-  pub path : Path (NodeSteps n.first) (paid (node_place n o)) acts (paid (node_place n' o'))
+  pub path : NodePath n o acts (paid (node_place n' o'))
   pub has_read : AllRead (heard_on o'.links) n'.links
   pub did : Did bundle_meaning acts n.store n'.store o o'
 
-did_to : (n : NodeValue) (s' : StoreValue) (o o' : Outside) (acts : List Act) (to : Owing Free) → Path (NodeSteps n.first) (paid (node_place n o)) acts to → Did bundle_meaning acts n.store s' o o' → CallDid n o o'
+did_to : (n : NodeValue) (s' : StoreValue) (o o' : Outside) (acts : List Act) (to : Owing Free)
+    → NodePath n o acts to → Did bundle_meaning acts n.store s' o o' → CallDid n o o'
 did_to n s' o o' acts to path did =
     let all : acts ≡ acts ++ [] = sym (append-nil acts) in
     record {
       acts = acts;
       next = [];
       to = to;
-      path = subst (λ (l : List Act). Path (NodeSteps n.first) (paid (node_place n o)) l to) all path;
+      path = subst (λ (l : List Act). NodePath n o l to) all path;
       tells = did.tells;
       moments = subst (λ (l : List Act). ComesAtFronts bundle_meaning l n.store o o') all did.moments;
     }
@@ -141,7 +154,8 @@ pub ended_did : (n n' : NodeValue) (o o' : Outside) → CallEnds n n' o o' → C
 ended_did n n' o o' ends = did_to n n'.store o o' ends.acts (paid (node_place n' o')) ends.path ends.did
 
 -- the acts of the node with those of the call
-pub whole_path : (n : NodeValue) (o : Outside) (run : IsRunSoFar n o) (acts : List Act) (to : Owing Free) → Path (NodeSteps n.first) (paid (node_place n o)) acts to → FreeActs bundle_meaning run.begin (run.acts ++ acts) to
+pub whole_path : (n : NodeValue) (o : Outside) (run : IsRunSoFar n o) (acts : List Act)
+    (to : Owing Free) → NodePath n o acts to → FreeActs bundle_meaning run.begin (run.acts ++ acts) to
 whole_path n o run acts to path =
     path_then (NodeSteps (facts run.begin).begun) (paid (first_free (facts run.begin))) (paid (node_place n o)) to run.acts acts run.path
     (subst (λ (k : ℕ). Path (NodeSteps k) (paid (node_place n o)) acts to) (sym run.first) path)
@@ -168,10 +182,6 @@ run_after n n' o o' told ends same run = record {
 
 -- ---- what was sent
 
-pub one_of : (b : Bool) → (b ≡ true) ⊎ (b ≡ false)
-one_of true = inl refl
-one_of false = inr refl
-
 -- a link that stands Failed at a place is one of the node that failed
 pub node_failed : (links : List Link) (heard : ℕ → List ℕ) (i : ℕ) → LinkFailed (links_from 0 links heard) i → (l : Link) × (slice_get links i ≡ Some l) × (l.end ≡ link_end.Failed)
 node_failed links heard i failed =
@@ -179,27 +189,31 @@ node_failed links heard i failed =
     (at.0, at.1, sym at.2 ∙ failed.failed)
 
 -- just the links on which a call failed stand Failed
-pub acts_fail : (n : NodeValue) (o : Outside) (run : IsRunSoFar n o) (acts : List Act) (to : Owing Free) → FreeActs bundle_meaning run.begin (run.acts ++ acts) to
-    → FailsJust bundle_meaning (facts run.begin).begun (events_of (run.acts ++ acts)) to.at
-acts_fail n o run acts to path =
-    path_fails bundle_meaning (facts run.begin).begun (facts run.begin) to.at (events_of (run.acts ++ acts))
-    (events_path bundle_meaning (facts run.begin).begun (paid (first_free (facts run.begin))) to (run.acts ++ acts) path)
+pub acts_fail : (begin : Journal) (acts : List Act) (to : Owing Free)
+    → FreeActs bundle_meaning begin acts to
+    → FailsJust bundle_meaning (facts begin).begun (events_of acts) to.at
+acts_fail begin acts to path =
+    let start : Owing Free = paid (first_free (facts begin)) in
+    path_fails bundle_meaning (facts begin).begun (facts begin) to.at (events_of acts)
+    (events_path bundle_meaning (facts begin).begun start to acts path)
 
 -- on a link that has not failed all output was sent
-pub all_sent_on : WholeIsSent → (n : NodeValue) (o : Outside) (run : IsRunSoFar n o) (link : ℕ) (l : Link) → slice_get n.links link ≡ Some l → (l.end ≡ link_end.Failed → ⊥)
+pub all_sent_on : DeviceLaws → (n : NodeValue) (o : Outside) (run : IsRunSoFar n o) (link : ℕ) (l : Link)
+    → slice_get n.links link ≡ Some l → (l.end ≡ link_end.Failed → ⊥)
     → sent_on o.links link ≡ output (run.begin ++ batches_in run.acts) (n.first + link)
 unfolding output
-all_sent_on law n o run link l there unfailed =
-    let fails = path_fails bundle_meaning (facts run.begin).begun (facts run.begin) (node_place n o) (events_of run.acts)
-    (events_path bundle_meaning (facts run.begin).begun (paid (first_free (facts run.begin))) (paid (node_place n o)) run.acts run.path) in
-    elim (one_of (has_failure link (events_of run.acts))) [
+all_sent_on laws n o run link l there unfailed =
+    elim (cases_Bool (has_failure link (events_of run.acts))) [
       | inl failed ↦
-          let at = node_failed n.links (heard_on o.links) link (fails.stays link failed) in
+          let at = node_failed n.links (heard_on o.links) link
+          ((acts_fail run.begin run.acts (paid (node_place n o)) run.path).stays link failed) in
           let both : Some at.0 ≡ Some l = sym at.1 ∙ there in
           let same : at.0 ≡ l = cc in
           absurd (unfailed (sym (ap (λ (x : Link). x.end) same) ∙ at.2))
       | inr well ↦
-          run.sent link ∙ law bundle_meaning run.begin run.acts (paid (node_place n o)) run.legal run.path (λ i. refl) link well
+          run.sent link
+          ∙ all_sent laws.go_on laws.join bundle_meaning run.begin run.acts
+          (paid (node_place n o)) run.legal run.path (λ i. refl) link well
           ∙ ap (λ (k : ℕ). spelled (sent (run.begin ++ batches_in run.acts) (k + link))) run.first
     ]
 
@@ -216,11 +230,7 @@ suits_behind : (first : ℕ) (plans : List Session) (heard : ℕ → List ℕ) (
 suits_behind first plans heard f [] cs suits = suits
 suits_behind first plans heard f (b ∷ bs) cs suits = suits_behind first plans heard (after_all f b) bs cs suits.1
 
-same_behind : (j a b : Journal) → j ++ a ≡ j ++ b → a ≡ b
-same_behind [] a b same = same
-same_behind (x ∷ j) a b same = let behind : j ++ a ≡ j ++ b = cc in same_behind j a b behind
-
-module _ (stand : MomentsStand) (n : NodeValue) (o o' : Outside) (told : TellsAll o) (run : IsRunSoFar n o) (did : CallDid n o o') where
+module _ (laws : DeviceLaws) (n : NodeValue) (o o' : Outside) (told : TellsAll o) (run : IsRunSoFar n o) (did : CallDid n o o') where
   abbrev so_far : Journal
   so_far = run.begin ++ batches_in run.acts
 
@@ -234,11 +244,14 @@ module _ (stand : MomentsStand) (n : NodeValue) (o o' : Outside) (told : TellsAl
   stands_behind m at =
       let front = front_shift bundle_meaning run.acts now_done run.begin (λ link.
       []) (sent_on o.links) m run.sent at in
-      let st = stand bundle_meaning run.begin (run.acts ++ now_done) did.to m run.legal (whole_path n o run now_done did.to did.path) front in
+      let st =
+      moment_stands laws.go_on laws.join laws.fronts bundle_meaning run.begin
+      (run.acts ++ now_done) did.to m run.legal (whole_path n o run now_done did.to did.path)
+      front in
       let both : journal (run.begin ++ st.more) ≡ journal (so_far ++ batches_in at.before) = sym st.stands_for ∙ at.stands_for in
       let whole : run.begin ++ st.more ≡ so_far ++ batches_in at.before = cc in
       let same : st.more ≡ batches_in run.acts ++ batches_in at.before =
-      same_behind run.begin st.more (batches_in run.acts ++ batches_in at.before) (whole ∙ append_assoc run.begin (batches_in run.acts) (batches_in at.before)) in
+      append_cancel_left run.begin st.more (batches_in run.acts ++ batches_in at.before) (whole ∙ append_assoc run.begin (batches_in run.acts) (batches_in at.before)) in
       record {
         more = batches_in at.before;
         stands_for = at.stands_for;
@@ -328,51 +341,48 @@ same_from k (l ∷ ls) a b each =
 at_number : (i : ℕ) (heard : ℕ → List ℕ) → heard (0 + i) ≡ heard i
 at_number i heard = let same : 0 + i ≡ i = omega arith in ap heard same
 
-module _ (n : NodeValue) (o o' : Outside) (told : TellsAll o) (silent : (link : ℕ) → length n.links ≤ link → heard_on o.links link ≡ []) where
-  place_hears : (i : ℕ) → heard_at (node_place n o) i ≡ heard_on o.links i
+module _ (n : NodeValue) (h : MemHostValue) (links : ℕ) (run : IsRunning n h links) where
+  -- nothing was heard on a link that the node has not had
+  silent_past : (link : ℕ) → length n.links ≤ link → heard_on (host_told h).links link ≡ []
+  silent_past link past =
+      none_first (heard_on (host_told h).links link) _
+      (run.unused link (omega (arith, past, run.linked)))
+    where
+      none_first : (a b : List ℕ) → a ++ b ≡ [] → a ≡ []
+      none_first [] b none = refl
+      none_first (x ∷ a) b none = cc
+
+  place_hears : (i : ℕ) → heard_at (node_place n (host_told h)) i ≡ heard_on (host_told h).links i
   place_hears i =
+      let heard : ℕ → List ℕ = heard_on (host_told h).links in
       elim (cases_lt i (length n.links)) [
-        | inl within ↦ heard_from 0 i n.links (heard_on o.links) within ∙ at_number i (heard_on o.links)
-        | inr past ↦ none_from 0 i n.links (heard_on o.links) past ∙ sym (silent i past)
+        | inl within ↦ heard_from 0 i n.links heard within ∙ at_number i heard
+        | inr past ↦ none_from 0 i n.links heard past ∙ sym (silent_past i past)
       ]
 
   -- a place has heard what was heard before and what the events have
-  pub place_adds : (acts : List Act) (to : Owing Free) (i : ℕ) → Path (NodeSteps n.first) (paid (node_place n o)) acts to
-      → heard_at to.at i ≡ heard_on o.links i ++ bytes_of i (events_of acts)
+  pub place_adds : (acts : List Act) (to : Owing Free) (i : ℕ) → NodePath n (host_told h) acts to
+      → heard_at to.at i ≡ heard_on (host_told h).links i ++ bytes_of i (events_of acts)
   place_adds acts to i path =
-      free_path_adds bundle_meaning n.first (events_of acts) (node_place n o) to.at i (events_path bundle_meaning n.first (paid (node_place n o)) to acts path)
+      let from : Free = node_place n (host_told h) in
+      free_path_adds bundle_meaning n.first (events_of acts) from to.at i
+      (events_path bundle_meaning n.first (paid from) to acts path)
       ∙ ap (λ (l : List ℕ). l ++ bytes_of i (events_of acts)) (place_hears i)
 
   -- and that is what is told then
-  heard_told : (acts : List Act) (to : Owing Free) (i : ℕ) → Path (NodeSteps n.first) (paid (node_place n o)) acts to → TellsEvents (events_of acts) o o'
-      → i < o.links.dialled → heard_at to.at i ≡ heard_on o'.links i
-  heard_told acts to i path tells within =
-      let made : length told.heard ≡ o.links.dialled = o.all_heard told.heard told.heard_are in
+  heard_told : (o' : Outside) (acts : List Act) (to : Owing Free) (i : ℕ)
+      → NodePath n (host_told h) acts to → TellsEvents (events_of acts) (host_told h) o'
+      → i < (host_told h).links.dialled → heard_at to.at i ≡ heard_on o'.links i
+  heard_told o' acts to i path tells within =
+      let told = told_host h in
+      let made : length told.heard ≡ (host_told h).links.dialled =
+      (host_told h).all_heard told.heard told.heard_are in
       let are : o'.links.heard ≡ Some (heard_after (events_of acts) told.heard) =
       tells.heard ∙ ap (option_map (heard_after (events_of acts))) told.heard_are in
       place_adds acts to i path
-      ∙ ap (λ (h : Option (List HeardOn)). heard_bytes (answers_at h i) ++ bytes_of i (events_of acts)) told.heard_are
+      ∙ ap (λ (t : Option (List HeardOn)). heard_bytes (answers_at t i) ++ bytes_of i (events_of acts)) told.heard_are
       ∙ sym (events_tell (events_of acts) told.heard i (omega (arith, within, made)))
-      ∙ sym (ap (λ (h : Option (List HeardOn)). heard_bytes (answers_at h i)) are)
-
-  -- acts that lead to the links of the node then, whatever the path says that was heard
-  ends_at : (n' : NodeValue) (heard' : ℕ → List ℕ) (acts : List Act) → length n'.links ≤ o.links.dialled
-      → Path (NodeSteps n.first) (paid (node_place n o)) acts (paid (record { hold = Rests; links = links_from 0 n'.links heard'; facts = n'.store.state.facts }))
-      → AllRead heard' n'.links → Did bundle_meaning acts n.store n'.store o o' → CallEnds n n' o o'
-  ends_at n' heard' acts few path read did =
-      let to : Free = record { hold = Rests; links = links_from 0 n'.links heard'; facts = n'.store.state.facts } in
-      let same : (i : ℕ) → i < length n'.links → heard' i ≡ heard_on o'.links i = λ i within.
-      sym (at_number i heard') ∙ sym (heard_from 0 i n'.links heard' within) ∙ heard_told acts (paid to) i path did.tells (omega (arith, within, few)) in
-      let links : links_from 0 n'.links heard' ≡ links_from 0 n'.links (heard_on o'.links) =
-      same_from 0 n'.links heard' (heard_on o'.links) (λ i low high. same i (omega (arith, high))) in
-      record {
-        acts = acts;
-        path =
-            subst (λ (ls : List course_links.Link). Path (NodeSteps n.first) (paid (node_place n o)) acts
-            (paid (record { hold = Rests; links = ls; facts = n'.store.state.facts }))) links path;
-        has_read = λ i l there. subst (λ (bytes : List ℕ). IsLinkRead bytes l) (same i (get_within n'.links i l there)) (read i l there);
-        did = did;
-      }
+      ∙ sym (ap (λ (t : Option (List HeardOn)). heard_bytes (answers_at t i)) are)
 
 -- ---- calls on links
 
@@ -385,35 +395,61 @@ abbrev pub turn_from : NodeValue → Outside → Place
 turn_from n o = place_at Between n.links (heard_on o.links) false 0 0 n.store.state.facts
 
 abbrev pub begin_from : Session → NodeValue → Outside → Place
-begin_from session n o = place_at (Attaches (session ∷ [])) n.links (heard_on o.links) false 0 0 n.store.state.facts
+begin_from session n o =
+    place_at (Attaches (session ∷ [])) n.links (heard_on o.links) false 0 0 n.store.state.facts
 
-module _ (n : NodeValue) (o o' : Outside) (p : Place) (is : forget p ≡ node_place n o) where
-  pub free_path : (to : Owing Place) (acts : List Act) → Path (RunActs bundle_meaning (node_terms n)) (paid p) acts to
-      → Path (NodeSteps n.first) (paid (node_place n o)) acts (owing_free to)
+-- what a node says of a turn and of a session that begins, on a host in memory
+abbrev pub NodeTurned : NodeValue → NodeValue → MemHostValue → MemHostValue → Bool → Type 0
+NodeTurned n n' h h' quiet =
+    RoundWent bundle_meaning n.first n.links n'.links n.store n'.store (host_told h) (host_told h')
+    quiet
+
+abbrev pub TurnStops : NodeValue → NodeValue → MemHostValue → MemHostValue → NodeFault → Type 0
+TurnStops n n' h h' =
+    ByFault (RoundStopped bundle_meaning n.first n.links n'.links n.store n'.store (host_told h)
+    (host_told h'))
+
+abbrev pub NodeBegan : Session → NodeValue → NodeValue → MemHostValue → MemHostValue → Type 0
+NodeBegan session n n' h h' =
+    BeginWent bundle_meaning session n.links n'.links n.store n'.store (host_told h) (host_told h')
+
+abbrev pub BeginStops : Session → NodeValue → NodeValue → MemHostValue → MemHostValue → NodeFault
+    → Type 0
+BeginStops session n n' h h' =
+    ByFault (BeginStopped bundle_meaning session n.links n'.links n.store n'.store (host_told h)
+    (host_told h'))
+
+module _ (n : NodeValue) (o : Outside) (p : Place) (is : forget p ≡ node_place n o) where
+  pub free_path : (to : Owing Place) (acts : List Act)
+      → Path (RunActs bundle_meaning (node_terms n)) (paid p) acts to
+      → NodePath n o acts (owing_free to)
   free_path to acts path =
       subst (λ (x : Free). Path (NodeSteps n.first) (paid x) acts (owing_free to)) is
       (run_acts_are_free bundle_meaning (node_terms n) (paid p) to acts path)
 
-  went_did : (s' : StoreValue) (to : Owing Place) → Went bundle_meaning (RunActs bundle_meaning (node_terms n)) (paid p) to n.store s' o o' → CallDid n o o'
-  went_did s' to w = did_to n s' o o' w.acts (owing_free to) (free_path to w.acts w.path) w.did
+  went_did : (s' : StoreValue) (o' : Outside) (to : Owing Place)
+      → Went bundle_meaning (RunActs bundle_meaning (node_terms n)) (paid p) to n.store s' o o'
+      → CallDid n o o'
+  went_did s' o' to w =
+      did_to n s' o o' w.acts (owing_free to) (free_path to w.acts w.path) w.did
 
-  broken_did : (Has : Owing Place → Type 0) (s' : StoreValue) → StopsBroken bundle_meaning (RunActs bundle_meaning (node_terms n)) Has (paid p) n.store s' o o' → CallDid n o o'
-  broken_did Has s' stops = record {
+  stopped_did : (s' : StoreValue) (o' : Outside) (x : NodeFault)
+      → ByFault (λ e. (links : List course_links.Link)
+      × RunStopped bundle_meaning (node_terms n) p links n.store s' o o' e) x → CallDid n o o'
+  stopped_did s' o' node_fault.Memory stops = went_did s' o' stops.1.to stops.1.went
+  stopped_did s' o' node_fault.Full stops = went_did s' o' stops.1.to stops.1.went
+  stopped_did s' o' node_fault.DiskFault broken = let stops = broken.1 in record {
     acts = stops.acts;
     next = stops.next;
     to = owing_free stops.beyond;
     path =
         free_path stops.beyond (stops.acts ++ commit_acts stops.next)
-        (path_then (RunActs bundle_meaning (node_terms n)) (paid p) stops.to stops.beyond stops.acts (commit_acts stops.next) stops.path stops.goes_on);
+        (path_then (RunActs bundle_meaning (node_terms n)) (paid p) stops.to stops.beyond
+        stops.acts (commit_acts stops.next) stops.path stops.goes_on);
     tells = stops.did.tells;
     moments = stops.did.moments;
   }
-
-  stopped_did : (s' : StoreValue) (x : NodeFault) → ByFault (λ e. (links : List course_links.Link) × RunStopped bundle_meaning (node_terms n) p links n.store s' o o' e) x → CallDid n o o'
-  stopped_did s' node_fault.Memory stops = went_did s' stops.1.to stops.1.went
-  stopped_did s' node_fault.Full stops = went_did s' stops.1.to stops.1.went
-  stopped_did s' node_fault.DiskFault stops = broken_did (λ (q : Owing Place). q.at.links ≡ stops.0) s' stops.1
-  stopped_did s' node_fault.Closed stops = absurd stops
+  stopped_did s' o' node_fault.Closed stops = absurd stops
 
 -- whatever the fault
 by_each : (P Q : _ → Type 0) → ((e : _) → P e → Q e) → (x : NodeFault) → ByFault P x → ByFault Q x
@@ -428,47 +464,15 @@ by_any P R each node_fault.DiskFault p = each _ p
 by_any P R each node_fault.Full p = each _ p
 by_any P R each node_fault.Closed p = absurd p
 
-module _ (n n' : NodeValue) (o o' : Outside) (told : TellsAll o) (silent : (link : ℕ) → length n.links ≤ link → heard_on o.links link ≡ [])
-    (run : IsRunSoFar n o) where
-  -- a turn
-  pub turn_ends : (quiet : Bool) → length n'.links ≤ o.links.dialled → RoundWent bundle_meaning n.first n.links n'.links n.store n'.store o o' quiet → CallEnds n n' o o'
-  turn_ends quiet few w =
-      let t = w.leads (node_terms n) (heard_on o.links) false 0 0 refl run.has_read refl in
-      ends_at n o o' told silent n' t.heard' t.went.acts few
-      (free_path n o o' (turn_from n o) refl (paid _) t.went.acts t.went.path) t.has_read t.went.did
-
-  pub turn_stopped : (x : NodeFault) → ByFault (RoundStopped bundle_meaning n.first n.links n'.links n.store n'.store o o') x → CallDid n o o'
-  turn_stopped x stopped =
-      stopped_did n o o' (turn_from n o) refl n'.store x
-      (by_each (RoundStopped bundle_meaning n.first n.links n'.links n.store n'.store o o')
-      (λ e. (links : List course_links.Link) × RunStopped bundle_meaning (node_terms n) (turn_from n o) links n.store n'.store o o' e)
-      (λ e w.
-      let t = w.stops (node_terms n) (heard_on o.links) false 0 0 refl run.has_read refl in
-      (links_from 0 n'.links t.0, t.1)) x stopped)
-
-  -- a session that begins
-  pub begin_ends : (session : Session) → session.number ≡ n.first + length n.links → length n'.links ≤ o.links.dialled
-      → BeginWent bundle_meaning session n.links n'.links n.store n'.store o o' → CallEnds n n' o o'
-  begin_ends session numbered few w =
-      let quiet = silent (length n.links) (omega arith) in
-      let t = w.went told.two told.files_are (node_terms n) [] (heard_on o.links) false 0 0 quiet numbered in
-      ends_at n o o' told silent n' (heard_on o.links) t.acts few
-      (free_path n o o' (begin_from session n o) refl (paid _) t.acts t.path) (w.has_read (heard_on o.links) quiet run.has_read) t.did
-
-  pub begin_stopped : (session : Session) (x : NodeFault) → ByFault (BeginStopped bundle_meaning session n.links n'.links n.store n'.store o o') x → CallDid n o o'
-  begin_stopped session x stopped =
-      stopped_did n o o' (begin_from session n o) refl n'.store x
-      (by_each (BeginStopped bundle_meaning session n.links n'.links n.store n'.store o o')
-      (λ e. (links : List course_links.Link) × RunStopped bundle_meaning (node_terms n) (begin_from session n o) links n.store n'.store o o' e)
-      (λ e w. (links_from 0 n'.links (heard_on o.links), w.stops (node_terms n) [] (heard_on o.links) false 0 0)) x stopped)
-
 -- ---- batches that are added
 
 abbrev resting : List course_links.Link → Facts → Free
 resting links f = record { hold = Rests; links = links; facts = f }
 
-settling_sends : (f : Facts) (b : List Entry) (session : ℕ) → IsSettlingBatch bundle_meaning f b → output_in f session b ≡ []
-settling_sends f b session s = silent_adds_nothing f session b (settling_silent bundle_meaning f b s.2)
+settling_sends : (f : Facts) (b : List Entry) (session : ℕ) → IsSettlingBatch bundle_meaning f b
+    → output_in f session b ≡ []
+settling_sends f b session s =
+    silent_adds_nothing f session b (settling_silent bundle_meaning f b s.2)
 
 plain_sends : (f : Facts) (b : List Entry) (session : ℕ) → IsPlain b → output_in f session b ≡ []
 plain_sends f (entry.Contact c ∷ []) session is = refl
@@ -478,67 +482,159 @@ plain_sends f (entry.Author m ∷ []) session is = refl
 plain_sends f _ session is = absurd is
 
 module _ (first : ℕ) (links : List course_links.Link) where
+  -- a batch that sends nothing is a step of a node that rests
+  silent_step : (f : Facts) (b : List Entry)
+      → IsSettlingBatch bundle_meaning f b ⊎ (IsPlain b × Allowed bundle_meaning f b)
+      → ((session : ℕ) → output_in f session b ≡ [])
+      → NodeSteps first (paid (resting links f)) (Does (Commit b))
+      (paid (resting links (after_all f b)))
+  silent_step f b may none =
+      (λ link. refl, inl (may, refl), λ link. sym (ap spelled (none (first + link))))
+
   settling_path : (f : Facts) (bs : Journal) → AllSettling bundle_meaning f bs
-      → Path (NodeSteps first) (paid (resting links f)) (commit_acts bs) (paid (resting links (after_batches f bs)))
+      → Path (NodeSteps first) (paid (resting links f)) (commit_acts bs)
+      (paid (resting links (after_batches f bs)))
   settling_path f [] settling = refl
   settling_path f (b ∷ bs) settling = (
     paid (resting links (after_all f b)),
-    (
-      λ link. refl,
-      inl (inl settling.0, refl),
-      λ link. sym (ap (λ (rs : List Record). spelled rs) (settling_sends f b (first + link) settling.0)),
-    ),
+    silent_step f b (inl settling.0) (λ session. settling_sends f b session settling.0),
     settling_path (after_all f b) bs settling.1,
   )
 
-  adding_path : (f : Facts) (batch : List Entry) (more : Journal) → IsPlain batch → Allowed bundle_meaning f batch → AddsBatch bundle_meaning f batch more
-      → Path (NodeSteps first) (paid (resting links f)) (commit_acts more) (paid (resting links (after_batches f more)))
+  adding_path : (f : Facts) (batch : List Entry) (more : Journal) → IsPlain batch
+      → Allowed bundle_meaning f batch → AddsBatch bundle_meaning f batch more
+      → Path (NodeSteps first) (paid (resting links f)) (commit_acts more)
+      (paid (resting links (after_batches f more)))
   adding_path f batch [] plain allowed adds = refl
   adding_path f batch (b ∷ rest) plain allowed adds =
-      subst (λ (x : List Entry). Path (NodeSteps first) (paid (resting links f)) (commit_acts (x ∷ rest)) (paid (resting links (after_batches f (x ∷ rest)))))
-      (sym adds.0) (
+      subst (λ (x : List Entry). Path (NodeSteps first) (paid (resting links f))
+      (commit_acts (x ∷ rest)) (paid (resting links (after_batches f (x ∷ rest))))) (sym adds.0) (
         paid (resting links (after_all f batch)),
-        (
-          λ link. refl,
-          inl (inr (plain, allowed), refl),
-          λ link. sym (ap (λ (rs : List Record). spelled rs) (plain_sends f batch (first + link) plain)),
-        ),
+        silent_step f batch (inr (plain, allowed)) (λ session. plain_sends f batch session plain),
         settling_path (after_all f batch) rest adds.1,
       )
 
-module _ (n n' : NodeValue) (o o' : Outside) (batch : List Entry) (plain : IsPlain batch) (allowed : Allowed bundle_meaning n.store.state.facts batch) where
-  -- of these batches, some first ones
-  so_added : (more : Journal) → AddsBatch bundle_meaning n.store.state.facts batch more
-      → Path (NodeSteps n.first) (paid (node_place n o)) (commit_acts more) (paid (resting (node_place n o).links (after_batches n.store.state.facts more)))
-  so_added more adds = adding_path n.first (node_place n o).links n.store.state.facts batch more plain allowed adds
+-- ---- what calls of a node that runs did
 
-  settled_did : CommitsAndSettles bundle_meaning batch n.store n'.store o o' → CallDid n o o'
-  settled_did by = did_to n n'.store o o' (commit_acts by.more) _ (so_added by.more by.adds) by.did
+module _ (n n' : NodeValue) (h h' : MemHostValue) (links : ℕ) (run : IsRunning n h links) where
+  abbrev from : Outside
+  from = host_told h
 
-  pub add_stopped : (x : NodeFault) → ByFault (AddStops bundle_meaning batch n.store n'.store o o') x → CallDid n o o'
-  add_stopped node_fault.Memory by = settled_did by
-  add_stopped node_fault.Full full = did_to n n'.store o o' [] (paid (node_place n o)) refl full.idle.did
-  add_stopped node_fault.DiskFault by =
-      let parts : commit_acts by.more ≡ commit_acts by.breaks.front ++ commit_acts by.breaks.others =
-      ap commit_acts by.breaks.parts ∙ commit_acts-append by.breaks.front by.breaks.others in
+  abbrev by : Outside
+  by = host_told h'
+
+  -- acts that lead to the links of the node then, whatever the path says that was heard
+  ends_at : (heard' : ℕ → List ℕ) (acts : List Act) → IsNode n'
+      → NodePath n from acts (paid (resting (links_from 0 n'.links heard') n'.store.state.facts))
+      → AllRead heard' n'.links → Did bundle_meaning acts n.store n'.store from by
+      → CallEnds n n' from by
+  ends_at heard' acts is_node path read did =
+      let to : Free = resting (links_from 0 n'.links heard') n'.store.state.facts in
+      let same : (i : ℕ) → i < length n'.links → heard' i ≡ heard_on by.links i = λ i within.
+      sym (at_number i heard') ∙ sym (heard_from 0 i n'.links heard' within)
+      ∙ heard_told n h links run by acts (paid to) i path did.tells
+      (omega (arith, within, is_node.few, run.dialled)) in
+      let are : links_from 0 n'.links heard' ≡ links_from 0 n'.links (heard_on by.links) =
+      same_from 0 n'.links heard' (heard_on by.links) (λ i low high. same i (omega (arith, high))) in
       record {
-        acts = commit_acts by.breaks.front;
-        next = by.breaks.others;
-        to = paid (resting (node_place n o).links (after_batches n.store.state.facts by.more));
+        acts = acts;
         path =
-            subst (λ (acts : List Act). Path (NodeSteps n.first) (paid (node_place n o)) acts (paid (resting (node_place n o).links (after_batches n.store.state.facts by.more))))
-            parts (so_added by.more by.adds);
-        tells = by.breaks.did.tells;
-        moments = by.breaks.did.moments;
+            subst (λ (ls : List course_links.Link).
+            NodePath n from acts (paid (resting ls n'.store.state.facts))) are path;
+        has_read = λ i l there. subst (λ (bytes : List ℕ). IsLinkRead bytes l)
+            (same i (get_within n'.links i l there)) (read i l there);
+        did = did;
       }
-  add_stopped node_fault.Closed none = absurd none
 
-  pub add_ends : TellsAll o → ((link : ℕ) → length n.links ≤ link → heard_on o.links link ≡ []) → IsRunSoFar n o → length n.links ≤ o.links.dialled → n'.links ≡ n.links
-      → Added bundle_meaning batch n.store n'.store o o' → CallEnds n n' o o'
-  add_ends told silent run few links added =
-      ends_at n o o' told silent n' (heard_on o.links) (commit_acts added.by.more) (omega (arith, few, ap length links))
-      (subst (λ (ls : List Link). Path (NodeSteps n.first) (paid (node_place n o)) (commit_acts added.by.more)
-      (paid (record { hold = Rests; links = links_from 0 ls (heard_on o.links); facts = n'.store.state.facts }))) (sym links)
-      (subst (λ (f : Facts). Path (NodeSteps n.first) (paid (node_place n o)) (commit_acts added.by.more) (paid (resting (node_place n o).links f)))
-      (sym added.by.facts) (so_added added.by.more added.by.adds)))
-      (subst (λ (ls : List Link). AllRead (heard_on o.links) ls) (sym links) run.has_read) added.by.did
+  -- a turn
+  pub turn_done : (quiet : Bool) → IsNode n' → NodeTurned n n' h h' quiet → CallEnds n n' from by
+  turn_done quiet is_node w =
+      let t = w.leads (node_terms n) (heard_on from.links) false 0 0 refl run.runs.has_read refl in
+      ends_at t.heard' t.went.acts is_node
+      (free_path n from (turn_from n from) refl (paid _) t.went.acts t.went.path) t.has_read
+      t.went.did
+
+  pub turn_broke : (x : NodeFault) → TurnStops n n' h h' x → CallDid n from by
+  turn_broke x stopped =
+      stopped_did n from (turn_from n from) refl n'.store by x
+      (by_each (RoundStopped bundle_meaning n.first n.links n'.links n.store n'.store from by)
+      (λ e. (links : List course_links.Link)
+      × RunStopped bundle_meaning (node_terms n) (turn_from n from) links n.store n'.store from by e)
+      (λ e w.
+      let t = w.stops (node_terms n) (heard_on from.links) false 0 0 refl run.runs.has_read refl in
+      (links_from 0 n'.links t.0, t.1)) x stopped)
+
+  -- a session that begins
+  pub begin_done : (session : Session) → session.number ≡ n.store.state.facts.begun → IsNode n'
+      → NodeBegan session n n' h h' → CallEnds n n' from by
+  begin_done session number is_node w =
+      let quiet = silent_past n h links run (length n.links) (omega arith) in
+      let t =
+      w.went (files_of (disk_files h.disk)) refl (node_terms n) [] (heard_on from.links) false 0 0
+      quiet (number ∙ (run.attached.attached run.unclosed).begun) in
+      ends_at (heard_on from.links) t.acts is_node
+      (free_path n from (begin_from session n from) refl (paid _) t.acts t.path)
+      (w.has_read (heard_on from.links) quiet run.runs.has_read) t.did
+
+  pub begin_broke : (session : Session) (x : NodeFault) → BeginStops session n n' h h' x
+      → CallDid n from by
+  begin_broke session x stopped =
+      stopped_did n from (begin_from session n from) refl n'.store by x
+      (by_each (BeginStopped bundle_meaning session n.links n'.links n.store n'.store from by)
+      (λ e. (links : List course_links.Link)
+      × RunStopped bundle_meaning (node_terms n) (begin_from session n from) links n.store n'.store from by e)
+      (λ e w. (
+        links_from 0 n'.links (heard_on from.links),
+        w.stops (node_terms n) [] (heard_on from.links) false 0 0,
+      )) x stopped)
+
+  -- an entry that may be added
+  module _ (e : Entry) (may : MayAddTo n e) where
+    abbrev kept : List course_links.Link
+    kept = links_from 0 n.links (heard_on from.links)
+
+    so_added : (more : Journal) → AddsBatch bundle_meaning n.store.state.facts (e ∷ []) more
+        → NodePath n from (commit_acts more)
+        (paid (resting kept (after_batches n.store.state.facts more)))
+    so_added more adds =
+        adding_path n.first kept n.store.state.facts (e ∷ []) more may.plain
+        (may.allowed run.unclosed) adds
+
+    pub add_done : n'.links ≡ n.links → IsNode n'
+        → Added bundle_meaning (e ∷ []) n.store n'.store from by → CallEnds n n' from by
+    add_done same is_node added =
+        let by_links : (ls : List Link) → Type 0 = λ ls.
+        NodePath n from (commit_acts added.by.more)
+        (paid (resting (links_from 0 ls (heard_on from.links)) n'.store.state.facts)) in
+        ends_at (heard_on from.links) (commit_acts added.by.more) is_node
+        (subst by_links (sym same) (subst (λ (f : Facts). NodePath n from
+        (commit_acts added.by.more) (paid (resting kept f))) (sym added.by.facts)
+        (so_added added.by.more added.by.adds)))
+        (subst (AllRead (heard_on from.links)) (sym same) run.runs.has_read) added.by.did
+
+    settled_did : CommitsAndSettles bundle_meaning (e ∷ []) n.store n'.store from by
+        → CallDid n from by
+    settled_did did =
+        did_to n n'.store from by (commit_acts did.more) _ (so_added did.more did.adds) did.did
+
+    pub add_broke : (x : NodeFault)
+        → ByFault (AddStops bundle_meaning (e ∷ []) n.store n'.store from by) x → CallDid n from by
+    add_broke node_fault.Memory did = settled_did did
+    add_broke node_fault.Full full =
+        did_to n n'.store from by [] (paid (node_place n from)) refl full.idle.did
+    add_broke node_fault.DiskFault did =
+        let broken = did.breaks in
+        let to : Owing Free =
+        paid (resting kept (after_batches n.store.state.facts did.more)) in
+        let parts : commit_acts did.more ≡ commit_acts broken.front ++ commit_acts broken.others =
+        ap commit_acts broken.parts ∙ commit_acts-append broken.front broken.others in
+        record {
+          acts = commit_acts broken.front;
+          next = broken.others;
+          to = to;
+          path = subst (λ (acts : List Act). NodePath n from acts to) parts
+              (so_added did.more did.adds);
+          tells = broken.did.tells;
+          moments = broken.did.moments;
+        }
+    add_broke node_fault.Closed none = absurd none

@@ -1,28 +1,21 @@
 -- What keeps a device running.
-use Rattle.std.proofs.Common.{◌≡◌, ℕ, ◌<◌, ◌≤◌, false, List, [], ◌∷◌, ◌++◌, length, refl, sym, ◌∙◌}
-use Rattle.std.proofs.Common.{subst, arith, Option, Some, None, Ok}
+use Rattle.std.proofs.Common.{◌≡◌, ℕ, ◌<◌, ◌≤◌, false, [], ◌∷◌, refl, sym, ◌∙◌}
+use Rattle.std.proofs.Common.{subst, arith, Option, Some, None}
 use Rattle.outside.specs.Files.{Two, File}
 use Rattle.outside.specs.Outside.{Outside}
 use Rattle.outside.specs.HostTold.{host_told}
 use Rattle.outside.specs.MemDisk.{disk_files, files_of}
 use Rattle.outside.specs.MemHost.{MemHostValue}
 use Rattle.client_basic.specs.Bodies.{bundle_meaning}
-use Rattle.sync_ids.specs.Values.{GroupValue, MessageValue}
 use Rattle.sync_rules.specs.declared.entries.Entry.{Entry}
-use Rattle.sync_rules.specs.declared.entries.Entry.TheVariants as entry
-use Rattle.sync_rules.specs.declared.entries.Level.{Level}
-use Rattle.sync_rules.specs.Facts.{Id}
 use Rattle.sync_rules.specs.Legal.{Allowed}
 use Rattle.sync_rules.specs.Steps.{IsSettled}
 use Rattle.sync_rules.specs.declared.limits.TheConstants.{MAX_SESSIONS}
 use Rattle.sync_store.specs.Store.{IsStore, StoreValue}
 use Rattle.sync_store.specs.Ready.{IsReady}
-use Rattle.sync_store.specs.Refusals.{contact_answer, group_answer, level_answer, post_answer}
 use Rattle.sync_store.specs.Fitting.{FitsFiles}
-use Rattle.sync_store.specs.Moments.{LeadsTo}
-use Rattle.sync_node.specs.Adding.{AddsAtMost, IsPlain}
-use Rattle.sync_node.specs.Node.{IsNode, NodeValue, MayRun}
-use Rattle.sync_node.specs.Output.{heard_on}
+use Rattle.sync_node.specs.Adding.{IsPlain}
+use Rattle.sync_node.specs.Node.{NodeValue, MayRun}
 use Rattle.world_laws.specs.Worlds.{HasNoBrief}
 use Rattle.world_devices.specs.Brought.{brought_on}
 use Rattle.world_devices.specs.Devices.{IsAnew, IsDevice, IsReadyStore, IsRunning, IsStarted}
@@ -30,11 +23,9 @@ use Rattle.world_devices.specs.Devices.{MayAddEntry, MayBeRunning}
 use Rattle.world_devices.specs.Keeping.{Journal, HoldsLaterJournal, StandsForSome, TellsSame}
 use Rattle.world_devices.specs.Keeping.{WentOn}
 use Rattle.world_devices.proofs.LeaveLaws.{few_begun}
-use Rattle.world_devices.proofs.AllowedLaws.{contact_allowed, group_allowed, level_allowed}
-use Rattle.world_devices.proofs.AllowedLaws.{author_allowed}
-use Rattle.world_devices.proofs.HostLaws.{LeavesTold, brings_none, brings_on, told_host}
+use Rattle.world_devices.proofs.HostLaws.{LeavesTold, brings_none, brings_on}
 use Rattle.world_devices.proofs.KeepLaws.{crash_same, fits_some}
-use Rattle.world_devices.proofs.RunLaws.{CallEnds, run_after, run_begun, run_on}
+use Rattle.world_devices.proofs.RunLaws.{run_begun, run_on}
 
 -- over the same files, with as many links at least, a node may go on
 pub may_on : (n : NodeValue) (o o' : Outside) → o'.files ≡ o.files → o'.links.dialled ≡ o.links.dialled → MayRun bundle_meaning n o → MayRun bundle_meaning n o'
@@ -140,37 +131,9 @@ begins_running n s clock h is started anew =
       unused = λ link _. brings_none h link anew.silent anew.quiet;
     })
 
--- nothing was heard on a link that a node has not had
-pub silent_past : (n : NodeValue) (h : MemHostValue) (links : ℕ) → IsRunning n h links → (link : ℕ) → length n.links ≤ link → heard_on (host_told h).links link ≡ []
-silent_past n h links run link past = none_first (heard_on (host_told h).links link) _ (run.unused link (omega (arith, past, run.linked)))
-  where
-    none_first : (a b : List ℕ) → a ++ b ≡ [] → a ≡ []
-    none_first [] b none = refl
-    none_first (x ∷ a) b none = cc
-
--- a call ended
-pub call_running : (n n' : NodeValue) (h h' : MemHostValue) (links links' : ℕ) → CallEnds n n' (host_told h) (host_told h') → n'.first ≡ n.first → MayRun bundle_meaning n' (host_told h') → n'.closed ≡ false
-    → IsNode n' → BringsAll h h' → links' ≡ length n'.links → links ≤ links' → IsRunning n h links → IsRunning n' h' links'
-call_running n n' h h' links links' ends first may unclosed is_node brings linked more running = record {
-  unclosed = unclosed;
-  runs = run_after n n' (host_told h) (host_told h') (told_host h) ends first running.runs;
-  may = may;
-  limit = ends.did.limit ∙ running.limit;
-  linked = linked;
-  dialled = omega (arith, running.dialled, ends.did.goes.same_dialled);
-  attached = is_node;
-  unused = λ link past. brings link ∙ running.unused link (omega (arith, past, more));
-}
-
--- an entry was added
-abbrev pub LeadsAdding : List Entry → NodeValue → NodeValue → MemHostValue → MemHostValue → Type 0
-LeadsAdding batch n n' h h' =
-    (two : Two File) → (host_told h).files ≡ Some two → (j : Journal) → FitsFiles bundle_meaning n.store j two
-    → LeadsTo bundle_meaning (AddsAtMost bundle_meaning j batch) (AddsAtMost bundle_meaning j batch) n'.store (host_told h) (host_told h')
-
 -- ---- what is added
 
-may_add : (node : Option NodeValue) (s : StoreValue) (e : Entry) → IsReadyStore node s → IsPlain (e ∷ []) → (IsSettled bundle_meaning s.state.facts → Allowed bundle_meaning s.state.facts (e ∷ [])) → MayAddEntry node e
+pub may_add : (node : Option NodeValue) (s : StoreValue) (e : Entry) → IsReadyStore node s → IsPlain (e ∷ []) → (IsSettled bundle_meaning s.state.facts → Allowed bundle_meaning s.state.facts (e ∷ [])) → MayAddEntry node e
 may_add None s e ready plain allowed = tt
 may_add (Some n) s e ready plain allowed = record {
   allowed = λ unclosed.
@@ -179,16 +142,3 @@ may_add (Some n) s e ready plain allowed = record {
       subst P ready.0 (allowed (subst Q (sym ready.0) (ready.1 unclosed)));
   plain = plain;
 }
-
-pub may_add_contact : (node : Option NodeValue) (s : StoreValue) (number : ℕ) → IsReadyStore node s → Ok number ≡ contact_answer s.state.facts → MayAddEntry node (entry.Contact number)
-may_add_contact node s number ready is = may_add node s (entry.Contact number) ready tt (λ settled. contact_allowed bundle_meaning s.state.facts number settled (sym is))
-
-pub may_add_group : (node : Option NodeValue) (s : StoreValue) (def : GroupValue) (id : Id) → IsReadyStore node s → Ok id ≡ group_answer bundle_meaning s.state.facts def → MayAddEntry node (entry.Group def)
-may_add_group node s def id ready is = may_add node s (entry.Group def) ready tt (λ settled. group_allowed bundle_meaning s.state.facts def id settled (sym is))
-
-pub may_set_level : (node : Option NodeValue) (s : StoreValue) (contact : ℕ) (group : Id) (l : Level) (u : Unit {0}) → IsReadyStore node s → Ok u ≡ level_answer s.state.facts contact group
-    → MayAddEntry node (entry.Level contact group l)
-may_set_level node s contact group l u ready is = may_add node s (entry.Level contact group l) ready tt (λ settled. level_allowed bundle_meaning s.state.facts contact group l u settled (sym is))
-
-pub may_author : (node : Option NodeValue) (s : StoreValue) (m : MessageValue) (id : Id) → IsReadyStore node s → post_answer bundle_meaning s.state.facts m ≡ Ok id → MayAddEntry node (entry.Author m)
-may_author node s m id ready is = may_add node s (entry.Author m) ready tt (λ settled. author_allowed bundle_meaning s.state.facts m id settled is)

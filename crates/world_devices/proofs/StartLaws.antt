@@ -1,17 +1,16 @@
 -- What comes of the files of a host: what they stand for, with settling behind it. And a device
 -- that starts, over its files or over what a crash left of them.
-use Rattle.std.proofs.Common.{◌≡◌, ◌+◌, ◌*◌, ◌≤◌, ℕ, None, List, length, arith, [], ◌∷◌, ◌++◌, refl}
+use Rattle.std.proofs.Common.{◌≡◌, ◌+◌, ◌*◌, ◌≤◌, ℕ, true, is_some, Option, Some, None, List, length, arith, [], ◌∷◌, ◌++◌, refl}
 use Rattle.std.proofs.Common.{sym, ap, ◌∙◌, subst, inl, inr, append-nil, append_assoc, Result, Ok}
 use Rattle.std.proofs.Common.{Err, OnOk, OnErr}
-use Rattle.std.specs.Result.{IsErrAnd}
+use Rattle.std.specs.Prelude.{◌⊎◌, IsErrAnd, MatchResult}
 use Rattle.std.specs.declared.alloc.AllocError.{AllocError}
 use Rattle.outside.specs.Files.{Two, File, IsImage, read_files}
 use Rattle.outside.specs.HostTold.{host_told}
 use Rattle.outside.specs.MemDisk.{calls_of, disk_files, files_of}
 use Rattle.outside.proofs.CallCounts.{most_more, most_then}
 use Rattle.outside.proofs.CallSteps.{go_on_none, go_on_then}
-use Rattle.outside.specs.MemHost.{CrashesHost, MemHostValue, Readings, upcoming_of}
-use Rattle.outside.specs.declared.limits.TheConstants.{LINKS}
+use Rattle.outside.specs.MemHost.{CrashesHost, MemHostValue}
 use Rattle.outside.specs.Outside.{MakesAtMost}
 use Rattle.outside.specs.declared.pick.Pick.{Pick}
 use Rattle.frame_journal.specs.Gates.{AnyImage}
@@ -31,20 +30,18 @@ use Rattle.sync_store.specs.Store.{StoreValue}
 use Rattle.sync_store.specs.declared.fault.LoadFault.{LoadFault}
 use Rattle.sync_store.specs.declared.fault.StoreFault.{StoreFault}
 use Rattle.sync_node.specs.Adding.{GoesOnSettling}
-use Rattle.world_devices.specs.Brought.{IsSilent}
-use Rattle.world_devices.specs.Devices.{DeviceValue, HostGoesOn, IsAnew, LeavesDisk, links_made}
+use Rattle.sync_node.specs.Node.{NodeValue}
+use Rattle.world_devices.specs.Devices.{DeviceValue, HostGoesOn, IsAnew, IsDevice, LeavesDisk}
 use Rattle.world_devices.specs.Doing.{BreaksOff, CameStarting, ComesOf, ComesOfImage, CrashesTo}
-use Rattle.world_devices.specs.Doing.{DeviceRestarts, IsAhead, IsNotFull, Settles, SettlesFrom}
-use Rattle.world_devices.specs.Doing.{StartsAgain, load_calls}
-use Rattle.world_devices.specs.Keeping.{AreLinksQuiet, Journal, KeepsOn, LeavesSome, StandsForSome}
+use Rattle.world_devices.specs.Doing.{DeviceRestarts, IsAhead, Settles, SettlesFrom}
+use Rattle.world_devices.specs.Doing.{load_calls}
+use Rattle.world_devices.specs.Keeping.{Journal, KeepsOn, LeavesSome, StandsForSome}
 use Rattle.world_devices.specs.Keeping.{WentOn}
-use Rattle.world_devices.specs.Linking.{IsUnlinked}
-use Rattle.world_devices.specs.Refusals.{IsNotRefused}
+use Rattle.world_devices.specs.Linking.{IsUnlinked, number_of}
 use Rattle.world_devices.specs.Running.{HoldsAfterCrash, WentHearing}
 use Rattle.world_devices.specs.declared.stop.StepFault.{StepFault}
 use Rattle.world_devices.specs.declared.stop.StepFault.TheVariants as fault
-use Rattle.world_devices.proofs.HostLaws.{anew_clocked, anew_linked, calls_fresh, clock_disk}
-use Rattle.world_devices.proofs.HostLaws.{clock_told, crash_only, disk_then}
+use Rattle.world_devices.proofs.HostLaws.{calls_fresh, crash_only}
 use Rattle.world_devices.proofs.KeepLaws.{crash_looks, crash_same, crash_so, holds_fits, holds_some}
 use Rattle.world_devices.proofs.KeepLaws.{leads_leave, same_files, still_holds}
 use Rattle.world_devices.proofs.LeaveLaws.{all_settling, hears_on, settling_plain, still_fits}
@@ -53,8 +50,8 @@ use Rattle.world_devices.proofs.RunningLaws.{journal_of}
 
 -- ---- settling
 
-settles_none : (j : Journal) → GoesOnSettling bundle_meaning j j
-settles_none j = record { more = []; settling = tt; is = sym (append-nil j) }
+goes_on_itself : (j : Journal) → GoesOnSettling bundle_meaning j j
+goes_on_itself j = record { more = []; settling = tt; is = sym (append-nil j) }
 
 both_settle : (f : Facts) (bs cs : Journal) → AllSettling bundle_meaning f bs
     → AllSettling bundle_meaning (after_batches f bs) cs → AllSettling bundle_meaning f (bs ++ cs)
@@ -92,7 +89,7 @@ between_settles j more whole all at = record {
 
 none_comes : (j : Journal) (files : Two (List ℕ)) → stands bundle_meaning files ≡ journal j
     → StandsForSome (GoesOnSettling bundle_meaning j) files
-none_comes j files is = record { whole = j; has = settles_none j; stands_for = is }
+none_comes j files is = record { whole = j; has = goes_on_itself j; stands_for = is }
 
 pub comes_files : (h h' : MemHostValue) → (host_told h').files ≡ (host_told h).files → ComesOf h h'
 comes_files h h' same = record {
@@ -148,6 +145,11 @@ comes_keeps a b comes j =
       is = on.is;
     })) a b comes
 
+-- a device that does not run, over what came of its files
+pub device_idle : (node : Option NodeValue) (h h' : MemHostValue) (links : ℕ) → ComesOf h h'
+    → IsDevice node h links → IsDevice None h' links
+device_idle maybe h h' links comes device = (tt, comes_keeps h h' comes [] device.1, device.2)
+
 pub comes_hears : (heard : ℕ → List Record) (j : Journal) (a b : MemHostValue) → ComesOf a b
     → LeavesSome (WentHearing heard j) (host_told a)
     → LeavesSome (WentHearing heard j) (host_told b)
@@ -161,7 +163,7 @@ comes_settling : (j : Journal) (a b : MemHostValue) → ComesOf a b → HoldsAft
     (GoesOnSettling bundle_meaning j) (host_told b)
 comes_settling j a b comes holds =
     comes_on (GoesOnSettling bundle_meaning j) (λ x y. settles_then j x y) a b comes
-    (holds_some (GoesOnSettling bundle_meaning j) j a (settles_none j) holds)
+    (holds_some (GoesOnSettling bundle_meaning j) j a (goes_on_itself j) holds)
 
 -- a host that begins anew over an image, or does nothing
 pub comes_crash : (pick : Pick) (h h' : MemHostValue) (result : Result (Unit {0}) AllocError)
@@ -243,6 +245,38 @@ settle_settles s s' result h h' ready settled calls =
       };
     }
 
+-- ---- settling behind other calls
+
+settles_none : (most : Journal → ℕ) (h : MemHostValue) → Settles most h h
+settles_none most h = record {
+  calls = go_on_none (calls_of h.disk);
+  left = comes_same h;
+  within = λ j holds. record { more = []; settling = tt; most = record { made = omega arith } };
+}
+
+-- behind calls that leave what the files hold
+settles_behind : (first then most : Journal → ℕ) → ((j : Journal) → first j + then j ≤ most j)
+    → (a b c : MemHostValue) → HostGoesOn a b → ComesOf a b
+    → ((j : Journal) → HoldsAfterCrash j a
+    → HoldsAfterCrash j b × MakesAtMost (first j) (host_told a) (host_told b))
+    → Settles then b c → Settles most a c
+settles_behind first then most few a b c calls comes keeps settles = record {
+  calls = go_on_then (calls_of a.disk) (calls_of b.disk) (calls_of c.disk) calls settles.calls;
+  left = comes_then a b c comes settles.left;
+  within = λ j holds.
+      let kept = keeps j holds in
+      let w = settles.within j kept.0 in
+      record {
+        more = w.more;
+        settling = w.settling;
+        most =
+            most_more (first j + (then j + 4 * length w.more)) (most j + 4 * length w.more)
+            (host_told a) (host_told c) (omega (arith, few j))
+            (most_then (first j) (then j + 4 * length w.more) (host_told a) (host_told b)
+            (host_told c) kept.1 w.most);
+      };
+}
+
 -- ---- a store that is loaded
 
 module _ (result : Result StoreValue LoadFault) (h h' : MemHostValue) (calls : HostGoesOn h h')
@@ -257,87 +291,34 @@ module _ (result : Result StoreValue LoadFault) (h h' : MemHostValue) (calls : H
   load_comes : ComesOf h h'
   load_comes = crash_looks (ComesOfImage h) h h' any (comes_same h)
 
-  -- one that failed
-  pub load_settles : Settles load_calls h h'
-  load_settles = record {
-    calls = calls;
-    left = load_comes;
-    within = λ j holds. record {
-      more = [];
-      settling = tt;
-      most = most_more (load_calls j) (load_calls j + 4 * 0) (host_told h) (host_told h')
-          (omega arith) (load_most j holds);
-    };
-  }
-
   pub load_holds : (j : Journal) → HoldsAfterCrash j h → HoldsAfterCrash j h'
   load_holds j = crash_looks (λ left. stands bundle_meaning left ≡ journal j) h h' any
 
   -- one behind which the store was settled
   pub load_then : (at : MemHostValue) → Settles (λ j. 0) h' at → Settles load_calls h at
-  load_then at settles = record {
-    calls = go_on_then (calls_of h.disk) (calls_of h'.disk) (calls_of at.disk) calls settles.calls;
-    left = comes_then h h' at load_comes settles.left;
-    within = λ j holds.
-        let w = settles.within j (load_holds j holds) in
-        record {
-          more = w.more;
-          settling = w.settling;
-          most =
-              most_more (load_calls j + (0 + 4 * length w.more)) (load_calls j + 4 * length w.more)
-              (host_told h) (host_told at) (omega arith)
-              (most_then (load_calls j) (0 + 4 * length w.more) (host_told h) (host_told h')
-              (host_told at) (load_most j holds) w.most);
-        };
-  }
+  load_then at =
+      settles_behind load_calls (λ j. 0) load_calls (λ j. omega arith) h h' at calls load_comes
+      (λ j holds. (load_holds j holds, load_most j holds))
+
+  -- one that failed
+  pub load_settles : Settles load_calls h h'
+  load_settles = load_then h' (settles_none (λ j. 0) h')
 
 -- ---- a device that starts
 
 -- behind what makes no call of the disk
 pub settles_after : (h h' at : MemHostValue) → LeavesDisk h h' → Settles load_calls h' at
     → Settles load_calls h at
-settles_after h h' at disk settles = record {
-  calls =
-      go_on_then (calls_of h.disk) (calls_of h'.disk) (calls_of at.disk) disk.calls settles.calls;
-  left = comes_then h h' at (comes_files h h' disk.files) settles.left;
-  within = λ j holds.
-      let w =
-      settles.within j (crash_same (λ left. stands bundle_meaning left ≡ journal j)
-      (host_told h) (host_told h') disk.files holds) in
-      record {
-        more = w.more;
-        settling = w.settling;
-        most = record {
-          made = subst (λ (n : ℕ). at.disk.made ≤ n + (load_calls j + 4 * length w.more)) disk.made
-              w.most.made;
-        };
-      };
-}
+settles_after h h' at disk =
+    settles_behind (λ j. 0) load_calls load_calls (λ j. omega arith) h h' at disk.calls
+    (comes_files h h' disk.files) (λ j holds. (
+      crash_same (λ left. stands bundle_meaning left ≡ journal j) (host_told h) (host_told h')
+          disk.files holds,
+      record { made = omega (arith, disk.made) },
+    ))
 
 pub settles_still : (h h' : MemHostValue) → LeavesDisk h h' → Settles load_calls h h'
-settles_still h h' disk =
-    settles_after h h' h' disk (record {
-      calls = go_on_none (calls_of h'.disk);
-      left = comes_same h';
-      within = λ j holds. record { more = []; settling = tt; most = record { made = omega arith } };
-    })
-
--- of a device that dialled its links and set its clock, and loaded its store
-module _ (old h0 h1 h2 : MemHostValue) (clock : Readings) (result : Result (Unit {0}) AllocError)
-    (seen : h0 ≡ old)
-    (ok : OnOk result (h2 ≡ record h1 { clock = clock })) (err : OnErr result (h2 ≡ h1)) where
-  pub start_disk : LeavesDisk h0 h1 → LeavesDisk old h2
-  start_disk dialled =
-      subst (λ (x : MemHostValue). LeavesDisk x h2) seen
-      (disk_then h0 h1 h2 dialled (clock_disk h1 h2 clock result ok err))
-
-  pub start_anew : (at : ℕ) (h3 : MemHostValue) → h1.scripts ≡ h0.scripts → IsSilent old
-      → links_made h1 ≡ LINKS → AreLinksQuiet (host_told h1)
-      → upcoming_of h2.clock ≡ at ∷ [] → (host_told h3).links ≡ (host_told h2).links → IsAnew at h3
-  start_anew at h3 dialled silent links quiet upcoming loaded =
-      anew_linked at h2 h3 loaded
-      (anew_clocked at h0 h1 h2 dialled (clock_told h1 h2 clock result ok err)
-      (subst (λ (x : MemHostValue). IsSilent x) (sym seen) silent) links quiet upcoming)
+settles_still h h' disk = settles_after h h' h' disk (settles_none load_calls h')
 
 -- ---- a device that crashed
 
@@ -362,6 +343,37 @@ crashes_to pick h at h' new seen crashes loads anew unlinked disarmed since =
 
 -- ---- a device that starts again over its files
 
+-- a call that answers this, or finds no memory
+pub by_done : {R : Type 0} (P : Result R StepFault → Type 0) (r : Result R StepFault) (a : R)
+    (Q : Type 0) → MatchResult r (λ x. (x ≡ a) × Q) (λ e. e ≡ fault.Memory) → (Q → P (Ok a))
+    → P (Err fault.Memory) → P r
+by_done P (Ok x) a Q is ok starved = subst (λ y. P (Ok y)) (sym is.0) (ok is.1)
+by_done P (Err e) a Q is ok starved = subst (λ y. P (Err y)) (sym is) starved
+
+-- one that may also say that its journal is full
+pub by_broken : {R : Type 0} (P : Result R StepFault → Type 0) (r : Result R StepFault) (a : R)
+    (Q F : Type 0)
+    → MatchResult r (λ x. (x ≡ a) × Q) (λ e. (e ≡ fault.Memory) ⊎ ((e ≡ fault.Full) × F))
+    → (Q → P (Ok a)) → P (Err fault.Memory) → (F → P (Err fault.Full)) → P r
+by_broken P (Ok x) a Q F is ok starved full = subst (λ y. P (Ok y)) (sym is.0) (ok is.1)
+by_broken P (Err e) a Q F (inl is) ok starved full = subst (λ y. P (Err y)) (sym is) starved
+by_broken P (Err e) a Q F (inr is) ok starved full = subst (λ y. P (Err y)) (sym is.0) (full is.1)
+
+-- a call that does not answer Ok
+pub err_only : {A : Type 0} (P : A → Type 0) (Q : StepFault → Type 0) (r : Result A StepFault)
+    → IsErrAnd r Q → MatchResult r P Q
+err_only P Q (Ok a) is = absurd is
+err_only P Q (Err e) is = is
+
+-- a device without links runs
+pub node_unlinked : (node : Option NodeValue) → number_of node ≡ Some 0
+    → (n : NodeValue) × (node ≡ Some n)
+node_unlinked None is = cc
+node_unlinked (Some n) is = (n, refl)
+
+pub runs_unlinked : (d : DeviceValue) → IsUnlinked d → is_some d.node ≡ true
+runs_unlinked d none = ap is_some (node_unlinked d.node none.unlinked).1
+
 -- what holds whatever is answered
 pub ok_anyway : {A E P : Type 0} (r : Result A E) → P → OnOk r P
 ok_anyway (Ok a) holds = holds
@@ -373,72 +385,49 @@ came_starting d at settles j holds =
     (comes_settling j d.host at settles.left holds, settles.within j holds)
 
 -- it found no memory, somewhere
-gave_up : (d new : DeviceValue) (at : MemHostValue) → Settles load_calls d.host at
+pub gave_up : (d new : DeviceValue) (at : MemHostValue) → Settles load_calls d.host at
     → ComesOf at new.host → DeviceRestarts (Err fault.Memory) d new
 gave_up d new at settles left =
     record { at = at; since = settles.calls; broken = came_starting d at settles; left = left }
 
-module _ (d old : DeviceValue) (seen : d ≡ old) where
-  pub restart_failed : (r : Result (Unit {0}) StepFault) (new : DeviceValue) (at : MemHostValue)
-      → IsErrAnd r (λ x. x ≡ fault.Memory) → Settles load_calls d.host at → ComesOf at new.host
-      → DeviceRestarts r old new
-  restart_failed (Ok u) new at is settles left = absurd is
-  restart_failed (Err x) new at is settles left =
-      subst (λ (y : DeviceValue). DeviceRestarts (Err x) y new) seen
-      (subst (λ (y : StepFault). DeviceRestarts (Err y) d new) (sym is)
-      (gave_up d new at settles left))
+-- it started, and no call was passed at which its disk is to stop; or one was
+pub restart_ended : (d : DeviceValue) (r : Result (Unit {0}) StepFault) (new : DeviceValue)
+    (h : MemHostValue) → LeavesDisk d.host h
+    → ((j : Journal) → HoldsAfterCrash j h → SettlesFrom j new.host)
+    → Settles load_calls h new.host → IsAnew new.clock new.host → IsUnlinked new
+    → new.clock ≡ d.clock → new.stop ≡ d.stop
+    → MatchResult r (λ u. (u ≡ tt) × IsAhead new.stop new.host) (λ e. e ≡ fault.Memory)
+    → DeviceRestarts r d new
+restart_ended d r new h disk loads settles anew unlinked clock stop answered =
+    let after = settles_after d.host h new.host disk settles in
+    by_done (λ x. DeviceRestarts x d new) r tt _ answered (λ ahead. inl (record {
+      own = record { clock = clock; stop = stop; since = after.calls; ahead = ahead };
+      anew = anew;
+      unlinked = unlinked;
+      loads = λ j holds.
+          loads j (crash_same (λ left. stands bundle_meaning left ≡ journal j)
+          (host_told d.host) (host_told h) disk.files holds);
+    })) (gave_up d new new.host after (comes_same new.host))
 
-  pub restart_starved : (new : DeviceValue) → Settles load_calls d.host new.host → DeviceRestarts
-      (Err fault.Memory) old new
-  restart_starved new settles =
-      restart_failed (Err fault.Memory) new new.host refl settles (comes_same new.host)
+-- it found no memory
+pub restart_failed : (d : DeviceValue) (r : Result (Unit {0}) StepFault) (new : DeviceValue)
+    (at : MemHostValue) → IsErrAnd r (λ e. e ≡ fault.Memory) → Settles load_calls d.host at
+    → ComesOf at new.host → DeviceRestarts r d new
+restart_failed d (Ok u) new at is settles left = absurd is
+restart_failed d (Err e) new at is settles left =
+    subst (λ (x : StepFault). DeviceRestarts (Err x) d new) (sym is) (gave_up d new at settles left)
 
-  -- it started, and no call was passed at which its disk is to stop; or one was
-  pub restart_ended : (r : Result (Unit {0}) StepFault) (new : DeviceValue) (h : MemHostValue)
-      → LeavesDisk d.host h → ((j : Journal) → HoldsAfterCrash j h → SettlesFrom j new.host)
-      → Settles load_calls h new.host → IsAnew new.clock new.host → IsUnlinked new
-      → new.clock ≡ d.clock → new.stop ≡ d.stop → OnOk r (IsAhead new.stop new.host)
-      → IsNotRefused r → IsNotFull r → DeviceRestarts r old new
-  restart_ended (Ok u) new h disk loads settles anew unlinked clock stop ahead unrefused unfilled =
-      inl (subst (λ (x : DeviceValue). StartsAgain x new) seen (record {
-        own = record {
-          clock = clock;
-          stop = stop;
-          since = (settles_after d.host h new.host disk settles).calls;
-          ahead = ahead;
-        };
-        anew = anew;
-        unlinked = unlinked;
-        loads =
-            λ j holds.
-            loads j (crash_same (λ left. stands bundle_meaning left ≡ journal j)
-            (host_told d.host) (host_told h) disk.files holds);
-      }))
-  restart_ended (Err fault.Refused) new h disk loads settles anew unlinked clock stop ahead
-      unrefused unfilled = absurd unrefused
-  restart_ended (Err fault.Full) new h disk loads settles anew unlinked clock stop ahead unrefused
-      unfilled = absurd unfilled
-  restart_ended (Err fault.Memory) new h disk loads settles anew unlinked clock stop ahead unrefused
-      unfilled =
-      restart_starved new (settles_after d.host h new.host disk settles)
-
-  -- its disk failed
-  pub restart_broken : (r : Result (Unit {0}) StepFault) (mid new : DeviceValue)
-      → Settles load_calls d.host mid.host → mid.stop ≡ d.stop → mid.clock ≡ d.clock
-      → new.clock ≡ mid.clock
-      → OnOk r (BreaksOff mid.stop mid.host new) → ComesOf mid.host new.host → IsNotRefused r
-      → IsNotFull r → DeviceRestarts r old new
-  restart_broken (Ok u) mid new settles stop clock went off left unrefused unfilled =
-      subst (λ (x : DeviceValue). DeviceRestarts (Ok u) x new) seen (inr (record {
-        at = mid.host;
-        since = settles.calls;
-        broken = came_starting d mid.host settles;
-        off = subst (λ (s : _). BreaksOff s mid.host new) stop off;
-        clock = went ∙ clock;
-      }))
-  restart_broken (Err fault.Refused) mid new settles stop clock went off left unrefused unfilled =
-      absurd unrefused
-  restart_broken (Err fault.Full) mid new settles stop clock went off left unrefused unfilled =
-      absurd unfilled
-  restart_broken (Err fault.Memory) mid new settles stop clock went off left unrefused unfilled =
-      restart_failed (Err fault.Memory) new mid.host refl settles left
+-- its disk failed
+pub restart_broken : (d : DeviceValue) (r : Result (Unit {0}) StepFault) (mid new : DeviceValue)
+    → Settles load_calls d.host mid.host → mid.stop ≡ d.stop → new.clock ≡ d.clock
+    → MatchResult r (λ _. BreaksOff mid.stop mid.host new) (λ e. e ≡ fault.Memory)
+    → ComesOf mid.host new.host → DeviceRestarts r d new
+restart_broken d (Ok u) mid new settles stop clock off left = inr (record {
+  at = mid.host;
+  since = settles.calls;
+  broken = came_starting d mid.host settles;
+  off = subst (λ (s : _). BreaksOff s mid.host new) stop off;
+  clock = clock;
+})
+restart_broken d (Err e) mid new settles stop clock is left =
+    restart_failed d (Err e) new mid.host is settles left

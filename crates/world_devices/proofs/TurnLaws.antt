@@ -1,20 +1,20 @@
 -- What a call of the node of a device comes to: it was done, or it failed.
 use Rattle.std.proofs.Common.{◌≡◌, ◌+◌, ◌<◌, ◌∙◌, ℕ, Bool, false, List, length, arith, refl, sym}
-use Rattle.std.proofs.Common.{ap, subst, inl, inr, Option, Some, Result, Ok, Err}
+use Rattle.std.proofs.Common.{ap, subst, inl, inr, Option, Some, is_some, true, Result, Ok, Err}
+use Rattle.std.proofs.Common.{OnOk}
 use Rattle.std.specs.Prelude.{◌||◌, nat_le}
-use Rattle.std.specs.Result.{IsErrAnd, IsErrOf}
+use Rattle.std.specs.Prelude.{◌⊎◌, IsSomeAnd, MatchResult}
+use Rattle.std.specs.Result.{IsErrOf}
 use Rattle.std.proofs.lemmas.Bool.Decides.{nat_tests}
 use Rattle.outside.specs.declared.limits.TheConstants.{LINKS}
 use denote.Enum.Bare.{sameb}
 use Rattle.outside.specs.HostTold.{host_told}
 use Rattle.outside.specs.MemDisk.{disk_files, files_of}
 use Rattle.outside.specs.MemHost.{MemHostValue}
-use Rattle.outside.specs.Outside.{Outside}
 use Rattle.client_basic.specs.Bodies.{bundle_meaning}
 use Rattle.sync_rules.specs.declared.entries.Session.{Session}
-use Rattle.sync_rules.specs.declared.entries.Entry.{Entry}
 use Rattle.sync_node.specs.Courses.{BreaksBeginning, BreaksTurn, MakesTurn, is_still}
-use Rattle.sync_node.specs.OnRuns.{BeginStopped, BeginWent, ByFault, RoundStopped, RoundWent}
+use Rattle.sync_node.specs.OnRuns.{BeginStopped, RoundStopped}
 use Rattle.sync_node.proofs.NodeRuns.{beginning_breaks, run_went, turn_breaks, turn_made}
 use Rattle.sync_node.specs.Node.{NodeValue}
 use Rattle.sync_node.specs.declared.fault.NodeFault.{NodeFault}
@@ -24,20 +24,23 @@ use Rattle.sync_node.specs.declared.node.Plan.{Plan}
 use Rattle.sync_node.specs.declared.node.Turned.{Turned}
 use Rattle.sync_node.specs.declared.node.Turned.TheVariants as turned_kind
 use Rattle.world_devices.specs.Devices.{DeviceValue, HostGoesOn}
-use Rattle.world_devices.specs.Doing.{ComesOf, DeviceAddsEntry, DeviceBeginsSession, DeviceCalls}
-use Rattle.world_devices.specs.Doing.{DeviceMakesTurn, HasBegunOnLink, HasTurned, IsNotFull, OfNode, OfNodes}
-use Rattle.world_devices.specs.Doing.{if_done, next_session}
+use Rattle.world_devices.specs.Doing.{BreaksOff, ComesOf, DeviceRestarts, GivesUp, HasBegunOnLink, HasTurned}
+use Rattle.world_devices.specs.Doing.{IsAhead, KeepsOwn, OfNodes, StopsIn, next_session}
+use Rattle.world_devices.specs.Cited.{DeviceLaws}
+use Rattle.world_devices.specs.Linking.{IsUnlinked}
 use Rattle.world_devices.specs.Refusals.{IsNotRefused, RefusedBy, refuses_link}
-use Rattle.world_devices.proofs.RunLaws.{by_any}
-use Rattle.world_devices.specs.declared.stop.Ran.{Ran}
-use Rattle.world_devices.specs.declared.stop.Ran.TheVariants as ran
+use Rattle.world_devices.specs.Running.{DeviceRuns, IsStill}
+use Rattle.world_devices.proofs.CallLaws.{DeviceLeaves, DidWell, behind, leaves_come, leaves_on, leaves_runs}
+use Rattle.world_devices.proofs.CallLaws.{well_runs}
+use Rattle.world_devices.proofs.RunLaws.{BeginStops, NodeBegan, NodeTurned, TurnStops, by_any}
+use Rattle.world_devices.proofs.StartLaws.{by_broken, by_done, runs_unlinked}
 use Rattle.world_devices.specs.declared.stop.StepFault.{StepFault}
 use Rattle.world_devices.specs.declared.stop.StepFault.TheVariants as fault
 
 -- ---- of a device that runs
 
-pub of_node : (P : NodeValue → Type 0) (n : NodeValue) (maybe : Option NodeValue) → maybe ≡ Some n → P n → OfNode P maybe
-of_node P n maybe is holds = subst (λ (x : Option NodeValue). OfNode P x) (sym is) holds
+pub of_node : (P : NodeValue → Type 0) (n : NodeValue) (maybe : Option NodeValue) → maybe ≡ Some n → P n → IsSomeAnd maybe P
+of_node P n maybe is holds = subst (λ (x : Option NodeValue). IsSomeAnd x P) (sym is) holds
 
 pub of_nodes : (P : NodeValue → NodeValue → Type 0) (n n' : NodeValue) (old : Option NodeValue)
     → old ≡ Some n → P n n' → OfNodes P old (Some n')
@@ -46,63 +49,118 @@ of_nodes P n n' old was holds =
 
 -- ---- what a call came to
 
-module _ {A : Type 0} (Done : A → Type 0) (Broken : MemHostValue → Type 0) (Full : Type 0)
-    (d new : DeviceValue) where
-  -- an error that is passed on as it is
-  passed_on : (r : Result (Option A) StepFault) (e : StepFault) → IsErrAnd r (λ x. x ≡ e)
-      → DeviceCalls Done Broken Full (Err e) d new → DeviceCalls Done Broken Full r d new
-  passed_on (Ok a) e is calls = absurd is
-  passed_on (Err x) e is calls =
-      subst (λ (y : StepFault). DeviceCalls Done Broken Full (Err y) d new) (sym is) calls
+-- what each clause of a call of its node says, of this device and by its answer
+module _ {R : Type 0} (Calls Links : DeviceValue → DeviceValue → Result R StepFault → Type 0) where
+  pub record Comes (old new : DeviceValue) (r : Result R StepFault) : Type 0 where
+    pub runs : DeviceRuns old new
+    pub running : OnOk r (is_some new.node ≡ true)
+    pub links : Links old new r
+    pub unrefused : IsNotRefused r
+    pub calls : Calls old new r
 
-  -- it failed: it filled the journal, or found no memory
-  fails : (e : StepFault) (f : NodeFault) (at : MemHostValue) → IsNotRefused {A = Unit {0}} (Err e)
-      → (IsErrOf {T = Unit {0}} (Err e) fault.Full → (f ≡ node_fault.Full) × (new.host ≡ at))
-      → (f ≡ node_fault.Full → new.host ≡ at → Full) → HostGoesOn d.host at → Broken at
-      → ComesOf at new.host → DeviceCalls Done Broken Full (Err e) d new
-  fails fault.Refused f at unrefused full fills since broken left = absurd unrefused
-  fails fault.Full f at unrefused full fills since broken left =
-      let both = full refl in fills both.0 both.1
-  fails fault.Memory f at unrefused full fills since broken left =
-      inl (inr (record { at = at; since = since; broken = broken; left = left }))
+  -- it was done; or its links or its clock found no memory, or the call was passed at which its disk
+  -- is to stop
+  pub comes_done : DeviceLaws → {d old : DeviceValue} → d ≡ old → (n n' : NodeValue) (h' : MemHostValue)
+      (links : ℕ) → DidWell d n n' h' → (r : Result R StepFault) (a : R)
+      → MatchResult r (λ x. (x ≡ a) × IsAhead d.stop h') (λ e. e ≡ fault.Memory)
+      → Links d (behind d n' h' links) (Ok a) → Links d (behind d n' h' links) (Err fault.Memory)
+      → (KeepsOwn d (behind d n' h' links) → Calls d (behind d n' h' links) (Ok a))
+      → (HostGoesOn d.host h' → Calls d (behind d n' h' links) (Err fault.Memory))
+      → Comes old (behind d n' h' links) r
+  comes_done laws {d = d} seen n n' h' links did r a answers linked none done starved =
+      let new : DeviceValue = behind d n' h' links in
+      let runs = well_runs d n n' h' did laws links in
+      subst (λ (o : DeviceValue). Comes o new r) seen
+      (by_done (λ x. Comes d new x) r a _ answers (λ ahead. record {
+        runs = runs;
+        running = refl;
+        links = linked;
+        unrefused = tt;
+        calls =
+            done (record { clock = refl; stop = refl; since = did.goes.goes.calls; ahead = ahead });
+      }) (record {
+        runs = runs;
+        running = tt;
+        links = none;
+        unrefused = tt;
+        calls = starved did.goes.goes.calls;
+      }))
 
-  pub call_failed : (r : Result (Option A) StepFault) (e : StepFault) (f : NodeFault)
-      (at : MemHostValue) → IsErrAnd r (λ x. x ≡ e) → IsNotRefused {A = Unit {0}} (Err e)
-      → (IsErrOf {T = Unit {0}} (Err e) fault.Full → (f ≡ node_fault.Full) × (new.host ≡ at))
-      → (f ≡ node_fault.Full → new.host ≡ at → Full)
-      → HostGoesOn d.host at → Broken at → ComesOf at new.host
-      → DeviceCalls Done Broken Full r d new
-  call_failed r e f at is unrefused full fills since broken left =
-      passed_on r e is (fails e f at unrefused full fills since broken left)
+  -- its disk stopped in it; or it found no memory, or filled the journal
+  pub comes_broken : DeviceLaws → {Broken : MemHostValue → Type 0} {Full : Type 0} {d old : DeviceValue}
+      → d ≡ old → (new : DeviceValue) (r : Result R StepFault) (a : R)
+      → (StopsIn Broken d new → Calls d new (Ok a))
+      → (GivesUp Broken d new → Calls d new (Err fault.Memory))
+      → (Full → Calls d new (Err fault.Full)) → (IsUnlinked new → Links d new (Ok a))
+      → Links d new (Err fault.Memory) → Links d new (Err fault.Full) → (f : NodeFault)
+      (at : MemHostValue)
+      → MatchResult r (λ x. (x ≡ a) × BreaksOff d.stop at new)
+      (λ e. (e ≡ fault.Memory) ⊎ ((e ≡ fault.Full) × ((f ≡ node_fault.Full) × (new.host ≡ at))))
+      → DeviceLeaves d.node d.host at → HostGoesOn d.host at → Broken at
+      → (f ≡ node_fault.Full → new.host ≡ at → Full) → ComesOf at new.host
+      → (is_some new.node ≡ true → IsStill new.host) → new.clock ≡ d.clock → Comes old new r
+  comes_broken laws {d = d} seen new r a stops gives filled unlinked none full f at fails left since
+      broken fills comes still clock =
+      let runs = leaves_runs laws d new (leaves_on d.node d.host at new.host left comes) still in
+      subst (λ (o : DeviceValue). Comes o new r) seen
+      (by_broken (λ x. Comes d new x) r a _ _ fails (λ off. record {
+        runs = runs;
+        running = runs_unlinked new off.crashes.unlinked;
+        links = unlinked off.crashes.unlinked;
+        unrefused = tt;
+        calls = stops
+            (record { at = at; since = since; broken = broken; off = off; clock = clock });
+      }) (record {
+        runs = runs;
+        running = tt;
+        links = none;
+        unrefused = tt;
+        calls = gives (record { at = at; since = since; broken = broken; left = comes });
+      }) (λ is. record {
+        runs = runs;
+        running = tt;
+        links = full;
+        unrefused = tt;
+        calls = filled (fills is.0 is.1);
+      }))
 
-  -- it was done, but its links or its clock found no memory, or the call was passed at which its
-  -- disk is to stop
-  starves : (e : StepFault) → IsNotRefused {A = Unit {0}} (Err e) → IsNotFull {A = Unit {0}} (Err e)
-      → HostGoesOn d.host new.host → (a : A) → Done a → DeviceCalls Done Broken Full (Err e) d new
-  starves fault.Refused unrefused unfilled since a done = absurd unrefused
-  starves fault.Full unrefused unfilled since a done = absurd unfilled
-  starves fault.Memory unrefused unfilled since a done = inr (since, (a, done))
+-- ---- a restart
 
-  pub call_starved : (r : Result (Option A) StepFault) (e : StepFault) → IsErrAnd r (λ x. x ≡ e)
-      → IsNotRefused {A = Unit {0}} (Err e) → IsNotFull {A = Unit {0}} (Err e)
-      → HostGoesOn d.host new.host → (a : A) → Done a → DeviceCalls Done Broken Full r d new
-  call_starved r e is unrefused unfilled since a done =
-      passed_on r e is (starves e unrefused unfilled since a done)
+abbrev Restarts : DeviceValue → DeviceValue → Result (Unit {0}) StepFault → Type 0
+Restarts old new r = DeviceRestarts r old new
 
--- of a call that answers whether it was done
-pub done_err : (r : Result Ran StepFault) (e : StepFault) → IsErrAnd r (λ x. x ≡ e)
-    → IsErrAnd (if_done r) (λ x. x ≡ e)
-done_err (Ok ran.Done) e is = absurd is
-done_err (Ok ran.Crashed) e is = absurd is
-done_err (Err x) e is = is
+abbrev Unlinks : DeviceValue → DeviceValue → Result (Unit {0}) StepFault → Type 0
+Unlinks old new r = OnOk r (IsUnlinked new)
+
+starts_again : (d new : DeviceValue) → DeviceRuns d new → (r : Result (Unit {0}) StepFault)
+    → DeviceRestarts r d new → Comes Restarts Unlinks d new r
+starts_again d new runs (Ok u) came =
+    let none : IsUnlinked new =
+    elim came [ inl again ↦ again.unlinked | inr stops ↦ stops.off.crashes.unlinked ] in
+    record {
+      runs = runs;
+      running = runs_unlinked new none;
+      links = none;
+      unrefused = tt;
+      calls = came;
+    }
+starts_again d new runs (Err fault.Memory) came =
+    record { runs = runs; running = tt; links = tt; unrefused = tt; calls = came }
+starts_again d new runs (Err e) came = absurd came
+
+pub comes_again : DeviceLaws → {d old : DeviceValue} → d ≡ old → (new : DeviceValue)
+    (r : Result (Unit {0}) StepFault) → ComesOf d.host new.host
+    → (is_some new.node ≡ true → IsStill new.host) → DeviceRestarts r d new
+    → Comes Restarts Unlinks old new r
+comes_again laws {d = d} seen new r comes still came =
+    subst (λ (o : DeviceValue). Comes Restarts Unlinks o new r) seen
+    (starts_again d new (leaves_runs laws d new (leaves_come d.node d.host new.host comes) still) r came)
 
 -- ---- what the calls of a node came to on a course
 
 -- a turn that was made
 pub has_turned : (still quiet : Bool) (n n' : NodeValue) (h h' : MemHostValue) → n'.first ≡ n.first
-    → quiet ≡ still
-    → RoundWent bundle_meaning n.first n.links n'.links n.store n'.store (host_told h) (host_told h')
-    quiet → HasTurned still h h' n n'
+    → quiet ≡ still → NodeTurned n n' h h' quiet → HasTurned still h h' n n'
 has_turned still quiet n n' h h' first same w = record {
   same_first = first;
   turn =
@@ -116,8 +174,8 @@ has_turned still quiet n n' h h' first same w = record {
 pub has_begun_on : (plan : Plan) (its_nonce : Option (List ℕ)) (session : ℕ) (n n' : NodeValue)
     (h h' : MemHostValue) → session ≡ n.store.state.facts.begun
     → n.store.state.facts.begun ≡ n.first + length n.links → n'.first ≡ n.first
-    → BeginWent bundle_meaning (next_session plan its_nonce n) n.links n'.links n.store n'.store
-    (host_told h) (host_told h') → HasBegunOnLink plan its_nonce session h h' n n'
+    → NodeBegan (next_session plan its_nonce n) n n' h h'
+    → HasBegunOnLink plan its_nonce session h h' n n'
 has_begun_on plan its_nonce session n n' h h' number next first w = record {
   number = number;
   on_next = number ∙ next;
@@ -130,29 +188,23 @@ has_begun_on plan its_nonce session n n' h h' number next first w = record {
   facts_are = w.facts;
 }
 
-pub turn_breaks_off : (n n' : NodeValue) (o o' : Outside) (x : NodeFault) → ByFault (RoundStopped bundle_meaning n.first n.links n'.links n.store n'.store o o') x
-    → BreaksTurn bundle_meaning n.first n.links n.store o o'
-turn_breaks_off n n' o o' x stopped =
-    by_any (RoundStopped bundle_meaning n.first n.links n'.links n.store n'.store o o') (BreaksTurn bundle_meaning n.first n.links n.store o o')
-    (λ e w. turn_breaks bundle_meaning n.first n.links n'.links n.store n'.store o o' e w) x stopped
+pub turn_breaks_off : (n n' : NodeValue) (h h' : MemHostValue) (x : NodeFault)
+    → TurnStops n n' h h' x
+    → BreaksTurn bundle_meaning n.first n.links n.store (host_told h) (host_told h')
+turn_breaks_off n n' h h' x stopped =
+    by_any (RoundStopped bundle_meaning n.first n.links n'.links n.store n'.store (host_told h)
+    (host_told h')) (BreaksTurn bundle_meaning n.first n.links n.store (host_told h) (host_told h'))
+    (λ e w. turn_breaks bundle_meaning n.first n.links n'.links n.store n'.store (host_told h)
+    (host_told h') e w) x stopped
 
-pub beginning_breaks_off : (session : Session) (n n' : NodeValue) (o o' : Outside) (x : NodeFault) → ByFault (BeginStopped bundle_meaning session n.links n'.links n.store n'.store o o') x
-    → BreaksBeginning bundle_meaning session n.links n.store o o'
-beginning_breaks_off session n n' o o' x stopped =
-    by_any (BeginStopped bundle_meaning session n.links n'.links n.store n'.store o o') (BreaksBeginning bundle_meaning session n.links n.store o o')
-    (λ e w. beginning_breaks bundle_meaning session n.links n'.links n.store n'.store o o' e w) x stopped
-
--- ---- of a device that is another one by name
-
-pub adds_seen : (e : Entry) (r : Result Ran StepFault) (d old new : DeviceValue) → d ≡ old
-    → DeviceAddsEntry e r d new → DeviceAddsEntry e r old new
-adds_seen e r d old new is adds = subst (λ (x : DeviceValue). DeviceAddsEntry e r x new) is adds
-
-pub attaches_seen : (plan : Plan) (its_nonce : Option (List ℕ)) (r : Result (Option ℕ) StepFault) (d old new : DeviceValue) → d ≡ old → DeviceBeginsSession plan its_nonce r d new → DeviceBeginsSession plan its_nonce r old new
-attaches_seen plan its_nonce r d old new is attaches = subst (λ (x : DeviceValue). DeviceBeginsSession plan its_nonce r x new) is attaches
-
-pub turns_seen : (r : Result (Option Bool) StepFault) (d old new : DeviceValue) → d ≡ old → DeviceMakesTurn r d new → DeviceMakesTurn r old new
-turns_seen r d old new is turns = subst (λ (x : DeviceValue). DeviceMakesTurn r x new) is turns
+pub beginning_breaks_off : (session : Session) (n n' : NodeValue) (h h' : MemHostValue)
+    (x : NodeFault) → BeginStops session n n' h h' x
+    → BreaksBeginning bundle_meaning session n.links n.store (host_told h) (host_told h')
+beginning_breaks_off session n n' h h' x stopped =
+    by_any (BeginStopped bundle_meaning session n.links n'.links n.store n'.store (host_told h)
+    (host_told h')) (BreaksBeginning bundle_meaning session n.links n.store (host_told h) (host_told h'))
+    (λ e w. beginning_breaks bundle_meaning session n.links n'.links n.store n'.store (host_told h)
+    (host_told h') e w) x stopped
 
 -- ---- what is answered
 
@@ -161,23 +213,20 @@ pub still_by : (t : Turned) (b : Bool) → b ≡ sameb the_type t turned_kind.St
 still_by turned_kind.Still b is = is
 still_by turned_kind.Moving b is = is
 
-not_refused : (e : StepFault) → IsNotRefused {A = Unit {0}} (Err e) → IsNotRefused {A = Option ℕ} (Err e)
-not_refused fault.Refused unrefused = unrefused
-not_refused fault.Full unrefused = tt
-not_refused fault.Memory unrefused = tt
+-- a link that a device may have, to a contact that is known, is not refused
+pub link_unrefused : (node : Option NodeValue) (n : NodeValue) (links contact : ℕ)
+    (r : Result (Option ℕ) StepFault) → node ≡ Some n → links < LINKS
+    → contact < n.store.state.facts.contacts → IsNotRefused r
+    → RefusedBy (refuses_link node links contact) r
+link_unrefused maybe n links contact r is within known unrefused =
+    let both : (nat_le LINKS links || nat_le n.store.state.facts.contacts contact) ≡ false =
+    grind (arith, nat_tests) in
+    subst (λ (x : Option NodeValue). RefusedBy (refuses_link x links contact) r) (sym is)
+    (subst (λ (b : Bool). RefusedBy b r) (sym both) unrefused)
 
-handed_unrefused : (r : Result (Option ℕ) StepFault) (e : StepFault) → IsErrAnd r (λ x. x ≡ e) → IsNotRefused {A = Unit {0}} (Err e) → IsNotRefused r
-handed_unrefused (Ok a) e is unrefused = tt
-handed_unrefused (Err x) e is unrefused = subst (λ (y : StepFault). IsNotRefused {A = Option ℕ} (Err y)) (sym is) (not_refused e unrefused)
-
--- a link that a device may have, to a contact that is known
-link_allowed : (node : Option NodeValue) (n : NodeValue) (links contact : ℕ) → node ≡ Some n → links < LINKS → contact < n.store.state.facts.contacts → refuses_link node links contact ≡ false
-link_allowed maybe n links contact is within known =
-    let both : (nat_le LINKS links || nat_le n.store.state.facts.contacts contact) ≡ false = grind (arith, nat_tests) in
-    subst (λ (x : Option NodeValue). refuses_link x links contact ≡ false) (sym is) both
-
--- what came of it is no refusal
-pub link_unrefused : (node : Option NodeValue) (n : NodeValue) (links contact : ℕ) (r : Result (Option ℕ) StepFault) (e : StepFault) → node ≡ Some n → links < LINKS → contact < n.store.state.facts.contacts
-    → IsErrAnd r (λ x. x ≡ e) → IsNotRefused {A = Unit {0}} (Err e) → RefusedBy (refuses_link node links contact) r
-link_unrefused node n links contact r e is within known handed unrefused =
-    subst (λ (b : Bool). RefusedBy b r) (sym (link_allowed node n links contact is within known)) (handed_unrefused r e handed unrefused)
+pub never_refused : {A : Type 0} (P : Type 0) (r : Result A StepFault) → IsNotRefused r
+    → IsErrOf r fault.Refused → P
+never_refused P (Ok a) unrefused is = cc
+never_refused P (Err fault.Refused) unrefused is = absurd unrefused
+never_refused P (Err fault.Full) unrefused is = cc
+never_refused P (Err fault.Memory) unrefused is = cc

@@ -1,5 +1,5 @@
 -- A device: its host, the node on it while it runs, how many links it has had, its clock, and where its disk is to stop.
-use Rattle.std.specs.Prelude.{◌≡◌, ℕ, ◌≤◌, false, [], ◌∷◌, length, Option, Some, None, refl}
+use Rattle.std.specs.Prelude.{◌≡◌, ℕ, ◌≤◌, false, [], ◌∷◌, length, Option, IfSome, IsSomeAnd, refl}
 use Rattle.std.specs.Coded.{Coded, code_by, coded×, coded_option, coded_ℕ}
 use Rattle.outside.specs.Calls.{CallsGoOn}
 use Rattle.outside.specs.MemDisk.{calls_of}
@@ -77,8 +77,7 @@ pub record IsRunning (n : NodeValue) (host : MemHostValue) (links : ℕ) : Type 
 
 -- the same where the device runs
 abbrev pub MayBeRunning : Option NodeValue → MemHostValue → ℕ → Type 0
-MayBeRunning None host links = Unit {0}
-MayBeRunning (Some n) host links = IsRunning n host links
+MayBeRunning node host links = IfSome node (λ n. IsRunning n host links)
 
 -- What a device always keeps: whatever a crash leaves of its files stands for a journal, of which no batch begins a brief account;
 -- and it has had no more links than it may get.
@@ -91,10 +90,9 @@ pub record MayAddTo (n : NodeValue) (e : Entry) : Type 0 where
   pub plain : IsPlain (e ∷ [])
 
 abbrev pub MayAddEntry : Option NodeValue → Entry → Type 0
-MayAddEntry None e = Unit {0}
-MayAddEntry (Some n) e = MayAddTo n e
+MayAddEntry node e = IfSome node (λ n. MayAddTo n e)
 
 -- the store of a device that runs, whose journal is settled
 abbrev pub IsReadyStore : Option NodeValue → StoreValue → Type 0
-IsReadyStore None s = ⊥
-IsReadyStore (Some n) s = (s ≡ n.store) × (n.closed ≡ false → IsSettled bundle_meaning n.store.state.facts)
+IsReadyStore node s =
+    IsSomeAnd node (λ n. (s ≡ n.store) × (n.closed ≡ false → IsSettled bundle_meaning n.store.state.facts))

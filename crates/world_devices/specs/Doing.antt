@@ -2,7 +2,7 @@
 -- disk leads.
 use Rattle.std.specs.Prelude.{◌≡◌, ◌≢◌, ◌⊎◌, ℕ, ◌+◌, ◌*◌, ◌<◌, ◌≤◌, ◌^◌, Bool, false, slice_get}
 use Rattle.std.specs.Prelude.{if◌then◌else◌, nat_lt, List, [], ◌∷◌, ◌++◌, length, Option, Some}
-use Rattle.std.specs.Prelude.{None, Result, Ok, Err}
+use Rattle.std.specs.Prelude.{IsSomeAnd, None, Result, Ok, Err}
 use Rattle.std.specs.Option.{option_map}
 use Rattle.outside.specs.Files.{Two, IsImage}
 use Rattle.outside.specs.HostTold.{host_told}
@@ -131,16 +131,13 @@ pub record StopsIn (Broken : MemHostValue → Type 0) (old new : DeviceValue) : 
   pub off : BreaksOff old.stop at new
   pub clock : new.clock ≡ old.clock
 
--- A call found no memory: nothing was done; or it had come, by calls behind those of before, to a host of which this holds, and a
+-- A call found no memory: it had come, by calls behind those of before, to a host of which this holds, and a
 -- crash may leave of the files what it might have left then, or what came of that by settling.
 pub record GivesUp (Broken : MemHostValue → Type 0) (old new : DeviceValue) : Type 0 where
   pub at : MemHostValue
   pub since : HostGoesOn old.host at
   pub broken : Broken at
   pub left : ComesOf at new.host
-
-abbrev pub GivesUpIn : (MemHostValue → Type 0) → DeviceValue → DeviceValue → Type 0
-GivesUpIn Broken old new = (new ≡ old) ⊎ GivesUp Broken old new
 
 -- ---- a call of its node
 
@@ -154,23 +151,14 @@ DeviceCalls Done Broken Full (Ok None) old new = StopsIn Broken old new
 DeviceCalls Done Broken Full (Err fault.Refused) old new = new ≡ old
 DeviceCalls Done Broken Full (Err fault.Full) old new = Full
 DeviceCalls {A} Done Broken Full (Err fault.Memory) old new =
-    GivesUpIn Broken old new ⊎ (HostGoesOn old.host new.host × ((a : A) × Done a))
+    ((new ≡ old) ⊎ GivesUp Broken old new) ⊎ (HostGoesOn old.host new.host × ((a : A) × Done a))
 
 -- ---- an entry
 
--- of a device that runs, and of one that runs before and after a call
-abbrev pub OfNode : (NodeValue → Type 0) → Option NodeValue → Type 0
-OfNode P None = ⊥
-OfNode P (Some n) = P n
-
+-- of a device that runs before and after a call
 abbrev pub OfNodes : (NodeValue → NodeValue → Type 0) → Option NodeValue → Option NodeValue → Type 0
 OfNodes P (Some n) (Some n') = P n n'
 OfNodes P _ _ = ⊥
-
--- with the entry the journal would pass its limit
-abbrev pub EntryPassesLimit : Entry → Option NodeValue → Type 0
-EntryPassesLimit e None = ⊥
-EntryPassesLimit e (Some n) = n.store.limit < needed n.store (e ∷ [])
 
 -- all but its journal is as it was: the links of its node, and what its host tells of links and time
 pub record KeepsRest (old new : DeviceValue) : Type 0 where
@@ -184,7 +172,7 @@ abbrev pub CameAdding : Entry → Option NodeValue → MemHostValue → MemHostV
 CameAdding e node h at =
     ((j : Journal) → HoldsAfterCrash j h
     → LeavesSome (AddsAtMost bundle_meaning j (e ∷ [])) (host_told at))
-    × OfNode (λ n. AddsWithin bundle_meaning (e ∷ []) n.store (host_told h) (host_told at)) node
+    × IsSomeAnd node (λ n. AddsWithin bundle_meaning (e ∷ []) n.store (host_told h) (host_told at))
 
 -- a call that answers Done, or that it crashed
 abbrev pub if_done : Result Ran StepFault → Result (Option (Unit {0})) StepFault
@@ -200,7 +188,8 @@ abbrev pub DeviceAddsEntry : Entry → Result Ran StepFault → DeviceValue → 
 DeviceAddsEntry e r old new =
     DeviceCalls (λ done. ((j : Journal) → HoldsAfterCrash j old.host
     → HoldsSettled (AddsOne bundle_meaning j (e ∷ [])) new.host) × KeepsRest old new)
-    (CameAdding e old.node old.host) (EntryPassesLimit e old.node × (new.host ≡ old.host))
+    (CameAdding e old.node old.host)
+    (IsSomeAnd old.node (λ n. n.store.limit < needed n.store (e ∷ [])) × (new.host ≡ old.host))
     (if_done r) old new
 
 -- ---- links
@@ -257,9 +246,9 @@ DeviceBeginsSession plan its_nonce r old new =
     DeviceCalls (λ session.
     OfNodes (HasBegunOnLink plan its_nonce session old.host new.host) old.node new.node)
     (λ at.
-    OfNode (λ n. BreaksBeginning bundle_meaning (next_session plan its_nonce n) n.links n.store
-    (host_told old.host) (host_told at)) old.node)
-    (OfNode (FullAtBeginning plan its_nonce old.host new.host) old.node) r old new
+    IsSomeAnd old.node (λ n. BreaksBeginning bundle_meaning (next_session plan its_nonce n) n.links
+    n.store (host_told old.host) (host_told at)))
+    (IsSomeAnd old.node (FullAtBeginning plan its_nonce old.host new.host)) r old new
 
 -- one turn of a course was made, in which all was still or not
 pub record HasTurned (still : Bool) (h h' : MemHostValue) (n n' : NodeValue) : Type 0 where
@@ -282,9 +271,9 @@ abbrev pub DeviceMakesTurn : Result (Option Bool) StepFault → DeviceValue → 
 DeviceMakesTurn r old new =
     DeviceCalls (λ still. OfNodes (HasTurned still old.host new.host) old.node new.node)
     (λ at.
-    OfNode (λ n. BreaksTurn bundle_meaning n.first n.links n.store (host_told old.host)
-    (host_told at)) old.node)
-    (OfNode (FullInTurn old.host new.host) old.node) r old new
+    IsSomeAnd old.node (λ n. BreaksTurn bundle_meaning n.first n.links n.store
+    (host_told old.host) (host_told at)))
+    (IsSomeAnd old.node (FullInTurn old.host new.host)) r old new
 
 -- ---- a host that is told something
 
@@ -338,10 +327,3 @@ DeviceRestarts (Ok _) old new = StartsAgain old new ⊎ StopsIn (CameStarting ol
 DeviceRestarts (Err fault.Refused) old new = ⊥
 DeviceRestarts (Err fault.Full) old new = ⊥
 DeviceRestarts (Err fault.Memory) old new = GivesUp (CameStarting old) old new
-
--- a call that answers something else than that a journal is full
-abbrev pub IsNotFull : {A : Type 0} → Result A StepFault → Type 0
-IsNotFull (Ok a) = Unit {0}
-IsNotFull (Err fault.Refused) = Unit {0}
-IsNotFull (Err fault.Full) = ⊥
-IsNotFull (Err fault.Memory) = Unit {0}

@@ -1,7 +1,7 @@
 -- What a device keeps: whatever a crash leaves of its files stands for a journal that goes on from each earlier one.
 use Rattle.std.specs.Prelude.{◌≡◌, ℕ, List, [], ◌++◌, Some}
 use Rattle.outside.specs.Files.{Two, File, IsImage}
-use Rattle.outside.specs.Outside.{Outside, Moment}
+use Rattle.outside.specs.Outside.{Outside}
 use Rattle.outside.specs.Runs.{answers_at}
 use Rattle.client_basic.specs.Bodies.{bundle_meaning}
 use Rattle.entry_codec.specs.Standing.{stands, journal}
@@ -75,11 +75,9 @@ pub record IsRunSoFar (n : NodeValue) (o : Outside) : Type 0 where
   pub sent : (link : ℕ) → sent_on o.links link ≡ sends_on link acts
   pub fits : FitsWith bundle_meaning n.store o.files (begin ++ batches_in acts)
 
--- another outside tells the same of files, of what was sent and heard, and of moments
+-- another outside tells the same of files, and of what was sent and heard
 pub record TellsSame (o o' : Outside) : Type 0 where
   pub files : o'.files ≡ o.files
   pub told : o'.links.told ≡ o.links.told
   pub heard : o'.links.heard ≡ o.links.heard
-  pub clock : o'.clock ≡ o.clock
-  pub moments : (t : ℕ) (m : Moment) → o'.moments t m → o.moments t m
   pub dialled : o'.links.dialled ≡ o.links.dialled

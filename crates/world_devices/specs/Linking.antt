@@ -12,7 +12,6 @@ use Rattle.sync_course.specs.declared.ends.LinkEnd.{LinkEnd}
 use Rattle.sync_course.specs.Links.{is_going, is_sent_to}
 use Rattle.sync_rules.specs.Facts.{facts, session_at}
 use Rattle.sync_rules.specs.Legal.{Legal}
-use Rattle.sync_store.specs.Store.{StoreValue}
 use Rattle.sync_node.specs.declared.link.Link.{Link}
 use Rattle.sync_node.specs.Node.{NodeValue}
 use Rattle.sync_node.specs.Output.{output}
@@ -130,16 +129,6 @@ pub record DeviceLinksStand (d : DeviceValue) : Type 0 where
   pub each : (n : NodeValue) → d.node ≡ Some n → (j : Journal) → HoldsAfterCrash j d.host → LinksStand n d j
 
 -- ---- a new device
-
--- a store whose journal has so many contacts and no message
-pub record IsBare (contacts : ℕ) (s : StoreValue) : Type 0 where
-  pub empty : s.state.facts.held ≡ []
-  pub counted : s.state.facts.contacts ≡ contacts
-
--- so is that of a device that runs
-abbrev pub IsBareIn : ℕ → Option NodeValue → Type 0
-IsBareIn contacts None = ⊥
-IsBareIn contacts (Some n) = IsBare contacts n.store
 
 -- what stands where a call was done and no stop fell in it
 abbrev pub WhenDone : Result Ran StepFault → Type 0 → Type 0

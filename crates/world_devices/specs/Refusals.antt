@@ -4,7 +4,7 @@ use Rattle.client_basic.specs.Bodies.{bundle_meaning}
 use Rattle.outside.specs.declared.limits.TheConstants.{LINKS}
 use Rattle.sync_ids.specs.Values.{GroupValue, MessageValue}
 use Rattle.sync_rules.specs.Facts.{Facts, Id}
-use Rattle.sync_store.specs.Refusals.{contact_answer, group_answer, level_answer, post_answer}
+use Rattle.sync_store.specs.Refusals.{group_answer, level_answer, post_answer}
 use Rattle.sync_node.specs.Node.{NodeValue}
 use Rattle.world_devices.specs.declared.stop.StepFault.{StepFault}
 use Rattle.world_devices.specs.declared.stop.StepFault.TheVariants as fault
@@ -34,9 +34,6 @@ facts_of (Some n) = Some n.store.state.facts
 abbrev pub by_facts : (Facts → Bool) → Option Facts → Bool
 by_facts refuses None = false
 by_facts refuses (Some f) = refuses f
-
-abbrev pub refuses_contact : Option NodeValue → Bool
-refuses_contact node = by_facts (λ f. is_err (contact_answer f)) (facts_of node)
 
 abbrev pub refuses_group : Option NodeValue → GroupValue → Bool
 refuses_group node def = by_facts (λ f. is_err (group_answer bundle_meaning f def)) (facts_of node)

@@ -1,6 +1,6 @@
 //! The device and its calls.
 ghost use Rattle.std.specs.Prelude.{◌≡◌, ◌+◌, ◌≤◌, ℕ, [], false, true, is_some, IfOk, IsErrOf};
-ghost use Rattle.std.specs.Prelude.{MatchOption};
+ghost use Rattle.std.specs.Prelude.{◌⊎◌, MatchOption, MatchResult};
 ghost use Rattle.std.specs.Prelude.{None, OnErr, OnOk, option_copied, option_map};
 ghost use Rattle.outside.specs.HostTold.{host_told};
 ghost use Rattle.sync_rules.specs.Legal.{suits_nonce};
@@ -8,27 +8,26 @@ ghost use Rattle.sync_rules.specs.declared.entries.Entry.TheVariants as entry_ki
 ghost use Rattle.world_devices.specs.Devices.{IsAnew, IsReadyStore};
 ghost use Rattle.world_devices.specs.Devices.{MayAddEntry, links_made};
 ghost use Rattle.world_devices.specs.Keeping.{Journal, StandsLegal};
-ghost use Rattle.world_devices.specs.Linking.{DeviceLinksStand, IsBareIn, IsNewDevice, IsUnlinked};
+ghost use Rattle.world_devices.specs.Linking.{DeviceLinksStand, IsNewDevice, IsUnlinked};
 ghost use Rattle.world_devices.specs.Linking.{new_journal};
 ghost use Rattle.world_devices.specs.Linking.{WhenDone};
 ghost use Rattle.world_devices.specs.Linking.{KeepsLinks, LinksBy, LinksByAttach, LinksByPlan};
 ghost use Rattle.world_devices.specs.Linking.{LinksByTurn, asks, end_at, is_shut};
-ghost use Rattle.world_devices.specs.Refusals.{IsNotRefused, RefusedBy, refuses_contact};
-ghost use Rattle.world_devices.specs.Refusals.{refuses_group, refuses_level, refuses_link};
+ghost use Rattle.world_devices.specs.Refusals.{IsNotRefused, RefusedBy, refuses_group};
+ghost use Rattle.world_devices.specs.Refusals.{refuses_level, refuses_link};
 ghost use Rattle.world_devices.specs.Refusals.{refuses_message};
 ghost use Rattle.world_devices.specs.Brought.{IsSilent, sent_by};
 ghost use Rattle.world_devices.specs.Running.{DeviceRuns, HoldsAfterCrash, IsStill};
 ghost use Rattle.world_devices.specs.Doing.{DeviceAddsEntry, DeviceBeginsSession, BreaksOff, ComesOf, CrashesTo};
-ghost use Rattle.world_devices.specs.Doing.{IsAhead, IsNotFull, KeepsOwn, load_calls};
+ghost use Rattle.world_devices.specs.Doing.{IsAhead, KeepsOwn, load_calls};
 ghost use Rattle.world_devices.specs.Doing.{KeepsRest, DeviceRestarts};
 ghost use Rattle.world_devices.specs.Doing.{Settles, SettlesFrom, DeviceMakesTurn, clocked, stopped};
 ghost use Rattle.world_devices.specs.Doing.{with_plan, with_stop};
 ghost use Rattle.outside.specs.Script.{planned_of};
 
-use crate::starting::{StartFault, begin, cite_laws, dial_all, load};
+use crate::starting::{StartFault, begin, cite_laws, open_store};
 use crate::stop::{Ran, StepFault, Stop};
 use client_basic::Bundle;
-use entry_codec::laws::standing_is_legal;
 use outside::{Answer, LINKS, MemHost, Pick};
 use std::alloc::{AllocError, Global};
 use std::hash::RandomState;
@@ -95,9 +94,9 @@ impl Device {
             clock,
             stop: None,
         };
-        if device.start().is_err() {
+        let Ok(()) = device.start() else {
             return Err(StepFault::Memory);
-        }
+        };
         'contacts: for _added in 0..contacts {
             match device.add_contact()? {
                 Ran::Done => {}
@@ -105,18 +104,8 @@ impl Device {
                 Ran::Crashed => return Err(StepFault::Memory),
             }
         }
-        device.new_stands();
+        device.links_stand();
         Ok(device)
-    }
-
-    // What a device is that has so many contacts, no message and no links. It does nothing.
-    fn new_stands(&self)
-        ensures { (contacts : ℕ) → IsBareIn contacts self.now.node
-            → HoldsAfterCrash (new_journal contacts) self.now.host → IsUnlinked self.now
-            → IsAnew self.now.clock self.now.host → self.now.stop ≡ None
-            → IsNewDevice contacts self.now.clock self.now }
-    {
-        let _links = self.links;
     }
 
     /// Its store; `None` only after a call of it failed.
@@ -133,8 +122,8 @@ impl Device {
     pub fn files_stand(&self)
         ensures { StandsLegal (host_told self.now.host) }
     {
+        cite_laws();
         let _links = self.links;
-        standing_is_legal();
     }
 
     /// Where it runs: its store has the facts of the journal that its files hold; the session of
@@ -213,7 +202,7 @@ impl Device {
         self.node = None;
         self.host.restart()?;
         match self.start() {
-            Ok(()) => self.test_done(),
+            Ok(()) => self.finish(()),
             Err(StartFault::DiskFault) => self.break_off(),
             Err(StartFault::Memory) => Err(StepFault::Memory),
         }
@@ -226,10 +215,8 @@ impl Device {
         requires silent { IsSilent self.old.host }
         ensures starts { Settles load_calls self.old.host self.new.host }
         ensures still { is_some self.new.node ≡ true → IsStill self.new.host }
-        ensures running { OnOk result (is_some self.new.node ≡ true) }
         ensures links { OnOk result (IsUnlinked self.new) }
         ensures idle { OnErr result (self.new.node ≡ None) }
-        ensures bare { HoldsAfterCrash [] self.old.host → OnOk result (IsBareIn 0 self.new.node) }
         ensures clock { self.new.clock ≡ self.old.clock }
         ensures stop { self.new.stop ≡ self.old.stop }
         ensures loads { (j : Journal) → HoldsAfterCrash j self.old.host
@@ -238,9 +225,7 @@ impl Device {
     {
         self.node = None;
         self.links = 0;
-        dial_all(&mut self.host)?;
-        self.host.set_clock(self.clock)?;
-        let store = load(self.alloc, self.hasher, &mut self.host)?;
+        let store = open_store(self.alloc, self.hasher, &mut self.host, self.clock)?;
         self.node = Some(Node::new(self.alloc, store)?);
         Ok(())
     }
@@ -250,13 +235,10 @@ impl Device {
     fn break_off(&mut self) -> Result<(), StepFault>
         requires { self.old.node ≡ None }
         ensures still { is_some self.new.node ≡ true → IsStill self.new.host }
-        ensures running { OnOk result (is_some self.new.node ≡ true) }
-        ensures links { OnOk result (IsUnlinked self.new) }
-        ensures unrefused { IsNotRefused result }
         ensures clock { self.new.clock ≡ self.old.clock }
-        ensures to { OnOk result (BreaksOff self.old.stop self.old.host self.new) }
+        ensures to { MatchResult result (λ _. BreaksOff self.old.stop self.old.host self.new)
+            (λ e. e ≡ StepFault.Memory) }
         ensures left { ComesOf self.old.host self.new.host }
-        ensures unfilled { IsNotFull result }
     {
         let made = self.host.disk().calls();
         match self.stop {
@@ -268,13 +250,10 @@ impl Device {
     // It begins anew over this image of its files.
     fn crash(&mut self, pick: Pick) -> Result<(), StepFault>
         ensures still { is_some self.new.node ≡ true → IsStill self.new.host }
-        ensures running { OnOk result (is_some self.new.node ≡ true) }
-        ensures links { OnOk result (IsUnlinked self.new) }
-        ensures unrefused { IsNotRefused result }
         ensures clock { self.new.clock ≡ self.old.clock }
-        ensures to { OnOk result (CrashesTo pick self.old.host self.new) }
+        ensures to { MatchResult result (λ _. CrashesTo pick self.old.host self.new)
+            (λ e. e ≡ StepFault.Memory) }
         ensures left { ComesOf self.old.host self.new.host }
-        ensures unfilled { IsNotFull result }
     {
         self.node = None;
         self.stop = None;
@@ -285,37 +264,37 @@ impl Device {
         }
     }
 
-    // A call of its node failed: where its disk stopped it crashes.
-    fn fail(&mut self, fault: NodeFault) -> Result<(), StepFault>
+    // A call of its node failed: where its disk stopped it crashes, and answers this.
+    fn fail<T: Copy>(&mut self, fault: NodeFault, crashed: T) -> Result<T, StepFault>
         requires { self.old.node ≡ None }
         ensures still { is_some self.new.node ≡ true → IsStill self.new.host }
-        ensures running { OnOk result (is_some self.new.node ≡ true) }
-        ensures links { OnOk result (IsUnlinked self.new) }
-        ensures unrefused { IsNotRefused result }
         ensures clock { self.new.clock ≡ self.old.clock }
-        ensures to { OnOk result (BreaksOff self.old.stop self.old.host self.new) }
+        ensures to { MatchResult result
+            (λ a. (a ≡ crashed) × BreaksOff self.old.stop self.old.host self.new)
+            (λ e. (e ≡ StepFault.Memory) ⊎ ((e ≡ StepFault.Full)
+            × ((fault ≡ NodeFault.Full) × (self.new.host ≡ self.old.host)))) }
         ensures left { ComesOf self.old.host self.new.host }
-        ensures full { IsErrOf result StepFault.Full
-            → (fault ≡ NodeFault.Full) × (self.new.host ≡ self.old.host) }
     {
         match fault {
-            NodeFault::DiskFault => self.break_off(),
+            NodeFault::DiskFault => {
+                self.break_off()?;
+                Ok(crashed)
+            }
             NodeFault::Full => Err(StepFault::Full),
             NodeFault::Memory | NodeFault::Closed => Err(StepFault::Memory),
         }
     }
 
-    // Whether each call on its links and its clock found memory, and the call at which its disk is
-    // to stop was not made.
-    fn test_done(&self) -> Result<(), StepFault>
-        ensures ahead { OnOk result (IsAhead self.now.stop self.now.host) }
-        ensures unrefused { IsNotRefused result }
-        ensures unfilled { IsNotFull result }
+    // A call of its node was done: it answers this, where each call on its links and its clock
+    // found memory, and the call at which its disk is to stop was not made.
+    fn finish<T: Copy>(&self, done: T) -> Result<T, StepFault>
+        ensures { MatchResult result (λ a. (a ≡ done) × IsAhead self.now.stop self.now.host)
+            (λ e. e ≡ StepFault.Memory) }
     {
         if self.host.starved() > 0 || self.is_passed() {
             Err(StepFault::Memory)
         } else {
-            Ok(())
+            Ok(done)
         }
     }
 
@@ -334,19 +313,12 @@ impl Device {
 impl Device {
     // Adds the next contact.
     fn add_contact(&mut self) -> Result<Ran, StepFault>
-        ensures runs { DeviceRuns self.old self.new }
-        ensures running { OnOk result (is_some self.new.node ≡ true) }
         ensures links { LinksBy result self.old self.new }
-        ensures refused { RefusedBy (refuses_contact self.old.node) result }
-        ensures same { IsErrOf result StepFault.Refused → self.new ≡ self.old }
-        ensures bare { (contacts : ℕ) → IsBareIn contacts self.old.node
-            → WhenDone result (IsBareIn (contacts + 1) self.new.node) }
-        ensures journal { (contacts : ℕ) → IsBareIn contacts self.old.node
-            → HoldsAfterCrash (new_journal contacts) self.old.host
+        ensures journal { (contacts : ℕ) → HoldsAfterCrash (new_journal contacts) self.old.host
             → WhenDone result (HoldsAfterCrash (new_journal (contacts + 1)) self.new.host) }
-        ensures clock { self.new.clock ≡ self.old.clock }
         ensures rest { WhenDone result (KeepsOwn self.old self.new × KeepsRest self.old self.new) }
     {
+        self.links_stand();
         let Some(store) = self.ready() else {
             return Err(StepFault::Memory);
         };
@@ -424,10 +396,6 @@ impl Device {
         ensures links { LinksBy result self.old self.new }
         ensures unrefused { IsNotRefused result }
         ensures adds { DeviceAddsEntry entry result self.old self.new }
-        ensures bare { (contacts number : ℕ) → entry ≡ entry_kind.Contact number
-            → IsBareIn contacts self.old.node
-            → WhenDone result (IsBareIn (contacts + 1) self.new.node) }
-        ensures clock { self.new.clock ≡ self.old.clock }
     {
         cite_laws();
         let batch = Batch::single(self.alloc, entry)?;
@@ -435,14 +403,10 @@ impl Device {
             return Err(StepFault::Memory);
         };
         match node.add(&mut self.host, &Bundle::new(), batch) {
-            Ok(()) => {
-                self.test_done()?;
-                Ok(Ran::Done)
-            }
+            Ok(()) => self.finish(Ran::Done),
             Err(fault) => {
                 self.node = None;
-                self.fail(fault)?;
-                Ok(Ran::Crashed)
+                self.fail(fault, Ran::Crashed)
             }
         }
     }
@@ -479,13 +443,11 @@ impl Device {
         match node.attach(&mut self.host, &Bundle::new(), self.links, plan, nonce) {
             Ok(()) => {
                 self.links += 1;
-                self.test_done()?;
-                Ok(Some(session))
+                self.finish(Some(session))
             }
             Err(fault) => {
                 self.node = None;
-                self.fail(fault)?;
-                Ok(None)
+                self.fail(fault, None)
             }
         }
     }
@@ -546,14 +508,10 @@ impl Device {
             return Err(StepFault::Memory);
         };
         match node.turn(&mut self.host, &Bundle::new()) {
-            Ok(turned) => {
-                self.test_done()?;
-                Ok(Some(turned == Turned::Still))
-            }
+            Ok(turned) => self.finish(Some(turned == Turned::Still)),
             Err(fault) => {
                 self.node = None;
-                self.fail(fault)?;
-                Ok(None)
+                self.fail(fault, None)
             }
         }
     }

@@ -4,23 +4,20 @@ ghost use Rattle.client_basic.specs.Bodies.{bundle_meaning};
 ghost use Rattle.outside.specs.HostTold.{host_told};
 ghost use Rattle.outside.specs.declared.limits.TheConstants.{MAX_JOURNAL};
 ghost use Rattle.sync_store.specs.Ready.{IsReady};
-ghost use Rattle.world_devices.specs.Devices.{IsStarted, LeavesDisk, links_made};
+ghost use Rattle.world_devices.specs.Devices.{IsAnew, IsStarted, LeavesDisk, links_made};
 ghost use Rattle.world_devices.specs.Brought.{IsSilent};
 ghost use Rattle.world_devices.specs.Cited.{DeviceLaws};
 ghost use Rattle.world_devices.specs.Doing.{Settles, SettlesFrom, load_calls};
 ghost use Rattle.world_devices.specs.Keeping.{AreLinksQuiet, Journal};
-ghost use Rattle.world_devices.specs.Linking.{IsBare};
 ghost use Rattle.world_devices.specs.Running.{HoldsAfterCrash};
 ghost use Rattle.world_devices.specs.declared.starting.StartFault.TheVariants as start_fault;
 
 use client_basic::Bundle;
 use entry_codec::laws::standing_is_legal;
 use outside::{Host, LINKS, MAX_JOURNAL, MemDisk, MemHost};
-use record_grammar::fronts_have_fronts;
+use record_grammar::{fronts_have_fronts, records_join, streams_go_on};
 use std::alloc::{AllocError, Global};
 use std::hash::RandomState;
-use sync_course::laws::{all_is_sent, moments_stand};
-use sync_rules::growth::settling_leaves;
 use sync_store::{LoadFault, Store, StoreFault};
 
 /// Why no node was started.
@@ -58,8 +55,27 @@ pub(crate) fn begin(alloc: Global) -> Result<MemHost, StartFault>
     }
 }
 
-/// Dials all links of a host that has none: sessions take them in order.
-pub(crate) fn dial_all(host: &mut MemHost) -> Result<(), StartFault>
+/// Dials all links of a host that has none, sets its clock, and loads its store.
+pub(crate) fn open_store(
+    alloc: Global,
+    hasher: RandomState,
+    host: &mut MemHost,
+    clock: u64,
+) -> Result<Store, StartFault>
+    requires links { links_made host.old ≡ 0 }
+    requires silent { IsSilent host.old }
+    ensures started { IfOk result (λ store. IsStarted store host.new) }
+    ensures anew { OnOk result (IsAnew clock host.new) }
+    ensures settling { Settles load_calls host.old host.new }
+    ensures loads { (j : Journal) → HoldsAfterCrash j host.old → OnOk result (SettlesFrom j host.new) }
+{
+    dial_all(host)?;
+    host.set_clock(clock)?;
+    load(alloc, hasher, host)
+}
+
+// Dials all links of a host that has none: sessions take them in order.
+fn dial_all(host: &mut MemHost) -> Result<(), StartFault>
     requires { links_made host.old ≡ 0 }
     ensures dialled { OnOk result (links_made host.new ≡ LINKS) }
     ensures quiet { OnOk result (AreLinksQuiet (host_told host.new)) }
@@ -75,16 +91,11 @@ pub(crate) fn dial_all(host: &mut MemHost) -> Result<(), StartFault>
     Ok(())
 }
 
-/// Loads the store of a host and settles it.
-pub(crate) fn load(
-    alloc: Global,
-    hasher: RandomState,
-    host: &mut MemHost,
-) -> Result<Store, StartFault>
+// Loads the store of a host and settles it.
+fn load(alloc: Global, hasher: RandomState, host: &mut MemHost) -> Result<Store, StartFault>
     ensures started { IfOk result (λ store. IsStarted store host.new) }
     ensures links { (host_told host.new).links ≡ (host_told host.old).links }
     ensures settling { Settles load_calls host.old host.new }
-    ensures bare { HoldsAfterCrash [] host.old → IfOk result (IsBare 0) }
     ensures loads { (j : Journal) → HoldsAfterCrash j host.old → OnOk result (SettlesFrom j host.new) }
 {
     match Store::load(alloc, hasher, host, &Bundle::new(), MAX_JOURNAL) {
@@ -101,10 +112,8 @@ fn settle(store: Store, host: &mut MemHost) -> Result<Store, StartFault>
     ensures started { IfOk result (λ store. IsStarted store host.new) }
     ensures links { (host_told host.new).links ≡ (host_told host.old).links }
     ensures settling { Settles (λ j. 0) host.old host.new }
-    ensures bare { (contacts : ℕ) → IsBare contacts store → IfOk result (IsBare contacts) }
     ensures settles { (j : Journal) → HoldsAfterCrash j host.old → OnOk result (SettlesFrom j host.new) }
 {
-    cite_laws();
     let mut store = store;
     match store.settle(host, &Bundle::new()) {
         Ok(()) => Ok(store),
@@ -119,7 +128,6 @@ pub(crate) fn cite_laws()
 {
     standing_is_legal();
     fronts_have_fronts();
-    settling_leaves();
-    moments_stand();
-    all_is_sent();
+    streams_go_on();
+    records_join();
 }

@@ -1,6 +1,3 @@
-use Rattle.std.proofs.Common.{refl}
-use Rattle.outside.specs.MemDisk.{disk_files, files_of}
-use Rattle.world_devices.proofs.NewLaws.{bare_loaded}
 use Rattle.world_devices.proofs.StartLaws.{load_holds, load_settles, load_then}
 use Rattle.world_devices.proofs.starting.load.Goals as goal
 
@@ -18,12 +15,6 @@ pub returns-in-Err-clause-settling : goal.returns-in-Err-clause-settling
 returns-in-Err-clause-settling c =
     load_settles c.load.result c.args.host.now c.load.new.disk c.load.ensures.run.calls
     c.load.ensures.any_moment c.load.ensures.calls
-
-pub returns-in-Ok-clause-bare : goal.returns-in-Ok-clause-bare
-returns-in-Ok-clause-bare c = λ holds.
-    c.settle.ensures.bare 0
-    (bare_loaded c.args.host.now c.in-Ok.store holds
-    (c.in-Ok.ensures.answer (files_of (disk_files c.args.host.now.disk)) refl))
 
 pub returns-in-Ok-clause-loads : goal.returns-in-Ok-clause-loads
 returns-in-Ok-clause-loads c = λ j holds.

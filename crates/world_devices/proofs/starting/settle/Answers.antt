@@ -1,5 +1,4 @@
 use Rattle.std.proofs.Common.{◌∙◌}
-use Rattle.world_devices.proofs.NewLaws.{bare_settled}
 use Rattle.world_devices.proofs.StartLaws.{settle_settles, settles_from}
 use Rattle.world_devices.proofs.starting.settle.Goals as goal
 
@@ -20,11 +19,6 @@ returns-clause-settling c =
     settle_settles c.args.store c.settle.new.self c.settle.result c.args.host.now c.settle.new.disk
     c.requires.ready (c.settle.ensures.settled c.requires.ready.still_open)
     c.settle.ensures.run.calls
-
-pub returns-in-Ok-clause-bare : goal.returns-in-Ok-clause-bare
-returns-in-Ok-clause-bare c = λ contacts bare.
-    let settled = c.settle.ensures.settled c.requires.ready.still_open in
-    bare_settled c.cite_laws.ensures.settling contacts c.args.store c.settle.new.self settled.more settled.comes.settling settled.comes.facts bare
 
 pub returns-in-Ok-clause-settles : goal.returns-in-Ok-clause-settles
 returns-in-Ok-clause-settles c = λ j holds.

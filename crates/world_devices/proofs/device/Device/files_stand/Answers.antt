@@ -13,6 +13,6 @@ returns c =
     (crash_so (StandsForSome (WentOn [])) (StandsForSome (Legal bundle_meaning))
     (host_told c.self.inside.host) (λ left stood. record {
       whole = stood.whole;
-      has = c.standing_is_legal.ensures bundle_meaning left stood.whole stood.stands_for;
+      has = c.cite_laws.ensures.legal bundle_meaning left stood.whole stood.stands_for;
       stands_for = stood.stands_for;
     }) c.self.invariant.1)

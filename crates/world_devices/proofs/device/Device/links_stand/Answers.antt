@@ -1,5 +1,4 @@
 use Rattle.std.proofs.Common.{subst}
-use Rattle.world_devices.specs.Devices.{DeviceValue}
 use Rattle.world_devices.specs.Linking.{DeviceLinksStand}
 use Rattle.world_devices.proofs.CallLaws.{held_of, links_stand}
 use Rattle.world_devices.proofs.RunningLaws.{running_of}
@@ -7,5 +6,7 @@ use Rattle.world_devices.proofs.device.Device.links_stand.Goals as goal
 
 pub returns : goal.returns
 returns c =
-    subst (λ (d : DeviceValue). DeviceLinksStand d) c.self.view_is
-    (record { holds = λ n is. held_of n _ (running_of c.self.inside.node n c.self.inside.host c.self.inside.links is c.self.invariant.0); each = λ n is j holds. links_stand c.cite_laws.ensures n _ j (running_of c.self.inside.node n c.self.inside.host c.self.inside.links is c.self.invariant.0) holds })
+    subst DeviceLinksStand c.self.view_is (record {
+      holds = λ n is. held_of n _ (running_of _ n _ _ is c.self.invariant.0);
+      each = λ n is j. links_stand c.cite_laws.ensures n _ j (running_of _ n _ _ is c.self.invariant.0);
+    })

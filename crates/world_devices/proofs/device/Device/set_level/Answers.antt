@@ -1,9 +1,14 @@
+use Rattle.std.proofs.Common.{sym}
+use Rattle.client_basic.specs.Bodies.{bundle_meaning}
+use Rattle.world_devices.proofs.AllowedLaws.{level_allowed}
 use Rattle.world_devices.proofs.CallLaws.{runs_none}
-use Rattle.world_devices.proofs.RunningLaws.{may_set_level}
+use Rattle.world_devices.proofs.RunningLaws.{may_add}
 use Rattle.world_devices.proofs.device.Device.set_level.Goals as goal
 
 pub add-requires : goal.add-requires
-add-requires c = may_set_level c.args.self.now.node c.in-Some.store.now c.args.contact c.args.group.now _ c.in-Ok.field-0 c.in-Some.ensures c.in-Ok.ensures
+add-requires c =
+    may_add c.args.self.now.node c.in-Some.store.now _ c.in-Some.ensures tt
+    (λ settled. level_allowed bundle_meaning c.in-Some.store.now.state.facts c.args.contact c.args.group.now c.args.level c.in-Ok.field-0 settled (sym c.in-Ok.ensures))
 
 pub returns-in_default-clause-runs : goal.returns-in_default-clause-runs
 returns-in_default-clause-runs c = runs_none c.args.self.now
