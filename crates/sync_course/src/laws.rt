@@ -1,5 +1,5 @@
 //! The laws of paths and courses. Each is the contract of a function that does nothing, over every
-//! meaning of the clients. The lemmas of `specs/` that prove them may be cited as well.
+//! meaning of the clients. The lemmas of `proofs/` that prove them may be cited as well.
 ghost use Rattle.std.specs.Prelude.{◌≡◌, ◌≢◌, ℕ, suc, ◌+◌, ◌<◌, ◌≤◌, cond, false, true, List, [], ◌∷◌};
 ghost use Rattle.std.specs.Prelude.{◌++◌, length, slice_get, slice_set, Some};
 ghost use Rattle.record_grammar.specs.Stream.{items};
