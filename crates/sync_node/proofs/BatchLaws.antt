@@ -17,7 +17,7 @@ use Rattle.sync_store.specs.Settling.{HasSettled}
 use Rattle.sync_store.specs.Store.{StoreValue}
 use Rattle.sync_store.specs.declared.fault.StoreFault.{StoreFault}
 use Rattle.sync_course.specs.Acts.{commit_acts}
-use Rattle.sync_node.specs.Batches.{Added, AddingBreaks, AddingFull, CommitsAndSettles, Breaks, Committed, HasNoRoom, Settled, SettlesBy, SettlingBreaks, NodeStaysIdle}
+use Rattle.sync_node.specs.Batches.{Added, AddingBreaks, AddingFull, CommitsAndSettles, Breaks, Committed, Settled, SettlesBy, SettlingBreaks, NodeStaysIdle}
 use Rattle.sync_node.specs.Did.{Did}
 use Rattle.sync_node.proofs.CourseLaws.{at_most_between, told_as}
 use Rattle.sync_node.proofs.PrimLaws.{did_batches, did_breaks, did_unasked}
@@ -89,12 +89,6 @@ commit_idle tells clients s s' batch e host host' ready run stays ready' same ad
           (two'.0, two'.1, subst (λ (whole : Journal). FitsFiles clients s' whole two'.0) end.1 end.2));
       ready = ready' still;
     }
-
-pub commit_full : (clients : Meaning) (batch : List Entry) (s s' : StoreValue) (o o' : Outside)
-    → NodeStaysIdle clients s s' o o' → s.limit < needed s batch → s'.limit < needed s' batch
-    → HasNoRoom clients batch s s' o o'
-commit_full clients batch s s' o o' idle before over =
-    record { idle = idle; before = before; over = over }
 
 -- ---- settling
 

@@ -22,7 +22,7 @@ use Rattle.sync_node.specs.Faults.{answer_of, has_failed}
 use Rattle.sync_node.specs.Keeps.{HasOrStops, IsReadyOrRose, LinkKeeps, LinksKeep, LinksWork, OfLinks, StayAttached, stop_of}
 use Rattle.sync_node.specs.Node.{AnswersAndCloses, AreAttached, IsNode, KeepsSessions, MayGoOn, MayRun, NodeValue}
 use Rattle.sync_node.specs.OnRuns.{ByFault}
-use Rattle.sync_node.specs.Redundant.{ClosesSome}
+use Rattle.sync_node.specs.Sending.{ClosesSome}
 use Rattle.sync_node.specs.Working.{HasGivenItems, MayWork}
 use Rattle.sync_node.proofs.BatchLaws.{add_attached, add_may}
 use Rattle.sync_node.proofs.CauseLaws.{all_attached, closed_attached, link_able, links_go_closed}

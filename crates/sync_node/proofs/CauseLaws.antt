@@ -15,7 +15,6 @@ use Rattle.sync_node.specs.declared.link.Link.{Link}
 use Rattle.sync_course.proofs.LiftLaws.{get_other}
 use Rattle.sync_node.specs.Keeps.{LinkKeeps}
 use Rattle.sync_node.specs.Node.{AreAttached, IsAttached, MayGoOn}
-use Rattle.sync_node.specs.Redundant.{ClosesSome, StaysOrCloses}
 use Rattle.sync_node.specs.Working.{HasGivenItems, MayWork}
 use Rattle.outside.specs.declared.failed.Failed.{Failed}
 use Rattle.outside.specs.Faults.{CountRose, one_more}
@@ -25,7 +24,7 @@ use Rattle.sync_ids.specs.declared.records.Record.{Record}
 use Rattle.sync_node.specs.Causes.{LinkGoes, LinksGo, StandsFailed, sessions_of}
 use Rattle.sync_course.specs.Links.{closes, stands_ended}
 use Rattle.sync_node.specs.Going.{LetsNothingFall}
-use Rattle.sync_node.specs.Sending.{EndsBy, LearnsNonce, SendsOn}
+use Rattle.sync_node.specs.Sending.{EndsBy, LearnsNonce, SendsOn, ClosesSome, StaysOrCloses}
 use Rattle.sync_course.proofs.RunLaws.{get_push_cases}
 use Rattle.sync_node.proofs.TakeLaws.{end_same}
 use Rattle.sync_node.proofs.SafeLaws.{goes_none}

@@ -6,7 +6,7 @@ use Rattle.std.proofs.lemmas.Bool.{cases_eq, ne_eqb}
 use Rattle.sync_course.proofs.LiftLaws.{get_other, get_set, get_within, set_same}
 use Rattle.sync_node.specs.declared.link.Link.{Link}
 use Rattle.sync_node.specs.Courses.{AllRead, IsLinkRead, link_at, links_from, outdoes_of}
-use Rattle.sync_node.specs.Redundant.{ClosesSome}
+use Rattle.sync_node.specs.Sending.{ClosesSome}
 use Rattle.std.specs.Cmp.Lexicographic.{slice_cmp}
 use Rattle.std.specs.Ordering.{nat_cmp}
 use Rattle.std.specs.declared.cmp.Ordering.{Ordering}

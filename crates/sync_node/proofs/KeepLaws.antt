@@ -1,7 +1,6 @@
 -- What work leaves, whatever was heard: one piece of it after another.
 use Rattle.std.proofs.Common.{◌≡◌, refl, sym, subst, Result, Ok, Err, ℕ, ◌≤◌, List, [], ◌∷◌, ap, ◌∙◌, arith, inl, inr, Option, None, Some}
 use Rattle.std.specs.Prelude.{IsErrAnd, IfErr, OnOk}
-use Rattle.sync_store.specs.Commits.{KeepsStore}
 use Rattle.sync_store.specs.Store.{StoreValue}
 use Rattle.outside.specs.Outside.{Outside}
 use Rattle.sync_rules.specs.declared.entries.Entry.{Entry}
@@ -27,29 +26,17 @@ use Rattle.sync_node.specs.Did.{Did}
 use Rattle.sync_node.specs.Going.{LetsNothingFall}
 use Rattle.sync_node.specs.Output.{Journal}
 use Rattle.sync_node.specs.Keeps.{HasOrStops, IsReadyOrRose, LinkKeeps, LinkWorks, OfLink, StaysSettled, StoreKeeps, stop_of}
-use Rattle.sync_node.specs.Working.{HasGivenItems, IsAble, MayWork}
+use Rattle.sync_node.specs.Working.{IsAble}
 use Rattle.sync_node.specs.OnRuns.{GreetsBy}
 use Rattle.sync_node.specs.Sending.{SendsOn}
 use Rattle.sync_node.specs.Starting.{HasBegun, StartStops}
 use Rattle.sync_course.specs.LinkTurns.{next_take, out_batch}
 use Rattle.sync_node.proofs.CauseLaws.{link_kept, link_sent, link_then, rose_before}
-use Rattle.sync_node.proofs.StartLaws.{session_batch}
 use Rattle.sync_node.proofs.OutLaws.{still_so}
 use Rattle.sync_node.proofs.TakeLaws.{IsNextTake}
 use Rattle.sync_course.specs.declared.ends.LinkEnd.TheVariants as link_end
 use Rattle.sync_node.specs.declared.fault.Fault.TheVariants as fault
-
-pub stays_none : (s : StoreValue) → KeepsStore s s
-stays_none s = record {
-  facts = refl;
-  answers = refl;
-  file = refl;
-  format = refl;
-  generation = refl;
-  end = refl;
-  limit = refl;
-  closed = refl;
-}
+use Rattle.sync_rules.specs.declared.entries.Entry.TheVariants as entry
 
 -- what is said of a call that handed an error on
 pub was : {T E : Type 0} (r : Result T E) (e : E) (P : Result T E → Type 0)
@@ -262,11 +249,6 @@ able_kept {l = l} {s' = s'} able keeps = record {
   dialled = omega (arith, able.dialled, keeps.link.goes.links.dialled);
 }
 
-pub may_kept : {clients : Meaning} {n : ℕ} {l l' : Link} {s s' : StoreValue} {o o' : Outside}
-    → MayWork clients n l s o → LinkKeeps clients n l l' s s' o o' None → HasGivenItems l'
-    → MayWork clients n l' s' o'
-may_kept may keeps waits = record { able = able_kept may.able keeps; waits = waits }
-
 -- ---- an output
 
 pub put_broke : (clients : Meaning) (n : ℕ) (l : Link) (s s' : StoreValue) (o o' : Outside)
@@ -335,6 +317,10 @@ take_keeps {clients = clients} {session = session} {r = r} {s = s} {mid = mid} {
     }
 
 -- ---- a session that begins
+
+-- the batch of a session
+abbrev pub session_batch : Session → List Entry
+session_batch x = entry.Session x ∷ []
 
 pub has_begun : (clients : Meaning) (n : ℕ) (x begun : Session) (first second : List ℕ)
     (l0 l : Link) (s s1 : StoreValue) (o o1 o2 : Outside) (batch : List Entry)

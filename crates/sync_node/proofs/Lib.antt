@@ -2,7 +2,6 @@ pub mod SafeLaws
 pub mod WorkLaws
 mod OutLaws
 mod TakeLaws
-mod StartLaws
 mod CauseLaws
 mod KeepLaws
 mod CallLaws
@@ -14,7 +13,6 @@ pub mod WentLaws
 pub mod PrimLaws
 mod BatchLaws
 mod LinkActs
-mod HearActs
 mod SendActs
 mod RunActLaws
 mod StartActs

@@ -22,9 +22,6 @@ use Rattle.sync_rules.specs.declared.entries.Entry.TheVariants as entry
 
 -- ---- hearing
 
-pub going_end : (e : LinkEnd) → e ≡ link_end.Going → is_going e ≡ true
-going_end e going = ap (λ x. is_going x) going
-
 pub not_going_end : (e : LinkEnd) → (e ≡ link_end.Going → ⊥) → is_going e ≡ false
 not_going_end link_end.Going closed = absurd (closed refl)
 not_going_end _ closed = refl

@@ -24,7 +24,7 @@ use Rattle.sync_node.specs.declared.link.Link.{Link}
 use Rattle.sync_node.specs.Courses.{IsLinkRead, IsReadyToSend, link_at, links_from, place_at, place_with, spot_at}
 use Rattle.sync_node.specs.OnLinks.{DueStopped, DueWent, HearingStopped, HearingWent, LinkActs, LinkMakes, LinkStopped, LinkWent, TurnWent}
 use Rattle.sync_node.specs.OnRuns.{AskingStopped, AskingWent, LinksStopped, LinksWent, OutsSent, OutsStopped, RoundStopped, RoundWent, RunActs, RunMakes, RunStopped, RunWent}
-use Rattle.sync_node.specs.Redundant.{ClosesSome}
+use Rattle.sync_node.specs.Sending.{ClosesSome}
 use Rattle.sync_node.specs.Went.{HasSoon, Went}
 use Rattle.sync_node.proofs.CourseRuns.{all_read, and_cond, closed_read, get_at, heard_with, length_from, same_cond, same_heard, set_at}
 use Rattle.sync_node.proofs.OutLaws.{still_so}

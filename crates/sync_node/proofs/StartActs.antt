@@ -1,21 +1,28 @@
 -- A session that begins on the next link, as acts of a run.
-use Rattle.std.proofs.Common.{◌≡◌, ◌≢◌, ◌⊎◌, ℕ, ◌+◌, ◌<◌, ◌≤◌, Bool, cond, nat_eq, eq-eqb, List, [], ◌∷◌, ◌++◌, append-nil, length, refl, sym, ◌∙◌, ap, subst, inl, inr, arith, Some, Result, Ok, Err, false, true}
-use Rattle.std.specs.Prelude.{IfErr, IfSome, IsErrAnd, OnErr, slice_get, OnOk}
+use Rattle.std.proofs.Common.{◌≡◌, ◌≢◌, ℕ, suc, ◌+◌, ◌<◌, Bool, false, true, nat_eq, cond, List, [], ◌∷◌, ◌++◌, length, refl, sym, ap, ◌∙◌, subst, arith, Some, None, eq-eqb, Option, ◌⊎◌, ◌≤◌, append-nil, inl, inr, Result, Ok, Err}
+use Rattle.std.specs.List.{AllByRecursion}
 use Rattle.std.proofs.lemmas.Bool.{ne_eqb}
+use Rattle.record_grammar.specs.Spelling.{spelled, spelling}
+use Rattle.record_stream.specs.Reading.{ReaderState, AwaitsBytes, fresh}
+use Rattle.sync_rules.specs.declared.entries.Entry.{Entry}
+use Rattle.sync_rules.specs.declared.entries.Session.{Session}
+use Rattle.sync_rules.specs.Clients.{Meaning}
+use Rattle.sync_rules.specs.Facts.{Facts, after_all, facts, session_at}
+use Rattle.sync_rules.specs.Legal.{Allowed, Legal, suits_nonce}
+use Rattle.sync_rules.specs.Output.{first_records, nonce_record}
+use Rattle.sync_rules.proofs.SessionLaws.{legal_sessions}
+use Rattle.sync_course.specs.Links.{link_of}
+use Rattle.sync_course.specs.declared.ends.LinkEnd.{LinkEnd}
+use Rattle.sync_node.specs.declared.link.Link.{Link}
+use Rattle.sync_node.specs.Courses.{link_at, links_from, IsLinkRead, place_at, place_with}
+use Rattle.journal_state.specs.Whole.{StateValue}
+use Rattle.std.specs.Prelude.{IfErr, IfSome, IsErrAnd, OnErr, slice_get, OnOk}
 use Rattle.entry_codec.specs.Standing.{room_of}
 use Rattle.outside.specs.declared.failed.Failed.{Failed}
 use Rattle.outside.specs.declared.limits.TheConstants.{MAX_JOURNAL, LINKS}
 use Rattle.outside.specs.Host.{SendsOnLink}
 use Rattle.outside.specs.Outside.{Outside}
 use Rattle.outside.proofs.RunLaws.{front_same}
-use Rattle.record_grammar.specs.Spelling.{spelled}
-use Rattle.record_stream.specs.Reading.{AwaitsBytes, ReaderState, fresh}
-use Rattle.sync_rules.specs.declared.entries.Entry.{Entry}
-use Rattle.sync_rules.specs.declared.entries.Session.{Session}
-use Rattle.sync_rules.specs.Clients.{Meaning}
-use Rattle.sync_rules.specs.Facts.{Facts, after_all, session_at}
-use Rattle.sync_rules.specs.Legal.{Allowed, suits_nonce}
-use Rattle.sync_rules.specs.Output.{first_records}
 use Rattle.sync_store.specs.Fitting.{ImagesStand}
 use Rattle.sync_store.specs.Ready.{IsReady}
 use Rattle.sync_store.specs.Store.{StoreValue, written_in}
@@ -25,14 +32,10 @@ use Rattle.sync_course.specs.Owing.{Owing, adds_to, paid}
 use Rattle.sync_course.specs.Paths.{Path}
 use Rattle.sync_course.specs.Reading.{HasRead}
 use Rattle.sync_course.specs.Turns.{Attaches, Greets, Place, Terms, attached, unattached}
-use Rattle.sync_course.specs.Links.{link_of}
-use Rattle.sync_course.specs.declared.ends.LinkEnd.{LinkEnd}
 use Rattle.sync_course.proofs.ReadingLaws.{fresh_has_read}
 use Rattle.sync_course.proofs.RunLaws.{get_push_cases}
 use Rattle.sync_node.specs.declared.fault.Fault.{Fault}
-use Rattle.sync_node.specs.declared.link.Link.{Link}
 use Rattle.sync_node.specs.Batches.{CommitStops, Committed, IsUndoneBy}
-use Rattle.sync_node.specs.Courses.{IsLinkRead, link_at, links_from, place_at, place_with}
 use Rattle.sync_node.specs.Did.{Did}
 use Rattle.sync_node.specs.OnRuns.{BeginStopped, BeginWent, GreetsBy, IsGreeting, RunActs, RunStopped, RunWent, StartStopped, StartWent, StartWentLast, StartWorks}
 use Rattle.sync_node.specs.Keeps.{stop_of}
@@ -40,11 +43,10 @@ use Rattle.sync_node.specs.Sending.{EndsBy, SendsOn}
 use Rattle.sync_node.specs.Starting.{HasBegun}
 use Rattle.sync_node.proofs.CourseRuns.{length_from}
 use Rattle.sync_node.proofs.DidLaws.{did_then}
-use Rattle.sync_node.proofs.KeepLaws.{commit_left, start_stops as leaves_by, stays_none, was}
+use Rattle.sync_node.proofs.KeepLaws.{commit_left, start_stops as leaves_by, was, session_batch}
 use Rattle.sync_node.proofs.OutLaws.{all_paid, still_so}
 use Rattle.sync_node.proofs.PrimLaws.{did_fail, did_send, off_link, on_link}
 use Rattle.sync_node.proofs.SafeLaws.{goes_none}
-use Rattle.sync_node.proofs.StartLaws.{begins_as, begun_is, is_free, push_from, session_batch}
 use Rattle.sync_node.proofs.WentLaws.{commit_stopped, no_memory}
 use Rattle.std.proofs.lemmas.List.{length-append}
 use Rattle.sync_rules.proofs.Continuing.{continues_all}
@@ -56,10 +58,106 @@ use Rattle.sync_node.specs.Faults.{answer_of, has_failed}
 use Rattle.sync_node.specs.Node.{AreAttached, IsAttached, IsNode, MayGoOn, NodeValue}
 use Rattle.sync_node.proofs.CallLaws.{never}
 use Rattle.sync_node.proofs.CauseLaws.{links_go_push, links_go_same}
+use Rattle.sync_node.specs.declared.fault.NodeFault.{NodeFault}
+use Rattle.sync_ids.specs.declared.records.Record.TheVariants as record_kind
 use Rattle.sync_course.specs.Links as course_links
 use Rattle.sync_course.specs.declared.ends.LinkEnd.TheVariants as link_end
-use Rattle.sync_node.specs.declared.fault.NodeFault.{NodeFault}
 use Rattle.sync_node.specs.declared.fault.Fault.TheVariants as fault
+
+-- a list whose length is 0
+pub none_long : (xs : List ℕ) → length xs ≡ 0 → xs ≡ []
+none_long [] long = refl
+none_long (x ∷ xs) long = absurd (omega arith)
+
+-- no session of a list has a number that all are below
+pub none_below : (n : ℕ) (ss : List Session) → AllByRecursion (λ (s : Session). s.number < n) ss
+    → session_at ss n ≡ None
+none_below n [] below = refl
+none_below n (s ∷ ss) below =
+    let first : s.number < n = below.0 in
+    let apart : s.number ≢ n = λ same. absurd (omega arith) in
+    ap (λ b. cond b (Some s) (session_at ss n)) (ne_eqb s.number n apart) ∙ none_below n ss below.1
+
+-- a session that was committed is there
+session_there : (ss : List Session) (x : Session) → session_at (ss ++ x ∷ []) x.number ≡ None → ⊥
+session_there [] x none =
+    let found : session_at ([] ++ x ∷ []) x.number ≡ Some x = ap (λ b. cond b (Some x) None) (eq-eqb x.number x.number refl) in
+    let e : Some x ≡ None = sym found ∙ none in
+    cc
+session_there (y ∷ ss) x none =
+    elim (nat_eq y.number x.number) as (λ b. cond b (Some y) (session_at (ss ++ x ∷ []) x.number) ≡ None → ⊥) [
+      | true ↦ λ is. cc
+      | false ↦ λ is. session_there ss x is
+    ] none
+
+pub session_found : (x : Session) (batch : List Entry) (f f1 : Facts) → batch ≡ session_batch x
+    → f1 ≡ after_all f batch → None ≡ session_at f1.sessions x.number → ⊥
+session_found x batch f f1 is facts none =
+    let begun : f1 ≡ after_all f (session_batch x) =
+    facts ∙ ap (λ (b : List Entry). after_all f b) is in
+    session_there f.sessions x
+    (sym (none ∙ ap (λ (g : Facts). session_at g.sessions x.number) begun))
+
+-- what is spelled is what the session begins with
+pub first_bytes : (x : Session) (versions priority : List ℕ)
+    → versions ≡ spelling (record_kind.Versions (0 ∷ []))
+    → priority ≡ spelled (nonce_record x.nonce)
+    → versions ++ priority ≡ spelled (first_records x)
+first_bytes x versions priority is also =
+    ap (λ (v : List ℕ). v ++ priority) is ∙ ap (λ (p : List ℕ). spelling (record_kind.Versions (0 ∷ [])) ++ p) also
+
+-- ---- the session that was committed
+
+session_last : (ss : List Session) (x : Session) → session_at ss x.number ≡ None
+    → session_at (ss ++ x ∷ []) x.number ≡ Some x
+session_last [] x none = ap (λ (b : Bool). cond b (Some x) None) (eq-eqb x.number x.number refl)
+session_last (y ∷ ss) x none =
+    elim (nat_eq y.number x.number) as (λ b. cond b (Some y) (session_at ss x.number) ≡ None → cond b (Some y) (session_at (ss ++ x ∷ []) x.number) ≡ Some x) [
+      | true ↦ λ is. cc
+      | false ↦ λ is. session_last ss x is
+    ] none
+
+-- the next number is free
+pub is_free : (clients : Meaning) (f : Facts) (x : Session) (j : List (List Entry)) → Legal clients j
+    → facts j ≡ f → Allowed clients f (session_batch x)
+    → session_at f.sessions x.number ≡ None
+is_free clients f x j legal is allowed =
+    let has = legal_sessions clients j legal in
+    let may : Allowed clients (facts j) (session_batch x) = subst (λ (g : Facts). Allowed clients g (session_batch x)) (sym is) allowed in
+    let none : session_at (facts j).sessions x.number ≡ None =
+    ap (λ (n : ℕ). session_at (facts j).sessions n) may.2.numbered ∙ none_below (facts j).begun (facts j).sessions has.below in
+    subst (λ (g : Facts). session_at g.sessions x.number ≡ None) is none
+
+pub begun_is : (f f' : Facts) (x begun : Session) → session_at f.sessions x.number ≡ None
+    → f' ≡ after_all f (session_batch x)
+    → Some begun ≡ session_at f'.sessions x.number → begun ≡ x
+begun_is f f' x begun free facts_are found =
+    let there : Some begun ≡ Some x =
+    found ∙ ap (λ (g : Facts). session_at g.sessions x.number) facts_are ∙ session_last f.sessions x free in
+    cc
+
+-- ---- the link of a session that begins
+
+pub begins_as : {x begun : Session} {reader : ReaderState} {l : Link} {e : LinkEnd} → begun ≡ x
+    → l ≡ record { session = begun; reader = reader; nonce = begun.nonce; end = e }
+    → link_of x e ≡ link_at l []
+begins_as {e = e} same is_l =
+    ap (λ (y : Session). link_of y e) (sym same) ∙ ap (λ (y : Link). link_at y []) (sym is_l)
+
+-- behind the links of a node
+pub push_from : (k : ℕ) (links : List Link) (l : Link) (heard : ℕ → List ℕ)
+    → links_from k (links ++ l ∷ []) heard ≡ links_from k links heard ++ link_at l (heard (k + length links)) ∷ []
+push_from k [] l heard =
+    let here : k ≡ k + 0 = omega arith in
+    ap (λ (j : ℕ). link_at l (heard j) ∷ []) here
+push_from k (y ∷ links) l heard =
+    let later : suc k + length links ≡ k + suc (length links) = omega arith in
+    ap (λ (ls : List course_links.Link). link_at y (heard k) ∷ ls)
+    (push_from (suc k) links l heard ∙ ap (λ (j : ℕ). links_from (suc k) links heard ++ link_at l (heard j) ∷ []) later)
+
+-- what the state that a store lends tells is so of the store
+pub session_told : (s t : StateValue) (number : ℕ) (found : Option Session) → t ≡ s → found ≡ session_at t.facts.sessions number → found ≡ session_at s.facts.sessions number
+session_told s t number found same is = is ∙ ap (λ (v : StateValue). session_at v.facts.sessions number) same
 
 -- ---- a greeting
 
@@ -337,8 +435,13 @@ starts_memory {clients = clients} {x = x} {s = s} {o = o} r is ready =
             (paid (place_with (Attaches (x ∷ left)) links moved still made s.state.facts)) s o ready
             (inl refl);
       };
-      stops =
-          record { ready = ready; undone = record { stays = stays_none s; same_host = refl } };
+      stops = record {
+        ready = ready;
+        undone = record {
+          stays = record { facts = refl; answers = refl; file = refl; format = refl; generation = refl; end = refl; limit = refl; closed = refl };
+          same_host = refl;
+        };
+      };
     })
 
 -- ---- behind the links of a node

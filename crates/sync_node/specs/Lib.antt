@@ -5,7 +5,6 @@ pub mod Going
 pub mod Causes
 pub mod Working
 pub mod Sending
-pub mod Redundant
 pub mod Starting
 pub mod Adding
 pub mod Node

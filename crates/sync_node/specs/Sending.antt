@@ -1,6 +1,6 @@
 -- How a link stands, and what hearing and sending on it does.
 use Rattle.sync_course.specs.declared.ends.LinkEnd.{LinkEnd}
-use Rattle.std.specs.Prelude.{◌≡◌, ℕ, List, Option, Some, None, Contains, ◌⊎◌, Result, Ok, Err}
+use Rattle.std.specs.Prelude.{◌≡◌, ℕ, List, Option, Some, None, Contains, ◌⊎◌, Result, Ok, Err, length, slice_get}
 use Rattle.sync_ids.specs.declared.records.Record.{Record}
 use Rattle.sync_node.specs.declared.link.Link.{Link}
 use Rattle.outside.specs.declared.failed.Failed.{Failed}
@@ -48,3 +48,15 @@ pub record SendsOn (link : ℕ) (bytes : List ℕ) (old new : Link) (o o' : Outs
 -- a link is as it was, or a send on it failed
 abbrev pub StaysOrFails : Link → Link → Type 0
 StaysOrFails old new = (new ≡ old) ⊎ (new ≡ record old { end = link_end.Failed })
+
+-- ---- links of which some are closed since another one with the same contact is kept
+
+-- the link of a number stayed as it was, or it was asked and was closed
+pub record StaysOrCloses (links : List Link) (number : ℕ) (l : Link) : Type 0 where
+  pub before : Link
+  pub was : slice_get links number ≡ Some before
+  pub is : (l ≡ before) ⊎ ((before.end ≡ link_end.Going) × (l ≡ record before { end = link_end.Redundant }))
+
+pub record ClosesSome (old new : List Link) : Type 0 where
+  pub same_number : length new ≡ length old
+  pub each : (number : ℕ) (l : Link) → slice_get new number ≡ Some l → StaysOrCloses old number l

@@ -2,7 +2,7 @@
 ghost use Rattle.std.specs.Prelude.{◌≡◌, ℕ, ◌<◌, List, length, slice_get, IsTrue, Some};
 ghost use Rattle.sync_course.specs.Links.{is_beaten, is_before, without_redundant};
 ghost use Rattle.sync_node.specs.Courses.{link_at, links_from, outdoes_of};
-ghost use Rattle.sync_node.specs.Redundant.{ClosesSome};
+ghost use Rattle.sync_node.specs.Sending.{ClosesSome};
 
 use crate::link::Link;
 use std::cmp::Ordering;

@@ -1,11 +1,11 @@
 //! What is due on a link is committed and sent.
-ghost use Rattle.std.specs.Prelude.{◌∷◌, ◌<◌, [], OnOk};
+ghost use Rattle.std.specs.Prelude.{◌∷◌, ◌<◌, []};
 ghost use Rattle.sync_rules.specs.Legal.{Allowed};
 ghost use Rattle.sync_rules.specs.declared.entries.Entry.TheVariants as entry;
 ghost use Rattle.sync_node.specs.Sending.{MaySend, SendsOn};
 ghost use Rattle.sync_node.specs.Keeps.{LinkWorks};
 ghost use Rattle.sync_node.specs.OnLinks.{DueStopped, DueWent, PutStopped, PutWent};
-ghost use Rattle.sync_node.specs.Working.{HasGivenItems, MayWork};
+ghost use Rattle.sync_node.specs.Working.{IsAble};
 
 use crate::fault::Fault;
 use crate::link::Link;
@@ -18,7 +18,7 @@ use sync_rules::{Batch, Clients, Entry, Out};
 use sync_store::Store;
 
 /// Commits and sends what is due on the link at this time, at most `MAX_OUTPUTS` outputs, and
-/// answers how many. A failed send closes the link. `work`: so many outputs were committed, each of
+/// answers how many. A failed send closes the link. So many outputs were committed, each of
 /// them was sent behind its commit, and the link's turn is done; or some of them were, and then
 /// memory was wanting, or the next one would pass the limit, or a call of the disk failed in its
 /// commit.
@@ -31,11 +31,11 @@ pub(crate) fn send_all<H: Host, C: Clients>(
     link: &mut Link,
     now: u64,
 ) -> Result<u32, Fault>
-    requires able { MayWork (C.meaning clients.now) number link.old store.old (H.tells host.old) }
+    requires able { IsAble (C.meaning clients.now) number link.old.session store.old
+        (H.tells host.old) }
     requires unclosed { MaySend link.old.end }
-    ensures work { LinkWorks (DueWent now) (DueStopped now) (C.meaning clients.now) number link.old
+    ensures { LinkWorks (DueWent now) (DueStopped now) (C.meaning clients.now) number link.old
         link.new store.old store.new (H.tells host.old) (H.tells host.new) result }
-    ensures waits { OnOk result (HasGivenItems link.new) }
 {
     let mut made = 0;
     'outs: while made < MAX_OUTPUTS && link.may_send() {
@@ -49,7 +49,7 @@ pub(crate) fn send_all<H: Host, C: Clients>(
 }
 
 // Commits an output, and then sends it. It is spelled first, so that nothing may fail between the
-// two. `work`: it stands in the journal, and then it was sent, or the send failed and the link is
+// two. It stands in the journal, and then it was sent, or the send failed and the link is
 // closed; or nothing was sent, and nothing committed but what a failed call of the disk left.
 fn put_out<H: Host, C: Clients>(
     alloc: Global,
@@ -61,13 +61,13 @@ fn put_out<H: Host, C: Clients>(
     now: u64,
     out: Out,
 ) -> Result<(), Fault>
-    requires able { MayWork (C.meaning clients.now) number link.old store.old (H.tells host.old) }
+    requires able { IsAble (C.meaning clients.now) number link.old.session store.old
+        (H.tells host.old) }
     requires unclosed { MaySend link.old.end }
     requires allowed { Allowed (C.meaning clients.now) store.old.state.facts
         (entry.Out link.old.session.number now out ∷ []) }
-    ensures work { LinkWorks (PutWent now) (PutStopped now) (C.meaning clients.now) number link.old
+    ensures { LinkWorks (PutWent now) (PutStopped now) (C.meaning clients.now) number link.old
         link.new store.old store.new (H.tells host.old) (H.tells host.new) result }
-    ensures waits { OnOk result (HasGivenItems link.new) }
 {
     cite_laws();
     let bytes = spell_out(alloc, store, &out)?;

@@ -8,7 +8,7 @@ ghost use Rattle.sync_node.specs.Node.{AreSome, MayGoOn};
 ghost use Rattle.sync_node.specs.OnLinks.{HearingStopped, HearingWent, SendingStopped};
 ghost use Rattle.sync_node.specs.OnLinks.{SendingWent, TurnWent};
 ghost use Rattle.sync_node.specs.OnRuns.{AllTurned, LinksStopped, LinksWent, RoundStopped};
-ghost use Rattle.sync_node.specs.Working.{HasGivenItems, MayWork};
+ghost use Rattle.sync_node.specs.Working.{HasGivenItems, IsAble, MayWork};
 
 use crate::fault::Fault;
 use crate::hearing::receive_on;
@@ -131,10 +131,10 @@ fn send_now<H: Host, C: Clients>(
     number: u8,
     link: &mut Link,
 ) -> Result<u32, Fault>
-    requires able { MayWork (C.meaning clients.now) number link.old store.old (H.tells host.old) }
-    ensures work { LinkWorks SendingWent SendingStopped (C.meaning clients.now) number link.old link.new
+    requires able { IsAble (C.meaning clients.now) number link.old.session store.old
+        (H.tells host.old) }
+    ensures { LinkWorks SendingWent SendingStopped (C.meaning clients.now) number link.old link.new
         store.old store.new (H.tells host.old) (H.tells host.new) result }
-    ensures waits { OnOk result (HasGivenItems link.new) }
 {
     if !link.may_send() {
         return Ok(0);

@@ -2,8 +2,7 @@ use Rattle.std.proofs.Common.{arith, eqb-true, sym, ◌∙◌, ap, subst}
 use Rattle.sync_node.specs.Sending.{MaySend}
 use Rattle.sync_node.proofs.CauseLaws.{link_sent, link_then}
 use Rattle.sync_node.proofs.OutLaws.{may_unfailed}
-use Rattle.sync_node.proofs.StartActs.{greeted_once, greeted_twice}
-use Rattle.sync_node.proofs.StartLaws.{none_long}
+use Rattle.sync_node.proofs.StartActs.{greeted_once, greeted_twice, none_long}
 use Rattle.sync_node.proofs.attaching.greet.Goals as goal
 use Rattle.sync_node.proofs.attaching.greet.Goals.{else-may_send-via-then-may_send+else-not-is_empty, else-may_send-via-else-may_send}
 

@@ -5,8 +5,8 @@ use Rattle.sync_rules.specs.Allows.{is_account_kind, is_settling_kind}
 use Rattle.sync_rules.specs.Legal.{Allowed}
 use Rattle.sync_rules.specs.declared.entries.Entry.{Entry}
 use Rattle.sync_node.proofs.KeepLaws.{has_begun}
-use Rattle.sync_node.proofs.StartActs.{start_went, starts_broke, starts_memory, starts_was}
-use Rattle.sync_node.proofs.StartLaws.{first_bytes, session_found, session_told}
+use Rattle.sync_node.proofs.StartActs.{first_bytes, session_found, session_told, start_went}
+use Rattle.sync_node.proofs.StartActs.{starts_broke, starts_memory, starts_was}
 use Rattle.sync_node.proofs.WorkLaws.{goes_then}
 use Rattle.sync_node.proofs.attaching.start.Goals as goal
 

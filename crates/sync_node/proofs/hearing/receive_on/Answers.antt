@@ -1,7 +1,7 @@
 use Rattle.std.proofs.Common.{refl, sym, ap, ◌∙◌, arith}
 use Rattle.sync_course.specs.Links.{stands_ended}
 use Rattle.sync_node.proofs.CauseLaws.{ended_unfailed, link_failed, link_kept, link_unfailed}
-use Rattle.sync_node.proofs.HearActs.{hear_ended, hear_failed, hear_idle, hear_piece, hear_stops}
+use Rattle.sync_node.proofs.LinkActs.{hear_ended, hear_failed, hear_idle, hear_piece, hear_stops}
 use Rattle.sync_node.proofs.KeepLaws.{work_link, work_then, works_was}
 use Rattle.sync_node.proofs.WorkLaws.{able_calm, ended_not_going, goes_heard}
 use Rattle.sync_node.proofs.hearing.receive_on.Goals as goal

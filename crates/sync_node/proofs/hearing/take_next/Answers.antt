@@ -2,8 +2,8 @@ use Rattle.std.proofs.Common.{refl, ap, length, arith}
 use Rattle.record_stream.specs.Reading.{ReaderState}
 use Rattle.sync_node.proofs.CauseLaws.{learnt_unfailed, link_kept, link_unfailed}
 use Rattle.sync_node.proofs.KeepLaws.{work_none, works_halt, works_was}
-use Rattle.sync_node.proofs.HearActs.{item_bad, item_more, item_no_memory, item_one, item_skipped}
-use Rattle.sync_node.proofs.HearActs.{item_stops}
+use Rattle.sync_node.proofs.LinkActs.{item_bad, item_more, item_no_memory, item_one, item_skipped}
+use Rattle.sync_node.proofs.LinkActs.{item_stops}
 use Rattle.sync_node.proofs.SafeLaws.{goes_none}
 use Rattle.sync_node.proofs.TakeLaws.{open_for}
 use Rattle.sync_node.proofs.hearing.take_next.Goals as goal

@@ -1,6 +1,6 @@
 use Rattle.sync_node.proofs.CauseLaws.{link_none}
 use Rattle.sync_node.proofs.KeepLaws.{able_kept, work_none, work_then, works_was}
-use Rattle.sync_node.proofs.HearActs.{items_closed, items_none, items_stop, items_taken, items_then}
+use Rattle.sync_node.proofs.LinkActs.{items_closed, items_none, items_stop, items_taken, items_then}
 use Rattle.sync_node.proofs.hearing.take_piece.Goals as goal
 
 pub items-init : goal.items-init

@@ -1,4 +1,4 @@
-use Rattle.sync_node.specs.Redundant.{ClosesSome}
+use Rattle.sync_node.specs.Sending.{ClosesSome}
 use Rattle.sync_node.proofs.CourseRuns.{ClosedSo}
 use Rattle.sync_node.proofs.redundant.close_redundant.Given as goal
 

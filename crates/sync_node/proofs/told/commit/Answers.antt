@@ -1,6 +1,6 @@
 use Rattle.std.proofs.Common.{Err, ap}
 use Rattle.sync_store.specs.declared.fault.StoreFault.TheVariants as store_fault
-use Rattle.sync_node.proofs.BatchLaws.{commit_breaks, commit_did, commit_full, commit_idle}
+use Rattle.sync_node.proofs.BatchLaws.{commit_breaks, commit_did, commit_idle}
 use Rattle.sync_node.proofs.TakeLaws.{over_limit}
 use Rattle.sync_node.proofs.told.commit.Goals as goal
 
@@ -42,8 +42,11 @@ pub returns-in-Err-Full-clause-stopped : goal.returns-in-Err-Full-clause-stopped
 returns-in-Err-Full-clause-stopped g c =
     let answer = rw c.in-Err-Full.field-0-is at c.in-Err-Full.ensures.answer in
     let unasked = rw c.in-Err-Full.field-0-is at c.in-Err-Full.ensures.unasked in
-    commit_full _ c.args.batch _ _ _ _
-    (commit_idle g.H.Disk.tells _ _ _ c.args.batch store_fault.Full _ _ c.requires.ready
-    c.in-Err-Full.ensures.run answer.2 c.in-Err-Full.ensures.ready unasked
-    (c.in-Err-Full.ensures.extends c.requires.ready.still_open))
-    answer.1 (over_limit _ _ c.args.batch answer)
+    record {
+      idle =
+          commit_idle g.H.Disk.tells _ _ _ c.args.batch store_fault.Full _ _ c.requires.ready
+          c.in-Err-Full.ensures.run answer.2 c.in-Err-Full.ensures.ready unasked
+          (c.in-Err-Full.ensures.extends c.requires.ready.still_open);
+      before = answer.1;
+      over = over_limit _ _ c.args.batch answer;
+    }

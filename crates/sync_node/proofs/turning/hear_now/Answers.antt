@@ -1,5 +1,5 @@
 use Rattle.sync_node.proofs.CauseLaws.{link_none}
-use Rattle.sync_node.proofs.HearActs.{hear_nothing}
+use Rattle.sync_node.proofs.LinkActs.{hear_nothing}
 use Rattle.sync_node.proofs.KeepLaws.{work_none}
 use Rattle.sync_node.proofs.turning.hear_now.Goals as goal
 

@@ -1,8 +1,10 @@
 use Rattle.std.proofs.Common.{ℕ, length, refl, ap, arith}
 use Rattle.std.proofs.lemmas.Result.{IfErr-weaker, IfOk-weaker}
+use Rattle.record_stream.specs.Reading.{AwaitsBytes}
 use Rattle.sync_node.specs.Node.{NodeValue}
 use Rattle.sync_node.proofs.CallLaws.{leaves_closed, never, node_able, node_by, node_link}
 use Rattle.sync_node.proofs.CallLaws.{node_works, stopped_by, went_by, works_by}
+use Rattle.sync_node.proofs.OutLaws.{still_so}
 use Rattle.sync_node.proofs.RunActLaws.{outs_sent, outs_stopped}
 use Rattle.sync_node.proofs.node.Node.send_due.Goals as goal
 
@@ -30,8 +32,8 @@ index_mut-requires g c =
 
 pub send_all-made-requires-clause-able : goal.send_all-made-requires-clause-able
 send_all-made-requires-clause-able g c =
-    node_able c.self.view_is c.requires.may c.if-self.false c.self.invariant.1 c.requires.attached
-    c.index_mut.ensures.value
+    (node_able c.self.view_is c.requires.may c.if-self.false c.self.invariant.1
+    c.requires.attached c.index_mut.ensures.value).able
 
 pub send_all-made-requires-clause-unclosed : goal.send_all-made-requires-clause-unclosed
 send_all-made-requires-clause-unclosed g c =
@@ -43,8 +45,11 @@ pub invariant_of-self : goal.invariant_of-self
 invariant_of-self g c =
     let keeps =
     node_works c.self.view_is c.requires.may c.if-self.false c.self.invariant.1 c.requires.attached
-    c.index_mut.ensures.value c.send_all-made.result c.send_all-made.ensures.work.keeps
-    c.send_all-made.ensures.waits in (
+    c.index_mut.ensures.value c.send_all-made.result c.send_all-made.ensures.keeps
+    (IfOk-weaker c.send_all-made.result _ _ (λ made due.
+    still_so AwaitsBytes _ _ due.sent (node_able c.self.view_is c.requires.may c.if-self.false
+    c.self.invariant.1 c.requires.attached c.index_mut.ensures.value).waits)
+    c.send_all-made.ensures.went) in (
       c.self.invariant.0,
       node_by c.send_all-made.result _ _ _ _ _ c.if-self.false refl c.answer.ensures.closed keeps
           c.self.invariant.1,
@@ -57,8 +62,11 @@ returns g c =
     c.index_mut.ensures.value in
     let keeps =
     node_works c.self.view_is c.requires.may c.if-self.false c.self.invariant.1 c.requires.attached
-    c.index_mut.ensures.value c.send_all-made.result c.send_all-made.ensures.work.keeps
-    c.send_all-made.ensures.waits in
+    c.index_mut.ensures.value c.send_all-made.result c.send_all-made.ensures.keeps
+    (IfOk-weaker c.send_all-made.result _ _ (λ made due.
+    still_so AwaitsBytes _ _ due.sent (node_able c.self.view_is c.requires.may c.if-self.false
+    c.self.invariant.1 c.requires.attached c.index_mut.ensures.value).waits)
+    c.send_all-made.ensures.went) in
     let works =
     works_by c.send_all-made.result _ _ _ _ _ c.if-self.false refl c.answer.ensures.closed keeps
     c.args.host.now c.send_all-made.new.host c.answer.ensures.answer (invariant_of-self g c).1 in
@@ -71,9 +79,9 @@ returns g c =
       went = λ opened.
           went_by c.send_all-made.result c.answer.ensures.answer _
           (IfOk-weaker c.send_all-made.result _ _ (λ made due. outs_sent in_run due)
-          c.send_all-made.ensures.work.went);
+          c.send_all-made.ensures.went);
       stopped = λ opened.
           stopped_by c.send_all-made.result c.answer.ensures.answer _
           (IfErr-weaker c.send_all-made.result _ _ (λ e halted. outs_stopped in_run halted)
-          c.send_all-made.ensures.work.stopped);
+          c.send_all-made.ensures.stopped);
     })
