@@ -24,8 +24,8 @@ use Rattle.sync_node.specs.declared.link.Link.{Link}
 use Rattle.sync_course.specs.declared.ends.LinkEnd.{LinkEnd}
 use Rattle.sync_course.specs.declared.ends.LinkEnd.TheVariants as link_end
 use Rattle.sync_node.specs.Courses.{AllRead, links_from, place_at}
-use Rattle.sync_node.specs.OnRuns.{BeginStopped, BeginWent, ByFault, RoundStopped, RoundWent, RunActs}
-use Rattle.sync_node.specs.OnRuns.{RunStopped, RunWent}
+use Rattle.sync_node.specs.OnRuns.{BeginStopped, BeginWent, ByFault, RoundStopped, RoundWent}
+use Rattle.sync_node.specs.OnRuns.{RunActs, RunStopped, RunWent}
 use Rattle.sync_node.specs.declared.fault.NodeFault.{NodeFault}
 use Rattle.sync_node.specs.declared.fault.NodeFault.TheVariants as node_fault
 use Rattle.sync_node.proofs.CourseLaws.{told_as}
@@ -81,7 +81,8 @@ stops_then clients terms p q s0 s s' o0 o o' P x first stops =
 -- ---- the sessions begin
 
 -- a node without links
-pub is_node_without : (n : NodeValue) → n.links ≡ [] → n.store.state.facts.begun ≡ n.first → IsNode n
+pub is_node_without : (n : NodeValue) → n.links ≡ [] → n.store.state.facts.begun ≡ n.first
+    → IsNode n
 is_node_without n none number =
     let empty : length n.links ≡ 0 = ap (λ (ls : List Link). length ls) none in
     record {
@@ -176,22 +177,27 @@ going_same : (e : LinkEnd) → course_links.is_going e ≡ is_going e
 going_same link_end.Going = refl
 going_same _ = refl
 
-some_asked : (k : ℕ) (links : List Link) (heard : ℕ → List ℕ) → some_going (links_from k links heard) ≡ nat_lt 0 (asked_among links)
+some_asked : (k : ℕ) (links : List Link) (heard : ℕ → List ℕ)
+    → some_going (links_from k links heard) ≡ nat_lt 0 (asked_among links)
 some_asked k [] heard = refl
 some_asked k (x ∷ links) heard =
     ap (λ (b : Bool). b || some_going (links_from (suc k) links heard)) (going_same x.end)
     ∙ ap (λ (b : Bool). is_going x.end || b) (some_asked (suc k) links heard)
     ∙ by_end (is_going x.end)
   where
-    by_end : (b : Bool) → (b || nat_lt 0 (asked_among links)) ≡ nat_lt 0 (cond b 1 0 + asked_among links)
+    by_end : (b : Bool)
+        → (b || nat_lt 0 (asked_among links)) ≡ nat_lt 0 (cond b 1 0 + asked_among links)
     by_end true = sym (lt-ltb 0 (1 + asked_among links) (omega arith))
     by_end false =
         let none : asked_among links ≡ 0 + asked_among links = omega arith in
         ap (λ (n : ℕ). nat_lt 0 n) none
 
-over_here : (quiet : ℕ) (stage : Stage) (links : List Link) (heard : ℕ → List ℕ) (moved : Bool) (still made : ℕ) (f : Facts)
-    → is_over quiet (place_at stage links heard moved still made f) ≡ over_by quiet still (nat_lt 0 (asked_among links))
-over_here quiet stage links heard moved still made f = ap (λ (b : Bool). over_by quiet still b) (some_asked 0 links heard)
+over_here : (quiet : ℕ) (stage : Stage) (links : List Link) (heard : ℕ → List ℕ) (moved : Bool)
+    (still made : ℕ) (f : Facts)
+    → is_over quiet (place_at stage links heard moved still made f)
+    ≡ over_by quiet still (nat_lt 0 (asked_among links))
+over_here quiet stage links heard moved still made f =
+    ap (λ (b : Bool). over_by quiet still b) (some_asked 0 links heard)
 
 -- ---- how the links close
 
@@ -211,8 +217,9 @@ links_close over quiet links p heard are is =
     let of : Bool → List LinkEnd → Closing = λ b ends. record { over = b; ends = ends } in
     let ends : map (λ (l : Link). l.end) links ≡ map (λ (l : course_links.Link). l.stands) p.links =
     ends_from 0 links heard
-    ∙ sym (ap (λ (ls : List course_links.Link). map (λ (l : course_links.Link). l.stands) ls) are) in
-    ap (of over) ends ∙ ap (λ (b : Bool). of b (map (λ (l : course_links.Link). l.stands) p.links)) is
+    ∙ sym (ap (map (λ (l : course_links.Link). l.stands)) are) in
+    ap (of over) ends
+    ∙ ap (λ (b : Bool). of b (map (λ (l : course_links.Link). l.stands) p.links)) is
 
 -- ---- the turns are made
 

@@ -199,8 +199,8 @@ module _ (clients : Meaning) (limits : Limits) (words : List LinkWords) (links :
         hears = hears_dialled words (events_of over.did.acts) o0 o1 o none makes over.told
             goes.same_dialled;
         answer =
-            answers_map clients limits terms over.did.to (MayMigrate o1.files) (RunWasSpent [] o1 o) ⊥
-            (MayMigrate o0.files) (RunWasSpent words o0 o) (ReadsAs clients o.files j)
+            answers_map clients limits terms over.did.to (MayMigrate o1.files)
+            (RunWasSpent [] o1 o) ⊥ (MayMigrate o0.files) (RunWasSpent words o0 o) (ReadsAs clients o.files j)
             (j ++ batches_in over.did.acts) (j ++ batches_in over.did.acts) refl
             (λ may two told. may two (calms.same_files ∙ told)) (spent_so o makes)
             (λ undialled. absurd undialled) r over.answer;

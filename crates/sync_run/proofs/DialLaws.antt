@@ -35,7 +35,8 @@ calms_then o0 o1 o2 first second = record {
   grows = grow_then o0.links o1.links o2.links first.grows second.grows;
   sent = λ link. second.sent link ∙ first.sent link;
   moments = λ two told t m before w.
-      elim (second.moments two (first.same_files ∙ told) t m (omega (arith, before, first.later)) w) [
+      elim (second.moments two (first.same_files ∙ told) t m (omega (arith, before, first.later))
+      w) [
         | inl old ↦ first.moments two told t m before old
         | inr calm ↦ inr (record {
           image = calm.image;

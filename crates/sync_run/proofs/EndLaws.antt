@@ -135,7 +135,8 @@ IsBy its (Some link) = IsByHeard its link.heard link.stands
 abbrev AllBy : List Event → Free → Type 0
 AllBy before p = (i : ℕ) → IsBy (pending_in p.hold i) (slice_get p.links i)
 
-is_by : (its its' : List Item) (o o' : Option Link) → its' ≡ its → o' ≡ o → IsBy its o → IsBy its' o'
+is_by : (its its' : List Item) (o o' : Option Link) → its' ≡ its → o' ≡ o → IsBy its o
+    → IsBy its' o'
 is_by its its' o o' items is by =
     subst (λ (l : List Item). IsBy l o') (sym items) (subst (IsBy its) (sym is) by)
 

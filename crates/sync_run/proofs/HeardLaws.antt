@@ -1,7 +1,8 @@
 -- The bytes heard on each link at a place of a run are those of the answers that its events have;
 -- and so are those that are told.
 use Rattle.std.proofs.Common.{◌≡◌, ℕ, zero, suc, ◌+◌, ◌≤◌, List, [], ◌∷◌, ◌++◌, length, append-nil}
-use Rattle.std.proofs.Common.{length-append, refl, sym, ◌∙◌, ap, inl, inr, arith, Option, None, Some}
+use Rattle.std.proofs.Common.{length-append, refl, sym, ◌∙◌, ap, inl, inr, arith, Option, None}
+use Rattle.std.proofs.Common.{Some}
 use Rattle.std.specs.Option.{option_map}
 use Rattle.std.specs.Prelude.{slice_get}
 use Rattle.std.proofs.lemmas.Bool.{cases_lt}
@@ -22,7 +23,8 @@ use Rattle.sync_course.specs.Links.{Link, closed_from, link_of}
 use Rattle.sync_course.specs.Owing.{Owing}
 use Rattle.sync_course.specs.Paths.{Path}
 use Rattle.sync_course.specs.Suits.{heard_in, heard_on}
-use Rattle.sync_course.specs.Turns.{Attaches, Greets, Place, RunStep, Settles, Stage, Terms, first_place}
+use Rattle.sync_course.specs.Turns.{Attaches, Greets, Place, RunStep, Settles, Stage, Terms}
+use Rattle.sync_course.specs.Turns.{first_place}
 use Rattle.sync_rules.specs.declared.entries.Entry.{Entry}
 use Rattle.sync_node.specs.OnRuns.{RunActs}
 use Rattle.sync_run.specs.Dialling.{unheard}
@@ -72,7 +74,8 @@ step_has clients terms sessions before p q e has t =
       all_begun = λ has. has;
       ends = λ over has. has;
       turns = λ on has. has;
-      works = λ n doing link x spot at steps has. omega (arith, length-set p.links n spot.link, has);
+      works = λ n doing link x spot at steps has.
+          omega (arith, length-set p.links n spot.link, has);
       goes_on = λ n link at has. has;
       turn_ends = λ n none has. omega (arith, length_closed p.links 0 p.links, has);
     }) q e t has

@@ -19,18 +19,20 @@ use Rattle.sync_node.specs.Courses.{ReadsAs}
 use Rattle.sync_node.specs.Output.{Journal, output, sent_on}
 use Rattle.store_commands.specs.Load.{HasFacts, IsLoaded, LoadedBy}
 use Rattle.sync_words.specs.declared.link_words.LinkWords.{LinkWords}
+use Rattle.sync_words.specs.Outcomes.{links_came_to}
 use Rattle.sync_words.specs.declared.outcome.Outcome.{Outcome}
 use Rattle.sync_words.specs.declared.outcome.Outcome.TheVariants as outcome
 use Rattle.sync_run.proofs.DialActs.{unbegun}
 use Rattle.sync_run.proofs.DialLaws.{no_links_made}
 use Rattle.sync_run.proofs.RunActs.{passed}
 use Rattle.sync_run.proofs.TellLaws.{nothing_sent, reads_told, silent_by}
+use Rattle.sync_run.proofs.WordLaws.{specs_disk}
 use Rattle.sync_run.specs.Causes.{IsCaused, IsOfRun}
 use Rattle.sync_run.specs.Courses.{RunComesTo, TestsWords, WasBroken, are_too_many, is_unknown}
 use Rattle.sync_run.specs.Courses.{run_test}
 use Rattle.sync_run.specs.Headline.{Headline, LeavesFilesAtRest}
 use Rattle.sync_run.specs.Leaving.{LeavesLinks, MakesFront}
-use Rattle.sync_run.specs.Ran.{RanTold}
+use Rattle.sync_run.specs.Ran.{HasRun, RanTold}
 use Rattle.sync_run.specs.declared.run.Limits.{Limits}
 
 -- ---- the links
@@ -113,28 +115,6 @@ module _ (clients : Meaning) (limits : Limits) (words : List LinkWords) (two : T
     has = still loaded.of loaded.stood;
   }
 
--- a command that ended behind its load and before its links
-pub told_early : (clients : Meaning) (limits : Limits) (words : List LinkWords) (two : Two File)
-    (o o1 : Outside) → o.files ≡ Some two → DiskRun o o1 → MomentsAre o o1 (IsNow two o.links)
-    → RelatesTold ReadsSame o.files o1.files → (r : Result Closing Outcome) (x : Outcome)
-    → IsErrAnd r (λ y. y ≡ x) → (x ≡ outcome.Full → ⊥) → LeavesFilesAtRest o1.files (Err x)
-    → RunComesTo clients limits words (stands clients (read_files two)) o o1 (Err x)
-    → RanTold clients limits words two o o1 r
-told_early clients limits words two o o1 told run moments reads r x is other rests comes =
-    passed (RanTold clients limits words two o o1) r x is (record {
-      rests = rests;
-      sent = tt;
-      sent_full = λ full. absurd (other (let same : x ≡ outcome.Full = cc in same));
-      comes = comes;
-      unbegun = λ none. record {
-        same_links = run.same_links;
-        rests = record {
-          moments = moments;
-          kept = λ two' told'. reads_told o.files o1.files two two' reads told told';
-        };
-      };
-    })
-
 -- where no session began: each moment might have been before the command, and the files read as
 -- before
 pub headline_none : (clients : Meaning) (words : List LinkWords) (o o' : Outside)
@@ -161,6 +141,39 @@ headline_none clients words o o' none run moments reads two told told' =
             record { rest = all; whole = ap (λ (l : List ℕ). l ++ all) (sym nothing) };
       };
     }
+
+-- a command that ended behind its load and before its links
+module _ (clients : Meaning) (limits : Limits) (words : List LinkWords) (o o' : Outside)
+    (none : o.links.dialled ≡ 0) (run : DiskRun o o')
+    (moments : (two : Two File) → o.files ≡ Some two → MomentsAre o o' (IsNow two o.links))
+    (reads : RelatesTold ReadsSame o.files o'.files) (r : Result Closing Outcome) (x : Outcome)
+    (is : IsErrAnd r (λ y. y ≡ x)) (other : x ≡ outcome.Full → ⊥)
+    (rests : LeavesFilesAtRest o'.files (Err x)) (caused : IsCaused words o o' (Err x))
+    (comes : (two : Two File) → o.files ≡ Some two
+    → RunComesTo clients limits words (stands clients (read_files two)) o o' (Err x)) where
+  abbrev pub ended_early : HasRun clients limits words o o' (links_came_to r)
+  ended_early = record {
+    result = r;
+    is = refl;
+    headline = headline_none clients words o o' none run moments reads;
+    told = λ two told.
+        passed (RanTold clients limits words two o o') r x is (record {
+          rests = rests;
+          sent = tt;
+          sent_full = λ full. absurd (other (let same : x ≡ outcome.Full = cc in same));
+          comes = comes two told;
+          unbegun = λ none. record {
+            same_links = run.same_links;
+            rests = record {
+              moments = moments two told;
+              kept = λ two' told'. reads_told o.files o'.files two two' reads told told';
+            };
+          };
+        });
+    specs = specs_disk words o o' none run;
+    caused = passed (IsCaused words o o') r x is caused;
+    leaves = leaves_same words o o' r run.same_links;
+  }
 
 pub loaded_unfull : (old new : Outside) (e : Outcome) → LoadedBy old new (Err e)
     → e ≡ outcome.Full → ⊥

@@ -54,8 +54,8 @@ use Rattle.sync_words.specs.declared.link_words.LinkWords.{LinkWords}
 use Rattle.sync_words.specs.declared.outcome.Outcome.{Outcome}
 use Rattle.sync_words.specs.declared.outcome.Outcome.TheVariants as outcome
 use Rattle.sync_run.specs.declared.run.Limits.{Limits}
-use Rattle.sync_run.specs.Courses.{HearsRun, OfJournal, RanToEnd, RunComesTo, RunWasSpent, WasBroken}
-use Rattle.sync_run.specs.Courses.{WasFull, WasOver, run_test, terms_of}
+use Rattle.sync_run.specs.Courses.{HearsRun, OfJournal, RanToEnd, RunComesTo, RunWasSpent}
+use Rattle.sync_run.specs.Courses.{WasBroken, WasFull, WasOver, run_test, terms_of}
 use Rattle.sync_run.specs.Dialling.{MakesLinks, PassesTime, unheard}
 use Rattle.sync_run.specs.Headline.{AllSentWhenFull, HeadlineTold, LeavesFilesAtRest, RunsOn}
 use Rattle.sync_run.specs.Headline.{SentWhole, StandsForRun, sent_by}
@@ -376,8 +376,8 @@ module _ (clients : Meaning) (limits : Limits) (words : List LinkWords) (s : Sto
       (one_journal now whole (sym (reads_end told) ∙ ends))
 
   abbrev answer_as : (x : Result Closing Outcome) → r ≡ x
-      → AnswersAt clients limits terms ran.did.to now (MayMigrate o1.files) (RunWasSpent words o1 o2)
-      (ReadsAs clients o2.files loaded.of) x
+      → AnswersAt clients limits terms ran.did.to now (MayMigrate o1.files)
+      (RunWasSpent words o1 o2) (ReadsAs clients o2.files loaded.of) x
   answer_as x is =
       subst (AnswersAt clients limits terms ran.did.to now (MayMigrate o1.files)
       (RunWasSpent words o1 o2) (ReadsAs clients o2.files loaded.of)) is ran.answer

@@ -245,7 +245,8 @@ module _ (clients : Meaning) (terms : Terms) (from mid : Place) (j k : Journal) 
       (sent_on o.links))
   behind_moments told =
       let rest : List Act = did.acts ++ commit_acts did.next in
-      since_then o o1 o' (AtFront clients (first.acts ++ commit_acts first.next) j (sent_on o.links))
+      since_then o o1 o'
+      (AtFront clients (first.acts ++ commit_acts first.next) j (sent_on o.links))
       (AtFront clients rest k (sent_on o1.links))
       (AtFront clients (first.acts ++ rest) j (sent_on o.links))
       (λ m before. front_wide clients first.acts rest j (sent_on o.links) m

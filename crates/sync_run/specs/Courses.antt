@@ -44,7 +44,8 @@ terms_of limits begin = terms_at limits (facts begin).begun
 -- From a host on which no link was made: what the links heard and what the clock gave is what the events say, wherever it is told;
 -- and the count of a link's failures rose where an event says that a call of it failed.
 pub record HearsRun (events : List Event) (old new : Links) : Type 0 where
-  pub heard : new.heard ≡ option_map (λ (h : List HeardOn). heard_after events (unheard new.dialled)) old.heard
+  pub heard : new.heard
+      ≡ option_map (λ (h : List HeardOn). heard_after events (unheard new.dialled)) old.heard
   pub readings : GrowsBy (readings_of events) old.readings new.readings
   pub faults : (link : ℕ) → RoseIf (has_failure link events) (old.faults link) (new.faults link)
 

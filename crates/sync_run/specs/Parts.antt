@@ -137,14 +137,15 @@ pub record FillsAt (clients : Meaning) (terms : Terms) (to : Owing Place)
   pub steps : RunActs clients terms to (Does (Commit batch)) next
   pub over : MAX_JOURNAL < needed_by j batch
 
--- where a run stood at its answer, over this journal by then; what is so where it ended, what may be
--- so beside where there was no room, and what is so where a dial failed
+-- where a run stood at its answer, over this journal by then; what is so where it ended, what may
+-- be so beside where there was no room, and what is so where a dial failed
 abbrev pub AnswersAt : Meaning → Limits → Terms → Owing Place → Journal
     → (Whole Spent Undialled : Type 0) → Result Closing Outcome → Type 0
 AnswersAt clients limits terms to j Whole Spent Undialled (Ok ends) = EndsAt limits to ends × Whole
 AnswersAt clients limits terms to j Whole Spent Undialled (Err outcome.Full) =
     FillsAt clients terms to j ⊎ Spent
-AnswersAt clients limits terms to j Whole Spent Undialled (Err (outcome.LinkFailed link)) = Undialled
+AnswersAt clients limits terms to j Whole Spent Undialled (Err (outcome.LinkFailed link)) =
+    Undialled
 AnswersAt clients limits terms to j Whole Spent Undialled (Err outcome.Memory) = Unit {0}
 AnswersAt clients limits terms to j Whole Spent Undialled (Err outcome.DiskFault) = Unit {0}
 AnswersAt clients limits terms to j Whole Spent Undialled (Err _) = ⊥

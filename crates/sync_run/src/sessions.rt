@@ -1,5 +1,6 @@
 // The sessions of a run: they begin, and the turns are made.
-ghost use Rattle.std.specs.Prelude.{◌≡◌, ◌+◌, ◌≤◌, ◌<◌, ◌^◌, [], cond, false, length, IfErr, IfOk, OnOk};
+ghost use Rattle.std.specs.Prelude.{◌≡◌, ◌+◌, ◌≤◌, ◌<◌, ◌^◌, [], cond, false, length, IfErr};
+ghost use Rattle.std.specs.Prelude.{IfOk, OnOk};
 ghost use Rattle.outside.specs.declared.limits.TheConstants.{LINKS};
 ghost use Rattle.sync_rules.specs.Steps.{IsSettled};
 ghost use Rattle.sync_rules.specs.declared.limits.TheConstants.{MAX_SESSIONS};

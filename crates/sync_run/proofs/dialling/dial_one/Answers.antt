@@ -30,7 +30,8 @@ returns-in-Err-clause-makes g c =
     let dials = c.in_ok-link.ensures.links in
     let still = c.hang_up.ensures.links in (
       rose_then _ _ _ _ _ _ _ dials c.in-Err.ensures.links still,
-      inr (subst (λ (l : Links). MakesLinks (words ∷ []) (g.H.Disk.tells c.args.host.now).links l) (sym still)
+      inr (subst (λ (l : Links). MakesLinks (words ∷ []) (g.H.Disk.tells c.args.host.now).links l)
+          (sym still)
           (makes_asked (words ∷ []) _ _ _ _ _ (makes_dialled words _ _ _ _ c.as_str.ensures dials)
           c.nonce.ensures.links)),
     )

@@ -2,15 +2,12 @@ use Rattle.std.proofs.Common.{ap, ◌∙◌}
 use Rattle.outside.specs.Links.{Links}
 use Rattle.sync_node.specs.Going.{specs_of}
 use Rattle.sync_words.specs.declared.outcome.Outcome.TheVariants as outcome
-use Rattle.sync_run.specs.Causes.{IsCaused}
 use Rattle.sync_run.proofs.CauseLaws.{caused_behind}
-use Rattle.sync_run.proofs.LeavingLaws.{broken_early, headline_none, leaves_as, leaves_same}
-use Rattle.sync_run.proofs.LeavingLaws.{load_caused, load_comes, loaded_unfull, refused_caused}
-use Rattle.sync_run.proofs.LeavingLaws.{refused_comes, told_early}
+use Rattle.sync_run.proofs.LeavingLaws.{broken_early, ended_early, leaves_as, load_caused}
+use Rattle.sync_run.proofs.LeavingLaws.{load_comes, loaded_unfull, refused_caused, refused_comes}
 use Rattle.sync_run.proofs.RanLaws.{headline_ran, ran_told}
 use Rattle.sync_run.proofs.RestLaws.{load_rests, rests_ready}
-use Rattle.sync_run.proofs.RunActs.{passed}
-use Rattle.sync_run.proofs.WordLaws.{specs_disk, specs_kept}
+use Rattle.sync_run.proofs.WordLaws.{specs_kept}
 use Rattle.sync_run.proofs.run.sync_links.Goals as goal
 
 pub run_links-ended-requires-clause-unused : goal.run_links-ended-requires-clause-unused
@@ -27,24 +24,22 @@ returns-in_err-store g c =
     let old = g.H.Disk.tells c.args.host.now in
     let new = g.H.Disk.tells c.load_store.new.disk in
     let load = c.load_store.ensures in
-    let e = c.in_err-store.field-0.0 in
+    let end = c.in_err-store.ensures in
+    let came = c.in_err-store.field-0.0 in
+    let e =
+    ended_early _ c.args.limits words old new c.requires.unused load.run
+    (λ two told. (load.rests two told).moments) load.reads c.from_residual.result
+    came c.from_residual.ensures.1 (loaded_unfull old new came end.by)
+    (load_rests _ _ came end.settled)
+    (load_caused words old new came end.by)
+    (λ two told. load_comes _ c.args.limits words two old new c.requires.unused told
+    load.run.same_links load.reads came end.by (end.loaded two told)) in
     record {
-      headline = headline_none _ words old new c.requires.unused load.run (λ two told.
-          (load.rests two told).moments) load.reads;
-      told = λ two told.
-          told_early _ c.args.limits words two old new told load.run (load.rests two told).moments
-          load.reads
-          c.from_residual.result e c.from_residual.ensures.1
-          (loaded_unfull old new e c.in_err-store.ensures.by)
-          (load_rests _ _ e c.in_err-store.ensures.settled)
-          (load_comes _ c.args.limits words two old new c.requires.unused told load.run.same_links
-          load.reads e
-          c.in_err-store.ensures.by (c.in_err-store.ensures.loaded two told));
-      specs = specs_disk words old new c.requires.unused load.run;
-      caused =
-          passed (IsCaused words old new) c.from_residual.result e c.from_residual.ensures.1
-          (load_caused words old new e c.in_err-store.ensures.by);
-      leaves = leaves_same words old new c.from_residual.result load.run.same_links;
+      headline = e.headline;
+      told = e.told;
+      specs = e.specs;
+      caused = e.caused;
+      leaves = e.leaves;
     }
 
 -- a test of the words failed
@@ -54,26 +49,22 @@ returns-in_err-test_words g c =
     let old = g.H.Disk.tells c.args.host.now in
     let new = g.H.Disk.tells c.load_store.new.disk in
     let load = c.load_store.ensures in
-    let result = c.from_residual-in_err-test_words.result in
     let why = c.in_err-test_words.field-0.0 in
     let tested = c.in_err-test_words.ensures.tested in
+    let e =
+    ended_early _ c.args.limits words old new c.requires.unused load.run
+    (λ two told. (load.rests two told).moments) load.reads c.from_residual-in_err-test_words.result
+    (outcome.Refused why) c.from_residual-in_err-test_words.ensures.1 (λ same. cc)
+    (rests_ready _ _ _ c.in_ok-store.ensures.opened.ready)
+    (refused_caused c.in_ok-store.store.state.facts words old new why tested)
+    (λ two told. refused_comes _ c.args.limits words two old new c.requires.unused told
+    load.run.same_links load.reads _ (c.in_ok-store.ensures.loaded two told) why tested) in
     record {
-      headline = headline_none _ words old new c.requires.unused load.run (λ two told.
-          (load.rests two told).moments) load.reads;
-      told = λ two told.
-          told_early _ c.args.limits words two old new told load.run (load.rests two told).moments
-          load.reads result
-          (outcome.Refused why) c.from_residual-in_err-test_words.ensures.1 (λ same. cc)
-          (rests_ready _ _ _ c.in_ok-store.ensures.opened.ready)
-          (refused_comes _ c.args.limits words two old new c.requires.unused told
-          load.run.same_links load.reads _
-          (c.in_ok-store.ensures.loaded two told) why tested);
-      specs = specs_disk words old new c.requires.unused load.run;
-      caused =
-          passed (IsCaused words old new) result (outcome.Refused why)
-          c.from_residual-in_err-test_words.ensures.1
-          (refused_caused c.in_ok-store.store.state.facts words old new why tested);
-      leaves = leaves_same words old new result load.run.same_links;
+      headline = e.headline;
+      told = e.told;
+      specs = e.specs;
+      caused = e.caused;
+      leaves = e.leaves;
     }
 
 -- want of memory for the links
@@ -83,21 +74,20 @@ returns-in_err-dialled g c =
     let old = g.H.Disk.tells c.args.host.now in
     let new = g.H.Disk.tells c.load_store.new.disk in
     let load = c.load_store.ensures in
-    let result = c.from_residual-in_err-dialled.result in
+    let e =
+    ended_early _ c.args.limits words old new c.requires.unused load.run
+    (λ two told. (load.rests two told).moments) load.reads c.from_residual-in_err-dialled.result
+    outcome.Memory c.from_residual-in_err-dialled.ensures.1 (λ same. cc)
+    (rests_ready _ _ _ c.in_ok-store.ensures.opened.ready)
+    tt
+    (λ two told. broken_early _ c.args.limits words two old new c.requires.unused told
+    load.run.same_links load.reads) in
     record {
-      headline = headline_none _ words old new c.requires.unused load.run (λ two told.
-          (load.rests two told).moments) load.reads;
-      told = λ two told.
-          told_early _ c.args.limits words two old new told load.run (load.rests two told).moments
-          load.reads result
-          outcome.Memory c.from_residual-in_err-dialled.ensures.1 (λ same. cc)
-          (rests_ready _ _ _ c.in_ok-store.ensures.opened.ready)
-          (broken_early _ c.args.limits words two old new c.requires.unused told load.run.same_links
-          load.reads);
-      specs = specs_disk words old new c.requires.unused load.run;
-      caused = passed (IsCaused words old new) result outcome.Memory
-          c.from_residual-in_err-dialled.ensures.1 tt;
-      leaves = leaves_same words old new result load.run.same_links;
+      headline = e.headline;
+      told = e.told;
+      specs = e.specs;
+      caused = e.caused;
+      leaves = e.leaves;
     }
 
 -- the run on the links

@@ -27,8 +27,8 @@ turns-preserved g c =
     let e = c.in_ok-turn.ensures in
     record {
       went =
-          turn_more _ c.args.limits _ _ _ _ _ _ l.went l.goes_on c.turns-test.true l.keeps.same_first
-          _ _ _ _ c.count_still-still.ensures.counts (e.went l.still_open);
+          turn_more _ c.args.limits _ _ _ _ _ _ l.went l.goes_on c.turns-test.true
+          l.keeps.same_first _ _ _ _ c.count_still-still.ensures.counts (e.went l.still_open);
       goes_on =
           sym (over_asked _ _ c.args.limits.quiet _ _ (asked_among c.turn.new.self.links)
           c.is_over.ensures c.from.ensures c.asked.ensures)
