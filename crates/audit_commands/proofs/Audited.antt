@@ -6,7 +6,8 @@ use Rattle.outside.specs.Files.{Two, File, read_files}
 use Rattle.outside.specs.Outside.{DiskRun, Outside}
 use Rattle.outside.specs.Streams.{IsIdle, Stream}
 use Rattle.outside.proofs.CallSteps.{becomes_told}
-use Rattle.entry_codec.specs.Standing.{Standing, stands}
+use Rattle.entry_codec.specs.Standing.{Standing}
+use Rattle.file_standing.specs.Standing.{stands}
 use Rattle.sync_rules.specs.Clients.{Meaning}
 use Rattle.journal_audit.specs.declared.report.Report.{Report}
 use Rattle.journal_audit.specs.Answers.{IsAuditOf}

@@ -2,7 +2,7 @@
 use Rattle.std.specs.Prelude.{◌≡◌, ◌≢◌, ℕ, zero, suc, ◌+◌, ◌-◌, ◌<◌, ◌≤◌, Bool, true, false, not, ◌==◌, ◌&&◌, nat_le, nat_lt, cond, List, [], ◌∷◌, ◌++◌, length, take, drop, slice_index, Option, Some, None}
 use Rattle.std.specs.List.{AllByRecursion, flat_map}
 use Rattle.std.proofs.Common.{refl, sym, ap, subst, ◌∙◌, arith, append_assoc, drop-cons, length-append}
-use Rattle.std.proofs.lemmas.Bool.{and_parts, cond-false, cond-true, eqb-false, le-leb, leb-true, leb-false, lt-leb, ltb-false, not-true, or_parts}
+use Rattle.std.proofs.lemmas.Bool.{and_parts, cond-false, cond-true, eqb-false, eqb-true, le-leb, leb-true, leb-false, lt-leb, ltb-false, not-false, not-true, or_parts}
 use Rattle.std.proofs.lemmas.List.{append-nil, drop-drop, drop_at, length-drop, length-take-le, take-append-drop}
 use Rattle.std.proofs.lemmas.List.Elements.{All-nil, All-push, All-same}
 use Rattle.sync_rules.specs.declared.entries.Entry.{Entry}
@@ -20,7 +20,8 @@ use Rattle.entry_codec.specs.Payloads.{batch_of, names_of, payload, payloads}
 use Rattle.sync_rules.proofs.Continuing.{legal-push}
 use Rattle.entry_codec.proofs.BatchLaws.{batch_kinds}
 use Rattle.entry_codec.proofs.Growing.{all_push, frames_push, length_frame, payloads_push}
-use Rattle.entry_codec.specs.Standing.{Standing, damaged, frames_from, journal, no_store, read_in, read_on, rest_from, room_of, stands, stands_in, taken_on}
+use Rattle.entry_codec.specs.Standing.{Standing, damaged, journal, no_store, room_of}
+use Rattle.entry_codec.specs.ReadingFiles.{frames_from, read_in, read_on, read_standing, rest_from, stands_in, taken_on}
 use Rattle.entry_codec.specs.Fronts.{FitsFile, Front}
 
 past_end : (bytes : List ℕ) (place : ℕ) → length bytes ≤ place → frame_at bytes place ≡ broken
@@ -48,6 +49,32 @@ framed_fits bytes place to e =
     let some = or_parts _ (size_at bytes place == 0) few.0 in
     let is : take (size_at bytes place) (drop (place + 5) bytes) ≡ to = cc (whole.1) in
     size_fits bytes place (size_at bytes place) to (eqb-false (size_at bytes place) 0 some.1) (ltb-false _ _ few.1) (ltb-false _ _ there.1) (ltb-false _ _ bounded.1) is
+
+-- what a frame that is there is made of: an open gate, its payload's length, and the payload
+pub record FramedParts (bytes : List ℕ) (place : ℕ) (to : List ℕ) : Type 0 where
+  pub gate : slice_index bytes place ≡ 1
+  pub size : size_at bytes place ≡ length to
+  pub body : take (length to) (drop (place + 5) bytes) ≡ to
+
+pub framed_parts : (bytes : List ℕ) (place : ℕ) (to : List ℕ) → frame_at bytes place ≡ framed to
+    → FramedParts bytes place to
+framed_parts bytes place to e =
+    let inside = second_of (nat_le (length bytes) place) broken _ (framed to) (λ h. cc) e in
+    let gate = second_of (not (slice_index bytes place == 1)) closed _ (framed to) (λ h. cc)
+    inside.1 in
+    let whole = second_of (is_broken bytes place) broken _ (framed to) (λ h. cc) gate.1 in
+    let bounded = or_parts _ (nat_lt MAX_JOURNAL (place + 6 + size_at bytes place)) whole.0 in
+    let there = or_parts _ (nat_lt (length bytes) (place + 5 + size_at bytes place)) bounded.0 in
+    let is : take (size_at bytes place) (drop (place + 5) bytes) ≡ to = cc (whole.1) in
+    let left = ltb-false (length bytes) (place + 5 + size_at bytes place) there.1 in
+    let size : size_at bytes place ≡ length to =
+    sym (length-take-le (size_at bytes place) (drop (place + 5) bytes)
+    (omega (arith, left, length-drop (place + 5) bytes))) ∙ ap length is in
+    record {
+      gate = eqb-true (slice_index bytes place) 1 (not-false (slice_index bytes place == 1) gate.0);
+      size = size;
+      body = ap (λ (n : ℕ). take n (drop (place + 5) bytes)) (sym size) ∙ is;
+    }
 
 -- ---- the rest of a file, one frame at a time
 same_taken : (clients : Meaning) (file : ℕ) (f g : List (List Entry) → Standing) (place : ℕ) (done : List (List Entry)) (o : Option (List Entry)) → ((d : List (List Entry)) → f d ≡ g d)
@@ -104,20 +131,20 @@ pub found_open : (files : Two (List ℕ)) (file : ℕ) → journal_file files �
 found_open files file e = open_in (is_open files.first) (is_open files.second) _ files file refl refl e
 
 -- no header is open
-pub front_none : (clients : Meaning) (files : Two (List ℕ)) → journal_file files ≡ None → stands clients files ≡ no_store
-unfolding stands
+pub front_none : (clients : Meaning) (files : Two (List ℕ)) → journal_file files ≡ None → read_standing clients files ≡ no_store
+unfolding read_standing
 front_none clients files e = ap (stands_in clients files) e
 
 -- the journal's file has another format
 pub front_format : (clients : Meaning) (files : Two (List ℕ)) (file : ℕ) → journal_file files ≡ Some file → format_of (format_in (file_of files file)) ≡ None
-    → stands clients files ≡ damaged file 5
-unfolding stands
+    → read_standing clients files ≡ damaged file 5
+unfolding read_standing
 front_format clients files file e other = ap (stands_in clients files) e ∙ ap (read_in clients file (file_of files file)) other
 
 -- the first gate
 pub front_start : (clients : Meaning) (files : Two (List ℕ)) (file : ℕ) (format : Format) → journal_file files ≡ Some file
     → format_of (format_in (file_of files file)) ≡ Some format → Front clients files file format [] 15
-unfolding stands
+unfolding read_standing
 front_start clients files file format e known =
     let bytes = file_of files file in
     let header : take 14 bytes ++ [] ≡ take 14 bytes = append-nil (take 14 bytes) in
@@ -139,7 +166,7 @@ some_end clients files file format done end front = omega (arith, front.end_is)
 
 -- what the files stand for, by the frame at the gate
 pub front_once : (clients : Meaning) (files : Two (List ℕ)) (file : ℕ) (format : Format) (done : List (List Entry)) (end : ℕ) (frame : Frame) → Front clients files file format done end
-    → frame_at (file_of files file) (end - 1) ≡ frame → stands clients files ≡ read_on clients format file (rest_from clients format file (file_of files file)) (end - 1) done frame
+    → frame_at (file_of files file) (end - 1) ≡ frame → read_standing clients files ≡ read_on clients format file (rest_from clients format file (file_of files file)) (end - 1) done frame
 front_once clients files file format done end frame front e =
     let far = some_end clients files file format done end front in
     front.going ∙ rest_once clients format file (file_of files file) (end - 1) done (omega arith)
@@ -147,26 +174,26 @@ front_once clients files file format done end frame front e =
 
 -- no gate or no whole frame stands there
 pub front_broken : (clients : Meaning) (files : Two (List ℕ)) (file : ℕ) (format : Format) (done : List (List Entry)) (end : ℕ) → Front clients files file format done end
-    → frame_at (file_of files file) (end - 1) ≡ broken → stands clients files ≡ damaged file (end - 1)
+    → frame_at (file_of files file) (end - 1) ≡ broken → read_standing clients files ≡ damaged file (end - 1)
 front_broken clients files file format done end front e = front_once clients files file format done end broken front e
 
 -- the payload is no batch
 pub front_unread : (clients : Meaning) (files : Two (List ℕ)) (file : ℕ) (format : Format) (done : List (List Entry)) (end : ℕ) (to : List ℕ) → Front clients files file format done end
-    → frame_at (file_of files file) (end - 1) ≡ framed to → batch_of format (facts done) to ≡ None → stands clients files ≡ damaged file (end - 1)
+    → frame_at (file_of files file) (end - 1) ≡ framed to → batch_of format (facts done) to ≡ None → read_standing clients files ≡ damaged file (end - 1)
 front_unread clients files file format done end to front e none =
     front_once clients files file format done end (framed to) front e
     ∙ ap (taken_on clients file (rest_from clients format file (file_of files file) (end - 1 + 5 + length to)) (end - 1) done) none
 
 -- the batch is not allowed
 pub front_refused : (clients : Meaning) (files : Two (List ℕ)) (file : ℕ) (format : Format) (done : List (List Entry)) (end : ℕ) (to : List ℕ) (batch : List Entry) → Front clients files file format done end
-    → frame_at (file_of files file) (end - 1) ≡ framed to → batch_of format (facts done) to ≡ Some batch → allows clients (facts done) batch ≡ false → stands clients files ≡ damaged file (end - 1)
+    → frame_at (file_of files file) (end - 1) ≡ framed to → batch_of format (facts done) to ≡ Some batch → allows clients (facts done) batch ≡ false → read_standing clients files ≡ damaged file (end - 1)
 front_refused clients files file format done end to batch front e some refused =
     front_once clients files file format done end (framed to) front e
     ∙ ap (taken_on clients file (rest_from clients format file (file_of files file) (end - 1 + 5 + length to)) (end - 1) done) some
     ∙ cond-false (allows clients (facts done) batch) _ _ refused
 
 closed_at : (clients : Meaning) (files : Two (List ℕ)) (file : ℕ) (format : Format) (done : List (List Entry)) (end : ℕ) (t : Bool) → Front clients files file format done end
-    → frame_at (file_of files file) (end - 1) ≡ closed → nat_le (end + room_of format (facts done)) MAX_JOURNAL ≡ t → stands clients files ≡ cond t (journal done) (damaged file (end - 1))
+    → frame_at (file_of files file) (end - 1) ≡ closed → nat_le (end + room_of format (facts done)) MAX_JOURNAL ≡ t → read_standing clients files ≡ cond t (journal done) (damaged file (end - 1))
 closed_at clients files file format done end t front e sum =
     let far = some_end clients files file format done end front in
     let same : end - 1 + 1 + room_of format (facts done) ≡ end + room_of format (facts done) = omega arith in
@@ -175,13 +202,13 @@ closed_at clients files file format done end t front e sum =
 
 -- the journal ends there
 pub front_closed : (clients : Meaning) (files : Two (List ℕ)) (file : ℕ) (format : Format) (done : List (List Entry)) (end : ℕ) → Front clients files file format done end
-    → frame_at (file_of files file) (end - 1) ≡ closed → end + room_of format (facts done) ≤ MAX_JOURNAL → stands clients files ≡ journal done
+    → frame_at (file_of files file) (end - 1) ≡ closed → end + room_of format (facts done) ≤ MAX_JOURNAL → read_standing clients files ≡ journal done
 front_closed clients files file format done end front e fits =
     closed_at clients files file format done end true front e (le-leb (end + room_of format (facts done)) MAX_JOURNAL fits)
 
 -- its room is not left
 pub front_full : (clients : Meaning) (files : Two (List ℕ)) (file : ℕ) (format : Format) (done : List (List Entry)) (end : ℕ) → Front clients files file format done end
-    → frame_at (file_of files file) (end - 1) ≡ closed → MAX_JOURNAL < end + room_of format (facts done) → stands clients files ≡ damaged file (end - 1)
+    → frame_at (file_of files file) (end - 1) ≡ closed → MAX_JOURNAL < end + room_of format (facts done) → read_standing clients files ≡ damaged file (end - 1)
 front_full clients files file format done end front e over =
     closed_at clients files file format done end false front e (lt-leb (end + room_of format (facts done)) MAX_JOURNAL over)
 

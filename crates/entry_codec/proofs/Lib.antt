@@ -20,3 +20,5 @@ mod ReadSteps
 mod WriteSteps
 pub mod Growing
 pub mod FrontLaws
+pub mod Standings
+pub mod OneStanding

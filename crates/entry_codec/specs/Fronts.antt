@@ -12,7 +12,7 @@ use Rattle.entry_codec.specs.declared.naming.Format.{Format}
 use Rattle.entry_codec.specs.Naming.{format_of}
 use Rattle.entry_codec.specs.Spelling.{IsEntry, IsOfFormat}
 use Rattle.entry_codec.specs.Payloads.{journal_end, payloads}
-use Rattle.entry_codec.specs.Standing.{rest_from, stands}
+use Rattle.entry_codec.specs.ReadingFiles.{read_standing, rest_from}
 
 -- ---- frames
 
@@ -29,7 +29,7 @@ pub record FitsFile (bytes : List ℕ) (place : ℕ) (to : List ℕ) : Type 0 wh
 pub record Front (clients : Meaning) (files : Two (List ℕ)) (file : ℕ) (format : Format) (done : List (List Entry)) (end : ℕ) : Type 0 where
   pub found : journal_file files ≡ Some file
   pub format_is : format_of (format_in (file_of files file)) ≡ Some format
-  pub going : stands clients files ≡ rest_from clients format file (file_of files file) (end - 1) done
+  pub going : read_standing clients files ≡ rest_from clients format file (file_of files file) (end - 1) done
   pub legal : Legal clients done
   pub kinds : AllByRecursion (AllByRecursion (IsOfFormat format)) done
   pub within : AllByRecursion (AllByRecursion IsEntry) done

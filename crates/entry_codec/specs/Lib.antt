@@ -5,5 +5,7 @@ pub mod Answers
 pub mod Payloads
 pub mod Laws
 pub mod Standing
+pub mod ReadingFiles
 pub mod StandingLaws
+pub mod FilesHold
 pub mod Fronts

@@ -11,7 +11,8 @@ use Rattle.entry_codec.specs.declared.naming.Format.{Format}
 use Rattle.entry_codec.specs.Naming.{AreNames, IsNamed, format_of}
 use Rattle.entry_codec.specs.Spelling.{EntryNames, IsEntry, IsOfFormat, MayBeWritten}
 use Rattle.entry_codec.specs.Payloads.{batch_of, journal_end, names_of, payload, payloads}
-use Rattle.entry_codec.specs.Standing.{journal, room_of, stands}
+use Rattle.entry_codec.specs.Standing.{journal, room_of}
+use Rattle.entry_codec.specs.ReadingFiles.{read_standing}
 use Rattle.outside.specs.declared.limits.TheConstants.{MAX_JOURNAL}
 
 -- a batch whose entries are of kinds that the format has, are within their limits, and name as held only what the format can
@@ -65,8 +66,8 @@ pub record HoldsJournal (clients : Meaning) (files : Two (List ℕ)) (file : ℕ
 -- files that hold a journal stand for it
 abbrev pub JournalsStand : Type 0
 JournalsStand = (clients : Meaning) (files : Two (List ℕ)) (file : ℕ) (format : Format) (j : List (List Entry)) → HoldsJournal clients files file format j
-    → stands clients files ≡ journal j
+    → read_standing clients files ≡ journal j
 
 -- a journal that files stand for is legal
 abbrev pub StandingIsLegal : Type 0
-StandingIsLegal = (clients : Meaning) (files : Two (List ℕ)) (j : List (List Entry)) → stands clients files ≡ journal j → Legal clients j
+StandingIsLegal = (clients : Meaning) (files : Two (List ℕ)) (j : List (List Entry)) → read_standing clients files ≡ journal j → Legal clients j

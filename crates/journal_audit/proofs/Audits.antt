@@ -8,7 +8,8 @@ use Rattle.outside.specs.Files.{File, Two, file_of, read_files}
 use Rattle.outside.specs.Frames.{format_in, journal_file}
 use Rattle.entry_codec.specs.declared.naming.Format.{Format}
 use Rattle.entry_codec.specs.Naming.{format_of}
-use Rattle.entry_codec.specs.Standing.{Standing, damaged, no_store, stands}
+use Rattle.entry_codec.specs.Standing.{Standing, damaged, no_store}
+use Rattle.file_standing.specs.Standing.{stands}
 use Rattle.entry_codec.proofs.FrontLaws.{front_format, front_none, front_start}
 use Rattle.std.proofs.lemmas.Bool.{false≢true}
 use Rattle.sync_rules.specs.declared.entries.Entry.{Entry}

@@ -6,7 +6,8 @@ use Rattle.outside.specs.declared.limits.TheConstants.{MAX_JOURNAL}
 use Rattle.outside.specs.Frames.{Frame, broken, closed, frame_at, framed}
 use Rattle.entry_codec.specs.declared.naming.Format.{Format}
 use Rattle.entry_codec.specs.Payloads.{batch_in, names_of}
-use Rattle.entry_codec.specs.Standing.{Standing, damaged, ended, journal, read_on, rest_from, room_of, step_bytes, taken_on}
+use Rattle.entry_codec.specs.Standing.{Standing, damaged, journal, room_of, step_bytes}
+use Rattle.entry_codec.specs.ReadingFiles.{ended, read_on, rest_from, taken_on}
 use Rattle.entry_codec.proofs.FrontLaws.{framed_fits, rest_once}
 use Rattle.sync_rules.specs.declared.entries.Entry.{Entry}
 use Rattle.sync_rules.specs.Allows.{AllowsIsAllowed, allows}

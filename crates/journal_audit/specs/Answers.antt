@@ -2,7 +2,8 @@
 use Rattle.std.specs.Prelude.{◌≡◌, true, ℕ, List, Option, Result, Ok, Err}
 use Rattle.outside.specs.Disk.{RelatesTold}
 use Rattle.outside.specs.Files.{File, Two}
-use Rattle.entry_codec.specs.Standing.{Standing, damaged, journal, no_store, stands}
+use Rattle.entry_codec.specs.Standing.{Standing, damaged, journal, no_store}
+use Rattle.file_standing.specs.Standing.{stands}
 use Rattle.sync_rules.specs.declared.entries.Entry.{Entry}
 use Rattle.sync_rules.specs.Clients.{Meaning}
 use Rattle.sync_rules.specs.Legal.{Legal}

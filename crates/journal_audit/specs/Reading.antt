@@ -4,7 +4,8 @@ use Rattle.outside.specs.declared.disk.Place.{Place}
 use Rattle.outside.specs.declared.limits.TheConstants.{MAX_JOURNAL}
 use Rattle.outside.specs.Frames.{closed, frame_at}
 use Rattle.entry_codec.specs.declared.naming.Format.{Format}
-use Rattle.entry_codec.specs.Standing.{Standing, damaged, journal, rest_from}
+use Rattle.entry_codec.specs.Standing.{Standing, damaged, journal}
+use Rattle.entry_codec.specs.ReadingFiles.{rest_from}
 use Rattle.sync_rules.specs.declared.entries.Entry.{Entry}
 use Rattle.sync_rules.specs.Clients.{Meaning}
 use Rattle.sync_rules.specs.Facts.{entries_of}

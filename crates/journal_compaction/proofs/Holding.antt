@@ -17,7 +17,8 @@ use Rattle.sync_rules.specs.Clients.{Meaning}
 use Rattle.entry_codec.specs.declared.naming.Format.TheVariants as kind
 use Rattle.sync_rules.specs.Facts.{nothing}
 use Rattle.entry_codec.specs.Payloads.{payloads}
-use Rattle.entry_codec.specs.Standing.{journal, stands}
+use Rattle.entry_codec.specs.Standing.{journal}
+use Rattle.file_standing.specs.Standing.{stands}
 use Rattle.entry_codec.proofs.FrontLaws.{found_open}
 use Rattle.journal_migration.specs.Migrating.{HoldsSecond}
 use Rattle.journal_migration.specs.Starting.{EndsOrStays}

@@ -12,7 +12,8 @@ use Rattle.brief_account.specs.Account.{brief_of}
 use Rattle.brief_account.specs.Brief.{brief}
 use Rattle.entry_codec.specs.declared.naming.Format.TheVariants as kind
 use Rattle.entry_codec.specs.Payloads.{journal_end}
-use Rattle.entry_codec.specs.Standing.{journal, room_of, stands}
+use Rattle.entry_codec.specs.Standing.{journal, room_of}
+use Rattle.file_standing.specs.Standing.{stands}
 use Rattle.journal_migration.specs.Migrating.{HoldsSecond, other_number}
 use Rattle.journal_compaction.specs.declared.fault.CompactionFault.{CompactionFault}
 use Rattle.journal_compaction.specs.declared.fault.CompactionFault.TheVariants as fault

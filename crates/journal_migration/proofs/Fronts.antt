@@ -16,8 +16,11 @@ use Rattle.sync_rules.specs.Allows.{allows}
 use Rattle.entry_codec.specs.declared.naming.Format.{Format}
 use Rattle.entry_codec.specs.Naming.{format_of}
 use Rattle.entry_codec.specs.Payloads.{batch_of, payloads}
-use Rattle.entry_codec.specs.Standing.{Standing, damaged, frames_from, journal, read_on, rest_from}
-use Rattle.entry_codec.specs.Standing.{room_of, stands, taken_on}
+use Rattle.entry_codec.specs.Standing.{Standing, damaged, journal}
+use Rattle.entry_codec.specs.ReadingFiles.{frames_from, read_on, rest_from}
+use Rattle.entry_codec.specs.Standing.{room_of}
+use Rattle.entry_codec.specs.ReadingFiles.{taken_on}
+use Rattle.file_standing.specs.Standing.{stands}
 use Rattle.entry_codec.specs.Fronts.{Front}
 use Rattle.entry_codec.proofs.FrontLaws.{front_once}
 use Rattle.journal_migration.proofs.Sides.{stands_own}

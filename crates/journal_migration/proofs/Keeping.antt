@@ -10,7 +10,7 @@ use Rattle.outside.proofs.CallSteps.{moments_map, moments_then, told_on}
 use Rattle.frame_journal.specs.Create.{BeforeOrShut}
 use Rattle.sync_rules.specs.declared.entries.Entry.{Entry}
 use Rattle.sync_rules.specs.Clients.{Meaning}
-use Rattle.entry_codec.specs.Standing.{stands}
+use Rattle.file_standing.specs.Standing.{stands}
 use Rattle.journal_migration.specs.Migrating.{HoldsFirst, KeepsJournal, StandsStill}
 use Rattle.journal_migration.proofs.Sides.{image_only, own_file, read_file, settled_one}
 use Rattle.journal_migration.proofs.Sides.{shut_stands, two_same}

@@ -10,7 +10,9 @@ use Rattle.outside.specs.Steps.{other_of}
 use Rattle.sync_rules.specs.declared.entries.Entry.{Entry}
 use Rattle.sync_rules.specs.Clients.{Meaning}
 use Rattle.entry_codec.specs.Naming.{format_of}
-use Rattle.entry_codec.specs.Standing.{journal, read_in, stands, stands_in}
+use Rattle.entry_codec.specs.Standing.{journal}
+use Rattle.entry_codec.specs.ReadingFiles.{read_in, read_standing, stands_in}
+use Rattle.file_standing.specs.Standing.{stands}
 use Rattle.entry_codec.proofs.FrontLaws.{found_open}
 use Rattle.journal_migration.specs.Migrating.{HoldsFirst}
 
@@ -82,7 +84,7 @@ one_open m (suc (suc n)) few this other = absurd (omega (arith, few))
 pub stands_own : (clients : Meaning) (m n : Two (List ℕ)) (own : ℕ) → journal_file m ≡ Some own
     → journal_file n ≡ Some own → file_of m own ≡ file_of n own
     → stands clients m ≡ stands clients n
-unfolding stands
+unfolding read_standing
 stands_own clients m n own first second same =
     ap (stands_in clients m) first
     ∙ ap (λ (bytes : List ℕ). read_in clients own bytes (format_of (format_in bytes))) same

@@ -16,7 +16,8 @@ use Rattle.sync_rules.specs.Legal.{Legal}
 use Rattle.entry_codec.specs.declared.naming.Format.TheVariants as kind
 use Rattle.entry_codec.specs.Payloads.{journal_end, payloads}
 use Rattle.entry_codec.specs.Spelling.{IsEntry}
-use Rattle.entry_codec.specs.Standing.{journal, room_of, stands}
+use Rattle.entry_codec.specs.Standing.{journal, room_of}
+use Rattle.file_standing.specs.Standing.{stands}
 use Rattle.journal_migration.specs.declared.fault.MigrationFault.{MigrationFault}
 use Rattle.journal_migration.specs.declared.fault.MigrationFault.TheVariants as fault
 

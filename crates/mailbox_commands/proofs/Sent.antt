@@ -31,7 +31,7 @@ use Rattle.sync_words.specs.declared.outcome.Outcome.{Outcome}
 use Rattle.sync_words.specs.declared.outcome.Outcome.TheVariants as outcome
 use Rattle.sync_words.specs.Outcomes.{came_to}
 use Rattle.store_commands.specs.Commit.{SettlesAnew}
-use Rattle.entry_codec.specs.Standing.{stands}
+use Rattle.file_standing.specs.Standing.{stands}
 use Rattle.store_commands.specs.Load.{IsLoaded, LoadKeeps, LoadedBy, MayExtend}
 use Rattle.store_commands.specs.Show.{PrintsText, LeavesFilesSo}
 use Rattle.store_commands.specs.Stopping.{NeverReads}

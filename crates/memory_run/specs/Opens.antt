@@ -8,7 +8,7 @@ use Rattle.outside.specs.MemDisk.{MemDiskValue}
 use Rattle.outside.specs.MemHost.{MemHostValue}
 use Rattle.outside.specs.MemMoments.{files_at}
 use Rattle.sync_rules.specs.Clients.{Meaning}
-use Rattle.entry_codec.specs.Standing.{stands}
+use Rattle.file_standing.specs.Standing.{stands}
 use Rattle.sync_node.specs.Output.{heard_on}
 use Rattle.commands.specs.declared.command.Command.TheVariants as command
 use Rattle.commands.specs.Reading.{Asked}

@@ -19,7 +19,8 @@ use Rattle.brief_account.specs.Laws.{BriefIsByFacts}
 use Rattle.entry_codec.specs.declared.naming.Format.{Format}
 use Rattle.entry_codec.specs.declared.naming.Format.TheVariants as kind
 use Rattle.entry_codec.specs.Payloads.{journal_end}
-use Rattle.entry_codec.specs.Standing.{Standing, journal, room_of, stands}
+use Rattle.entry_codec.specs.Standing.{Standing, journal, room_of}
+use Rattle.file_standing.specs.Standing.{stands}
 use Rattle.journal_compaction.specs.Compacting.{compacted_len}
 use Rattle.sync_store.specs.Compactions.{IsOrBrief}
 use Rattle.sync_store.specs.Fitting.{FitsFiles}

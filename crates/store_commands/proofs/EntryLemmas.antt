@@ -9,7 +9,8 @@ use Rattle.sync_rules.specs.declared.entries.Entry.{Entry}
 use Rattle.sync_rules.specs.declared.states.Refused.{Refused}
 use Rattle.sync_rules.specs.Clients.{Meaning}
 use Rattle.sync_rules.specs.Facts.{Facts, facts}
-use Rattle.entry_codec.specs.Standing.{Standing, journal, stands}
+use Rattle.entry_codec.specs.Standing.{Standing, journal}
+use Rattle.file_standing.specs.Standing.{stands}
 use Rattle.sync_store.specs.Store.{StoreValue}
 use Rattle.sync_store.specs.Moments.{JournalMoment}
 use Rattle.sync_words.specs.declared.outcome.Outcome.{Outcome}

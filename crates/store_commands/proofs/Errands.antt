@@ -19,7 +19,8 @@ use Rattle.sync_rules.specs.Steps.{IsSettled}
 use Rattle.entry_codec.specs.declared.naming.Format.{Format}
 use Rattle.entry_codec.specs.declared.naming.Format.TheVariants as kind
 use Rattle.entry_codec.specs.Payloads.{journal_end, payload_len}
-use Rattle.entry_codec.specs.Standing.{journal, room_of, stands}
+use Rattle.entry_codec.specs.Standing.{journal, room_of}
+use Rattle.file_standing.specs.Standing.{stands}
 use Rattle.sync_store.specs.Commits.{needed}
 use Rattle.sync_store.specs.Fitting.{FitsFiles}
 use Rattle.sync_store.specs.Moments.{JournalMoment}

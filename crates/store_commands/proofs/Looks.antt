@@ -5,7 +5,8 @@ use Rattle.outside.specs.Outside.{Outside, DiskRun}
 use Rattle.sync_rules.specs.declared.states.Refused.{Refused}
 use Rattle.sync_rules.specs.Clients.{Meaning}
 use Rattle.sync_rules.specs.Facts.{Facts}
-use Rattle.entry_codec.specs.Standing.{Standing, stands}
+use Rattle.entry_codec.specs.Standing.{Standing}
+use Rattle.file_standing.specs.Standing.{stands}
 use Rattle.sync_store.specs.Store.{StoreValue}
 use Rattle.sync_words.specs.declared.outcome.Outcome.{Outcome}
 use Rattle.sync_words.specs.declared.outcome.Outcome.TheVariants as outcome

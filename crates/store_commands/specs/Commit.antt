@@ -15,7 +15,8 @@ use Rattle.sync_rules.specs.Steps.{IsSettled}
 use Rattle.entry_codec.specs.declared.naming.Format.{Format}
 use Rattle.entry_codec.specs.declared.naming.Format.TheVariants as kind
 use Rattle.entry_codec.specs.Naming.{format_of}
-use Rattle.entry_codec.specs.Standing.{journal, stands}
+use Rattle.entry_codec.specs.Standing.{journal}
+use Rattle.file_standing.specs.Standing.{stands}
 use Rattle.sync_store.specs.Commits.{needed}
 use Rattle.sync_store.specs.Migrations.{IsSpent}
 use Rattle.sync_store.specs.Store.{StoreValue, written_in}

@@ -9,7 +9,8 @@ use Rattle.outside.specs.Streams.{Stream, GetsFront}
 use Rattle.sync_rules.specs.declared.entries.Entry.{Entry}
 use Rattle.sync_rules.specs.declared.states.Refused.{Refused}
 use Rattle.sync_rules.specs.Clients.{Meaning}
-use Rattle.entry_codec.specs.Standing.{Standing, no_store, damaged, journal, stands}
+use Rattle.entry_codec.specs.Standing.{Standing, no_store, damaged, journal}
+use Rattle.file_standing.specs.Standing.{stands}
 use Rattle.sync_words.specs.declared.outcome.Outcome.{Outcome}
 use Rattle.sync_words.specs.declared.outcome.Outcome.TheVariants as outcome
 use Rattle.store_commands.specs.Causes.{is_added, is_late}

@@ -4,7 +4,7 @@ ghost use Rattle.outside.specs.Disk.{RelatesTold};
 ghost use Rattle.outside.specs.Files.{Two, File, read_files};
 ghost use Rattle.outside.specs.Outside.{DiskRun};
 ghost use Rattle.frame_journal.specs.Gates.{ReadsSame};
-ghost use Rattle.entry_codec.specs.Standing.{stands};
+ghost use Rattle.file_standing.specs.Standing.{stands};
 ghost use Rattle.store_commands.specs.Show.{LeavesFilesSo};
 ghost use Rattle.store_commands.specs.Load.{IsLoaded, IsStoreOpened, LoadLeavesSettled, LoadedBy};
 ghost use Rattle.store_commands.specs.Load.{LoadKeeps};

@@ -3,7 +3,8 @@
 use Rattle.std.specs.Prelude.{◌≡◌, ℕ, cond, nat_eq, List, [], ◌∷◌, ◌++◌, take, slice_index_or}
 use Rattle.outside.specs.Outside.{Moment}
 use Rattle.outside.specs.Runs.{IsFront}
-use Rattle.entry_codec.specs.Standing.{journal, stands}
+use Rattle.entry_codec.specs.Standing.{journal}
+use Rattle.file_standing.specs.Standing.{stands}
 use Rattle.sync_rules.specs.declared.entries.Entry.{Entry}
 use Rattle.sync_rules.specs.Clients.{Meaning}
 use Rattle.sync_course.specs.Events.{Break, Commit, Event, Pass, batches_of}

@@ -2,7 +2,8 @@
 use Rattle.std.specs.Prelude.{◌≡◌, ◌⊎◌, ℕ, ◌+◌, false, List, [], ◌∷◌, ◌++◌, Some, slice_get, slice_index_or}
 use Rattle.outside.specs.Outside.{Moment}
 use Rattle.outside.specs.Runs.{IsFront}
-use Rattle.entry_codec.specs.Standing.{journal, stands}
+use Rattle.entry_codec.specs.Standing.{journal}
+use Rattle.file_standing.specs.Standing.{stands}
 use Rattle.record_grammar.specs.Spelling.{spelled}
 use Rattle.sync_rules.specs.declared.entries.Entry.{Entry}
 use Rattle.sync_rules.specs.declared.entries.Entry.TheVariants as entry

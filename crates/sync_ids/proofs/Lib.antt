@@ -1,3 +1,3 @@
 mod IdBytes
-mod IdLengths
+pub mod IdLengths
 pub mod Same

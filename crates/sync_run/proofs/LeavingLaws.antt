@@ -8,7 +8,8 @@ use Rattle.outside.specs.Files.{File, Two, read_files}
 use Rattle.outside.specs.Links.{Links}
 use Rattle.outside.specs.Outside.{DiskRun, IsNow, MomentsAre, Outside}
 use Rattle.frame_journal.specs.Gates.{ReadsSame}
-use Rattle.entry_codec.specs.Standing.{Standing, journal, stands}
+use Rattle.entry_codec.specs.Standing.{Standing, journal}
+use Rattle.file_standing.specs.Standing.{stands}
 use Rattle.sync_rules.specs.Clients.{Meaning}
 use Rattle.sync_rules.specs.Facts.{Facts, facts}
 use Rattle.sync_rules.specs.declared.states.Refused.{Refused}

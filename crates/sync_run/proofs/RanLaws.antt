@@ -16,7 +16,8 @@ use Rattle.outside.specs.Outside.{DiskRun, IsNow, Moment, MomentsAre, Outside}
 use Rattle.outside.specs.Runs.{IsFront, LinksGrow, TellsAll, answers_at, heard_bytes}
 use Rattle.record_grammar.specs.Spelling.{spelled}
 use Rattle.frame_journal.specs.Gates.{ReadsSame}
-use Rattle.entry_codec.specs.Standing.{Standing, journal, stands}
+use Rattle.entry_codec.specs.Standing.{Standing, journal}
+use Rattle.file_standing.specs.Standing.{stands}
 use Rattle.sync_rules.specs.declared.entries.Session.{Session}
 use Rattle.sync_rules.specs.declared.states.Refused.{Refused}
 use Rattle.sync_rules.specs.Clients.{Meaning}

@@ -3,7 +3,7 @@ use Rattle.std.specs.Prelude.{◌≡◌, List, Some, Result, IfOk, IsErrOf}
 use Rattle.outside.specs.Files.{Two, File, read_files}
 use Rattle.outside.specs.Outside.{Outside}
 use Rattle.sync_rules.specs.Clients.{Meaning}
-use Rattle.entry_codec.specs.Standing.{stands}
+use Rattle.file_standing.specs.Standing.{stands}
 use Rattle.sync_words.specs.Outcomes.{links_came_to}
 use Rattle.sync_words.specs.declared.link_words.LinkWords.{LinkWords}
 use Rattle.sync_course.specs.Closing.{Closing}

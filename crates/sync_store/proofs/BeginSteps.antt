@@ -21,7 +21,9 @@ use Rattle.entry_codec.specs.declared.naming.Format.TheVariants as kind
 use Rattle.entry_codec.specs.Naming.{format_of}
 use Rattle.entry_codec.specs.Payloads.{payloads}
 use Rattle.entry_codec.specs.StandingLaws.{JournalsStand}
-use Rattle.entry_codec.specs.Standing.{stands, stands_in, journal, no_store}
+use Rattle.entry_codec.specs.Standing.{journal, no_store}
+use Rattle.entry_codec.specs.ReadingFiles.{read_standing, stands_in}
+use Rattle.file_standing.specs.Standing.{stands}
 use Rattle.sync_store.specs.Begin.{BeginsJournal, InitMoment, IsFree, has_open}
 use Rattle.sync_store.proofs.FitSteps.{settled_only}
 
@@ -32,7 +34,7 @@ none_open m first second = cc
 
 shut_stands : (clients : Meaning) (m : Two (List ℕ)) → is_open m.first ≡ false
     → is_open m.second ≡ false → stands clients m ≡ no_store
-unfolding stands
+unfolding read_standing
 shut_stands clients m first second = ap (stands_in clients m) (none_open m first second)
 
 -- a journal is begun in file 0

@@ -26,7 +26,8 @@ use Rattle.entry_codec.proofs.LawProofs.{batch_len_same}
 use Rattle.sync_rules.proofs.Continuing.{legal-push}
 use Rattle.entry_codec.proofs.Growing.{all_push, facts_push, payloads_push}
 use Rattle.entry_codec.specs.Spelling.{IsEntry, IsOfFormat}
-use Rattle.entry_codec.specs.Standing.{stands, journal, room_of}
+use Rattle.entry_codec.specs.Standing.{journal, room_of}
+use Rattle.file_standing.specs.Standing.{stands}
 use Rattle.entry_codec.specs.StandingLaws.{JournalsStand}
 use Rattle.outside.specs.declared.limits.TheConstants.{MAX_JOURNAL}
 use Rattle.sync_store.specs.declared.fault.StoreFault.{StoreFault}

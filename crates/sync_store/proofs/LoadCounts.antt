@@ -9,7 +9,8 @@ use Rattle.frame_journal.specs.Journal.{JournalValue}
 use Rattle.frame_journal.specs.Next.{FrameCalls, MovesReader, NextFrame}
 use Rattle.sync_rules.specs.declared.entries.Entry.{Entry}
 use Rattle.sync_rules.specs.Clients.{Meaning}
-use Rattle.entry_codec.specs.Standing.{journal, stands}
+use Rattle.entry_codec.specs.Standing.{journal}
+use Rattle.file_standing.specs.Standing.{stands}
 use Rattle.journal_migration.proofs.Fronts.{gate_whole, rest_front}
 use Rattle.journal_state.specs.Whole.{StateValue}
 use Rattle.sync_store.specs.Cited.{StoreLaws}

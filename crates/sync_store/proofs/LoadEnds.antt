@@ -22,7 +22,8 @@ use Rattle.frame_journal.specs.declared.fault.StartFault.{StartFault}
 use Rattle.frame_journal.specs.declared.fault.StartFault.TheVariants as start
 use Rattle.entry_codec.specs.Naming.{format_of}
 use Rattle.entry_codec.specs.Payloads.{payloads}
-use Rattle.entry_codec.specs.Standing.{damaged, no_store, room_of, stands}
+use Rattle.entry_codec.specs.Standing.{damaged, no_store, room_of}
+use Rattle.file_standing.specs.Standing.{stands}
 use Rattle.entry_codec.specs.Fronts.{Front}
 use Rattle.entry_codec.proofs.FrontLaws.{front_closed, front_format, front_frames, front_none}
 use Rattle.entry_codec.proofs.FrontLaws.{front_start}

@@ -17,7 +17,8 @@ use Rattle.entry_codec.specs.declared.naming.Format.{Format}
 use Rattle.entry_codec.specs.Naming.{format_of}
 use Rattle.entry_codec.specs.Payloads.{batch_of, payload}
 use Rattle.entry_codec.proofs.Growing.{facts_push}
-use Rattle.entry_codec.specs.Standing.{Standing, damaged, room_of, stands}
+use Rattle.entry_codec.specs.Standing.{Standing, damaged, room_of}
+use Rattle.file_standing.specs.Standing.{stands}
 use Rattle.entry_codec.specs.Fronts.{Front}
 use Rattle.entry_codec.proofs.FrontLaws.{front_broken, front_full, front_more, front_refused}
 use Rattle.entry_codec.proofs.FrontLaws.{front_unread}

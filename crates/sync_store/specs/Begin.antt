@@ -6,7 +6,8 @@ use Rattle.outside.specs.Links.{Links, sent_of}
 use Rattle.outside.specs.Outside.{Moment, IsNow}
 use Rattle.frame_journal.specs.Create.{begun_bytes}
 use Rattle.sync_rules.specs.Clients.{Meaning}
-use Rattle.entry_codec.specs.Standing.{stands, journal, no_store}
+use Rattle.entry_codec.specs.Standing.{journal, no_store}
+use Rattle.file_standing.specs.Standing.{stands}
 use Rattle.sync_store.specs.declared.fault.InitFault.{InitFault}
 use Rattle.sync_store.specs.declared.fault.InitFault.TheVariants as init
 

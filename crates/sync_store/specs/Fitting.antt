@@ -10,7 +10,8 @@ use Rattle.sync_rules.specs.Legal.{Legal}
 use Rattle.entry_codec.specs.Naming.{format_of}
 use Rattle.entry_codec.specs.Payloads.{journal_end, payloads}
 use Rattle.entry_codec.specs.Spelling.{IsEntry, IsOfFormat}
-use Rattle.entry_codec.specs.Standing.{stands, journal, room_of}
+use Rattle.entry_codec.specs.Standing.{journal, room_of}
+use Rattle.file_standing.specs.Standing.{stands}
 use Rattle.outside.specs.declared.limits.TheConstants.{MAX_JOURNAL}
 use Rattle.sync_store.specs.Store.{StoreValue, written_in}
 

@@ -18,7 +18,8 @@ use Rattle.entry_codec.specs.declared.naming.Format.{Format}
 use Rattle.entry_codec.specs.Naming.{format_of}
 use Rattle.entry_codec.specs.Spelling.{IsEntry}
 use Rattle.entry_codec.specs.Payloads.{batch_of, payload}
-use Rattle.entry_codec.specs.Standing.{damaged, journal, no_store, room_of, stands}
+use Rattle.entry_codec.specs.Standing.{damaged, journal, no_store, room_of}
+use Rattle.file_standing.specs.Standing.{stands}
 use Rattle.entry_codec.specs.Fronts.{Front}
 use Rattle.journal_state.specs.Whole.{KnowsJudgements, StateValue}
 use Rattle.outside.specs.declared.limits.TheConstants.{MAX_JOURNAL}

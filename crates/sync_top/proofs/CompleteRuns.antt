@@ -14,7 +14,8 @@ use Rattle.sync_ids.specs.declared.records.Record.{Record}
 use Rattle.sync_rules.specs.declared.entries.Entry.{Entry}
 use Rattle.sync_rules.specs.Clients.{Meaning}
 use Rattle.sync_rules.specs.Facts.{facts}
-use Rattle.entry_codec.specs.Standing.{Standing, damaged, journal, no_store, stands}
+use Rattle.entry_codec.specs.Standing.{Standing, damaged, journal, no_store}
+use Rattle.file_standing.specs.Standing.{stands}
 use Rattle.sync_course.specs.declared.ends.LinkEnd.{LinkEnd}
 use Rattle.sync_course.specs.declared.ends.LinkEnd.TheVariants as end
 use Rattle.sync_course.specs.Links.{Link, closes}

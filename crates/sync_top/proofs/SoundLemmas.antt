@@ -17,7 +17,8 @@ use Rattle.sync_rules.specs.Legal.{Allowed, IsSettlingBatch, Legal}
 use Rattle.sync_rules.specs.Output.{SendsTheOpen}
 use Rattle.sync_rules.proofs.Settling.{after_batches-append, goes_on_back}
 use Rattle.sync_rules.proofs.StepLaws.{next_is_settling}
-use Rattle.entry_codec.specs.Standing.{Standing, stands}
+use Rattle.entry_codec.specs.Standing.{Standing}
+use Rattle.file_standing.specs.Standing.{stands}
 use Rattle.entry_codec.specs.StandingLaws.{StandingIsLegal}
 use Rattle.sync_course.specs.Suits.{TakesHeard}
 use Rattle.sync_node.specs.Output.{Journal, heard_on, sent_on}

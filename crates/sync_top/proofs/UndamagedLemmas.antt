@@ -11,7 +11,9 @@ use Rattle.sync_rules.specs.declared.states.Refused.{Refused}
 use Rattle.sync_rules.specs.declared.states.Refused.TheVariants as refused
 use Rattle.sync_rules.specs.Clients.{Meaning}
 use Rattle.sync_rules.specs.Facts.{Facts, Id}
-use Rattle.entry_codec.specs.Standing.{Standing, journal, no_store, stands, stands_in}
+use Rattle.entry_codec.specs.Standing.{Standing, journal, no_store}
+use Rattle.entry_codec.specs.ReadingFiles.{read_standing, stands_in}
+use Rattle.file_standing.specs.Standing.{stands}
 use Rattle.sync_store.specs.Begin.{InitMoment, has_open}
 use Rattle.sync_words.specs.declared.outcome.Outcome.{Outcome}
 use Rattle.sync_words.specs.declared.outcome.Outcome.TheVariants as outcome
@@ -63,7 +65,7 @@ none_open two none =
 
 no_store_there : (clients : Meaning) (two : Two File) → has_open two ≡ false → stands clients
     (read_files two) ≡ no_store
-unfolding stands
+unfolding read_standing
 no_store_there clients two none = ap (stands_in clients (read_files two)) (none_open two none)
 
 -- ---- the moments of the commands

@@ -12,7 +12,8 @@ use Rattle.sync_rules.specs.Facts.{ExtendsJournal, facts, takes_of}
 use Rattle.sync_rules.specs.Laws.{BringsOnce, EndsOnce, HasOwnOrigin, IsInOrder, JudgesOnce}
 use Rattle.sync_rules.specs.Legal.{Legal}
 use Rattle.sync_rules.specs.Output.{SendsTheOpen}
-use Rattle.entry_codec.specs.Standing.{Standing, journal, stands}
+use Rattle.entry_codec.specs.Standing.{Standing, journal}
+use Rattle.file_standing.specs.Standing.{stands}
 use Rattle.sync_course.specs.Suits.{TakesHeard}
 use Rattle.sync_node.specs.Output.{AreOutput, Journal, heard_on, sent_on}
 use Rattle.commands.specs.declared.command.Command.TheVariants as command

@@ -5,7 +5,8 @@ use Rattle.outside.specs.Outside.{Outside, Moment, MomentsAre}
 use Rattle.outside.specs.Runs.{TellsAll}
 use Rattle.sync_rules.specs.declared.entries.Entry.{Entry}
 use Rattle.sync_rules.specs.Clients.{Meaning}
-use Rattle.entry_codec.specs.Standing.{journal, stands}
+use Rattle.entry_codec.specs.Standing.{journal}
+use Rattle.file_standing.specs.Standing.{stands}
 use Rattle.commands.specs.Reading.{Asked}
 use Rattle.commands.specs.Reading.Asked.{Do}
 use Rattle.commands.specs.declared.command.Command.TheVariants as command

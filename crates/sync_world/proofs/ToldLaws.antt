@@ -8,7 +8,8 @@ use Rattle.outside.specs.HostTold.{host_told}
 use Rattle.outside.specs.MemDisk.{disk_files, files_of}
 use Rattle.outside.specs.MemHost.{MemHostValue}
 use Rattle.client_basic.specs.Bodies.{bundle_meaning}
-use Rattle.entry_codec.specs.Standing.{Standing, journal, stands}
+use Rattle.entry_codec.specs.Standing.{Standing, journal}
+use Rattle.file_standing.specs.Standing.{stands}
 use Rattle.sync_rules.specs.Facts.{Facts, facts}
 use Rattle.sync_node.specs.Node.{NodeValue}
 use Rattle.world_laws.specs.Worlds.{Journal, journal_in}

@@ -12,7 +12,8 @@ use Rattle.client_basic.specs.Bodies.{bundle_meaning}
 use Rattle.record_grammar.specs.Laws.{FrontsHaveFronts}
 use Rattle.record_grammar.specs.Stream.{items, parsed, records, records_of}
 use Rattle.sync_ids.specs.declared.records.Record.{Record}
-use Rattle.entry_codec.specs.Standing.{stands, journal}
+use Rattle.entry_codec.specs.Standing.{journal}
+use Rattle.file_standing.specs.Standing.{stands}
 use Rattle.sync_course.specs.Acts.{Act, batches_in, commit_acts, event_of, events_of}
 use Rattle.sync_course.specs.Story.{heard_at}
 use Rattle.sync_rules.specs.declared.entries.Session.{Session}

@@ -11,7 +11,8 @@ use Rattle.outside.specs.MemHost.{MemHostValue}
 use Rattle.outside.specs.Outside.{Outside, Moment}
 use Rattle.frame_journal.specs.Gates.{AnyImage}
 use Rattle.client_basic.specs.Bodies.{bundle_meaning}
-use Rattle.entry_codec.specs.Standing.{stands, journal}
+use Rattle.entry_codec.specs.Standing.{journal}
+use Rattle.file_standing.specs.Standing.{stands}
 use Rattle.sync_store.specs.Fitting.{FitsFiles}
 use Rattle.sync_store.specs.Moments.{LeadsTo}
 use Rattle.sync_store.specs.Store.{StoreValue}

@@ -25,7 +25,8 @@ use Rattle.outside.specs.MemDisk.{disk_files, files_of}
 use Rattle.outside.specs.MemHost.{MemHostValue}
 use Rattle.record_grammar.specs.Stream.{records}
 use Rattle.sync_ids.specs.declared.records.Record.{Record}
-use Rattle.entry_codec.specs.Standing.{stands, journal}
+use Rattle.entry_codec.specs.Standing.{journal}
+use Rattle.file_standing.specs.Standing.{stands}
 use Rattle.entry_codec.specs.StandingLaws.{StandingIsLegal}
 use Rattle.sync_rules.proofs.Continuing.{facts-append, legal-back}
 use Rattle.sync_rules.specs.Lists.{In}

@@ -15,7 +15,8 @@ use Rattle.outside.specs.Outside.{MakesAtMost}
 use Rattle.outside.specs.declared.pick.Pick.{Pick}
 use Rattle.frame_journal.specs.Gates.{AnyImage}
 use Rattle.client_basic.specs.Bodies.{bundle_meaning}
-use Rattle.entry_codec.specs.Standing.{stands, journal}
+use Rattle.entry_codec.specs.Standing.{journal}
+use Rattle.file_standing.specs.Standing.{stands}
 use Rattle.sync_rules.proofs.Continuing.{facts-append}
 use Rattle.sync_rules.specs.Facts.{Facts, after_all, after_batches, facts}
 use Rattle.sync_rules.specs.Legal.{AllSettling}

@@ -14,7 +14,8 @@ use Rattle.outside.specs.MemImage.{PicturesDisk}
 use Rattle.outside.specs.Outside.{MakesAtMost, Outside}
 use Rattle.outside.specs.declared.pick.Pick.{Pick}
 use Rattle.client_basic.specs.Bodies.{bundle_meaning}
-use Rattle.entry_codec.specs.Standing.{stands, journal}
+use Rattle.entry_codec.specs.Standing.{journal}
+use Rattle.file_standing.specs.Standing.{stands}
 use Rattle.sync_rules.specs.declared.entries.Entry.{Entry}
 use Rattle.sync_rules.specs.declared.entries.Entry.TheVariants as entry
 use Rattle.sync_rules.specs.declared.entries.Session.{Session}

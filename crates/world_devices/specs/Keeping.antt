@@ -4,7 +4,8 @@ use Rattle.outside.specs.Files.{Two, File, IsImage}
 use Rattle.outside.specs.Outside.{Outside}
 use Rattle.outside.specs.Runs.{answers_at}
 use Rattle.client_basic.specs.Bodies.{bundle_meaning}
-use Rattle.entry_codec.specs.Standing.{stands, journal}
+use Rattle.entry_codec.specs.Standing.{journal}
+use Rattle.file_standing.specs.Standing.{stands}
 use Rattle.sync_rules.specs.declared.entries.Entry.{Entry}
 use Rattle.sync_rules.specs.Facts.{facts}
 use Rattle.sync_rules.specs.Legal.{Legal}

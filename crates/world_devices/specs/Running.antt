@@ -7,7 +7,8 @@ use Rattle.outside.specs.MemHost.{MemHostValue}
 use Rattle.record_grammar.specs.Stream.{records}
 use Rattle.sync_ids.specs.declared.records.Record.{Record}
 use Rattle.client_basic.specs.Bodies.{bundle_meaning}
-use Rattle.entry_codec.specs.Standing.{stands, journal}
+use Rattle.entry_codec.specs.Standing.{journal}
+use Rattle.file_standing.specs.Standing.{stands}
 use Rattle.sync_rules.specs.Facts.{facts}
 use Rattle.sync_rules.specs.Legal.{GoesOn}
 use Rattle.sync_node.specs.Node.{NodeValue}

@@ -1,7 +1,8 @@
 use Rattle.std.proofs.Common.{◌≡◌}
 use Rattle.outside.specs.HostTold.{host_told}
 use Rattle.client_basic.specs.Bodies.{bundle_meaning}
-use Rattle.entry_codec.specs.Standing.{stands, journal}
+use Rattle.entry_codec.specs.Standing.{journal}
+use Rattle.file_standing.specs.Standing.{stands}
 use Rattle.world_devices.proofs.HostLaws.{anew_clocked, anew_linked, clock_disk, clock_told}
 use Rattle.world_devices.proofs.HostLaws.{disk_then}
 use Rattle.world_devices.proofs.KeepLaws.{crash_same}

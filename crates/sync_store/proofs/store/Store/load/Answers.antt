@@ -1,6 +1,6 @@
 use Rattle.std.proofs.Common.{◌≡◌, sym, ap, ◌∙◌, subst, Result, length, lit≤}
 use Rattle.outside.proofs.CallCounts.{most_then}
-use Rattle.entry_codec.specs.Standing.{stands}
+use Rattle.file_standing.specs.Standing.{stands}
 use Rattle.sync_store.specs.declared.fault.LoadFault.TheVariants as load
 use Rattle.sync_rules.specs.Facts.{nothing}
 use Rattle.outside.proofs.CallSteps.{looks_then, run_then}
