@@ -25,7 +25,8 @@ use Rattle.sync_store.specs.declared.fault.StoreFault.{StoreFault}
 use Rattle.sync_store.specs.declared.fault.StoreFault.TheVariants as fault
 use Rattle.mailbox_core.specs.Laws.{OutputsAreSent}
 use Rattle.mailbox_core.specs.Sending.{HasWrittenBox, SendsAll, WritesSome}
-use Rattle.mailbox_core.specs.Sending.{WritesUntilFull, batch_session, out_batch}
+use Rattle.mailbox_core.specs.Sending.{WritesUntilFull, batch_session}
+use Rattle.sync_course.specs.LinkTurns.{out_batch}
 use Rattle.mailbox_core.specs.Taking.{BeginsThen, first_batch}
 use Rattle.sync_words.specs.declared.outcome.Outcome.{Outcome}
 use Rattle.sync_words.specs.declared.outcome.Outcome.TheVariants as outcome

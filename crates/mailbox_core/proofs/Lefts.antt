@@ -12,7 +12,8 @@ use Rattle.record_stream.specs.declared.reader.Next.TheVariants as next_kind
 use Rattle.record_stream.specs.Reading.{AwaitsBytes, ReaderState, ReadsOn, fresh}
 use Rattle.sync_ids.specs.declared.records.Record.{Record}
 use Rattle.mailbox_core.specs.declared.ends.BoxEnding.TheVariants as box
-use Rattle.mailbox_core.specs.Files.{box_ending, box_records, ending_behind, ends_as, is_foreign}
+use Rattle.sync_course.specs.Links.{closes}
+use Rattle.mailbox_core.specs.Files.{box_ending, box_records, ending_behind, ends_as}
 use Rattle.mailbox_core.specs.Files.{records_to_take}
 use Rattle.mailbox_core.specs.Steps.{RecordsLeft, left_of}
 
@@ -32,8 +33,8 @@ left_first bytes = λ i. record {
 
 -- behind a record
 pub record BehindOne (place : ℕ) (r : Record) (left left' : RecordsLeft) : Type 0 where
-  pub records : left.records ≡ r ∷ cond (is_foreign r) [] left'.records
-  pub ending : left.ending ≡ cond (is_foreign r) (box.NoVersion place) left'.ending
+  pub records : left.records ≡ r ∷ cond (closes r) [] left'.records
+  pub ending : left.ending ≡ cond (closes r) (box.NoVersion place) left'.ending
 
 module _ (piece piece' : List ℕ) (r r' : ReaderState) where
   pub left_one : (place : ℕ) (rec : Record) → ReadsOn piece r (item.One place rec ∷ []) piece' r'

@@ -14,7 +14,7 @@ use Rattle.sync_store.specs.Fitting.{ImagesStand}
 use Rattle.sync_store.specs.Store.{StoreValue}
 use Rattle.mailbox_core.specs.declared.ends.BoxEnding.{BoxEnding}
 use Rattle.mailbox_core.specs.declared.ends.BoxEnding.TheVariants as box
-use Rattle.mailbox_core.specs.Files.{is_foreign}
+use Rattle.sync_course.specs.Links.{closes}
 use Rattle.sync_store.specs.Rooms.{StoreComesTo}
 use Rattle.mailbox_core.specs.Steps.{HasReadItem, HasReadRest, HasTakenRecord, IsAt, IsOpenFor}
 use Rattle.mailbox_core.specs.Steps.{RecordsLeft, StopsSo, TakesSo, next_on}
@@ -32,7 +32,7 @@ module _ (clients : Meaning) (session : ℕ) (s s' : StoreValue) (left left' : R
     (o o' : Outside) where
   -- a record that does not end the reading was taken
   pub read_one : (place : ℕ) (r : Record) (u : Unit {0}) → BehindOne place r left left'
-      → is_foreign r ≡ false
+      → closes r ≡ false
       → HasTakenRecord clients session r s s' (Ok u) o o'
       → HasReadItem clients session s s' left left' (Ok None) o o'
   read_one place r u behind own has =
@@ -65,7 +65,7 @@ module _ (clients : Meaning) (session : ℕ) (s s' : StoreValue) (left left' : R
 
   -- one that ends it was taken
   pub read_last : (place : ℕ) (r : Record) (u : Unit {0}) → BehindOne place r left left'
-      → is_foreign r ≡ true
+      → closes r ≡ true
       → HasTakenRecord clients session r s s' (Ok u) o o'
       → HasReadItem clients session s s' left left'
       (Ok (Some (box.NoVersion place))) o o'
@@ -105,7 +105,7 @@ module _ (clients : Meaning) (session : ℕ) (s s' : StoreValue) (left left' : R
   }
     where
       rest : List Record
-      rest = cond (is_foreign r) [] left'.records
+      rest = cond (closes r) [] left'.records
 
       stops : (x : StoreFault) → TakesSo clients session r s s' has.more (Err x)
           → StopsSo clients session s s'

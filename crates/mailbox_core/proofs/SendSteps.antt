@@ -26,7 +26,8 @@ use Rattle.sync_store.specs.Store.{IsStore, StoreValue}
 use Rattle.sync_store.specs.Rooms.{StoreComesTo}
 use Rattle.mailbox_core.specs.Sending.{AreDue, HasWrittenBox, IsSessionQuiet, SendsAll, SendsSome}
 use Rattle.mailbox_core.specs.Sending.{SendsUntilFull, WritesSo, WritesSome, batch_session}
-use Rattle.mailbox_core.specs.Sending.{out_batch, out_batches}
+use Rattle.sync_course.specs.LinkTurns.{out_batch}
+use Rattle.mailbox_core.specs.Sending.{out_batches}
 use Rattle.mailbox_core.specs.Steps.{BeginsSo, HasBegunSession, HasCommitted, HasPut, HasPutAll}
 use Rattle.mailbox_core.specs.Steps.{IsOpenFor, PutsAllSo, CommitsDue, PutsSo}
 use Rattle.mailbox_core.specs.Taking.{BeginsThen, first_batch}

@@ -1,30 +1,20 @@
 -- Which records of a file are taken, and how its reading ends.
-use Rattle.std.specs.Prelude.{ℕ, Bool, true, false, cond, nat_eq, List, [], ◌∷◌}
-use Rattle.std.specs.List.{list_any}
+use Rattle.std.specs.Prelude.{ℕ, cond, List, [], ◌∷◌}
 use Rattle.record_grammar.specs.Stream.{ending, items}
 use Rattle.record_grammar.specs.declared.stream.Ending.{Ending}
 use Rattle.record_grammar.specs.declared.stream.Ending.TheVariants as ending_kind
 use Rattle.record_grammar.specs.declared.stream.Item.{Item}
 use Rattle.record_grammar.specs.declared.stream.Item.TheVariants as item
 use Rattle.sync_ids.specs.declared.records.Record.{Record}
-use Rattle.sync_ids.specs.declared.records.Record.TheVariants as record_kind
+use Rattle.sync_course.specs.Links.{closes}
 use Rattle.mailbox_core.specs.declared.ends.BoxEnding.{BoxEnding}
 use Rattle.mailbox_core.specs.declared.ends.BoxEnding.TheVariants as box
-
--- a list of versions has that of this node, which is 0
-abbrev pub has_zero : List ℕ → Bool
-has_zero versions = list_any (λ v. nat_eq v 0) versions
-
--- a record that ends the reading: a VERSIONS without the version of this node
-abbrev pub is_foreign : Record → Bool
-is_foreign (record_kind.Versions versions) = cond (has_zero versions) false true
-is_foreign _ = false
 
 -- the records of items, up to and with the first that ends the reading; skipped ones are passed
 -- over
 abbrev pub records_to_take : List Item → List Record
 records_to_take [] = []
-records_to_take (item.One place r ∷ its) = r ∷ cond (is_foreign r) [] (records_to_take its)
+records_to_take (item.One place r ∷ its) = r ∷ cond (closes r) [] (records_to_take its)
 records_to_take (item.Skipped place type_byte len ∷ its) = records_to_take its
 
 -- how a stream ends
@@ -37,7 +27,7 @@ ends_as (ending_kind.Bad place why) = box.Bad place why
 abbrev pub ending_behind : List Item → Ending → BoxEnding
 ending_behind [] e = ends_as e
 ending_behind (item.One place r ∷ its) e =
-    cond (is_foreign r) (box.NoVersion place) (ending_behind its e)
+    cond (closes r) (box.NoVersion place) (ending_behind its e)
 ending_behind (item.Skipped place type_byte len ∷ its) e = ending_behind its e
 
 -- the records of a file that are taken, and how its reading ends

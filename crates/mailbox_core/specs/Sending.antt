@@ -14,6 +14,7 @@ use Rattle.sync_rules.specs.Growth.{output_of}
 use Rattle.sync_rules.specs.Legal.{IsDue}
 use Rattle.sync_rules.specs.Sessions.{due}
 use Rattle.sync_rules.specs.Steps.{IsSettled}
+use Rattle.sync_course.specs.LinkTurns.{out_batch}
 use Rattle.sync_store.specs.declared.fault.StoreFault.{StoreFault}
 use Rattle.sync_store.specs.declared.fault.StoreFault.TheVariants as fault
 use Rattle.sync_store.specs.Commits.{needed}
@@ -34,10 +35,7 @@ batch_session number contact latency =
 
 -- ---- outputs
 
--- the batch of an output of a session, at a time
-abbrev pub out_batch : ℕ → ℕ → Out → List Entry
-out_batch session now what = entry.Out session now what ∷ []
-
+-- the batches of outputs of a session, at a time
 abbrev pub out_batches : ℕ → ℕ → List Out → List (List Entry)
 out_batches session now [] = []
 out_batches session now (what ∷ outs) = out_batch session now what ∷ out_batches session now outs

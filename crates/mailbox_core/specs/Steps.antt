@@ -21,12 +21,13 @@ use Rattle.sync_store.specs.Commits.{AnswersCommit, needed}
 use Rattle.sync_store.specs.Ready.{IsReady}
 use Rattle.sync_store.specs.Runs.{committed_by}
 use Rattle.sync_store.specs.Store.{IsStore, StoreValue}
+use Rattle.sync_course.specs.LinkTurns.{out_batch}
 use Rattle.mailbox_core.specs.declared.ends.BoxEnd.{BoxEnd}
 use Rattle.mailbox_core.specs.declared.ends.BoxEnding.{BoxEnding}
 use Rattle.mailbox_core.specs.Files.{ending_behind, records_to_take}
 use Rattle.sync_store.specs.Rooms.{StoreComesTo}
 use Rattle.mailbox_core.specs.Sending.{IsSessionQuiet, SendsAll, SendsSome, SendsUntilFull}
-use Rattle.mailbox_core.specs.Sending.{batch_session, out_batch}
+use Rattle.mailbox_core.specs.Sending.{batch_session}
 use Rattle.mailbox_core.specs.Taking.{AllTaken, NoRoomFor, SomeTaken, TakesRecord, TakesTo}
 use Rattle.mailbox_core.specs.Taking.{first_batch, next_take}
 

@@ -6,7 +6,7 @@ ghost use Rattle.sync_rules.specs.declared.limits.TheConstants.{MAX_SESSIONS};
 ghost use Rattle.sync_rules.specs.Steps.{IsSettled};
 ghost use Rattle.sync_store.specs.Ready.{IsReady};
 ghost use Rattle.sync_store.specs.Store.{IsStore};
-ghost use Rattle.mailbox_core.specs.Files.{is_foreign};
+ghost use Rattle.sync_course.specs.Links.{closes};
 ghost use Rattle.mailbox_core.specs.Reading.{HasReadBox};
 ghost use Rattle.mailbox_core.specs.Steps.{HasReadItem, HasReadRest, HasTakenRecord, IsOpenFor, left_of};
 
@@ -143,7 +143,7 @@ fn take_next<D: Disk, C: Clients>(
 
 // Whether a record says that its sender does not speak this node's version.
 fn is_foreign(rec: &Record) -> bool
-    ensures { result ≡ is_foreign rec.now }
+    ensures { result ≡ closes rec.now }
 {
     match rec {
         Record::Versions(versions) => !versions_ok(versions),
