@@ -85,7 +85,7 @@ module _ (words words' : List LinkWords) (o o1 o2 o3 : Outside)
   caused_amid (Err outcome.DiskFault) caused =
       rose_before _ _ _ disk (subst (CountRose o1.disk_faults) (sym same_faults) caused)
   caused_amid (Err (outcome.LinkFailed link)) caused =
-      record { within = omega (arith, caused.within, more); rose = rose_on link caused.rose }
+      (omega (arith, caused.0, more), rose_on link caused.1)
   caused_amid (Err outcome.NoStore) caused = tt
   caused_amid (Err (outcome.Damaged place)) caused = tt
   caused_amid (Err (outcome.Refused refused.UnknownContact)) caused = tt

@@ -34,7 +34,7 @@ use Rattle.sync_words.specs.declared.outcome.Outcome.TheVariants as outcome
 use Rattle.sync_words.specs.Links.{has_nonce}
 use Rattle.sync_run.specs.declared.dialling.Dialled.{Dialled}
 use Rattle.sync_run.specs.declared.run.Limits.{Limits}
-use Rattle.sync_run.specs.Courses.{HearsRun, RunWasSpent, WasBroken, terms_of}
+use Rattle.sync_run.specs.Courses.{HearsRun, RanSoFar, RunWasSpent, terms_of}
 use Rattle.sync_run.specs.Dialling.{DialsOnly, DialsAll, MakesLinks, unheard}
 use Rattle.sync_run.specs.Parts.{RanDialled, RanOnLinks, RunDid}
 use Rattle.sync_run.specs.Plans.{ArePlanned, sessions_from}
@@ -229,7 +229,7 @@ module _ (clients : Meaning) (limits : Limits) (words : List LinkWords) (links :
 -- the run did not begin
 pub unbegun : (clients : Meaning) (limits : Limits) (words made : List LinkWords) (j : Journal)
     (o0 o : Outside) → o0.links.dialled ≡ 0 → MakesLinks made o0.links o.links
-    → ReadsAs clients o.files j → WasBroken clients limits words j o0 o
+    → ReadsAs clients o.files j → RanSoFar clients limits words j o0 o
 unbegun clients limits words made j o0 o none makes reads =
     let some = some_planned (facts j).begun words in
     record {
@@ -238,7 +238,7 @@ unbegun clients limits words made j o0 o none makes reads =
       all_planned = some.2;
       events = [];
       last = first_place some.0 (facts j);
-      broken = record { numbered = refl; path = refl };
+      course = refl;
       all_made = λ begun. absurd (omega (arith, begun));
       hears = hears_dialled made [] o0 o o none makes (told_none o) refl;
       reads = subst (λ (k : Journal). ReadsAs clients o.files k) (sym (append-nil j)) reads;

@@ -1,17 +1,18 @@
 -- What a run comes to and leaves that ends before its first session, by the calls that it made.
 use Rattle.std.proofs.Common.{Bool, Err, List, None, Ok, Option, Result, Some, [], ap, append-nil}
 use Rattle.std.proofs.Common.{false, inl, refl, subst, sym, true, ℕ, ◌++◌, ◌+◌, ◌∙◌, ◌≡◌}
-use Rattle.std.specs.Prelude.{IsErrAnd, if◌then◌else◌}
-use Rattle.outside.proofs.CallSteps.{becomes_told}
+use Rattle.std.specs.Prelude.{IsErrAnd, if◌then◌else◌, length, nat_lt}
+use Rattle.outside.proofs.CallSteps.{becomes_told, moments_map}
 use Rattle.outside.specs.Disk.{RelatesTold}
 use Rattle.outside.specs.Files.{File, Two, read_files}
 use Rattle.outside.specs.Links.{Links}
-use Rattle.outside.specs.Outside.{DiskRun, IsNow, MomentsAre, Outside}
+use Rattle.outside.specs.Outside.{DiskRun, IsNow, Moment, MomentsAre, Outside}
 use Rattle.frame_journal.specs.Gates.{ReadsSame}
 use Rattle.entry_codec.specs.Standing.{Standing, journal}
 use Rattle.file_standing.specs.Standing.{stands}
 use Rattle.sync_rules.specs.Clients.{Meaning}
 use Rattle.sync_rules.specs.Facts.{Facts, facts}
+use Rattle.sync_rules.specs.declared.limits.TheConstants.{MAX_SESSIONS}
 use Rattle.sync_rules.specs.declared.states.Refused.{Refused}
 use Rattle.sync_rules.specs.declared.states.Refused.TheVariants as refused
 use Rattle.sync_store.specs.Store.{StoreValue}
@@ -19,6 +20,7 @@ use Rattle.sync_course.specs.Closing.{Closing}
 use Rattle.sync_node.specs.Courses.{ReadsAs}
 use Rattle.sync_node.specs.Output.{Journal, output, sent_on}
 use Rattle.store_commands.specs.Load.{HasFacts, IsLoaded, LoadedBy}
+use Rattle.store_commands.specs.Show.{FilesReadSame, LeavesFilesSo}
 use Rattle.sync_words.specs.declared.link_words.LinkWords.{LinkWords}
 use Rattle.sync_words.specs.Outcomes.{links_came_to}
 use Rattle.sync_words.specs.declared.outcome.Outcome.{Outcome}
@@ -29,9 +31,8 @@ use Rattle.sync_run.proofs.RunActs.{passed}
 use Rattle.sync_run.proofs.TellLaws.{nothing_sent, reads_told, silent_by}
 use Rattle.sync_run.proofs.WordLaws.{specs_disk}
 use Rattle.sync_run.specs.Causes.{IsCaused, IsOfRun}
-use Rattle.sync_run.specs.Courses.{RunComesTo, TestsWords, WasBroken, are_too_many, is_unknown}
-use Rattle.sync_run.specs.Courses.{run_test}
-use Rattle.sync_run.specs.Headline.{Headline, LeavesFilesAtRest}
+use Rattle.sync_run.specs.Courses.{RanSoFar, RunComesTo, TestsWords, is_unknown, run_test}
+use Rattle.sync_run.specs.Headline.{Headline, IsUntouched, LeavesFilesAtRest}
 use Rattle.sync_run.specs.Leaving.{LeavesLinks, MakesFront}
 use Rattle.sync_run.specs.Ran.{HasRun, RanTold}
 use Rattle.sync_run.specs.declared.run.Limits.{Limits}
@@ -94,7 +95,7 @@ module _ (clients : Meaning) (limits : Limits) (words : List LinkWords) (two : T
 
   -- it was broken off before its first session
   pub broken_early : (begin : Journal) → stood ≡ journal begin
-      → WasBroken clients limits words begin o o'
+      → RanSoFar clients limits words begin o o'
   broken_early begin began =
       unbegun clients limits words [] begin o o' none (no_links_made o o' same) (still begin began)
 
@@ -110,35 +111,33 @@ module _ (clients : Meaning) (limits : Limits) (words : List LinkWords) (two : T
       → TestsWords s.state.facts words (Err why)
       → RunComesTo clients limits words stood o o' (Err (outcome.Refused why))
   refused_comes s loaded why tests = record {
-    begin = loaded.of;
-    began = loaded.stood;
-    tested = ap (λ (f : Facts). run_test f words) loaded.are ∙ tests;
-    has = still loaded.of loaded.stood;
+    before = loaded.of;
+    stood = loaded.stood;
+    leads = (ap (λ (f : Facts). run_test f words) loaded.are ∙ tests, still loaded.of loaded.stood);
   }
 
 -- where no session began: each moment might have been before the command, and the files read as
 -- before
 pub headline_none : (clients : Meaning) (words : List LinkWords) (o o' : Outside)
-    → o.links.dialled ≡ 0 → DiskRun o o'
-    → ((two : Two File) → o.files ≡ Some two → MomentsAre o o' (IsNow two o.links))
-    → RelatesTold ReadsSame o.files o'.files → Headline clients words o o'
-headline_none clients words o o' none run moments reads two told told' =
-    let each = (moments two told).each in
+    → o.links.dialled ≡ 0 → o'.links ≡ o.links
+    → ((two : Two File) → o.files ≡ Some two → LeavesFilesSo (FilesReadSame two) two o o')
+    → Headline clients words o o'
+headline_none clients words o o' none same rests two told told' =
+    let left = rests two told in
+    let untouched : (m : Moment) → IsNow two o.links m → IsUntouched two o m =
+    λ m now. record { now = now; nothing_sent = λ link. silent_by o m link none now.sent } in
     record {
-      moments = λ m w. inl (each m w);
-      once_sent = λ m w link some. absurd (some (silent_by o m link none (each m w).sent));
+      moments = moments_map o o' (IsNow two o.links) _ (λ m now. inl (untouched m now)) left.moments;
       ends = λ begin stood. record {
         sessions = [];
         planned = tt;
         whole = begin;
-        stands_for =
-            ap (stands clients)
-            (reads_told o.files o'.files two told'.two reads told told'.files_are) ∙ stood;
+        stands_for = ap (stands clients) (left.kept told'.two told'.files_are) ∙ stood;
         suits = record { more = []; extends = sym (append-nil begin); suits = tt };
         has_sent = λ link.
             let all : List ℕ = output begin ((facts begin).begun + link) in
             let nothing : sent_on o'.links link ≡ [] =
-            ap (λ (l : Links). sent_on l link) run.same_links ∙ nothing_sent o none link in
+            ap (λ (l : Links). sent_on l link) same ∙ nothing_sent o none link in
             record { rest = all; whole = ap (λ (l : List ℕ). l ++ all) (sym nothing) };
       };
     }
@@ -152,24 +151,24 @@ module _ (clients : Meaning) (limits : Limits) (words : List LinkWords) (o o' : 
     (rests : LeavesFilesAtRest o'.files (Err x)) (caused : IsCaused words o o' (Err x))
     (comes : (two : Two File) → o.files ≡ Some two
     → RunComesTo clients limits words (stands clients (read_files two)) o o' (Err x)) where
+  pub rests_read : (two : Two File) → o.files ≡ Some two → LeavesFilesSo (FilesReadSame two) two o o'
+  rests_read two told = record {
+    moments = moments two told;
+    kept = λ two' told'. reads_told o.files o'.files two two' reads told told';
+  }
+
   abbrev pub ended_early : HasRun clients limits words o o' (links_came_to r)
   ended_early = record {
     result = r;
     is = refl;
-    headline = headline_none clients words o o' none run moments reads;
+    headline = headline_none clients words o o' none run.same_links rests_read;
     told = λ two told.
         passed (RanTold clients limits words two o o') r x is (record {
           rests = rests;
           sent = tt;
           sent_full = λ full. absurd (other (let same : x ≡ outcome.Full = cc in same));
           comes = comes two told;
-          unbegun = λ none. record {
-            same_links = run.same_links;
-            rests = record {
-              moments = moments two told;
-              kept = λ two' told'. reads_told o.files o'.files two two' reads told told';
-            };
-          };
+          unbegun = λ none. (run.same_links, rests_read two told);
         });
     specs = specs_disk words o o' none run;
     caused = passed (IsCaused words o o') r x is caused;
@@ -193,7 +192,8 @@ load_caused words o o' _ by = absurd by
 -- one of the two tests refused it
 pub refused_caused : (f : Facts) (words : List LinkWords) (o o' : Outside) (why : Refused)
     → TestsWords f words (Err why) → IsCaused words o o' (Err (outcome.Refused why))
-refused_caused f words o o' why tests = by_tests (is_unknown f words) (are_too_many f words) tests
+refused_caused f words o o' why tests =
+    by_tests (is_unknown f words) (nat_lt MAX_SESSIONS (f.begun + length words)) tests
   where
     by_tests : (unknown many : Bool)
         → (if unknown then Some refused.UnknownContact

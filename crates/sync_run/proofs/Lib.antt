@@ -2,7 +2,7 @@ mod CourseParts
 mod CauseLaws
 mod StandsLaws
 mod TellLaws
-mod LeavingLaws
+pub mod LeavingLaws
 mod EndLaws
 mod HeardLaws
 mod DialLaws

@@ -28,6 +28,7 @@ use Rattle.sync_store.specs.Fitting.{FitsFiles, FitsSome}
 use Rattle.sync_store.specs.Store.{StoreValue}
 use Rattle.store_commands.specs.Commit.{HasLastGeneration, MayMigrate, needed_by}
 use Rattle.store_commands.specs.Load.{HasFacts}
+use Rattle.store_commands.specs.Works.{StoodFor}
 use Rattle.sync_course.specs.Acts.{Act, AtFront, Does, batches_in, commit_acts, events_of}
 use Rattle.sync_course.specs.Acts.{next_bytes, sends_on}
 use Rattle.sync_course.specs.Closing.{Closing}
@@ -55,10 +56,10 @@ use Rattle.sync_words.specs.declared.link_words.LinkWords.{LinkWords}
 use Rattle.sync_words.specs.declared.outcome.Outcome.{Outcome}
 use Rattle.sync_words.specs.declared.outcome.Outcome.TheVariants as outcome
 use Rattle.sync_run.specs.declared.run.Limits.{Limits}
-use Rattle.sync_run.specs.Courses.{HearsRun, OfJournal, RanToEnd, RunComesTo, RunWasSpent}
-use Rattle.sync_run.specs.Courses.{WasBroken, WasFull, WasOver, run_test, terms_of}
+use Rattle.sync_run.specs.Courses.{HearsRun, OfJournal, RanSoFar, RanToEnd, RunComesTo}
+use Rattle.sync_run.specs.Courses.{RunWasSpent, WasFull, WasOver, run_test, terms_of}
 use Rattle.sync_run.specs.Dialling.{MakesLinks, PassesTime, unheard}
-use Rattle.sync_run.specs.Headline.{AllSentWhenFull, HeadlineTold, LeavesFilesAtRest, RunsOn}
+use Rattle.sync_run.specs.Headline.{AllSentWhenFull, IsUntouched, LeavesFilesAtRest, RunLeaves}
 use Rattle.sync_run.specs.Headline.{SentWhole, StandsForRun, sent_by}
 use Rattle.sync_run.specs.Leaving.{MayNotBegin}
 use Rattle.sync_run.specs.Parts.{AnswersAt, FillsAt, RanOnLinks}
@@ -308,32 +309,52 @@ module _ (clients : Meaning) (limits : Limits) (words : List LinkWords) (s : Sto
           has_sent = λ link. sent_is told link ∙ sym (append-nil (sends_on link ran.did.acts));
         })
 
-    moment_is : (m : Moment) → o3.moments o0.clock m
-        → IsNow two o0.links m ⊎ Stands (sent_by m) m.files
-    moment_is m w =
+    -- what may be left at a moment of the run
+    abbrev MayLeave : Moment → Type 0
+    MayLeave m = IsUntouched two o0 m
+        ⊎ StoodFor stood (λ begin.
+        StandsForRun clients words begin (heard_on o3.links) (sent_by m) m.files)
+
+    untouched : (m : Moment) → IsNow two o0.links m → MayLeave m
+    untouched m now =
+        inl (record { now = now; nothing_sent = λ link. silent_by o0 m link none now.sent })
+
+    -- a moment since a value of the clock is from before the run, or so
+    since_is : (t : ℕ) (m : Moment) → t ≤ o0.clock → o3.moments t m → o1.moments t m ⊎ MayLeave m
+    since_is t m early w =
         let since = ran.did.moments (told1 told) in
-        let before = stills.moments ran.did.reads.0 ran.did.reads.1 o0.clock m
-        (omega (arith, moments.later, since.later)) w in
-        elim (since.before o0.clock m moments.later before) [
-          | inl old ↦ inl (moments.each m old)
-          | inr at ↦
-              inr (at_front m
-              (subst (λ (sent : ℕ → List ℕ). AtFront clients all loaded.of sent m)
-              (same_function (sent_on o1.links) (λ link. []) silent1) at))
+        let before = stills.moments ran.did.reads.0 ran.did.reads.1 t m
+        (omega (arith, early, moments.later, since.later)) w in
+        elim (since.before t m (omega (arith, early, moments.later)) before) [
+          | inl old ↦ inl old
+          | inr at ↦ inr (inr (record {
+            before = loaded.of;
+            stood = loaded.stood;
+            leads =
+                at_front m
+                (subst (λ (sent : ℕ → List ℕ). AtFront clients all loaded.of sent m)
+                (same_function (sent_on o1.links) (λ link. []) silent1) at);
+          }))
         ]
 
-    pub headline_ran : HeadlineTold clients words two o0 o3 told
+    pub headline_ran : RunLeaves clients (StandsForRun clients words) two o0 o3 told
     headline_ran =
-        let runs : (m : Moment) → Stands (sent_by m) m.files
-        → RunsOn clients words stood (heard_on o3.links) (sent_by m) m.files =
-        λ m now. record { begin = loaded.of; began = loaded.stood; stands_for = now } in
+        let since = ran.did.moments (told1 told) in
         record {
-          moments =
-              λ m w. elim (moment_is m w) [ inl now ↦ inl now | inr stood ↦ inr (runs m stood) ];
-          once_sent = λ m w link some. elim (moment_is m w) [
-            | inl now ↦ absurd (some (silent_by o0 m link none now.sent))
-            | inr stood ↦ runs m stood
-          ];
+          moments = record {
+            later = omega (arith, moments.later, since.later, stills.later);
+            each = λ m w. elim (since_is o0.clock m (omega (arith, moments.later)) w) [
+              | inl old ↦ untouched m (moments.each m old)
+              | inr so ↦ so
+            ];
+            before = λ t m early w. elim (since_is t m early w) [
+              | inl old ↦ elim (moments.before t m early old) [
+                | inl was ↦ inl was
+                | inr now ↦ inr (untouched m now)
+              ]
+              | inr so ↦ inr so
+            ];
+          };
           ends = λ begin began.
               subst (λ (j : Journal).
               StandsForRun clients words j (heard_on o3.links) (sent_on o3.links)
@@ -401,14 +422,14 @@ module _ (clients : Meaning) (limits : Limits) (words : List LinkWords) (s : Sto
 
   -- ---- its course
 
-  abbrev was : WasBroken clients limits words loaded.of o0 o3
+  abbrev was : RanSoFar clients limits words loaded.of o0 o3
   was = record {
     sessions = ran.sessions;
     planned = ran.planned;
     all_planned = ran.all_planned;
     events = way.events;
     last = ran.did.to.at;
-    broken = record { numbered = refl; path = way.path };
+    course = way.path;
     all_made = λ begun.
         all_made (λ none.
         absurd (omega (arith, begun, ap (λ (x : Owing Place). x.at.facts.begun) none)));
@@ -482,19 +503,13 @@ module _ (clients : Meaning) (limits : Limits) (words : List LinkWords) (s : Sto
         let course : Course clients terms ran.sessions (facts loaded.of) way.events ran.did.to.at =
         record { numbered = refl; path = way.path; at_end = answer.0.at_end } in
         record {
-          sessions = ran.sessions;
-          planned = ran.planned;
-          all_planned = ran.all_planned;
+          run = was;
+          at_end = answer.0.at_end;
           all_made =
               all_made (λ none.
               let no : Ended ≡ Settles ran.sessions =
               sym answer.0.at_end ∙ ap (λ (x : Owing Place). x.at.stage) none in
               cc);
-          events = way.events;
-          last = ran.did.to.at;
-          course = course;
-          hears = hears;
-          reads = was.reads;
           closes = answer.0.closes;
           by_heard =
               course_by_heard clients terms ran.sessions (facts loaded.of) way.events ran.did.to.at
@@ -529,12 +544,11 @@ module _ (clients : Meaning) (limits : Limits) (words : List LinkWords) (s : Sto
     tested = ap (λ (f : Facts). run_test f words) loaded.are ∙ tests
 
     of_journal : (P : Journal → Type 0) → P loaded.of → OfJournal words stood None P
-    of_journal P has =
-        record { begin = loaded.of; began = loaded.stood; tested = tested; has = has }
+    of_journal P has = record { before = loaded.of; stood = loaded.stood; leads = (tested, has) }
 
-    broken : (begin : Journal) → stood ≡ journal begin → WasBroken clients limits words begin o0 o3
+    broken : (begin : Journal) → stood ≡ journal begin → RanSoFar clients limits words begin o0 o3
     broken begin began =
-        subst (λ (j : Journal). WasBroken clients limits words j o0 o3) (same_begin begin began) was
+        subst (λ (j : Journal). RanSoFar clients limits words j o0 o3) (same_begin begin began) was
 
     comes : (x : Result Closing Outcome) → r ≡ x → RunComesTo clients limits words stood o0 o3 x
     comes (Ok ends) is =

@@ -15,16 +15,12 @@ abbrev pub FailuresRose : (old new : Outside) → Closing → Type 0
 FailuresRose old new closed = (i : ℕ) (stands : LinkEnd) → slice_get closed.ends i ≡ Some stands → stands ≡ end.Failed
     → CountRose (old.links.faults i) (new.links.faults i)
 
--- a dial of this link or the drawing of its nonce failed
-pub record DialFailed (words : List LinkWords) (old new : Outside) (link : ℕ) : Type 0 where
-  pub within : link < length words
-  pub rose : CountRose (old.links.faults link) (new.links.faults link)
-
--- the causes of what the command comes to
+-- the causes of what the command comes to; a link fails by its dial, or the drawing of its nonce
 abbrev pub IsCaused : List LinkWords → (old new : Outside) → Result Closing Outcome → Type 0
 IsCaused words old new (Ok ends) = FailuresRose old new ends
 IsCaused words old new (Err outcome.DiskFault) = CountRose old.disk_faults new.disk_faults
-IsCaused words old new (Err (outcome.LinkFailed link)) = DialFailed words old new link
+IsCaused words old new (Err (outcome.LinkFailed link)) =
+    (link < length words) × CountRose (old.links.faults link) (new.links.faults link)
 IsCaused words old new (Err outcome.NoStore) = Unit {0}
 IsCaused words old new (Err (outcome.Damaged place)) = Unit {0}
 IsCaused words old new (Err (outcome.Refused refused.UnknownContact)) = Unit {0}

@@ -1,18 +1,20 @@
 -- The headline: whatever the links bring, cut or repeat, whatever call fails and whenever the
 -- device stops, its files stand for a legal journal that extends the old one, took what was heard
 -- in order, and has every byte that was sent.
-use Rattle.std.specs.Prelude.{◌≡◌, ◌≢◌, ◌⊎◌, ℕ, ◌+◌, ◌<◌, List, [], Option, Some, Result, Err, slice_get, slice_index_or}
+use Rattle.std.specs.Prelude.{◌≡◌, ◌≢◌, ◌⊎◌, ℕ, ◌+◌, ◌<◌, List, [], Option, Some, Result, Err}
+use Rattle.std.specs.Prelude.{slice_get, slice_index_or}
 use Rattle.outside.specs.Faults.{CountRose}
 use Rattle.outside.specs.Files.{Two, File, IsImage, read_files}
-use Rattle.outside.specs.Outside.{Outside, Moment, IsNow}
+use Rattle.outside.specs.Outside.{Outside, Moment, MomentsAre, IsNow}
 use Rattle.outside.specs.Runs.{TellsAll}
 use Rattle.sync_rules.specs.declared.entries.Session.{Session}
 use Rattle.sync_rules.specs.Clients.{Meaning}
 use Rattle.sync_rules.specs.Facts.{facts}
-use Rattle.entry_codec.specs.Standing.{Standing, journal}
+use Rattle.entry_codec.specs.Standing.{journal}
 use Rattle.file_standing.specs.Standing.{stands}
 use Rattle.sync_node.specs.Output.{AreOutput, Journal, heard_on, output, sent_on}
 use Rattle.sync_node.specs.Suits.{SuitsRun}
+use Rattle.store_commands.specs.Works.{StoodFor}
 use Rattle.sync_words.specs.declared.link_words.LinkWords.{LinkWords}
 use Rattle.sync_course.specs.declared.ends.LinkEnd.{LinkEnd}
 use Rattle.sync_course.specs.declared.ends.LinkEnd.TheVariants as end
@@ -37,35 +39,34 @@ pub record StandsForRun (clients : Meaning) (words : List LinkWords) (begin : Jo
   pub suits : SuitsRun clients begin (facts begin).begun sessions heard whole
   pub has_sent : AreOutput whole (facts begin).begun sent
 
--- the same where files stood for a journal when the run began
-pub record RunsOn (clients : Meaning) (words : List LinkWords) (stood : Standing)
-    (heard sent : ℕ → List ℕ) (files : Two (List ℕ)) : Type 0 where
-  pub begin : Journal
-  pub began : stood ≡ journal begin
-  pub stands_for : StandsForRun clients words begin heard sent files
+-- a moment that might have been before the command, at which nothing was sent
+pub record IsUntouched (two : Two File) (old : Outside) (m : Moment) : Type 0 where
+  pub now : IsNow two old.links m
+  pub nothing_sent : (link : ℕ) → sent_by m link ≡ []
 
--- What is so where files, links and what they heard are told. The files were `two` when the command
--- began.
-pub record HeadlineTold (clients : Meaning) (words : List LinkWords) (two : Two File)
+-- Where files, links and what they heard are told; the files were `two` when the command began. At
+-- each moment a crash leaves what it might have left before, nothing being sent, or files of which
+-- P is so, by the journal that the run began with, by what was heard and by what was sent by then:
+-- so P is so from the first byte on that was sent. At the end P is so of the files as they read.
+pub record RunLeaves (clients : Meaning)
+    (P : Journal → (heard sent : ℕ → List ℕ) → Two (List ℕ) → Type 0) (two : Two File)
     (old new : Outside) (told : TellsAll new) : Type 0 where
-  -- at each moment a crash leaves what it might have left before the command, nothing being sent,
-  -- or a journal of the run
-  pub moments : (m : Moment) → new.moments old.clock m
-      → IsNow two old.links m
-      ⊎ RunsOn clients words (stands clients (read_files two)) (heard_on new.links)
-      (sent_by m) m.files
-  -- from the first byte on that was sent, it leaves a journal of the run
-  pub once_sent : (m : Moment) → new.moments old.clock m → (link : ℕ) → sent_by m link ≢ []
-      → RunsOn clients words (stands clients (read_files two)) (heard_on new.links)
-      (sent_by m) m.files
-  -- at the end the files as they read stand for a journal of the run
+  pub moments : MomentsAre old new (λ m. IsUntouched two old m
+      ⊎ StoodFor (stands clients (read_files two))
+      (λ begin. P begin (heard_on new.links) (sent_by m) m.files))
   pub ends : (begin : Journal) → stands clients (read_files two) ≡ journal begin
-      → StandsForRun clients words begin (heard_on new.links) (sent_on new.links)
-      (read_files told.two)
+      → P begin (heard_on new.links) (sent_on new.links) (read_files told.two)
 
+-- whatever the links bring, whatever call fails and whenever the device stops, it leaves such files
+abbrev pub AlwaysLeaves : Meaning → (Journal → (heard sent : ℕ → List ℕ) → Two (List ℕ) → Type 0)
+    → (old new : Outside) → Type 0
+AlwaysLeaves clients P old new =
+    (two : Two File) → old.files ≡ Some two → (told : TellsAll new)
+    → RunLeaves clients P two old new told
+
+-- it leaves files that stand for a journal of the run of these words
 abbrev pub Headline : Meaning → List LinkWords → (old new : Outside) → Type 0
-Headline clients words old new = (two : Two File) → old.files ≡ Some two → (told : TellsAll new)
-    → HeadlineTold clients words two old new told
+Headline clients words old new = AlwaysLeaves clients (StandsForRun clients words) old new
 
 -- nothing is pending in the files: each crash leaves what a read gives
 abbrev pub AtRest : Option (Two File) → Type 0

@@ -1,13 +1,11 @@
 -- What a run leaves that ends before its first session.
 use Rattle.std.specs.Prelude.{◌≡◌, ◌≤◌, true, List, length, is_some, Result, Err}
 use Rattle.outside.specs.declared.limits.TheConstants.{LINKS}
-use Rattle.outside.specs.Files.{Two, File}
 use Rattle.outside.specs.Links.{Links}
 use Rattle.outside.specs.Outside.{Outside}
 use Rattle.outside.specs.Runs.{IsFront}
 use Rattle.sync_rules.specs.Facts.{facts}
 use Rattle.entry_codec.specs.Standing.{Standing, damaged, journal, no_store}
-use Rattle.store_commands.specs.Show.{FilesReadSame, LeavesFilesSo}
 use Rattle.sync_words.specs.declared.link_words.LinkWords.{LinkWords}
 use Rattle.sync_course.specs.Closing.{Closing}
 use Rattle.sync_words.specs.declared.outcome.Outcome.{Outcome}
@@ -37,12 +35,6 @@ abbrev pub MayNotBegin : List LinkWords → Standing → Type 0
 MayNotBegin words no_store = Unit {0}
 MayNotBegin words (damaged file place) = Unit {0}
 MayNotBegin words (journal begin) = is_some (run_test (facts begin) words) ≡ true
-
--- A run that did nothing: no link was made, nothing was sent or heard, and the clock was not read. Each moment is as a crash might have
--- left the files before, and they read as before.
-pub record DoesNotBegin (two : Two File) (old new : Outside) : Type 0 where
-  pub same_links : new.links ≡ old.links
-  pub rests : LeavesFilesSo (FilesReadSame two) two old new
 
 -- ---- the links that were dialled
 

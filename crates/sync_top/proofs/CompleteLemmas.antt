@@ -54,7 +54,7 @@ use Rattle.mailbox_commands.specs.Sending.{HasSentMail, out_errand}
 use Rattle.mailbox_commands.specs.Taking.{HasTakenMail, IsMail, IsTooMuch, in_errand, outcome_at}
 use Rattle.store_commands.proofs.Stood.{last_lacks}
 use Rattle.sync_top.specs.declared.input.TheConstants.{MAX_INPUT}
-use Rattle.sync_top.specs.Complete.{ComesOut, Complete, MailDecides, NothingFails, ServesCommand}
+use Rattle.sync_top.specs.Complete.{BytesDecide, ComesOut, Complete, NothingFails, ServesCommand}
 use Rattle.sync_top.specs.Complete.{StreamDecides}
 use Rattle.sync_top.specs.Duties.{duty_of, sending_of, to_send, to_take}
 use Rattle.sync_top.specs.Run.{WordsComeTo, ReadsStream, ReadsWhole, ReportsOutcome}
@@ -350,7 +350,9 @@ module _ (clients : Meaning) (old new : Outside) (input input' out out' : Stream
       may.stood (may.room did.now did.reads.clock) may.next did.reads.same_told came refl did.did
 
   abbrev Decided : Outcome → Type 0
-  Decided came = MailDecides input input' (status_of came) ⊎ (status_of came ≡ status.Memory)
+  Decided came =
+      BytesDecide MAX_MAIL (λ read. outcome_at (box_ending read)) input input' (status_of came)
+      ⊎ (status_of came ≡ status.Memory)
 
   -- the whole input was read
   mail_decides : (read : List ℕ) (came : Outcome) → IsMail input input' read → outcome_at

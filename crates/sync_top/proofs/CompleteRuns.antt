@@ -1,7 +1,7 @@
 -- A run of sessions comes to what its course decides: each other outcome has a cause.
 use Rattle.std.proofs.Common.{◌≡◌, ℕ, zero, suc, Bool, true, false, List, [], ◌∷◌, ◌++◌, refl}
 use Rattle.std.proofs.Common.{sym, ◌∙◌, ap, subst, inl, inr, arith, None, Some, Result, Ok, Err}
-use Rattle.std.specs.Prelude.{◌⊎◌, slice_get, map, ◌||◌}
+use Rattle.std.specs.Prelude.{◌≢◌, ◌⊎◌, slice_get, map, ◌||◌}
 use Rattle.std.specs.List.{list_any}
 use Rattle.outside.specs.Faults.{CountRose}
 use Rattle.outside.specs.Files.{read_files}
@@ -34,7 +34,7 @@ use Rattle.sync_run.specs.Causes.{FailuresRose, IsCaused}
 use Rattle.sync_run.specs.Courses.{RunComesTo, RanToEnd, WasFull, run_test}
 use Rattle.sync_run.specs.Ends.{LacksVersion, StandsByHeard}
 use Rattle.sync_run.specs.Ran.{HasRun}
-use Rattle.sync_top.specs.Complete.{AllHeardWell, CourseDecides, HeardWell, is_unfailed}
+use Rattle.sync_top.specs.Complete.{AllHeardWell, CourseDecides, HeardWell}
 use Rattle.sync_top.specs.Serving.{MaySync}
 
 -- ---- the status of links
@@ -48,23 +48,21 @@ all_done over (e ∷ ends) each =
     ap (λ (s : Status). first_bad s (ends_status over ends)) (each zero e refl)
     ∙ all_done over ends (λ i x at. each (suc i) x at)
 
-first_unfailed : (s t : Status) → is_unfailed s ≡ true → is_unfailed t ≡ true → is_unfailed
-    (first_bad s t) ≡ true
+first_unfailed : (s t : Status) → s ≢ status.LinkFault → t ≢ status.LinkFault
+    → first_bad s t ≢ status.LinkFault
 first_unfailed status.Done t first rest = rest
-first_unfailed status.BadStream t first rest = refl
-first_unfailed status.TurnsUsed t first rest = refl
-first_unfailed s t first rest = cc
+first_unfailed s t first rest = first
 
-end_unfailed : (over : Bool) (e : LinkEnd) → (e ≡ end.Failed → ⊥) → is_unfailed
-    (link_status over e) ≡ true
+end_unfailed : (over : Bool) (e : LinkEnd) → (e ≡ end.Failed → ⊥)
+    → link_status over e ≢ status.LinkFault
 end_unfailed over end.Failed fails = absurd (fails refl)
-end_unfailed true _ fails = refl
-end_unfailed false _ fails = refl
+end_unfailed true _ fails = λ is. cc
+end_unfailed false _ fails = λ is. cc
 
 all_unfailed : (over : Bool) (ends : List LinkEnd)
     → ((i : ℕ) (e : LinkEnd) → slice_get ends i ≡ Some e → e ≡ end.Failed → ⊥)
-    → is_unfailed (ends_status over ends) ≡ true
-all_unfailed over [] each = refl
+    → ends_status over ends ≢ status.LinkFault
+all_unfailed over [] each = λ is. cc
 all_unfailed over (e ∷ ends) each =
     first_unfailed (link_status over e) (ends_status over ends)
     (end_unfailed over e (each zero e refl))
@@ -139,15 +137,15 @@ module _ (clients : Meaning) (limits : Limits) (words : List LinkWords) (old new
 
   module _ (begin : List (List Entry)) (lines : Closing) (caused : FailuresRose old new lines)
       (ran : RanToEnd clients limits words begin old new lines) where
-    ran_done : is_over limits.quiet ran.last ≡ true → AllHeardWell ran.last
+    ran_done : is_over limits.quiet ran.run.last ≡ true → AllHeardWell ran.run.last
         → links_status lines ≡ status.Done
     ran_done over well =
         let quiet : lines.over ≡ true = ap (λ (c : Closing). c.over) ran.closes ∙ over in
         ap (λ (b : Bool). ends_status b lines.ends) quiet
         ∙ all_done true lines.ends (λ i e at.
-        let closed : slice_get (map (λ (l : Link). l.stands) ran.last.links) i ≡ Some e =
+        let closed : slice_get (map (λ (l : Link). l.stands) ran.run.last.links) i ≡ Some e =
         subst (λ (c : Closing). slice_get c.ends i ≡ Some e) ran.closes at in
-        let stood = end_of_link ran.last.links i e closed in
+        let stood = end_of_link ran.run.last.links i e closed in
         ap (link_status true) stood.is
         ∙ well_done stood.link.stands stood.link.heard (ran.by_heard i stood.link stood.there)
         (well i stood.link stood.there) (λ failed.
@@ -163,9 +161,6 @@ module _ (clients : Meaning) (limits : Limits) (words : List LinkWords) (old new
       decides = refl;
       unfailed = all_unfailed lines.over lines.ends (unfailed lines caused);
       is_done = ran_done;
-      is_done_as_told = λ over told.
-          ran_done over (λ i link at.
-          subst HeardWell (sym (ran.as_told i link at told.0 told.1)) (told.2 i));
     }
 
   module _ (may : MaySync clients limits words old new) where
@@ -186,10 +181,10 @@ module _ (clients : Meaning) (limits : Limits) (words : List LinkWords) (old new
     result_comes (Ok lines) came is caused comes =
         let ran : RanToEnd clients limits words may.before old new lines =
         subst (λ (j : List (List Entry)). RanToEnd clients limits words j old new lines)
-        (same_begin comes.begin comes.began) comes.has in
+        (same_begin comes.before comes.stood) comes.leads.1 in
         subst ComesOut (sym is) (inl (course_decides may.before lines caused ran may.stood))
     result_comes (Err (outcome.LinkFailed link)) came is caused comes =
-        absurd (links link caused.rose)
+        absurd (links link caused.1)
     result_comes (Err outcome.DiskFault) came is caused comes = absurd (disk caused)
     result_comes (Err outcome.Memory) came is caused comes = inr (ap status_of is)
     result_comes (Err outcome.NoStore) came is caused comes =
@@ -199,13 +194,13 @@ module _ (clients : Meaning) (limits : Limits) (words : List LinkWords) (old new
     result_comes (Err (outcome.Refused why)) came is caused comes =
         let fails : run_test (facts may.before) words ≡ Some why =
         subst (λ (j : List (List Entry)). run_test (facts j) words ≡ Some why)
-        (same_begin comes.begin comes.began) comes.tested in
+        (same_begin comes.before comes.stood) comes.leads.0 in
         let both : Some why ≡ None = sym fails ∙ may.tested in
         cc
     result_comes (Err outcome.Full) came is caused comes =
         let full : WasFull clients limits words may.before old new =
         subst (λ (j : List (List Entry)). WasFull clients limits words j old new)
-        (same_begin comes.begin comes.began) comes.has in
+        (same_begin comes.before comes.stood) comes.leads.1 in
         absurd (not_full full)
     result_comes (Err _) came is caused comes = absurd caused
 

@@ -1,12 +1,11 @@
 -- Each moment of a run of sessions opens to a sound journal: by the headline and the laws of legal
 -- journals.
-use Rattle.std.proofs.Common.{◌≡◌, ℕ, ◌+◌, List, [], ◌∷◌, ◌++◌, append_assoc, length, refl}
-use Rattle.std.proofs.Common.{sym, ap, ◌∙◌, subst, inl, inr, Option, None, Some}
+use Rattle.std.proofs.Common.{◌≡◌, ◌⊎◌, ℕ, List, [], ◌∷◌, ◌++◌, append_assoc, sym, ◌∙◌, subst}
+use Rattle.std.proofs.Common.{inl, inr}
 use Rattle.std.proofs.lemmas.List.{append_cancel_left}
 use Rattle.outside.specs.Files.{Two, File, read_files}
-use Rattle.outside.specs.Links.{ToldLink, sent_of}
 use Rattle.outside.specs.Outside.{Moment, Outside}
-use Rattle.outside.specs.Runs.{TellsAll}
+use Rattle.outside.proofs.CallSteps.{moments_map}
 use Rattle.sync_rules.specs.declared.entries.Entry.{Entry}
 use Rattle.sync_rules.specs.declared.entries.Entry.TheVariants as entry
 use Rattle.sync_rules.specs.declared.entries.Session.{Session}
@@ -27,11 +26,10 @@ use Rattle.commands.specs.declared.command.Command.TheVariants as command
 use Rattle.sync_words.specs.declared.link_words.LinkWords.{LinkWords}
 use Rattle.commands.specs.Reading.{Asked}
 use Rattle.commands.specs.Reading.Asked.{Usage, Do}
-use Rattle.sync_run.specs.Headline.{HeadlineTold, RunsOn, sent_by}
-use Rattle.sync_top.specs.Run.{AsksSync, Covered}
-use Rattle.sync_top.proofs.HeadlineLemmas.{no_links, none_at}
-use Rattle.sync_top.specs.Sound.{AlwaysOpens, OpensOn, OpensTold, RunsAreSound}
-use Rattle.sync_top.specs.Sound.{TakesInOrder}
+use Rattle.store_commands.specs.Works.{StoodFor}
+use Rattle.sync_run.specs.Headline.{IsUntouched, StandsForRun, sent_by}
+use Rattle.sync_top.specs.Run.{Covered}
+use Rattle.sync_top.specs.Sound.{AlwaysOpens, OpensSound, RunsAreSound, TakesInOrder}
 
 -- ---- the records that were taken
 
@@ -112,57 +110,33 @@ runs_sound brings judges ends order origin open_only legal clients words begin h
 
 -- ---- the moments of a run
 
--- nothing was sent on a host without links, by any moment of then
-none_sent : (told : Option (List ToldLink))
-    → ((links : List ToldLink) → told ≡ Some links → length links ≡ 0) → sent_of told ≡ []
-none_sent None all = refl
-none_sent (Some links) all =
-    ap (λ (l : List ToldLink). sent_of (Some l)) (no_links links (all links refl))
-
-silent_by : (o : Outside) (m : Moment) (link : ℕ) → o.links.dialled ≡ 0
-    → m.sent ≡ sent_of o.links.told → sent_by m link ≡ []
-silent_by o m link none sent =
-    none_at m.sent link (sent ∙ none_sent o.links.told (λ links told. o.all_told links told ∙ none))
-
-module _ (law : RunsAreSound) (clients : Meaning) (words : List LinkWords)
-    (heard : ℕ → List ℕ) where
-  opens_on : (stood : Standing) (sent : ℕ → List ℕ) (files : Two (List ℕ))
-      → RunsOn clients words stood heard sent files → OpensOn clients stood heard sent files
-  opens_on stood sent files on =
-      record {
-        begin = on.begin;
-        began = on.began;
-        opens = law clients words on.begin heard sent files on.stands_for;
-      }
-
-pub opens_told : RunsAreSound → (clients : Meaning) (words : List LinkWords) (two : Two File)
-    (old new : Outside) (told : TellsAll new) → old.links.dialled ≡ 0
-    → HeadlineTold clients words two old new told
-    → OpensTold clients two old new told
-opens_told law clients words two old new told none headline =
-    record {
-      moments = λ m w. elim (headline.moments m w) [
-        | inl now ↦ inl (record {
-          now = now;
-          nothing_sent = λ link. silent_by old m link none now.sent;
-        })
-        | inr on
-            ↦ inr (opens_on law clients words (heard_on new.links) (stands clients (read_files two))
-            (sent_by m) m.files on)
-      ];
-      once_sent = λ m w link some.
-          opens_on law clients words (heard_on new.links) (stands clients (read_files two))
-          (sent_by m) m.files (headline.once_sent m w link some);
-      ends = λ begin stood.
-          law clients words begin (heard_on new.links) (sent_on new.links) (read_files told.two)
-          (headline.ends begin stood);
-    }
+-- what may be left at a moment of a run opens to a sound journal
+opens_then : RunsAreSound → (clients : Meaning) (words : List LinkWords) (two : Two File)
+    (old : Outside) (standing : Standing) (heard : ℕ → List ℕ) (m : Moment)
+    → IsUntouched two old m
+    ⊎ StoodFor standing (λ begin. StandsForRun clients words begin heard (sent_by m) m.files)
+    → IsUntouched two old m
+    ⊎ StoodFor standing (λ begin. OpensSound clients begin heard (sent_by m) m.files)
+opens_then law clients words two old standing heard m (inl untouched) = inl untouched
+opens_then law clients words two old standing heard m (inr on) = inr (record {
+  before = on.before;
+  stood = on.stood;
+  leads = law clients words on.before heard (sent_by m) m.files on.leads;
+})
 
 pub always_opens : RunsAreSound → (clients : Meaning) (words : Asked) (old new : Outside)
-    → (AsksSync words → old.links.dialled ≡ 0) → Covered clients words old new
-    → AlwaysOpens clients words old new
-always_opens law clients (Usage place) old new unused covered = tt
-always_opens law clients (Do (command.Sync turns quiet links)) old new unused covered =
+    → Covered clients words old new → AlwaysOpens clients words old new
+always_opens law clients (Usage place) old new covered sync = absurd sync
+always_opens law clients (Do (command.Sync turns quiet links)) old new covered sync =
     λ two files told.
-    opens_told law clients links two old new told (unused tt) (covered two files told)
-always_opens law clients (Do _) old new unused covered = tt
+    let leaves = covered two files told in
+    record {
+      moments =
+          moments_map old new _ _
+          (opens_then law clients links two old (stands clients (read_files two))
+          (heard_on new.links)) leaves.moments;
+      ends = λ begin stood.
+          law clients links begin (heard_on new.links) (sent_on new.links) (read_files told.two)
+          (leaves.ends begin stood);
+    }
+always_opens law clients (Do _) old new covered sync = absurd sync

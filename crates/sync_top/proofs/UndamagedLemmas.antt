@@ -5,6 +5,7 @@ use Rattle.std.specs.Prelude.{◌⊎◌, ◌&&◌, ◌||◌, if◌then◌else◌
 use Rattle.outside.specs.Files.{Two, File, IsImage, read_files}
 use Rattle.outside.specs.Frames.{generation_in, is_open, journal_file}
 use Rattle.outside.specs.Outside.{Outside, Moment, MomentsAre, IsNow}
+use Rattle.outside.specs.Runs.{TellsAll}
 use Rattle.outside.proofs.CallSteps.{moments_map, moments_none}
 use Rattle.outside.specs.Streams.{Stream}
 use Rattle.sync_rules.specs.declared.states.Refused.{Refused}
@@ -30,7 +31,7 @@ use Rattle.store_commands.specs.Post.{HasPosted, PostStops, PostsBody}
 use Rattle.store_commands.specs.Show.{HasLooked}
 use Rattle.store_commands.specs.Stopping.{StopsEarly, TestsHold}
 use Rattle.store_commands.specs.Shown.{Showing}
-use Rattle.store_commands.specs.Works.{HasWorked, Work}
+use Rattle.store_commands.specs.Works.{HasWorked, StoodFor, Work}
 use Rattle.audit_commands.specs.Audits.{HasAudited}
 use Rattle.sharing_commands.specs.Agreeing.{HasAgreed, agreement}
 use Rattle.mailbox_commands.specs.declared.sending.Sending.{Sending}
@@ -39,10 +40,11 @@ use Rattle.store_commands.specs.Running.{FilesRun}
 use Rattle.mailbox_commands.specs.Sending.{HasSentMail, out_errand}
 use Rattle.mailbox_commands.specs.Taking.{HasTakenMail, in_errand}
 use Rattle.sync_store.specs.Moments.{JournalMoment}
+use Rattle.sync_node.specs.Output.{heard_on}
 use Rattle.sync_top.specs.Duties.{duty_of, sending_of}
 use Rattle.sync_top.specs.Run.{AsksSync, WordsComeTo, ComesOfStore, Covered, KeepsHost}
-use Rattle.sync_top.specs.Undamaged.{NeverDamaged, RunUndamaged, StandsForSome, Undamaged}
-use Rattle.sync_run.specs.Headline.{Headline}
+use Rattle.sync_top.specs.Undamaged.{NeverDamaged, StandsForSome, Undamaged}
+use Rattle.sync_run.specs.Headline.{Headline, IsUntouched, StandsForRun, sent_by}
 use Rattle.sync_words.specs.declared.link_words.LinkWords.{LinkWords}
 
 -- ---- a store that is begun
@@ -192,12 +194,21 @@ module _ (clients : Meaning) (old new : Outside) where
     of_posted came (inr did) = of_body came did
 
   -- a run of sessions leaves what a crash might have left before, or a journal of the run
-  of_run : (words : List LinkWords) → Headline clients words old new → RunUndamaged clients old new
-  of_run words headline two files each told m w =
-      elim ((headline two files told).moments m w) [
-        | inl now ↦ each m.files now.image
-        | inr on ↦ record { of = on.stands_for.whole; stands_for = on.stands_for.stands_for }
-      ]
+  left_moment : (words : List LinkWords) (heard : ℕ → List ℕ) (standing : Standing) (two : Two File)
+      → ((left : Two (List ℕ)) → IsImage two left → StandsForSome clients left)
+      → (m : Moment) → IsUntouched two old m
+      ⊎ StoodFor standing (λ begin. StandsForRun clients words begin heard (sent_by m) m.files)
+      → StandsForSome clients m.files
+  left_moment words heard standing two each m (inl untouched) = each m.files untouched.now.image
+  left_moment words heard standing two each m (inr on) =
+      record { of = on.leads.whole; stands_for = on.leads.stands_for }
+
+  of_run : (words : List LinkWords) → Headline clients words old new → TellsAll new
+      → Undamaged clients old new
+  of_run words headline told two files each =
+      moments_map old new _ _
+      (left_moment words (heard_on new.links) (stands clients (read_files two)) two each)
+      (headline two files told).moments
 
   of_store : (did : Outcome → Type 0) (input input' out out' : Stream) (came : Outcome)
       → (did came → Undamaged clients old new)
@@ -253,12 +264,12 @@ module _ {H : Type 0} (tells : H → Outside) (clients : Meaning) (h h' : H)
       (tells h') input input' out out' came → KeepsHost words h h'
       → Covered clients words (tells h) (tells h')
       → NeverDamaged clients words (tells h) (tells h')
-  undamaged (Usage place) comes keeps covered = kept keeps
-  undamaged (Do (command.Try name descriptor)) comes keeps covered = kept keeps
-  undamaged (Do command.Records) comes keeps covered = kept keeps
-  undamaged (Do (command.Sync turns quiet links)) comes keeps covered =
-      of_run clients (tells h) (tells h') links covered
-  undamaged (Do asked) comes keeps covered =
+  undamaged (Usage place) comes keeps covered told = kept keeps
+  undamaged (Do (command.Try name descriptor)) comes keeps covered told = kept keeps
+  undamaged (Do command.Records) comes keeps covered told = kept keeps
+  undamaged (Do (command.Sync turns quiet links)) comes keeps covered told =
+      of_run clients (tells h) (tells h') links covered (told tt)
+  undamaged (Do asked) comes keeps covered told =
       of_store clients (tells h) (tells h')
       ((duty_of clients asked).comes (tells h) (tells h') input input' out out') input input' out
       out' came

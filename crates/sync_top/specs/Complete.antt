@@ -1,12 +1,11 @@
 -- Completeness: a command whose tests hold, whose files serve and which has room is done where no
 -- call fails, unless memory is wanting; but that the bytes decide for `try` and `records`, and the
 -- course for `sync`.
-use Rattle.std.specs.Prelude.{◌≡◌, ◌⊎◌, ℕ, ◌+◌, ◌≤◌, Bool, true, false, if◌then◌else◌, nat_lt, List}
+use Rattle.std.specs.Prelude.{◌≡◌, ◌≢◌, ◌⊎◌, ℕ, ◌+◌, ◌≤◌, true, false, if◌then◌else◌, nat_lt, List}
 use Rattle.std.specs.Prelude.{length, Some, is_some, slice_get}
 use Rattle.std.specs.Io.KnownBytes.{Consumes, IsAtEnd}
 use Rattle.std.specs.List.{list_any}
 use Rattle.outside.specs.Faults.{CountRose}
-use Rattle.outside.specs.Links.{HeardOn}
 use Rattle.outside.specs.Outside.{Outside}
 use Rattle.outside.specs.Streams.{Stream}
 use Rattle.record_grammar.specs.Stream.{ending, records}
@@ -16,7 +15,6 @@ use Rattle.sync_rules.specs.Clients.{Meaning}
 use Rattle.sync_course.specs.Links.{Link, closes}
 use Rattle.sync_course.specs.Turns.{Place, is_over}
 use Rattle.sync_node.specs.Courses.{ReadsAs}
-use Rattle.sync_node.specs.Output.{heard_on}
 use Rattle.commands.specs.declared.command.Command.{Command}
 use Rattle.commands.specs.declared.command.Command.TheVariants as command
 use Rattle.sync_words.specs.declared.link_words.LinkWords.{LinkWords}
@@ -70,10 +68,6 @@ pub record BytesDecide (most : ℕ) (comes : List ℕ → Outcome) (input input'
 abbrev pub StreamDecides : (input input' : Stream) → Status → Type 0
 StreamDecides = BytesDecide MAX_INPUT (λ read. outcome_of (ending 0 read))
 
--- those of a mailbox file, by how its reading ends
-abbrev pub MailDecides : (input input' : Stream) → Status → Type 0
-MailDecides = BytesDecide MAX_MAIL (λ read. outcome_at (box_ending read))
-
 -- whole records were heard, and each VERSIONS among them has the version of this node
 pub record HeardWell (heard : List ℕ) : Type 0 where
   pub whole : ending 0 heard ≡ ends.Clean
@@ -82,21 +76,8 @@ pub record HeardWell (heard : List ℕ) : Type 0 where
 abbrev pub AllHeardWell : Place → Type 0
 AllHeardWell p = (i : ℕ) (link : Link) → slice_get p.links i ≡ Some link → HeardWell link.heard
 
--- the host tells what each link heard, and it was heard well
-abbrev pub AllToldWell : Outside → Type 0
-AllToldWell o =
-    (heard : List HeardOn) × (o.links.heard ≡ Some heard)
-    × ((i : ℕ) → HeardWell (heard_on o.links i))
-
--- a status that a course has none of whose links failed
-abbrev pub is_unfailed : Status → Bool
-is_unfailed status.Done = true
-is_unfailed status.BadStream = true
-is_unfailed status.TurnsUsed = true
-is_unfailed given = false
-
--- The course decides, by how it closes its links; and all is done where it was over within its
--- turns, and each link heard well, by the course's last place or by what the host tells.
+-- The course decides, by how it closes its links, none of which failed; and all is done where it
+-- was over within its turns, and each link heard well.
 pub record CourseDecides (clients : Meaning) (limits : Limits) (words : List LinkWords)
     (old new : Outside) (given : Status) : Type 0 where
   pub begin : List (List Entry)
@@ -104,9 +85,9 @@ pub record CourseDecides (clients : Meaning) (limits : Limits) (words : List Lin
   pub ends : Closing
   pub ran : RanToEnd clients limits words begin old new ends
   pub decides : given ≡ links_status ends
-  pub unfailed : is_unfailed given ≡ true
-  pub is_done : is_over limits.quiet ran.last ≡ true → AllHeardWell ran.last → given ≡ status.Done
-  pub is_done_as_told : is_over limits.quiet ran.last ≡ true → AllToldWell new → given ≡ status.Done
+  pub unfailed : given ≢ status.LinkFault
+  pub is_done : is_over limits.quiet ran.run.last ≡ true → AllHeardWell ran.run.last
+      → given ≡ status.Done
 
 -- what it is that a command comes to, if memory is not wanting
 abbrev pub ComesOut : Meaning → Command → (old new : Outside) → (input input' : Stream) → Status
@@ -115,7 +96,7 @@ ComesOut clients (command.Try name descriptor) old new input input' given =
     StreamDecides input input' given
 ComesOut clients command.Records old new input input' given = StreamDecides input input' given
 ComesOut clients (command.MailboxIn contact) old new input input' given =
-    MailDecides input input' given
+    BytesDecide MAX_MAIL (λ read. outcome_at (box_ending read)) input input' given
 ComesOut clients (command.Sync turns quiet links) old new input input' given =
     CourseDecides clients (record { turns = turns; quiet = quiet }) links old new given
 ComesOut clients asked old new input input' given = given ≡ status.Done

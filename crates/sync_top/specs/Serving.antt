@@ -20,7 +20,7 @@ use Rattle.store_commands.specs.Plans.{Plan, adds, post_plan}
 use Rattle.store_commands.specs.Post.{IsBody, message_of}
 use Rattle.store_commands.specs.Shown.{Showing, shows}
 use Rattle.sync_run.specs.declared.run.Limits.{Limits}
-use Rattle.sync_run.specs.Courses.{WasBroken, run_test, terms_of}
+use Rattle.sync_run.specs.Courses.{RanSoFar, run_test, terms_of}
 
 -- behind a journal, however it is settled, this is so of the whole and of its facts
 abbrev pub HoweverSettled : Meaning → List (List Entry) → (List (List Entry) → Facts → Type 0)
@@ -86,6 +86,6 @@ pub record MayAudit (clients : Meaning) (files : Option (Two File)) : Type 0 whe
 abbrev pub MaySync : Meaning → Limits → List LinkWords → (old new : Outside) → Type 0
 MaySync clients limits words old new =
     MayWork clients (λ f. run_test f words ≡ None) (λ begin.
-    (was : WasBroken clients limits words begin old new) (batch : List Entry) (next : Place)
-    → RunStep clients (terms_of limits begin) was.last (Commit batch) next
-    → needed_by (begin ++ batches_of was.events) batch ≤ MAX_JOURNAL) old.files
+    (run : RanSoFar clients limits words begin old new) (batch : List Entry) (next : Place)
+    → RunStep clients (terms_of limits begin) run.last (Commit batch) next
+    → needed_by (begin ++ batches_of run.events) batch ≤ MAX_JOURNAL) old.files

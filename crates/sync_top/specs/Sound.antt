@@ -1,10 +1,9 @@
 -- The headline, put together: at each moment of a run of sessions the files stand for a legal
 -- journal that extends the old one, in which each message came, was judged and ended once, in order
 -- and from where it may, and which took what was heard and has what was sent.
-use Rattle.std.specs.Prelude.{◌≡◌, ◌≢◌, ◌⊎◌, ℕ, List, [], ◌∷◌, ◌++◌, Some}
-use Rattle.outside.specs.Files.{Two, File, read_files}
-use Rattle.outside.specs.Outside.{IsNow, Moment, Outside}
-use Rattle.outside.specs.Runs.{TellsAll}
+use Rattle.std.specs.Prelude.{◌≡◌, ℕ, List, ◌∷◌, ◌++◌}
+use Rattle.outside.specs.Files.{Two}
+use Rattle.outside.specs.Outside.{Outside}
 use Rattle.sync_rules.specs.declared.entries.Entry.{Entry}
 use Rattle.sync_rules.specs.declared.entries.Entry.TheVariants as entry
 use Rattle.sync_rules.specs.Clients.{Meaning}
@@ -15,12 +14,12 @@ use Rattle.sync_rules.specs.Output.{SendsTheOpen}
 use Rattle.entry_codec.specs.Standing.{Standing, journal}
 use Rattle.file_standing.specs.Standing.{stands}
 use Rattle.sync_course.specs.Suits.{TakesHeard}
-use Rattle.sync_node.specs.Output.{AreOutput, Journal, heard_on, sent_on}
-use Rattle.commands.specs.declared.command.Command.TheVariants as command
+use Rattle.sync_node.specs.Output.{AreOutput, Journal}
 use Rattle.sync_words.specs.declared.link_words.LinkWords.{LinkWords}
 use Rattle.commands.specs.Reading.{Asked}
-use Rattle.commands.specs.Reading.Asked.{Do}
-use Rattle.sync_run.specs.Headline.{StandsForRun, sent_by}
+use Rattle.store_commands.specs.Works.{StoodFor}
+use Rattle.sync_run.specs.Headline.{AlwaysLeaves, StandsForRun}
+use Rattle.sync_top.specs.Run.{AsksSync}
 
 -- ---- the journal of a moment
 
@@ -65,43 +64,17 @@ pub record OpensSound (clients : Meaning) (begin : Journal) (heard sent : ℕ �
 -- every journal of a run is such
 abbrev pub RunsAreSound : Type 0
 RunsAreSound =
-    (clients : Meaning) (words : List LinkWords) (begin : Journal) (heard sent : ℕ
-    → List ℕ) (files : Two (List ℕ))
-    → StandsForRun clients words begin heard sent files → OpensSound clients begin heard sent files
-
--- ---- the moments of a run
+    (clients : Meaning) (words : List LinkWords) (begin : Journal) (heard sent : ℕ → List ℕ)
+    (files : Two (List ℕ)) → StandsForRun clients words begin heard sent files
+    → OpensSound clients begin heard sent files
 
 -- the same where files stood for a journal when the run began
-pub record OpensOn (clients : Meaning) (stood : Standing) (heard sent : ℕ → List ℕ)
-    (files : Two (List ℕ)) : Type 0 where
-  pub begin : Journal
-  pub began : stood ≡ journal begin
-  pub opens : OpensSound clients begin heard sent files
+abbrev pub OpensOn : Meaning → Standing → (heard sent : ℕ → List ℕ) → Two (List ℕ) → Type 0
+OpensOn clients standing heard sent files =
+    StoodFor standing (λ begin. OpensSound clients begin heard sent files)
 
--- a moment that might have been before the command, at which nothing was sent
-pub record IsUntouched (two : Two File) (old : Outside) (m : Moment) : Type 0 where
-  pub now : IsNow two old.links m
-  pub nothing_sent : (link : ℕ) → sent_by m link ≡ []
-
--- Where files, links and what they heard are told; the files were `two` when the command began. At
--- each moment a crash leaves what it might have left before, nothing being sent, or a sound
--- journal; from the first byte on that was sent, such a journal; and so do the files as they read
--- at the end.
-pub record OpensTold (clients : Meaning) (two : Two File) (old new : Outside)
-    (told : TellsAll new) : Type 0 where
-  pub moments : (m : Moment) → new.moments old.clock m
-      → IsUntouched two old m
-      ⊎ OpensOn clients (stands clients (read_files two)) (heard_on new.links) (sent_by m)
-      m.files
-  pub once_sent : (m : Moment) → new.moments old.clock m → (link : ℕ) → sent_by m link ≢ []
-      → OpensOn clients (stands clients (read_files two)) (heard_on new.links) (sent_by m) m.files
-  pub ends : (begin : Journal) → stands clients (read_files two) ≡ journal begin
-      → OpensSound clients begin (heard_on new.links) (sent_on new.links) (read_files told.two)
-
--- whatever the links bring, whatever call fails and whenever the device stops, it opens to a sound
--- journal
+-- whatever the links bring, whatever call fails and whenever the device stops, a run of sessions
+-- leaves files that open to a sound journal
 abbrev pub AlwaysOpens : Meaning → Asked → (old new : Outside) → Type 0
-AlwaysOpens clients (Do (command.Sync turns quiet links)) old new =
-    (two : Two File) → old.files ≡ Some two → (told : TellsAll new)
-    → OpensTold clients two old new told
-AlwaysOpens clients _ old new = Unit {0}
+AlwaysOpens clients words old new =
+    AsksSync words → AlwaysLeaves clients (OpensSound clients) old new

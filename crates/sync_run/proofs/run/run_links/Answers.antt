@@ -1,6 +1,7 @@
-use Rattle.std.proofs.Common.{arith, List, [], length, refl, ap, sym, subst, ◌∙◌}
+use Rattle.std.proofs.Common.{arith, ℕ, List, [], length, refl, ap, sym, subst, ◌∙◌, Err}
+use Rattle.sync_words.specs.declared.outcome.Outcome.TheVariants as outcome
 use Rattle.sync_run.specs.declared.dialling.Dialled.{Dialled}
-use Rattle.sync_run.specs.Causes.{DialFailed}
+use Rattle.sync_run.specs.Causes.{IsCaused}
 use Rattle.sync_run.specs.Leaving.{LinksCameTo}
 use Rattle.sync_run.specs.Needs.{AllMayBegin}
 use Rattle.sync_run.specs.Parts.{RanOnLinks}
@@ -83,9 +84,8 @@ returns-in-Err g c =
           subst (LinksCameTo words old dialled) (sym fails) (record {
             specs = specs_made words _ old dialled c.requires.unused dials.front dials.makes;
             caused =
-                subst (DialFailed words old dialled)
-                (sym (c.len.ensures ∙ c.dial_all.new.to.ok.0))
-                (record { within = dials.all.0; rose = dials.all.1 });
+                subst (λ (link : ℕ). IsCaused words old dialled (Err (outcome.LinkFailed link)))
+                (sym (c.len.ensures ∙ c.dial_all.new.to.ok.0)) (dials.all.0, dials.all.1);
             leaves =
                 record { made = dials.made; front = dials.front; makes = dials.makes };
           });

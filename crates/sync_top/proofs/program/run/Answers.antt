@@ -54,7 +54,7 @@ pub returns-clause-opens : goal.returns-clause-opens
 returns-clause-opens g c =
     always_opens c.runs_are_sound.ensures (g.C.Clients.meaning c.args.clients.now)
     (asks (texts c.args.words.now)) (g.H.Disk.tells c.args.host.now)
-    (g.H.Disk.tells c.command-outcome.new.host) c.requires.unused
+    (g.H.Disk.tells c.command-outcome.new.host)
     (covers (g.C.Clients.meaning c.args.clients.now) (asks (texts c.args.words.now))
     (g.H.Disk.tells c.args.host.now)
     (g.H.Disk.tells c.command-outcome.new.host) _ _ _ _ c.command-outcome.result c.requires.unused
