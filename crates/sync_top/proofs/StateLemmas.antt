@@ -1,7 +1,7 @@
 -- Where `try` wrote its whole text, it told the state of each message; and what words come to that
 -- could not be obeyed.
 use Rattle.std.proofs.Common.{◌≡◌, ℕ, Bool, List, refl, sym, ap, ◌∙◌, subst, inl, inr, Option, Some}
-use Rattle.std.proofs.Common.{None, Result, Ok, Err, take}
+use Rattle.std.proofs.Common.{None, Result, Err, take}
 use Rattle.std.specs.Prelude.{IsErrAnd}
 use Rattle.std.specs.Io.KnownBytes.{Appends}
 use Rattle.std.proofs.lemmas.List.{take_all}
@@ -37,10 +37,11 @@ use Rattle.store_commands.specs.Entries.{HasAdded}
 use Rattle.store_commands.specs.Plans.{group_plan}
 use Rattle.sharing_commands.specs.declared.saying.Speech.{Speech}
 use Rattle.sharing_commands.specs.Sayings.{say_plan}
+use Rattle.store_commands.proofs.Passing.{passed}
 use Rattle.sync_top.specs.declared.input.TheConstants.{MAX_INPUT}
 use Rattle.sync_top.specs.Run.{WordsComeTo, DoesNothing, ReportsOutcome}
 use Rattle.sync_top.specs.Run.{ReadsStream, ReadsWhole, Streams, TriesClient, outcome_of}
-use Rattle.sync_top.specs.States.{TellsStates, TellsGroup, TellsWhole}
+use Rattle.sync_top.specs.States.{TellsStates, TellsWhole}
 
 -- a stream of records does not end as links do
 ends_no_links : (e : Ending) (closed : Closing) → outcome_of e ≡ outcome.Links closed → ⊥
@@ -53,20 +54,28 @@ module _
     → kind_of_def clients def ≡ Some kind → IsTextOf clients def records text
     → SaysFates clients kind (group_id_of def) records text)
     (clients : Meaning) (input input' out out' : Stream) where
-  whole_states : (kind : ℕ) (def : GroupValue) (came : Outcome)
-      → kind_of_def clients def ≡ Some kind
-      → (r : ReadsStream (λ some text. IsTextOf clients def (records_of some) text) input input' out
+  -- the group of the words of `try`
+  abbrev group_of : (name descriptor : List ℕ) → GroupValue
+  group_of name descriptor = record { name = name; major = 0; descriptor = descriptor }
+
+  whole_states : (name descriptor : List ℕ) (kind : ℕ) (came : Outcome)
+      → clients.kind_of name 0 ≡ Some kind
+      → (r : ReadsStream (λ some text.
+      IsTextOf clients (group_of name descriptor) (records_of some) text) input input' out
       out' came)
       → ReadsWhole input input' r.read → Appends out.bytes out'.bytes r.text
-      → TellsStates clients kind def input input' out out'
-  whole_states kind def came known r whole written = record {
+      → TellsStates clients name descriptor input input' out out'
+  whole_states name descriptor kind came known r whole written = record {
+    kind = kind;
+    known = known;
     read = r.read;
     text = r.text;
     consumed = r.consumed;
     whole = whole;
     says =
-        law clients kind def (records r.read) r.text known
-        (subst (λ (bytes : List ℕ). IsTextOf clients def (records_of (items 0 bytes)) r.text)
+        law clients kind (group_of name descriptor) (records r.read) r.text known
+        (subst (λ (bytes : List ℕ).
+        IsTextOf clients (group_of name descriptor) (records_of (items 0 bytes)) r.text)
         (take_all MAX_INPUT r.read whole.within) r.text_is);
     written = written;
   }
@@ -79,28 +88,21 @@ module _
       → clients.kind_of name 0 ≡ o
       → TriesClient clients name descriptor o input input' out out' came
       → Tells name descriptor came
-  group_states name descriptor None outcome.Done known tries = absurd tries
-  group_states name descriptor None (outcome.Bad place why) known tries = absurd tries
-  group_states name descriptor None (outcome.Inside place) known tries = absurd tries
-  group_states name descriptor None (outcome.NoVersion place) known tries = absurd tries
-  group_states name descriptor None (outcome.Links ends) known tries = absurd tries
-  group_states name descriptor None _ known tries = tt
+  group_states name descriptor None came known (inl refused_at) =
+      subst (Tells name descriptor) (sym refused_at.0) tt
+  group_states name descriptor None came known (inr memory) =
+      subst (Tells name descriptor) (sym memory.0) tt
   group_states name descriptor (Some kind) outcome.Done known tries =
-      subst (λ o. TellsGroup clients name descriptor o input input' out out') (sym known)
-      (whole_states kind (record { name = name; major = 0; descriptor = descriptor }) outcome.Done
-      known tries tries.ended.0 tries.ended.2)
+      whole_states name descriptor kind outcome.Done known tries tries.ended.0 tries.ended.2
   group_states name descriptor (Some kind) (outcome.Bad place why) known tries =
-      subst (λ o. TellsGroup clients name descriptor o input input' out out') (sym known)
-      (whole_states kind (record { name = name; major = 0; descriptor = descriptor })
-      (outcome.Bad place why) known tries tries.ended.0 tries.ended.2)
+      whole_states name descriptor kind (outcome.Bad place why) known tries tries.ended.0
+      tries.ended.2
   group_states name descriptor (Some kind) (outcome.Inside place) known tries =
-      subst (λ o. TellsGroup clients name descriptor o input input' out out') (sym known)
-      (whole_states kind (record { name = name; major = 0; descriptor = descriptor })
-      (outcome.Inside place) known tries tries.ended.0 tries.ended.2)
+      whole_states name descriptor kind (outcome.Inside place) known tries tries.ended.0
+      tries.ended.2
   group_states name descriptor (Some kind) (outcome.NoVersion place) known tries =
-      subst (λ o. TellsGroup clients name descriptor o input input' out out') (sym known)
-      (whole_states kind (record { name = name; major = 0; descriptor = descriptor })
-      (outcome.NoVersion place) known tries tries.ended.0 tries.ended.2)
+      whole_states name descriptor kind (outcome.NoVersion place) known tries tries.ended.0
+      tries.ended.2
   group_states name descriptor (Some kind) (outcome.Links closed) known tries =
       absurd (ends_no_links (ending 0 (take MAX_INPUT tries.read)) closed tries.ended.1)
   group_states name descriptor (Some kind) _ known tries = tt
@@ -134,14 +136,14 @@ does_nothing o input input' out out' idle quiet = record {
 pub tries_memory : (clients : Meaning) (name descriptor : List ℕ) (o : Option ℕ)
     (input input' out out' : Stream) → IsIdle out out'
     → TriesClient clients name descriptor o input input' out out' outcome.Memory
-tries_memory clients name descriptor None input input' out out' idle = idle
+tries_memory clients name descriptor None input input' out out' idle = inr (refl, idle)
 tries_memory clients name descriptor (Some kind) input input' out out' idle = idle
 
 -- memory may be wanting for any words
 pub memory_comes : (clients : Meaning) (words : Asked) (o : Outside)
     (input input' out out' : Stream) → IsIdle input input' → IsIdle out out'
     → WordsComeTo clients words o o input input' out out' outcome.Memory
-memory_comes clients (Usage place) o input input' out out' idle quiet = quiet
+memory_comes clients (Usage place) o input input' out out' idle quiet = inr (refl, quiet)
 memory_comes clients (Do (command.Try name descriptor)) o input input' out out' idle quiet =
     tries_memory clients name descriptor (clients.kind_of name 0) input input' out out' quiet
 memory_comes clients (Do command.Records) o input input' out out' idle quiet = quiet
@@ -154,7 +156,7 @@ pub words_come : (clients : Meaning) (words : Asked) (o : Outside) (input input'
     → WordsComeTo clients words o o input input' out out' (words_came e)
 words_come clients words o input input' out out' (fault.Usage place) is idle quiet =
     subst (λ (a : Asked). WordsComeTo clients a o o input input' out out' (outcome.Usage place))
-    (sym is) (refl, (idle, quiet))
+    (sym is) (inl (refl, (idle, quiet)))
 words_come clients words o input input' out out' fault.Memory is idle quiet =
     memory_comes clients words o input input' out out' idle quiet
 
@@ -236,11 +238,6 @@ as_command clients asked is old new input input' out out' came same comes =
     (sym same) comes
 
 -- what goes on by `?`
-passed : (P : Outcome → Type 0) (r : Result (Unit {0}) Outcome) (x : Outcome) → IsErrAnd r
-    (λ e. e ≡ x) → P x → P (came_to r)
-passed P (Ok u) x is h = absurd is
-passed P (Err e) x is h = subst P (sym is) h
-
 module _ (r : Result (Unit {0}) Outcome) (x : Outcome) (is : IsErrAnd r (λ e. e ≡ x)) where
   pub came_on : came_to r ≡ x
   came_on = passed (λ (came : Outcome). came ≡ x) r x is refl

@@ -2,7 +2,7 @@
 use Rattle.std.specs.Prelude.{◌≡◌, ℕ, ◌+◌, ◌≤◌, ◌⊎◌, List, Option, None, Some, length, take}
 use Rattle.std.specs.Io.KnownBytes.{Consumes, Appends, IsAtEnd}
 use Rattle.outside.specs.Faults.{CountRose}
-use Rattle.outside.specs.Files.{Two, File, read_files}
+use Rattle.outside.specs.Files.{Two, File}
 use Rattle.outside.specs.Outside.{Outside, DiskRun}
 use Rattle.record_grammar.specs.Stream.{ending, items, records_of}
 use Rattle.record_grammar.specs.declared.stream.Ending.{Ending}
@@ -13,7 +13,7 @@ use Rattle.sync_ids.specs.Values.{GroupValue}
 use Rattle.sync_ids.specs.declared.records.Record.{Record}
 use Rattle.sync_rules.specs.declared.states.Refused.TheVariants as refused
 use Rattle.sync_rules.specs.Clients.{Meaning}
-use Rattle.store_commands.specs.Show.{LeavesFilesSo}
+use Rattle.store_commands.specs.Show.{FilesReadSame, LeavesFilesSo}
 use Rattle.sync_run.specs.Headline.{Headline}
 use Rattle.sync_top.specs.declared.input.TheConstants.{MAX_INPUT}
 use Rattle.sync_top.specs.declared.input.Stop.{Stop}
@@ -92,31 +92,29 @@ abbrev pub PrintsPlay : Played → Stop → Ending → (out out' : Stream) → O
 PrintsPlay play why end out out' came =
     ((came ≡ outcome.Memory) × IsIdle out out') ⊎ PlayPrinted play why end out out' came
 
+-- nothing was read or written, and this is the outcome; or memory was wanting, and nothing was
+-- written
+abbrev pub EndsAtOnce : Outcome → (input input' out out' : Stream) → Outcome → Type 0
+EndsAtOnce is input input' out out' came =
+    ((came ≡ is) × UntouchedStreams input input' out out')
+    ⊎ ((came ≡ outcome.Memory) × IsIdle out out')
+
 -- `try` by whether its client is known: its text is that of a journal of the group that takes the
 -- records, settling after each
 abbrev pub TriesClient : Meaning → (name descriptor : List ℕ) → Option ℕ
     → (input input' out out' : Stream) → Outcome → Type 0
-TriesClient clients name descriptor None input input' out out'
-    (outcome.Refused refused.UnknownClient) = UntouchedStreams input input' out out'
-TriesClient clients name descriptor None input input' out out' outcome.Memory = IsIdle out out'
-TriesClient clients name descriptor None input input' out out' _ = ⊥
+TriesClient clients name descriptor None input input' out out' came =
+    EndsAtOnce (outcome.Refused refused.UnknownClient) input input' out out' came
 TriesClient clients name descriptor (Some kind) input input' out out' came =
     Streams (λ items text.
     IsTextOf clients (record { name = name; major = 0; descriptor = descriptor })
     (records_of items) text) input input' out out' came
 
--- faulty words come to their place; nothing was read or written
-abbrev pub Faulty : ℕ → (input input' out out' : Stream) → Outcome → Type 0
-Faulty place input input' out out' (outcome.Usage at) =
-    (at ≡ place) × UntouchedStreams input input' out out'
-Faulty place input input' out out' outcome.Memory = IsIdle out out'
-Faulty place input input' out out' _ = ⊥
-
 -- no call was made on the disk but such as leave it as it was, and nothing was read or written
 pub record DoesNothing (old new : Outside) (input input' out out' : Stream) : Type 0 where
   pub run : DiskRun old new
-  pub rests : (two : Two File) → old.files ≡ Some two → LeavesFilesSo
-      (λ two'. read_files two' ≡ read_files two) two old new
+  pub rests : (two : Two File) → old.files ≡ Some two
+      → LeavesFilesSo (FilesReadSame two) two old new
   pub untouched : UntouchedStreams input input' out out'
 
 -- a command of a store came to what it should; or memory was wanting before it was begun, and
@@ -126,11 +124,11 @@ abbrev pub ComesOfStore : (Outcome → Type 0) → (old new : Outside)
 ComesOfStore did old new input input' out out' came =
     did came ⊎ ((came ≡ outcome.Memory) × DoesNothing old new input input' out out')
 
--- what the words ask for, and what it comes to
+-- what the words ask for, and what it comes to; faulty words come to their place
 abbrev pub WordsComeTo : Meaning → Asked → (old new : Outside) → (input input' out out' : Stream)
     → Outcome → Type 0
 WordsComeTo clients (Usage place) old new input input' out out' came =
-    Faulty place input input' out out' came
+    EndsAtOnce (outcome.Usage place) input input' out out' came
 WordsComeTo clients (Do (command.Try name descriptor)) old new input input' out out' came =
     TriesClient clients name descriptor (clients.kind_of name 0) input input' out out' came
 WordsComeTo clients (Do command.Records) old new input input' out out' came =
