@@ -61,7 +61,6 @@ use Rattle.sync_run.specs.Courses.{RunWasSpent, WasFull, WasOver, run_test, term
 use Rattle.sync_run.specs.Dialling.{MakesLinks, PassesTime, unheard}
 use Rattle.sync_run.specs.Headline.{AllSentWhenFull, IsUntouched, LeavesFilesAtRest, RunLeaves}
 use Rattle.sync_run.specs.Headline.{SentWhole, StandsForRun, sent_by}
-use Rattle.sync_run.specs.Leaving.{MayNotBegin}
 use Rattle.sync_run.specs.Parts.{AnswersAt, FillsAt, RanOnLinks}
 use Rattle.sync_run.proofs.LeavingLaws.{reads_still}
 use Rattle.sync_run.proofs.EndLaws.{course_by_heard}
@@ -575,7 +574,7 @@ module _ (clients : Meaning) (limits : Limits) (words : List LinkWords) (s : Sto
       comes = comes r refl;
       unbegun = λ none.
           let fails : is_some (run_test (facts loaded.of) words) ≡ true =
-          subst (MayNotBegin words) loaded.stood none in
+          none loaded.of loaded.stood in
           let no : is_some {T = Refused} None ≡ true =
           subst (λ (test : Option Refused). is_some test ≡ true) tested fails in
           cc;

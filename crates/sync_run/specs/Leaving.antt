@@ -5,7 +5,8 @@ use Rattle.outside.specs.Links.{Links}
 use Rattle.outside.specs.Outside.{Outside}
 use Rattle.outside.specs.Runs.{IsFront}
 use Rattle.sync_rules.specs.Facts.{facts}
-use Rattle.entry_codec.specs.Standing.{Standing, damaged, journal, no_store}
+use Rattle.entry_codec.specs.Standing.{Standing, journal}
+use Rattle.sync_node.specs.Output.{Journal}
 use Rattle.sync_words.specs.declared.link_words.LinkWords.{LinkWords}
 use Rattle.sync_course.specs.Closing.{Closing}
 use Rattle.sync_words.specs.declared.outcome.Outcome.{Outcome}
@@ -15,14 +16,15 @@ use Rattle.sync_run.specs.Causes.{IsCaused}
 use Rattle.sync_run.specs.Courses.{HaveSpecs, run_test}
 use Rattle.sync_run.specs.Dialling.{MakesLinks}
 
--- Links were made for the first of these words, in order; on none of them anything was sent or heard, and the clock was not read.
+-- Links were made for the first of these words, in order; on none of them anything was sent or
+-- heard, and the clock was not read.
 pub record MakesFront (words : List LinkWords) (old new : Links) : Type 0 where
   pub made : List LinkWords
   pub front : IsFront made words
   pub makes : MakesLinks made old new
 
--- A run that is refused, or finds no journal, leaves the links as they were: none was made. One of which a dial or a nonce failed
--- sent nothing and heard nothing.
+-- A run that is refused, or finds no journal, leaves the links as they were: none was made. One of
+-- which a dial or a nonce failed sent nothing and heard nothing.
 abbrev pub LeavesLinks : List LinkWords → (old new : Outside) → Result Closing Outcome → Type 0
 LeavesLinks words old new (Err outcome.NoStore) = new.links ≡ old.links
 LeavesLinks words old new (Err (outcome.Damaged place)) = new.links ≡ old.links
@@ -30,11 +32,11 @@ LeavesLinks words old new (Err (outcome.Refused why)) = new.links ≡ old.links
 LeavesLinks words old new (Err (outcome.LinkFailed link)) = MakesFront words old.links new.links
 LeavesLinks words old new result = Unit {0}
 
--- no session of these words may begin over files that stand so: for no journal, or for one for which a test of the words fails
+-- no session of these words may begin over files that stand so: for no journal, or for one for
+-- which a test of the words fails
 abbrev pub MayNotBegin : List LinkWords → Standing → Type 0
-MayNotBegin words no_store = Unit {0}
-MayNotBegin words (damaged file place) = Unit {0}
-MayNotBegin words (journal begin) = is_some (run_test (facts begin) words) ≡ true
+MayNotBegin words standing =
+    (begin : Journal) → standing ≡ journal begin → is_some (run_test (facts begin) words) ≡ true
 
 -- ---- the links that were dialled
 
