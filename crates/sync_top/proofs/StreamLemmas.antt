@@ -15,73 +15,51 @@ use Rattle.sync_words.specs.declared.outcome.Outcome.TheVariants as outcome
 use Rattle.outside.specs.Streams.{Stream}
 use Rattle.sync_top.specs.declared.input.TheConstants.{MAX_INPUT}
 use Rattle.sync_top.specs.Input.{StopsReading}
-use Rattle.sync_top.specs.Run.{outcome_of, PrintEnds, PrintsPlay, Streams}
+use Rattle.sync_top.specs.Run.{outcome_of, InputComesTo, PrintEnds, PrintsPlay, ReadsStream}
+use Rattle.sync_top.specs.Run.{ReadsWhole, Streams}
 
 module _ (told : List Item → List ℕ → Type 0) (input input' out out' : Stream) (read text : List ℕ)
     (consumed : Consumes input.bytes input'.bytes read)
     (text_is : told (items 0 (take MAX_INPUT read)) text) where
+  -- what the command comes to, by what it read
+  abbrev Comes : Outcome → Type 0
+  Comes came = Streams told input input' out out' came
+
+  reads : (came : Outcome)
+      → InputComesTo input input' out out' read text (ending 0 (take MAX_INPUT read)) came
+      → ReadsStream told input input' out out' came
+  reads came ended = record {
+    read = read;
+    text = text;
+    consumed = consumed;
+    text_is = text_is;
+    ended = ended;
+  }
+
+  whole : StopsReading stop.End input input' read → ReadsWhole input input' read
+  whole stops = record { at_end = stops.0; within = stops.1 }
+
   -- read to the end, and all written
   whole_of : (end : Ending) → ending 0 (take MAX_INPUT read) ≡ end
-      → StopsReading stop.End input input' read →
-      Appends out.bytes out'.bytes text → Streams told input input' out out' (outcome_of end)
+      → StopsReading stop.End input input' read
+      → Appends out.bytes out'.bytes text → Comes (outcome_of end)
   whole_of ends.Clean is stops appended =
-      record {
-        read = read;
-        text = text;
-        consumed = consumed;
-        text_is = text_is;
-        ended = (record { at_end = stops.0; within = stops.1 }, ap outcome_of is, appended);
-      }
+      reads outcome.Done (whole stops, ap outcome_of is, appended)
   whole_of (ends.Inside place) is stops appended =
-      record {
-        read = read;
-        text = text;
-        consumed = consumed;
-        text_is = text_is;
-        ended = (record { at_end = stops.0; within = stops.1 }, ap outcome_of is, appended);
-      }
+      reads (outcome.Inside place) (whole stops, ap outcome_of is, appended)
   whole_of (ends.Bad place why) is stops appended =
-      record {
-        read = read;
-        text = text;
-        consumed = consumed;
-        text_is = text_is;
-        ended = (record { at_end = stops.0; within = stops.1 }, ap outcome_of is, appended);
-      }
+      reads (outcome.Bad place why) (whole stops, ap outcome_of is, appended)
 
   printed_of : (why : Stop) (end : Ending) (came : Outcome) → ending 0 (take MAX_INPUT read) ≡ end
-      → StopsReading why input input' read →
-      PrintEnds why end text out out' came → Streams told input input' out out' came
+      → StopsReading why input input' read → PrintEnds why end text out out' came → Comes came
   printed_of stop.End end came is stops (inl done) =
-      subst (λ (o : Outcome). Streams told input input' out out' o) (sym done.0)
-      (whole_of end is stops done.1)
+      subst Comes (sym done.0) (whole_of end is stops done.1)
   printed_of stop.End end came is stops (inr failed) =
-      subst (λ (o : Outcome). Streams told input input' out out' o) (sym failed.0)
-      (record {
-        read = read;
-        text = text;
-        consumed = consumed;
-        text_is = text_is;
-        ended = (failed.1, record { at_end = stops.0; within = stops.1 }, failed.2);
-      })
-  printed_of stop.TooMuch end outcome.TooMuch is stops gets =
-      record {
-        read = read;
-        text = text;
-        consumed = consumed;
-        text_is = text_is;
-        ended = (stops, gets);
-      }
-  printed_of stop.TooMuch end _ is stops gets = absurd gets
-  printed_of stop.ReadFault end outcome.ReadFault is stops gets =
-      record {
-        read = read;
-        text = text;
-        consumed = consumed;
-        text_is = text_is;
-        ended = (stops.0, stops.1, gets);
-      }
-  printed_of stop.ReadFault end _ is stops gets = absurd gets
+      subst Comes (sym failed.0) (reads outcome.WriteFault (failed.1, whole stops, failed.2))
+  printed_of stop.TooMuch end came is stops gets =
+      subst Comes (sym gets.0) (reads outcome.TooMuch (stops, gets.1))
+  printed_of stop.ReadFault end came is stops gets =
+      subst Comes (sym gets.0) (reads outcome.ReadFault (stops.0, stops.1, gets.1))
 
   pub streams_of : (why : Stop) (end : Ending) (came : Outcome) → end ≡ ending 0
       (take MAX_INPUT read) → StopsReading why input input' read →

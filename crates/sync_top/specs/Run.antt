@@ -74,10 +74,10 @@ abbrev pub PrintEnds : Stop → Ending → (text : List ℕ) (out out' : Stream)
 PrintEnds stop.End end text out out' came =
     ((came ≡ outcome_of end) × Appends out.bytes out'.bytes text)
     ⊎ ((came ≡ outcome.WriteFault) × CountRose out.faults out'.faults × GetsFront out out' text)
-PrintEnds stop.TooMuch end text out out' outcome.TooMuch = GetsText out out' text
-PrintEnds stop.TooMuch end text out out' _ = ⊥
-PrintEnds stop.ReadFault end text out out' outcome.ReadFault = GetsText out out' text
-PrintEnds stop.ReadFault end text out out' _ = ⊥
+PrintEnds stop.TooMuch end text out out' came =
+    (came ≡ outcome.TooMuch) × GetsText out out' text
+PrintEnds stop.ReadFault end text out out' came =
+    (came ≡ outcome.ReadFault) × GetsText out out' text
 
 -- a played journal was finished, and its text written
 pub record PlayPrinted (play : Played) (why : Stop) (end : Ending) (out out' : Stream)
