@@ -31,7 +31,7 @@ use Rattle.store_commands.specs.Post.{HasPosted, PostStops, PostsBody}
 use Rattle.store_commands.specs.Show.{HasLooked}
 use Rattle.store_commands.specs.Stopping.{StopsEarly, TestsHold}
 use Rattle.store_commands.specs.Shown.{Showing}
-use Rattle.store_commands.specs.Works.{HasWorked, StoodFor, Work}
+use Rattle.store_commands.specs.Works.{HasWorked, Work}
 use Rattle.audit_commands.specs.Audits.{HasAudited}
 use Rattle.sharing_commands.specs.Agreeing.{HasAgreed, agreement}
 use Rattle.mailbox_commands.specs.declared.sending.Sending.{Sending}
@@ -45,6 +45,7 @@ use Rattle.sync_top.specs.Duties.{duty_of, sending_of}
 use Rattle.sync_top.specs.Run.{AsksSync, WordsComeTo, ComesOfStore, Covered, KeepsHost}
 use Rattle.sync_top.specs.Undamaged.{NeverDamaged, StandsForSome, Undamaged}
 use Rattle.sync_run.specs.Headline.{Headline, IsUntouched, StandsForRun, sent_by}
+use Rattle.store_commands.specs.Works.{StoodFor}
 use Rattle.sync_words.specs.declared.link_words.LinkWords.{LinkWords}
 
 -- ---- a store that is begun
