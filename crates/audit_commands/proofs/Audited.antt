@@ -1,5 +1,6 @@
 -- An audit, and what is printed of its report.
-use Rattle.std.proofs.Common.{◌≡◌, ◌∙◌, ℕ, List, ap, subst, sym, Result, Ok, Err, Option, Some}
+use Rattle.std.proofs.Common.{◌≡◌, ◌∙◌, ap, subst, sym, inl, inr, Result, Ok, Err, Option, Some}
+use Rattle.std.proofs.Common.{None}
 use Rattle.std.specs.Prelude.{IsErrAnd}
 use Rattle.outside.specs.Disk.{RelatesTold}
 use Rattle.outside.specs.Files.{Two, File, read_files}
@@ -12,12 +13,13 @@ use Rattle.sync_rules.specs.Clients.{Meaning}
 use Rattle.journal_audit.specs.declared.report.Report.{Report}
 use Rattle.journal_audit.specs.Answers.{IsAuditOf}
 use Rattle.journal_audit.specs.Files.{AnyImage, ReadsSame, SyncsBoth}
-use Rattle.store_commands.specs.Show.{PrintsText}
+use Rattle.store_commands.specs.Show.{KeepsFiles, PrintsText}
+use Rattle.store_commands.specs.Stopping.{NeverReads, StopsBy, StopsWhere}
 use Rattle.sync_words.specs.declared.outcome.Outcome.{Outcome}
 use Rattle.sync_words.specs.declared.outcome.Outcome.TheVariants as outcome
 use Rattle.sync_words.specs.Outcomes.{came_to}
-use Rattle.audit_commands.specs.Audits.{AuditEnds, AuditedBy, HasAudited, KeepsSynced}
-use Rattle.audit_commands.specs.Audits.{LeavesSynced, PrintsBy, TellsOutcome}
+use Rattle.audit_commands.specs.Audits.{AuditedBy, HasAudited, KeepsSynced, LeavesSynced}
+use Rattle.audit_commands.specs.Audits.{TellsOutcome}
 use Rattle.audit_commands.specs.Texts.{legal_text}
 
 -- a step of files that are told
@@ -38,22 +40,6 @@ passed P (Err e) x is holds = subst P (sym is) holds
 module _ (clients : Meaning) (old new : Outside) (out out' : Stream) where
   -- ---- a report
 
-  printed_by : (text : List ℕ) (came : Outcome) → PrintsText text out out' came
-      → PrintsBy old new out out' came
-  printed_by text outcome.Done printed = tt
-  printed_by text outcome.WriteFault printed = printed.0
-  printed_by text outcome.Memory printed = printed
-  printed_by text _ printed = absurd printed
-
-  printed_ends : (standing : Standing) (r : Report) (came : Outcome) → IsAuditOf clients standing r
-      → PrintsText (legal_text r) out out' came → AuditEnds clients standing out out' came
-  printed_ends standing r outcome.Done is printed =
-      record { report = r; audit = is; printed = printed }
-  printed_ends standing r outcome.WriteFault is printed =
-      record { report = r; audit = is; printed = printed.1 }
-  printed_ends standing r outcome.Memory is printed = tt
-  printed_ends standing r _ is printed = absurd printed
-
   keeps_of : (came : Outcome) (two two' : Two File) → SyncsBoth two two'
       → KeepsSynced came two two'
   keeps_of outcome.DiskFault two two' same = ap read_files same
@@ -67,30 +53,33 @@ module _ (clients : Meaning) (old new : Outside) (out out' : Stream) where
       → PrintsText (legal_text r) out out' came → HasAudited clients old new out out' came
   audited came r run moments synced is printed = record {
     run = run;
-    by = printed_by (legal_text r) came printed;
-    told = λ two told. record {
-      rests = record {
-        moments = moments two told;
-        kept = λ two' told'.
-            keeps_of came two two'
-            (told_step SyncsBoth old.files new.files two two' synced told told');
-      };
-      ends = printed_ends (stands clients (read_files two)) r came (is two told) printed;
+    rests = λ two told. record {
+      moments = moments two told;
+      kept = λ two' told'.
+          keeps_of came two two'
+          (told_step SyncsBoth old.files new.files two two' synced told told');
     };
+    did = inr (record { report = r; printed = printed; audit = is });
   }
 
   -- ---- no report
 
-  none_by : (came : Outcome) → IsIdle out out' → AuditedBy old new (Err came)
-      → PrintsBy old new out out' came
-  none_by outcome.DiskFault idle by = (by, idle)
-  none_by outcome.NoStore idle by = idle
-  none_by (outcome.Damaged place) idle by = idle
-  none_by outcome.Memory idle by = idle
-  none_by _ idle by = absurd by
+  none_by : (came : Outcome) → AuditedBy old new (Err came) → StopsBy (λ f. None) old new came
+  none_by outcome.DiskFault by = by
+  none_by outcome.NoStore by = tt
+  none_by (outcome.Damaged place) by = tt
+  none_by outcome.Memory by = tt
+  none_by _ by = absurd by
+
+  never_read : (came : Outcome) → AuditedBy old new (Err came) → NeverReads came
+  never_read outcome.DiskFault by = tt
+  never_read outcome.NoStore by = tt
+  never_read (outcome.Damaged place) by = tt
+  never_read outcome.Memory by = tt
+  never_read _ by = absurd by
 
   none_ends : (standing : Standing) (came : Outcome) → AuditedBy old new (Err came)
-      → TellsOutcome clients standing (Err came) → AuditEnds clients standing out out' came
+      → TellsOutcome clients standing (Err came) → StopsWhere (λ f. None) standing came
   none_ends standing outcome.DiskFault by tells = tt
   none_ends standing outcome.NoStore by tells = tells
   none_ends standing (outcome.Damaged place) by tells = tells
@@ -105,6 +94,11 @@ module _ (clients : Meaning) (old new : Outside) (out out' : Stream) where
   none_keeps _ two two' reads synced told told' =
       told_step SyncsBoth old.files new.files two two' synced told told'
 
+  reads_of : (came : Outcome) (two two' : Two File) → read_files two' ≡ read_files two
+      → KeepsFiles came two two'
+  reads_of outcome.DiskFault two two' same = tt
+  reads_of _ two two' same = same
+
   -- there was no report, and nothing was printed
   pub audited_not : (came : Outcome) → DiskRun old new → AnyImage old new
       → RelatesTold ReadsSame old.files new.files → LeavesSynced old.files new.files (Err came)
@@ -114,14 +108,25 @@ module _ (clients : Meaning) (old new : Outside) (out out' : Stream) where
       → IsIdle out out' → HasAudited clients old new out out' came
   audited_not came run moments reads synced by tells idle = record {
     run = run;
-    by = none_by came idle by;
-    told = λ two told. record {
-      rests = record {
-        moments = moments two told;
-        kept = λ two' told'. none_keeps came two two' reads synced told told';
-      };
-      ends = none_ends (stands clients (read_files two)) came by (tells two told);
+    rests = λ two told. record {
+      moments = moments two told;
+      kept = λ two' told'. none_keeps came two two' reads synced told told';
     };
+    did = inl (record {
+      run = run;
+      by = none_by came by;
+      reads = never_read came by;
+      quiet = idle;
+      told = λ two told. record {
+        rests = record {
+          moments = moments two told;
+          kept = λ two' told'.
+              reads_of came two two'
+              (told_step ReadsSame old.files new.files two two' reads told told');
+        };
+        ends = none_ends (stands clients (read_files two)) came by (tells two told);
+      };
+    });
   }
 
   pub audited_on : (r : Result (Unit {0}) Outcome) (x : Outcome) → IsErrAnd r (λ e. e ≡ x)

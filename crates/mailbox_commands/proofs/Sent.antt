@@ -42,8 +42,9 @@ use Rattle.mailbox_commands.specs.Tests.{mailbox_test}
 use Rattle.store_commands.specs.Running.{LacksRoom, RunsErrand}
 use Rattle.mailbox_commands.specs.Sending.{HasSentMail, TellsSent}
 use Rattle.mailbox_commands.specs.Sending.{WritesWhole, out_errand}
-use Rattle.store_commands.proofs.Errands.{errand_loaded, errand_printed, loaded_as_is}
-use Rattle.store_commands.proofs.Errands.{prints_plain, read_as_is}
+use Rattle.store_commands.specs.Errands.{running}
+use Rattle.store_commands.proofs.Errands.{errand_printed}
+use Rattle.store_commands.proofs.Working.{loaded_as_is, prints_plain, read_as_is, work_loaded}
 
 abbrev Batches : Type 0
 Batches = List (List Entry)
@@ -251,8 +252,8 @@ mailed_read clients asked now o o1 oc o2 out out' s came run rests opened tested
         calls = calls_then o oc o2 (calls_link _ o o1 oc run.calls call) ran.run.calls;
       };
       did =
-          errand_loaded clients (λ f. mailbox_test f asked.contact) (out_errand clients asked now) o
-          oc o2 out out' s came later
+          work_loaded clients (λ f. mailbox_test f asked.contact) outcome.Done
+          (λ f. running clients (out_errand clients asked now)) o oc o2 out out' s came later
           (λ two files. read_as_is now two o o1 oc
           (loaded_as_is two o o1 run files (rests two files)) call clock)
           opened tested ran;

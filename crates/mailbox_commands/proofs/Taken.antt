@@ -24,7 +24,7 @@ use Rattle.mailbox_laws.specs.Boxes.{HearsAll, box_session, with_box}
 use Rattle.mailbox_core.specs.declared.ends.BoxEnd.{BoxEnd}
 use Rattle.mailbox_core.specs.declared.ends.BoxEnding.{BoxEnding}
 use Rattle.mailbox_core.specs.declared.ends.BoxEnding.TheVariants as box
-use Rattle.mailbox_core.specs.Files.{box_records}
+use Rattle.mailbox_core.specs.Files.{box_ending, box_records}
 use Rattle.mailbox_core.specs.Laws.{ReadsAreBoxes}
 use Rattle.mailbox_core.specs.Reading.{HasReadBox, ReadsSome, ReadsTo, ReadsUntilFull}
 use Rattle.mailbox_core.specs.Taking.{AllTaken, NoRoomFor, SomeTaken, TakesTo, first_batch}
@@ -44,7 +44,9 @@ use Rattle.store_commands.specs.Running.{DoesErrand, FailsToPrint, LacksRoom, Pr
 use Rattle.store_commands.specs.Running.{RunsErrand}
 use Rattle.mailbox_commands.specs.Taking.{HasTakenMail, IsInput, IsMail, IsNextTake, ReadsNextBatch}
 use Rattle.mailbox_commands.specs.Taking.{TellsEnd, in_errand, outcome_at, taken_text}
-use Rattle.store_commands.proofs.Errands.{errand_loaded, errand_printed, loaded_as_is}
+use Rattle.store_commands.specs.Errands.{running}
+use Rattle.store_commands.proofs.Errands.{errand_printed}
+use Rattle.store_commands.proofs.Working.{loaded_as_is, work_loaded}
 
 abbrev Batches : Type 0
 Batches = List (List Entry)
@@ -361,7 +363,7 @@ taken_read clients contact o o1 o2 input input' out out' s items bytes came run 
       reads = subst (IsMail input input') (sym is) mail;
       run = run_then o o1 o2 run ran.run;
       did =
-          errand_loaded clients (λ f. mailbox_test f contact) (in_errand clients contact bytes) o o1
-          o2 out out' s came run.later
+          work_loaded clients (λ f. mailbox_test f contact) (outcome_at (box_ending bytes))
+          (λ f. running clients (in_errand clients contact bytes)) o o1 o2 out out' s came run.later
           (λ two files. loaded_as_is two o o1 run files (rests two files)) opened tested ran;
     })

@@ -23,9 +23,10 @@ use Rattle.sync_words.specs.declared.outcome.Outcome.{Outcome}
 use Rattle.sync_words.specs.declared.outcome.Outcome.TheVariants as outcome
 use Rattle.mailbox_commands.specs.declared.sending.Sending.{Sending}
 use Rattle.store_commands.specs.Stopping.{NeverReads, StopsEarly}
-use Rattle.store_commands.specs.Errands.{Errand}
+use Rattle.store_commands.specs.Errands.{Errand, running}
 use Rattle.mailbox_commands.specs.Tests.{mailbox_test}
-use Rattle.store_commands.specs.Running.{DoesErrand, FilesRun}
+use Rattle.store_commands.specs.Running.{DoesErrand}
+use Rattle.store_commands.specs.Works.{DoesWork}
 
 -- ---- the errand
 
@@ -99,8 +100,8 @@ pub record SendsMail (clients : Meaning) (asked : Sending) (old new : Outside) (
     : Type 0 where
   pub now : ℕ
   pub reads : ReadsOnce now old new
-  pub did : FilesRun clients (λ f. mailbox_test f asked.contact) (out_errand clients asked now) old
-      new out out' came
+  pub did : DoesWork clients (λ f. mailbox_test f asked.contact) outcome.Done
+      (λ f. running clients (out_errand clients asked now)) old new out out' came
 
 -- A file is written; or the command stopped before, and nothing was. The clock is read once the
 -- tests hold.

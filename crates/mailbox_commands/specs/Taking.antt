@@ -22,9 +22,9 @@ use Rattle.sync_words.specs.declared.outcome.Outcome.{Outcome}
 use Rattle.sync_words.specs.declared.outcome.Outcome.TheVariants as outcome
 use Rattle.mailbox_commands.specs.declared.taking.TheConstants.{MAX_MAIL}
 use Rattle.store_commands.specs.Stopping.{InputStops, StopsEarly}
-use Rattle.store_commands.specs.Errands.{Errand}
+use Rattle.store_commands.specs.Errands.{Errand, running}
 use Rattle.mailbox_commands.specs.Tests.{mailbox_test}
-use Rattle.store_commands.specs.Running.{FilesRun}
+use Rattle.store_commands.specs.Works.{DoesWork}
 
 -- ---- the errand
 
@@ -98,8 +98,8 @@ pub record TakesMail (clients : Meaning) (contact : ℕ) (old new : Outside)
   pub bytes : List ℕ
   pub reads : IsMail input input' bytes
   pub run : DiskRun old new
-  pub did : FilesRun clients (λ f. mailbox_test f contact) (in_errand clients contact bytes) old new
-      out out' came
+  pub did : DoesWork clients (λ f. mailbox_test f contact) (outcome_at (box_ending bytes))
+      (λ f. running clients (in_errand clients contact bytes)) old new out out' came
 
 -- The records of a file are taken; or the command stopped before, and nothing was. The input is
 -- read once the tests hold.

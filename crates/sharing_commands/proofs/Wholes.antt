@@ -1,12 +1,11 @@
 -- An agreement as an errand, and the command.
 use Rattle.std.proofs.Common.{◌≡◌, ℕ, ◌<◌, List, [], ◌∷◌, sym, ap, ◌∙◌}
-use Rattle.std.proofs.Common.{inl, inr, append-nil, arith, Some, None, Result, Ok, Err}
+use Rattle.std.proofs.Common.{append_assoc, append-nil, arith, Some, None, Result, Ok, Err}
 use Rattle.std.specs.Prelude.{IsErrAnd, OnOk}
 use Rattle.outside.specs.declared.limits.TheConstants.{MAX_JOURNAL}
 use Rattle.outside.specs.Files.{Two, File, read_files}
 use Rattle.outside.specs.Outside.{DiskRun, Outside}
 use Rattle.outside.specs.Streams.{Stream, IsIdle}
-use Rattle.outside.proofs.CallSteps.{run_then}
 use Rattle.sync_rules.specs.declared.entries.Entry.{Entry}
 use Rattle.sync_rules.specs.declared.states.Refused.{Refused}
 use Rattle.sync_rules.specs.Clients.{Meaning}
@@ -21,12 +20,11 @@ use Rattle.store_commands.specs.Commit.{ComesAnew, ExtendsBy, SettlesAnew}
 use Rattle.store_commands.specs.Load.{HasFacts, IsLoaded, LoadedBy, LoadKeeps, MayExtend}
 use Rattle.store_commands.specs.Running.{DoesErrand, DoesSo, RunsErrand}
 use Rattle.store_commands.specs.Show.{LeavesFilesSo, PrintsText}
-use Rattle.store_commands.specs.Stopping.{NeverReads}
-use Rattle.store_commands.proofs.Errands.{errand_loaded, errand_printed, loaded_as_is}
-use Rattle.store_commands.proofs.Errands.{prints_plain}
+use Rattle.store_commands.specs.Errands.{running}
+use Rattle.store_commands.proofs.Errands.{errand_printed}
 use Rattle.store_commands.proofs.Follow.{stays}
 use Rattle.store_commands.proofs.Passing.{passed}
-use Rattle.store_commands.proofs.Stopped.{never_read, stops_none, stops_refused}
+use Rattle.store_commands.proofs.Working.{prints_plain, worked_loaded, worked_none, worked_refused}
 use Rattle.sharing_commands.specs.Adding.{AddsFront, AddsSo}
 use Rattle.sharing_commands.specs.Agreeing.{HasAgreed, IsFrontAdded, agreement}
 use Rattle.sharing_commands.specs.Agreement.{agree_test, agreed_batches, agreed_text}
@@ -52,7 +50,10 @@ does_so clients contact group f s front (Err outcome.Full) so settled = (
   so.0,
   record {
     next = so.1.next;
-    follows = record { rest = so.1.rest; parts = so.1.parts };
+    follows = record {
+      rest = so.1.rest;
+      parts = so.1.parts ∙ sym (append_assoc front (so.1.next ∷ []) so.1.rest);
+    };
     over = so.1.over;
   },
 )
@@ -115,12 +116,10 @@ module _ (clients : Meaning) (contact : ℕ) (group : Id) (old new : Outside) (o
         → ((two : Two File) → old.files ≡ Some two
         → IsLoaded (stands clients (read_files two)) (Err came)) → IsIdle out out'
         → HasAgreed clients contact group old new out out' came
-    agreed_none came run rests by loaded idle = record {
-      run = run;
-      did =
-          inl (stops_none clients (λ f. agree_test f contact group) NeverReads old new out out' run
-          idle came rests by loaded (never_read old new came by));
-    }
+    agreed_none came run rests by loaded idle =
+        worked_none clients (λ f. agree_test f contact group)
+        (λ f. running clients (agreement clients contact group)) old new out out' came run rests by
+        loaded idle
 
     -- a test failed over it
     pub agreed_refused : (s : StoreValue) (why : Refused) → DiskRun old new
@@ -128,12 +127,10 @@ module _ (clients : Meaning) (contact : ℕ) (group : Id) (old new : Outside) (o
         → ((two : Two File) → old.files ≡ Some two → HasFacts (stands clients (read_files two)) s)
         → agree_test s.state.facts contact group ≡ Some why → IsIdle out out'
         → HasAgreed clients contact group old new out out' (outcome.Refused why)
-    agreed_refused s why run rests loaded tested idle = record {
-      run = run;
-      did =
-          inl (stops_refused clients (λ f. agree_test f contact group) NeverReads old new out out' run
-          idle s rests loaded why tested tt);
-    }
+    agreed_refused s why run rests loaded tested idle =
+        worked_refused clients (λ f. agree_test f contact group)
+        (λ f. running clients (agreement clients contact group)) old new out out' s why run rests
+        loaded tested idle
 
     pub agreed_on : (r : Result (Unit {0}) Outcome) (x : Outcome) → IsErrAnd r (λ e. e ≡ x)
         → HasAgreed clients contact group old new out out' x
@@ -148,10 +145,7 @@ pub agreed_loaded : (clients : Meaning) (contact : ℕ) (group : Id) (o o1 o2 : 
     → MayExtend clients s o1.files → agree_test s.state.facts contact group ≡ None
     → RunsErrand clients (agreement clients contact group) s o1 o2 out out' came
     → HasAgreed clients contact group o o2 out out' came
-agreed_loaded clients contact group o o1 o2 out out' s came run rests opened tested ran = record {
-  run = run_then o o1 o2 run ran.run;
-  did =
-      inr (errand_loaded clients (λ f. agree_test f contact group)
-      (agreement clients contact group) o o1 o2 out out' s came run.later
-      (λ two files. loaded_as_is two o o1 run files (rests two files)) opened tested ran);
-}
+agreed_loaded clients contact group o o1 o2 out out' s came run rests opened tested ran =
+    worked_loaded clients (λ f. agree_test f contact group)
+    (λ f. running clients (agreement clients contact group)) o o1 o2 out out' s came run rests
+    opened tested ran

@@ -13,12 +13,14 @@ use Rattle.sync_rules.specs.Clients.{Meaning}
 use Rattle.sync_rules.specs.Facts.{Facts, facts, after_all, after_batches}
 use Rattle.sync_rules.specs.Legal.{Allowed, AllSettling}
 use Rattle.sync_rules.specs.Steps.{IsSettled}
+use Rattle.sync_rules.specs.Hearing.{SettlesJournal}
 use Rattle.sync_rules.proofs.Continuing.{facts-append}
+use Rattle.sync_rules.proofs.WorkLaws.{facts-push}
 use Rattle.outside.specs.Files.{read_files}
 use Rattle.entry_codec.specs.declared.naming.Format.{Format}
 use Rattle.entry_codec.specs.declared.naming.Format.TheVariants as kind
 use Rattle.entry_codec.specs.Payloads.{journal_end, payload_len}
-use Rattle.entry_codec.specs.Standing.{journal, room_of}
+use Rattle.entry_codec.specs.Standing.{room_of}
 use Rattle.sync_store.specs.Commits.{needed}
 use Rattle.sync_store.specs.Store.{StoreValue, format_meant, written_in}
 use Rattle.sync_store.specs.Fitting.{FitsFiles}
@@ -28,11 +30,10 @@ use Rattle.sync_words.specs.declared.outcome.Outcome.{Outcome}
 use Rattle.sync_words.specs.declared.outcome.Outcome.TheVariants as outcome
 use Rattle.store_commands.specs.declared.commit.Settling.{Settling}
 use Rattle.store_commands.specs.declared.commit.Settling.TheVariants as settling
-use Rattle.store_commands.specs.Commit.{AddedSo, AddsAs, HasAtMostBatch, ExtendsBy, ExtendsEnds}
-use Rattle.store_commands.specs.Commit.{ExtendsTold, SettlesBehind, GoesOnByBatch}
-use Rattle.store_commands.specs.Commit.{IsBatchAndSettling, MayFollow, SettledAnew, SettlesAnew}
-use Rattle.store_commands.specs.Commit.{needed_by}
-use Rattle.store_commands.proofs.Stood.{fits_format, last_here, spent_here}
+use Rattle.store_commands.specs.Commit.{AddedSo, AddsAs, ExtendsBy, ExtendsEnds, ExtendsTold}
+use Rattle.store_commands.specs.Commit.{GoesOnByBatch, IsBatchAndSettling, MayFollow, SettledAnew}
+use Rattle.store_commands.specs.Commit.{SettlesAnew, SettlesBehind, StandsSynced, needed_by}
+use Rattle.store_commands.proofs.Stood.{fits_synced, last_here, spent_here}
 
 -- ---- longer journals
 
@@ -43,10 +44,20 @@ front_settles clients f [] rest s = tt
 front_settles clients f (b ∷ front) rest s =
     (s.0, front_settles clients (after_all f b) front rest s.1)
 
-pub front_of : (clients : Meaning) (f : Facts) (more front rest : List (List Entry))
+front_of : (clients : Meaning) (f : Facts) (more front rest : List (List Entry))
     → more ≡ front ++ rest → AllSettling clients f more → AllSettling clients f front
 front_of clients f more front rest parts s =
     front_settles clients f front rest (subst (AllSettling clients f) parts s)
+
+-- a journal with a front of settling is settled in part
+pub front_settles_on : (clients : Meaning) (j more whole : List (List Entry))
+    → AllSettling clients (facts j) more → IsBetween j more whole → SettlesJournal clients j whole
+front_settles_on clients j more whole settles between = record {
+  more = between.front;
+  extends = between.is;
+  settling =
+      front_of clients (facts j) more between.front between.rest between.parts settles;
+}
 
 -- ---- moments
 
@@ -57,34 +68,38 @@ settling_moment : (clients : Meaning) (j more : List (List Entry)) (batch : List
     → JournalMoment clients (GoesOnByBatch clients j batch) sent m
 settling_moment clients j more batch sent m settles w = record {
   whole = w.whole;
-  has = record {
-    more = w.has.front;
-    is = w.has.is;
-    adds = inl (front_of clients (facts j) more w.has.front w.has.rest w.has.parts settles);
-  };
+  has = inl (front_settles_on clients j more w.whole settles w.has);
   stands_for = w.stands_for;
   nothing_sent = w.nothing_sent;
 }
 
 -- behind settling, a front of the batch and its settling
-front_adds : (clients : Meaning) (f : Facts) (batch : List Entry)
-    (first more front rest : List (List Entry)) → AllSettling clients f first
-    → AddsBatch clients (after_batches f first) batch more → more ≡ front ++ rest
-    → HasAtMostBatch clients f batch (first ++ front)
-front_adds clients f batch first more [] rest settles adds parts =
-    inl (subst (AllSettling clients f) (sym (append-nil first)) settles)
-front_adds clients f batch first [] (b ∷ front) rest settles adds parts = cc
-front_adds clients f batch first (x ∷ more) (b ∷ front) rest settles adds parts =
+front_adds : (clients : Meaning) (j : List (List Entry)) (batch : List Entry)
+    (first more front rest : List (List Entry)) → AllSettling clients (facts j) first
+    → AddsBatch clients (after_batches (facts j) first) batch more → more ≡ front ++ rest
+    → GoesOnByBatch clients j batch ((j ++ first) ++ front)
+front_adds clients j batch first more [] rest settles adds parts =
+    inl (record { more = first; extends = append-nil (j ++ first); settling = settles })
+front_adds clients j batch first [] (b ∷ front) rest settles adds parts = cc
+front_adds clients j batch first (x ∷ more) (b ∷ front) rest settles adds parts =
     let head : x ≡ b = cc in
     let same : b ≡ batch = sym head ∙ adds.0 in
     let tail : more ≡ front ++ rest = cc in
+    let f : facts ((j ++ first) ++ batch ∷ []) ≡ after_all (after_batches (facts j) first) batch =
+    facts-push (j ++ first) batch
+    ∙ ap (λ (g : Facts). after_all g batch) (facts-append j first) in
     inr (record {
-      first = first;
-      rest = front;
-      is = ap (λ (y : List Entry). first ++ y ∷ front) same;
-      settles = settles;
-      settles_again =
-          front_of clients (after_all (after_batches f first) batch) more front rest tail adds.1;
+      before = j ++ first;
+      settles = record { more = first; extends = refl; settling = settles };
+      settles_again = record {
+        more = front;
+        extends = ap (λ (y : List Entry). (j ++ first) ++ y ∷ front) same
+            ∙ sym (append_assoc (j ++ first) (batch ∷ []) front);
+        settling =
+            subst (λ (g : Facts). AllSettling clients g front) (sym f)
+            (front_of clients (after_all (after_batches (facts j) first) batch) more front rest
+            tail adds.1);
+      };
     })
 
 -- a moment of the batch and its settling, behind settling
@@ -95,12 +110,9 @@ batch_moment : (clients : Meaning) (j first more : List (List Entry)) (batch : L
     → JournalMoment clients (GoesOnByBatch clients j batch) sent m
 batch_moment clients j first more batch sent m settles adds w = record {
   whole = w.whole;
-  has = record {
-    more = first ++ w.has.front;
-    is = w.has.is ∙ append_assoc j first w.has.front;
-    adds = front_adds clients (facts j) batch first more w.has.front w.has.rest settles adds
-        w.has.parts;
-  };
+  has =
+      subst (λ (x : List (List Entry)). GoesOnByBatch clients j batch x) (sym w.has.is)
+      (front_adds clients j batch first more w.has.front w.has.rest settles adds w.has.parts);
   stands_for = w.stands_for;
   nothing_sent = w.nothing_sent;
 }
@@ -177,7 +189,7 @@ settles_only clients o o1 s s1 batch asked came two j files fits still settled =
 -- ---- settling and a batch
 
 -- the sum of a store in format 2 is that of the journal that the disk fits
-weighed : (s : StoreValue) (j : List (List Entry)) (batch : List Entry) → s.end ≡ journal_end
+pub weighed : (s : StoreValue) (j : List (List Entry)) (batch : List Entry) → s.end ≡ journal_end
     (written_in s) j → s.state.facts ≡ facts j → written_in s ≡ kind.Short
     → needed s batch ≡ needed_by j batch
 weighed s j batch ends same short =
@@ -205,20 +217,21 @@ adds_ends clients asked j first more batch s1 s2 two two1 two2 (Ok u) format sho
     let within : needed s1 batch ≤ MAX_JOURNAL = subst (λ n. needed s1 batch ≤ n) limit answer.1 in
     record {
       first = first;
-      rest = whole.rest;
       settles = settles;
       settled = subst (IsSettled clients) f settled;
-      roomy =
-          subst (λ n. n ≤ MAX_JOURNAL)
-          (weighed s1 (j ++ first) batch fits.end_is (sym fits.facts_are) short) within;
-      short = fits_format clients s2 at.0 two2 kind.Short at.2 (ap format_meant format ∙ short);
-      follows = subst (λ (g : Facts). SettlesBehind asked clients (after_all g batch) whole.rest) f
-          whole.follows;
-      stands_for = at.2.stands_for
-          ∙ ap journal (at.1 ∙ append_assoc j first more
-          ∙ ap (λ (bs : List (List Entry)). j ++ (first ++ bs)) whole.is);
-      first_settled = at.2.first_settled;
-      second_settled = at.2.second_settled;
+      has = record {
+        rest = whole.rest;
+        roomy =
+            subst (λ n. n ≤ MAX_JOURNAL)
+            (weighed s1 (j ++ first) batch fits.end_is (sym fits.facts_are) short) within;
+        follows =
+            subst (λ (g : Facts). SettlesBehind asked clients (after_all g batch) whole.rest)
+            (sym fits.facts_are) whole.follows;
+        stands =
+            subst (StandsSynced clients two2)
+            (at.1 ∙ ap (λ (bs : List (List Entry)). (j ++ first) ++ bs) whole.is)
+            (fits_synced clients s2 at.0 two2 at.2 (ap format_meant format ∙ short));
+      };
     }
 adds_ends clients asked j first more batch s1 s2 two two1 two2 (Err outcome.Full) format short
     settles settled limit fits answer ends =
@@ -228,13 +241,16 @@ adds_ends clients asked j first more batch s1 s2 two two1 two2 (Err outcome.Full
       first = first;
       settles = settles;
       settled = subst (IsSettled clients) (sym fits.facts_are ∙ facts-append j first) settled;
-      stands_for = at.2.stands_for
-          ∙ ap journal (at.1 ∙ ap (λ (bs : List (List Entry)). (j ++ first) ++ bs) answer.2
-          ∙ append-nil (j ++ first));
-      short = fits_format clients s2 at.0 two2 kind.Short at.2 (ap format_meant format ∙ short);
-      over =
-          subst (λ n. MAX_JOURNAL < n)
-          (weighed s1 (j ++ first) batch fits.end_is (sym fits.facts_are) short) over;
+      has = record {
+        stands =
+            subst (StandsSynced clients two2)
+            (at.1 ∙ ap (λ (bs : List (List Entry)). (j ++ first) ++ bs) answer.2
+            ∙ append-nil (j ++ first))
+            (fits_synced clients s2 at.0 two2 at.2 (ap format_meant format ∙ short));
+        over =
+            subst (λ n. MAX_JOURNAL < n)
+            (weighed s1 (j ++ first) batch fits.end_is (sym fits.facts_are) short) over;
+      };
     })
 adds_ends clients asked j first more batch s1 s2 two two1 two2 (Err outcome.Memory) format short
     settles settled limit fits answer ends = tt

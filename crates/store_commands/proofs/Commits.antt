@@ -1,6 +1,6 @@
 -- From the batch that is added to the entry and its line.
-use Rattle.std.proofs.Common.{◌≡◌, ℕ, ◌<◌, List, [], ◌∷◌, length, refl, sym, ap}
-use Rattle.std.proofs.Common.{◌∙◌, subst, inl, arith, append-nil, Some, Result, Ok, Err}
+use Rattle.std.proofs.Common.{◌≡◌, ℕ, ◌<◌, List, [], ◌∷◌, ◌++◌, length, refl, sym, ap}
+use Rattle.std.proofs.Common.{◌∙◌, subst, inl, arith, Some, Result, Ok, Err}
 use Rattle.std.proofs.lemmas.List.{ext_get_or}
 use Rattle.outside.specs.Files.{Two, File, IsFileImage, IsImage, NothingPending, read_files}
 use Rattle.outside.specs.Files.{settled}
@@ -10,6 +10,7 @@ use Rattle.outside.proofs.CallSteps.{moments_none, run_none}
 use Rattle.outside.specs.Streams.{Stream, IsIdle}
 use Rattle.sync_rules.specs.declared.entries.Entry.{Entry}
 use Rattle.sync_rules.specs.Clients.{Meaning}
+use Rattle.sync_rules.proofs.WorkLaws.{settles_itself}
 use Rattle.file_standing.specs.Standing.{stands}
 use Rattle.sync_store.specs.Store.{StoreValue}
 use Rattle.sync_store.specs.Fitting.{FitsFiles}
@@ -18,11 +19,14 @@ use Rattle.sync_words.specs.declared.outcome.Outcome.{Outcome}
 use Rattle.sync_words.specs.declared.outcome.Outcome.TheVariants as outcome
 use Rattle.store_commands.specs.declared.commit.Settling.{Settling}
 use Rattle.store_commands.specs.Commit.{ExtendsBy, ExtendsEnds, ExtendsTold, GoesOnByBatch, IsAdded}
-use Rattle.store_commands.specs.Entries.{EntryAdded, EntryEnds}
+use Rattle.store_commands.specs.Commit.{OnceSettled}
+use Rattle.store_commands.specs.Entries.{EntryAdded, adding}
+use Rattle.store_commands.specs.Plans.{adds}
+use Rattle.store_commands.specs.Running.{PrintsOut}
 use Rattle.store_commands.specs.Show.{PrintsText}
 use Rattle.store_commands.specs.Shown.{added_text}
-use Rattle.store_commands.proofs.Working.{failed_caused, failed_late, failed_unadded}
-use Rattle.store_commands.proofs.Working.{printed_caused, printed_late}
+use Rattle.store_commands.specs.Works.{WorkEnds}
+use Rattle.store_commands.proofs.Working.{failed_by, printed_by, printed_ends, prints_plain}
 
 -- ---- no call was made
 
@@ -58,7 +62,7 @@ still_moment clients s batch j two o files fits m w =
     let same = files_only two m.files fits.first_settled fits.second_settled now.image in
     record {
       whole = j;
-      has = record { more = []; is = sym (append-nil j); adds = inl tt };
+      has = inl (settles_itself clients j);
       stands_for = ap (stands clients) same ∙ fits.stands_for;
       nothing_sent = now.sent;
     }
@@ -71,25 +75,24 @@ entry_none clients settling s e o out out' came is idle =
     subst (λ (c : Outcome). EntryAdded clients settling s e o o out out' c) (sym is) (record {
       run = run_none o;
       by = idle;
-      late = refl;
       told = λ two files j fits. record {
         moments = moments_none o _ (still_moment clients s (e ∷ []) j two o files fits);
         ends = λ two' files'. tt;
-        spent = λ last. refl;
       };
     })
 
 -- ---- the line
 
-printed_ends : (clients : Meaning) (settling : Settling) (j : List (List Entry)) (e : Entry)
-    (out out' : Stream) (came : Outcome) (two two' : Two File)
-    → IsAdded clients settling j (e ∷ []) two'
-    → PrintsText (added_text e) out out' came
-    → EntryEnds clients settling j e out out' came two two'
-printed_ends clients settling j e out out' outcome.Done two two' added p = (added, p)
-printed_ends clients settling j e out out' outcome.WriteFault two two' added p = (added, p.1)
-printed_ends clients settling j e out out' outcome.Memory two two' added p = tt
-printed_ends clients settling j e out out' _ two two' added p = absurd p
+-- what is so of the settled journal leads to what follows from it
+once_map : (clients : Meaning) (j : List (List Entry)) (P Q : List (List Entry) → Type 0)
+    → ((whole : List (List Entry)) → P whole → Q whole) → OnceSettled clients j P
+    → OnceSettled clients j Q
+once_map clients j P Q leads once = record {
+  first = once.first;
+  settles = once.settles;
+  settled = once.settled;
+  has = leads (j ++ once.first) once.has;
+}
 
 -- what is told of a batch, for the batch of an entry
 of_entry : (clients : Meaning) (settling : Settling) (two : Two File) (o o2 : Outside)
@@ -107,20 +110,25 @@ pub entry_printed : (clients : Meaning) (settling : Settling) (s : StoreValue) (
     → ExtendsTold clients settling j batch two o o2 (Ok u))
     → PrintsText text out out' came → EntryAdded clients settling s e o o2 out out' came
 entry_printed clients settling s e o o2 out out' text batch u came is line run told printed =
-    let p : PrintsText (added_text e) out out' came =
-    subst (λ (t : List ℕ). PrintsText t out out' came) line printed in
+    let p : PrintsOut outcome.Done (added_text e) out out' came =
+    prints_plain (added_text e) out out' came
+    (subst (λ (t : List ℕ). PrintsText t out out' came) line printed) in
     record {
       run = run;
-      by = printed_caused o o2 out out' (added_text e) came p;
-      late = printed_late out out' (added_text e) came p;
+      by = printed_by outcome.Done (added_text e) o o2 out out' came p;
       told = λ two files j fits.
           let went = of_entry clients settling two o o2 j e batch (Ok u) is
           (told two files j fits) in
           record {
             moments = went.moments;
             ends = λ two' files'.
-                printed_ends clients settling j e out out' came two two' (went.ends two' files') p;
-            spent = λ last. absurd (went.spent last);
+                printed_ends clients outcome.Done (adding clients settling (adds e)) j
+                (read_files two) two' out out' (added_text e) came (λ P q. (
+                  once_map clients j (IsAdded clients settling (e ∷ []) two')
+                      (λ settled. IsAdded clients settling (e ∷ []) two' settled × P (added_text e))
+                      (λ settled added. (added, q)) (went.ends two' files'),
+                  λ last. went.spent last,
+                )) p;
           };
     }
 
@@ -129,7 +137,7 @@ entry_printed clients settling s e o o2 out out' text batch u came is line run t
 failed_ends : (clients : Meaning) (settling : Settling) (o o2 : Outside) (j : List (List Entry))
     (e : Entry) (out out' : Stream) (came : Outcome) (two two' : Two File)
     → ExtendsBy o o2 (Err came) → ExtendsEnds clients settling j (e ∷ []) (Err came) two two'
-    → EntryEnds clients settling j e out out' came two two'
+    → WorkEnds clients (adding clients settling (adds e)) j (read_files two) two' out out' came
 failed_ends clients settling o o2 j e out out' outcome.Full two two' by ends = ends
 failed_ends clients settling o o2 j e out out' outcome.DiskFault two two' by ends = tt
 failed_ends clients settling o o2 j e out out' outcome.Memory two two' by ends = tt
@@ -143,8 +151,7 @@ pub entry_failed : (clients : Meaning) (settling : Settling) (s : StoreValue) (e
     → EntryAdded clients settling s e o o2 out out' came
 entry_failed clients settling s e o o2 out out' batch came is idle run by told = record {
   run = run;
-  by = failed_caused o o2 out out' came idle by;
-  late = failed_late o o2 came by;
+  by = failed_by outcome.Done o o2 out out' came idle by;
   told = λ two files j fits.
       let went = of_entry clients settling two o o2 j e batch (Err came) is
       (told two files j fits) in
@@ -152,6 +159,5 @@ entry_failed clients settling s e o o2 out out' batch came is idle run by told =
         moments = went.moments;
         ends = λ two' files'.
             failed_ends clients settling o o2 j e out out' came two two' by (went.ends two' files');
-        spent = λ last. failed_unadded o o2 came by;
       };
 }

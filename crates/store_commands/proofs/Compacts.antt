@@ -1,17 +1,17 @@
 -- A journal written anew as its brief account, from the loaded store to the line.
-use Rattle.std.proofs.Common.{◌≡◌, ◌⊎◌, ℕ, ◌+◌, ◌-◌, ◌^◌, ◌<◌, ◌≤◌, true, false, List, ◌++◌, refl}
-use Rattle.std.proofs.Common.{sym, ap, ◌∙◌, subst, inl, inr, arith, Some, Result, Ok, Err}
-use Rattle.std.specs.Io.KnownBytes.{Appends}
+use Rattle.std.proofs.Common.{◌≡◌, ℕ, ◌+◌, ◌-◌, ◌^◌, ◌<◌, ◌≤◌, false, List, ◌++◌, refl}
+use Rattle.std.proofs.Common.{sym, ap, ◌∙◌, subst, inl, inr, arith, Some, None, Result, Ok, Err}
 use Rattle.std.specs.Prelude.{IsErrAnd}
 use Rattle.outside.specs.declared.limits.TheConstants.{MAX_JOURNAL}
 use Rattle.outside.specs.Files.{Two, File, read_files}
-use Rattle.outside.specs.Links.{Links, sent_of}
+use Rattle.outside.specs.Links.{sent_of}
 use Rattle.outside.specs.Outside.{DiskRun, MomentsAre, Outside}
-use Rattle.outside.specs.Streams.{Stream, GetsFront, IsIdle}
+use Rattle.outside.specs.Streams.{Stream, IsIdle}
 use Rattle.outside.proofs.CallSteps.{moments_map, moments_then, run_then, told_on}
 use Rattle.sync_rules.specs.declared.entries.Entry.{Entry}
 use Rattle.sync_rules.specs.Clients.{Meaning}
 use Rattle.sync_rules.specs.Facts.{Facts, after_batches, facts}
+use Rattle.sync_rules.specs.Hearing.{SettlesJournal}
 use Rattle.sync_rules.specs.Legal.{AllSettling}
 use Rattle.sync_rules.specs.Steps.{IsSettled}
 use Rattle.brief_account.specs.Brief.{brief}
@@ -19,7 +19,7 @@ use Rattle.brief_account.specs.Laws.{BriefIsByFacts}
 use Rattle.entry_codec.specs.declared.naming.Format.{Format}
 use Rattle.entry_codec.specs.declared.naming.Format.TheVariants as kind
 use Rattle.entry_codec.specs.Payloads.{journal_end}
-use Rattle.entry_codec.specs.Standing.{Standing, journal, room_of}
+use Rattle.entry_codec.specs.Standing.{room_of}
 use Rattle.file_standing.specs.Standing.{stands}
 use Rattle.journal_compaction.specs.Compacting.{compacted_len}
 use Rattle.sync_store.specs.Compactions.{IsOrBrief}
@@ -30,72 +30,36 @@ use Rattle.sync_words.specs.EntryTexts.{compacted_text}
 use Rattle.sync_words.specs.Outcomes.{came_to}
 use Rattle.sync_words.specs.declared.outcome.Outcome.{Outcome}
 use Rattle.sync_words.specs.declared.outcome.Outcome.TheVariants as outcome
-use Rattle.store_commands.specs.Commit.{ExtendsBy, HasLastGeneration, SettledAnew, SettlesAnew}
-use Rattle.store_commands.specs.Commit.{next_generation}
-use Rattle.store_commands.specs.Causes.{CausedBy, is_late}
-use Rattle.store_commands.specs.Compact.{BriefEnds, CompactsAs, CompactsBy, GoesBrief, HasCompacted}
-use Rattle.store_commands.specs.Compact.{IsBriefFull, compacting}
-use Rattle.store_commands.specs.Compact.{AreFilesCompacted, IsUncompacted, LacksGeneration}
-use Rattle.store_commands.specs.Compact.{MakesBrief, OnceSettled, brief_len}
+use Rattle.store_commands.specs.Commit.{ExtendsBy, OnceSettled, SettlesAnew, next_generation}
+use Rattle.store_commands.specs.Compact.{AreFilesCompacted, CompactsAs, GoesBrief, HasCompacted}
+use Rattle.store_commands.specs.Compact.{IsUncompacted, LacksGeneration, MakesBrief, brief_len}
+use Rattle.store_commands.specs.Compact.{compacting}
 use Rattle.store_commands.specs.Load.{IsLoaded, LoadKeeps, LoadedBy, MayExtend}
+use Rattle.store_commands.specs.Running.{PrintsOut}
 use Rattle.store_commands.specs.Show.{PrintsText, LeavesFilesSo}
 use Rattle.store_commands.specs.Works.{WorkEnds}
-use Rattle.store_commands.proofs.Adds.{caused_later, front_of, same_told, sent_before, settled_fits}
-use Rattle.store_commands.proofs.Adds.{settles_from}
-use Rattle.store_commands.proofs.Working.{caused_before, failed_caused, failed_late, failed_unadded}
-use Rattle.store_commands.proofs.Working.{none_caused, printed_caused, printed_late, rest_moments}
-use Rattle.store_commands.proofs.Working.{same_journal, worked_none}
-use Rattle.store_commands.proofs.Stood.{fits_format, lacked_here, lacks_here, last_here}
+use Rattle.store_commands.proofs.Adds.{caused_later, sent_before, settled_fits, settles_from}
+use Rattle.store_commands.proofs.Passing.{passed}
+use Rattle.store_commands.proofs.Working.{failed_by, printed_by, printed_ends, prints_plain}
+use Rattle.store_commands.proofs.Working.{settling_moments, work_unsettled, worked_loaded}
+use Rattle.store_commands.proofs.Working.{worked_none}
+use Rattle.store_commands.proofs.Stood.{fits_synced, lacked_here, lacks_here}
 
 -- ---- settling
 
--- a moment of settling
-settling_moments : (clients : Meaning) (s s1 : StoreValue) (o o1 : Outside)
-    (r : Result (Unit {0}) Outcome) (two : Two File) (j : List (List Entry)) → o.files ≡ Some two
-    → FitsFiles clients s j two
-    → SettlesAnew clients s s1 o o1 r
-    → MomentsAre o o1 (JournalMoment clients (GoesBrief clients j) (sent_of o.links.told))
-settling_moments clients s s1 o o1 r two j files fits settled =
-    let settles = settles_from clients s two j settled.more fits settled.comes.settling in
-    moments_map o o1 _ _ (λ m w. record {
-      whole = w.whole;
-      has = inl (record {
-        more = w.has.front;
-        is = w.has.is;
-        settles =
-            front_of clients (facts j) settled.more w.has.front w.has.rest w.has.parts settles;
-      });
-      stands_for = w.stands_for;
-      nothing_sent = w.nothing_sent;
-    }) (settled.comes.leads two files j fits).moments
-
-unsettled_ends : (clients : Meaning) (j : List (List Entry)) (s s1 : StoreValue) (out out' : Stream)
-    (came : Outcome) (two two1 : Two File) → FitsFiles clients s j two
-    → (came ≡ outcome.Full → read_files two1 ≡ read_files two) → SettledAnew clients s s1 (Err came)
-    → BriefEnds clients j out out' came two two1
-unsettled_ends clients j s s1 out out' outcome.Full two two1 fits still answer =
-    inr (last_here clients s j two fits answer.0, still refl)
-unsettled_ends clients j s s1 out out' outcome.Memory two two1 fits still answer = tt
-unsettled_ends clients j s s1 out out' outcome.DiskFault two two1 fits still answer = tt
-unsettled_ends clients j s s1 out out' _ two two1 fits still answer = absurd answer
+-- it begins as each work
+begins : (clients : Meaning) (j whole : List (List Entry)) → SettlesJournal clients j whole
+    → GoesBrief clients j whole
+begins clients j whole settles = inl settles
 
 -- migrating or settling that failed
 pub brief_unsettled : (clients : Meaning) (s s1 : StoreValue) (o o1 : Outside) (out out' : Stream)
     (came : Outcome) → IsIdle out out' → DiskRun o o1 → ExtendsBy o o1 (Err came)
     → (came ≡ outcome.Full → o1 ≡ o) → SettlesAnew clients s s1 o o1 (Err came)
     → MakesBrief clients s o o1 out out' came
-brief_unsettled clients s s1 o o1 out out' came idle run by still settled = record {
-  run = run;
-  by = failed_caused o o1 out out' came idle by;
-  late = failed_late o o1 came by;
-  told = λ two files j fits. record {
-    moments = settling_moments clients s s1 o o1 (Err came) two j files fits settled;
-    ends = λ two1 files1.
-        unsettled_ends clients j s s1 out out' came two two1 fits (λ is.
-        same_told o o1 two two1 (still is) files files1) settled.answer;
-    spent = λ lacks. failed_unadded o o1 came by;
-  };
-}
+brief_unsettled clients s s1 o o1 out out' came idle run by still settled =
+    work_unsettled clients outcome.Done (compacting clients) (begins clients) s s1 o o1 out out'
+    came idle run by still settled
 
 -- ---- settling, and the brief account
 
@@ -151,7 +115,7 @@ module _ (clients : Meaning) (s s1 : StoreValue) (o o1 : Outside) (u : Unit {0})
   brief_goes : (whole : List (List Entry)) → IsOrBrief (j ++ settled.more) whole
       → GoesBrief clients j whole
   brief_goes whole (inl same) =
-      inl (record { more = settled.more; is = same; settles = settling_is })
+      inl (record { more = settled.more; extends = same; settling = settling_is })
   brief_goes whole (inr same) = inr (once (λ j1. whole ≡ brief j1) same)
 
 brief_moments : (clients : Meaning) (s s1 s2 : StoreValue) (o o1 o2 : Outside) (u : Unit {0})
@@ -163,7 +127,9 @@ brief_moments clients s s1 s2 o o1 o2 u r run settled compacted two files j fits
     let told1 = told_on o o1 two run.same_told files in
     let fits1 = settled_fits clients o o1 s s1 u two told1.0 j files told1.1 fits settled in
     let leads = compacted.leads told1.0 told1.1 (j ++ settled.more) fits1 in
-    moments_then o o1 o2 _ (settling_moments clients s s1 o o1 (Ok u) two j files fits settled)
+    moments_then o o1 o2 _
+    (settling_moments clients outcome.Done (compacting clients) j (begins clients j) s s1 o o1
+    (Ok u) two files fits settled)
     (sent_before clients (GoesBrief clients j) o o1 o2 run.same_links
     (moments_map o1 o2 _ _ (λ m w. record {
       whole = w.whole;
@@ -179,7 +145,7 @@ brief_whole : BriefIsByFacts → (clients : Meaning) (s s1 s2 : StoreValue) (o o
     → o.files ≡ Some two → (j : List (List Entry)) → FitsFiles clients s j two
     → (old new : ℕ) → old ≡ s1.end → new ≡ s2.end → (P : List ℕ → Type 0)
     → P (compacted_text old new) → (two2 : Two File) → o2.files ≡ Some two2
-    → OnceSettled clients j (λ whole. AreFilesCompacted clients whole two2 P)
+    → OnceSettled clients j (AreFilesCompacted clients two2 P)
 brief_whole law clients s s1 s2 o o1 o2 u v run settled compacted limited two files j fits old new
     first last P printed two2 files2 =
     let told1 = told_on o o1 two run.same_told files in
@@ -198,15 +164,12 @@ brief_whole law clients s s1 s2 o o1 o2 u v run settled compacted limited two fi
     ∙ ap (λ (f : Format). journal_end f (j ++ settled.more)) settled.answer.2 in
     let new_is : new ≡ journal_end kind.Short (brief (j ++ settled.more)) =
     last ∙ fits2.end_is ∙ ap (λ (f : Format). journal_end f (brief (j ++ settled.more))) short in
-    once clients s s1 o o1 u settled two j fits (λ whole. AreFilesCompacted clients whole two2 P)
+    once clients s s1 o o1 u settled two j fits (AreFilesCompacted clients two2 P)
     (record {
       roomy =
           subst (λ (n : ℕ). n ≤ MAX_JOURNAL) sum
           (subst (λ (n : ℕ). compacted_len clients s1.state.facts ≤ n) limit roomy);
-      short = fits_format clients s2 (brief (j ++ settled.more)) two2 kind.Short fits2 short;
-      stands_for = fits2.stands_for;
-      first_settled = fits2.first_settled;
-      second_settled = fits2.second_settled;
+      stands = fits_synced clients s2 (brief (j ++ settled.more)) two2 fits2 short;
       printed =
           subst (λ (n : ℕ). P (compacted_text (journal_end kind.Short (j ++ settled.more)) n))
           new_is
@@ -219,7 +182,7 @@ brief_full : BriefIsByFacts → (clients : Meaning) (s s1 s2 : StoreValue) (o o1
     → CompactsAs clients s1 s2 o1 o2 (Err outcome.Full) → s.limit ≡ MAX_JOURNAL → (two : Two File)
     → o.files ≡ Some two → (j : List (List Entry)) → FitsFiles clients s j two
     → (two2 : Two File) → o2.files ≡ Some two2
-    → OnceSettled clients j (λ whole. IsUncompacted clients whole two two2)
+    → OnceSettled clients j (IsUncompacted clients (read_files two) two2)
 brief_full law clients s s1 s2 o o1 o2 u run settled compacted limited two files j fits two2
     files2 =
     let told1 = told_on o o1 two run.same_told files in
@@ -232,10 +195,9 @@ brief_full law clients s s1 s2 o o1 o2 u run settled compacted limited two files
     let sum : compacted_len clients s1.state.facts ≡ brief_len (j ++ settled.more) =
     sum_is law clients s1 (j ++ settled.more) told1.0 fits1 settled.answer.1 in
     let limit : s1.limit ≡ MAX_JOURNAL = settled.comes.limit ∙ limited in
-    once clients s s1 o o1 u settled two j fits (λ whole. IsUncompacted clients whole two two2)
+    once clients s s1 o o1 u settled two j fits (IsUncompacted clients (read_files two) two2)
     (record {
-      stands_for = fits2.stands_for;
-      short = fits_format clients s2 (j ++ settled.more) two2 kind.Short fits2
+      stands = fits_synced clients s2 (j ++ settled.more) two2 fits2
           (ap (λ (x : StoreValue). written_in x) same ∙ settled.answer.2);
       over = elim compacted.answer.0 [
         | inl last ↦ inr (had_none clients s s1 o o1 u settled two j fits last)
@@ -250,7 +212,8 @@ stopped_ends : BriefIsByFacts → (clients : Meaning) (s s1 s2 : StoreValue) (o 
     → SettlesAnew clients s s1 o o1 (Ok u)
     → CompactsAs clients s1 s2 o1 o2 (Err came) → s.limit ≡ MAX_JOURNAL → (two : Two File)
     → o.files ≡ Some two → (j : List (List Entry)) → FitsFiles clients s j two
-    → (two2 : Two File) → o2.files ≡ Some two2 → BriefEnds clients j out out' came two two2
+    → (two2 : Two File) → o2.files ≡ Some two2
+    → WorkEnds clients (compacting clients) j (read_files two) two2 out out' came
 stopped_ends law clients s s1 s2 o o1 o2 u out out' outcome.Full run settled compacted limited two
     files j fits two2 files2 =
     inl (brief_full law clients s s1 s2 o o1 o2 u run settled compacted limited two files j fits
@@ -273,31 +236,17 @@ brief_stopped law clients s s1 s2 o o1 o2 u out out' came idle limited run settl
     let caused = caused_later o o1 o2 (Err came) run.later by in
     record {
       run = run_then o o1 o2 run run2;
-      by = failed_caused o o2 out out' came idle caused;
-      late = failed_late o o2 came caused;
+      by = failed_by outcome.Done o o2 out out' came idle caused;
       told = λ two files j fits. record {
         moments = brief_moments clients s s1 s2 o o1 o2 u (Err came) run settled compacted two files
             j fits;
         ends = λ two2 files2.
             stopped_ends law clients s s1 s2 o o1 o2 u out out' came run settled compacted limited
             two files j fits two2 files2;
-        spent = λ lacks. failed_unadded o o2 came caused;
       };
     }
 
 -- ---- the line
-
-printed_ends : (clients : Meaning) (j : List (List Entry)) (out out' : Stream) (came : Outcome)
-    (text : List ℕ) (two two2 : Two File)
-    → ((P : List ℕ → Type 0) → P text
-    → OnceSettled clients j (λ whole. AreFilesCompacted clients whole two2 P))
-    → PrintsText text out out' came → BriefEnds clients j out out' came two two2
-printed_ends clients j out out' outcome.Done text two two2 whole p =
-    whole (Appends out.bytes out'.bytes) p
-printed_ends clients j out out' outcome.WriteFault text two two2 whole p =
-    whole (GetsFront out out') p.1
-printed_ends clients j out out' outcome.Memory text two two2 whole p = tt
-printed_ends clients j out out' _ text two two2 whole p = absurd p
 
 -- the brief account was written, and the line of the two ends came to this
 pub brief_printed : BriefIsByFacts → (clients : Meaning) (s s1 s2 : StoreValue) (o o1 o2 : Outside)
@@ -306,24 +255,24 @@ pub brief_printed : BriefIsByFacts → (clients : Meaning) (s s1 s2 : StoreValue
     → CompactsAs clients s1 s2 o1 o2 (Ok v) → old ≡ s1.end → new ≡ s2.end
     → PrintsText (compacted_text old new) out out' came → MakesBrief clients s o o2 out out' came
 brief_printed law clients s s1 s2 o o1 o2 u v out out' came old new limited run settled run2
-    compacted first last printed = record {
+    compacted first last printed =
+    let text : List ℕ = compacted_text old new in
+    let p : PrintsOut outcome.Done text out out' came = prints_plain text out out' came printed in
+    let next = compacted.answer.may.generation in
+    record {
       run = run_then o o1 o2 run run2;
-      by = printed_caused o o2 out out' (compacted_text old new) came printed;
-      late = printed_late out out' (compacted_text old new) came printed;
-      told = λ two files j fits.
-          let next = compacted.answer.may.generation in
-          record {
-            moments =
-                brief_moments clients s s1 s2 o o1 o2 u (Ok v) run settled compacted two files j
-                fits;
-            ends = λ two2 files2.
-                printed_ends clients j out out' came (compacted_text old new) two two2
-                (λ P p. brief_whole law clients s s1 s2 o o1 o2 u v run settled compacted limited
-                two
-                files j fits old new first last P p two2 files2) printed;
-            spent =
-                λ lacks. absurd (had_generation clients s s1 o o1 u settled two j fits next lacks);
-          };
+      by = printed_by outcome.Done text o o2 out out' came p;
+      told = λ two files j fits. record {
+        moments =
+            brief_moments clients s s1 s2 o o1 o2 u (Ok v) run settled compacted two files j fits;
+        ends = λ two2 files2.
+            printed_ends clients outcome.Done (compacting clients) j (read_files two) two2 out out'
+            text came (λ P q. (
+              brief_whole law clients s s1 s2 o o1 o2 u v run settled compacted limited two files j
+                  fits old new first last P q two2 files2,
+              λ lacks. had_generation clients s s1 o o1 u settled two j fits next lacks,
+            )) p;
+      };
     }
 
 -- ---- no store was loaded
@@ -336,117 +285,21 @@ pub brief_none : (clients : Meaning) (old new : Outside) (out out' : Stream) (ca
     → IsLoaded (stands clients (read_files two)) (Err came)) → IsIdle out out'
     → HasCompacted clients old new out out' came
 brief_none clients old new out out' came run rests by loaded idle =
-    worked_none clients (compacting clients) old new out out' came run rests by loaded
-    (not_refused old new out out' came by (none_caused old new out out' came idle by))
-  where
-    not_refused : (old new : Outside) (out out' : Stream) (came : Outcome)
-        → LoadedBy old new (Err came) → CausedBy old new out out' came
-        → CompactsBy old new out out' came
-    not_refused old new out out' (outcome.Refused why) by caused = absurd by
-    not_refused old new out out' outcome.DiskFault by caused = caused
-    not_refused old new out out' outcome.NoStore by caused = caused
-    not_refused old new out out' (outcome.Damaged place) by caused = caused
-    not_refused old new out out' outcome.Memory by caused = caused
-    not_refused old new out out' _ by caused = absurd by
+    worked_none clients (λ f. None) (λ f. compacting clients) old new out out' came run rests by
+    loaded idle
 
 -- ---- from the loaded store
-
--- the files before the migration read as those before the load
-uncompacted_first : (clients : Meaning) (j : List (List Entry)) (two two1 two2 : Two File)
-    → read_files two1 ≡ read_files two → IsBriefFull clients j two1 two2
-    → IsBriefFull clients j two two2
-uncompacted_first clients j two two1 two2 same (inl once) = inl (record {
-  first = once.first;
-  settles = once.settles;
-  settled = once.settled;
-  has = record {
-    stands_for = once.has.stands_for;
-    short = once.has.short;
-    over = over_first once.has.over;
-  };
-})
-  where
-    over_first : {N : Type 0} → N ⊎ LacksGeneration (read_files two1) → N ⊎ LacksGeneration
-        (read_files two)
-    over_first (inl past) = inl past
-    over_first (inr lacks) = inr (subst LacksGeneration same lacks)
-uncompacted_first clients j two two1 two2 same (inr spent) =
-    inr (subst HasLastGeneration same spent.0, spent.1 ∙ same)
-
-whole_ends : (clients : Meaning) (standing : Standing) (two two1 two2 : Two File)
-    (out out' : Stream) (j : List (List Entry)) (came : Outcome) → read_files two1 ≡ read_files two
-    → is_late came ≡ true → standing ≡ journal j → BriefEnds clients j out out' came two1 two2
-    → WorkEnds (compacting clients) standing two two2 out out' came
-whole_ends clients standing two two1 two2 out out' j outcome.Done same late stood ends =
-    record { before = j; stood = stood; leads = ends }
-whole_ends clients standing two two1 two2 out out' j outcome.WriteFault same late stood ends =
-    record { before = j; stood = stood; leads = ends }
-whole_ends clients standing two two1 two2 out out' j outcome.Full same late stood ends =
-    record {
-      before = j;
-      stood = stood;
-      leads = uncompacted_first clients j two two1 two2 same ends;
-    }
-whole_ends clients standing two two1 two2 out out' j outcome.Memory same late stood ends = tt
-whole_ends clients standing two two1 two2 out out' j outcome.DiskFault same late stood ends = tt
-whole_ends clients standing two two1 two2 out out' j _ same late stood ends = cc
-
--- an outcome that comes late is no refusal
-late_caused : (o o1 o2 : Outside) (out out' : Stream) (came : Outcome)
-    → o.disk_faults ≤ o1.disk_faults → is_late came ≡ true → CausedBy o1 o2 out out' came
-    → CompactsBy o o2 out out' came
-late_caused o o1 o2 out out' outcome.DiskFault later late by =
-    caused_before o o1 o2 out out' outcome.DiskFault later by
-late_caused o o1 o2 out out' outcome.Done later late by = by
-late_caused o o1 o2 out out' outcome.WriteFault later late by = by
-late_caused o o1 o2 out out' outcome.Full later late by = by
-late_caused o o1 o2 out out' outcome.Memory later late by = by
-late_caused o o1 o2 out out' _ later late by = cc
 
 pub brief_loaded : (clients : Meaning) (o o1 o2 : Outside) (out out' : Stream) (s : StoreValue)
     (came : Outcome) → DiskRun o o1
     → ((two : Two File) → o.files ≡ Some two → LeavesFilesSo (LoadKeeps (Ok s) two) two o o1)
     → MayExtend clients s o1.files → MakesBrief clients s o1 o2 out out' came
     → HasCompacted clients o o2 out out' came
-brief_loaded clients o o1 o2 out out' s came run rests ready made = record {
-  run = run_then o o1 o2 run made.run;
-  by = late_caused o o1 o2 out out' came run.later made.late made.by;
-  told = λ two told.
-      let rest = rests two told in
-      let told1 = told_on o o1 two run.same_told told in
-      let fit = ready.ready.fits told1.0 told1.1 in
-      let same : read_files told1.0 ≡ read_files two = rest.kept told1.0 told1.1 in
-      let stood = same_journal clients s two told1.0 fit.0 same fit.1 in
-      let went = made.told told1.0 told1.1 fit.0 fit.1 in
-      record {
-        moments =
-            moments_then o o1 o2 _
-            (rest_moments (compacting clients) (stands clients (read_files two)) came _ two o o1
-            rest)
-            (moments_map o1 o2 _ _ (λ m w. inr (
-              made.late,
-              record {
-                before = fit.0;
-                stood = stood;
-                leads =
-                    subst (λ (l : Links).
-                    JournalMoment clients (GoesBrief clients fit.0) (sent_of l.told) m)
-                    run.same_links w;
-              },
-            )) went.moments);
-        ends = λ two2 told2.
-            whole_ends clients (stands clients (read_files two)) two told1.0 two2 out out' fit.0
-            came same made.late stood (went.ends two2 told2);
-        spent = λ lacks. went.spent (subst LacksGeneration (sym same) lacks);
-      };
-}
+brief_loaded clients o o1 o2 out out' s came run rests ready made =
+    worked_loaded clients (λ f. None) (λ f. compacting clients) o o1 o2 out out' s came run rests
+    ready refl made
 
 -- ---- an error that goes on by `?`
-
-passed : (P : Outcome → Type 0) (r : Result (Unit {0}) Outcome) (x : Outcome) → IsErrAnd r
-    (λ e. e ≡ x) → P x → P (came_to r)
-passed P (Ok u) x is h = absurd is
-passed P (Err e) x is h = subst P (sym is) h
 
 module _ (r : Result (Unit {0}) Outcome) (x : Outcome) (is : IsErrAnd r (λ e. e ≡ x))
     (clients : Meaning) where

@@ -18,7 +18,7 @@ use Rattle.store_commands.specs.Entries.{EntryAdded, HasAdded}
 use Rattle.sync_rules.specs.declared.states.Refused.{Refused}
 use Rattle.store_commands.specs.Plans.{Plan, plan_of, refuses}
 use Rattle.store_commands.specs.Post.{HasPosted}
-use Rattle.store_commands.specs.Show.{HasLooked}
+use Rattle.store_commands.specs.Looking.{HasLooked}
 use Rattle.store_commands.specs.Shown.{Showing}
 
 -- what holds of an outcome

@@ -25,7 +25,6 @@ use Rattle.sync_store.specs.Store.{StoreValue}
 use Rattle.sync_words.specs.declared.outcome.Outcome.{Outcome}
 use Rattle.sync_words.specs.declared.outcome.Outcome.TheVariants as outcome
 use Rattle.store_commands.specs.declared.commit.Settling.TheVariants as settling
-use Rattle.store_commands.specs.Causes.{is_late}
 use Rattle.store_commands.specs.Entries.{EntryAdded, HasAdded}
 use Rattle.store_commands.specs.Load.{HasFacts, IsLoaded, LoadedBy, LoadKeeps, MayExtend}
 use Rattle.store_commands.specs.Show.{LeavesFilesSo}
@@ -34,6 +33,7 @@ use Rattle.store_commands.specs.Plans.{post_plan}
 use Rattle.store_commands.specs.Post.{HasPosted, IsBody, IsPlanOfPost, IsBodyRead, PostStops}
 use Rattle.store_commands.specs.Post.{PostsBody, group_test, message_of}
 use Rattle.store_commands.specs.Stopping.{InputStops}
+use Rattle.store_commands.specs.Works.{WorkBy}
 use Rattle.store_commands.proofs.EntryLemmas.{added_entry, added_none, added_refused}
 use Rattle.store_commands.proofs.Stopped.{input_unread, stops_memory, stops_none, stops_refused}
 use Rattle.store_commands.proofs.Stopped.{stops_unread}
@@ -236,21 +236,19 @@ module _ (clients : Meaning) (group : Id) (timestamp : ℕ) (old new : Outside)
 
 -- ---- the message is added
 
-posted_late : (clients : Meaning) (group : Id) (timestamp : ℕ) (old new : Outside)
-    (input input' out out' : Stream) (came : Outcome) → is_late came ≡ true
+posted_late : (clients : Meaning) (group : Id) (timestamp : ℕ) (old new o1 o2 : Outside)
+    (input input' out out' : Stream) (came : Outcome) → WorkBy outcome.Done o1 o2 out out' came
     → PostsBody clients group timestamp old new input input' out out' came
     → HasPosted clients group timestamp old new input input' out out' came
-posted_late clients group timestamp old new input input' out out' outcome.Done late posts =
-    inr posts
-posted_late clients group timestamp old new input input' out out' outcome.WriteFault late posts =
-    inr posts
-posted_late clients group timestamp old new input input' out out' outcome.Full late posts =
-    inr posts
-posted_late clients group timestamp old new input input' out out' outcome.DiskFault late posts =
-    inr posts
-posted_late clients group timestamp old new input input' out out' outcome.Memory late posts =
-    inr posts
-posted_late clients group timestamp old new input input' out out' _ late posts = cc
+posted_late clients group timestamp old new o1 o2 input input' out out' outcome.NoStore by posts =
+    let is : outcome.Done ≡ outcome.NoStore = by in cc
+posted_late clients group timestamp old new o1 o2 input input' out out' (outcome.Damaged place) by
+    posts =
+    let is : outcome.Done ≡ outcome.Damaged place = by in cc
+posted_late clients group timestamp old new o1 o2 input input' out out' (outcome.Refused why) by
+    posts =
+    let is : outcome.Done ≡ outcome.Refused why = by in cc
+posted_late clients group timestamp old new o1 o2 input input' out out' _ by posts = inr posts
 
 pub posted_entry : (clients : Meaning) (group : Id) (timestamp : ℕ) (o o1 o2 : Outside)
     (input input' out out' : Stream) (s : StoreValue) (body : List ℕ) (e : Entry) (came : Outcome)
@@ -262,7 +260,7 @@ pub posted_entry : (clients : Meaning) (group : Id) (timestamp : ℕ) (o o1 o2 :
     → HasPosted clients group timestamp o o2 input input' out out' came
 posted_entry clients group timestamp o o1 o2 input input' out out' s body e came run rests ready
     read is added =
-    posted_late clients group timestamp o o2 input input' out out' came added.late (record {
+    posted_late clients group timestamp o o2 o1 o2 input input' out out' came added.by (record {
       body = body;
       reads = read;
       added = added_entry clients (λ f. post_plan clients f (message_of group timestamp body))

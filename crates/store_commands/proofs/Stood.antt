@@ -12,8 +12,8 @@ use Rattle.entry_codec.specs.Naming.{format_of}
 use Rattle.sync_store.specs.Fitting.{FitsFiles}
 use Rattle.sync_store.specs.Migrations.{IsSpent}
 use Rattle.sync_store.specs.Store.{StoreValue, written_in}
-use Rattle.store_commands.specs.Commit.{HasLastGeneration, IsInFormat, next_generation}
-use Rattle.store_commands.specs.Commit.{short_generation}
+use Rattle.store_commands.specs.Commit.{HasLastGeneration, IsInFormat, StandsSynced}
+use Rattle.store_commands.specs.Commit.{next_generation, short_generation}
 use Rattle.store_commands.specs.Compact.{LacksGeneration}
 
 file_reads : (two : Two File) (file : ℕ) → file_of (read_files two) file ≡ (file_of two file).now
@@ -27,7 +27,7 @@ pub fits_known : (clients : Meaning) (s : StoreValue) (j : List (List Entry)) (t
 fits_known clients s j two fits =
     ap format_of (ap format_in (file_reads two s.file) ∙ fits.format_is) ∙ fits.format_known
 
-pub fits_format : (clients : Meaning) (s : StoreValue) (j : List (List Entry)) (two : Two File)
+fits_format : (clients : Meaning) (s : StoreValue) (j : List (List Entry)) (two : Two File)
     (format : Format) → FitsFiles clients s j two → written_in s ≡ format
     → IsInFormat format (read_files two)
 fits_format clients s j two format fits is =
@@ -37,24 +37,36 @@ fits_format clients s j two format fits is =
       is = fits_known clients s j two fits ∙ ap Some is;
     }
 
+-- files that fit a store in format 2 stand so for its journal
+pub fits_synced : (clients : Meaning) (s : StoreValue) (j : List (List Entry)) (two : Two File)
+    → FitsFiles clients s j two → written_in s ≡ kind.Short → StandsSynced clients two j
+fits_synced clients s j two fits short = record {
+  short = fits_format clients s j two kind.Short fits short;
+  stands_for = fits.stands_for;
+  first_settled = fits.first_settled;
+  second_settled = fits.second_settled;
+}
+
 -- no generation is left for a store exactly where none is for its files
 pub last_here : (clients : Meaning) (s : StoreValue) (j : List (List Entry)) (two : Two File)
     → FitsFiles clients s j two → IsSpent s → HasLastGeneration (read_files two)
 last_here clients s j two fits spent = record {
-  file = s.file;
-  found = fits.file_is;
-  whole = fits_known clients s j two fits ∙ ap Some spent.whole;
+  whole = record {
+    file = s.file;
+    found = fits.file_is;
+    is = fits_known clients s j two fits ∙ ap Some spent.whole;
+  };
   last = ap generation_in (file_reads two s.file) ∙ fits.generation_is ∙ spent.last;
 }
 
 pub spent_here : (clients : Meaning) (s : StoreValue) (j : List (List Entry)) (two : Two File)
     → FitsFiles clients s j two → HasLastGeneration (read_files two) → IsSpent s
 spent_here clients s j two fits last =
-    let both : Some last.file ≡ Some s.file = sym last.found ∙ fits.file_is in
-    let same : last.file ≡ s.file = cc in
+    let both : Some last.whole.file ≡ Some s.file = sym last.whole.found ∙ fits.file_is in
+    let same : last.whole.file ≡ s.file = cc in
     let whole : Some (written_in s) ≡ Some kind.Whole =
     sym (fits_known clients s j two fits)
-    ∙ ap (λ k. format_of (format_in (file_of (read_files two) k))) (sym same) ∙ last.whole in
+    ∙ ap (λ k. format_of (format_in (file_of (read_files two) k))) (sym same) ∙ last.whole.is in
     let generation : s.generation ≡ _ =
     sym fits.generation_is ∙ ap generation_in (sym (file_reads two s.file))
     ∙ ap (λ k. generation_in (file_of (read_files two) k)) (sym same) ∙ last.last in
@@ -71,10 +83,8 @@ fits_generation clients s j two fits = ap generation_in (file_reads two s.file) 
 pub lacks_here : (clients : Meaning) (s : StoreValue) (j : List (List Entry)) (two : Two File)
     → FitsFiles clients s j two → 2 ^ 64 - 1 ≤ next_generation s → LacksGeneration (read_files two)
 lacks_here clients s j two fits last = record {
-  file = s.file;
-  found = fits.file_is;
   format = written_in s;
-  known = fits_known clients s j two fits;
+  known = record { file = s.file; found = fits.file_is; is = fits_known clients s j two fits };
   last =
       subst (λ (n : ℕ). 2 ^ 64 - 1 ≤ short_generation (written_in s) n)
       (sym (fits_generation clients s j two fits)) last;
@@ -83,26 +93,21 @@ lacks_here clients s j two fits last = record {
 pub lacked_here : (clients : Meaning) (s : StoreValue) (j : List (List Entry)) (two : Two File)
     → FitsFiles clients s j two → LacksGeneration (read_files two) → 2 ^ 64 - 1 ≤ next_generation s
 lacked_here clients s j two fits lacks =
-    let both : Some lacks.file ≡ Some s.file = sym lacks.found ∙ fits.file_is in
-    let same : lacks.file ≡ s.file = cc in
+    let both : Some lacks.known.file ≡ Some s.file = sym lacks.known.found ∙ fits.file_is in
+    let same : lacks.known.file ≡ s.file = cc in
     let formats : Some lacks.format ≡ Some (written_in s) =
-    sym lacks.known ∙ ap (λ (k : ℕ). format_of (format_in (file_of (read_files two) k))) same
+    sym lacks.known.is ∙ ap (λ (k : ℕ). format_of (format_in (file_of (read_files two) k))) same
     ∙ fits_known clients s j two fits in
     let format : lacks.format ≡ written_in s = cc in
-    let generation : generation_in (file_of (read_files two) lacks.file) ≡ s.generation =
+    let generation : generation_in (file_of (read_files two) lacks.known.file) ≡ s.generation =
     ap (λ (k : ℕ). generation_in (file_of (read_files two) k)) same
     ∙ fits_generation clients s j two fits in
     subst (λ (n : ℕ). 2 ^ 64 - 1 ≤ short_generation (written_in s) n) generation
     (subst (λ (f : Format).
-    2 ^ 64 - 1 ≤ short_generation f (generation_in (file_of (read_files two) lacks.file)))
+    2 ^ 64 - 1 ≤ short_generation f (generation_in (file_of (read_files two) lacks.known.file)))
     format lacks.last)
 
 -- a journal of format 1 with the last generation lacks one
 pub last_lacks : (files : Two (List ℕ)) → HasLastGeneration files → LacksGeneration files
-last_lacks files has = record {
-  file = has.file;
-  found = has.found;
-  format = kind.Whole;
-  known = has.whole;
-  last = omega (arith, has.last);
-}
+last_lacks files has =
+    record { format = kind.Whole; known = has.whole; last = omega (arith, has.last) }

@@ -18,13 +18,13 @@ use Rattle.store_commands.specs.Show.{LeavesFilesSo}
 use Rattle.store_commands.specs.Stopping.{InputStops, IsTested, NeverReads, StopsBy, StopsEarly}
 use Rattle.store_commands.specs.Stopping.{StopsWhere}
 
-none_by : (old new : Outside) (came : Outcome) → LoadedBy old new (Err came)
-    → StopsBy old new came
-none_by old new outcome.DiskFault by = by
-none_by old new outcome.NoStore by = tt
-none_by old new (outcome.Damaged place) by = tt
-none_by old new outcome.Memory by = tt
-none_by old new _ by = absurd by
+none_by : (test : Facts → Option Refused) (old new : Outside) (came : Outcome)
+    → LoadedBy old new (Err came) → StopsBy test old new came
+none_by test old new outcome.DiskFault by = by
+none_by test old new outcome.NoStore by = tt
+none_by test old new (outcome.Damaged place) by = tt
+none_by test old new outcome.Memory by = tt
+none_by test old new _ by = absurd by
 
 none_ends : (test : Facts → Option Refused) (standing : Standing) (old new : Outside)
     (came : Outcome) → LoadedBy old new (Err came) → IsLoaded standing (Err came)
@@ -65,7 +65,7 @@ module _ (clients : Meaning) (test : Facts → Option Refused) (input_is : Outco
       → input_is came → StopsEarly clients test input_is old new out out' came
   stops_none came rests by loaded reads = record {
     run = run;
-    by = none_by old new came by;
+    by = none_by test old new came by;
     reads = reads;
     quiet = idle;
     told = λ two files. record {
@@ -84,7 +84,7 @@ module _ (clients : Meaning) (test : Facts → Option Refused) (input_is : Outco
         → old.files ≡ Some two → IsTested test (stands clients (read_files two)) answer
     tested_so answer tested two files =
         let has = loaded two files in
-        record { before = has.of; stood = has.stood; tested = ap test has.are ∙ tested }
+        record { before = has.of; stood = has.stood; has = ap test has.are ∙ tested }
 
     -- a test failed over it
     pub stops_refused : (why : Refused) → test s.state.facts ≡ Some why
@@ -92,7 +92,7 @@ module _ (clients : Meaning) (test : Facts → Option Refused) (input_is : Outco
         → StopsEarly clients test input_is old new out out' (outcome.Refused why)
     stops_refused why tested reads = record {
       run = run;
-      by = tt;
+      by = (s.state.facts, tested);
       reads = reads;
       quiet = idle;
       told = λ two files.

@@ -10,6 +10,7 @@ use Rattle.outside.specs.Outside.{Outside, MomentsAre}
 use Rattle.sync_rules.specs.declared.entries.Entry.{Entry}
 use Rattle.sync_rules.specs.Clients.{Meaning}
 use Rattle.sync_rules.specs.Facts.{Facts, facts, after_all, after_batches}
+use Rattle.sync_rules.specs.Hearing.{SettlesJournal}
 use Rattle.sync_rules.specs.Legal.{Allowed, AllSettling}
 use Rattle.sync_rules.specs.Steps.{IsSettled}
 use Rattle.entry_codec.specs.declared.naming.Format.{Format}
@@ -32,25 +33,32 @@ use Rattle.store_commands.specs.declared.commit.Settling.TheVariants as settling
 
 -- ---- journals
 
--- behind a journal of these facts: settling, the batch, and settling
-pub record HasOneBatch (clients : Meaning) (f : Facts) (batch : List Entry)
-    (more : List (List Entry)) : Type 0 where
+-- this is so of the journal with all of its settling
+pub record OnceSettled (clients : Meaning) (j : List (List Entry))
+    (P : List (List Entry) → Type 0) : Type 0 where
   pub first : List (List Entry)
-  pub rest : List (List Entry)
-  pub is : more ≡ first ++ batch ∷ rest
-  pub settles : AllSettling clients f first
-  pub settles_again : AllSettling clients (after_all (after_batches f first) batch) rest
+  pub settles : AllSettling clients (facts j) first
+  pub settled : IsSettled clients (after_batches (facts j) first)
+  pub has : P (j ++ first)
 
--- settling, and at most the one batch
-abbrev pub HasAtMostBatch : Meaning → Facts → List Entry → List (List Entry) → Type 0
-HasAtMostBatch clients f batch more = AllSettling clients f more ⊎ HasOneBatch clients f batch more
+-- this is so of it however it is settled
+abbrev pub HoweverSettled : Meaning → List (List Entry) → (List (List Entry) → Type 0) → Type 0
+HoweverSettled clients j P =
+    (first : List (List Entry)) → AllSettling clients (facts j) first
+    → IsSettled clients (after_batches (facts j) first) → P (j ++ first)
 
--- the journal goes on from an earlier one by settling and at most the one batch
-pub record GoesOnByBatch (clients : Meaning) (j : List (List Entry)) (batch : List Entry)
+-- the journal goes on by settling, the batch, and settling
+pub record HasOneBatch (clients : Meaning) (j : List (List Entry)) (batch : List Entry)
     (whole : List (List Entry)) : Type 0 where
-  pub more : List (List Entry)
-  pub is : whole ≡ j ++ more
-  pub adds : HasAtMostBatch clients (facts j) batch more
+  pub before : List (List Entry)
+  pub settles : SettlesJournal clients j before
+  pub settles_again : SettlesJournal clients (before ++ batch ∷ []) whole
+
+-- the journal goes on by settling and at most the one batch
+abbrev pub GoesOnByBatch : Meaning → (j : List (List Entry)) → List Entry
+    → (whole : List (List Entry)) → Type 0
+GoesOnByBatch clients j batch whole =
+    SettlesJournal clients j whole ⊎ HasOneBatch clients j batch whole
 
 -- what stands behind the batch: nothing, or settling up to its end
 abbrev pub SettlesBehind : Settling → Meaning → Facts → List (List Entry) → Type 0
@@ -66,10 +74,8 @@ pub record IsInFormat (format : Format) (files : Two (List ℕ)) : Type 0 where
 
 -- the journal's file of two files is in format 1, and has the last generation
 pub record HasLastGeneration (files : Two (List ℕ)) : Type 0 where
-  pub file : ℕ
-  pub found : journal_file files ≡ Some file
-  pub whole : format_of (format_in (file_of files file)) ≡ Some kind.Whole
-  pub last : generation_in (file_of files file) ≡ 2 ^ 64 - 1
+  pub whole : IsInFormat kind.Whole files
+  pub last : generation_in (file_of files whole.file) ≡ 2 ^ 64 - 1
 
 -- where files are told, a generation is left for a journal in format 2, or that has it
 abbrev pub MayMigrate : Option (Two File) → Type 0
@@ -79,41 +85,38 @@ MayMigrate files = (two : Two File) → files ≡ Some two → HasLastGeneration
 abbrev pub needed_by : List (List Entry) → List Entry → ℕ
 needed_by j batch = needed_in kind.Short j batch
 
--- The files stand, in format 2, for the journal, all of its settling, the one batch, for which
--- there was room when it was committed, and what follows it; nothing is pending in them, so that
--- each crash leaves this.
-pub record IsAdded (clients : Meaning) (settling : Settling) (j : List (List Entry))
-    (batch : List Entry) (two : Two File) : Type 0 where
-  pub first : List (List Entry)
-  pub rest : List (List Entry)
-  pub settles : AllSettling clients (facts j) first
-  pub settled : IsSettled clients (after_batches (facts j) first)
-  pub roomy : needed_by (j ++ first) batch ≤ MAX_JOURNAL
+-- the files stand, in format 2, for this journal, and nothing is pending in them, so that each
+-- crash leaves this
+pub record StandsSynced (clients : Meaning) (two : Two File) (j : List (List Entry)) : Type 0 where
   pub short : IsInFormat kind.Short (read_files two)
-  pub follows : SettlesBehind settling clients
-      (after_all (after_batches (facts j) first) batch) rest
-  pub stands_for : stands clients (read_files two) ≡ journal (j ++ (first ++ batch ∷ rest))
+  pub stands_for : stands clients (read_files two) ≡ journal j
   pub first_settled : NothingPending two 0
   pub second_settled : NothingPending two 1
 
--- the files stand, in format 2, for the journal and all of its settling, and there is no room for
--- the batch
-pub record IsFullForBatch (clients : Meaning) (j : List (List Entry)) (batch : List Entry)
-    (two : Two File) : Type 0 where
-  pub first : List (List Entry)
-  pub settles : AllSettling clients (facts j) first
-  pub settled : IsSettled clients (after_batches (facts j) first)
-  pub stands_for : stands clients (read_files two) ≡ journal (j ++ first)
-  pub short : IsInFormat kind.Short (read_files two)
-  pub over : MAX_JOURNAL < needed_by (j ++ first) batch
+-- the files stand for a settled journal, the one batch, for which there was room when it was
+-- committed, and what follows it
+pub record IsAdded (clients : Meaning) (settling : Settling) (batch : List Entry) (two : Two File)
+    (settled : List (List Entry)) : Type 0 where
+  pub rest : List (List Entry)
+  pub roomy : needed_by settled batch ≤ MAX_JOURNAL
+  pub follows : SettlesBehind settling clients (after_all (facts settled) batch) rest
+  pub stands : StandsSynced clients two (settled ++ batch ∷ rest)
 
--- the files had no generation left for a journal in format 2, and read as before
-abbrev pub WasSpent : Two File → Two File → Type 0
-WasSpent two two' = HasLastGeneration (read_files two) × (read_files two' ≡ read_files two)
+-- the files stand for this journal, and there is no room for the batch
+pub record IsFullForBatch (clients : Meaning) (batch : List Entry) (two : Two File)
+    (j : List (List Entry)) : Type 0 where
+  pub stands : StandsSynced clients two j
+  pub over : MAX_JOURNAL < needed_by j batch
 
--- there is no room for the batch, or there was no generation left
+-- the files, which read so before, had no generation left for a journal in format 2, and read as
+-- before
+abbrev pub WasSpent : Two (List ℕ) → Two File → Type 0
+WasSpent before two = HasLastGeneration before × (read_files two ≡ before)
+
+-- the journal was settled and there is no room for the batch, or there was no generation left
 abbrev pub IsFull : Meaning → List (List Entry) → List Entry → Two File → Two File → Type 0
-IsFull clients j batch two two' = IsFullForBatch clients j batch two' ⊎ WasSpent two two'
+IsFull clients j batch two two' =
+    OnceSettled clients j (IsFullForBatch clients batch two') ⊎ WasSpent (read_files two) two'
 
 -- ---- a store that is ready
 
@@ -238,7 +241,8 @@ pub record AddsAs (clients : Meaning) (settling : Settling) (s s' : StoreValue) 
 -- by the answer
 abbrev pub ExtendsEnds : Meaning → Settling → List (List Entry) → List Entry
     → Result (Unit {0}) Outcome → Two File → Two File → Type 0
-ExtendsEnds clients settling j batch (Ok _) two two' = IsAdded clients settling j batch two'
+ExtendsEnds clients settling j batch (Ok _) two two' =
+    OnceSettled clients j (IsAdded clients settling batch two')
 ExtendsEnds clients settling j batch (Err outcome.Full) two two' = IsFull clients j batch two two'
 ExtendsEnds clients settling j batch (Err _) two two' = Unit {0}
 

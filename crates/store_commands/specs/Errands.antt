@@ -1,20 +1,20 @@
 -- What a command does behind a journal that was settled, where that is several batches one behind
 -- the other: the session of a mailbox file and its records, or the levels that two people agreed on.
-use Rattle.std.specs.Prelude.{◌≡◌, ◌⊎◌, ℕ, ◌<◌, ◌≤◌, List, ◌++◌}
+use Rattle.std.specs.Prelude.{◌⊎◌, ℕ, ◌≤◌, List, ◌++◌}
 use Rattle.outside.specs.declared.limits.TheConstants.{MAX_JOURNAL}
-use Rattle.outside.specs.Files.{Two, File, read_files, NothingPending}
+use Rattle.outside.specs.Files.{Two, File}
 use Rattle.sync_rules.specs.declared.entries.Entry.{Entry}
 use Rattle.sync_rules.specs.Clients.{Meaning}
-use Rattle.sync_rules.specs.Facts.{Facts, after_batches, facts}
-use Rattle.sync_rules.specs.Legal.{AllSettling}
+use Rattle.sync_rules.specs.Facts.{Facts, facts}
+use Rattle.sync_rules.specs.Hearing.{SettlesJournal}
 use Rattle.sync_rules.specs.Steps.{IsSettled}
 use Rattle.entry_codec.specs.declared.naming.Format.TheVariants as kind
-use Rattle.entry_codec.specs.Standing.{journal}
-use Rattle.file_standing.specs.Standing.{stands}
 use Rattle.sync_store.specs.Moments.{IsBetween}
 use Rattle.sync_words.specs.declared.outcome.Outcome.{Outcome}
 use Rattle.sync_store.specs.Rooms.{AreRoomy}
-use Rattle.store_commands.specs.Commit.{IsInFormat, needed_by}
+use Rattle.store_commands.specs.Commit.{HasLastGeneration, HoweverSettled, IsFullForBatch}
+use Rattle.store_commands.specs.Commit.{OnceSettled, StandsSynced, needed_by}
+use Rattle.store_commands.specs.Works.{Work}
 
 -- ---- an errand
 
@@ -30,61 +30,49 @@ pub record Errand : Type 1 where
 
 -- ---- journals
 
--- behind a journal of these facts: all of its settling, and batches that are some of the errand
-pub record SettlesThen (clients : Meaning) (errand : Errand) (f : Facts)
-    (more : List (List Entry)) : Type 0 where
-  pub first : List (List Entry)
+-- this whole journal has, behind a settled one, a front of some of the errand
+pub record HasErrandBehind (errand : Errand) (whole settled : List (List Entry)) : Type 0 where
   pub rest : List (List Entry)
-  pub settles : AllSettling clients f first
-  pub settled : IsSettled clients (after_batches f first)
-  pub is : more ≡ first ++ rest
-  pub some : errand.some (after_batches f first) rest
+  pub some : errand.some (facts settled) rest
+  pub between : IsBetween settled rest whole
 
--- the journal with a front of settling, or of all of its settling and some of the errand
-pub record ErrandOn (clients : Meaning) (errand : Errand)
-    (j whole : List (List Entry)) : Type 0 where
-  pub more : List (List Entry)
-  pub adds : AllSettling clients (facts j) more ⊎ SettlesThen clients errand (facts j) more
-  pub between : IsBetween j more whole
+-- the journal goes on by settling alone, or by all of its settling and some of the errand
+abbrev pub ErrandOn : Meaning → Errand → (j whole : List (List Entry)) → Type 0
+ErrandOn clients errand j whole =
+    SettlesJournal clients j whole ⊎ OnceSettled clients j (HasErrandBehind errand whole)
 
--- The files stand, in format 2, for the journal, all of its settling, and the whole errand, each
--- batch of which found its room, and are settled; nothing is pending in them, so that each crash
--- leaves this.
-pub record IsRun (clients : Meaning) (errand : Errand) (j : List (List Entry)) (two : Two File)
-    (P : List ℕ → Type 0)
-    : Type 0 where
-  pub first : List (List Entry)
+-- The files stand for a settled journal and the whole errand, each batch of which found its room,
+-- and that is settled too. P is so of its text.
+pub record IsRun (clients : Meaning) (errand : Errand) (two : Two File) (P : List ℕ → Type 0)
+    (settled : List (List Entry)) : Type 0 where
   pub rest : List (List Entry)
-  pub settles : AllSettling clients (facts j) first
-  pub settled : IsSettled clients (after_batches (facts j) first)
-  pub whole : errand.whole (after_batches (facts j) first) rest
-  pub ends_settled : IsSettled clients (facts (j ++ (first ++ rest)))
-  pub short : IsInFormat kind.Short (read_files two)
-  pub roomy : AreRoomy kind.Short MAX_JOURNAL (j ++ first) rest
-  pub stands_for : stands clients (read_files two) ≡ journal (j ++ (first ++ rest))
-  pub first_settled : NothingPending two 0
-  pub second_settled : NothingPending two 1
-  pub printed : P (errand.text (j ++ first) rest)
+  pub whole : errand.whole (facts settled) rest
+  pub roomy : AreRoomy kind.Short MAX_JOURNAL settled rest
+  pub ends_settled : IsSettled clients (facts (settled ++ rest))
+  pub stands : StandsSynced clients two (settled ++ rest)
+  pub printed : P (errand.text settled rest)
 
--- The files stand, in format 2, for the journal, all of its settling, and some of the errand, and
--- there is no room for the batch that comes next.
-pub record IsErrandCutShort (clients : Meaning) (errand : Errand) (j : List (List Entry))
-    (two : Two File) : Type 0 where
-  pub first : List (List Entry)
+-- the files stand for a settled journal and some of the errand, and there is no room for the batch
+-- that comes next
+pub record IsErrandCutShort (clients : Meaning) (errand : Errand) (two : Two File)
+    (settled : List (List Entry)) : Type 0 where
   pub rest : List (List Entry)
   pub next : List Entry
-  pub settles : AllSettling clients (facts j) first
-  pub settled : IsSettled clients (after_batches (facts j) first)
-  pub follows : errand.next (after_batches (facts j) first) rest next
-  pub short : IsInFormat kind.Short (read_files two)
-  pub stands_for : stands clients (read_files two) ≡ journal (j ++ (first ++ rest))
-  pub over : MAX_JOURNAL < needed_by (j ++ (first ++ rest)) next
+  pub follows : errand.next (facts settled) rest next
+  pub full : IsFullForBatch clients next two (settled ++ rest)
+
+-- the work of an errand
+abbrev pub running : Meaning → Errand → Work
+running clients errand = record {
+  goes_on = ErrandOn clients errand;
+  full = λ before. IsErrandCutShort clients errand;
+  done = IsRun clients errand;
+  spent = HasLastGeneration;
+}
 
 -- behind a journal, however it is settled and however much of the errand is done, there is room for
 -- the batch that comes next
 abbrev pub HasErrandRoom : Meaning → Errand → List (List Entry) → Type 0
 HasErrandRoom clients errand j =
-    (first rest : List (List Entry)) (next : List Entry) → AllSettling clients (facts j) first
-    → IsSettled clients (after_batches (facts j) first)
-    → errand.next (after_batches (facts j) first) rest next
-    → needed_by (j ++ (first ++ rest)) next ≤ MAX_JOURNAL
+    HoweverSettled clients j (λ settled. (rest : List (List Entry)) (next : List Entry)
+    → errand.next (facts settled) rest next → needed_by (settled ++ rest) next ≤ MAX_JOURNAL)

@@ -1,8 +1,8 @@
 pub mod Plans
-pub mod Causes
 pub mod Shown
 pub mod Show
 pub mod Stopping
+pub mod Looking
 pub mod Works
 pub mod Errands
 pub mod Running

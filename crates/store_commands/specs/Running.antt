@@ -1,28 +1,21 @@
--- What the running of an errand comes to: from a loaded store, and from the files.
-use Rattle.std.specs.Prelude.{◌≡◌, ◌⊎◌, ℕ, ◌<◌, Bool, true, false, List, Option, Some, Result}
-use Rattle.std.specs.Prelude.{Ok, Err}
+-- What the running of an errand comes to, from a loaded store.
+use Rattle.std.specs.Prelude.{◌≡◌, ℕ, ◌<◌, false, List, Result, Ok, Err}
 use Rattle.std.specs.Io.KnownBytes.{Appends}
 use Rattle.outside.specs.Faults.{CountRose}
-use Rattle.outside.specs.Files.{Two, File, read_files}
-use Rattle.outside.specs.Links.{sent_of}
-use Rattle.outside.specs.Outside.{DiskRun, IsNow, MomentsAre, Outside}
+use Rattle.outside.specs.Outside.{Outside}
 use Rattle.outside.specs.Streams.{Stream, IsIdle, GetsFront}
 use Rattle.sync_rules.specs.declared.entries.Entry.{Entry}
-use Rattle.sync_rules.specs.declared.states.Refused.{Refused}
 use Rattle.sync_rules.specs.Clients.{Meaning}
 use Rattle.sync_rules.specs.Facts.{Facts}
 use Rattle.sync_rules.specs.Steps.{IsSettled}
-use Rattle.file_standing.specs.Standing.{stands}
 use Rattle.sync_store.specs.Commits.{needed}
-use Rattle.sync_store.specs.Fitting.{FitsFiles}
-use Rattle.sync_store.specs.Moments.{JournalMoment}
 use Rattle.sync_store.specs.Store.{StoreValue}
 use Rattle.sync_words.specs.declared.outcome.Outcome.{Outcome}
 use Rattle.sync_words.specs.declared.outcome.Outcome.TheVariants as outcome
 use Rattle.sync_store.specs.Rooms.{StoreComesTo}
-use Rattle.store_commands.specs.Commit.{ExtendsBy, HasLastGeneration, WasSpent}
-use Rattle.store_commands.specs.Stopping.{TestsHold}
-use Rattle.store_commands.specs.Errands.{Errand, ErrandOn, IsErrandCutShort, IsRun}
+use Rattle.store_commands.specs.Commit.{ExtendsBy}
+use Rattle.store_commands.specs.Errands.{Errand, running}
+use Rattle.store_commands.specs.Works.{RunsWork}
 
 -- ---- an errand on a settled store
 
@@ -86,82 +79,9 @@ abbrev pub PrintedSo : List ℕ → (out out' : Stream) → Result (Unit {0}) Ou
 PrintedSo text out out' (Ok u) = Appends out.bytes out'.bytes text
 PrintedSo text out out' (Err came) = FailsToPrint text out out' came
 
--- ---- the causes of an outcome, whatever the disk tells
-
--- a fault comes only where its count rose, and nothing is written but the text
-abbrev pub ErrandBy : Outcome → (old new : Outside) (out out' : Stream) → Outcome → Type 0
-ErrandBy comes old new out out' outcome.Done = comes ≡ outcome.Done
-ErrandBy comes old new out out' (outcome.Inside place) = comes ≡ outcome.Inside place
-ErrandBy comes old new out out' (outcome.Bad place why) = comes ≡ outcome.Bad place why
-ErrandBy comes old new out out' (outcome.NoVersion place) = comes ≡ outcome.NoVersion place
-ErrandBy comes old new out out' outcome.WriteFault = CountRose out.faults out'.faults
-ErrandBy comes old new out out' outcome.DiskFault =
-    CountRose old.disk_faults new.disk_faults × IsIdle out out'
-ErrandBy comes old new out out' outcome.Full = IsIdle out out'
-ErrandBy comes old new out out' outcome.Memory = IsIdle out out'
-ErrandBy comes old new out out' _ = ⊥
-
--- an outcome that comes once the whole errand stands
-abbrev pub is_whole : Outcome → Bool
-is_whole outcome.Done = true
-is_whole (outcome.Inside place) = true
-is_whole (outcome.Bad place why) = true
-is_whole (outcome.NoVersion place) = true
-is_whole outcome.WriteFault = true
-is_whole _ = false
-
 -- ---- from a loaded store
 
--- by the outcome
-abbrev pub ErrandEnds : Meaning → Errand → List (List Entry) → Two File → Two File
-    → (out out' : Stream) → Outcome → Type 0
-ErrandEnds clients errand j two two' out out' outcome.WriteFault =
-    IsRun clients errand j two' (GetsFront out out')
-ErrandEnds clients errand j two two' out out' outcome.Full =
-    IsErrandCutShort clients errand j two' ⊎ WasSpent two two'
-ErrandEnds clients errand j two two' out out' outcome.Memory = Unit {0}
-ErrandEnds clients errand j two two' out out' outcome.DiskFault = Unit {0}
-ErrandEnds clients errand j two two' out out' came =
-    IsRun clients errand j two' (Appends out.bytes out'.bytes)
-
--- Each moment stands for the journal with settling and some of the errand, and in the end the files
--- are so, which were `two` before. Where they had no generation left the errand is not done.
-pub record ErrandTold (clients : Meaning) (errand : Errand) (j : List (List Entry)) (two : Two File)
-    (old new : Outside)
-    (out out' : Stream) (came : Outcome) : Type 0 where
-  pub moments : MomentsAre old new
-      (JournalMoment clients (ErrandOn clients errand j) (sent_of old.links.told))
-  pub ends : (two' : Two File) → new.files ≡ Some two'
-      → ErrandEnds clients errand j two two' out out' came
-  pub spent : HasLastGeneration (read_files two) → is_whole came ≡ false
-
 -- a store was migrated and settled, and the errand was run
-pub record RunsErrand (clients : Meaning) (errand : Errand) (s : StoreValue) (old new : Outside)
-    (out out' : Stream)
-    (came : Outcome) : Type 0 where
-  pub run : DiskRun old new
-  pub by : ErrandBy errand.comes old new out out' came
-  pub told : (two : Two File) → old.files ≡ Some two → (j : List (List Entry))
-      → FitsFiles clients s j two
-      → ErrandTold clients errand j two old new out out' came
-
--- ---- from the files that were told
-
--- each moment is as a crash might have left the files before, or has batches of the errand
-pub record FilesTold (clients : Meaning) (test : Facts → Option Refused) (errand : Errand)
-    (two : Two File) (old new : Outside) (out out' : Stream) (came : Outcome) : Type 0 where
-  pub moments : MomentsAre old new
-      (λ m. IsNow two old.links m
-      ⊎ TestsHold test (stands clients (read_files two))
-      (λ j. JournalMoment clients (ErrandOn clients errand j) (sent_of old.links.told) m))
-  pub ends : (two' : Two File) → new.files ≡ Some two'
-      → TestsHold test (stands clients (read_files two))
-      (λ j. ErrandEnds clients errand j two two' out out' came)
-  pub spent : HasLastGeneration (read_files two) → is_whole came ≡ false
-
--- a store was loaded over which the tests hold, and the errand was run
-pub record FilesRun (clients : Meaning) (test : Facts → Option Refused) (errand : Errand)
-    (old new : Outside) (out out' : Stream) (came : Outcome) : Type 0 where
-  pub by : ErrandBy errand.comes old new out out' came
-  pub told : (two : Two File) → old.files ≡ Some two
-      → FilesTold clients test errand two old new out out' came
+abbrev pub RunsErrand : Meaning → Errand → StoreValue → (old new : Outside) → (out out' : Stream)
+    → Outcome → Type 0
+RunsErrand clients errand = RunsWork clients errand.comes (running clients errand)

@@ -13,31 +13,26 @@ use Rattle.sync_words.specs.declared.outcome.Outcome.{Outcome}
 use Rattle.sync_words.specs.declared.outcome.Outcome.TheVariants as outcome
 use Rattle.store_commands.specs.Show.{KeepsFiles, LeavesTold}
 
--- the files stood for a journal over which the tests of a command answer so
-pub record IsTested (test : Facts → Option Refused) (standing : Standing)
-    (answer : Option Refused) : Type 0 where
+-- the files stood for a journal of which this is so
+pub record StoodFor (standing : Standing) (P : List (List Entry) → Type 0) : Type 0 where
   pub before : List (List Entry)
   pub stood : standing ≡ journal before
-  pub tested : test (facts before) ≡ answer
+  pub has : P before
 
--- they hold over it, and it has this
-pub record TestsHold (test : Facts → Option Refused) (standing : Standing)
-    (P : List (List Entry) → Type 0) : Type 0 where
-  pub before : List (List Entry)
-  pub stood : standing ≡ journal before
-  pub tested : test (facts before) ≡ None
-  pub leads : P before
+-- the tests of a command answer so over it
+abbrev pub IsTested : (Facts → Option Refused) → Standing → Option Refused → Type 0
+IsTested test standing answer = StoodFor standing (λ j. test (facts j) ≡ answer)
 
 -- the causes, whatever the disk tells
-abbrev pub StopsBy : (old new : Outside) → Outcome → Type 0
-StopsBy old new outcome.NoStore = Unit {0}
-StopsBy old new (outcome.Damaged place) = Unit {0}
-StopsBy old new (outcome.Refused why) = Unit {0}
-StopsBy old new outcome.DiskFault = CountRose old.disk_faults new.disk_faults
-StopsBy old new outcome.Memory = Unit {0}
-StopsBy old new outcome.ReadFault = Unit {0}
-StopsBy old new outcome.TooMuch = Unit {0}
-StopsBy old new _ = ⊥
+abbrev pub StopsBy : (Facts → Option Refused) → (old new : Outside) → Outcome → Type 0
+StopsBy test old new outcome.NoStore = Unit {0}
+StopsBy test old new (outcome.Damaged place) = Unit {0}
+StopsBy test old new (outcome.Refused why) = (f : Facts) × (test f ≡ Some why)
+StopsBy test old new outcome.DiskFault = CountRose old.disk_faults new.disk_faults
+StopsBy test old new outcome.Memory = Unit {0}
+StopsBy test old new outcome.ReadFault = Unit {0}
+StopsBy test old new outcome.TooMuch = Unit {0}
+StopsBy test old new _ = ⊥
 
 -- by what the files stood for: the input is read once the tests hold
 abbrev pub StopsWhere : (Facts → Option Refused) → Standing → Outcome → Type 0
@@ -66,7 +61,7 @@ pub record StopsEarly (clients : Meaning) (test : Facts → Option Refused)
     (input_is : Outcome → Type 0) (old new : Outside) (out out' : Stream)
     (came : Outcome) : Type 0 where
   pub run : DiskRun old new
-  pub by : StopsBy old new came
+  pub by : StopsBy test old new came
   pub reads : input_is came
   pub quiet : IsIdle out out'
   pub told : (two : Two File) → old.files ≡ Some two

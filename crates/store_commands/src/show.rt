@@ -1,6 +1,7 @@
 // The commands that only look: `show`, `inbox` and `body ID`.
 ghost use Rattle.sync_words.specs.Outcomes.{came_to};
-ghost use Rattle.store_commands.specs.Show.{HasLooked, PrintsShowing, PrintsText};
+ghost use Rattle.store_commands.specs.Looking.{HasLooked};
+ghost use Rattle.store_commands.specs.Show.{PrintsShowing, PrintsText};
 ghost use Rattle.store_commands.specs.Shown.{body_shown, listing_shown, listing_text};
 
 use crate::listing::{Listing, add_listing};

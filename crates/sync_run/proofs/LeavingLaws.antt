@@ -113,7 +113,7 @@ module _ (clients : Meaning) (limits : Limits) (words : List LinkWords) (two : T
   refused_comes s loaded why tests = record {
     before = loaded.of;
     stood = loaded.stood;
-    leads = (ap (λ (f : Facts). run_test f words) loaded.are ∙ tests, still loaded.of loaded.stood);
+    has = (ap (λ (f : Facts). run_test f words) loaded.are ∙ tests, still loaded.of loaded.stood);
   }
 
 -- where no session began: each moment might have been before the command, and the files read as

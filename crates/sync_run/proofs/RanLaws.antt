@@ -28,7 +28,7 @@ use Rattle.sync_store.specs.Fitting.{FitsFiles, FitsSome}
 use Rattle.sync_store.specs.Store.{StoreValue}
 use Rattle.store_commands.specs.Commit.{HasLastGeneration, MayMigrate, needed_by}
 use Rattle.store_commands.specs.Load.{HasFacts}
-use Rattle.store_commands.specs.Works.{StoodFor}
+use Rattle.store_commands.specs.Stopping.{StoodFor}
 use Rattle.sync_course.specs.Acts.{Act, AtFront, Does, batches_in, commit_acts, events_of}
 use Rattle.sync_course.specs.Acts.{next_bytes, sends_on}
 use Rattle.sync_course.specs.Closing.{Closing}
@@ -329,7 +329,7 @@ module _ (clients : Meaning) (limits : Limits) (words : List LinkWords) (s : Sto
           | inr at ↦ inr (inr (record {
             before = loaded.of;
             stood = loaded.stood;
-            leads =
+            has =
                 at_front m
                 (subst (λ (sent : ℕ → List ℕ). AtFront clients all loaded.of sent m)
                 (same_function (sent_on o1.links) (λ link. []) silent1) at);
@@ -543,7 +543,7 @@ module _ (clients : Meaning) (limits : Limits) (words : List LinkWords) (s : Sto
     tested = ap (λ (f : Facts). run_test f words) loaded.are ∙ tests
 
     of_journal : (P : Journal → Type 0) → P loaded.of → OfJournal words stood None P
-    of_journal P has = record { before = loaded.of; stood = loaded.stood; leads = (tested, has) }
+    of_journal P has = record { before = loaded.of; stood = loaded.stood; has = (tested, has) }
 
     broken : (begin : Journal) → stood ≡ journal begin → RanSoFar clients limits words begin o0 o3
     broken begin began =

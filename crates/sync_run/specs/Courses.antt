@@ -30,7 +30,7 @@ use Rattle.sync_course.specs.declared.ends.LinkEnd.TheVariants as end
 use Rattle.sync_node.specs.Output.{Journal, output, sent_on}
 use Rattle.store_commands.specs.Commit.{HasLastGeneration, MayMigrate, needed_by}
 use Rattle.store_commands.specs.Show.{FilesReadSame}
-use Rattle.store_commands.specs.Works.{StoodFor}
+use Rattle.store_commands.specs.Stopping.{StoodFor}
 use Rattle.sync_words.specs.declared.link_words.LinkWords.{LinkWords}
 use Rattle.sync_words.specs.declared.outcome.Outcome.{Outcome}
 use Rattle.sync_words.specs.declared.outcome.Outcome.TheVariants as outcome

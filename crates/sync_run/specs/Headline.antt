@@ -14,7 +14,7 @@ use Rattle.entry_codec.specs.Standing.{journal}
 use Rattle.file_standing.specs.Standing.{stands}
 use Rattle.sync_node.specs.Output.{AreOutput, Journal, heard_on, output, sent_on}
 use Rattle.sync_node.specs.Suits.{SuitsRun}
-use Rattle.store_commands.specs.Works.{StoodFor}
+use Rattle.store_commands.specs.Stopping.{StoodFor}
 use Rattle.sync_words.specs.declared.link_words.LinkWords.{LinkWords}
 use Rattle.sync_course.specs.declared.ends.LinkEnd.{LinkEnd}
 use Rattle.sync_course.specs.declared.ends.LinkEnd.TheVariants as end

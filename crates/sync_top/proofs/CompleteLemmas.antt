@@ -31,25 +31,27 @@ use Rattle.commands.specs.declared.command.Command.{Command}
 use Rattle.commands.specs.declared.command.Command.TheVariants as command
 use Rattle.store_commands.specs.declared.commit.Settling.{Settling}
 use Rattle.store_commands.specs.declared.commit.Settling.TheVariants as settling
-use Rattle.store_commands.specs.Commit.{IsFull, MayMigrate, WasSpent, needed_by}
-use Rattle.store_commands.specs.Compact.{HasCompacted, IsBriefFull, MayRenew, brief_len}
-use Rattle.store_commands.specs.Entries.{HasAdded}
+use Rattle.store_commands.specs.Commit.{HoweverSettled, MayMigrate, WasSpent, needed_by}
+use Rattle.store_commands.specs.Compact.{HasCompacted, MayRenew, brief_len, compacting}
+use Rattle.store_commands.specs.Entries.{HasAdded, adding, refusal}
 use Rattle.store_commands.specs.Init.{HasBegun}
-use Rattle.store_commands.specs.Plans.{Plan, adds, refuses}
+use Rattle.store_commands.specs.Plans.{Plan, adds}
 use Rattle.store_commands.specs.Post.{HasPosted, PostStops, PostsBody, group_test}
-use Rattle.store_commands.specs.Show.{HasLooked}
+use Rattle.store_commands.specs.Looking.{HasLooked, denial}
+use Rattle.store_commands.specs.Show.{PrintsText}
 use Rattle.store_commands.specs.Stopping.{InputStops, NeverReads, StopsEarly}
-use Rattle.store_commands.specs.Shown.{Showing, denies, shows}
+use Rattle.store_commands.specs.Shown.{Showing}
 use Rattle.audit_commands.specs.Audits.{HasAudited}
+use Rattle.audit_commands.specs.Texts.{legal_text}
 use Rattle.sync_node.specs.Courses.{ReadsAs}
 use Rattle.sharing_commands.specs.Agreeing.{HasAgreed, agreement}
 use Rattle.sharing_commands.specs.Agreement.{agree_test}
 use Rattle.mailbox_core.specs.Files.{box_ending}
 use Rattle.mailbox_commands.specs.declared.sending.Sending.{Sending}
 use Rattle.mailbox_commands.specs.declared.taking.TheConstants.{MAX_MAIL}
-use Rattle.store_commands.specs.Errands.{Errand, HasErrandRoom, IsErrandCutShort as IsErrandCut}
+use Rattle.store_commands.specs.Errands.{Errand, HasErrandRoom, running}
 use Rattle.mailbox_commands.specs.Tests.{mailbox_test}
-use Rattle.store_commands.specs.Running.{FilesRun}
+use Rattle.store_commands.specs.Works.{DoesWork, HasWorked, IsWorkFull, Work}
 use Rattle.mailbox_commands.specs.Sending.{HasSentMail, out_errand}
 use Rattle.mailbox_commands.specs.Taking.{HasTakenMail, IsMail, IsTooMuch, in_errand, outcome_at}
 use Rattle.store_commands.proofs.Stood.{last_lacks}
@@ -59,8 +61,7 @@ use Rattle.sync_top.specs.Complete.{StreamDecides}
 use Rattle.sync_top.specs.Duties.{duty_of, sending_of, to_send, to_take}
 use Rattle.sync_top.specs.Run.{WordsComeTo, ReadsStream, ReadsWhole, ReportsOutcome}
 use Rattle.sync_top.specs.Run.{Streams, TriesClient, outcome_of}
-use Rattle.sync_top.specs.Serving.{HoweverSettled, MayAddPlanned, MayAudit, MayCompact, MayPost}
-use Rattle.sync_top.specs.Serving.{MayShow}
+use Rattle.sync_top.specs.Serving.{MayAddPlanned, MayAudit, MayCompact, MayPost, MayShow}
 use Rattle.sync_top.proofs.CompleteRuns.{run_comes_out}
 
 -- ---- the bytes decide
@@ -133,52 +134,46 @@ module _ (input input' out out' : Stream) where
 
 -- ---- commands of a store
 
--- behind a journal, however it is settled, there is room for a batch
-abbrev HasRoomForBatch : Meaning → List (List Entry) → List Entry → Type 0
-HasRoomForBatch clients j batch =
-    HoweverSettled clients j (λ whole f. needed_by whole batch ≤ MAX_JOURNAL)
-
--- and for the brief account
-abbrev HasBriefRoom : Meaning → List (List Entry) → Type 0
-HasBriefRoom clients j = HoweverSettled clients j (λ whole f. brief_len whole ≤ MAX_JOURNAL)
-
 -- a generation was left
 not_spent : {P : Type 0} (files : Option (Two File)) (two two' : Two File) → MayMigrate files
-    → files ≡ Some two → WasSpent two two' → P
+    → files ≡ Some two → WasSpent (read_files two) two' → P
 not_spent files two two' next told spent = absurd (next two told spent.0)
 
--- there was room for a batch
-not_full : {P : Type 0} (clients : Meaning) (files : Option (Two File)) (two two' : Two File)
-    (j : List (List Entry)) (batch : List Entry)
-    → HasRoomForBatch clients j batch → MayMigrate files → files ≡ Some two
-    → IsFull clients j batch two two' → P
-not_full clients files two two' j batch has next told (inl over) =
-    let room = has over.first over.settles over.settled in
-    absurd (omega (arith, room, over.over))
-not_full clients files two two' j batch has next told (inr spent) =
+-- there was room and a generation for the entry
+not_full : (clients : Meaning) (asked : Settling) (e : Entry) (files : Option (Two File))
+    (two two' : Two File) (j : List (List Entry))
+    → HoweverSettled clients j (λ whole. needed_by whole (e ∷ []) ≤ MAX_JOURNAL)
+    → MayMigrate files → files ≡ Some two
+    → IsWorkFull clients (adding clients asked (adds e)) j (read_files two) two' → ⊥
+not_full clients asked e files two two' j has next told (inl once) =
+    let room = has once.first once.settles once.settled in
+    omega (arith, room, once.has.over)
+not_full clients asked e files two two' j has next told (inr spent) =
     not_spent files two two' next told spent
 
--- there was room for the errand
-not_errand_cut : {P : Type 0} (clients : Meaning) (errand : Errand) (files : Option (Two File))
+-- for the errand
+not_errand_cut : (clients : Meaning) (errand : Errand) (files : Option (Two File))
     (two two' : Two File) (j : List (List Entry))
     → HasErrandRoom clients errand j → MayMigrate files → files ≡ Some two
-    → IsErrandCut clients errand j two' ⊎ WasSpent two two' → P
-not_errand_cut clients errand files two two' j has next told (inl cut) =
-    let room = has cut.first cut.rest cut.next cut.settles cut.settled cut.follows in
-    absurd (omega (arith, room, cut.over))
+    → IsWorkFull clients (running clients errand) j (read_files two) two' → ⊥
+not_errand_cut clients errand files two two' j has next told (inl once) =
+    let cut = once.has in
+    let room = has once.first once.settles once.settled cut.rest cut.next cut.follows in
+    omega (arith, room, cut.full.over)
 not_errand_cut clients errand files two two' j has next told (inr spent) =
     not_spent files two two' next told spent
 
--- there was room and a generation for the brief account
-not_brief_full : {P : Type 0} (clients : Meaning) (files : Option (Two File)) (two two' : Two File)
-    (j : List (List Entry)) → HasBriefRoom clients j → MayRenew files → files ≡ Some two
-    → IsBriefFull clients j two two' → P
-not_brief_full clients files two two' j has next told (inl once) = absurd (elim once.has.over [
+-- for the brief account
+not_brief_full : (clients : Meaning) (files : Option (Two File)) (two two' : Two File)
+    (j : List (List Entry)) → HoweverSettled clients j (λ whole. brief_len whole ≤ MAX_JOURNAL)
+    → MayRenew files → files ≡ Some two
+    → IsWorkFull clients (compacting clients) j (read_files two) two' → ⊥
+not_brief_full clients files two two' j has next told (inl once) = elim once.has.over [
   | inl past ↦ let room = has once.first once.settles once.settled in omega (arith, room, past)
   | inr lacks ↦ next two told lacks
-])
+]
 not_brief_full clients files two two' j has next told (inr spent) =
-    absurd (next two told (last_lacks (read_files two) spent.0))
+    next two told (last_lacks (read_files two) spent.0)
 
 module _ (clients : Meaning) (old new : Outside) (input input' out out' : Stream)
     (fails : NothingFails old new input input' out out') where
@@ -194,73 +189,6 @@ module _ (clients : Meaning) (old new : Outside) (input input' out out' : Stream
       let now = told_on old new two did.run.same_told told in
       absurd (let is : true ≡ false = sym (((did.told two told).ends now.0 now.1).0) ∙ none in cc)
   begun_done _ did two told none = absurd did.by
-
-  added_done : (plan : Facts → Plan) (asked : Settling) (came : Outcome)
-      → HasAdded clients plan asked old new out out' came → MayAddPlanned clients plan old.files
-      → Done came
-  added_done plan asked outcome.Done did may = inl refl
-  added_done plan asked outcome.Memory did may = inr refl
-  added_done plan asked outcome.WriteFault did may = absurd (fails.sink did.by)
-  added_done plan asked outcome.DiskFault did may = absurd (fails.disk did.by.0)
-  added_done plan asked outcome.NoStore did may =
-      let now = told_on old new may.stood.0 did.run.same_told may.stood.1 in
-      let is : no_store ≡ journal may.before =
-      sym (((did.told may.stood.0 may.stood.1).ends now.0 now.1).0) ∙ may.stood.2 in
-      cc
-  added_done plan asked (outcome.Damaged place) did may =
-      let now = told_on old new may.stood.0 did.run.same_told may.stood.1 in
-      let is : damaged place.file place.at ≡ journal may.before =
-      sym (((did.told may.stood.0 may.stood.1).ends now.0 now.1).0) ∙ may.stood.2 in
-      cc
-  added_done plan asked (outcome.Refused why) did may =
-      let now = told_on old new may.stood.0 did.run.same_told may.stood.1 in
-      let r = ((did.told may.stood.0 may.stood.1).ends now.0 now.1).0 in
-      let both : journal r.before ≡ journal may.before = sym r.stood ∙ may.stood.2 in
-      let same : r.before ≡ may.before = cc in
-      let is : refuses why ≡ adds may.entry = sym r.planned
-      ∙ ap (λ (j : List (List Entry)). plan (facts j)) same ∙ may.planned in
-      cc
-  added_done plan asked outcome.Full did may =
-      let now = told_on old new may.stood.0 did.run.same_told may.stood.1 in
-      let full = (did.told may.stood.0 may.stood.1).ends now.0 now.1 in
-      let both : journal full.before ≡ journal may.before = sym full.stood ∙ may.stood.2 in
-      let same : full.before ≡ may.before = cc in
-      let is : adds full.entry ≡ adds may.entry = sym full.planned
-      ∙ ap (λ (j : List (List Entry)). plan (facts j)) same ∙ may.planned in
-      let one : full.entry ≡ may.entry = cc in
-      let has : HasRoomForBatch clients full.before (full.entry ∷ []) =
-      subst (λ (j : List (List Entry)). HasRoomForBatch clients j (full.entry ∷ [])) (sym same)
-      (subst (λ (e : Entry). HasRoomForBatch clients may.before (e ∷ [])) (sym one) may.room) in
-      not_full clients old.files may.stood.0 now.0 full.before (full.entry ∷ []) has may.next
-      may.stood.1 full.leads
-  added_done plan asked _ did may = absurd did.by
-
-  compacted_done : (came : Outcome) → HasCompacted clients old new out out' came
-      → MayCompact clients old.files → Done came
-  compacted_done outcome.Done did may = inl refl
-  compacted_done outcome.Memory did may = inr refl
-  compacted_done outcome.WriteFault did may = absurd (fails.sink did.by)
-  compacted_done outcome.DiskFault did may = absurd (fails.disk did.by.0)
-  compacted_done outcome.NoStore did may =
-      let now = told_on old new may.stood.0 did.run.same_told may.stood.1 in
-      let is : no_store ≡ journal may.before =
-      sym (((did.told may.stood.0 may.stood.1).ends now.0 now.1).0) ∙ may.stood.2 in
-      cc
-  compacted_done (outcome.Damaged place) did may =
-      let now = told_on old new may.stood.0 did.run.same_told may.stood.1 in
-      let is : damaged place.file place.at ≡ journal may.before =
-      sym (((did.told may.stood.0 may.stood.1).ends now.0 now.1).0) ∙ may.stood.2 in
-      cc
-  compacted_done outcome.Full did may =
-      let now = told_on old new may.stood.0 did.run.same_told may.stood.1 in
-      let full = (did.told may.stood.0 may.stood.1).ends now.0 now.1 in
-      let both : journal full.before ≡ journal may.before = sym full.stood ∙ may.stood.2 in
-      let same : full.before ≡ may.before = cc in
-      let has : HasBriefRoom clients full.before =
-      subst (λ (j : List (List Entry)). HasBriefRoom clients j) (sym same) may.room in
-      not_brief_full clients old.files may.stood.0 now.0 full.before has may.next may.stood.1
-      full.leads
-  compacted_done _ did may = absurd did.by
 
   -- a command whose tests hold does not stop early, but for want of memory and by its input
   stopped_done : (test : Facts → Option Refused) (input_is : Outcome → Type 0) (came : Outcome)
@@ -279,7 +207,7 @@ module _ (clients : Meaning) (old new : Outside) (input input' out out' : Stream
       let t = (did.told stood.0 stood.1).ends in
       let both : journal t.before ≡ journal j = sym t.stood ∙ stood.2 in
       let same : t.before ≡ j = cc in
-      let is : Some why ≡ None = sym t.tested
+      let is : Some why ≡ None = sym t.has
       ∙ ap (λ (i : List (List Entry)). test (facts i)) same ∙ tested in
       cc
   stopped_done test input_is outcome.DiskFault j did stood tested whole =
@@ -299,55 +227,87 @@ module _ (clients : Meaning) (old new : Outside) (input input' out out' : Stream
         | inr memory ↦ inr (ap status_of memory)
       ]
 
-  module _ (test : Facts → Option Refused) (errand : Errand) (before : List (List Entry))
-      (stood : ReadsAs clients old.files before) (room : HasErrandRoom clients errand before)
-      (next : MayMigrate old.files) (told_same : is_some new.files ≡ is_some old.files) where
-    -- there was room for an errand
-    ran_not_full : {P : Type 0} → FilesRun clients test errand old new out out' outcome.Full → P
-    ran_not_full did =
-        let now = told_on old new stood.0 told_same stood.1 in
-        let full = (did.told stood.0 stood.1).ends now.0 now.1 in
-        let both : journal full.before ≡ journal before = sym full.stood ∙ stood.2 in
-        let same : full.before ≡ before = cc in
-        let has : HasErrandRoom clients errand full.before =
-        subst (HasErrandRoom clients errand) (sym same) room in
-        not_errand_cut clients errand old.files stood.0 now.0 full.before has next stood.1
-        full.leads
+  -- a work for which there was room is not cut short
+  did_not_full : (test : Facts → Option Refused) (comes : Outcome) (work : Facts → Work)
+      (j : List (List Entry)) (stood : ReadsAs clients old.files j)
+      → is_some new.files ≡ is_some old.files
+      → ((two' : Two File)
+      → IsWorkFull clients (work (facts j)) j (read_files stood.0) two' → ⊥)
+      → DoesWork clients test comes work old new out out' outcome.Full → ⊥
+  did_not_full test comes work j stood told_same roomy did =
+      let now = told_on old new stood.0 told_same stood.1 in
+      let held = did.told stood.0 stood.1 in
+      let both : journal held.before ≡ journal j = sym held.stood ∙ stood.2 in
+      let same : held.before ≡ j = cc in
+      roomy now.0
+      (subst (λ (i : List (List Entry)).
+      IsWorkFull clients (work (facts i)) i (read_files stood.0) now.0) same
+      (held.has.1.ends now.0 now.1))
 
-    -- one that comes to nothing else is done
-    errand_done : (came : Outcome) → errand.comes ≡ outcome.Done
-        → FilesRun clients test errand old new out out' came → Done came
-    errand_done outcome.Done comes did = inl refl
-    errand_done outcome.Memory comes did = inr refl
-    errand_done outcome.WriteFault comes did = absurd (fails.sink did.by)
-    errand_done outcome.DiskFault comes did = absurd (fails.disk did.by.0)
-    errand_done outcome.Full comes did = ran_not_full did
-    errand_done (outcome.Inside place) comes did =
-        absurd (let is : outcome.Done ≡ outcome.Inside place = sym comes ∙ did.by in cc)
-    errand_done (outcome.Bad place why) comes did =
-        absurd (let is : outcome.Done ≡ outcome.Bad place why = sym comes ∙ did.by in cc)
-    errand_done (outcome.NoVersion place) comes did =
-        absurd (let is : outcome.Done ≡ outcome.NoVersion place = sym comes ∙ did.by in cc)
-    errand_done _ comes did = absurd did.by
+  -- a work that comes to nothing else is done
+  did_done : (test : Facts → Option Refused) (work : Facts → Work) (j : List (List Entry))
+      (stood : ReadsAs clients old.files j) → is_some new.files ≡ is_some old.files
+      → ((two' : Two File)
+      → IsWorkFull clients (work (facts j)) j (read_files stood.0) two' → ⊥)
+      → (came : Outcome) → DoesWork clients test outcome.Done work old new out out' came
+      → Done came
+  did_done test work j stood told_same roomy outcome.Memory did = inr refl
+  did_done test work j stood told_same roomy outcome.WriteFault did = absurd (fails.sink did.by)
+  did_done test work j stood told_same roomy outcome.DiskFault did = absurd (fails.disk did.by.0)
+  did_done test work j stood told_same roomy outcome.Full did =
+      absurd (did_not_full test outcome.Done work j stood told_same roomy did)
+  did_done test work j stood told_same roomy came did = inl (ap status_of (sym did.by))
+
+  -- nor does a command that does such a work come to anything else
+  worked_done : (test : Facts → Option Refused) (work : Facts → Work) (j : List (List Entry))
+      (stood : ReadsAs clients old.files j)
+      → ((two' : Two File)
+      → IsWorkFull clients (work (facts j)) j (read_files stood.0) two' → ⊥)
+      → test (facts j) ≡ None → (came : Outcome)
+      → HasWorked clients test work old new out out' came → Done came
+  worked_done test work j stood roomy tested came did = elim did.did [
+    | inl early ↦ unread_done test came j early stood tested
+    | inr worked ↦ did_done test work j stood did.run.same_told roomy came worked
+  ]
+
+  added_done : (plan : Facts → Plan) (asked : Settling) (came : Outcome)
+      → HasAdded clients plan asked old new out out' came → MayAddPlanned clients plan old.files
+      → Done came
+  added_done plan asked came did may =
+      worked_done (λ f. refusal (plan f)) (λ f. adding clients asked (plan f)) may.before may.stood
+      (λ two' full. not_full clients asked may.entry old.files may.stood.0 two' may.before may.room
+      may.next may.stood.1
+      (subst (λ (p : Plan).
+      IsWorkFull clients (adding clients asked p) may.before (read_files may.stood.0) two')
+      may.planned full))
+      (ap refusal may.planned) came did
+
+  compacted_done : (came : Outcome) → HasCompacted clients old new out out' came
+      → MayCompact clients old.files → Done came
+  compacted_done came did may =
+      worked_done (λ f. None) (λ f. compacting clients) may.before may.stood
+      (λ two' full. not_brief_full clients old.files may.stood.0 two' may.before may.room may.next
+      may.stood.1 full) refl came did
 
   agreed_done : (contact : ℕ) (group : Id) (came : Outcome)
       → HasAgreed clients contact group old new out out' came
       → (duty_of clients (command.Agree contact group)).serves old new input input' → Done came
-  agreed_done contact group came did may = elim did.did [
-    | inl early
-        ↦ unread_done (λ f. agree_test f contact group) came may.before early may.stood may.tested
-    | inr ran
-        ↦ errand_done (λ f. agree_test f contact group) (agreement clients contact group) may.before
-        may.stood may.room may.next did.run.same_told came refl ran
-  ]
+  agreed_done contact group came did may =
+      worked_done (λ f. agree_test f contact group)
+      (λ f. running clients (agreement clients contact group)) may.before may.stood
+      (λ two' full. not_errand_cut clients (agreement clients contact group) old.files may.stood.0
+      two' may.before may.room may.next may.stood.1 full) may.tested came did
 
   mailed_done : (asked : Sending) (came : Outcome) → HasSentMail clients asked old new out out' came
       → (to_send clients asked).serves old new input input' → Done came
   mailed_done asked came (inl did) may =
       unread_done (λ f. mailbox_test f asked.contact) came may.before did may.stood may.tested
   mailed_done asked came (inr did) may =
-      errand_done (λ f. mailbox_test f asked.contact) (out_errand clients asked did.now) may.before
-      may.stood (may.room did.now did.reads.clock) may.next did.reads.same_told came refl did.did
+      did_done (λ f. mailbox_test f asked.contact)
+      (λ f. running clients (out_errand clients asked did.now)) may.before may.stood
+      did.reads.same_told
+      (λ two' full. not_errand_cut clients (out_errand clients asked did.now) old.files may.stood.0
+      two' may.before (may.room did.now did.reads.clock) may.next may.stood.1 full) came did.did
 
   abbrev Decided : Outcome → Type 0
   Decided came =
@@ -396,60 +356,37 @@ module _ (clients : Meaning) (old new : Outside) (input input' out out' : Stream
             (much_decides (subst (InputStops (IsTooMuch input input') input input') much did.reads))
         | inr memory ↦ inr (ap status_of memory)
       ]
-  taken_done contact outcome.Done (inr did) may =
-      mail_decides did.bytes outcome.Done did.reads did.did.by
-  taken_done contact (outcome.Inside place) (inr did) may =
-      mail_decides did.bytes (outcome.Inside place) did.reads did.did.by
-  taken_done contact (outcome.Bad place why) (inr did) may =
-      mail_decides did.bytes (outcome.Bad place why) did.reads did.did.by
-  taken_done contact (outcome.NoVersion place) (inr did) may =
-      mail_decides did.bytes (outcome.NoVersion place) did.reads did.did.by
   taken_done contact outcome.Memory (inr did) may = inr refl
   taken_done contact outcome.WriteFault (inr did) may = absurd (fails.sink did.did.by)
   taken_done contact outcome.DiskFault (inr did) may = absurd (fails.disk did.did.by.0)
   taken_done contact outcome.Full (inr did) may =
-      ran_not_full (λ f. mailbox_test f contact) (in_errand clients contact did.bytes) may.before
-      may.stood (may.room did.bytes did.reads) may.next did.run.same_told did.did
-  taken_done contact _ (inr did) may = absurd did.did.by
+      absurd (did_not_full (λ f. mailbox_test f contact) (outcome_at (box_ending did.bytes))
+      (λ f. running clients (in_errand clients contact did.bytes)) may.before may.stood
+      did.run.same_told
+      (λ two' full. not_errand_cut clients (in_errand clients contact did.bytes) old.files
+      may.stood.0 two' may.before (may.room did.bytes did.reads) may.next may.stood.1 full) did.did)
+  taken_done contact came (inr did) may = mail_decides did.bytes came did.reads did.did.by
+
+  printed_done : (text : List ℕ) (came : Outcome) → PrintsText text out out' came → Done came
+  printed_done text outcome.Done printed = inl refl
+  printed_done text outcome.Memory printed = inr refl
+  printed_done text outcome.WriteFault printed = absurd (fails.sink printed.0)
+  printed_done text _ printed = absurd printed
 
   looked_done : (shown : Facts → Showing) (came : Outcome)
       → HasLooked clients shown old new out out' came → MayShow clients shown old.files → Done came
-  looked_done shown outcome.Done did may = inl refl
-  looked_done shown outcome.Memory did may = inr refl
-  looked_done shown outcome.WriteFault did may = absurd (fails.sink did.by)
-  looked_done shown outcome.DiskFault did may = absurd (fails.disk did.by.0)
-  looked_done shown outcome.NoStore did may =
-      let is : no_store ≡ journal may.of = sym (did.told may.stood.0 may.stood.1).ends
-      ∙ may.stood.2 in
-      cc
-  looked_done shown (outcome.Damaged place) did may =
-      let is : damaged place.file place.at ≡ journal may.of =
-      sym (did.told may.stood.0 may.stood.1).ends ∙ may.stood.2 in
-      cc
-  looked_done shown (outcome.Refused why) did may =
-      let r = (did.told may.stood.0 may.stood.1).ends in
-      let both : journal r.of ≡ journal may.of = sym r.stood ∙ may.stood.2 in
-      let same : r.of ≡ may.of = cc in
-      let is : denies why ≡ shows may.text =
-      sym r.is ∙ ap (λ (j : List (List Entry)). shown (facts j)) same ∙ may.is in
-      cc
-  looked_done shown _ did may = absurd did.by
+  looked_done shown came did may = elim did.did [
+    | inl early
+        ↦ unread_done (λ f. denial (shown f)) came may.of early may.stood (ap denial may.is)
+    | inr showed ↦ printed_done showed.text came showed.printed
+  ]
 
   audited_done : (came : Outcome) → HasAudited clients old new out out' came
       → MayAudit clients old.files → Done came
-  audited_done outcome.Done did may = inl refl
-  audited_done outcome.Memory did may = inr refl
-  audited_done outcome.WriteFault did may = absurd (fails.sink did.by)
-  audited_done outcome.DiskFault did may = absurd (fails.disk did.by.0)
-  audited_done outcome.NoStore did may =
-      let stood = sym (did.told may.stood.0 may.stood.1).ends ∙ may.stood.2 in
-      let is : no_store ≡ journal may.of = stood in
-      cc
-  audited_done (outcome.Damaged place) did may =
-      let stood = sym (did.told may.stood.0 may.stood.1).ends ∙ may.stood.2 in
-      let is : damaged place.file place.at ≡ journal may.of = stood in
-      cc
-  audited_done _ did may = absurd did.by
+  audited_done came did may = elim did.did [
+    | inl early ↦ unread_done (λ f. None) came may.of early may.stood refl
+    | inr reported ↦ printed_done (legal_text reported.report) came reported.printed
+  ]
 
   body_done : (group : Id) (timestamp : ℕ) (came : Outcome)
       → PostsBody clients group timestamp old new input input' out out' came

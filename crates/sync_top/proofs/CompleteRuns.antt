@@ -181,7 +181,7 @@ module _ (clients : Meaning) (limits : Limits) (words : List LinkWords) (old new
     result_comes (Ok lines) came is caused comes =
         let ran : RanToEnd clients limits words may.before old new lines =
         subst (λ (j : List (List Entry)). RanToEnd clients limits words j old new lines)
-        (same_begin comes.before comes.stood) comes.leads.1 in
+        (same_begin comes.before comes.stood) comes.has.1 in
         subst ComesOut (sym is) (inl (course_decides may.before lines caused ran may.stood))
     result_comes (Err (outcome.LinkFailed link)) came is caused comes =
         absurd (links link caused.1)
@@ -194,13 +194,13 @@ module _ (clients : Meaning) (limits : Limits) (words : List LinkWords) (old new
     result_comes (Err (outcome.Refused why)) came is caused comes =
         let fails : run_test (facts may.before) words ≡ Some why =
         subst (λ (j : List (List Entry)). run_test (facts j) words ≡ Some why)
-        (same_begin comes.before comes.stood) comes.leads.0 in
+        (same_begin comes.before comes.stood) comes.has.0 in
         let both : Some why ≡ None = sym fails ∙ may.tested in
         cc
     result_comes (Err outcome.Full) came is caused comes =
         let full : WasFull clients limits words may.before old new =
         subst (λ (j : List (List Entry)). WasFull clients limits words j old new)
-        (same_begin comes.before comes.stood) comes.leads.1 in
+        (same_begin comes.before comes.stood) comes.has.1 in
         absurd (not_full full)
     result_comes (Err _) came is caused comes = absurd caused
 

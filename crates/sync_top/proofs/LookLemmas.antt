@@ -9,7 +9,7 @@ use Rattle.sync_words.specs.declared.outcome.Outcome.{Outcome}
 use Rattle.commands.specs.Reading.{Asked}
 use Rattle.commands.specs.Reading.Asked.{Do, Usage}
 use Rattle.commands.specs.declared.command.Command.TheVariants as command
-use Rattle.store_commands.specs.Show.{HasLooked}
+use Rattle.store_commands.specs.Looking.{HasLooked}
 use Rattle.store_commands.specs.Shown.{Showing, body_shown, listing_shown}
 use Rattle.store_commands.specs.declared.listing.Listing.TheVariants as listing
 use Rattle.tree_commands.specs.Trees.{tree_shown}
@@ -25,15 +25,20 @@ module _ (clients : Meaning) (old new : Outside) (input input' out out' : Stream
   looked : (shown : Facts → Showing) → ComesOfStore
       (λ did. HasLooked clients shown old new out out' did × IsIdle input input') old new input
       input' out out' came → OnlyLooks old new
-  looked shown (inl did) =
-      record { run = did.0.run; moments = λ two told. (did.0.told two told).rests.moments }
+  looked shown (inl did) = record {
+    run = did.0.run;
+    moments = λ two told. elim did.0.did [
+      | inl early ↦ (early.told two told).rests.moments
+      | inr showed ↦ (showed.told two told).rests.moments
+    ];
+  }
   looked shown (inr none) =
       record { run = none.1.run; moments = λ two told. (none.1.rests two told).moments }
 
   audited : ComesOfStore (λ did. HasAudited clients old new out out' did × IsIdle input input')
       old new input input' out out' came → OnlyLooks old new
   audited (inl did) =
-      record { run = did.0.run; moments = λ two told. (did.0.told two told).rests.moments }
+      record { run = did.0.run; moments = λ two told. (did.0.rests two told).moments }
   audited (inr none) =
       record { run = none.1.run; moments = λ two told. (none.1.rests two told).moments }
 

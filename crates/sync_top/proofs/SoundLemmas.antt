@@ -26,7 +26,7 @@ use Rattle.commands.specs.declared.command.Command.TheVariants as command
 use Rattle.sync_words.specs.declared.link_words.LinkWords.{LinkWords}
 use Rattle.commands.specs.Reading.{Asked}
 use Rattle.commands.specs.Reading.Asked.{Usage, Do}
-use Rattle.store_commands.specs.Works.{StoodFor}
+use Rattle.store_commands.specs.Stopping.{StoodFor}
 use Rattle.sync_run.specs.Headline.{IsUntouched, StandsForRun, sent_by}
 use Rattle.sync_top.specs.Run.{Covered}
 use Rattle.sync_top.specs.Sound.{AlwaysOpens, OpensSound, RunsAreSound, TakesInOrder}
@@ -121,7 +121,7 @@ opens_then law clients words two old standing heard m (inl untouched) = inl unto
 opens_then law clients words two old standing heard m (inr on) = inr (record {
   before = on.before;
   stood = on.stood;
-  leads = law clients words on.before heard (sent_by m) m.files on.leads;
+  has = law clients words on.before heard (sent_by m) m.files on.has;
 })
 
 pub always_opens : RunsAreSound → (clients : Meaning) (words : Asked) (old new : Outside)

@@ -8,11 +8,12 @@ use Rattle.outside.specs.Outside.{Outside, Moment, MomentsAre, IsNow}
 use Rattle.outside.specs.Runs.{TellsAll}
 use Rattle.outside.proofs.CallSteps.{moments_map, moments_none}
 use Rattle.outside.specs.Streams.{Stream}
+use Rattle.sync_rules.specs.declared.entries.Entry.{Entry}
 use Rattle.sync_rules.specs.declared.states.Refused.{Refused}
 use Rattle.sync_rules.specs.declared.states.Refused.TheVariants as refused
 use Rattle.sync_rules.specs.Clients.{Meaning}
 use Rattle.sync_rules.specs.Facts.{Facts, Id}
-use Rattle.entry_codec.specs.Standing.{Standing, journal, no_store}
+use Rattle.entry_codec.specs.Standing.{journal, no_store}
 use Rattle.entry_codec.specs.ReadingFiles.{read_standing, stands_in}
 use Rattle.file_standing.specs.Standing.{stands}
 use Rattle.sync_store.specs.Begin.{InitMoment, has_open}
@@ -22,30 +23,23 @@ use Rattle.commands.specs.Reading.{Asked}
 use Rattle.commands.specs.Reading.Asked.{Usage, Do}
 use Rattle.commands.specs.declared.command.Command.{Command}
 use Rattle.commands.specs.declared.command.Command.TheVariants as command
-use Rattle.store_commands.specs.declared.commit.Settling.{Settling}
-use Rattle.store_commands.specs.Compact.{HasCompacted, compacting}
-use Rattle.store_commands.specs.Entries.{HasAdded, adding}
 use Rattle.store_commands.specs.Init.{HasBegun}
-use Rattle.store_commands.specs.Plans.{Plan}
 use Rattle.store_commands.specs.Post.{HasPosted, PostStops, PostsBody}
-use Rattle.store_commands.specs.Show.{HasLooked}
-use Rattle.store_commands.specs.Stopping.{StopsEarly, TestsHold}
+use Rattle.store_commands.specs.Looking.{HasLooked}
+use Rattle.store_commands.specs.Stopping.{StoodFor, StopsEarly}
 use Rattle.store_commands.specs.Shown.{Showing}
-use Rattle.store_commands.specs.Works.{HasWorked, Work}
+use Rattle.store_commands.specs.Works.{DoesWork, HasWorked, Work}
 use Rattle.audit_commands.specs.Audits.{HasAudited}
-use Rattle.sharing_commands.specs.Agreeing.{HasAgreed, agreement}
 use Rattle.mailbox_commands.specs.declared.sending.Sending.{Sending}
-use Rattle.store_commands.specs.Errands.{Errand, ErrandOn}
-use Rattle.store_commands.specs.Running.{FilesRun}
-use Rattle.mailbox_commands.specs.Sending.{HasSentMail, out_errand}
-use Rattle.mailbox_commands.specs.Taking.{HasTakenMail, in_errand}
+use Rattle.mailbox_commands.specs.Sending.{HasSentMail}
+use Rattle.mailbox_commands.specs.Taking.{HasTakenMail}
 use Rattle.sync_store.specs.Moments.{JournalMoment}
 use Rattle.sync_node.specs.Output.{heard_on}
 use Rattle.sync_top.specs.Duties.{duty_of, sending_of}
 use Rattle.sync_top.specs.Run.{AsksSync, WordsComeTo, ComesOfStore, Covered, KeepsHost}
 use Rattle.sync_top.specs.Undamaged.{NeverDamaged, StandsForSome, Undamaged}
 use Rattle.sync_run.specs.Headline.{Headline, IsUntouched, StandsForRun, sent_by}
-use Rattle.store_commands.specs.Works.{StoodFor}
+use Rattle.store_commands.specs.Stopping.{StoodFor}
 use Rattle.sync_words.specs.declared.link_words.LinkWords.{LinkWords}
 
 -- ---- a store that is begun
@@ -98,55 +92,27 @@ module _ (clients : Meaning) (old new : Outside) where
 
   of_looked : (shown : Facts → Showing) (out out' : Stream) (came : Outcome)
       → HasLooked clients shown old new out out' came → Undamaged clients old new
-  of_looked shown out out' came did = of_now (λ two files. (did.told two files).rests.moments)
+  of_looked shown out out' came did = of_now (λ two files. elim did.did [
+    | inl early ↦ (early.told two files).rests.moments
+    | inr showed ↦ (showed.told two files).rests.moments
+  ])
 
   of_audited : (out out' : Stream) (came : Outcome) → HasAudited clients old new out out' came
       → Undamaged clients old new
-  of_audited out out' came did = of_now (λ two files. (did.told two files).rests.moments)
+  of_audited out out' came did = of_now (λ two files. (did.rests two files).moments)
 
-  worked_moment : (work : Work) (late : Type 0) (standing : Standing) (sent : List (List ℕ))
-      (two : Two File)
-      → ((m : Moment) → work.moment standing sent m → StandsForSome clients m.files)
+  did_moment : (P : List (List Entry) → Type 0) (sent : List (List ℕ)) (two : Two File)
       → ((left : Two (List ℕ)) → IsImage two left → StandsForSome clients left)
-      → (m : Moment) → IsNow two old.links m ⊎ (late × work.moment standing sent m)
+      → (m : Moment) → IsNow two old.links m ⊎ JournalMoment clients P sent m
       → StandsForSome clients m.files
-  worked_moment work late standing sent two on each m (inl now) = each m.files now.image
-  worked_moment work late standing sent two on each m (inr w) = on m w.1
+  did_moment P sent two each m (inl now) = each m.files now.image
+  did_moment P sent two each m (inr on) = record { of = on.whole; stands_for = on.stands_for }
 
-  of_worked : (work : Work) (out out' : Stream) (came : Outcome)
-      → ((standing : Standing) (sent : List (List ℕ)) (m : Moment) → work.moment standing sent m
-      → StandsForSome clients m.files)
-      → HasWorked clients work old new out out' came → Undamaged clients old new
-  of_worked work out out' came on did two files each =
-      moments_map old new _ _ (worked_moment work _ _ _ two (on _ _) each)
-      (did.told two files).moments
-
-  of_added : (plan : Facts → Plan) (asked : Settling) (out out' : Stream) (came : Outcome)
-      → HasAdded clients plan asked old new out out' came → Undamaged clients old new
-  of_added plan asked out out' came =
-      of_worked (adding clients plan asked) out out' came (λ standing sent m on.
-      record { of = on.leads.whole; stands_for = on.leads.stands_for })
-
-  of_compacted : (out out' : Stream) (came : Outcome) → HasCompacted clients old new out out' came
-      → Undamaged clients old new
-  of_compacted out out' came =
-      of_worked (compacting clients) out out' came (λ standing sent m on.
-      record { of = on.leads.whole; stands_for = on.leads.stands_for })
-
-  ran_moment : (test : Facts → Option Refused) (errand : Errand) (standing : Standing)
-      (sent : List (List ℕ)) (two : Two File)
-      → ((left : Two (List ℕ)) → IsImage two left → StandsForSome clients left)
-      → (m : Moment) → IsNow two old.links m
-      ⊎ TestsHold test standing (λ j. JournalMoment clients (ErrandOn clients errand j) sent m)
-      → StandsForSome clients m.files
-  ran_moment test errand standing sent two each m (inl now) = each m.files now.image
-  ran_moment test errand standing sent two each m (inr on) =
-      record { of = on.leads.whole; stands_for = on.leads.stands_for }
-
-  of_ran : (test : Facts → Option Refused) (errand : Errand) (out out' : Stream) (came : Outcome)
-      → FilesRun clients test errand old new out out' came → Undamaged clients old new
-  of_ran test errand out out' came did two files each =
-      moments_map old new _ _ (ran_moment test errand _ _ two each) (did.told two files).moments
+  of_did : (test : Facts → Option Refused) (comes : Outcome) (work : Facts → Work)
+      (out out' : Stream) (came : Outcome)
+      → DoesWork clients test comes work old new out out' came → Undamaged clients old new
+  of_did test comes work out out' came did two files each =
+      moments_map old new _ _ (did_moment _ _ two each) (did.told two files).has.1.moments
 
   of_early : (test : Facts → Option Refused) (input_is : Outcome → Type 0) (out out' : Stream)
       (came : Outcome) → StopsEarly clients test input_is old new out out' came
@@ -154,24 +120,25 @@ module _ (clients : Meaning) (old new : Outside) where
   of_early test input_is out out' came did =
       of_now (λ two files. (did.told two files).rests.moments)
 
+  of_worked : (test : Facts → Option Refused) (work : Facts → Work) (out out' : Stream)
+      (came : Outcome) → HasWorked clients test work old new out out' came
+      → Undamaged clients old new
+  of_worked test work out out' came did = elim did.did [
+    | inl early ↦ of_early _ _ out out' came early
+    | inr worked ↦ of_did _ _ _ out out' came worked
+  ]
+
   of_taken : (contact : ℕ) (input input' out out' : Stream) (came : Outcome)
       → HasTakenMail clients contact old new input input' out out' came → Undamaged clients old new
   of_taken contact input input' out out' came (inl did) = of_early _ _ out out' came did
   of_taken contact input input' out out' came (inr did) =
-      of_ran _ (in_errand clients contact did.bytes) out out' came did.did
+      of_did _ _ _ out out' came did.did
 
   of_mailed : (asked : Sending) (out out' : Stream) (came : Outcome)
       → HasSentMail clients asked old new out out' came → Undamaged clients old new
   of_mailed asked out out' came (inl did) = of_early _ _ out out' came did
   of_mailed asked out out' came (inr did) =
-      of_ran _ (out_errand clients asked did.now) out out' came did.did
-
-  of_agreed : (contact : ℕ) (group : Id) (out out' : Stream) (came : Outcome)
-      → HasAgreed clients contact group old new out out' came → Undamaged clients old new
-  of_agreed contact group out out' came did = elim did.did [
-    | inl early ↦ of_early _ _ out out' came early
-    | inr ran ↦ of_ran _ (agreement clients contact group) out out' came ran
-  ]
+      of_did _ _ _ out out' came did.did
 
   module _ (group : Id) (timestamp : ℕ) (input input' out out' : Stream) where
     of_stopped : (came : Outcome) → PostStops clients group old new input input' out out' came
@@ -181,7 +148,7 @@ module _ (clients : Meaning) (old new : Outside) where
     of_body : (came : Outcome)
         → PostsBody clients group timestamp old new input input' out out' came
         → Undamaged clients old new
-    of_body came did = of_added _ _ out out' came did.added
+    of_body came did = of_worked _ _ out out' came did.added
 
     of_posted : (came : Outcome)
         → HasPosted clients group timestamp old new input input' out out' came
@@ -202,7 +169,7 @@ module _ (clients : Meaning) (old new : Outside) where
       → StandsForSome clients m.files
   left_moment words heard standing two each m (inl untouched) = each m.files untouched.now.image
   left_moment words heard standing two each m (inr on) =
-      record { of = on.leads.whole; stands_for = on.leads.stands_for }
+      record { of = on.has.whole; stands_for = on.has.stands_for }
 
   of_run : (words : List LinkWords) → Headline clients words old new → TellsAll new
       → Undamaged clients old new
@@ -223,11 +190,11 @@ module _ (clients : Meaning) (old new : Outside) where
       → (AsksSync (Do asked) → ⊥)
       → (duty_of clients asked).comes old new input input' out out' came → Undamaged clients old new
   of_duty command.Init input input' out out' came other did = of_begun out out' came did.0
-  of_duty command.Contact input input' out out' came other did = of_added _ _ out out' came did.0
+  of_duty command.Contact input input' out out' came other did = of_worked _ _ out out' came did.0
   of_duty (command.Group name major descriptor) input input' out out' came other did =
-      of_added _ _ out out' came did.0
+      of_worked _ _ out out' came did.0
   of_duty (command.Share contact group level) input input' out out' came other did =
-      of_added _ _ out out' came did.0
+      of_worked _ _ out out' came did.0
   of_duty (command.Post group timestamp) input input' out out' came other did =
       of_posted group timestamp input input' out out' came did
   of_duty command.Show input input' out out' came other did = of_looked _ out out' came did.0
@@ -237,10 +204,10 @@ module _ (clients : Meaning) (old new : Outside) where
       of_looked _ out out' came did.0
   of_duty command.Audit input input' out out' came other did = of_audited out out' came did.0
   of_duty (command.Say group timestamp join name major descriptor) input input' out out' came other
-      did = of_added _ _ out out' came did.0
+      did = of_worked _ _ out out' came did.0
   of_duty (command.Agree contact group) input input' out out' came other did =
-      of_agreed contact group out out' came did.0
-  of_duty command.Compact input input' out out' came other did = of_compacted out out' came did.0
+      of_worked _ _ out out' came did.0
+  of_duty command.Compact input input' out out' came other did = of_worked _ _ out out' came did.0
   of_duty (command.MailboxIn contact) input input' out out' came other did =
       of_taken contact input input' out out' came did
   of_duty (command.MailboxOut contact latency count) input input' out out' came other did =

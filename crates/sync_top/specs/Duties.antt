@@ -20,7 +20,7 @@ use Rattle.store_commands.specs.Entries.{HasAdded}
 use Rattle.store_commands.specs.Init.{HasBegun}
 use Rattle.store_commands.specs.Plans.{Plan, contact_plan, group_plan, level_plan}
 use Rattle.store_commands.specs.Post.{HasPosted}
-use Rattle.store_commands.specs.Show.{HasLooked}
+use Rattle.store_commands.specs.Looking.{HasLooked}
 use Rattle.store_commands.specs.Shown.{Showing, body_shown, listing_shown}
 use Rattle.tree_commands.specs.Trees.{tree_shown}
 use Rattle.audit_commands.specs.Audits.{HasAudited}

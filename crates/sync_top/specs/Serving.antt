@@ -7,28 +7,18 @@ use Rattle.outside.specs.Outside.{Outside}
 use Rattle.outside.specs.Streams.{Stream}
 use Rattle.sync_rules.specs.declared.entries.Entry.{Entry}
 use Rattle.sync_rules.specs.Clients.{Meaning}
-use Rattle.sync_rules.specs.Facts.{Facts, Id, after_batches, facts, group_at}
-use Rattle.sync_rules.specs.Legal.{AllSettling}
-use Rattle.sync_rules.specs.Steps.{IsSettled}
+use Rattle.sync_rules.specs.Facts.{Facts, Id, facts, group_at}
 use Rattle.sync_course.specs.Events.{Commit, batches_of}
 use Rattle.sync_course.specs.Turns.{Place, RunStep}
 use Rattle.sync_node.specs.Courses.{ReadsAs}
 use Rattle.sync_words.specs.declared.link_words.LinkWords.{LinkWords}
-use Rattle.store_commands.specs.Commit.{MayMigrate, needed_by}
+use Rattle.store_commands.specs.Commit.{HoweverSettled, MayMigrate, needed_by}
 use Rattle.store_commands.specs.Compact.{MayRenew, brief_len}
 use Rattle.store_commands.specs.Plans.{Plan, adds, post_plan}
 use Rattle.store_commands.specs.Post.{IsBody, message_of}
 use Rattle.store_commands.specs.Shown.{Showing, shows}
 use Rattle.sync_run.specs.declared.run.Limits.{Limits}
 use Rattle.sync_run.specs.Courses.{RanSoFar, run_test, terms_of}
-
--- behind a journal, however it is settled, this is so of the whole and of its facts
-abbrev pub HoweverSettled : Meaning → List (List Entry) → (List (List Entry) → Facts → Type 0)
-    → Type 0
-HoweverSettled clients j P =
-    (first : List (List Entry)) → AllSettling clients (facts j) first
-    → IsSettled clients (after_batches (facts j) first)
-    → P (j ++ first) (after_batches (facts j) first)
 
 -- The files stand for a journal over which these tests hold, and which has this room; where they
 -- are in format 1, a generation is left.
@@ -47,7 +37,7 @@ pub record MayAddPlanned (clients : Meaning) (plan : Facts → Plan)
   pub entry : Entry
   pub stood : ReadsAs clients files before
   pub planned : plan (facts before) ≡ adds entry
-  pub room : HoweverSettled clients before (λ j f. needed_by j (entry ∷ []) ≤ MAX_JOURNAL)
+  pub room : HoweverSettled clients before (λ j. needed_by j (entry ∷ []) ≤ MAX_JOURNAL)
   pub next : MayMigrate files
 
 -- the files stand for a journal that knows the group, and the message of the body that is read may
@@ -65,7 +55,7 @@ pub record MayPost (clients : Meaning) (group : Id) (timestamp : ℕ) (files : O
 pub record MayCompact (clients : Meaning) (files : Option (Two File)) : Type 0 where
   pub before : List (List Entry)
   pub stood : ReadsAs clients files before
-  pub room : HoweverSettled clients before (λ j f. brief_len j ≤ MAX_JOURNAL)
+  pub room : HoweverSettled clients before (λ j. brief_len j ≤ MAX_JOURNAL)
   pub next : MayRenew files
 
 -- the files stand for a journal of which the command has a text to show

@@ -17,7 +17,7 @@ use Rattle.sync_course.specs.Suits.{TakesHeard}
 use Rattle.sync_node.specs.Output.{AreOutput, Journal}
 use Rattle.sync_words.specs.declared.link_words.LinkWords.{LinkWords}
 use Rattle.commands.specs.Reading.{Asked}
-use Rattle.store_commands.specs.Works.{StoodFor}
+use Rattle.store_commands.specs.Stopping.{StoodFor}
 use Rattle.sync_run.specs.Headline.{AlwaysLeaves, StandsForRun}
 use Rattle.sync_top.specs.Run.{AsksSync}
 

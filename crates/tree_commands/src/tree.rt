@@ -4,7 +4,8 @@ ghost use Rattle.std.specs.String.{string_bytes};
 ghost use Rattle.sync_rules.specs.Clients.{Meaning};
 ghost use Rattle.sync_words.specs.Outcomes.{came_to};
 ghost use Rattle.journal_state.specs.Whole.{KnowsJudgements};
-ghost use Rattle.store_commands.specs.Show.{HasLooked, PrintsShowing, PrintsText};
+ghost use Rattle.store_commands.specs.Looking.{HasLooked};
+ghost use Rattle.store_commands.specs.Show.{PrintsShowing, PrintsText};
 ghost use Rattle.tree_commands.specs.Trees.{delivered_in, parents_of, tree_shown, walk_text};
 
 use crate::gather::gather;
