@@ -1,6 +1,6 @@
 -- A course and an opening, one line after the other.
 use Rattle.std.proofs.Common.{◌≡◌, ℕ, ◌+◌, ◌<◌, ◌≤◌, cond, List, [], ◌∷◌, length}
-use Rattle.std.proofs.Common.{refl, ◌∙◌, ap, arith, eq-eqb, ne_eqb}
+use Rattle.std.proofs.Common.{◌∙◌, ap, arith, eq-eqb, ne_eqb}
 use Rattle.world_scripts.specs.Cuts.{lines}
 use Rattle.world_scripts.specs.Forms.{line_in}
 use Rattle.world_scripts.specs.Courses.{after_line, course}

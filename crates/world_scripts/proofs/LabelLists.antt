@@ -2,12 +2,13 @@
 use Rattle.std.proofs.Common.{◌≡◌, ℕ, suc, ◌-◌, ◌^◌, ◌≤◌, ◌==◌, nat_lt, Bool, true, false}
 use Rattle.std.proofs.Common.{cond, List, [], ◌∷◌, ◌++◌, length, refl, sym, ◌∙◌, ap}
 use Rattle.std.proofs.Common.{take_all, append_assoc, append-nil, Option, Some, None}
+use Rattle.std.specs.Prelude.{option_and_then, option_map}
 use Rattle.std.specs.List.{slice_split, position_or_len, before_first, after_first}
 use Rattle.std.proofs.lemmas.Bool.{ltb-true, ltb-false}
 use Rattle.std.proofs.lemmas.List.Splits.{slice_split_first}
 use Rattle.sync_words.specs.Words.{number_in}
 use Rattle.world_scripts.specs.Cuts.{front_of, behind}
-use Rattle.world_scripts.specs.Forms.{each_label, cons_in}
+use Rattle.world_scripts.specs.Forms.{each_label}
 use Rattle.world_scripts.proofs.CutLemmas.{single}
 
 -- the parts of what is left
@@ -20,8 +21,12 @@ abbrev pub onto : List ℕ → Option (List ℕ) → Option (List ℕ)
 onto front None = None
 onto front (Some labels) = Some (front ++ labels)
 
+-- a label, if there is one, in front of others
+abbrev onto_label : Option ℕ → Option (List ℕ) → Option (List ℕ)
+onto_label one all = option_and_then (λ label. option_map (λ labels. label ∷ labels) all) one
+
 onto_cons : (front : List ℕ) (label : ℕ) (labels : Option (List ℕ))
-    → onto front (cons_in (Some label) labels) ≡ onto (front ++ label ∷ []) labels
+    → onto front (onto_label (Some label) labels) ≡ onto (front ++ label ∷ []) labels
 onto_cons front label None = refl
 onto_cons front label (Some labels) = ap (λ l. Some l)
     (sym (append_assoc front (label ∷ []) labels))
@@ -55,7 +60,7 @@ one_more all front text part left label is front_is left_is reads =
     let parts : parts_of (Some text) ≡ part ∷ parts_of left =
     part_first text ∙ (λ i. sym front_is i ∷ parts_of (sym left_is i)) in
     is ∙ ap (λ l. onto front (each_label l)) parts
-    ∙ ap (λ n. onto front (cons_in n (each_label (parts_of left)))) reads
+    ∙ ap (λ n. onto front (onto_label n (each_label (parts_of left)))) reads
     ∙ onto_cons front label (each_label (parts_of left))
 
 -- a part is no label
@@ -67,7 +72,7 @@ no_label all front text part is front_is reads =
     let parts : parts_of (Some text) ≡ part ∷ parts_of (behind 44 text) =
     part_first text ∙ ap (λ p. p ∷ parts_of (behind 44 text)) (sym front_is) in
     is ∙ ap (λ l. onto front (each_label l)) parts
-    ∙ ap (λ n. onto front (cons_in n (each_label (parts_of (behind 44 text))))) reads
+    ∙ ap (λ n. onto front (onto_label n (each_label (parts_of (behind 44 text))))) reads
 
 -- no part is left
 pub no_more : (all : Option (List ℕ)) (front : List ℕ) (left : Option (List ℕ))

@@ -1,6 +1,6 @@
 -- The forms of a line. A line is words with one space between two, and each form is read from left
 -- to right.
-use Rattle.std.specs.Prelude.{ℕ, ◌-◌, ◌==◌, ◌^◌, Bool, nat_le, if◌then◌else◌, List, [], ◌∷◌}
+use Rattle.std.specs.Prelude.{ℕ, ◌-◌, ◌==◌, ◌^◌, nat_le, if◌then◌else◌, List, [], ◌∷◌}
 use Rattle.std.specs.Prelude.{codes, Option, Some, None, option_map, option_and_then}
 use Rattle.std.specs.List.{slice_split}
 use Rattle.std.specs.Str.{is_utf8, bytes_eq}
@@ -107,15 +107,12 @@ pick_in =
     ((codes "old", pick.Old) ∷ (codes "new", pick.New) ∷ (codes "zero", pick.Zero)
     ∷ (codes "ones", pick.Ones) ∷ [])
 
-abbrev pub cons_in : Option ℕ → Option (List ℕ) → Option (List ℕ)
-cons_in None labels = None
-cons_in (Some label) None = None
-cons_in (Some label) (Some labels) = Some (label ∷ labels)
-
 -- each part is a label
 unfoldable pub each_label : List (List ℕ) → Option (List ℕ)
 each_label [] = Some []
-each_label (part ∷ parts) = cons_in (number_in (2 ^ 64 - 1) part) (each_label parts)
+each_label (part ∷ parts) =
+    option_and_then (λ label. option_map (λ labels. label ∷ labels) (each_label parts))
+    (number_in (2 ^ 64 - 1) part)
 
 -- no labels, written as a hyphen, or labels with one comma between two
 unfoldable pub labels_in : List ℕ → Option (List ℕ)
