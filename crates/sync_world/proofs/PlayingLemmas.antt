@@ -1,15 +1,15 @@
 -- A course that is played action by action.
-use Rattle.std.proofs.Common.{◌≡◌, ℕ, List, [], ◌∷◌, ◌++◌, append_assoc, append-nil, refl, sym, ap}
-use Rattle.std.proofs.Common.{subst, ◌∙◌, inl, inr, Option, Some, None, Result, Ok, Err}
+use Rattle.std.proofs.Common.{◌≡◌, ℕ, List, [], ◌∷◌, refl, sym, ap, subst, ◌∙◌, inl, inr, Option}
+use Rattle.std.proofs.Common.{Some, None, Result, Ok, Err}
 use Rattle.std.specs.Result.{IsErrAnd}
 use Rattle.sync_words.specs.declared.outcome.Outcome.{Outcome}
 use Rattle.sync_words.specs.declared.outcome.Outcome.TheVariants as outcome
-use Rattle.sync_world.specs.Playing.{IsFirst, AnswersAction, MakesActions, Done, StopsAtLine}
-use Rattle.sync_world.specs.Playing.{CourseComesTo, ActsAt, came_at, came_unread, course_of}
+use Rattle.sync_world.specs.Playing.{IsFirst, AnswersAction, PlaysOn, CourseComesTo, ActsAt}
+use Rattle.sync_world.specs.Playing.{ScriptComes, came_at, came_unread, course_of}
 use Rattle.sync_world.specs.declared.player.Player.{Player}
 use Rattle.world_devices.specs.declared.stop.StepFault.{StepFault}
 use Rattle.world_devices.specs.declared.stop.StepFault.TheVariants as fault
-use Rattle.world_scripts.specs.Courses.{ScriptCourse}
+use Rattle.world_scripts.specs.Courses.{ScriptCourse, Opening, Bad, Opens}
 use Rattle.world_scripts.specs.Generator.{IsNextStep}
 use Rattle.world_scripts.specs.Scripts.{ReadsNextAction, bad_at, over}
 use Rattle.world_scripts.specs.declared.fault.ScriptFault.{ScriptFault}
@@ -18,112 +18,106 @@ use Rattle.world_scripts.specs.declared.step.Action.{Action}
 use Rattle.world_scripts.specs.declared.step.Action.TheVariants as action
 use Rattle.world_scripts.specs.declared.step.WorldStep.{WorldStep}
 
--- some actions of a course were made, and these are left
+-- what is left of a course comes to this, from a player on
+abbrev PlaysLeft : ScriptCourse → Player → Result Player Outcome → Type 0
+PlaysLeft left now result = PlaysOn left.actions left.bad now result
+
+-- what is left of a course comes to what the whole comes to
 pub record Playing (devices : ℕ) (course left : ScriptCourse) (now : Player) : Type 0 where
-  pub before : List (ℕ × Action)
-  pub are : course.actions ≡ before ++ left.actions
-  pub bad : left.bad ≡ course.bad
-  pub done : Done devices before now
+  pub goes : (result : Result Player Outcome) → PlaysLeft left now result
+      → CourseComesTo devices course result
   pub same : now.devices ≡ devices
 
 -- an action with its line stands before a course
 abbrev pub behind : ℕ → Action → ScriptCourse → ScriptCourse
 behind line it left = record { actions = (line, it) ∷ left.actions; bad = left.bad }
 
-does_one_more : (from to next : Player) (made : List (ℕ × Action)) (x : ℕ × Action)
-    → MakesActions from made to → AnswersAction x.1 to next (Ok tt)
-    → MakesActions from (made ++ x ∷ []) next
-does_one_more from to next [] x done acts =
-    (next, subst (λ (p : Player). AnswersAction x.1 p next (Ok tt)) done acts, refl)
-does_one_more from to next (y ∷ made) x done acts =
-    (done.0, done.1, does_one_more done.0 to next made x done.2 acts)
-
 same_devices : (it : Action) (p q : Player) → AnswersAction it p q (Ok tt) → q.devices ≡ p.devices
 same_devices (action.Step made) p q acts = ap (λ (r : Player). r.devices) acts.1
 same_devices (action.Show device) p q acts = ap (λ (r : Player). r.devices) acts.1
 
+from_first : (devices : ℕ) (course : ScriptCourse) (first : Player) → IsFirst devices first
+    → (result : Result Player Outcome) → PlaysLeft course first result
+    → CourseComesTo devices course result
+from_first devices course first begins (Ok to) plays = (first, begins, plays)
+from_first devices course first begins (Err outcome.Memory) plays = tt
+from_first devices course first begins (Err _) plays = (first, begins, plays)
+
 pub began : (devices : ℕ) (course : ScriptCourse) (first : Player) → IsFirst devices first
     → Playing devices course course first
 began devices course first begins =
-    record {
-      before = [];
-      are = refl;
-      bad = refl;
-      done = record { first = first; begins = begins; does = refl };
-      same = begins.counted;
-    }
+    record { goes = from_first devices course first begins; same = begins.counted }
 
 module _ (devices : ℕ) (course left : ScriptCourse) (now : Player)
     (plays : Playing devices course left now) where
+  goes_as : (read : ScriptCourse) (result : Result Player Outcome) → left ≡ read
+      → PlaysLeft read now result → CourseComesTo devices course result
+  goes_as read result is on =
+      plays.goes result (subst (λ (c : ScriptCourse). PlaysLeft c now result) (sym is) on)
+
   pub went_on : (line : ℕ) (it : Action) (left' : ScriptCourse) (next : Player)
       → left ≡ behind line it left' → AnswersAction it now next (Ok tt)
       → Playing devices course left' next
   went_on line it left' next is acts = record {
-    before = plays.before ++ (line, it) ∷ [];
-    are = plays.are ∙ ap (λ (c : ScriptCourse). plays.before ++ c.actions) is
-        ∙ sym (append_assoc plays.before ((line, it) ∷ []) left'.actions);
-    bad = sym (ap (λ (c : ScriptCourse). c.bad) is) ∙ plays.bad;
-    done = record {
-      first = plays.done.first;
-      begins = plays.done.begins;
-      does = does_one_more plays.done.first now next plays.before (line, it) plays.done.does acts;
-    };
+    goes = λ result on. goes_as (behind line it left') result is (next, inl (acts, on));
     same = same_devices it now next acts ∙ plays.same;
   }
 
-  all_done : (bad : Option ℕ) → left ≡ record { actions = []; bad = bad }
-      → (course.bad ≡ bad) × Done devices course.actions now
-  all_done bad is =
-      let all : course.actions ≡ plays.before =
-      plays.are ∙ ap (λ (c : ScriptCourse). plays.before ++ c.actions) is
-      ∙ append-nil plays.before in (
-        sym plays.bad ∙ ap (λ (c : ScriptCourse). c.bad) is,
-        subst (λ (made : List (ℕ × Action)). Done devices made now) (sym all) plays.done,
-      )
-
   pub came_over : left ≡ over → CourseComesTo devices course (Ok now)
-  came_over is = all_done None is
+  came_over is = goes_as over (Ok now) is refl
 
   pub came_bad : (line : ℕ) → left ≡ bad_at line → CourseComesTo devices course
       (Err (outcome.BadScript line))
-  came_bad line is =
-      let all = all_done (Some line) is in inr (all.0, (now, all.1))
-
-  stops_at : (line : ℕ) (it : Action) (left' : ScriptCourse) (next : Player) (why : StepFault)
-      → left ≡ behind line it left' → AnswersAction it now next (Err why)
-      → StopsAtLine devices course.actions line why
-  stops_at line it left' next why is acts = record {
-    before = plays.before;
-    it = it;
-    later = left'.actions;
-    are = plays.are ∙ ap (λ (c : ScriptCourse). plays.before ++ c.actions) is;
-    between = now;
-    after = next;
-    done = plays.done;
-    stops = acts;
-  }
+  came_bad line is = goes_as (bad_at line) (Err (outcome.BadScript line)) is refl
 
   pub stopped : (line : ℕ) (it : Action) (left' : ScriptCourse) (next : Player) (came : Outcome)
       → left ≡ behind line it left' → ActsAt line it now next (Err came)
       → CourseComesTo devices course (Err came)
-  stopped line it left' next (outcome.BadScript at) is acts =
-      inl (stops_at at it left' next fault.Refused
-      (subst (λ (n : ℕ). left ≡ behind n it left') (sym acts.0) is) acts.1)
-  stopped line it left' next outcome.Full is acts =
-      (line, stops_at line it left' next fault.Full is acts)
-  stopped line it left' next outcome.Memory is acts = tt
-  stopped line it left' next _ is acts = absurd acts
+  stopped line it left' next came is acts =
+      goes_as (behind line it left') (Err came) is
+      (next, inr (acts.0, acts.1, ap (λ (o : Outcome). Err o) acts.2))
 
--- an action that answered a fault
-pub acts_at : (line : ℕ) (it : Action) (old new : Player) (why : StepFault) (came : Outcome)
-    → came ≡ came_at line why → AnswersAction it old new (Err why)
-    → ActsAt line it old new (Err came)
-acts_at line it old new fault.Refused came is acts =
-    subst (λ (o : Outcome). ActsAt line it old new (Err o)) (sym is) (refl, acts)
-acts_at line it old new fault.Full came is acts =
-    subst (λ (o : Outcome). ActsAt line it old new (Err o)) (sym is) acts
-acts_at line it old new fault.Memory came is acts =
-    subst (λ (o : Outcome). ActsAt line it old new (Err o)) (sym is) tt
+-- ---- what is no fault of a course
+
+-- what a course comes to that is not done
+abbrev pub IsOfCourse : Outcome → Type 0
+IsOfCourse (outcome.BadScript line) = Unit {0}
+IsOfCourse outcome.Full = Unit {0}
+IsOfCourse outcome.Memory = Unit {0}
+IsOfCourse _ = ⊥
+
+of_line : (line : ℕ) (why : StepFault) → IsOfCourse (came_at line why)
+of_line line fault.Refused = tt
+of_line line fault.Full = tt
+of_line line fault.Memory = tt
+
+of_same : (came to : Outcome) → ◌≡◌ {A = Result Player Outcome} (Err came) (Err to)
+    → IsOfCourse to → IsOfCourse came
+of_same came to is of = let same : came ≡ to = cc in subst IsOfCourse (sym same) of
+
+on_fault : (actions : List (ℕ × Action)) (bad : Option ℕ) (now : Player) (came : Outcome)
+    → PlaysOn actions bad now (Err came) → IsOfCourse came
+on_fault [] None now came is = absurd (cc is)
+on_fault [] (Some line) now came is = of_same came (outcome.BadScript line) is tt
+on_fault (x ∷ more) bad now came plays =
+    elim plays.1 [
+      | inl (acts, on) ↦ on_fault more bad plays.0 came on
+      | inr (why, acts, is) ↦ of_same came (came_at x.0 why) is (of_line x.0 why)
+    ]
+
+course_fault : (devices : ℕ) (course : ScriptCourse) (came : Outcome)
+    → CourseComesTo devices course (Err came) → IsOfCourse came
+course_fault devices course outcome.Memory comes = tt
+course_fault devices course _ comes = on_fault course.actions course.bad comes.0 _ comes.2
+
+pub script_fault : (what : Opening) (came : Outcome) → ScriptComes what (Err came)
+    → IsOfCourse came
+script_fault (Opens devices course) came comes = course_fault devices course came comes
+script_fault (Bad line) (outcome.BadScript at) comes = tt
+script_fault (Bad line) outcome.Memory comes = tt
+script_fault (Bad line) _ comes = absurd comes
+
+-- ---- lines that are read
 
 -- what is left behind the action of a line that was read
 pub goes_some : (old new : ScriptCourse) (read : Option (ℕ × Action)) (line : ℕ) (it : Action)

@@ -53,14 +53,9 @@ PlaysOut what out out' came = ScriptComes what (Err came) × IsIdle out out'
 
 -- ---- a script
 
--- the whole input was read, which is the script, and it was played
-pub record PlaysScript (input input' out out' : Stream) (came : Outcome) : Type 0 where
-  pub script : List ℕ
-  pub read : ReadsAll MAX_SCRIPT input.bytes input'.bytes script
-  pub plays : PlaysOut (said script) out out' came
-
 -- What the reading of a script comes to, and then its playing: more bytes were read than a script
--- may have, or a read failed, behind no more bytes than that.
+-- may have, or a read failed, behind no more bytes than that; or the whole input was read, which is
+-- the script, and it was played.
 abbrev pub OfScript : (input input' out out' : Stream) → Outcome → Type 0
 OfScript input input' out out' outcome.TooMuch =
     ((front : List ℕ) × ReadsTooMuch MAX_SCRIPT input.bytes input'.bytes front) × IsIdle out out'
@@ -68,7 +63,9 @@ OfScript input input' out out' outcome.ReadFault =
     ((front : List ℕ) × ReadsPart MAX_SCRIPT input.bytes input'.bytes front)
     × CountRose input.faults input'.faults × IsIdle out out'
 OfScript input input' out out' outcome.Memory = IsIdle out out'
-OfScript input input' out out' came = PlaysScript input input' out out' came
+OfScript input input' out out' came =
+    (script : List ℕ) × ReadsAll MAX_SCRIPT input.bytes input'.bytes script
+    × PlaysOut (said script) out out' came
 
 -- ---- all words
 

@@ -3,7 +3,7 @@ ghost use Rattle.std.specs.Prelude.{◌≡◌, ◌+◌, ◌<◌, ◌^◌, ◌≤
 ghost use Rattle.std.specs.Prelude.{slice_get};
 ghost use Rattle.std.specs.String.{string_bytes};
 ghost use Rattle.sync_words.specs.Outcomes.{came_to};
-ghost use Rattle.sync_world.specs.Playing.{AnswersAction, IsFirst, MarksDevice, StepsWorld};
+ghost use Rattle.sync_world.specs.Playing.{AnswersAction, IsFirst};
 ghost use Rattle.sync_world.specs.Replay.{PrintsWorld};
 ghost use Rattle.sync_world.specs.Showing.{AddsDevice, CountsOne, HasCounted, device_line};
 ghost use Rattle.sync_world.specs.Showing.{device_lines, facts_of, is_marked, player_lines};
@@ -69,7 +69,7 @@ impl Player {
 
     // Makes a step.
     fn step(&mut self, step: &WorldStep) -> Result<(), StepFault>
-        ensures { StepsWorld step.now self.old self.new result }
+        ensures { AnswersAction (Action.Step step.now) self.old self.new result }
     {
         self.world.step(step)
     }
@@ -77,7 +77,7 @@ impl Player {
     // Marks a device.
     fn show(&mut self, device: u8) -> Result<(), StepFault>
         requires { self.old.devices ≤ MAX_DEVICES }
-        ensures { MarksDevice device self.old self.new result }
+        ensures { AnswersAction (Action.Show device) self.old self.new result }
     {
         if device >= self.devices {
             return Err(StepFault::Refused);

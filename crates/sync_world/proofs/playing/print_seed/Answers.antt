@@ -1,4 +1,4 @@
-use Rattle.sync_world.proofs.PrintLemmas.{played}
+use Rattle.sync_world.proofs.PrintLemmas.{left_out, played}
 use Rattle.sync_world.specs.Playing.{made_by}
 use Rattle.sync_words.specs.Outcomes.{came_to}
 use Rattle.sync_world.proofs.playing.print_seed.Goals as goal
@@ -7,3 +7,8 @@ pub returns : goal.returns
 returns g c =
     played (made_by c.args.seed c.args.count) c.in_ok-player.player (came_to c.print.result) _ _
     c.in_ok-player.ensures c.print.ensures
+
+pub returns-in_err-player : goal.returns-in_err-player
+returns-in_err-player g c =
+    left_out (made_by c.args.seed c.args.count) c.from_residual.result c.in_err-player.field-0.0
+    _ c.from_residual.ensures.1 c.in_err-player.ensures
