@@ -2,13 +2,14 @@
 use Rattle.std.specs.Result.{IsErrAnd}
 use Rattle.std.proofs.Common.{◌≡◌, ◌≢◌, ℕ, zero, suc, ◌+◌, ◌-◌, ◌<◌, ◌≤◌, Bool, true, false, ◌||◌}
 use Rattle.std.proofs.Common.{List, [], ◌∷◌, length, refl, sym, ap, ◌∙◌, subst, arith, Option, Some}
-use Rattle.std.proofs.Common.{None, Result, Ok, Err}
-use Rattle.std.specs.Prelude.{slice_get, slice_index_or, slice_set}
+use Rattle.std.proofs.Common.{None, Result, Ok, Err, is_err}
+use Rattle.std.specs.Prelude.{slice_get, slice_index_or}
 use Rattle.world_devices.specs.declared.stop.Ran.{Ran}
 use Rattle.world_devices.specs.declared.stop.StepFault.{StepFault}
 use Rattle.world_devices.specs.declared.stop.StepFault.TheVariants as fault
 use Rattle.std.specs.Prelude.{IsErrOf, ◌==◌, not, is_none, is_some, nat_le, nat_lt, if◌then◌else◌}
 use Rattle.std.proofs.lemmas.Bool.{lt-ltb, lt-leb, ltb-false, ltb-true, ne_eqb}
+use Rattle.std.proofs.lemmas.Option.{slice_get_past}
 use Rattle.outside.specs.declared.limits.TheConstants.{LINKS}
 use Rattle.sync_ids.specs.Values.{GroupValue}
 use Rattle.sync_ids.specs.Ids.{group_id_of}
@@ -16,37 +17,14 @@ use Rattle.sync_rules.specs.Facts.{Id, Known, group_at}
 use Rattle.sync_rules.specs.declared.states.Refused.TheVariants as refused
 use Rattle.sync_node.specs.Node.{NodeValue}
 use Rattle.world_devices.specs.Devices.{DeviceValue}
-use Rattle.world_devices.specs.Refusals.{RefusedBy, by_facts, facts_of, is_err, refuses_level}
+use Rattle.world_devices.specs.Refusals.{RefusedBy, by_facts, refuses_level}
 use Rattle.world_devices.specs.Refusals.{refuses_link}
 use Rattle.world_scripts.specs.Labels.{KindAndDescriptor}
 use Rattle.world_laws.specs.Worlds.{contact_for}
 use Rattle.sync_world.specs.Naming.{IsMade, group_of}
 use Rattle.sync_world.specs.Refusing.{KnowContacts, group_labelled, has_room, lacks}
 use Rattle.sync_world.specs.Refusing.{refuses_to_attach, refuses_with}
-
--- ---- lists
-
-pub get_at : {A : Type 0} (xs : List A) (i : ℕ) (x : A) → i < length xs → x ≡ slice_index_or xs i x
-    → slice_get xs i ≡ Some x
-get_at [] i x within is = absurd (omega arith)
-get_at (y ∷ xs) zero x within is = ap (λ z. Some z) (sym is)
-get_at (y ∷ xs) (suc i) x within is = get_at xs i x (omega arith) is
-
-pub get_past : {A : Type 0} (xs : List A) (i : ℕ) → length xs ≤ i → slice_get xs i ≡ None
-get_past [] i past = refl
-get_past (y ∷ xs) zero past = absurd (omega arith)
-get_past (y ∷ xs) (suc i) past = get_past xs i (omega arith)
-
-pub set_same : {A : Type 0} (xs : List A) (i : ℕ) (x y : A) → slice_get xs i ≡ Some x → y ≡ x
-    → slice_set xs i y ≡ xs
-set_same [] i x y is same = refl
-set_same (z ∷ xs) zero x y is same = let at : z ≡ x = cc in ap (λ w. w ∷ xs) (same ∙ sym at)
-set_same (z ∷ xs) (suc i) x y is same = ap (λ ys. z ∷ ys) (set_same xs i x y is same)
-
-pub set_length : {A : Type 0} (xs : List A) (i : ℕ) (y : A) → length (slice_set xs i y) ≡ length xs
-set_length [] i y = refl
-set_length (z ∷ xs) zero y = refl
-set_length (z ∷ xs) (suc i) y = ap suc (set_length xs i y)
+use Rattle.sync_world.proofs.WireLaws.{get_at}
 
 -- ---- answers
 
@@ -88,7 +66,7 @@ pub found : (ds : List DeviceValue) (i : ℕ) (d : DeviceValue) → i < length d
 found ds i d within is = ap (λ (o : Option DeviceValue). is_none o) (get_at ds i d within is)
 
 pub missing : (ds : List DeviceValue) (i : ℕ) → length ds ≤ i → is_none (slice_get ds i) ≡ true
-missing ds i past = ap (λ (o : Option DeviceValue). is_none o) (get_past ds i past)
+missing ds i past = ap (λ (o : Option DeviceValue). is_none o) (slice_get_past ds i past)
 
 -- ---- contacts
 
@@ -116,7 +94,7 @@ level_lacks d def contact known =
     elim d.node as (λ (o : Option NodeValue).
     ((n : NodeValue) → o ≡ Some n → contact < n.store.state.facts.contacts)
     → refuses_level o contact (group_id_of def)
-    ≡ by_facts (λ f. is_none (group_at f.groups (group_id_of def))) (facts_of o)) [
+    ≡ by_facts (λ f. is_none (group_at f.groups (group_id_of def))) o) [
       | None ↦ λ _. refl
       | Some n ↦ λ k. level_by (nat_lt contact n.store.state.facts.contacts)
           (group_at n.store.state.facts.groups (group_id_of def))

@@ -40,9 +40,9 @@ pub told_of : (js : List Journal) (devices : List DeviceValue) → AreRead js de
 told_of js devices read all = λ d device n there runs.
     let stand = all d device there in
     let has = stand.holds n runs in
-    let same : has.journal ≡ journal_in js d =
-    read_held device.host has.journal (journal_in js d) has.holds (read.each d device there) in
-    (stand.each n runs has.journal has.holds).facts_are ∙ ap facts same
+    let same : has.0 ≡ journal_in js d =
+    read_held device.host has.0 (journal_in js d) has.1 (read.each d device there) in
+    (stand.each n runs has.0 has.1).facts_are ∙ ap facts same
 
 -- what stands on the links of devices, one by one
 pub stand_more : (devices : List DeviceValue) (i : ℕ) (x : DeviceValue)

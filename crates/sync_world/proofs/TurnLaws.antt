@@ -3,7 +3,7 @@ use Rattle.std.proofs.Common.{◌≡◌, ℕ, zero, suc, ◌+◌, ◌<◌, ◌�
 use Rattle.std.proofs.Common.{if◌then◌else◌, List, [], ◌∷◌, ◌++◌, map, length, refl, sym, ◌∙◌, ap}
 use Rattle.std.proofs.Common.{subst, subst₂, arith, eqb-true, append-nil, Option, Some, None}
 use Rattle.std.specs.Prelude.{slice_get}
-use Rattle.std.specs.Option.{option_map}
+use Rattle.std.specs.Option.{option_and_then, option_map}
 use Rattle.std.specs.List.{AllByRecursion}
 use Rattle.std.proofs.lemmas.Bool.{false≢true}
 use Rattle.std.proofs.lemmas.List.{length-map}
@@ -17,7 +17,7 @@ use Rattle.sync_node.specs.Output.{output}
 use Rattle.world_laws.specs.Worlds.{End, Journal, WorldLink as RecordLink}
 use Rattle.world_devices.specs.Brought.{sent_by}
 use Rattle.world_devices.specs.Devices.{DeviceValue}
-use Rattle.world_devices.specs.Linking.{LinksStand, end_at, end_in, is_shut}
+use Rattle.world_devices.specs.Linking.{LinksStand, end_at, is_shut}
 use Rattle.world_links.specs.Ends.{EndValue, flight_behind}
 use Rattle.world_links.specs.Links.{cut}
 use Rattle.world_links.specs.declared.link.Link.{Link}
@@ -111,7 +111,8 @@ stands_at n device j a runs stand below =
     let has = get_some n.links a within in
     record {
       shut = is_shut (Some has.0.end);
-      is = ap (λ (o : Option NodeValue). is_shut (end_in o a)) runs
+      is = ap (λ (o : Option NodeValue). is_shut (option_and_then (λ (m : NodeValue).
+          option_map (λ (l : NodeLink). l.end) (slice_get m.links a)) o)) runs
           ∙ ap (λ (o : Option NodeLink). is_shut (option_map (λ (l : NodeLink). l.end) o)) has.1;
       sent = λ unshut. stand.sent a has.0 has.1 (not_false _ unshut);
     }

@@ -7,7 +7,7 @@ use Rattle.sync_ids.specs.Ids.{group_id_of}
 use Rattle.sync_rules.specs.Facts.{group_at}
 use Rattle.sync_node.specs.Node.{NodeValue}
 use Rattle.world_devices.specs.Devices.{DeviceValue}
-use Rattle.world_devices.specs.Refusals.{by_facts, facts_of, refuses_group, refuses_link}
+use Rattle.world_devices.specs.Refusals.{by_facts, refuses_group, refuses_link}
 use Rattle.world_devices.specs.Refusals.{refuses_message}
 use Rattle.world_scripts.specs.Labels.{KindAndDescriptor}
 use Rattle.world_scripts.specs.declared.step.WorldStep.{WorldStep}
@@ -27,7 +27,7 @@ refuses_with refuses (Some value) (Some d) = refuses value d
 
 -- a device that runs does not know the group
 abbrev pub lacks : GroupValue → DeviceValue → Bool
-lacks def d = by_facts (λ f. is_none (group_at f.groups (group_id_of def))) (facts_of d.node)
+lacks def d = by_facts (λ f. is_none (group_at f.groups (group_id_of def))) d.node
 
 -- the group of a label that is there
 abbrev pub group_labelled : Option KindAndDescriptor → Option GroupValue

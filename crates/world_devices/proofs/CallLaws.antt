@@ -47,7 +47,7 @@ use Rattle.sync_node.specs.Node.{KeepsSessions, MayRun, NodeValue}
 use Rattle.sync_node.specs.declared.link.Link.{Link}
 use Rattle.sync_node.specs.Output.{heard_on, output}
 use Rattle.world_devices.specs.Brought.{brought_on, bytes_of, planned_bytes}
-use Rattle.world_devices.specs.Linking.{AddsLink, HoldsSome, KeepsLinks, LinksStand, PlansMore}
+use Rattle.world_devices.specs.Linking.{AddsLink, KeepsLinks, LinksStand, PlansMore}
 use Rattle.world_devices.specs.Linking.{first_of, number_of}
 use Rattle.world_devices.specs.Devices.{DeviceValue, IsDevice, IsReadyStore, IsRunning}
 use Rattle.world_devices.specs.Devices.{MayBeRunning, links_made}
@@ -434,6 +434,8 @@ plans_one link answer d old new seen is plans within same links =
     })
 
 -- what the files of a device that runs hold
-pub held_of : (n : NodeValue) (d : DeviceValue) → IsRunning n d.host d.links → HoldsSome d
-held_of n d run = let has = journal_of n.store d.host (open_of n d.host d.links run) in
-    record { journal = has.whole; holds = fits_hold n.store has.whole d.host has.fits }
+pub held_of : (n : NodeValue) (h : MemHostValue) (links : ℕ) → IsRunning n h links
+    → (j : Journal) × HoldsAfterCrash j h
+held_of n h links run =
+    let has = journal_of n.store h (open_of n h links run) in
+    (has.whole, fits_hold n.store has.whole h has.fits)

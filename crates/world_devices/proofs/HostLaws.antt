@@ -1,6 +1,7 @@
 -- What a host in memory tells, over its own calls.
 use Rattle.std.proofs.Common.{◌≡◌, ℕ, zero, suc, List, [], ◌∷◌, ◌++◌, length, refl, sym, ap, ◌∙◌}
-use Rattle.std.proofs.Common.{subst, arith, Option, Some, Result, Ok, Err, OnOk, OnErr, replicate}
+use Rattle.std.proofs.Common.{subst, arith, Option, Some, None, Result, Ok, Err, OnOk, OnErr}
+use Rattle.std.proofs.Common.{replicate}
 use Rattle.std.proofs.Common.{slice_index, slice_index_or}
 use Rattle.std.specs.declared.alloc.AllocError.{AllocError}
 use Rattle.outside.specs.declared.failed.Failed.{Failed}
@@ -71,7 +72,7 @@ pub record LeavesTold (h h' : MemHostValue) : Type 0 where
   pub same : TellsSame (host_told h) (host_told h')
   pub scripts : h'.scripts ≡ h.scripts
 
-pub told_then : (a b c : MemHostValue) → LeavesTold a b → LeavesTold b c → LeavesTold a c
+told_then : (a b c : MemHostValue) → LeavesTold a b → LeavesTold b c → LeavesTold a c
 told_then a b c first second = record {
   same = record {
     files = second.same.files ∙ first.same.files;
@@ -102,7 +103,7 @@ pub failing_told : (h h' : MemHostValue) (failing : List ℕ) (stop : Option ℕ
 failing_told h h' failing stop is =
     subst (λ (x : MemHostValue). LeavesTold h x) (sym is) (own_told h h.clock failing stop)
 
-pub fails_told : (h h' : MemHostValue) (call : ℕ) (result : Result (Unit {0}) AllocError)
+fails_told : (h h' : MemHostValue) (call : ℕ) (result : Result (Unit {0}) AllocError)
     → OnOk result (h' ≡ record h { disk = record h.disk { failing = h.disk.failing ++ call ∷ [] } })
     → OnErr result (h' ≡ h)
     → LeavesTold h h'
@@ -110,6 +111,17 @@ fails_told h h' call result ok err =
     either (LeavesTold h) h h'
     (record h { disk = record h.disk { failing = h.disk.failing ++ call ∷ [] } }) result ok err
     (own_told h h.clock (h.disk.failing ++ call ∷ []) h.disk.stop) (none_told h)
+
+-- no call is to fail, and then this one
+pub stop_told : (h between h' : MemHostValue) (call : ℕ) (result : Result (Unit {0}) AllocError)
+    → between ≡ record h { disk = record h.disk { failing = []; stop = None } }
+    → OnOk result (h' ≡ record between {
+      disk = record between.disk { failing = between.disk.failing ++ call ∷ [] };
+    })
+    → OnErr result (h' ≡ between) → LeavesTold h h'
+stop_told h between h' call result none ok err =
+    told_then h between h' (failing_told h between [] None none)
+    (fails_told between h' call result ok err)
 
 -- ---- calls that make none of the disk
 

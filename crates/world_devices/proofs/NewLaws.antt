@@ -58,7 +58,7 @@ all_settled clients f (b ∷ bs) none settling = absurd (none_settles clients f 
 pub begun_journal : (h : MemHostValue) → SettlesFrom [] h → HoldsAfterCrash (new_journal 0) h
 begun_journal h from =
     let is : from.whole ≡ [] =
-    from.has.is ∙ all_settled bundle_meaning (facts []) from.has.more refl from.has.settling in
+    from.has.extends ∙ all_settled bundle_meaning (facts []) from.has.more refl from.has.settling in
     subst (λ (j : List (List Entry)). HoldsAfterCrash j h) is from.holds
 
 answered : (b : Bool) (number known : ℕ) → Ok number ≡ (if b then Ok known else Err refused.TooManyContacts) → number ≡ known

@@ -1,8 +1,8 @@
 -- What comes of the files of a host: what they stand for, with settling behind it. And a device
 -- that starts, over its files or over what a crash left of them.
-use Rattle.std.proofs.Common.{◌≡◌, ◌+◌, ◌*◌, ◌≤◌, ℕ, true, is_some, Option, Some, None, List, length, arith, [], ◌∷◌, ◌++◌, refl}
-use Rattle.std.proofs.Common.{sym, ap, ◌∙◌, subst, inl, inr, append-nil, append_assoc, Result, Ok}
-use Rattle.std.proofs.Common.{Err, OnOk, OnErr}
+use Rattle.std.proofs.Common.{◌≡◌, ◌+◌, ◌*◌, ◌≤◌, ℕ, true, is_some, Option, Some, None, List}
+use Rattle.std.proofs.Common.{length, arith, [], ◌∷◌, ◌++◌, refl, sym, ap, ◌∙◌, subst, inl, inr}
+use Rattle.std.proofs.Common.{Result, Ok, Err, OnOk, OnErr}
 use Rattle.std.specs.Prelude.{◌⊎◌, IsErrAnd, MatchResult}
 use Rattle.std.specs.declared.alloc.AllocError.{AllocError}
 use Rattle.outside.specs.Files.{Two, File, IsImage, read_files}
@@ -17,8 +17,9 @@ use Rattle.frame_journal.specs.Gates.{AnyImage}
 use Rattle.client_basic.specs.Bodies.{bundle_meaning}
 use Rattle.entry_codec.specs.Standing.{journal}
 use Rattle.file_standing.specs.Standing.{stands}
-use Rattle.sync_rules.proofs.Continuing.{facts-append}
-use Rattle.sync_rules.specs.Facts.{Facts, after_all, after_batches, facts}
+use Rattle.sync_rules.proofs.WorkLaws.{settles_itself, settles_then}
+use Rattle.sync_rules.specs.Facts.{Facts, after_all, facts}
+use Rattle.sync_rules.specs.Hearing.{SettlesJournal}
 use Rattle.sync_rules.specs.Legal.{AllSettling}
 use Rattle.sync_rules.specs.Steps.{IsSettled}
 use Rattle.sync_ids.specs.declared.records.Record.{Record}
@@ -30,7 +31,6 @@ use Rattle.sync_store.specs.Settling.{HasSettled}
 use Rattle.sync_store.specs.Store.{StoreValue}
 use Rattle.sync_store.specs.declared.fault.LoadFault.{LoadFault}
 use Rattle.sync_store.specs.declared.fault.StoreFault.{StoreFault}
-use Rattle.sync_node.specs.Adding.{GoesOnSettling}
 use Rattle.sync_node.specs.Node.{NodeValue}
 use Rattle.world_devices.specs.Devices.{DeviceValue, HostGoesOn, IsAnew, IsDevice, LeavesDisk}
 use Rattle.world_devices.specs.Doing.{BreaksOff, CameStarting, ComesOf, ComesOfImage, CrashesTo}
@@ -51,46 +51,28 @@ use Rattle.world_devices.proofs.RunningLaws.{journal_of}
 
 -- ---- settling
 
-goes_on_itself : (j : Journal) → GoesOnSettling bundle_meaning j j
-goes_on_itself j = record { more = []; settling = tt; is = sym (append-nil j) }
-
-both_settle : (f : Facts) (bs cs : Journal) → AllSettling bundle_meaning f bs
-    → AllSettling bundle_meaning (after_batches f bs) cs → AllSettling bundle_meaning f (bs ++ cs)
-both_settle f [] cs first second = second
-both_settle f (b ∷ bs) cs first second = (first.0, both_settle (after_all f b) bs cs first.1 second)
-
-settles_then : (a b c : Journal) → GoesOnSettling bundle_meaning a b
-    → GoesOnSettling bundle_meaning b c → GoesOnSettling bundle_meaning a c
-settles_then a b c first second = record {
-  more = first.more ++ second.more;
-  settling = both_settle (facts a) first.more second.more first.settling
-      (subst (λ (f : Facts). AllSettling bundle_meaning f second.more) (ap facts first.is
-      ∙ facts-append a first.more) second.settling);
-  is =
-      second.is ∙ (ap (λ (k : Journal). k ++ second.more) first.is
-      ∙ append_assoc a first.more second.more);
-}
-
 -- a front of settling batches is settling
-settling_front : (f : Facts) (front rest : Journal) → AllSettling bundle_meaning f (front ++ rest) → AllSettling bundle_meaning f front
+settling_front : (f : Facts) (front rest : Journal)
+    → AllSettling bundle_meaning f (front ++ rest) → AllSettling bundle_meaning f front
 settling_front f [] rest settling = tt
-settling_front f (b ∷ front) rest settling = (settling.0, settling_front (after_all f b) front rest settling.1)
+settling_front f (b ∷ front) rest settling =
+    (settling.0, settling_front (after_all f b) front rest settling.1)
 
 between_settles : (j more whole : Journal) → AllSettling bundle_meaning (facts j) more
-    → IsBetween j more whole → GoesOnSettling bundle_meaning j whole
+    → IsBetween j more whole → SettlesJournal bundle_meaning j whole
 between_settles j more whole all at = record {
   more = at.front;
   settling =
       settling_front (facts j) at.front at.rest
       (subst (λ (bs : Journal). AllSettling bundle_meaning (facts j) bs) at.parts all);
-  is = at.is;
+  extends = at.is;
 }
 
 -- ---- what comes of files
 
 none_comes : (j : Journal) (files : Two (List ℕ)) → stands bundle_meaning files ≡ journal j
-    → StandsForSome (GoesOnSettling bundle_meaning j) files
-none_comes j files is = record { whole = j; has = goes_on_itself j; stands_for = is }
+    → StandsForSome (SettlesJournal bundle_meaning j) files
+none_comes j files is = record { whole = j; has = settles_itself bundle_meaning j; stands_for = is }
 
 pub comes_files : (h h' : MemHostValue) → (host_told h').files ≡ (host_told h).files → ComesOf h h'
 comes_files h h' same = record {
@@ -117,14 +99,14 @@ comes_then a b c first second =
           let two = later.settles one.whole one.stands_for in
           record {
             whole = two.whole;
-            has = settles_then j one.whole two.whole one.has two.has;
+            has = settles_then bundle_meaning j one.whole two.whole one.has two.has;
             stands_for = two.stands_for;
           };
     }) second
 
 -- what settling keeps is kept
 comes_on : (P : Journal → Type 0)
-    → ((a b : Journal) → P a → GoesOnSettling bundle_meaning a b → P b) → (a b : MemHostValue)
+    → ((a b : Journal) → P a → SettlesJournal bundle_meaning a b → P b) → (a b : MemHostValue)
     → ComesOf a b → LeavesSome P (host_told a) → LeavesSome P (host_told b)
 comes_on P keeps a b comes k =
     crash_so (ComesOfImage a) (StandsForSome P) (host_told b) (λ left later.
@@ -143,7 +125,7 @@ comes_keeps a b comes j =
     (record {
       more = on.more;
       plain = settling_plain (facts x) on.more on.settling;
-      is = on.is;
+      is = on.extends;
     })) a b comes
 
 -- a device that does not run, over what came of its files
@@ -156,15 +138,15 @@ pub comes_hears : (heard : ℕ → List Record) (j : Journal) (a b : MemHostValu
     → LeavesSome (WentHearing heard j) (host_told b)
 comes_hears heard j a b comes =
     comes_on (WentHearing heard j) (λ x y went on.
-    subst (λ (k : Journal). WentHearing heard j k) (sym on.is)
+    subst (λ (k : Journal). WentHearing heard j k) (sym on.extends)
     (hears_on heard j x on.more went (settling_plain (facts x) on.more on.settling)
     (all_settling heard (facts x) on.more on.settling))) a b comes
 
 comes_settling : (j : Journal) (a b : MemHostValue) → ComesOf a b → HoldsAfterCrash j a → LeavesSome
-    (GoesOnSettling bundle_meaning j) (host_told b)
+    (SettlesJournal bundle_meaning j) (host_told b)
 comes_settling j a b comes holds =
-    comes_on (GoesOnSettling bundle_meaning j) (λ x y. settles_then j x y) a b comes
-    (holds_some (GoesOnSettling bundle_meaning j) j a (goes_on_itself j) holds)
+    comes_on (SettlesJournal bundle_meaning j) (λ x y. settles_then bundle_meaning j x y) a b comes
+    (holds_some (SettlesJournal bundle_meaning j) j a (settles_itself bundle_meaning j) holds)
 
 -- a host that begins anew over an image, or does nothing
 pub comes_crash : (pick : Pick) (h h' : MemHostValue) (result : Result (Unit {0}) AllocError)
@@ -200,7 +182,7 @@ settles_from j s s' u h h' ready settled holds =
       has = record {
         more = settled.more;
         settling = subst (λ (g : Facts). AllSettling bundle_meaning g settled.more) f settled.comes.settling;
-        is = is ∙ ap (λ (k : Journal). k ++ settled.more) same;
+        extends = is ∙ ap (λ (k : Journal). k ++ settled.more) same;
       };
       settled = subst (λ (g : Facts). IsSettled bundle_meaning g) (sym fits.facts_are) settled.answer.1;
       holds = fits_hold s' whole h' fits;
@@ -229,7 +211,7 @@ settle_settles s s' result h h' ready settled calls =
                 let same : has.whole ≡ j = cc in
                 record {
                   whole = at.whole;
-                  has = subst (λ (k : Journal). GoesOnSettling bundle_meaning k at.whole) same
+                  has = subst (λ (k : Journal). SettlesJournal bundle_meaning k at.whole) same
                       (between_settles has.whole settled.more at.whole all at.has);
                   stands_for = at.stands_for;
                 };

@@ -2,7 +2,7 @@
 -- disk leads.
 use Rattle.std.specs.Prelude.{◌≡◌, ◌≢◌, ◌⊎◌, ℕ, ◌+◌, ◌*◌, ◌<◌, ◌≤◌, ◌^◌, Bool, false, slice_get}
 use Rattle.std.specs.Prelude.{if◌then◌else◌, nat_lt, List, [], ◌∷◌, ◌++◌, length, Option, Some}
-use Rattle.std.specs.Prelude.{IsSomeAnd, None, Result, Ok, Err}
+use Rattle.std.specs.Prelude.{IfSome, IsSomeAnd, None, Result, Ok, Err}
 use Rattle.std.specs.Option.{option_map}
 use Rattle.outside.specs.Files.{Two, IsImage}
 use Rattle.outside.specs.HostTold.{host_told}
@@ -20,12 +20,13 @@ use Rattle.sync_rules.specs.declared.entries.Entry.{Entry}
 use Rattle.sync_rules.specs.declared.entries.Entry.TheVariants as entry
 use Rattle.sync_rules.specs.declared.entries.Session.{Session}
 use Rattle.sync_rules.specs.Facts.{after_all, facts}
+use Rattle.sync_rules.specs.Hearing.{SettlesJournal}
 use Rattle.sync_rules.specs.Legal.{AllSettling}
 use Rattle.sync_rules.specs.Steps.{IsSettled}
 use Rattle.sync_store.specs.Store.{StoreValue}
 use Rattle.sync_store.specs.Commits.{needed}
 use Rattle.sync_store.specs.Fitting.{FitsFiles}
-use Rattle.sync_node.specs.Adding.{AddsAtMost, AddsOne, AddsWithin, GoesOnSettling}
+use Rattle.sync_node.specs.Adding.{AddsAtMost, AddsOne, AddsWithin}
 use Rattle.sync_course.specs.Links as course_links
 use Rattle.sync_course.specs.Turns.{Attaches, Between, Place, Terms, is_at_end}
 use Rattle.sync_course.specs.declared.ends.LinkEnd.TheVariants as link_end
@@ -50,8 +51,7 @@ use Rattle.world_devices.specs.declared.stop.StepFault.TheVariants as fault
 
 -- the call at which the disk of a host is to stop was not made yet
 abbrev pub IsAhead : Option Stop → MemHostValue → Type 0
-IsAhead None host = Unit {0}
-IsAhead (Some armed) host = host.disk.made ≤ armed.call
+IsAhead stop host = IfSome stop (λ armed. host.disk.made ≤ armed.call)
 
 -- the same time, and the same stop, which did not fall; what its disk is to fail stays
 pub record KeepsOwn (old new : DeviceValue) : Type 0 where
@@ -72,14 +72,14 @@ pub record HoldsSettled (Has : Journal → Type 0) (host : MemHostValue) : Type 
 
 -- it is this journal with settling behind it
 abbrev pub SettlesFrom : Journal → MemHostValue → Type 0
-SettlesFrom j host = HoldsSettled (GoesOnSettling bundle_meaning j) host
+SettlesFrom j host = HoldsSettled (SettlesJournal bundle_meaning j) host
 
 -- files that a crash might have left of this host, or what came of these by settling
 pub record ComesOfImage (at : MemHostValue) (files : Two (List ℕ)) : Type 0 where
   pub before : Two (List ℕ)
   pub image : IsImage (files_of (disk_files at.disk)) before
   pub settles : (j : Journal) → stands bundle_meaning before ≡ journal j → StandsForSome
-      (GoesOnSettling bundle_meaning j) files
+      (SettlesJournal bundle_meaning j) files
 
 -- so is whatever a crash leaves of the files of another host
 abbrev pub ComesOf : MemHostValue → MemHostValue → Type 0
@@ -318,13 +318,12 @@ pub record StartsAgain (old new : DeviceValue) : Type 0 where
 abbrev pub CameStarting : DeviceValue → MemHostValue → Type 0
 CameStarting old at =
     (j : Journal) → HoldsAfterCrash j old.host
-    → LeavesSome (GoesOnSettling bundle_meaning j) (host_told at)
+    → LeavesSome (SettlesJournal bundle_meaning j) (host_told at)
     × SettlesWithin (load_calls j) j (host_told old.host) (host_told at)
 
 -- It starts again. Where its disk stopped in that, settling had come so far as it had, no more calls were made than that takes, and it
 -- starts once more.
 abbrev pub DeviceRestarts : Result (Unit {0}) StepFault → DeviceValue → DeviceValue → Type 0
 DeviceRestarts (Ok _) old new = StartsAgain old new ⊎ StopsIn (CameStarting old) old new
-DeviceRestarts (Err fault.Refused) old new = ⊥
-DeviceRestarts (Err fault.Full) old new = ⊥
 DeviceRestarts (Err fault.Memory) old new = GivesUp (CameStarting old) old new
+DeviceRestarts (Err _) old new = ⊥

@@ -1,7 +1,7 @@
 -- What calls of a device do to its links.
 use Rattle.std.specs.Prelude.{◌≡◌, ◌⊎◌, ℕ, zero, suc, ◌+◌, ◌<◌, ◌≤◌, Bool, true, false, not, [], ◌∷◌, ◌++◌, length, Option, Some, None, is_some, slice_get, Result, Ok, Err}
 use Rattle.std.specs.List.{AllByRecursion}
-use Rattle.std.specs.Option.{option_map}
+use Rattle.std.specs.Option.{option_and_then, option_map}
 use Rattle.std.specs.declared.alloc.AllocError.{AllocError}
 use Rattle.outside.specs.declared.answer.Answer.{Answer}
 use Rattle.outside.specs.declared.limits.TheConstants.{MAX_JOURNAL}
@@ -34,12 +34,10 @@ abbrev pub number_of : Option NodeValue → Option ℕ
 number_of node = option_map (λ (n : NodeValue). length n.links) node
 
 -- how a link stands, where the device runs and has it
-abbrev pub end_in : Option NodeValue → ℕ → Option LinkEnd
-end_in None link = None
-end_in (Some n) link = option_map (λ (l : Link). l.end) (slice_get n.links link)
-
 abbrev pub end_at : DeviceValue → ℕ → Option LinkEnd
-end_at d link = end_in d.node link
+end_at d link =
+    option_and_then (λ (n : NodeValue).
+    option_map (λ (l : Link). l.end) (slice_get n.links link)) d.node
 
 -- a link that is still asked, and one that was closed on this side
 abbrev pub asks : Option LinkEnd → Bool
@@ -118,15 +116,11 @@ pub record LinksStand (n : NodeValue) (d : DeviceValue) (j : Journal) : Type 0 w
   pub sent : (link : ℕ) (l : Link) → slice_get n.links link ≡ Some l → is_sent_to l.end ≡ true → sent_by d.host link ≡ output j (n.first + link)
   pub unused : (link : ℕ) → d.links ≤ link → brought_on d.host link ≡ []
 
--- a journal that the files of a device hold
-pub record HoldsSome (d : DeviceValue) : Type 0 where
-  pub journal : Journal
-  pub holds : HoldsAfterCrash journal d.host
-
 -- where a device runs, its files hold a journal, and all of that stands for whatever journal they hold
 pub record DeviceLinksStand (d : DeviceValue) : Type 0 where
-  pub holds : (n : NodeValue) → d.node ≡ Some n → HoldsSome d
-  pub each : (n : NodeValue) → d.node ≡ Some n → (j : Journal) → HoldsAfterCrash j d.host → LinksStand n d j
+  pub holds : (n : NodeValue) → d.node ≡ Some n → (j : Journal) × HoldsAfterCrash j d.host
+  pub each : (n : NodeValue) → d.node ≡ Some n → (j : Journal) → HoldsAfterCrash j d.host
+      → LinksStand n d j
 
 -- ---- a new device
 

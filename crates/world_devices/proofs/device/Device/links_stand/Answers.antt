@@ -7,6 +7,6 @@ use Rattle.world_devices.proofs.device.Device.links_stand.Goals as goal
 pub returns : goal.returns
 returns c =
     subst DeviceLinksStand c.self.view_is (record {
-      holds = λ n is. held_of n _ (running_of _ n _ _ is c.self.invariant.0);
+      holds = λ n is. held_of n _ _ (running_of _ n _ _ is c.self.invariant.0);
       each = λ n is j. links_stand c.cite_laws.ensures n _ j (running_of _ n _ _ is c.self.invariant.0);
     })
