@@ -3,6 +3,7 @@ use Rattle.std.proofs.Common.{◌≡◌, ℕ, ◌+◌, ◌≤◌, false, List, [
 use Rattle.std.proofs.Common.{inl, inr, arith, Some, None, Result, Err}
 use Rattle.std.specs.Prelude.{IsErrOf}
 use Rattle.std.proofs.lemmas.Bool.{cases_eq}
+use Rattle.sync_course.proofs.LiftLaws.{get_within}
 use Rattle.sync_rules.specs.Clients.{Meaning}
 use Rattle.sync_rules.proofs.Continuing.{continues_journals}
 use Rattle.sync_rules.specs.Facts.{Facts, facts}
@@ -19,7 +20,6 @@ use Rattle.sync_world.specs.Shown.{ReachesWorld}
 use Rattle.sync_world.specs.Standing.{AllLinksStand, LeadsFromShown, IsWorld, is_fatal, is_harmed}
 use Rattle.sync_world.specs.declared.stage.Stage.{Stage}
 use Rattle.sync_world.proofs.CountLaws.{step_count}
-use Rattle.sync_world.proofs.WireLaws.{get_within}
 use Rattle.sync_world.proofs.WorldLaws.{world_steps}
 
 abbrev contacts_of : Journal → ℕ

@@ -4,6 +4,7 @@ use Rattle.std.proofs.Common.{ap}
 use Rattle.std.proofs.Common.{inl, inr, refl, Option, Some, None, Result, Ok, Err}
 use Rattle.std.specs.Prelude.{IsErrOf, slice_get}
 use Rattle.std.proofs.lemmas.List.{length-map}
+use Rattle.std.proofs.lemmas.List.{length-set}
 use Rattle.sync_rules.specs.declared.entries.Entry.{Entry}
 use Rattle.sync_rules.specs.declared.entries.Mode.{Mode}
 use Rattle.world_devices.specs.Devices.{DeviceValue}
@@ -25,7 +26,6 @@ use Rattle.sync_world.specs.Naming.{nonce_of}
 use Rattle.sync_world.specs.Refusing.{has_links}
 use Rattle.sync_world.specs.Standing.{is_fatal}
 use Rattle.sync_world.specs.declared.stage.Stage.{Stage}
-use Rattle.sync_world.proofs.WireLaws.{set_length}
 
 -- as many devices as before
 record AsMany (old new : Ground) : Type 0 where
@@ -56,7 +56,7 @@ then_many First Second first second came old new (inr does) = first came old new
 device_many : (d : ℕ) (Did : DeviceValue → DeviceValue → List Link → Type 0) (old new : Ground)
     → DeviceDoes d Did old new → AsMany old new
 device_many d Did old new does =
-    record { is = ap length does.devices ∙ set_length old.devices d does.is }
+    record { is = ap length does.devices ∙ length-set old.devices d does.is }
 
 adds_many : (o : Option Entry) (d : ℕ) (came : Result Ran StepFault) (links : List Link)
     (old new : Ground) → AddsEntry o d came links old new → AsMany old new

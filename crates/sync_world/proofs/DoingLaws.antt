@@ -25,7 +25,7 @@ use Rattle.sync_world.specs.Naming.{IsMade}
 use Rattle.sync_world.specs.Parts.{WhenFull}
 use Rattle.sync_world.specs.Staging.{after_ran}
 use Rattle.sync_world.specs.declared.stage.Stage.{Stage}
-use Rattle.sync_world.proofs.RefusingLaws.{get_at}
+use Rattle.sync_world.proofs.WireLaws.{get_at}
 
 -- ---- answers that are handed on
 

@@ -6,6 +6,8 @@ use Rattle.std.proofs.Common.{Err}
 use Rattle.std.proofs.lemmas.Bool.{and_parts, eqb-true, leb-true, ltb-true}
 use Rattle.std.specs.Prelude.{nat_le, nat_lt, slice_get, slice_set}
 use Rattle.std.specs.Option.{option_map}
+use Rattle.std.proofs.lemmas.List.{length-set}
+use Rattle.sync_course.proofs.LiftLaws.{get_within}
 use Rattle.outside.specs.Files.{read_files}
 use Rattle.outside.specs.HostTold.{host_told}
 use Rattle.outside.specs.MemHost.{MemHostValue}
@@ -45,9 +47,9 @@ use Rattle.sync_world.proofs.RunLaws.{given_heard, journal_set_other, journal_se
 use Rattle.sync_world.proofs.RunLaws.{links_same, run_reached}
 use Rattle.sync_world.proofs.ShownMoves.{shown_all_left, shown_at}
 use Rattle.sync_world.proofs.WireLaws.{AllMove, EndMoves, LinkMoves, all_map, all_placed, all_wired}
-use Rattle.sync_world.proofs.WireLaws.{eqb_not, get_cases, get_within, kept_wired, link_stays}
+use Rattle.sync_world.proofs.WireLaws.{eqb_not, get_cases, kept_wired, link_stays}
 use Rattle.sync_world.proofs.WireLaws.{own_far, own_is, own_near, own_none, placed_end, set_back}
-use Rattle.sync_world.proofs.WireLaws.{set_length, some_same}
+use Rattle.sync_world.proofs.WireLaws.{some_same}
 
 -- ---- journals
 
@@ -70,7 +72,7 @@ pub up_set : (js : List Journal) (devices : List DeviceValue) (d : ℕ) (j : Jou
     (device : DeviceValue) → d < length devices → AreUp js devices → IsUp j device
     → AreUp (slice_set js d j) (slice_set devices d device)
 up_set js devices d j device within up one = record {
-  same_number = set_length js d j ∙ (up.same_number ∙ sym (set_length devices d device));
+  same_number = length-set js d j ∙ (up.same_number ∙ sym (length-set devices d device));
   each = λ e other is.
       elim (get_cases devices d e device other is) [
         | inl (same, new) ↦
@@ -86,7 +88,7 @@ pub read_set : (js : List Journal) (devices : List DeviceValue) (d : ℕ) (j : J
     (device : DeviceValue) → d < length devices → AreRead js devices → ReadsAsJournal j device.host
     → AreRead (slice_set js d j) (slice_set devices d device)
 read_set js devices d j device within up one = record {
-  same_number = set_length js d j ∙ (up.same_number ∙ sym (set_length devices d device));
+  same_number = length-set js d j ∙ (up.same_number ∙ sym (length-set devices d device));
   each = λ e other is.
       elim (get_cases devices d e device other is) [
         | inl (same, new) ↦
@@ -319,7 +321,7 @@ kept_leads laws grows w devices links d old new s is runs running keeps =
       shown = λ same. record {
         up = ups;
         shown = s.shown;
-        placed = subst (λ (n : ℕ). ArePlaced n links) (sym (set_length devices d new)) s.placed;
+        placed = subst (λ (n : ℕ). ArePlaced n links) (sym (length-set devices d new)) s.placed;
         wired = wired_set w.journals devices links links d ran.journal new within
             (kept_wired grows ran.journal (journal_at w d) d old new links ran.legal ran.extends
             keeps (s.wired d old is)) (λ e other apart there. s.wired e other there);
@@ -453,7 +455,7 @@ crashed_leads laws w devices links d old new s is runs running unlinked =
         up = ups;
         shown = shown_all_left d links w.links s.shown;
         placed = subst (λ (n : ℕ). ArePlaced n (map (left_by d) links))
-            (sym (set_length devices d new)) (placed_left d (length devices) links s.placed);
+            (sym (length-set devices d new)) (placed_left d (length devices) links s.placed);
         wired = wired_set w.journals devices links (map (left_by d) links) d ran.journal new within
             (unlinked_wired ran.journal d new (map (left_by d) links) unlinked
             (λ i l there. let from = map_from (left_by d) links i l there in

@@ -4,6 +4,8 @@ use Rattle.std.proofs.Common.{List, [], ◌∷◌, ◌++◌, length, drop, refl,
 use Rattle.std.proofs.Common.{inr, arith, append-nil, Option, Some, None, is_some}
 use Rattle.std.proofs.lemmas.Bool.{cases_eq}
 use Rattle.std.specs.Prelude.{slice_get, slice_set}
+use Rattle.std.proofs.lemmas.List.{length-set}
+use Rattle.sync_course.proofs.LiftLaws.{get_other, get_set, get_within}
 use Rattle.client_basic.specs.Bodies.{bundle_meaning}
 use Rattle.sync_ids.specs.declared.records.Record.{Record}
 use Rattle.sync_rules.specs.Facts.{ExtendsJournal}
@@ -35,9 +37,9 @@ use Rattle.sync_world.proofs.RunLaws.{device_runs, end_begins, journal_set_own, 
 use Rattle.sync_world.proofs.RunLaws.{links_set}
 use Rattle.sync_world.proofs.ShownMoves.{shown_at, shown_linked, shown_set}
 use Rattle.sync_world.proofs.WireLaws.{EndMoves, LinkMoves, all_placed, all_set, all_wired}
-use Rattle.sync_world.proofs.WireLaws.{end_stays, get_cases, get_other, get_set, get_within}
+use Rattle.sync_world.proofs.WireLaws.{end_stays, get_cases}
 use Rattle.sync_world.proofs.WireLaws.{own_far, own_near, placed_end, seen_grows, session_from}
-use Rattle.sync_world.proofs.WireLaws.{set_length, some_same}
+use Rattle.sync_world.proofs.WireLaws.{some_same}
 
 -- ---- one link more
 
@@ -427,7 +429,7 @@ attached_leads laws grows w devices links d far i session contact old new s is r
             ArePlaced n (slice_set links i
             (with_end fresh.from
             (begun_end old.links session (end_of fresh.from fresh.link)) fresh.link)))
-            (sym (set_length devices d new))
+            (sym (length-set devices d new))
             (all_placed (suc d) (length devices) links
             (slice_set links i (with_end fresh.from
             (begun_end old.links session (end_of fresh.from fresh.link)) fresh.link))

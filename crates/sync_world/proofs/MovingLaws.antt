@@ -1,38 +1,24 @@
 -- One link of several that becomes another one.
-use Rattle.std.proofs.Common.{◌≡◌, ℕ, zero, suc, ◌<◌, List, [], ◌∷◌, length, refl, sym, ap, ◌∙◌}
-use Rattle.std.proofs.Common.{subst, arith, Option, Some, None, Result, Ok, Err}
+use Rattle.std.proofs.Common.{◌≡◌, ℕ, ◌<◌, List, length, sym, ap}
+use Rattle.std.proofs.Common.{subst, Option, Some, None, Result, Ok, Err}
 use Rattle.std.specs.Prelude.{slice_get, slice_index_or, slice_set}
 use Rattle.world_devices.specs.declared.stop.StepFault.{StepFault}
 use Rattle.world_devices.specs.declared.stop.StepFault.TheVariants as fault
 use Rattle.world_links.specs.declared.link.Link.{Link}
 use Rattle.sync_world.specs.Moving.{MakesOfLink, BecomesOne}
-
-get_at : (ls : List Link) (i : ℕ) (l : Link) → i < length ls → l ≡ slice_index_or ls i l
-    → slice_get ls i ≡ Some l
-get_at [] i l within is = absurd (omega arith)
-get_at (x ∷ ls) zero l within is = ap (λ (y : Link). Some y) (sym is)
-get_at (x ∷ ls) (suc i) l within is = get_at ls i l (omega arith) is
-
-set_same : (ls : List Link) (i : ℕ) (l : Link) → slice_get ls i ≡ Some l → slice_set ls i l ≡ ls
-set_same [] i l is = refl
-set_same (x ∷ ls) zero l is = let same : x ≡ l = cc in ap (λ (y : Link). y ∷ ls) (sym same)
-set_same (x ∷ ls) (suc i) l is = ap (λ (ys : List Link). x ∷ ys) (set_same ls i l is)
-
-kept : (i : ℕ) (ls : List Link) (l new : Link) → slice_get ls i ≡ Some l → new ≡ l
-    → slice_set ls i new ≡ ls
-kept i ls l new is same = ap (λ (x : Link). slice_set ls i x) same ∙ set_same ls i l is
+use Rattle.sync_world.proofs.WireLaws.{get_at, set_back}
 
 becomes_set : (o : Option Link) (i : ℕ) (ls : List Link) (l new : Link)
     (result : Result (Unit {0}) StepFault) → slice_get ls i ≡ Some l → BecomesOne o l new result
     → MakesOfLink o i ls (slice_set ls i new) result
 becomes_set None i ls l new (Ok u) is one = one
-becomes_set None i ls l new (Err fault.Refused) is one = kept i ls l new is one
+becomes_set None i ls l new (Err fault.Refused) is one = set_back ls i l new is one
 becomes_set None i ls l new (Err fault.Full) is one = one
-becomes_set None i ls l new (Err fault.Memory) is one = kept i ls l new is one
+becomes_set None i ls l new (Err fault.Memory) is one = set_back ls i l new is one
 becomes_set (Some m) i ls l new (Ok u) is one = ap (λ (x : Link). slice_set ls i x) one
 becomes_set (Some m) i ls l new (Err fault.Refused) is one = one
 becomes_set (Some m) i ls l new (Err fault.Full) is one = one
-becomes_set (Some m) i ls l new (Err fault.Memory) is one = kept i ls l new is one
+becomes_set (Some m) i ls l new (Err fault.Memory) is one = set_back ls i l new is one
 
 -- the link of a number becomes what it becomes by itself
 pub becomes_at : (made : Option Link → Option Link) (i : ℕ) (ls : List Link) (l new : Link)

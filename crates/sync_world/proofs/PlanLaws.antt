@@ -7,6 +7,8 @@ use Rattle.std.proofs.lemmas.Bool.{eqb-true}
 use Rattle.std.proofs.lemmas.List.{take-append-drop}
 use Rattle.std.specs.Prelude.{slice_get, slice_set}
 use Rattle.std.specs.Option.{option_map}
+use Rattle.std.proofs.lemmas.List.{length-set}
+use Rattle.sync_course.proofs.LiftLaws.{get_set, get_within, set_twice}
 use Rattle.outside.specs.Planned.{pieces}
 use Rattle.outside.specs.Script.{planned_of}
 use Rattle.outside.specs.declared.answer.Answer.{Answer}
@@ -32,8 +34,8 @@ use Rattle.sync_world.specs.Standing.{own_end, place_in, place_on, session_on}
 use Rattle.sync_world.proofs.LookLaws.{shown_same}
 use Rattle.sync_world.proofs.ShownMoves.{shown_at, shown_set}
 use Rattle.sync_world.proofs.WireLaws.{EndMoves, LinkMoves, all_placed, all_set, all_wired}
-use Rattle.sync_world.proofs.WireLaws.{end_stays, eqb_not, get_cases, get_set, get_within, own_far}
-use Rattle.sync_world.proofs.WireLaws.{own_near, set_again, set_back, set_length, set_once}
+use Rattle.sync_world.proofs.WireLaws.{end_stays, eqb_not, get_cases, own_far}
+use Rattle.sync_world.proofs.WireLaws.{own_near, set_back, set_once}
 use Rattle.sync_world.proofs.WireLaws.{set_seat, some_same}
 
 -- ---- bytes
@@ -224,7 +226,7 @@ up_same j old new files node links up = record {
 pub up_device : (js : List Journal) (devices : List DeviceValue) (d : ℕ) (new : DeviceValue)
     → AreUp js devices → IsUp (journal_in js d) new → AreUp js (slice_set devices d new)
 up_device js devices d new up one = record {
-  same_number = up.same_number ∙ sym (set_length devices d new);
+  same_number = up.same_number ∙ sym (length-set devices d new);
   each = λ e other is.
       elim (get_cases devices d e new other is) [
         | inl (same, here) ↦ subst (λ (n : ℕ). IsUp (journal_in js n) other) (sym same)
@@ -321,7 +323,7 @@ shown_on w devices links d a i old new l l' is there files p s =
           (link_back w.links i at.link at.stands)
           (shown_set links w.links i l' at.link (p.shows at.link at.shown) s.shown);
       placed =
-          subst (λ (n : ℕ). ArePlaced n (slice_set links i l')) (sym (set_length devices d new))
+          subst (λ (n : ℕ). ArePlaced n (slice_set links i l')) (sym (length-set devices d new))
           (all_placed (suc d) (length devices) links (slice_set links i l')
           (all_set (suc d) i links l l' there (p.moves (suc d) (λ same. omega arith)))
           s.placed);
@@ -361,6 +363,6 @@ plans_none d old links =
 pub plans_then : (d : ℕ) (a b c : DeviceValue) (ls ms ns : List Link) → PlansAll d a b ls ms
     → PlansAll d b c ms ns → PlansAll d a c ls ns
 plans_then d a b c ls ms ns first second = λ w devices is s.
-    subst (λ (ds : List DeviceValue). IsShown w ds ns) (set_again devices d b c)
+    subst (λ (ds : List DeviceValue). IsShown w ds ns) (set_twice devices d b c)
     (second w (slice_set devices d b) (get_set devices d b (get_within devices d a is))
     (first w devices is s))

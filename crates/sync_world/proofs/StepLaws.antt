@@ -5,6 +5,8 @@ use Rattle.std.proofs.Common.{inl, inr, arith, Option, Some, None, is_some, Resu
 use Rattle.std.proofs.lemmas.Bool.{eq-eqb, ne_eqb}
 use Rattle.std.proofs.lemmas.List.{length-map}
 use Rattle.std.specs.Prelude.{IsErrAnd, slice_get, slice_index_or, slice_set}
+use Rattle.std.proofs.lemmas.List.{length-set}
+use Rattle.sync_course.proofs.LiftLaws.{get_set, set_twice}
 use Rattle.world_devices.specs.Cited.{SentGrows}
 use Rattle.world_devices.specs.Devices.{DeviceValue}
 use Rattle.world_devices.specs.Linking.{AddsLink, DeviceLinksStand, IsUnlinked, KeepsLinks, LinksBy}
@@ -34,8 +36,7 @@ use Rattle.sync_world.proofs.PlanLaws.{far_own, holds_same, near_own}
 use Rattle.sync_world.proofs.TurnLaws.{looks_others}
 use Rattle.sync_world.proofs.ReachLaws.{reaches_none}
 use Rattle.sync_world.proofs.WireLaws.{AllMove, LinkMoves, all_set, all_stay, end_stays, forth}
-use Rattle.sync_world.proofs.WireLaws.{get_at, get_cases, get_set, link_stays, set_again}
-use Rattle.sync_world.proofs.WireLaws.{set_length}
+use Rattle.sync_world.proofs.WireLaws.{get_at, get_cases, link_stays}
 use Rattle.client_basic.specs.Bodies.{bundle_meaning}
 
 pub goes_then : (f : Bool) (a b c : Stage) → LeadsFromShown false a b → LeadsFromShown f b c
@@ -300,7 +301,7 @@ read_same : (w : World) (devices : List DeviceValue) (links : List Link) (d : �
     → IsShown w devices links → ReadsAsJournal (journal_at w d) new.host
     → AreRead w.journals (slice_set devices d new)
 read_same w devices links d new s reads = record {
-  same_number = s.up.same_number ∙ sym (set_length devices d new);
+  same_number = s.up.same_number ∙ sym (length-set devices d new);
   each = λ e x is.
       elim (get_cases devices d e new x is) [
         | inl (same, here) ↦ subst (λ (n : ℕ). ReadsAsJournal (journal_at w n) x.host) (sym same)
@@ -340,14 +341,14 @@ module _ (laws : RecordLaws) (grows : SentGrows) (devices : List DeviceValue)
       → LeadsOn w (is_fatal {A = Unit {0}} (Err e)) (slice_set devices d new) links'
   turn_fails e kept links' w s =
       subst (λ (f : Bool). LeadsOn w f (slice_set devices d new) links') (fatal_is e kept)
-      (subst (λ (ds : List DeviceValue). LeadsOn w true ds links') (set_again devices d mid new)
+      (subst (λ (ds : List DeviceValue). LeadsOn w true ds links') (set_twice devices d mid new)
       (failed_leads laws w (slice_set devices d mid) planned links' d mid new
       (plans w devices there s) mid_there runs))
 
   pub turn_ends : (links' : List Link) (w : World) → IsShown w devices links → LeadsOn w true
       (slice_set devices d new) links'
   turn_ends links' w s =
-      subst (λ (ds : List DeviceValue). LeadsOn w true ds links') (set_again devices d mid new)
+      subst (λ (ds : List DeviceValue). LeadsOn w true ds links') (set_twice devices d mid new)
       (failed_leads laws w (slice_set devices d mid) planned links' d mid new
       (plans w devices there s) mid_there runs)
 
@@ -356,7 +357,7 @@ module _ (laws : RecordLaws) (grows : SentGrows) (devices : List DeviceValue)
       → LeadsOn w false (slice_set devices d new) (map (left_by d) planned)
   turn_crashes running unlinked w s =
       subst (λ (ds : List DeviceValue). LeadsOn w false ds (map (left_by d) planned))
-      (set_again devices d mid new)
+      (set_twice devices d mid new)
       (crashed_leads laws w (slice_set devices d mid) planned d mid new (plans w devices there s)
       mid_there runs running unlinked)
 
@@ -365,7 +366,7 @@ module _ (laws : RecordLaws) (grows : SentGrows) (devices : List DeviceValue)
       → LeadsOn w false (slice_set devices d new) (map (look_link d new) planned)
   turn_leads running keeps stand w s =
       let kept : LeadsOn w false (slice_set devices d new) planned =
-      subst (λ (ds : List DeviceValue). LeadsOn w false ds planned) (set_again devices d mid new)
+      subst (λ (ds : List DeviceValue). LeadsOn w false ds planned) (set_twice devices d mid new)
       (kept_leads laws grows w (slice_set devices d mid) planned d mid new (plans w devices there s)
       mid_there runs running keeps) in
       leads_then w false (slice_set devices d new) (slice_set devices d new) planned
@@ -408,7 +409,7 @@ attach_gone contact o old new is by =
 begun_length : (d at session i : ℕ) (o : Option Link) (ls : List Link)
     → length (begun_with d at session i o ls) ≡ length ls
 begun_length d at session i None ls = refl
-begun_length d at session i (Some l) ls = set_length ls i (attached_at d at session l)
+begun_length d at session i (Some l) ls = length-set ls i (attached_at d at session l)
 
 pub begun_written : (len d at session i : ℕ) (device : DeviceValue)
     (items slice begun mid last : List Link) → slice ≡ items → len ≡ length items

@@ -1,6 +1,6 @@
 -- What a turn of a device and a session that begins do, over plain values.
 use Rattle.std.proofs.Common.{◌≡◌, ℕ, zero, suc, ◌+◌, ◌<◌, ◌≤◌, Bool, List, [], ◌∷◌}
-use Rattle.std.proofs.Common.{◌++◌, map, length, refl, ◌∙◌, ap, subst, inl, inr, arith}
+use Rattle.std.proofs.Common.{◌++◌, map, length, refl, sym, ◌∙◌, ap, subst, inl, inr, arith}
 use Rattle.std.proofs.Common.{Option, Some, None, Result, Ok, Err}
 use Rattle.std.specs.Result.{IsErrAnd}
 use Rattle.std.specs.Prelude.{slice_get, slice_index_or, slice_set}
@@ -14,10 +14,10 @@ use Rattle.world_devices.specs.declared.stop.Ran.TheVariants as ran
 use Rattle.world_devices.specs.declared.stop.StepFault.{StepFault}
 use Rattle.world_devices.specs.declared.stop.StepFault.TheVariants as fault
 use Rattle.world_laws.specs.Worlds.{contact_for}
-use Rattle.world_links.specs.Links.{left_by}
+use Rattle.world_links.specs.Links.{left_by, side_of}
 use Rattle.world_links.specs.declared.link.Link.{Link}
 use Rattle.sync_world.specs.Doing.{Attaches, Ground, LinksBehind, LinksTwo}
-use Rattle.sync_world.specs.Doing.{PlansLinkOn, PlansLinksOn, Turns, TurnsOnce}
+use Rattle.sync_world.specs.Doing.{TurnsOnce, hears_on_link, hears_on_links}
 use Rattle.sync_world.specs.Doing.{begun_on}
 use Rattle.sync_world.specs.Doing.{dialled, plan_of}
 use Rattle.sync_world.specs.Naming.{nonce_of}
@@ -28,68 +28,56 @@ use Rattle.sync_world.proofs.DoingLaws.{device_does, ground, handed, same_ground
 
 -- ---- links, one after the other
 
--- so many links in front were planned, and those behind are as before
-abbrev pub PlansFront : ℕ → ℕ → DeviceValue → DeviceValue → List Link → List Link → Type 0
-PlansFront zero d old new ls ls' = (new ≡ old) × (ls' ≡ ls)
-PlansFront (suc n) d old new (l ∷ ls) (l' ∷ ls') =
-    (between : DeviceValue) × PlansLinkOn d old between l l' × PlansFront n d between new ls ls'
-PlansFront (suc n) d old new _ _ = ⊥
+-- on the first so many links was heard, and those behind are as before
+abbrev pub hears_front : ℕ → (number : ℕ) → DeviceValue → List Link → DeviceValue × List Link
+hears_front zero number d ls = (d, ls)
+hears_front (suc n) number d [] = (d, [])
+hears_front (suc n) number d (l ∷ ls) =
+    let first = hears_on_link d l (side_of number l) in
+    let rest = hears_front n number first.0 ls in
+    (rest.0, first.1 ∷ rest.1)
 
-pub front_none : (d : ℕ) (old : DeviceValue) (ls : List Link) → PlansFront zero d old old ls ls
-front_none d old ls = (refl, refl)
+-- a device and the links, where it hears on one more, which has this place
+abbrev hears_more : ℕ → (number : ℕ) → Link → DeviceValue × List Link → DeviceValue × List Link
+hears_more n number l p =
+    let one = hears_on_link p.0 l (side_of number l) in (one.0, slice_set p.1 n one.1)
 
-front_first : (d : ℕ) (old mid new : DeviceValue) (x y l l' : Link) (xs ys : List Link) → mid ≡ old
-    → y ∷ ys ≡ x ∷ xs → ◌≡◌ {A = Option Link} (Some y) (Some l) → PlansLinkOn d mid new l l'
-    → PlansFront (suc zero) d old new (x ∷ xs) (l' ∷ ys)
-front_first d old mid new x y l l' xs ys same lists there plans =
-    let link : l ≡ x = cc in
-    let rest : ys ≡ xs = cc in (
-      new,
-      subst (λ (o : DeviceValue). PlansLinkOn d o new x l') same
-          (subst (λ (z : Link). PlansLinkOn d mid new z l') link plans),
-      (refl, rest),
-    )
+front_more : (n d : ℕ) (old : DeviceValue) (xs : List Link) (l : Link)
+    → slice_get (hears_front n d old xs).1 n ≡ Some l
+    → hears_front (suc n) d old xs ≡ hears_more n d l (hears_front n d old xs)
+front_more zero d old [] l there = cc
+front_more zero d old (x ∷ xs) l there =
+    let is : x ≡ l = cc in
+    subst (λ (z : Link).
+    hears_front (suc zero) d old (x ∷ xs) ≡ hears_more zero d z (old, x ∷ xs)) is refl
+front_more (suc n) d old [] l there = cc
+front_more (suc n) d old (x ∷ xs) l there =
+    let first = hears_on_link old x (side_of d x) in
+    ap (λ (p : DeviceValue × List Link). (p.0, first.1 ∷ p.1)) (front_more n d first.0 xs l there)
 
 -- one link more
-front_more : (n d : ℕ) (old mid new : DeviceValue) (xs ys : List Link) (l l' : Link)
-    → PlansFront n d old mid xs ys → slice_get ys n ≡ Some l → PlansLinkOn d mid new l l'
-    → PlansFront (suc n) d old new xs (slice_set ys n l')
-front_more zero d old mid new [] [] l l' front there plans = cc
-front_more zero d old mid new [] (y ∷ ys) l l' front there plans =
-    let same : y ∷ ys ≡ [] = front.1 in cc
-front_more zero d old mid new (x ∷ xs) [] l l' front there plans = cc
-front_more zero d old mid new (x ∷ xs) (y ∷ ys) l l' front there plans =
-    front_first d old mid new x y l l' xs ys front.0 front.1 there plans
-front_more (suc n) d old mid new [] [] l l' front there plans = absurd front
-front_more (suc n) d old mid new [] (y ∷ ys) l l' front there plans = absurd front
-front_more (suc n) d old mid new (x ∷ xs) [] l l' front there plans = absurd front
-front_more (suc n) d old mid new (x ∷ xs) (y ∷ ys) l l' front there plans =
-    (front.0, front.1, front_more n d front.0 mid new xs ys l l' front.2 there plans)
-
 pub front_next : (n d : ℕ) (old mid new : DeviceValue) (xs ys : List Link) (l l' : Link)
-    → PlansFront n d old mid xs ys → slice_get ys n ≡ Some l → PlansLinkOn d mid new l l'
-    → PlansFront (n + 1) d old new xs (slice_set ys n l')
-front_next n d old mid new xs ys l l' front there plans =
+    → (mid, ys) ≡ hears_front n d old xs → slice_get ys n ≡ Some l
+    → (new, l') ≡ hears_on_link mid l (side_of d l)
+    → (new, slice_set ys n l') ≡ hears_front (n + 1) d old xs
+front_next n d old mid new xs ys l l' front there one =
+    let at : slice_get (hears_front n d old xs).1 n ≡ Some l =
+    sym (ap (λ (p : DeviceValue × List Link). slice_get p.1 n) front) ∙ there in
     let next : suc n ≡ n + 1 = omega arith in
-    subst (λ (k : ℕ). PlansFront k d old new xs (slice_set ys n l')) next
-    (front_more n d old mid new xs ys l l' front there plans)
+    ap (λ (p : DeviceValue × Link). (p.0, slice_set ys n p.1)) one
+    ∙ (ap (hears_more n d l) front
+    ∙ (sym (front_more n d old xs l at) ∙ ap (λ (k : ℕ). hears_front k d old xs) next))
 
 -- all links
-pub front_all : (n d : ℕ) (old new : DeviceValue) (xs ys : List Link) → PlansFront n d old new xs ys
-    → length ys ≤ n → length ys ≡ length xs → PlansLinksOn d old new xs ys
-front_all zero d old new [] [] front all same = front.0
-front_all zero d old new [] (y ∷ ys) front all same = absurd (omega (arith, all))
-front_all zero d old new (x ∷ xs) [] front all same = absurd (omega (arith, same))
-front_all zero d old new (x ∷ xs) (y ∷ ys) front all same = absurd (omega (arith, all))
-front_all (suc n) d old new [] [] front all same = absurd front
-front_all (suc n) d old new [] (y ∷ ys) front all same = absurd front
-front_all (suc n) d old new (x ∷ xs) [] front all same = absurd front
-front_all (suc n) d old new (x ∷ xs) (y ∷ ys) front all same = (
-  front.0,
-  front.1,
-  front_all n d front.0 new xs ys front.2 (omega (arith, all))
-      (omega (arith, same)),
-)
+pub front_all : (n d : ℕ) (old : DeviceValue) (xs : List Link) → length xs ≤ n
+    → hears_front n d old xs ≡ hears_on_links d old xs
+front_all zero d old [] all = refl
+front_all zero d old (x ∷ xs) all = absurd (omega (arith, all))
+front_all (suc n) d old [] all = refl
+front_all (suc n) d old (x ∷ xs) all =
+    let first = hears_on_link old x (side_of d x) in
+    ap (λ (p : DeviceValue × List Link). (p.0, first.1 ∷ p.1))
+    (front_all n d first.0 xs (omega (arith, all)))
 
 -- ---- answers that are handed on
 
@@ -158,19 +146,21 @@ module _ (d link : ℕ) (plan : Plan) (nonce : Option (List ℕ)) (devices devic
 
 module _ (d : ℕ) (devices devices' : List DeviceValue) (links planned_from heard links' : List Link)
     (was planned is : DeviceValue)
-    (within : d < length devices) (at : was ≡ slice_index_or devices d was) (from : planned_from
-    ≡ links) (plans : PlansLinksOn d was planned planned_from heard)
+    (within : d < length devices) (at : was ≡ slice_index_or devices d was)
+    (from : planned_from ≡ links) (hears : (planned, heard) ≡ hears_on_links d was planned_from)
     (now : devices' ≡ slice_set devices d is) where
   turns : (came : Result (Option Bool) StepFault) → DeviceMakesTurn came planned is
       → LinksBehind d is came heard links'
       → TurnsOnce d came (record { devices = devices; links = links })
       (record { devices = devices'; links = links' })
   turns came did behind =
-      let here : PlansLinksOn d was planned links heard =
-      subst (λ (ls : List Link). PlansLinksOn d was planned ls heard) from plans in
-      let turned : Turns d came links was is links' =
-      record { planned = planned; heard = heard; plans = here; did = did; behind = behind } in
-      device_does d (Turns d came links) devices devices' links links' was is within at turned now
+      let here : (planned, heard) ≡ hears_on_links d was links =
+      hears ∙ ap (hears_on_links d was) from in
+      device_does d (λ (w i : DeviceValue) (ls : List Link).
+      DeviceMakesTurn came (hears_on_links d w links).0 i
+      × LinksBehind d i came (hears_on_links d w links).1 ls) devices devices' links links' was is
+      within at (subst (λ (p : DeviceValue × List Link).
+      DeviceMakesTurn came p.0 is × LinksBehind d is came p.1 links') here (did, behind)) now
 
   pub turn_made : (o came : Option Bool) → o ≡ came → DeviceMakesTurn (Ok o) planned is
       → LinksBehind d is (Ok came) heard links'

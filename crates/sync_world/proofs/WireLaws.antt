@@ -6,6 +6,9 @@ use Rattle.std.proofs.Common.{None}
 use Rattle.std.proofs.lemmas.Bool.{cases_eq, eq-eqb, eqb-true, ne_eqb, false≢true}
 use Rattle.std.specs.Prelude.{slice_get, slice_index_or, slice_set}
 use Rattle.std.specs.Option.{option_map}
+use Rattle.std.proofs.lemmas.List.{length-set}
+use Rattle.std.proofs.lemmas.Option.{slice_get-get_or}
+use Rattle.sync_course.proofs.LiftLaws.{get_other, get_set, get_within}
 use Rattle.sync_node.specs.Node.{NodeValue}
 use Rattle.sync_rules.specs.Facts.{ExtendsJournal}
 use Rattle.sync_rules.specs.Legal.{Legal}
@@ -23,52 +26,18 @@ use Rattle.sync_world.specs.Standing.{SeenBy, own_end, place_in, place_on}
 
 -- ---- lists
 
-pub get_within : {A : Type 0} (xs : List A) (i : ℕ) (x : A) → slice_get xs i ≡ Some x
-    → i < length xs
-get_within [] i x is = cc
-get_within (y ∷ xs) zero x is = omega arith
-get_within (y ∷ xs) (suc i) x is =
-    let later : i < length xs = get_within xs i x is in omega (arith, later)
-
-pub get_set : {A : Type 0} (xs : List A) (i : ℕ) (x : A) → i < length xs → slice_get
-    (slice_set xs i x) i ≡ Some x
-get_set [] i x within = absurd (omega arith)
-get_set (y ∷ xs) zero x within = refl
-get_set (y ∷ xs) (suc i) x within = get_set xs i x (omega (arith, within))
-
-pub get_other : {A : Type 0} (xs : List A) (i k : ℕ) (x : A) → (k ≡ i → ⊥)
-    → slice_get (slice_set xs i x) k ≡ slice_get xs k
-get_other [] i k x other = refl
-get_other (y ∷ xs) zero zero x other = absurd (other refl)
-get_other (y ∷ xs) zero (suc k) x other = refl
-get_other (y ∷ xs) (suc i) zero x other = refl
-get_other (y ∷ xs) (suc i) (suc k) x other = get_other xs i k x (λ same. other (ap suc same))
-
-pub set_length : {A : Type 0} (xs : List A) (i : ℕ) (x : A) → length (slice_set xs i x) ≡ length xs
-set_length [] i x = refl
-set_length (y ∷ xs) zero x = refl
-set_length (y ∷ xs) (suc i) x = ap suc (set_length xs i x)
-
 pub some_same : {A : Type 0} (x y : A) → ◌≡◌ {A = Option A} (Some x) (Some y) → x ≡ y
 some_same x y same = cc
 
 pub get_at : {A : Type 0} (xs : List A) (i : ℕ) (x : A) → i < length xs → x ≡ slice_index_or xs i x
     → slice_get xs i ≡ Some x
-get_at [] i x within is = absurd (omega arith)
-get_at (y ∷ xs) zero x within is = ap (λ z. Some z) (sym is)
-get_at (y ∷ xs) (suc i) x within is = get_at xs i x (omega (arith, within)) is
+get_at xs i x within is = slice_get-get_or xs i x within ∙ ap (λ z. Some z) (sym is)
 
 pub set_back : {A : Type 0} (xs : List A) (i : ℕ) (x y : A) → slice_get xs i ≡ Some x → y ≡ x
     → slice_set xs i y ≡ xs
 set_back [] i x y is same = refl
 set_back (z ∷ xs) zero x y is same = ap (λ t. t ∷ xs) (same ∙ sym (some_same z x is))
 set_back (z ∷ xs) (suc i) x y is same = ap (λ t. z ∷ t) (set_back xs i x y is same)
-
-pub set_again : {A : Type 0} (xs : List A) (i : ℕ) (x y : A)
-    → slice_set (slice_set xs i x) i y ≡ slice_set xs i y
-set_again [] i x y = refl
-set_again (z ∷ xs) zero x y = refl
-set_again (z ∷ xs) (suc i) x y = ap (λ t. z ∷ t) (set_again xs i x y)
 
 -- what stands in a list in which one place was set: the new one, or what stood there
 pub get_cases : {A : Type 0} (xs : List A) (i k : ℕ) (x y : A)
@@ -80,7 +49,7 @@ get_cases xs i k x y is =
           let there : slice_get (slice_set xs i x) i ≡ Some y =
           subst (λ (n : ℕ). slice_get (slice_set xs i x) n ≡ Some y) same is in
           let within : i < length xs =
-          omega (arith, set_length xs i x, get_within (slice_set xs i x) i y there) in
+          omega (arith, length-set xs i x, get_within (slice_set xs i x) i y there) in
           inl (same, some_same x y (sym (get_set xs i x within) ∙ there))
       | inr other ↦ inr (other, sym (get_other xs i k x other) ∙ is)
     ]

@@ -1,5 +1,6 @@
 -- What a step makes of the devices and the links of a world, where it is made and where it is full.
-use Rattle.std.specs.Prelude.{◌≡◌, ◌⊎◌, ℕ, zero, suc, ◌+◌, ◌&&◌, not, Bool, true, false, List, []}
+use Rattle.std.specs.Prelude.{◌≡◌, ◌⊎◌, ℕ, zero, suc, ◌+◌, ◌-◌, ◌&&◌, not, Bool, true, false}
+use Rattle.std.specs.Prelude.{if◌then◌else◌, List, [], drop}
 use Rattle.std.specs.Prelude.{◌∷◌, ◌++◌, map, length, Option, Some, None, Result, Ok, Err}
 use Rattle.std.specs.Prelude.{slice_get, slice_set}
 use Rattle.std.specs.List.{list_any}
@@ -20,6 +21,7 @@ use Rattle.world_devices.specs.declared.stop.StepFault.TheVariants as fault
 use Rattle.world_laws.specs.Worlds.{contact_for}
 use Rattle.world_links.specs.Ends.{EndValue, answer_to, input_of}
 use Rattle.world_links.specs.Links.{end_of, left_by, side_of}
+use Rattle.world_links.specs.declared.end.TheConstants.{PIECE_LEN}
 use Rattle.world_links.specs.declared.link.Link.{Link}
 use Rattle.world_links.specs.declared.moves.Side.{Side}
 use Rattle.world_scripts.specs.Labels.{KindAndDescriptor, labelled}
@@ -31,7 +33,7 @@ use Rattle.sync_world.specs.Naming.{group_of, nonce_of}
 use Rattle.sync_world.specs.Posting.{message_of}
 use Rattle.sync_world.specs.Refusing.{group_labelled, has_links}
 use Rattle.sync_world.specs.Shown.{arrived}
-use Rattle.sync_world.specs.Staging.{HearsMore, after_ran, begun_with, new_link, with_end}
+use Rattle.sync_world.specs.Staging.{after_ran, begun_with, new_link, with_end}
 use Rattle.sync_world.specs.Turning.{is_moving, look_link}
 use Rattle.sync_world.specs.declared.stage.Stage.{Stage}
 
@@ -128,54 +130,41 @@ LinksTwo d e mode latency came old new =
 
 -- ---- a turn
 
--- whether a device still asks at an end of a link, which has this number there
-abbrev pub is_asked_at : DeviceValue → Option ℕ → Bool
-is_asked_at device None = false
-is_asked_at device (Some a) = asks (end_at device a)
+-- an end that heard the next answer: all that it was given but what is left of its input then
+abbrev pub heard_next : EndValue → EndValue
+heard_next e = record e { heard = length e.given - length (drop PIECE_LEN (input_of e)) }
 
-abbrev pub with_answer : DeviceValue → Bool → Option ℕ → EndValue → DeviceValue
-with_answer device is_cut None e = device
-with_answer device is_cut (Some a) e = with_plan a (answer_to is_cut (input_of e)) device
+-- A device and an end of a link that has this number at its host, where it has one: what the end is
+-- to hear is planned there, where the device still asks on the link; else both are as before.
+abbrev pub hears_at_end : (is_cut : Bool) → DeviceValue → EndValue → Option ℕ
+    → DeviceValue × EndValue
+hears_at_end is_cut d e None = (d, e)
+hears_at_end is_cut d e (Some a) =
+    if asks (end_at d a)
+    then (with_plan a (answer_to is_cut (input_of e)) d, heard_next e) else (d, e)
 
--- what an end is to hear is planned at its device, where that still asks there; another end is left
-abbrev pub PlansEndBy : (asked is_cut : Bool) → DeviceValue → DeviceValue → EndValue → EndValue
-    → Type 0
-PlansEndBy true is_cut old new e e' = (new ≡ with_answer old is_cut e.at e) × HearsMore e e'
-PlansEndBy false is_cut old new e e' = (new ≡ old) × (e' ≡ e)
+-- so of a link, at the side at which the device stands
+abbrev pub hears_on_link : DeviceValue → Link → Option Side → DeviceValue × Link
+hears_on_link d l None = (d, l)
+hears_on_link d l (Some from) =
+    let heard = hears_at_end l.is_cut d (end_of from l) (end_of from l).at in
+    (heard.0, with_end from heard.1 l)
 
-abbrev pub PlansEndOn : (is_cut : Bool) → DeviceValue → DeviceValue → EndValue → EndValue → Type 0
-PlansEndOn is_cut old new e e' = PlansEndBy (is_asked_at old e.at) is_cut old new e e'
-
--- on a link, at the end of the device
-abbrev pub PlansSideOn : Option Side → DeviceValue → DeviceValue → Link → Link → Type 0
-PlansSideOn None old new l l' = (new ≡ old) × (l' ≡ l)
-PlansSideOn (Some from) old new l l' =
-    PlansEndOn l.is_cut old new (end_of from l) (end_of from l')
-    × (l' ≡ with_end from (end_of from l') l)
-
-abbrev pub PlansLinkOn : ℕ → DeviceValue → DeviceValue → Link → Link → Type 0
-PlansLinkOn d old new l l' = PlansSideOn (side_of d l) old new l l'
-
--- on all links, in order
-abbrev pub PlansLinksOn : ℕ → DeviceValue → DeviceValue → List Link → List Link → Type 0
-PlansLinksOn d old new [] [] = new ≡ old
-PlansLinksOn d old new (l ∷ ls) (l' ∷ ls') =
-    (between : DeviceValue) × PlansLinkOn d old between l l' × PlansLinksOn d between new ls ls'
-PlansLinksOn d old new _ _ = ⊥
-
--- what a turn makes of its device and of the links
-pub record Turns (d : ℕ) (came : Result (Option Bool) StepFault) (old : List Link)
-    (was is : DeviceValue) (new : List Link) : Type 0 where
-  pub planned : DeviceValue
-  pub heard : List Link
-  pub plans : PlansLinksOn d was planned old heard
-  pub did : DeviceMakesTurn came planned is
-  pub behind : LinksBehind d is came heard new
+-- so of all links, in order
+abbrev pub hears_on_links : (number : ℕ) → DeviceValue → List Link → DeviceValue × List Link
+hears_on_links number d [] = (d, [])
+hears_on_links number d (l ∷ ls) =
+    let first = hears_on_link d l (side_of number l) in
+    let rest = hears_on_links number first.0 ls in
+    (rest.0, first.1 ∷ rest.1)
 
 -- One turn of a device: one answer is heard on each of its links that is still asked, and all that
 -- is due is sent. It answers whether all links were still.
 abbrev pub TurnsOnce : ℕ → Act Bool
-TurnsOnce d came old new = DeviceDoes d (Turns d came old.links) old new
+TurnsOnce d came old new =
+    DeviceDoes d (λ was is links.
+    let heard = hears_on_links d was old.links in
+    DeviceMakesTurn came heard.0 is × LinksBehind d is came heard.1 links) old new
 
 -- ---- rounds
 

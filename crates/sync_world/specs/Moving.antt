@@ -31,25 +31,21 @@ link_cut (Some l) = if l.is_cut then None else Some (cut l)
 -- the links after a step that makes this of one of them: refused exactly where it makes nothing
 abbrev pub MakesOfLink : Option Link → ℕ → List Link → List Link → Result (Unit {0}) StepFault
     → Type 0
-MakesOfLink None link old new (Ok _) = ⊥
 MakesOfLink None link old new (Err fault.Refused) = new ≡ old
-MakesOfLink None link old new (Err fault.Full) = ⊥
 MakesOfLink None link old new (Err fault.Memory) = new ≡ old
+MakesOfLink None link old new _ = ⊥
 MakesOfLink (Some l) link old new (Ok _) = new ≡ slice_set old link l
-MakesOfLink (Some l) link old new (Err fault.Refused) = ⊥
-MakesOfLink (Some l) link old new (Err fault.Full) = ⊥
 MakesOfLink (Some l) link old new (Err fault.Memory) = new ≡ old
+MakesOfLink (Some l) link old new _ = ⊥
 
 -- the same of the link alone
 abbrev pub BecomesOne : Option Link → Link → Link → Result (Unit {0}) StepFault → Type 0
-BecomesOne None old new (Ok _) = ⊥
 BecomesOne None old new (Err fault.Refused) = new ≡ old
-BecomesOne None old new (Err fault.Full) = ⊥
 BecomesOne None old new (Err fault.Memory) = new ≡ old
+BecomesOne None old new _ = ⊥
 BecomesOne (Some l) old new (Ok _) = new ≡ l
-BecomesOne (Some l) old new (Err fault.Refused) = ⊥
-BecomesOne (Some l) old new (Err fault.Full) = ⊥
 BecomesOne (Some l) old new (Err fault.Memory) = new ≡ old
+BecomesOne (Some l) old new _ = ⊥
 
 -- what a step makes of a link, where it moves what is in flight there or cuts it: the number of the
 -- link, and the link then

@@ -32,11 +32,9 @@ nonce_of mode.Batch link = None
 
 -- what was made is this, and it is refused exactly where there is none, but for want of memory
 abbrev pub IsMade : {A : Type 0} → Option A → Result A StepFault → Type 0
-IsMade None (Ok made) = ⊥
 IsMade None (Err fault.Refused) = Unit {0}
-IsMade None (Err fault.Full) = ⊥
 IsMade None (Err fault.Memory) = Unit {0}
+IsMade None _ = ⊥
 IsMade (Some value) (Ok made) = made ≡ value
-IsMade (Some value) (Err fault.Refused) = ⊥
-IsMade (Some value) (Err fault.Full) = ⊥
 IsMade (Some value) (Err fault.Memory) = Unit {0}
+IsMade (Some value) _ = ⊥

@@ -1,11 +1,11 @@
 //! A device's turn on the links of a world.
 ghost use Rattle.std.specs.Prelude.{◌≡◌, IfOk, OnOk, length, map};
 ghost use Rattle.std.specs.List.{list_any};
-ghost use Rattle.sync_world.specs.Doing.{PlansEndOn, PlansLinkOn, PlansLinksOn};
+ghost use Rattle.sync_world.specs.Doing.{hears_at_end, hears_on_link, hears_on_links};
 ghost use Rattle.sync_world.specs.Shown.{arrived};
 ghost use Rattle.sync_world.specs.Staging.{PlansAll, PlansEnd, PlansLink, SameFiles};
 ghost use Rattle.sync_world.specs.Turning.{is_moving, look_at, look_link, shut_at};
-ghost use Rattle.world_links.specs.Links.{left_by};
+ghost use Rattle.world_links.specs.Links.{left_by, side_of};
 
 use std::alloc::AllocError;
 use world_devices::Device;
@@ -20,7 +20,8 @@ pub(crate) fn plan_all(
     ensures files { SameFiles device.old device.new }
     ensures number { length links.new ≡ length links.old }
     ensures planned { OnOk result (PlansAll number device.old device.new links.old links.new) }
-    ensures exact { OnOk result (PlansLinksOn number device.old device.new links.old links.new) }
+    ensures exact { OnOk result
+        ((device.new, links.new) ≡ hears_on_links number device.old links.old) }
 {
     'links: for i in 0..links.len() {
         plan_on(device, number, &mut links[i])?;
@@ -32,7 +33,8 @@ pub(crate) fn plan_all(
 fn plan_on(device: &mut Device, number: u8, link: &mut Link) -> Result<(), AllocError>
     ensures files { SameFiles device.old device.new }
     ensures planned { OnOk result (PlansLink number device.old device.new link.old link.new) }
-    ensures exact { OnOk result (PlansLinkOn number device.old device.new link.old link.new) }
+    ensures exact { OnOk result
+        ((device.new, link.new) ≡ hears_on_link device.old link.old (side_of number link.old)) }
 {
     match link.side_of(number) {
         Some(Side::Near) => plan(device, &mut link.near, link.is_cut),
@@ -45,7 +47,8 @@ fn plan_on(device: &mut Device, number: u8, link: &mut Link) -> Result<(), Alloc
 fn plan(device: &mut Device, end: &mut End, is_cut: bool) -> Result<(), AllocError>
     ensures files { SameFiles device.old device.new }
     ensures planned { OnOk result (PlansEnd device.old device.new end.old end.new) }
-    ensures exact { OnOk result (PlansEndOn is_cut device.old device.new end.old end.new) }
+    ensures exact { OnOk result
+        ((device.new, end.new) ≡ hears_at_end is_cut device.old end.old end.old.at) }
 {
     match end.at() {
         Some(at) if device.is_asked(at) => {

@@ -1,14 +1,15 @@
 use Rattle.std.proofs.Common.{rules, ◌≡◌, ◌≤◌, ◌<◌, ◌++◌, [], ◌∷◌, length, slice_get}
 use Rattle.std.proofs.Common.{slice_index_or}
+use Rattle.std.proofs.lemmas.Option.{slice_get_past}
 use Rattle.sync_world.proofs.PostingLaws.{none_comes, some_comes}
-use Rattle.sync_world.proofs.RefusingLaws.{get_at, get_past}
+use Rattle.sync_world.proofs.WireLaws.{get_at}
 use Rattle.sync_world.proofs.posting.add_post.Goals as goal
 
 pub returns-in_default : goal.returns-in_default
 returns-in_default c =
     let past : length c.args.posts.now ≤ c.args.label = search rules in
     none_comes c.args.ids.now.items (slice_get c.args.posts.now c.args.label)
-    (get_past c.args.posts.now c.args.label past)
+    (slice_get_past c.args.posts.now c.args.label past)
 
 pub returns : goal.returns
 returns c =

@@ -1,6 +1,7 @@
 use Rattle.std.proofs.Common.{arith}
+use Rattle.sync_course.proofs.LiftLaws.{get_within}
 use Rattle.sync_world.proofs.ToldLaws.{stand_more}
-use Rattle.sync_world.proofs.WireLaws.{get_at, get_within}
+use Rattle.sync_world.proofs.WireLaws.{get_at}
 use Rattle.sync_world.proofs.world.links_stand_on.Goals as goal
 
 pub devices-init : goal.devices-init

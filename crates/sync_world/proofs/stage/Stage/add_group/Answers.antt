@@ -1,6 +1,7 @@
 use Rattle.std.proofs.Common.{◌<◌, ◌∙◌, length, arith, ap, Err, rules, true, slice_get, refl, Ok}
 use Rattle.std.proofs.Common.{inl}
 use Rattle.std.specs.Option.{option_map}
+use Rattle.std.proofs.lemmas.Option.{slice_get_past}
 use Rattle.world_devices.specs.declared.stop.StepFault.TheVariants as fault
 use Rattle.sync_world.proofs.GoLaws.{same_leads}
 use Rattle.sync_world.proofs.StepLaws.{leads_err, came_goes, ends_leads, fails_leads}
@@ -8,12 +9,13 @@ use Rattle.world_devices.specs.Devices.{DeviceValue}
 use Rattle.world_devices.specs.Refusals.{RefusedBy, refuses_group}
 use Rattle.sync_ids.specs.Values.{GroupValue}
 use Rattle.sync_world.specs.Naming.{group_of}
-use Rattle.sync_world.proofs.RefusingLaws.{by_same, done_same, get_at, get_past, with_both}
+use Rattle.sync_world.proofs.RefusingLaws.{by_same, done_same, with_both}
 use Rattle.sync_world.proofs.RefusingLaws.{with_missing}
 use Rattle.sync_rules.specs.declared.entries.Entry.TheVariants as entry
 use Rattle.world_scripts.specs.declared.step.WorldStep.TheVariants as step
 use Rattle.sync_world.proofs.DoingLaws.{added, added_in_vain, added_not, does_handed, made_as}
 use Rattle.sync_world.proofs.DoingLaws.{made_unfilled}
+use Rattle.sync_world.proofs.WireLaws.{get_at}
 use Rattle.sync_world.proofs.stage.Stage.add_group.Goals as goal
 
 pub returns-in_err-def-clause-goes : goal.returns-in_err-def-clause-goes
@@ -58,7 +60,7 @@ returns-then-d-len-clause-refused c =
     (with_missing (λ (def : GroupValue) (x : DeviceValue). refuses_group x.node def)
     (group_of c.args.kind c.args.descriptor.now)
     (slice_get c.args.self.now.devices.items c.args.d)
-    (get_past c.args.self.now.devices.items c.args.d (omega arith))) tt
+    (slice_get_past c.args.self.now.devices.items c.args.d (omega arith))) tt
 
 pub returns-in_err-ran-clause-refused : goal.returns-in_err-ran-clause-refused
 returns-in_err-ran-clause-refused c =

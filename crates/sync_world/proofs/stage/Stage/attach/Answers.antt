@@ -10,8 +10,9 @@ use Rattle.sync_world.proofs.StepLaws.{attach_added, attach_gone, begins_leads, 
 use Rattle.sync_world.proofs.StepLaws.{begun_written, none_of, ends_leads, fails_leads, fresh_stays}
 use Rattle.sync_world.proofs.StepLaws.{gone_goes, leads_err, leads_links}
 use Rattle.world_devices.specs.Refusals.{RefusedBy, refuses_link}
-use Rattle.sync_world.proofs.RefusingLaws.{attach_at, by_same, get_at, was_allowed}
+use Rattle.sync_world.proofs.RefusingLaws.{attach_at, by_same, was_allowed}
 use Rattle.sync_world.proofs.TurningLaws.{attach_broken, attach_done, attach_fault, attaches_handed}
+use Rattle.sync_world.proofs.WireLaws.{get_at}
 use Rattle.sync_world.proofs.stage.Stage.attach.Goals as goal
 
 pub returns-then-d-len-clause-goes : goal.returns-then-d-len-clause-goes

@@ -1,8 +1,8 @@
 use Rattle.std.proofs.Common.{◌<◌, ◌≤◌, ap, false, length, arith, refl, ◌∙◌}
+use Rattle.std.proofs.lemmas.List.{length-set}
 use Rattle.world_devices.specs.declared.stop.StepFault.TheVariants as fault
 use Rattle.sync_world.proofs.StepLaws.{ends_leads, goes_none, leads_err, quiet_leads}
 use Rattle.sync_world.proofs.GoLaws.{leads_then}
-use Rattle.sync_world.proofs.WireLaws.{set_length}
 use Rattle.world_devices.specs.Devices.{DeviceValue}
 use Rattle.world_devices.specs.Doing.{clocked}
 use Rattle.sync_world.proofs.DoingLaws.{all_changed}
@@ -28,7 +28,7 @@ devices-preserved c =
     let made = c.set_clock.ensures in
     record {
       fault = c.devices.invariant.fault;
-      number = set_length c.devices.self.devices.items c.devices.d c.set_clock.new.self
+      number = length-set c.devices.self.devices.items c.devices.d c.set_clock.new.self
           ∙ c.devices.invariant.number;
       goes = λ w s. leads_then w false c.devices.self.devices.items _ c.devices.self.links.items _
           (c.devices.invariant.goes w s)

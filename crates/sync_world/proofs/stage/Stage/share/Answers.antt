@@ -1,18 +1,20 @@
 use Rattle.std.proofs.Common.{◌<◌, length, arith, ap, Err, rules, true, slice_get, refl, inl}
 use Rattle.std.specs.Option.{option_map}
+use Rattle.std.proofs.lemmas.Option.{slice_get_past}
 use Rattle.sync_ids.specs.Ids.{group_id_of}
 use Rattle.sync_ids.specs.Values.{GroupValue}
 use Rattle.sync_world.proofs.GoLaws.{same_leads}
 use Rattle.sync_world.proofs.StepLaws.{leads_err, came_goes, fails_leads}
 use Rattle.world_devices.specs.Refusals.{RefusedBy, refuses_level}
 use Rattle.sync_world.specs.Refusing.{group_labelled, lacks, refuses_with}
-use Rattle.sync_world.proofs.RefusingLaws.{by_same, done_same, get_at, get_past, labelled_made}
+use Rattle.sync_world.proofs.RefusingLaws.{by_same, done_same, labelled_made}
 use Rattle.sync_world.proofs.RefusingLaws.{share_past, share_refused, with_missing}
 use Rattle.sync_rules.specs.declared.entries.Entry.TheVariants as entry
 use Rattle.world_laws.specs.Worlds.{contact_for}
 use Rattle.world_scripts.specs.declared.step.WorldStep.TheVariants as step
 use Rattle.sync_world.specs.Naming.{group_of}
 use Rattle.sync_world.proofs.DoingLaws.{added, added_not, does_handed, made_level, made_unfilled}
+use Rattle.sync_world.proofs.WireLaws.{get_at}
 use Rattle.sync_world.proofs.stage.Stage.share.Goals as goal
 
 pub returns-in_err-ran-clause-goes : goal.returns-in_err-ran-clause-goes
@@ -56,7 +58,7 @@ returns-then-d-len-clause-refused c known =
     (slice_get c.args.self.now.devices.items c.args.d))
     (with_missing lacks (group_labelled (slice_get c.args.self.now.groups c.args.group))
     (slice_get c.args.self.now.devices.items c.args.d)
-    (get_past c.args.self.now.devices.items c.args.d (omega arith)))) tt
+    (slice_get_past c.args.self.now.devices.items c.args.d (omega arith)))) tt
 
 pub returns-in_err-ran-clause-refused : goal.returns-in_err-ran-clause-refused
 returns-in_err-ran-clause-refused c known =
