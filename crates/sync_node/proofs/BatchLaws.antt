@@ -26,7 +26,8 @@ use Rattle.outside.proofs.CallSteps.{moments_map}
 use Rattle.sync_rules.specs.Allows.{is_account_kind, is_settling_kind}
 use Rattle.sync_rules.proofs.StepKinds.{all_settling_only}
 use Rattle.sync_node.specs.declared.link.Link.{Link}
-use Rattle.sync_node.specs.Adding.{AddsAtMost, IsPlain}
+use Rattle.sync_course.specs.Free.{IsPlain}
+use Rattle.sync_node.specs.Adding.{AddsAtMost}
 use Rattle.sync_node.specs.Node.{AreAttached, MayGoOn}
 use Rattle.sync_store.specs.Commits as store_commits
 use Rattle.sync_store.specs.Moments as store_moments

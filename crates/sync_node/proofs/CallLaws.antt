@@ -14,7 +14,7 @@ use Rattle.sync_node.specs.declared.fault.Fault.TheVariants as node_fault
 use Rattle.sync_node.specs.declared.fault.NodeFault.{NodeFault}
 use Rattle.sync_node.specs.declared.fault.NodeFault.TheVariants as fault
 use Rattle.sync_node.specs.declared.link.Link.{Link}
-use Rattle.sync_node.specs.Adding.{IsPlain}
+use Rattle.sync_course.specs.Free.{IsPlain}
 use Rattle.sync_node.specs.Batches.{AddStops, Added, IsUndone}
 use Rattle.sync_node.specs.Calls.{AddingLeaves, CallAnswers, CallGoes, CallStops, StopsBy}
 use Rattle.sync_node.specs.Causes.{LinksGo}

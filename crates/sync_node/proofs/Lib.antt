@@ -11,7 +11,7 @@ pub mod CourseLaws
 pub mod DidLaws
 pub mod WentLaws
 pub mod PrimLaws
-mod BatchLaws
+pub mod BatchLaws
 mod LinkActs
 mod SendActs
 mod RunActLaws

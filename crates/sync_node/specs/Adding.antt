@@ -1,7 +1,6 @@
 -- A batch that is added to a journal beside the sessions, and settling behind it.
 use Rattle.std.specs.Prelude.{◌≡◌, ◌⊎◌, ◌*◌, List, [], ◌∷◌, ◌++◌, length}
 use Rattle.sync_rules.specs.declared.entries.Entry.{Entry}
-use Rattle.sync_rules.specs.declared.entries.Entry.TheVariants as entry
 use Rattle.sync_rules.specs.Clients.{Meaning}
 use Rattle.sync_rules.specs.Facts.{after_all, facts}
 use Rattle.sync_rules.specs.Legal.{AllSettling}
@@ -9,20 +8,6 @@ use Rattle.outside.specs.Outside.{MakesAtMost, Outside}
 use Rattle.sync_store.specs.Runs.{AddsBatch}
 use Rattle.sync_store.specs.Store.{StoreValue}
 use Rattle.sync_node.specs.Output.{Journal}
-
--- one entry that adds a contact, a group or a message, or sets a level
-abbrev pub IsPlain : List Entry → Type 0
-IsPlain (entry.Contact c ∷ []) = Unit {0}
-IsPlain (entry.Group def ∷ []) = Unit {0}
-IsPlain (entry.Level c g l ∷ []) = Unit {0}
-IsPlain (entry.Author m ∷ []) = Unit {0}
-IsPlain _ = ⊥
-
--- the journal with settling
-pub record GoesOnSettling (clients : Meaning) (j whole : Journal) : Type 0 where
-  pub more : Journal
-  pub settling : AllSettling clients (facts j) more
-  pub is : whole ≡ j ++ more
 
 -- the journal with the batch and settling behind it
 pub record AddsOne (clients : Meaning) (j : Journal) (batch : List Entry)

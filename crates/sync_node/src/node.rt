@@ -109,7 +109,8 @@ impl Node {
     ghost use Rattle.sync_rules.specs.declared.limits.TheConstants.{MAX_SESSIONS};
     ghost use Rattle.sync_store.specs.Fitting.{FitsFiles};
     ghost use Rattle.sync_store.specs.Moments.{LeadsTo};
-    ghost use Rattle.sync_node.specs.Adding.{AddsAtMost, IsPlain};
+    ghost use Rattle.sync_course.specs.Free.{IsPlain};
+    ghost use Rattle.sync_node.specs.Adding.{AddsAtMost};
     ghost use Rattle.sync_node.specs.Batches.{Added, AddStops};
     ghost use Rattle.sync_node.specs.Calls.{AddCallStops, AttachStops, CallAnswers, CallGoes};
     ghost use Rattle.sync_node.specs.Calls.{CallStops};

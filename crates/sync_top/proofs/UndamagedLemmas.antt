@@ -13,7 +13,7 @@ use Rattle.sync_rules.specs.declared.states.Refused.{Refused}
 use Rattle.sync_rules.specs.declared.states.Refused.TheVariants as refused
 use Rattle.sync_rules.specs.Clients.{Meaning}
 use Rattle.sync_rules.specs.Facts.{Facts, Id}
-use Rattle.entry_codec.specs.Standing.{journal, no_store}
+use Rattle.entry_codec.specs.Standing.{Standing, journal, no_store}
 use Rattle.entry_codec.specs.ReadingFiles.{read_standing, stands_in}
 use Rattle.file_standing.specs.Standing.{stands}
 use Rattle.sync_store.specs.Begin.{InitMoment, has_open}

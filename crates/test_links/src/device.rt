@@ -6,7 +6,7 @@ ghost use Rattle.journal_state.specs.Whole.{KnowsJudgements};
 ghost use Rattle.outside.specs.declared.limits.TheConstants.{LINKS};
 ghost use Rattle.sync_rules.specs.declared.limits.TheConstants.{MAX_SESSIONS};
 ghost use Rattle.outside.specs.HostTold.{host_told};
-ghost use Rattle.sync_node.specs.Adding.{IsPlain};
+ghost use Rattle.sync_course.specs.Free.{IsPlain};
 ghost use Rattle.sync_rules.specs.Allows.{is_settling_kind};
 ghost use Rattle.sync_rules.specs.Clients.{Meaning};
 ghost use Rattle.sync_rules.specs.Legal.{Allowed, suits_nonce};

@@ -47,7 +47,7 @@ use Rattle.sync_course.proofs.LiftLaws.{get_within}
 use Rattle.sync_course.proofs.PathLaws.{path_then}
 use Rattle.sync_course.proofs.FreeSuits.{moment_stands}
 use Rattle.sync_course.proofs.SendLaws.{all_sent, events_path}
-use Rattle.sync_node.specs.Adding.{IsPlain}
+use Rattle.sync_course.specs.Free.{IsPlain}
 use Rattle.sync_node.specs.Batches.{AddStops, Added, CommitsAndSettles}
 use Rattle.sync_node.specs.Courses.{AllRead, IsLinkRead, links_from, place_at}
 use Rattle.sync_node.specs.Did.{ComesAtFronts, Did, SinceThen}

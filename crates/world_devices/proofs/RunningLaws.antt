@@ -14,7 +14,7 @@ use Rattle.sync_rules.specs.declared.limits.TheConstants.{MAX_SESSIONS}
 use Rattle.sync_store.specs.Store.{IsStore, StoreValue}
 use Rattle.sync_store.specs.Ready.{IsReady}
 use Rattle.sync_store.specs.Fitting.{FitsFiles}
-use Rattle.sync_node.specs.Adding.{IsPlain}
+use Rattle.sync_course.specs.Free.{IsPlain}
 use Rattle.sync_node.specs.Node.{NodeValue, MayRun}
 use Rattle.world_laws.specs.Worlds.{HasNoBrief}
 use Rattle.world_devices.specs.Brought.{brought_on}

@@ -33,7 +33,7 @@ use Rattle.sync_store.specs.declared.fault.LoadFault.{LoadFault}
 use Rattle.sync_store.specs.declared.fault.StoreFault.{StoreFault}
 use Rattle.sync_node.specs.Node.{NodeValue}
 use Rattle.world_devices.specs.Devices.{DeviceValue, HostGoesOn, IsAnew, IsDevice, LeavesDisk}
-use Rattle.world_devices.specs.Doing.{BreaksOff, CameStarting, ComesOf, ComesOfImage, CrashesTo}
+use Rattle.world_devices.specs.Doing.{FallsAtStop, CameStarting, ComesOf, ComesOfImage, CrashesTo}
 use Rattle.world_devices.specs.Doing.{DeviceRestarts, IsAhead, Settles, SettlesFrom}
 use Rattle.world_devices.specs.Doing.{load_calls}
 use Rattle.world_devices.specs.Keeping.{Journal, KeepsOn, LeavesSome, StandsForSome}
@@ -403,13 +403,13 @@ restart_failed d (Err e) new at is settles left =
 -- its disk failed
 pub restart_broken : (d : DeviceValue) (r : Result (Unit {0}) StepFault) (mid new : DeviceValue)
     → Settles load_calls d.host mid.host → mid.stop ≡ d.stop → new.clock ≡ d.clock
-    → MatchResult r (λ _. BreaksOff mid.stop mid.host new) (λ e. e ≡ fault.Memory)
+    → MatchResult r (λ _. FallsAtStop mid.stop mid.host new) (λ e. e ≡ fault.Memory)
     → ComesOf mid.host new.host → DeviceRestarts r d new
 restart_broken d (Ok u) mid new settles stop clock off left = inr (record {
   at = mid.host;
   since = settles.calls;
   broken = came_starting d mid.host settles;
-  off = subst (λ (s : _). BreaksOff s mid.host new) stop off;
+  off = subst (λ (s : _). FallsAtStop s mid.host new) stop off;
   clock = clock;
 })
 restart_broken d (Err e) mid new settles stop clock is left =

@@ -24,7 +24,7 @@ use Rattle.sync_node.specs.declared.node.Plan.{Plan}
 use Rattle.sync_node.specs.declared.node.Turned.{Turned}
 use Rattle.sync_node.specs.declared.node.Turned.TheVariants as turned_kind
 use Rattle.world_devices.specs.Devices.{DeviceValue, HostGoesOn}
-use Rattle.world_devices.specs.Doing.{BreaksOff, ComesOf, DeviceRestarts, GivesUp, HasBegunOnLink, HasTurned}
+use Rattle.world_devices.specs.Doing.{FallsAtStop, ComesOf, DeviceRestarts, GivesUp, HasBegunOnLink, HasTurned}
 use Rattle.world_devices.specs.Doing.{IsAhead, KeepsOwn, OfNodes, StopsIn, next_session}
 use Rattle.world_devices.specs.Cited.{DeviceLaws}
 use Rattle.world_devices.specs.Linking.{IsUnlinked}
@@ -94,7 +94,7 @@ module _ {R : Type 0} (Calls Links : DeviceValue → DeviceValue → Result R St
       → (Full → Calls d new (Err fault.Full)) → (IsUnlinked new → Links d new (Ok a))
       → Links d new (Err fault.Memory) → Links d new (Err fault.Full) → (f : NodeFault)
       (at : MemHostValue)
-      → MatchResult r (λ x. (x ≡ a) × BreaksOff d.stop at new)
+      → MatchResult r (λ x. (x ≡ a) × FallsAtStop d.stop at new)
       (λ e. (e ≡ fault.Memory) ⊎ ((e ≡ fault.Full) × ((f ≡ node_fault.Full) × (new.host ≡ at))))
       → DeviceLeaves d.node d.host at → HostGoesOn d.host at → Broken at
       → (f ≡ node_fault.Full → new.host ≡ at → Full) → ComesOf at new.host

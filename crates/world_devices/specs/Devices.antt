@@ -13,7 +13,7 @@ use Rattle.sync_rules.specs.Legal.{Allowed}
 use Rattle.sync_rules.specs.Steps.{IsSettled}
 use Rattle.sync_store.specs.Store.{StoreValue}
 use Rattle.sync_store.specs.Ready.{IsReady}
-use Rattle.sync_node.specs.Adding.{IsPlain}
+use Rattle.sync_course.specs.Free.{IsPlain}
 use Rattle.sync_node.specs.Node.{IsNode, NodeValue, node_code, MayRun}
 use Rattle.world_devices.specs.Brought.{IsSilent, brought_on}
 use Rattle.world_devices.specs.Keeping.{AreLinksQuiet, IsRunSoFar, HoldsLaterJournal}

@@ -117,7 +117,7 @@ pub record CrashesTo (pick : Pick) (at : MemHostValue) (new : DeviceValue) : Typ
   pub disarmed : new.stop ≡ None
 
 -- the last call of the disk was the one that this stop names, and the device was started again over the image that it names
-pub record BreaksOff (stop : Option Stop) (at : MemHostValue) (new : DeviceValue) : Type 0 where
+pub record FallsAtStop (stop : Option Stop) (at : MemHostValue) (new : DeviceValue) : Type 0 where
   pub armed : Stop
   pub is : stop ≡ Some armed
   pub fell : armed.call + 1 ≡ at.disk.made
@@ -129,7 +129,7 @@ pub record StopsIn (Broken : MemHostValue → Type 0) (old new : DeviceValue) : 
   pub at : MemHostValue
   pub since : HostGoesOn old.host at
   pub broken : Broken at
-  pub off : BreaksOff old.stop at new
+  pub off : FallsAtStop old.stop at new
   pub clock : new.clock ≡ old.clock
 
 -- A call found no memory: it had come, by calls behind those of before, to a host of which this holds, and a

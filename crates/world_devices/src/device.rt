@@ -18,7 +18,7 @@ ghost use Rattle.world_devices.specs.Refusals.{refuses_level, refuses_link};
 ghost use Rattle.world_devices.specs.Refusals.{refuses_message};
 ghost use Rattle.world_devices.specs.Brought.{IsSilent, sent_by};
 ghost use Rattle.world_devices.specs.Running.{DeviceRuns, HoldsAfterCrash, IsStill};
-ghost use Rattle.world_devices.specs.Doing.{DeviceAddsEntry, DeviceBeginsSession, BreaksOff, ComesOf, CrashesTo};
+ghost use Rattle.world_devices.specs.Doing.{DeviceAddsEntry, DeviceBeginsSession, FallsAtStop, ComesOf, CrashesTo};
 ghost use Rattle.world_devices.specs.Doing.{IsAhead, KeepsOwn, load_calls};
 ghost use Rattle.world_devices.specs.Doing.{KeepsRest, DeviceRestarts};
 ghost use Rattle.world_devices.specs.Doing.{Settles, SettlesFrom, DeviceMakesTurn, clocked, stopped};
@@ -236,7 +236,7 @@ impl Device {
         requires { self.old.node ≡ None }
         ensures still { is_some self.new.node ≡ true → IsStill self.new.host }
         ensures clock { self.new.clock ≡ self.old.clock }
-        ensures to { MatchResult result (λ _. BreaksOff self.old.stop self.old.host self.new)
+        ensures to { MatchResult result (λ _. FallsAtStop self.old.stop self.old.host self.new)
             (λ e. e ≡ StepFault.Memory) }
         ensures left { ComesOf self.old.host self.new.host }
     {
@@ -270,7 +270,7 @@ impl Device {
         ensures still { is_some self.new.node ≡ true → IsStill self.new.host }
         ensures clock { self.new.clock ≡ self.old.clock }
         ensures to { MatchResult result
-            (λ a. (a ≡ crashed) × BreaksOff self.old.stop self.old.host self.new)
+            (λ a. (a ≡ crashed) × FallsAtStop self.old.stop self.old.host self.new)
             (λ e. (e ≡ StepFault.Memory) ⊎ ((e ≡ StepFault.Full)
             × ((fault ≡ NodeFault.Full) × (self.new.host ≡ self.old.host)))) }
         ensures left { ComesOf self.old.host self.new.host }
