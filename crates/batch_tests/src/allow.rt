@@ -11,7 +11,7 @@ ghost use Rattle.sync_rules.specs.Allows.{allows, is_due, is_settled, is_settlin
 ghost use Rattle.sync_rules.specs.Allows.{is_empty_start, is_opening, may_add_group, may_author};
 ghost use Rattle.sync_rules.specs.Allows.{may_begin, may_keep, may_take};
 ghost use Rattle.session_core.specs.Known.{IsIdOf, IsOfAll, IsOfEntry};
-ghost use Rattle.batch_tests.specs.Alone.{allows_alone, is_rows_kind};
+ghost use Rattle.sync_rules.specs.Allows.{is_rows_kind, may_stand_alone};
 
 use crate::given::gives;
 use crate::journal_view::JournalView;
@@ -221,7 +221,7 @@ fn allows_out<J: JournalView, C: Clients>(
 
 // Whether an entry may follow a settled journal as a batch of its own, where it is no Take and
 // begins no brief account.
-fn allows_alone<J: JournalView, C: Clients>(
+fn may_stand_alone<J: JournalView, C: Clients>(
     alloc: Global,
     journal: &J,
     clients: &C,
@@ -231,7 +231,7 @@ fn allows_alone<J: JournalView, C: Clients>(
     requires shared { (J.seen journal.now).shared ≡ shared_ids (C.meaning clients.now)
         (J.seen journal.now).facts }
     requires named { IsOfEntry known.now entry.now }
-    ensures { IfOk result (λ yes. yes ≡ allows_alone (C.meaning clients.now)
+    ensures { IfOk result (λ yes. yes ≡ may_stand_alone (C.meaning clients.now)
         (J.seen journal.now).facts entry.now) }
 {
     match entry {
@@ -309,5 +309,5 @@ pub fn allows<J: JournalView, C: Clients>(
     if !rest.is_empty() {
         return Ok(false);
     }
-    allows_alone(alloc, journal, clients, &id, first)
+    may_stand_alone(alloc, journal, clients, &id, first)
 }

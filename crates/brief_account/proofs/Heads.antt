@@ -51,7 +51,7 @@ contacts_go clients begun zero few = tt
 contacts_go clients begun (suc n) few =
     alone_then clients (headed begun 0 []) (headed begun n []) (contact_entries n) (entry.Contact n ∷ [])
     (contacts_go clients begun n (omega (arith, few))) (contacts_give begun n)
-    ((refl, refl, refl, omega (arith, few)), tt)
+    ((refl, refl, (refl, omega (arith, few))), tt)
 
 -- ---- groups
 

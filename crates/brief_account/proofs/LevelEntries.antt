@@ -96,8 +96,8 @@ module _ (clients : Meaning) (g : Facts) (settled : IsSettled clients g) (from :
   one_follows : (into : LevelMap) (c : ℕ) (id : Id) (l : Level) → c < g.contacts → is_some (group_at g.groups id) ≡ true
       → GoesOn clients (with_levels g into) (each_alone (level_entry c id l))
   one_follows into c id level.Invisible known group = tt
-  one_follows into c id level.Visible known group = ((refl, still_settled into, known, group), tt)
-  one_follows into c id level.Shared known group = ((refl, still_settled into, known, group), tt)
+  one_follows into c id level.Visible known group = ((refl, still_settled into, (known, group)), tt)
+  one_follows into c id level.Shared known group = ((refl, still_settled into, (known, group)), tt)
 
   all_follow : (into : LevelMap) (c : ℕ) (gs : List Known) → c < g.contacts
       → ((id : Id) → is_among (ids_of_groups gs) id ≡ true → is_some (group_at g.groups id) ≡ true)

@@ -1,7 +1,8 @@
 -- A batch that may follow a journal adds one message at most, and one session at most to the list of those that began.
-use Rattle.std.proofs.Common.{◌≡◌, ℕ, ◌+◌, ◌≤◌, Bool, true, false, cond, List, [], ◌∷◌, length, sym, subst, refl, arith, length-append}
+use Rattle.std.proofs.Common.{◌≡◌, ℕ, ◌+◌, ◌≤◌, Bool, true, false, cond, List, [], ◌∷◌, length, refl, arith, length-append}
 use Rattle.std.specs.Prelude.{Option, Some, None, not}
-use Rattle.std.specs.List.{AllByRecursion}
+use Rattle.std.specs.List.{AllByRecursion, list_all}
+use Rattle.std.proofs.lemmas.Bool.{false≢true}
 use Rattle.sync_ids.specs.Values.{MessageValue}
 use Rattle.sync_ids.specs.Ids.{message_id_of}
 use Rattle.sync_ids.specs.declared.records.Record.{Record}
@@ -11,9 +12,12 @@ use Rattle.sync_rules.specs.declared.entries.Entry.TheVariants as entry
 use Rattle.sync_rules.specs.Clients.{Meaning}
 use Rattle.sync_rules.specs.Lists.{firsts}
 use Rattle.sync_rules.specs.Facts.{Facts, Held, after, after_all, arrived, authored, contact_of, held_at, is_invisible, kept_as, level_at}
-use Rattle.sync_rules.specs.Sessions.{is_welcome, one_if, taken_from, taken_message, taken_message_of}
-use Rattle.sync_rules.specs.Legal.{Allowed, AreRows}
-use Rattle.entry_codec.proofs.OfBatches.{OfSteps, acks_all, offers_all, requests_all, rows_all, settling_all}
+use Rattle.sync_rules.specs.Sessions.{is_welcome, one_if, taken, taken_message, taken_message_of}
+use Rattle.sync_rules.specs.Legal.{Allowed, SuitsRows}
+use Rattle.sync_rules.proofs.BatchEntries.{all_pass, rows_each, settling_each}
+use Rattle.sync_rules.proofs.BatchKinds.{by_kind}
+use Rattle.sync_rules.proofs.StepKinds.{all_of_acks, all_of_offers, all_of_requests}
+use Rattle.sync_rules.proofs.StepLaws.{IsSettlingEntry}
 
 -- how many messages and sessions an entry adds
 abbrev adds : Entry → ℕ
@@ -59,8 +63,25 @@ none_added es all = go es all where
   go : (es : List Entry) → AllByRecursion AddsNone es → adds_all es ≤ 1
   go es all = omega (arith, sum es all)
 
-of_steps : OfSteps AddsNone
-of_steps = record { judged = λ id. refl; deliver = λ id. refl; invalid = λ id. refl }
+-- ---- a record adds one message at most
+
+-- a record that is taken as no message adds nothing
+abbrev is_mark : Entry → Bool
+is_mark (entry.Again s id) = true
+is_mark (entry.Offered s id) = true
+is_mark (entry.Seen s id) = true
+is_mark (entry.Asked s id) = true
+is_mark _ = false
+
+mark_adds : (e : Entry) → is_mark e ≡ true → AddsNone e
+mark_adds (entry.Session s) is = absurd (false≢true is)
+mark_adds (entry.Author m) is = absurd (false≢true is)
+mark_adds (entry.Arrive s m) is = absurd (false≢true is)
+mark_adds (entry.Kept from m) is = absurd (false≢true is)
+mark_adds _ is = refl
+
+marks_add : (es : List Entry) → list_all is_mark es ≡ true → adds_all es ≤ 1
+marks_add es all = none_added es (all_pass is_mark AddsNone mark_adds es all)
 
 one_message : (f : Facts) (s c : ℕ) (m : MessageValue) (o : Option Held) → adds_all (taken_message_of f s c m o) ≤ 1
 one_message f s c m None = omega arith
@@ -75,43 +96,46 @@ message_adds f s c m = go (is_welcome f c m.group) where
   go true = one_message f s c m (held_at f.held (message_id_of m))
   go false = omega arith
 
-taken_adds : (f : Facts) (s c : ℕ) (r : Record) → adds_all (taken_from f s c r) ≤ 1
-taken_adds f s c (record_kind.Ack ids) = none_added _ (acks_all AddsNone f s c (firsts ids) (λ id. refl))
-taken_adds f s c (record_kind.Message m) = message_adds f s c m
-taken_adds f s c (record_kind.Offer ids) = none_added _ (offers_all AddsNone f s c _ (firsts ids) (λ id. refl) (λ id. refl))
-taken_adds f s c (record_kind.Request ids) = none_added _ (requests_all AddsNone f s c (firsts ids) (λ id. refl))
-taken_adds f s c (record_kind.Versions versions) = omega arith
-taken_adds f s c (record_kind.Priority nonce) = omega arith
+taken_adds : (f : Facts) (s : ℕ) (r : Record) → adds_all (taken f s r) ≤ 1
+taken_adds f s (record_kind.Ack ids) =
+    marks_add (taken f s (record_kind.Ack ids))
+    (all_of_acks is_mark s (λ id. refl) f (contact_of f.sessions s) (firsts ids))
+taken_adds f s (record_kind.Message m) = message_adds f s (contact_of f.sessions s) m
+taken_adds f s (record_kind.Offer ids) =
+    marks_add (taken f s (record_kind.Offer ids))
+    (all_of_offers is_mark s (λ id. refl) (λ id. refl) f (contact_of f.sessions s) _ (firsts ids))
+taken_adds f s (record_kind.Request ids) =
+    marks_add (taken f s (record_kind.Request ids))
+    (all_of_requests is_mark s (λ id. refl) f (contact_of f.sessions s) (firsts ids))
+taken_adds f s (record_kind.Versions versions) = omega arith
+taken_adds f s (record_kind.Priority nonce) = omega arith
 
-few : (e : Entry) → adds e ≤ 1
-few (entry.Contact c) = omega arith
-few _ = omega arith
+-- ---- batches
 
-alone : (e : Entry) (rest : List Entry) → rest ≡ [] → adds_all (e ∷ rest) ≤ 1
-alone e rest none = subst (λ (es : List Entry). adds_all (e ∷ es) ≤ 1) (sym none) (omega (arith, few e))
+few_added : (e : Entry) → adds e ≤ 1
+few_added (entry.Contact c) = omega arith
+few_added _ = omega arith
 
-rows_add : (f : Facts) (es : List Entry) → AreRows f es → adds_all es ≤ 1
-rows_add f es is = none_added es (rows_all AddsNone (λ g t may. refl) (λ g contact id may. refl) f es is)
+step_adds : (e : Entry) → IsSettlingEntry e → AddsNone e
+step_adds (entry.Judged id) is = refl
+step_adds (entry.Deliver id) is = refl
+step_adds (entry.Invalid id) is = refl
+step_adds _ is = absurd is
+
+row_adds : (f : Facts) (e : Entry) → SuitsRows f e → AddsNone e
+row_adds f (entry.Tried t) is = refl
+row_adds f (entry.Want contact id) is = refl
+row_adds f _ is = absurd is
 
 batch_adds : (clients : Meaning) (f : Facts) (batch : List Entry) → Allowed clients f batch → adds_all batch ≤ 1
-batch_adds clients f [] is = absurd is
-batch_adds clients f (entry.Contact c ∷ rest) is = alone (entry.Contact c) rest is.0
-batch_adds clients f (entry.Group def ∷ rest) is = alone (entry.Group def) rest is.0
-batch_adds clients f (entry.Level c g l ∷ rest) is = alone (entry.Level c g l) rest is.0
-batch_adds clients f (entry.Session s ∷ rest) is = alone (entry.Session s) rest is.0
-batch_adds clients f (entry.Take s k ∷ rest) is =
-    let others = subst (λ (es : List Entry). adds_all es ≤ 1) (sym is.1.taken_so) (taken_adds f s (contact_of f.sessions s) is.1.read) in
-    omega (arith, others)
-batch_adds clients f (entry.Author m ∷ rest) is = alone (entry.Author m) rest is.0
-batch_adds clients f (entry.Judged id ∷ rest) is = none_added (entry.Judged id ∷ rest) (settling_all AddsNone of_steps clients f (entry.Judged id ∷ rest) is.2)
-batch_adds clients f (entry.Deliver id ∷ rest) is = none_added (entry.Deliver id ∷ rest) (settling_all AddsNone of_steps clients f (entry.Deliver id ∷ rest) is.2)
-batch_adds clients f (entry.Invalid id ∷ rest) is = none_added (entry.Invalid id ∷ rest) (settling_all AddsNone of_steps clients f (entry.Invalid id ∷ rest) is.2)
-batch_adds clients f (entry.Out s now what ∷ rest) is = alone (entry.Out s now what) rest is.0
-batch_adds clients f (entry.Brief n ∷ rest) is = alone (entry.Brief n) rest is.0
-batch_adds clients f (entry.Kept from m ∷ rest) is = alone (entry.Kept from m) rest is.0
-batch_adds clients f (entry.Tried t ∷ rest) is = rows_add f (entry.Tried t ∷ rest) is.suits
-batch_adds clients f (entry.Want contact id ∷ rest) is = rows_add f (entry.Want contact id ∷ rest) is.suits
-batch_adds clients f _ is = absurd is
+batch_adds clients f =
+    by_kind clients f (λ (es : List Entry). adds_all es ≤ 1) (record {
+      alone = λ e settled may. omega (arith, few_added e);
+      of_record = λ s k r settled next. omega (arith, taken_adds f s r);
+      steps = λ e es step is. none_added (e ∷ es) (settling_each AddsNone step_adds clients f (e ∷ es) is.2);
+      brief = λ n empty. omega arith;
+      rows = λ e es row is. none_added (e ∷ es) (rows_each AddsNone row_adds f (e ∷ es) is.suits);
+    })
 
 pub one_more : (clients : Meaning) (f : Facts) (batch : List Entry) → Allowed clients f batch
     → (length (after_all f batch).held ≤ length f.held + 1) × (length (after_all f batch).sessions ≤ length f.sessions + 1)

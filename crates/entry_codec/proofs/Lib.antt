@@ -5,7 +5,6 @@ mod AllowedIds
 mod Places
 mod HeldNames
 pub mod Named
-mod OfBatches
 mod Counts
 mod TakeCounts
 mod AccountParts

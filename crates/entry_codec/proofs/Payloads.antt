@@ -1,31 +1,30 @@
 -- How long the payload of a batch is that may follow a journal.
-use Rattle.std.proofs.Common.{◌≡◌, ℕ, suc, ◌+◌, ◌*◌, ◌-◌, ◌≤◌, Bool, true, false, cond, List, [], ◌∷◌, ◌++◌, length, refl, sym, ap, subst, arith, length-append}
+use Rattle.std.proofs.Common.{◌≡◌, ℕ, suc, ◌+◌, ◌*◌, ◌-◌, ◌≤◌, Bool, true, false, cond, List, [], ◌∷◌, ◌++◌, length, refl, arith, length-append}
 use Rattle.std.specs.Prelude.{Option, Some, None, is_some, not, ◌&&◌, nat_lt}
-use Rattle.std.specs.List.{AllByRecursion, flat_map, list_all, list_any}
+use Rattle.std.specs.List.{AllByRecursion, flat_map}
 use Rattle.sync_ids.specs.Values.{MessageValue}
 use Rattle.sync_ids.specs.Ids.{message_id_of}
 use Rattle.sync_ids.specs.Records.{IsRecord}
 use Rattle.sync_ids.specs.declared.records.Record.{Record}
 use Rattle.sync_ids.specs.declared.records.Record.TheVariants as record_kind
-use Rattle.sync_rules.specs.declared.answers.Judgement.{Judgement}
-use Rattle.sync_rules.specs.declared.answers.Judgement.TheVariants as judgement
 use Rattle.sync_rules.specs.declared.entries.Entry.{Entry}
 use Rattle.sync_rules.specs.declared.entries.Entry.TheVariants as entry
 use Rattle.sync_rules.specs.Clients.{Meaning}
 use Rattle.sync_rules.specs.Lists.{firsts, firsts_after, is_among, unless_among}
-use Rattle.sync_rules.specs.Facts.{Facts, Held, after, contact_of, held_at, is_invisible, level_at, row_at, wanted_from}
-use Rattle.sync_rules.specs.Steps.{answer_of, first_or_next, first_step, is_ended, is_failing, is_served, step, step_accepted, step_by, step_open}
+use Rattle.sync_rules.specs.Facts.{Facts, Held, contact_of, held_at, is_invisible, level_at, row_at, wanted_from}
 use Rattle.sync_rules.specs.declared.limits.TheConstants.{MAX_WANTED}
-use Rattle.sync_rules.specs.Sessions.{is_remembered, is_shown, is_shown_held, is_welcome, one_if, room_after, taken_acks, taken_from, taken_message, taken_message_of, taken_offers, taken_requests}
-use Rattle.sync_rules.specs.Legal.{Allowed, AreRows, IsSettling}
+use Rattle.sync_rules.specs.Sessions.{is_remembered, is_shown, is_shown_held, is_welcome, one_if, room_after, taken, taken_acks, taken_from, taken_message, taken_message_of, taken_offers, taken_requests}
+use Rattle.sync_rules.specs.Legal.{Allowed, SuitsRows}
+use Rattle.sync_rules.proofs.BatchEntries.{rows_each, settling_each}
+use Rattle.sync_rules.proofs.BatchKinds.{by_kind}
+use Rattle.sync_rules.proofs.StepLaws.{IsSettlingEntry}
 use Rattle.entry_codec.specs.declared.lengths.TheConstants.{MAX_BATCH_LEN}
 use Rattle.entry_codec.specs.Spelling.{IsEntry, spelling, spelling_in}
 use Rattle.entry_codec.specs.declared.naming.Format.{Format}
 use Rattle.entry_codec.specs.declared.naming.Format.TheVariants as format
 use Rattle.entry_codec.specs.Payloads.{payload_len}
 use Rattle.entry_codec.proofs.LawProofs.{batch_not_longer}
-use Rattle.entry_codec.proofs.Bounds.{length_within, most_of, spelled_some}
-use Rattle.entry_codec.proofs.OfBatches.{rows_all}
+use Rattle.entry_codec.proofs.Bounds.{length_within, most_of, short, spelled_some}
 
 abbrev AreEntries : List Entry → Type 0
 AreEntries es = AllByRecursion IsEntry es
@@ -100,46 +99,7 @@ taken_short f s c (record_kind.Request ids) is all = omega (arith, requests_shor
 taken_short f s c (record_kind.Versions versions) is all = omega arith
 taken_short f s c (record_kind.Priority nonce) is all = omega arith
 
--- ---- settling
-
--- a step is an entry of one id
-abbrev IsShort : Option Entry → Type 0
-IsShort None = Unit {0}
-IsShort (Some e) = most_of e ≤ 33
-
-accepted_short : (f : Facts) (h : Held) (deps : List (List ℕ)) → IsShort (step_accepted f h deps)
-accepted_short f h deps = go (list_any (is_failing f h.message.group) deps) (list_all (is_served f h.message.group) deps) where
-  go : (a b : Bool) → IsShort (cond a (Some (entry.Invalid h.id)) (cond b (Some (entry.Deliver h.id)) None))
-  go true b = omega arith
-  go false true = omega arith
-  go false false = tt
-
-open_short : (f : Facts) (h : Held) (answer : Judgement) → IsShort (step_open f h answer)
-open_short f h judgement.Refuse = omega arith
-open_short f h (judgement.Accept deps share) = accepted_short f h deps
-
-by_short : (f : Facts) (h : Held) (o : Option Judgement) → IsShort (step_by f h o)
-by_short f h None = omega arith
-by_short f h (Some answer) = go (is_ended f h.id) where
-  go : (b : Bool) → IsShort (cond b None (step_open f h answer))
-  go true = tt
-  go false = open_short f h answer
-
-either_short : (a b : Option Entry) → IsShort a → IsShort b → IsShort (first_or_next a b)
-either_short None b first later = later
-either_short (Some e) b first later = first
-
-first_short : (clients : Meaning) (f : Facts) (hs : List Held) → IsShort (first_step clients f hs)
-first_short clients f [] = tt
-first_short clients f (h ∷ hs) = either_short (step clients f h) (first_step clients f hs) (by_short f h (answer_of clients f h)) (first_short clients f hs)
-
-settling_short : (clients : Meaning) (f : Facts) (es : List Entry) → IsSettling clients f es → AreEntries es → length (spellings es) ≤ 33 * length es
-settling_short clients f [] is all = omega arith
-settling_short clients f (e ∷ es) is all =
-    let most : most_of e ≤ 33 = subst (λ (o : Option Entry). IsShort o) is.0 (first_short clients f f.held) in
-    omega (arith, payload_cons e es, (length_within e all.0).1, settling_short clients (after f e) es is.1 all.1)
-
--- ---- rows and wanted ids
+-- ---- steps, rows and wanted ids
 
 -- an entry of at most 44 bytes
 abbrev IsRow : Entry → Type 0
@@ -149,34 +109,39 @@ few_each : (es : List Entry) → AllByRecursion IsRow es → AreEntries es → l
 few_each [] few all = omega arith
 few_each (e ∷ es) few all = omega (arith, payload_cons e es, few.0, (length_within e all.0).1, few_each es few.1 all.1)
 
-rows_short : (f : Facts) (es : List Entry) → AreRows f es → AreEntries es → length (spellings es) ≤ 44 * length es
-rows_short f es is all = few_each es (rows_all IsRow (λ g t may. omega arith) (λ g contact id may. omega arith) f es is) all
+step_short : (e : Entry) → IsSettlingEntry e → IsRow e
+step_short (entry.Judged id) is = omega arith
+step_short (entry.Deliver id) is = omega arith
+step_short (entry.Invalid id) is = omega arith
+step_short _ is = absurd is
+
+row_short : (f : Facts) (e : Entry) → SuitsRows f e → IsRow e
+row_short f (entry.Tried t) is = omega arith
+row_short f (entry.Want contact id) is = omega arith
+row_short f _ is = absurd is
 
 -- ---- batches
 
-alone : (e : Entry) (rest : List Entry) → rest ≡ [] → AreEntries (e ∷ rest) → length (spellings (e ∷ rest)) ≤ most_of e
-alone e rest none all = omega (arith, payload_cons e rest, ap (λ (es : List Entry). length (spellings es)) none, (length_within e all.0).1)
+-- the spellings of a batch are within a frame
+abbrev FitFrame : List Entry → Type 0
+FitFrame es = AreEntries es → length (spellings es) ≤ 56845
 
-batch_short : (clients : Meaning) (f : Facts) (batch : List Entry) → Allowed clients f batch → AreEntries batch → length (spellings batch) ≤ 56845
-batch_short clients f [] is all = absurd is
-batch_short clients f (entry.Contact c ∷ rest) is all = omega (arith, alone (entry.Contact c) rest is.0 all)
-batch_short clients f (entry.Group def ∷ rest) is all = omega (arith, alone (entry.Group def) rest is.0 all)
-batch_short clients f (entry.Level c g l ∷ rest) is all = omega (arith, alone (entry.Level c g l) rest is.0 all)
-batch_short clients f (entry.Session s ∷ rest) is all = omega (arith, alone (entry.Session s) rest is.0 all)
-batch_short clients f (entry.Take s k ∷ rest) is all =
-    let P : List Entry → Type 0 = λ es. AreEntries es → length (spellings es) ≤ 56832 in
-    let others : length (spellings rest) ≤ 56832 = subst P (sym is.1.taken_so) (taken_short f s (contact_of f.sessions s) is.1.read is.1.within) all.1 in
-    omega (arith, payload_cons (entry.Take s k) rest, (length_within (entry.Take s k) all.0).1, others)
-batch_short clients f (entry.Author m ∷ rest) is all = omega (arith, alone (entry.Author m) rest is.0 all)
-batch_short clients f (entry.Judged id ∷ rest) is all = omega (arith, is.1, settling_short clients f (entry.Judged id ∷ rest) is.2 all)
-batch_short clients f (entry.Deliver id ∷ rest) is all = omega (arith, is.1, settling_short clients f (entry.Deliver id ∷ rest) is.2 all)
-batch_short clients f (entry.Invalid id ∷ rest) is all = omega (arith, is.1, settling_short clients f (entry.Invalid id ∷ rest) is.2 all)
-batch_short clients f (entry.Out s now what ∷ rest) is all = omega (arith, alone (entry.Out s now what) rest is.0 all)
-batch_short clients f (entry.Brief n ∷ rest) is all = omega (arith, alone (entry.Brief n) rest is.0 all)
-batch_short clients f (entry.Kept from m ∷ rest) is all = omega (arith, alone (entry.Kept from m) rest is.0 all)
-batch_short clients f (entry.Tried t ∷ rest) is all = omega (arith, is.few, rows_short f (entry.Tried t ∷ rest) is.suits all)
-batch_short clients f (entry.Want contact id ∷ rest) is all = omega (arith, is.few, rows_short f (entry.Want contact id ∷ rest) is.suits all)
-batch_short clients f _ is all = absurd is
+record_short : (f : Facts) (s k : ℕ) (r : Record) → IsRecord r → FitFrame (entry.Take s k ∷ taken f s r)
+record_short f s k r within all =
+    omega (arith, payload_cons (entry.Take s k) (taken f s r), (length_within (entry.Take s k) all.0).1,
+    taken_short f s (contact_of f.sessions s) r within all.1)
+
+batch_short : (clients : Meaning) (f : Facts) (batch : List Entry) → Allowed clients f batch → FitFrame batch
+batch_short clients f =
+    by_kind clients f FitFrame (record {
+      alone = λ e settled may all. omega (arith, payload_cons e [], (short e all.0).1);
+      of_record = λ s k r settled next. record_short f s k r next.within;
+      steps = λ e es step is all.
+          omega (arith, is.1, few_each (e ∷ es) (settling_each IsRow step_short clients f (e ∷ es) is.2) all);
+      brief = λ n empty all. omega (arith, payload_cons (entry.Brief n) [], (short (entry.Brief n) all.0).1);
+      rows = λ e es row is all.
+          omega (arith, is.few, few_each (e ∷ es) (rows_each IsRow row_short f (e ∷ es) is.suits) all);
+    })
 
 first_len : (batch : List Entry) → payload_len format.Whole batch ≡ length (spellings batch)
 unfolding spelling spelling_in

@@ -100,8 +100,8 @@ out_fits f contact (out.Offers ids) names = record { distinct = names.0.distinct
 out_fits f contact (out.Send id) names = names
 
 meeting_fits : (clients : Meaning) (f : Facts) (e : Entry) → IsConsistent f → MeetsNoStep clients f e → MayTakeEntry f e
-meeting_fits clients f (entry.Contact c) fit m = (m.1, m.2)
-meeting_fits clients f (entry.Level c g l) fit m = (m.1, m.2)
+meeting_fits clients f (entry.Contact c) fit m = m.1
+meeting_fits clients f (entry.Level c g l) fit m = m.1
 meeting_fits clients f (entry.Author x) fit m = record { known_group = m.1.known_group; new = m.1.new }
 meeting_fits clients f (entry.Arrive s x) fit m = record { known_group = m.1.known_group; new = m.1.new }
 meeting_fits clients f (entry.Judged id) fit m = next_is_step clients f (entry.Judged id) m
@@ -111,7 +111,7 @@ meeting_fits clients f (entry.Again s id) fit m = m.1.held
 meeting_fits clients f (entry.Seen s id) fit m = m.1.held
 meeting_fits clients f (entry.Asked s id) fit m = m.1.held
 meeting_fits clients f (entry.Out s now what) fit m = out_fits f (contact_in (session_at f.sessions s)) what (due_names_distinct f fit.held fit.wanted clients (session_at f.sessions s) now what m.1)
-meeting_fits clients f (entry.Kept from x) fit m = record { known_group = m.2.known_group; new = m.2.new }
+meeting_fits clients f (entry.Kept from x) fit m = record { known_group = m.1.1.known_group; new = m.1.1.new }
 meeting_fits clients f (entry.Tried t) fit m = m.2.held
 meeting_fits clients f _ fit m = tt
 

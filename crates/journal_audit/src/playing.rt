@@ -1,6 +1,6 @@
 //! Batches that are tested, and taken where they may follow.
 ghost use Rattle.std.specs.Prelude.{◌≡◌, true, false, IfOk, OnOk};
-ghost use Rattle.batch_tests.specs.Alone.{is_rows_kind};
+ghost use Rattle.sync_rules.specs.Allows.{is_rows_kind};
 ghost use Rattle.session_core.specs.Known.{IsOfAll};
 ghost use Rattle.sync_rules.specs.Clients.{Meaning};
 ghost use Rattle.sync_rules.specs.Facts.{after_all};

@@ -14,13 +14,13 @@ use Rattle.sync_rules.specs.declared.entries.Session.{Session}
 use Rattle.sync_rules.specs.Clients.{Meaning}
 use Rattle.sync_rules.specs.Lists.{firsts, is_among}
 use Rattle.sync_rules.specs.Facts.{Facts, Held, Id, Known, after, contact_in, contact_of, group_at, held_at, is_held, is_invisible, level_at, row_at, session_at, start_after, wanted_from, with_want}
-use Rattle.sync_rules.specs.Legal.{Allowed, IsDue}
+use Rattle.sync_rules.specs.Legal.{Allowed, IsDue, MayStandAlone}
+use Rattle.sync_rules.proofs.BatchKinds.{TakesNext, by_kind, rows_are_rows, steps_settle}
 use Rattle.sync_rules.specs.declared.limits.TheConstants.{MAX_WANTED}
 use Rattle.sync_rules.specs.Sessions.{is_remembered, is_shown, is_shown_held, is_welcome, one_if, room_after, taken, taken_acks, taken_message, taken_message_of, taken_offers, taken_requests}
-use Rattle.sync_rules.specs.Allows.{is_settling_kind}
+use Rattle.sync_rules.specs.Allows.{is_rows_kind, is_settling_kind}
 use Rattle.sync_rules.specs.declared.states.Start.{Start}
 use Rattle.sync_rules.specs.declared.states.Start.TheVariants as start
-use Rattle.batch_tests.specs.Alone.{is_rows_kind}
 use Rattle.journal_state.specs.Room.{rows_room, wants_room}
 use Rattle.journal_state.specs.Taking.{CanHold, CanMark, CanSend, CanTake, CanTakeAll, CanTakeKind, HasContactRoom, HasNextNumbers, HasRoom, HasRowsOfSession, TakesEntry, noted}
 use Rattle.journal_state.specs.Whole.{StateValue}
@@ -257,12 +257,12 @@ module _ (f : Facts) (session : ℕ) (known : is_some (session_at f.sessions ses
 
 -- ---- batches
 
--- a batch of one entry
-alone : (s : StateValue) (e : Entry) (rest : List Entry) → rest ≡ [] → 1 ≤ s.room.entries → CanTakeKind s e → CanTakeAll s (e ∷ rest)
-alone s e rest none room kind = subst (λ (es : List Entry). CanTakeAll s (e ∷ es)) (sym none) (record { room = room; kind = kind }, (λ next k. tt))
-
 room_first : (s : StateValue) (e : Entry) (rest : List Entry) → HasRoom s (e ∷ rest) → 1 ≤ s.room.entries
 room_first s e rest r = let h = r.entries in omega (arith, h)
+
+-- a batch of one entry
+alone : (s : StateValue) (e : Entry) → HasRoom s (e ∷ []) → CanTakeKind s e → CanTakeAll s (e ∷ [])
+alone s e r kind = (record { room = room_first s e [] r; kind = kind }, (λ next k. tt))
 
 some_contact : (s : StateValue) (o : Option Session) (n : ℕ) → is_some o ≡ true → IfSome (option_map (λ (x : Session). x.contact) o) (HasContactRoom s n) → HasContactRoom s n (contact_in o)
 some_contact s None n known room = absurd (false≢true known)
@@ -287,62 +287,77 @@ no_held : (o : Option Held) → is_some o ≡ false → o ≡ None
 no_held None e = refl
 no_held (Some x) e = absurd (false≢true (sym e))
 
--- an allowed batch that is neither a settling one nor one of rows can be taken where there is room for it
+module _ (clients : Meaning) (s : StateValue) (few : HasNextNumbers s.facts)
+    (apart : AreApart (map (λ (h : Held). h.id) s.facts.held)) where
+  stands_can : (e : Entry) → MayStandAlone clients s.facts e → HasRoom s (e ∷ []) → CanTakeAll s (e ∷ [])
+  stands_can (entry.Contact c) may r = alone s (entry.Contact c) r may
+  stands_can (entry.Group def) may r =
+      let small = may.few in
+      alone s (entry.Group def) r (no_group (group_at s.facts.groups (group_id_of def)) may.new, omega (arith, small))
+  stands_can (entry.Level c g l) may r =
+      let rows = rows_enough (length s.facts.held) (rows_room s.room c) few.held r.contact.rows in
+      alone s (entry.Level c g l) r (may.1, omega (arith, rows), may.0)
+  stands_can (entry.Session x) may r =
+      alone s (entry.Session x) r (
+        may.numbered,
+        may.known_contact,
+        (let small = may.few in let same = may.numbered in omega (arith, small, same)),
+      )
+  stands_can (entry.Author m) may r =
+      alone s (entry.Author m) r
+      (record { known = may.known_group; new = no_held (held_at s.facts.held (message_id_of m)) may.new; few = few.held })
+  stands_can (entry.Out n now what) may r =
+      let known = is_there (session_at s.facts.sessions n) clients s.facts now what may in
+      let room : HasContactRoom s 1 (contact_of s.facts.sessions n) =
+      some_contact s (session_at s.facts.sessions n) 1 known r.contact in
+      let rows = rows_enough (length s.facts.held) (rows_room s.room (contact_of s.facts.sessions n)) few.held room.rows in
+      alone s (entry.Out n now what) r (
+        record { known = known; rows = omega (arith, rows) },
+        sent_can (session_at s.facts.sessions n) clients s.facts now what apart may,
+      )
+  stands_can (entry.Kept from m) may r =
+      alone s (entry.Kept from m) r
+      (record { known = may.1.known_group; new = no_held (held_at s.facts.held (message_id_of m)) may.1.new; few = few.held })
+  stands_can _ may r = absurd may
+
+  record_can : (n k : ℕ) (r : Record) → TakesNext s.facts n k r → HasRoom s (entry.Take n k ∷ taken s.facts n r)
+      → CanTakeAll s (entry.Take n k ∷ taken s.facts n r)
+  record_can n k r next room =
+      let es : List Entry = entry.Take n k ∷ taken s.facts n r in
+      let own : HasContactRoom s (length es) (contact_of s.facts.sessions n) =
+      some_contact s (session_at s.facts.sessions n) (length es) next.known_session room.contact in
+      let rows = rows_enough (length s.facts.held) (rows_room s.room (contact_of s.facts.sessions n)) few.held own.rows in
+      let count = room.entries in
+      let wants = own.wants in (
+        record { room = room_first s (entry.Take n k) (taken s.facts n r) room; kind = few.records n },
+        (λ then t. can_taken s.facts n next.known_session r then few.held (record {
+          held = ap (λ (f : Facts). f.held) t.facts;
+          sessions = ap (λ (f : Facts). f.sessions) t.facts;
+          groups = ap (λ (f : Facts). f.groups) t.facts;
+          entries = let q = t.room.entries in omega (arith, q, count);
+          rows = let q = t.room.rows (contact_of s.facts.sessions n) in omega (arith, q, rows);
+          wants = let q = t.room.wants (contact_of s.facts.sessions n) in omega (arith, q, wants);
+          wanted =
+              let q = ap (λ (f : Facts). length (wanted_from f.wanted (contact_of s.facts.sessions n))) t.facts in
+              omega (arith, q);
+        })),
+      )
+
+-- a batch that is neither a settling one nor one of rows can be taken where there is room for it
+abbrev CanTakePlain : StateValue → List Entry → Type 0
+CanTakePlain s b = is_settling_kind b ≡ false → is_rows_kind b ≡ false → HasRoom s b → CanTakeAll s b
+
 pub can_batch : (clients : Meaning) (s : StateValue) (b : List Entry) → Allowed clients s.facts b → is_settling_kind b ≡ false → is_rows_kind b ≡ false
     → HasRoom s b → HasNextNumbers s.facts → AreApart (map (λ (h : Held). h.id) s.facts.held) → (s.facts.start ≡ start.Empty → s.facts.begun ≡ 0)
     → CanTakeAll s b
-can_batch clients s [] a kind plain r few apart fresh = tt
-can_batch clients s (entry.Contact c ∷ rest) a kind plain r few apart fresh = alone s (entry.Contact c) rest a.0 (room_first s (entry.Contact c) rest r) (a.2, a.3)
-can_batch clients s (entry.Group def ∷ rest) a kind plain r few apart fresh =
-    let small = a.2.few in
-    alone s (entry.Group def) rest a.0 (room_first s (entry.Group def) rest r) (no_group (group_at s.facts.groups (group_id_of def)) a.2.new, omega (arith, small))
-can_batch clients s (entry.Level c g l ∷ rest) a kind plain r few apart fresh =
-    let rows = rows_enough (length s.facts.held) (rows_room s.room c) few.held r.contact.rows in
-    alone s (entry.Level c g l) rest a.0 (room_first s (entry.Level c g l) rest r) (a.3, omega (arith, rows), a.2)
-can_batch clients s (entry.Session x ∷ rest) a kind plain r few apart fresh =
-    alone s (entry.Session x) rest a.0 (room_first s (entry.Session x) rest r) (
-      a.2.numbered,
-      a.2.known_contact,
-      (let small = a.2.few in let same = a.2.numbered in omega (arith, small, same)),
-    )
-can_batch clients s (entry.Take n k ∷ rest) a kind plain r few apart fresh =
-    let room : HasContactRoom s (length (entry.Take n k ∷ rest)) (contact_of s.facts.sessions n) = some_contact s (session_at s.facts.sessions n) (length (entry.Take n k ∷ rest)) a.1.known_session r.contact in
-    let rows = rows_enough (length s.facts.held) (rows_room s.room (contact_of s.facts.sessions n)) few.held room.rows in
-    let count = r.entries in
-    let wants = room.wants in (
-      record { room = room_first s (entry.Take n k) rest r; kind = few.records n },
-      (λ next t. subst (CanTakeAll next) (sym a.1.taken_so)
-          (can_taken s.facts n a.1.known_session a.1.read next few.held
-          (record {
-            held = ap (λ (f : Facts). f.held) t.facts;
-            sessions = ap (λ (f : Facts). f.sessions) t.facts;
-            groups = ap (λ (f : Facts). f.groups) t.facts;
-            entries = let left = ap (λ (es : List Entry). length es) a.1.taken_so in let q = t.room.entries in omega (arith, left, q, count);
-            rows = let q = t.room.rows (contact_of s.facts.sessions n) in omega (arith, q, rows);
-            wants = let left = ap (λ (es : List Entry). length es) a.1.taken_so in let q = t.room.wants (contact_of s.facts.sessions n) in omega (arith, left, q, wants);
-            wanted = let q = ap (λ (f : Facts). length (wanted_from f.wanted (contact_of s.facts.sessions n))) t.facts in omega (arith, q);
-          }))),
-    )
-can_batch clients s (entry.Author m ∷ rest) a kind plain r few apart fresh =
-    alone s (entry.Author m) rest a.0 (room_first s (entry.Author m) rest r)
-    (record { known = a.2.known_group; new = no_held (held_at s.facts.held (message_id_of m)) a.2.new; few = few.held })
-can_batch clients s (entry.Judged id ∷ rest) a kind plain r few apart fresh = absurd (false≢true (sym kind))
-can_batch clients s (entry.Deliver id ∷ rest) a kind plain r few apart fresh = absurd (false≢true (sym kind))
-can_batch clients s (entry.Invalid id ∷ rest) a kind plain r few apart fresh = absurd (false≢true (sym kind))
-can_batch clients s (entry.Out n now what ∷ rest) a kind plain r few apart fresh =
-    let known = is_there (session_at s.facts.sessions n) clients s.facts now what a.2 in
-    let room : HasContactRoom s (length (entry.Out n now what ∷ rest)) (contact_of s.facts.sessions n) = some_contact s (session_at s.facts.sessions n) (length (entry.Out n now what ∷ rest)) known r.contact in
-    let rows = rows_enough (length s.facts.held) (rows_room s.room (contact_of s.facts.sessions n)) few.held room.rows in
-    alone s (entry.Out n now what) rest a.0 (room_first s (entry.Out n now what) rest r)
-    (record { known = known; rows = omega (arith, rows) }, sent_can (session_at s.facts.sessions n) clients s.facts now what apart a.2)
-can_batch clients s (entry.Brief n ∷ rest) a kind plain r few apart fresh =
-    alone s (entry.Brief n) rest a.0 (room_first s (entry.Brief n) rest r) (fresh a.1)
-can_batch clients s (entry.Kept from m ∷ rest) a kind plain r few apart fresh =
-    alone s (entry.Kept from m) rest a.0 (room_first s (entry.Kept from m) rest r)
-    (record { known = a.3.known_group; new = no_held (held_at s.facts.held (message_id_of m)) a.3.new; few = few.held })
-can_batch clients s (entry.Tried t ∷ rest) a kind plain r few apart fresh = absurd (false≢true (sym plain))
-can_batch clients s (entry.Want contact id ∷ rest) a kind plain r few apart fresh = absurd (false≢true (sym plain))
-can_batch clients s _ a kind plain r few apart fresh = absurd a
+can_batch clients s b a kind plain room few apart fresh =
+    by_kind clients s.facts (CanTakePlain s) (record {
+      alone = λ e settled may kind plain. stands_can clients s few apart e may;
+      of_record = λ n k r settled next kind plain. record_can clients s few apart n k r next;
+      steps = λ e es step is kind plain. absurd (false≢true (sym kind ∙ steps_settle e es step));
+      brief = λ n empty kind plain room. alone s (entry.Brief n) room (fresh empty);
+      rows = λ e es row is kind plain. absurd (false≢true (sym plain ∙ rows_are_rows e es row));
+    }) b a kind plain room
 
 -- ---- it is noted how the journal began
 

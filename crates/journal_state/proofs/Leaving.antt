@@ -11,7 +11,8 @@ use Rattle.sync_rules.specs.declared.entries.Entry.TheVariants as entry
 use Rattle.sync_rules.specs.Clients.{Meaning}
 use Rattle.sync_rules.specs.Lists.{same_id, is_among, firsts}
 use Rattle.sync_rules.specs.Facts.{Facts, Held, Id, Ids, after, after_all, arrived, authored, contact_of, held_at, is_invisible, level_at, row_at, wanted_from}
-use Rattle.sync_rules.specs.Legal.{Allowed}
+use Rattle.sync_rules.specs.Legal.{Allowed, MayStandAlone}
+use Rattle.sync_rules.proofs.BatchKinds.{by_kind, rows_account, steps_settle}
 use Rattle.sync_rules.specs.declared.limits.TheConstants.{MAX_WANTED}
 use Rattle.sync_rules.specs.Sessions.{is_shown, is_welcome, one_if, is_remembered, room_after, taken, taken_acks, taken_message_of, taken_offers, taken_requests}
 use Rattle.sync_rules.specs.Allows.{is_account_kind, is_settling_kind}
@@ -66,20 +67,13 @@ is_quiet (entry.Invalid id) = false
 is_quiet _ = true
 
 quiet_left : (f : Facts) (e : Entry) → is_quiet e ≡ true → left_of (after f e) ≡ left_of f
-quiet_left f (entry.Contact c) q = left_is (after f (entry.Contact c)) ∙ sym (left_is f)
-quiet_left f (entry.Group def) q = left_is (after f (entry.Group def)) ∙ sym (left_is f)
-quiet_left f (entry.Level c g l) q = left_is (after f (entry.Level c g l)) ∙ sym (left_is f)
-quiet_left f (entry.Session s) q = left_is (after f (entry.Session s)) ∙ sym (left_is f)
-quiet_left f (entry.Take s k) q = left_is (after f (entry.Take s k)) ∙ sym (left_is f)
-quiet_left f (entry.Again s id) q = left_is (after f (entry.Again s id)) ∙ sym (left_is f)
-quiet_left f (entry.Offered s id) q = left_is (after f (entry.Offered s id)) ∙ sym (left_is f)
-quiet_left f (entry.Seen s id) q = left_is (after f (entry.Seen s id)) ∙ sym (left_is f)
-quiet_left f (entry.Asked s id) q = left_is (after f (entry.Asked s id)) ∙ sym (left_is f)
-quiet_left f (entry.Out s now what) q = left_is (after f (entry.Out s now what)) ∙ sym (left_is f)
-quiet_left f (entry.Brief n) q = left_is (after f (entry.Brief n)) ∙ sym (left_is f)
-quiet_left f (entry.Tried t) q = left_is (after f (entry.Tried t)) ∙ sym (left_is f)
-quiet_left f (entry.Want contact id) q = left_is (after f (entry.Want contact id)) ∙ sym (left_is f)
-quiet_left f _ q = absurd (false≢true q)
+quiet_left f (entry.Author m) q = absurd (false≢true q)
+quiet_left f (entry.Arrive s m) q = absurd (false≢true q)
+quiet_left f (entry.Kept from m) q = absurd (false≢true q)
+quiet_left f (entry.Judged id) q = absurd (false≢true q)
+quiet_left f (entry.Deliver id) q = absurd (false≢true q)
+quiet_left f (entry.Invalid id) q = absurd (false≢true q)
+quiet_left f e q = left_is (after f e) ∙ sym (left_is f)
 
 brings_not : (e : Entry) → is_quiet e ≡ true → brings_one e ≡ false
 brings_not (entry.Author m) q = absurd (false≢true q)
@@ -176,35 +170,37 @@ taken_left f s k (record_kind.Message m) j = by_welcome (is_welcome f c m.group)
 
 -- ---- batches
 
-alone_left : (f : Facts) (e : Entry) (rest : List Entry) → rest ≡ [] → is_quiet e ≡ true → IsLeftAfter f (e ∷ rest)
-alone_left f e rest none q = subst (λ (es : List Entry). IsLeftAfter f (e ∷ es)) (sym none) (quiet_is f (e ∷ []) (q, tt))
-
 not_held : (o : Option Held) → is_some o ≡ false → o ≡ None
 not_held None e = refl
 not_held (Some h) e = absurd (false≢true (sym e))
 
+-- of a batch that settles nothing and is of no brief account
+abbrev LeavesPlain : Facts → List Entry → Type 0
+LeavesPlain f b = is_settling_kind b ≡ false → is_account_kind b ≡ false → IsLeftAfter f b
+
+stands_left : (clients : Meaning) (f : Facts) → JudgesHeld f → (e : Entry) → MayStandAlone clients f e
+    → LeavesPlain f (e ∷ [])
+stands_left clients f j (entry.Contact c) may kind plain = quiet_is f (entry.Contact c ∷ []) (refl, tt)
+stands_left clients f j (entry.Group def) may kind plain = quiet_is f (entry.Group def ∷ []) (refl, tt)
+stands_left clients f j (entry.Level c g l) may kind plain = quiet_is f (entry.Level c g l ∷ []) (refl, tt)
+stands_left clients f j (entry.Session s) may kind plain = quiet_is f (entry.Session s ∷ []) (refl, tt)
+stands_left clients f j (entry.Out s now what) may kind plain = quiet_is f (entry.Out s now what ∷ []) (refl, tt)
+stands_left clients f j (entry.Author m) may kind plain =
+    brought_left f (after f (entry.Author m)) (authored m) refl refl refl refl
+    (j (message_id_of m) (not_held (held_at f.held (message_id_of m)) may.new))
+stands_left clients f j (entry.Kept from m) may kind plain = absurd (false≢true (sym plain))
+stands_left clients f j _ may kind plain = absurd may
+
 pub left_after_batch : (clients : Meaning) (f : Facts) (b : List Entry) → Allowed clients f b → is_settling_kind b ≡ false → is_account_kind b ≡ false → JudgesHeld f
     → left_of (after_all f b) ≡ left_of f + cond (list_any brings_one b) 2 0
-left_after_batch clients f [] a kind plain j = absurd a
-left_after_batch clients f (entry.Contact c ∷ rest) a kind plain j = alone_left f (entry.Contact c) rest a.0 refl
-left_after_batch clients f (entry.Group def ∷ rest) a kind plain j = alone_left f (entry.Group def) rest a.0 refl
-left_after_batch clients f (entry.Level c g l ∷ rest) a kind plain j = alone_left f (entry.Level c g l) rest a.0 refl
-left_after_batch clients f (entry.Session s ∷ rest) a kind plain j = alone_left f (entry.Session s) rest a.0 refl
-left_after_batch clients f (entry.Take s k ∷ rest) a kind plain j =
-    subst (λ (es : List Entry). IsLeftAfter f (entry.Take s k ∷ es)) (sym a.1.taken_so) (taken_left f s k a.1.read j)
-left_after_batch clients f (entry.Author m ∷ rest) a kind plain j =
-    subst (λ (es : List Entry). IsLeftAfter f (entry.Author m ∷ es)) (sym a.0)
-    (brought_left f (after f (entry.Author m)) (authored m) refl refl refl refl
-    (j (message_id_of m) (not_held (held_at f.held (message_id_of m)) a.2.new)))
-left_after_batch clients f (entry.Out s now what ∷ rest) a kind plain j = alone_left f (entry.Out s now what) rest a.0 refl
-left_after_batch clients f (entry.Judged id ∷ rest) a kind plain j = absurd (false≢true (sym kind))
-left_after_batch clients f (entry.Deliver id ∷ rest) a kind plain j = absurd (false≢true (sym kind))
-left_after_batch clients f (entry.Invalid id ∷ rest) a kind plain j = absurd (false≢true (sym kind))
-left_after_batch clients f (entry.Brief n ∷ rest) a kind plain j = absurd (false≢true (sym plain))
-left_after_batch clients f (entry.Kept from m ∷ rest) a kind plain j = absurd (false≢true (sym plain))
-left_after_batch clients f (entry.Tried t ∷ rest) a kind plain j = absurd (false≢true (sym plain))
-left_after_batch clients f (entry.Want contact id ∷ rest) a kind plain j = absurd (false≢true (sym plain))
-left_after_batch clients f _ a kind plain j = absurd a
+left_after_batch clients f b a kind plain j =
+    by_kind clients f (LeavesPlain f) (record {
+      alone = λ e settled may. stands_left clients f j e may;
+      of_record = λ s k r settled next kind plain. taken_left f s k r j;
+      steps = λ e es step is kind plain. absurd (false≢true (sym kind ∙ steps_settle e es step));
+      brief = λ n empty kind plain. absurd (false≢true (sym plain));
+      rows = λ e es row is kind plain. absurd (false≢true (sym plain ∙ rows_account e es row));
+    }) b a kind plain
 
 -- ---- of a state, only held messages are judged
 

@@ -4,7 +4,7 @@ use Rattle.std.proofs.lemmas.Bool.{false≢true}
 use Rattle.sync_rules.specs.declared.entries.Entry.{Entry}
 use Rattle.sync_rules.specs.declared.entries.Entry.TheVariants as entry
 use Rattle.sync_rules.specs.Allows.{is_account_kind}
-use Rattle.batch_tests.specs.Alone.{is_rows_kind}
+use Rattle.sync_rules.specs.Allows.{is_rows_kind}
 
 pub no_rows : (b : List Entry) → is_account_kind b ≡ false → is_rows_kind b ≡ false
 no_rows (entry.Tried t ∷ rest) plain = absurd (false≢true (sym plain))

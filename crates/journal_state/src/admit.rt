@@ -1,6 +1,6 @@
 //! A batch that was read from a file is tested and taken.
 ghost use Rattle.std.specs.Prelude.{◌≡◌, true, false, IfOk, OnErr};
-ghost use Rattle.batch_tests.specs.Alone.{is_rows_kind};
+ghost use Rattle.sync_rules.specs.Allows.{is_rows_kind};
 ghost use Rattle.sync_rules.specs.Facts.{after, after_all};
 ghost use Rattle.sync_rules.specs.Steps.{next};
 ghost use Rattle.sync_rules.specs.Allows.{allows, is_settling_kind, is_some_of};

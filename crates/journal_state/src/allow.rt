@@ -3,7 +3,7 @@ ghost use Rattle.std.specs.Prelude.{◌≡◌, ◌∷◌, [], false, IfOk, IfSom
 ghost use Rattle.sync_rules.specs.Facts.{session_at};
 ghost use Rattle.sync_rules.specs.Clients.{Meaning};
 ghost use Rattle.sync_rules.specs.Allows.{allows, is_account_kind, is_settling_kind};
-ghost use Rattle.batch_tests.specs.Alone.{is_rows_kind};
+ghost use Rattle.sync_rules.specs.Allows.{is_rows_kind};
 ghost use Rattle.sync_rules.specs.Legal.{Allowed};
 ghost use Rattle.sync_rules.specs.Steps.{IsSettled};
 ghost use Rattle.sync_rules.specs.declared.entries.Entry.TheVariants as entry;

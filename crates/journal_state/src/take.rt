@@ -4,7 +4,7 @@ ghost use Rattle.sync_rules.specs.Clients.{Meaning};
 ghost use Rattle.sync_rules.specs.Facts.{after_all};
 ghost use Rattle.sync_rules.specs.Legal.{Allowed};
 ghost use Rattle.sync_rules.specs.Allows.{is_account_kind, is_settling_kind};
-ghost use Rattle.batch_tests.specs.Alone.{is_rows_kind};
+ghost use Rattle.sync_rules.specs.Allows.{is_rows_kind};
 ghost use Rattle.session_core.specs.Known.{IsIdOf, IsOfAll, IsOfEntry};
 ghost use Rattle.journal_state.specs.Taking.{CanTake, CanTakeAll, HasNextNumbers, HasRoom, TakesButBeginning};
 ghost use Rattle.journal_state.specs.Taking.{TakesEntry, TakesAll};

@@ -149,7 +149,7 @@ contact_follows clients f e is =
           as_planned clients f (entry.Contact f.contacts) e w (record {
             follows = record {
               follows = λ more settles settled. let s = stays clients f more settles in
-                  (refl, settled, sym s.contacts, ltb-true f.contacts 256 few);
+                  (refl, settled, (sym s.contacts, ltb-true f.contacts 256 few));
             };
             kind = refl;
             plain = refl;

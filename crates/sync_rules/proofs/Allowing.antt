@@ -21,9 +21,9 @@ use Rattle.sync_rules.specs.Lists.{is_among}
 use Rattle.sync_rules.specs.Facts.{Facts, Id, group_at, held_at, is_held, is_no_row, row_at, session_at, takes_of, wanted_from, after}
 use Rattle.sync_rules.specs.Steps.{IsSettled, next, kind_of_def, verdict_in}
 use Rattle.sync_rules.specs.Sessions.{due}
-use Rattle.sync_rules.specs.Legal.{Allowed, AreRows, IsDue, IsKeptFrom, IsRowsBatch, IsSettling, IsSettlingBatch, MayAddGroup, MayAuthor, MayBegin, MayKeep, MayRestore, MayTake, MayWant, SuitsRows, accepts_served, is_empty_row, suits_nonce}
+use Rattle.sync_rules.specs.Legal.{Allowed, AreRows, IsDue, IsKeptFrom, IsRowsBatch, IsSettling, IsSettlingBatch, MayAddGroup, MayAuthor, MayBegin, MayKeep, MayRestore, MayStandAlone, MayTake, MayWant, SuitsRows, accepts_served, is_empty_row, suits_nonce}
 use Rattle.sync_rules.proofs.StepLaws.{IsSettlingEntry, next_is_settling}
-use Rattle.sync_rules.specs.Allows.{allows, alone, are_rows, gives, is_due, is_empty, is_empty_start, is_kept_from, is_opening, is_rows, is_settled, is_settling, is_some_of, may_add_group, may_author, may_begin, may_keep, may_restore, may_take, may_want, read_as, same_entry, settles, suits_rows}
+use Rattle.sync_rules.specs.Allows.{allows, alone, are_rows, gives, is_due, is_empty, is_empty_start, is_kept_from, is_opening, is_rows, is_settled, is_settling, is_some_of, may_add_group, may_author, may_begin, may_keep, may_restore, may_stand_alone, may_take, may_want, read_as, same_entry, settles, suits_rows}
 use Rattle.sync_rules.proofs.SameEntries.{both_decide, same_entry-is, some_out-Decides}
 use Rattle.sync_rules.proofs.TakenBack.{WholeIds, gives_some, some_gives}
 use Rattle.sync_rules.proofs.Elements.{same_id_itself}
@@ -55,12 +55,6 @@ alone_decides : {P : Type 0} (clients : Meaning) (f : Facts) (rest : List Entry)
 alone_decides clients f rest b d =
     let all = both_decide (alone clients f rest) b (both_decide (is_empty rest) (is_settled clients f) (empty_decides rest) (settled_decides clients f)) d in
     (λ h. let t = all.0 h in (t.0.0, t.0.1, t.1), λ h. all.1 ((h.0, h.1), h.2))
-
-alone_two : {P Q : Type 0} (clients : Meaning) (f : Facts) (rest : List Entry) (a b : Bool) → Decides a P → Decides b Q
-    → Decides (alone clients f rest && (a && b)) ((rest ≡ []) × IsSettled clients f × P × Q)
-alone_two clients f rest a b p q =
-    let all = alone_decides clients f rest (a && b) (both_decide a b p q) in
-    (λ h. let t = all.0 h in (t.0, t.1, t.2.0, t.2.1), λ h. all.1 (h.0, h.1, (h.2, h.3)))
 
 add_group_decides : (clients : Meaning) (f : Facts) (def : GroupValue) → Decides (may_add_group clients f def) (MayAddGroup clients f def)
 add_group_decides clients f def =
@@ -233,24 +227,31 @@ rows_decides clients f e es =
 never : Decides false ⊥
 never = (λ h. false≢true h, λ h. absurd h)
 
+stands_decides : (clients : Meaning) (f : Facts) (e : Entry)
+    → Decides (may_stand_alone clients f e) (MayStandAlone clients f e)
+stands_decides clients f (entry.Contact c) =
+    both_decide (nat_eq c f.contacts) (nat_lt c MAX_CONTACTS) (Decides-eqb c f.contacts) (Decides-ltb c MAX_CONTACTS)
+stands_decides clients f (entry.Group def) = add_group_decides clients f def
+stands_decides clients f (entry.Level c g l) =
+    let known : Bool = is_some (group_at f.groups g) in
+    both_decide (nat_lt c f.contacts) known (Decides-ltb c f.contacts) (itself known)
+stands_decides clients f (entry.Session s) = begin_decides f s
+stands_decides clients f (entry.Author m) = author_decides clients f m
+stands_decides clients f (entry.Out s now what) = due_decides clients f (session_at f.sessions s) now what
+stands_decides clients f (entry.Kept from m) =
+    both_decide (is_opening f.start) (may_keep clients f from m) (opening_decides f.start) (keep_decides clients f from m)
+stands_decides clients f _ = never
+
 pub allows_decides : WholeIds → (clients : Meaning) (f : Facts) (b : List Entry) → Decides (allows clients f b) (Allowed clients f b)
 allows_decides all clients f [] = never
-allows_decides all clients f (entry.Contact c ∷ rest) = alone_two clients f rest (nat_eq c f.contacts) (nat_lt c MAX_CONTACTS) (Decides-eqb c f.contacts) (Decides-ltb c MAX_CONTACTS)
-allows_decides all clients f (entry.Group def ∷ rest) = alone_decides clients f rest (may_add_group clients f def) (add_group_decides clients f def)
-allows_decides all clients f (entry.Level c g l ∷ rest) =
-    alone_two clients f rest (nat_lt c f.contacts) (is_some (group_at f.groups g)) (Decides-ltb c f.contacts) (itself (is_some (group_at f.groups g)))
-allows_decides all clients f (entry.Session s ∷ rest) = alone_decides clients f rest (may_begin f s) (begin_decides f s)
-allows_decides all clients f (entry.Take s k ∷ rest) = both_decide (is_settled clients f) (may_take f s k rest) (settled_decides clients f) (take_decides all f s k rest)
-allows_decides all clients f (entry.Author m ∷ rest) = alone_decides clients f rest (may_author clients f m) (author_decides clients f m)
+allows_decides all clients f (entry.Take s k ∷ rest) =
+    both_decide (is_settled clients f) (may_take f s k rest) (settled_decides clients f) (take_decides all f s k rest)
 allows_decides all clients f (entry.Judged id ∷ rest) = settling_decides clients f (entry.Judged id) rest
 allows_decides all clients f (entry.Deliver id ∷ rest) = settling_decides clients f (entry.Deliver id) rest
 allows_decides all clients f (entry.Invalid id ∷ rest) = settling_decides clients f (entry.Invalid id) rest
-allows_decides all clients f (entry.Out s now what ∷ rest) =
-    alone_decides clients f rest (is_due clients f (session_at f.sessions s) now what) (due_decides clients f (session_at f.sessions s) now what)
 allows_decides all clients f (entry.Brief n ∷ rest) =
     both_decide (is_empty rest) (is_empty_start f.start) (empty_decides rest) (empty_start_decides f.start)
-allows_decides all clients f (entry.Kept from m ∷ rest) =
-    alone_two clients f rest (is_opening f.start) (may_keep clients f from m) (opening_decides f.start) (keep_decides clients f from m)
 allows_decides all clients f (entry.Tried t ∷ rest) = rows_decides clients f (entry.Tried t) rest
 allows_decides all clients f (entry.Want contact id ∷ rest) = rows_decides clients f (entry.Want contact id) rest
-allows_decides all clients f _ = never
+allows_decides all clients f (e ∷ rest) =
+    alone_decides clients f rest (may_stand_alone clients f e) (stands_decides clients f e)

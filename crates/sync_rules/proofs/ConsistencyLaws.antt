@@ -134,7 +134,7 @@ group_at-cases (y ∷ gs) x id g e =
 
 pub groups_after_one : (clients : Meaning) (f : Facts) (e : Entry) → MeetsNoStep clients f e → HasGroups f → HasGroups (after f e)
 groups_after_one clients f (entry.Contact c) m h = record {
-  few_contacts = let k : c < 256 = m.2 in let is : c ≡ f.contacts = m.1 in omega (arith, k, is);
+  few_contacts = let k : c < 256 = m.1.1 in let is : c ≡ f.contacts = m.1.0 in omega (arith, k, is);
   few = h.few;
   distinct = h.distinct;
   each = h.each;
@@ -233,8 +233,13 @@ held_after_one clients f (entry.Arrive t m) met s h =
       known_origin = session_contact_known f s t (session_at f.sessions t) refl met.1.known_session;
     }) h
 held_after_one clients f (entry.Kept from m) met s h =
-    held_more f (after f (entry.Kept from m)) (kept_as from m) (continues_after f (entry.Kept from m)) refl met.2.new
-    (record { named = refl; is_id = refl; known_group = met.2.known_group; known_origin = kept_origin clients f from m met.2.kept_from }) h
+    held_more f (after f (entry.Kept from m)) (kept_as from m) (continues_after f (entry.Kept from m)) refl met.1.1.new
+    (record {
+      named = refl;
+      is_id = refl;
+      known_group = met.1.1.known_group;
+      known_origin = kept_origin clients f from m met.1.1.kept_from;
+    }) h
 held_after_one clients f it met s h = held_same f (after f it) (continues_after f it) refl h
 
 -- ---- pairs
@@ -287,7 +292,7 @@ levels_there f g levels c has contact group l at =
 pub levels_after_one : (clients : Meaning) (f : Facts) (e : Entry) → MeetsNoStep clients f e → HasLevels f → HasLevels (after f e)
 levels_after_one clients f (entry.Level c x l) m has =
     let g : Facts = after f (entry.Level c x l) in
-    level_put g f.levels c x l m.1 m.2 (levels_there f g f.levels (continues_after f (entry.Level c x l)) has)
+    level_put g f.levels c x l m.1.0 m.1.1 (levels_there f g f.levels (continues_after f (entry.Level c x l)) has)
 levels_after_one clients f it m has =
     levels_there f (after f it) f.levels (continues_after f it) has
 
@@ -542,7 +547,7 @@ pub wanted_after_one : (clients : Meaning) (f : Facts) (e : Entry) → MeetsNoSt
 wanted_after_one clients f (entry.Contact c) met s h =
     let g : Facts = after f (entry.Contact c) in
     let has : WantedIn g f.wanted = wanted_there f g f.wanted (continues_after f (entry.Contact c)) refl (wanted_in f h) in
-    let k : c < g.contacts = let is : c ≡ f.contacts = met.1 in omega (arith, is) in
+    let k : c < g.contacts = let is : c ≡ f.contacts = met.1.0 in omega (arith, is) in
     has_wanted g (want_list_put g f.wanted c (wanted_from f.wanted c) k (has.lists c) has)
 wanted_after_one clients f (entry.Author m) met s h =
     has_wanted (after f (entry.Author m)) (wanted_held f (after f (entry.Author m)) (authored m) (continues_after f (entry.Author m)) refl (wanted_in f h))

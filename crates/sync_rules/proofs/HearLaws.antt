@@ -38,11 +38,18 @@ stays_batches f bs n known = stays_at f (after_batches f bs) n (session_at f.ses
 pub one_session_hears : (clients : Meaning) (def : GroupValue) → is_some (kind_of_def clients def) ≡ true → IsHearing clients (one_session def) 0 0 0
 one_session_hears clients def known = record {
   legal = (
-    (refl, refl, refl, omega arith),
+    (refl, refl, (refl, omega arith)),
     (
       (refl, refl, record { known_client = known; new = refl; few = omega arith }),
       (
-        (refl, refl, omega arith, ap (λ b. is_some (cond b (Some (known_of def)) None)) (same_id_itself (group_id_of def))),
+        (
+          refl,
+          refl,
+          (
+            omega arith,
+            ap (λ b. is_some (cond b (Some (known_of def)) None)) (same_id_itself (group_id_of def)),
+          ),
+        ),
         (
           (refl, refl, record { numbered = refl; few = omega arith; known_contact = omega arith; some_latency = omega arith; suited_nonce = refl }),
           tt,

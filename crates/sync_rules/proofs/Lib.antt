@@ -4,6 +4,8 @@ pub mod PartsOfIds
 pub mod SameEntries
 pub mod TakenBack
 pub mod Allowing
+pub mod BatchEntries
+pub mod BatchKinds
 pub mod BegunLaws
 pub mod EndCounts
 pub mod GroupLaws

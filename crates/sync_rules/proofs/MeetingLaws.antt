@@ -18,8 +18,9 @@ use Rattle.sync_rules.specs.Lists.{same_id, is_among, has_repeat, firsts}
 use Rattle.sync_rules.specs.Facts.{Facts, Held, Id, Rows, Wants, after, after_all, nothing, entries_of, group_at, held_at, is_held, session_at, contact_of, level_at, is_invisible, row_at, wanted_from, change_row, row_heard, row_seen, row_asked, start_after, with_want}
 use Rattle.sync_rules.specs.Steps.{IsSettled, next}
 use Rattle.sync_rules.specs.Sessions.{taken, taken_message, taken_message_of, taken_acks, taken_requests, taken_offers, one_if, is_welcome, is_shown, is_shown_held, is_remembered, room_after}
-use Rattle.sync_rules.specs.Legal.{Allowed, AreRows, GoesOn, Legal, IsSettling, SuitsRows}
+use Rattle.sync_rules.specs.Legal.{Allowed, AreRows, GoesOn, Legal, IsSettling, MayStandAlone, SuitsRows}
 use Rattle.sync_rules.specs.Meeting.{IsNamedHeld, MeetsNoStep, AllMeet, EachMeets}
+use Rattle.sync_rules.proofs.BatchKinds.{TakesNext, by_kind}
 use Rattle.sync_rules.proofs.Elements.{among-push, same_id-is, same_id_itself}
 use Rattle.sync_rules.proofs.StepLaws.{next_is_settling}
 use Rattle.sync_rules.proofs.Kept.{Fits}
@@ -253,31 +254,35 @@ rows_meet clients f (e ∷ es) settled opening s = (
 
 -- ---- batches
 
-meets_alone : (clients : Meaning) (f : Facts) (e : Entry) (rest : List Entry) → rest ≡ [] → MeetsNoStep clients f e → AllMeet clients f (e ∷ rest)
-meets_alone clients f e rest none m = (m, subst (AllMeet clients (after f e)) (sym none) tt)
+stands_meets : (clients : Meaning) (f : Facts) (e : Entry) → IsSettled clients f → MayStandAlone clients f e
+    → MeetsNoStep clients f e
+stands_meets clients f (entry.Contact c) settled may = (settled, may)
+stands_meets clients f (entry.Group def) settled may = (settled, may)
+stands_meets clients f (entry.Level c g l) settled may = (settled, may)
+stands_meets clients f (entry.Session s) settled may = (settled, may)
+stands_meets clients f (entry.Author m) settled may = (settled, may)
+stands_meets clients f (entry.Out s now what) settled may = (settled, may)
+stands_meets clients f (entry.Kept from m) settled may = (settled, may)
+stands_meets clients f _ settled may = absurd may
+
+record_meets : (clients : Meaning) (f : Facts) (s k : ℕ) (r : Record) → IsSettled clients f → TakesNext f s k r
+    → AllMeet clients f (entry.Take s k ∷ taken f s r)
+record_meets clients f s k r settled next = (
+  (settled, next.known_session, next.numbered),
+  subst (λ (from : Start). AllMeet clients (record f { start = from; takes = (after f (entry.Take s k)).takes }) (taken f s r))
+      (sym (goes_with_take f.start s k))
+      (meets_record clients f s next.known_session settled (after f (entry.Take s k)).takes r),
+)
 
 pub allowed_meets : (clients : Meaning) (f : Facts) (b : List Entry) → Allowed clients f b → AllMeet clients f b
-allowed_meets clients f [] a = absurd a
-allowed_meets clients f (entry.Contact c ∷ rest) a = meets_alone clients f (entry.Contact c) rest a.0 (a.1, a.2, a.3)
-allowed_meets clients f (entry.Group def ∷ rest) a = meets_alone clients f (entry.Group def) rest a.0 (a.1, a.2)
-allowed_meets clients f (entry.Level c g l ∷ rest) a = meets_alone clients f (entry.Level c g l) rest a.0 (a.1, a.2, a.3)
-allowed_meets clients f (entry.Session s ∷ rest) a = meets_alone clients f (entry.Session s) rest a.0 (a.1, a.2)
-allowed_meets clients f (entry.Take s k ∷ rest) a = (
-  (a.0, a.1.known_session, a.1.numbered),
-  subst (AllMeet clients (after f (entry.Take s k))) (sym a.1.taken_so)
-      (subst (λ (from : Start). AllMeet clients (record f { start = from; takes = (after f (entry.Take s k)).takes }) (taken f s a.1.read))
-      (sym (goes_with_take f.start s k)) (meets_record clients f s a.1.known_session a.0 (after f (entry.Take s k)).takes a.1.read)),
-)
-allowed_meets clients f (entry.Author m ∷ rest) a = meets_alone clients f (entry.Author m) rest a.0 (a.1, a.2)
-allowed_meets clients f (entry.Judged id ∷ rest) a = all_settling_meets clients f (entry.Judged id ∷ rest) a.2
-allowed_meets clients f (entry.Deliver id ∷ rest) a = all_settling_meets clients f (entry.Deliver id ∷ rest) a.2
-allowed_meets clients f (entry.Invalid id ∷ rest) a = all_settling_meets clients f (entry.Invalid id ∷ rest) a.2
-allowed_meets clients f (entry.Out s now what ∷ rest) a = meets_alone clients f (entry.Out s now what) rest a.0 (a.1, a.2)
-allowed_meets clients f (entry.Brief n ∷ rest) a = meets_alone clients f (entry.Brief n) rest a.0 a.1
-allowed_meets clients f (entry.Kept from m ∷ rest) a = meets_alone clients f (entry.Kept from m) rest a.0 (a.1, a.2, a.3)
-allowed_meets clients f (entry.Tried t ∷ rest) a = rows_meet clients f (entry.Tried t ∷ rest) a.settled a.opening a.suits
-allowed_meets clients f (entry.Want contact id ∷ rest) a = rows_meet clients f (entry.Want contact id ∷ rest) a.settled a.opening a.suits
-allowed_meets clients f _ a = absurd a
+allowed_meets clients f =
+    by_kind clients f (AllMeet clients f) (record {
+      alone = λ e settled may. (stands_meets clients f e settled may, tt);
+      of_record = record_meets clients f;
+      steps = λ e es step is. all_settling_meets clients f (e ∷ es) is.2;
+      brief = λ n empty. (empty, tt);
+      rows = λ e es row is. rows_meet clients f (e ∷ es) is.settled is.opening is.suits;
+    })
 
 -- ---- journals
 
@@ -304,7 +309,7 @@ each_meets clients j l before behind e stands =
 -- ---- what the invariant of rounds asks of an entry
 
 pub meets_fits : (clients : Meaning) (f : Facts) (e : Entry) → MeetsNoStep clients f e → Fits clients f e
-meets_fits clients f (entry.Level c g l) m = m.2
+meets_fits clients f (entry.Level c g l) m = m.1.1
 meets_fits clients f (entry.Author x) m = record { known = m.1.known_group; new = m.1.new }
 meets_fits clients f (entry.Arrive s x) m = record {
   is_new = record { known = m.1.known_group; new = m.1.new };
@@ -315,5 +320,5 @@ meets_fits clients f (entry.Judged id) m = m
 meets_fits clients f (entry.Deliver id) m = m
 meets_fits clients f (entry.Invalid id) m = m
 meets_fits clients f (entry.Out s now what) m = m.1
-meets_fits clients f (entry.Kept from x) m = record { known = m.2.known_group; new = m.2.new }
+meets_fits clients f (entry.Kept from x) m = record { known = m.1.1.known_group; new = m.1.1.new }
 meets_fits clients f _ m = tt

@@ -136,40 +136,10 @@ records_unknown clients f s h (entry.Out t now what ∷ es) n later none m then 
     (records_unknown clients (after f (entry.Out t now what)) (sound_after clients f (entry.Out t now what) (meets_fits clients f (entry.Out t now what) m.0) s) (sessions_after_one clients f (entry.Out t now what) m.0 h) es n later none m.1 then)
     (none_out clients f n t now what (records_of later what) none m.0.1 (nat_eq t n) refl)
     (none_out clients f n t now what (records_of f.held what) none m.0.1 (nat_eq t n) refl)
-records_unknown clients f s h (entry.Contact c ∷ es) n later none m then = rest_unknown f (entry.Contact c) es n later (session_at (after_all f ((entry.Contact c) ∷ es)).sessions n)
-    (records_unknown clients (after f (entry.Contact c)) (sound_after clients f (entry.Contact c) (meets_fits clients f (entry.Contact c) m.0) s) (sessions_after_one clients f (entry.Contact c) m.0 h) es n later none m.1 then) refl refl
-records_unknown clients f s h (entry.Group def ∷ es) n later none m then = rest_unknown f (entry.Group def) es n later (session_at (after_all f ((entry.Group def) ∷ es)).sessions n)
-    (records_unknown clients (after f (entry.Group def)) (sound_after clients f (entry.Group def) (meets_fits clients f (entry.Group def) m.0) s) (sessions_after_one clients f (entry.Group def) m.0 h) es n later none m.1 then) refl refl
-records_unknown clients f s h (entry.Level c g l ∷ es) n later none m then = rest_unknown f (entry.Level c g l) es n later (session_at (after_all f ((entry.Level c g l) ∷ es)).sessions n)
-    (records_unknown clients (after f (entry.Level c g l)) (sound_after clients f (entry.Level c g l) (meets_fits clients f (entry.Level c g l) m.0) s) (sessions_after_one clients f (entry.Level c g l) m.0 h) es n later none m.1 then) refl refl
-records_unknown clients f s h (entry.Take t k ∷ es) n later none m then = rest_unknown f (entry.Take t k) es n later (session_at (after_all f ((entry.Take t k) ∷ es)).sessions n)
-    (records_unknown clients (after f (entry.Take t k)) (sound_after clients f (entry.Take t k) (meets_fits clients f (entry.Take t k) m.0) s) (sessions_after_one clients f (entry.Take t k) m.0 h) es n later none m.1 then) refl refl
-records_unknown clients f s h (entry.Author x ∷ es) n later none m then = rest_unknown f (entry.Author x) es n later (session_at (after_all f ((entry.Author x) ∷ es)).sessions n)
-    (records_unknown clients (after f (entry.Author x)) (sound_after clients f (entry.Author x) (meets_fits clients f (entry.Author x) m.0) s) (sessions_after_one clients f (entry.Author x) m.0 h) es n later none m.1 then) refl refl
-records_unknown clients f s h (entry.Arrive t x ∷ es) n later none m then = rest_unknown f (entry.Arrive t x) es n later (session_at (after_all f ((entry.Arrive t x) ∷ es)).sessions n)
-    (records_unknown clients (after f (entry.Arrive t x)) (sound_after clients f (entry.Arrive t x) (meets_fits clients f (entry.Arrive t x) m.0) s) (sessions_after_one clients f (entry.Arrive t x) m.0 h) es n later none m.1 then) refl refl
-records_unknown clients f s h (entry.Judged id ∷ es) n later none m then = rest_unknown f (entry.Judged id) es n later (session_at (after_all f ((entry.Judged id) ∷ es)).sessions n)
-    (records_unknown clients (after f (entry.Judged id)) (sound_after clients f (entry.Judged id) (meets_fits clients f (entry.Judged id) m.0) s) (sessions_after_one clients f (entry.Judged id) m.0 h) es n later none m.1 then) refl refl
-records_unknown clients f s h (entry.Deliver id ∷ es) n later none m then = rest_unknown f (entry.Deliver id) es n later (session_at (after_all f ((entry.Deliver id) ∷ es)).sessions n)
-    (records_unknown clients (after f (entry.Deliver id)) (sound_after clients f (entry.Deliver id) (meets_fits clients f (entry.Deliver id) m.0) s) (sessions_after_one clients f (entry.Deliver id) m.0 h) es n later none m.1 then) refl refl
-records_unknown clients f s h (entry.Invalid id ∷ es) n later none m then = rest_unknown f (entry.Invalid id) es n later (session_at (after_all f ((entry.Invalid id) ∷ es)).sessions n)
-    (records_unknown clients (after f (entry.Invalid id)) (sound_after clients f (entry.Invalid id) (meets_fits clients f (entry.Invalid id) m.0) s) (sessions_after_one clients f (entry.Invalid id) m.0 h) es n later none m.1 then) refl refl
-records_unknown clients f s h (entry.Again t id ∷ es) n later none m then = rest_unknown f (entry.Again t id) es n later (session_at (after_all f ((entry.Again t id) ∷ es)).sessions n)
-    (records_unknown clients (after f (entry.Again t id)) (sound_after clients f (entry.Again t id) (meets_fits clients f (entry.Again t id) m.0) s) (sessions_after_one clients f (entry.Again t id) m.0 h) es n later none m.1 then) refl refl
-records_unknown clients f s h (entry.Offered t id ∷ es) n later none m then = rest_unknown f (entry.Offered t id) es n later (session_at (after_all f ((entry.Offered t id) ∷ es)).sessions n)
-    (records_unknown clients (after f (entry.Offered t id)) (sound_after clients f (entry.Offered t id) (meets_fits clients f (entry.Offered t id) m.0) s) (sessions_after_one clients f (entry.Offered t id) m.0 h) es n later none m.1 then) refl refl
-records_unknown clients f s h (entry.Seen t id ∷ es) n later none m then = rest_unknown f (entry.Seen t id) es n later (session_at (after_all f ((entry.Seen t id) ∷ es)).sessions n)
-    (records_unknown clients (after f (entry.Seen t id)) (sound_after clients f (entry.Seen t id) (meets_fits clients f (entry.Seen t id) m.0) s) (sessions_after_one clients f (entry.Seen t id) m.0 h) es n later none m.1 then) refl refl
-records_unknown clients f s h (entry.Asked t id ∷ es) n later none m then = rest_unknown f (entry.Asked t id) es n later (session_at (after_all f ((entry.Asked t id) ∷ es)).sessions n)
-    (records_unknown clients (after f (entry.Asked t id)) (sound_after clients f (entry.Asked t id) (meets_fits clients f (entry.Asked t id) m.0) s) (sessions_after_one clients f (entry.Asked t id) m.0 h) es n later none m.1 then) refl refl
-records_unknown clients f s h (entry.Brief k ∷ es) n later none m then = rest_unknown f (entry.Brief k) es n later (session_at (after_all f ((entry.Brief k) ∷ es)).sessions n)
-    (records_unknown clients (after f (entry.Brief k)) (sound_after clients f (entry.Brief k) (meets_fits clients f (entry.Brief k) m.0) s) (sessions_after_one clients f (entry.Brief k) m.0 h) es n later none m.1 then) refl refl
-records_unknown clients f s h (entry.Kept from x ∷ es) n later none m then = rest_unknown f (entry.Kept from x) es n later (session_at (after_all f ((entry.Kept from x) ∷ es)).sessions n)
-    (records_unknown clients (after f (entry.Kept from x)) (sound_after clients f (entry.Kept from x) (meets_fits clients f (entry.Kept from x) m.0) s) (sessions_after_one clients f (entry.Kept from x) m.0 h) es n later none m.1 then) refl refl
-records_unknown clients f s h (entry.Tried t ∷ es) n later none m then = rest_unknown f (entry.Tried t) es n later (session_at (after_all f ((entry.Tried t) ∷ es)).sessions n)
-    (records_unknown clients (after f (entry.Tried t)) (sound_after clients f (entry.Tried t) (meets_fits clients f (entry.Tried t) m.0) s) (sessions_after_one clients f (entry.Tried t) m.0 h) es n later none m.1 then) refl refl
-records_unknown clients f s h (entry.Want c id ∷ es) n later none m then = rest_unknown f (entry.Want c id) es n later (session_at (after_all f ((entry.Want c id) ∷ es)).sessions n)
-    (records_unknown clients (after f (entry.Want c id)) (sound_after clients f (entry.Want c id) (meets_fits clients f (entry.Want c id) m.0) s) (sessions_after_one clients f (entry.Want c id) m.0 h) es n later none m.1 then) refl refl
+records_unknown clients f s h (e ∷ es) n later none m then =
+    rest_unknown f e es n later (session_at (after_all f (e ∷ es)).sessions n)
+    (records_unknown clients (after f e) (sound_after clients f e (meets_fits clients f e m.0) s)
+    (sessions_after_one clients f e m.0 h) es n later none m.1 then) refl refl
 
 -- ---- journals
 

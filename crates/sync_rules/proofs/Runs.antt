@@ -15,7 +15,8 @@ use Rattle.sync_rules.specs.Lists.{firsts}
 use Rattle.sync_rules.specs.Facts.{Facts, Held, Id, after, after_all, after_batches, nothing, facts, entries_of, group_at, held_at, contact_of, session_at, level_at, is_invisible}
 use Rattle.sync_rules.specs.Steps.{next}
 use Rattle.sync_rules.specs.Sessions.{taken, taken_message, taken_message_of, taken_acks, taken_requests, taken_offers, taken_offer, one_if, is_welcome, is_remembered, room_after}
-use Rattle.sync_rules.specs.Legal.{Allowed, AreRows, IsSettling, GoesOn, Legal, SuitsRows}
+use Rattle.sync_rules.specs.Legal.{Allowed, AreRows, IsSettling, GoesOn, Legal, MayStandAlone, SuitsRows}
+use Rattle.sync_rules.proofs.BatchKinds.{by_kind}
 use Rattle.sync_rules.proofs.StepLaws.{next_is_settling}
 use Rattle.sync_rules.proofs.Sound.{SoundFacts}
 use Rattle.sync_rules.proofs.Kept.{Fits, AllFit, sound_all, AllFit-append}
@@ -123,30 +124,25 @@ fits_rows clients f (e ∷ es) s = (fits_row clients f e s.0, fits_rows clients 
 
 -- ---- batches
 
--- a batch of one entry
-fits_alone : (clients : Meaning) (f : Facts) (e : Entry) (rest : List Entry) → rest ≡ [] → Fits clients f e → AllFit clients f (e ∷ rest)
-fits_alone clients f e rest none fit = (fit, subst (AllFit clients (after f e)) (sym none) tt)
+stands_fits : (clients : Meaning) (f : Facts) (e : Entry) → MayStandAlone clients f e → Fits clients f e
+stands_fits clients f (entry.Level c g l) may = may.1
+stands_fits clients f (entry.Author m) may = record { known = may.known_group; new = may.new }
+stands_fits clients f (entry.Out s now what) may = may
+stands_fits clients f (entry.Kept from m) may = record { known = may.1.known_group; new = may.1.new }
+stands_fits clients f (entry.Contact c) may = tt
+stands_fits clients f (entry.Group def) may = tt
+stands_fits clients f (entry.Session s) may = tt
+stands_fits clients f _ may = absurd may
 
 pub allowed_fits : (clients : Meaning) (f : Facts) (b : List Entry) → Allowed clients f b → AllFit clients f b
-allowed_fits clients f [] a = absurd a
-allowed_fits clients f (entry.Contact c ∷ rest) a = fits_alone clients f (entry.Contact c) rest a.0 tt
-allowed_fits clients f (entry.Group def ∷ rest) a = fits_alone clients f (entry.Group def) rest a.0 tt
-allowed_fits clients f (entry.Level c g l ∷ rest) a = fits_alone clients f (entry.Level c g l) rest a.0 a.3
-allowed_fits clients f (entry.Session s ∷ rest) a = fits_alone clients f (entry.Session s) rest a.0 tt
-allowed_fits clients f (entry.Take s k ∷ rest) a =
-    (tt, subst (AllFit clients (after f (entry.Take s k))) (sym a.1.taken_so) (fits_taken clients f s k a.1.read a.1.known_session))
-allowed_fits clients f (entry.Author m ∷ rest) a =
-    fits_alone clients f (entry.Author m) rest a.0 (record { known = a.2.known_group; new = a.2.new })
-allowed_fits clients f (entry.Judged id ∷ rest) a = fits_settling clients f (entry.Judged id ∷ rest) a.2
-allowed_fits clients f (entry.Deliver id ∷ rest) a = fits_settling clients f (entry.Deliver id ∷ rest) a.2
-allowed_fits clients f (entry.Invalid id ∷ rest) a = fits_settling clients f (entry.Invalid id ∷ rest) a.2
-allowed_fits clients f (entry.Out s now what ∷ rest) a = fits_alone clients f (entry.Out s now what) rest a.0 a.2
-allowed_fits clients f (entry.Brief n ∷ rest) a = fits_alone clients f (entry.Brief n) rest a.0 tt
-allowed_fits clients f (entry.Kept from m ∷ rest) a =
-    fits_alone clients f (entry.Kept from m) rest a.0 (record { known = a.3.known_group; new = a.3.new })
-allowed_fits clients f (entry.Tried t ∷ rest) a = fits_rows clients f (entry.Tried t ∷ rest) a.suits
-allowed_fits clients f (entry.Want contact id ∷ rest) a = fits_rows clients f (entry.Want contact id ∷ rest) a.suits
-allowed_fits clients f _ a = absurd a
+allowed_fits clients f =
+    by_kind clients f (AllFit clients f) (record {
+      alone = λ e settled may. (stands_fits clients f e may, tt);
+      of_record = λ s k r settled next. (tt, fits_taken clients f s k r next.known_session);
+      steps = λ e es step is. fits_settling clients f (e ∷ es) is.2;
+      brief = λ n empty. (tt, tt);
+      rows = λ e es row is. fits_rows clients f (e ∷ es) is.suits;
+    })
 
 pub goes_on_fits : (clients : Meaning) (f : Facts) (bs : List (List Entry)) → GoesOn clients f bs → AllFit clients f (entries_of bs)
 goes_on_fits clients f [] g = tt

@@ -288,7 +288,7 @@ left_all f (e ∷ es) k =
       delivered = b.delivered ∙ a.delivered;
     }
 
-taken_of_record : (session : ℕ) (e : Entry) → is_taken_on session e ≡ true → is_of_record e ≡ true
+pub taken_of_record : (session : ℕ) (e : Entry) → is_taken_on session e ≡ true → is_of_record e ≡ true
 taken_of_record session (entry.Arrive s m) k = refl
 taken_of_record session (entry.Again s id) k = refl
 taken_of_record session (entry.Offered s id) k = refl

@@ -282,26 +282,28 @@ is_settling clients f es = nat_le (length es) MAX_STEPS && settles clients f es
 abbrev pub is_rows : Meaning → Facts → List Entry → Bool
 is_rows clients f es = is_opening f.start && (is_settled clients f && (nat_le (length es) MAX_ROWS && are_rows f es))
 
+-- an entry may be a batch by itself
+abbrev pub may_stand_alone : Meaning → Facts → Entry → Bool
+may_stand_alone clients f (entry.Contact c) = nat_eq c f.contacts && nat_lt c MAX_CONTACTS
+may_stand_alone clients f (entry.Group def) = may_add_group clients f def
+may_stand_alone clients f (entry.Level c g l) = nat_lt c f.contacts && is_some (group_at f.groups g)
+may_stand_alone clients f (entry.Session s) = may_begin f s
+may_stand_alone clients f (entry.Author m) = may_author clients f m
+may_stand_alone clients f (entry.Out s now what) = is_due clients f (session_at f.sessions s) now what
+may_stand_alone clients f (entry.Kept from m) = is_opening f.start && may_keep clients f from m
+may_stand_alone clients f _ = false
+
 -- whether a batch may follow a journal of these facts
 abbrev pub allows : Meaning → Facts → List Entry → Bool
 allows clients f [] = false
-allows clients f (entry.Contact c ∷ rest) = alone clients f rest && (nat_eq c f.contacts && nat_lt c MAX_CONTACTS)
-allows clients f (entry.Group def ∷ rest) = alone clients f rest && may_add_group clients f def
-allows clients f (entry.Level c g l ∷ rest) =
-    alone clients f rest && (nat_lt c f.contacts && is_some (group_at f.groups g))
-allows clients f (entry.Session s ∷ rest) = alone clients f rest && may_begin f s
 allows clients f (entry.Take s k ∷ rest) = is_settled clients f && may_take f s k rest
-allows clients f (entry.Author m ∷ rest) = alone clients f rest && may_author clients f m
 allows clients f (entry.Judged id ∷ rest) = is_settling clients f (entry.Judged id ∷ rest)
 allows clients f (entry.Deliver id ∷ rest) = is_settling clients f (entry.Deliver id ∷ rest)
 allows clients f (entry.Invalid id ∷ rest) = is_settling clients f (entry.Invalid id ∷ rest)
-allows clients f (entry.Out s now what ∷ rest) =
-    alone clients f rest && is_due clients f (session_at f.sessions s) now what
 allows clients f (entry.Brief n ∷ rest) = is_empty rest && is_empty_start f.start
-allows clients f (entry.Kept from m ∷ rest) = alone clients f rest && (is_opening f.start && may_keep clients f from m)
 allows clients f (entry.Tried t ∷ rest) = is_rows clients f (entry.Tried t ∷ rest)
 allows clients f (entry.Want contact id ∷ rest) = is_rows clients f (entry.Want contact id ∷ rest)
-allows clients f _ = false
+allows clients f (e ∷ rest) = alone clients f rest && may_stand_alone clients f e
 
 -- the first entry of a settling batch
 abbrev pub is_settling_kind : List Entry → Bool
@@ -309,6 +311,12 @@ is_settling_kind (entry.Judged id ∷ rest) = true
 is_settling_kind (entry.Deliver id ∷ rest) = true
 is_settling_kind (entry.Invalid id ∷ rest) = true
 is_settling_kind _ = false
+
+-- the first entry of a batch of rows and wanted ids
+abbrev pub is_rows_kind : List Entry → Bool
+is_rows_kind (entry.Tried t ∷ rest) = true
+is_rows_kind (entry.Want contact id ∷ rest) = true
+is_rows_kind _ = false
 
 -- the first entry of a batch of a brief account's own kinds
 abbrev pub is_account_kind : List Entry → Bool

@@ -135,28 +135,30 @@ abbrev pub IsDue : Meaning → Facts → Option Session → ℕ → Out → Type
 IsDue clients f None now what = ⊥
 IsDue clients f (Some s) now what = due clients f s now ≡ Some what
 
--- the batches that may follow a journal of these facts. Before any batch but a settling one and the first of a brief
--- account the journal is settled
+-- what is asked of an entry that is a batch by itself, beside a settled journal
+abbrev pub MayStandAlone : Meaning → Facts → Entry → Type 0
+MayStandAlone clients f (entry.Contact c) = (c ≡ f.contacts) × (c < MAX_CONTACTS)
+MayStandAlone clients f (entry.Group def) = MayAddGroup clients f def
+MayStandAlone clients f (entry.Level c g l) = (c < f.contacts) × (is_some (group_at f.groups g) ≡ true)
+MayStandAlone clients f (entry.Session s) = MayBegin f s
+MayStandAlone clients f (entry.Author m) = MayAuthor clients f m
+MayStandAlone clients f (entry.Out s now what) = IsDue clients f (session_at f.sessions s) now what
+MayStandAlone clients f (entry.Kept from m) = (f.start ≡ start.Opening) × MayKeep clients f from m
+MayStandAlone clients f _ = ⊥
+
+-- the batches that may follow a journal of these facts: a record that is taken, steps of settling, the first of a brief
+-- account, its rows and wanted ids, or one entry by itself. Before any but steps and the first of a brief account the
+-- journal is settled
 abbrev pub Allowed : Meaning → Facts → List Entry → Type 0
 Allowed clients f [] = ⊥
-Allowed clients f (entry.Contact c ∷ rest) = (rest ≡ []) × IsSettled clients f × (c ≡ f.contacts) × (c < MAX_CONTACTS)
-Allowed clients f (entry.Group def ∷ rest) = (rest ≡ []) × IsSettled clients f × MayAddGroup clients f def
-Allowed clients f (entry.Level c g l ∷ rest) =
-    (rest ≡ []) × IsSettled clients f × (c < f.contacts) × (is_some (group_at f.groups g) ≡ true)
-Allowed clients f (entry.Session s ∷ rest) = (rest ≡ []) × IsSettled clients f × MayBegin f s
 Allowed clients f (entry.Take s k ∷ rest) = IsSettled clients f × MayTake f s k rest
-Allowed clients f (entry.Author m ∷ rest) = (rest ≡ []) × IsSettled clients f × MayAuthor clients f m
 Allowed clients f (entry.Judged id ∷ rest) = IsSettlingBatch clients f (entry.Judged id ∷ rest)
 Allowed clients f (entry.Deliver id ∷ rest) = IsSettlingBatch clients f (entry.Deliver id ∷ rest)
 Allowed clients f (entry.Invalid id ∷ rest) = IsSettlingBatch clients f (entry.Invalid id ∷ rest)
-Allowed clients f (entry.Out s now what ∷ rest) =
-    (rest ≡ []) × IsSettled clients f × IsDue clients f (session_at f.sessions s) now what
 Allowed clients f (entry.Brief n ∷ rest) = (rest ≡ []) × (f.start ≡ start.Empty)
-Allowed clients f (entry.Kept from m ∷ rest) =
-    (rest ≡ []) × IsSettled clients f × (f.start ≡ start.Opening) × MayKeep clients f from m
 Allowed clients f (entry.Tried t ∷ rest) = IsRowsBatch clients f (entry.Tried t ∷ rest)
 Allowed clients f (entry.Want contact id ∷ rest) = IsRowsBatch clients f (entry.Want contact id ∷ rest)
-Allowed clients f _ = ⊥
+Allowed clients f (e ∷ rest) = (rest ≡ []) × IsSettled clients f × MayStandAlone clients f e
 
 -- batches of which each is allowed after those before it
 abbrev pub GoesOn : Meaning → Facts → List (List Entry) → Type 0

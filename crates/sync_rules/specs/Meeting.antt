@@ -5,13 +5,13 @@ use Rattle.sync_ids.specs.Ids.{message_id_of}
 use Rattle.sync_rules.specs.declared.entries.Entry.{Entry}
 use Rattle.sync_rules.specs.declared.entries.Entry.TheVariants as entry
 use Rattle.sync_rules.specs.declared.states.Start.TheVariants as start
-use Rattle.sync_rules.specs.declared.limits.TheConstants.{MAX_CONTACTS, MAX_WANTED}
+use Rattle.sync_rules.specs.declared.limits.TheConstants.{MAX_WANTED}
 use Rattle.sync_rules.specs.Clients.{Meaning}
 use Rattle.sync_rules.specs.Lists.{is_among}
 use Rattle.sync_rules.specs.Facts.{Facts, Id, after, after_all, nothing, entries_of, group_at, is_held, session_at, contact_of, level_at, is_invisible, takes_of, wanted_from}
 use Rattle.sync_rules.specs.Steps.{IsSettled, next}
 use Rattle.sync_rules.specs.Sessions.{is_shown}
-use Rattle.sync_rules.specs.Legal.{IsDue, MayAddGroup, MayAuthor, MayBegin, MayKeep, MayRestore, MayWant}
+use Rattle.sync_rules.specs.Legal.{MayRestore, MayStandAlone, MayWant}
 
 -- a message that comes in on a session: the session and the message's group are known, its id is not held, and the group is
 -- not Invisible to the session's contact
@@ -37,25 +37,20 @@ pub record IsNamedNew (f : Facts) (session : ℕ) (id : Id) : Type 0 where
 
 -- each entry but a step and the first of a brief account stands where no step is open
 abbrev pub MeetsNoStep : Meaning → Facts → Entry → Type 0
-MeetsNoStep clients f (entry.Contact c) = IsSettled clients f × (c ≡ f.contacts) × (c < MAX_CONTACTS)
-MeetsNoStep clients f (entry.Group def) = IsSettled clients f × MayAddGroup clients f def
-MeetsNoStep clients f (entry.Level c g l) = IsSettled clients f × (c < f.contacts) × (is_some (group_at f.groups g) ≡ true)
-MeetsNoStep clients f (entry.Session s) = IsSettled clients f × MayBegin f s
-MeetsNoStep clients f (entry.Take s k) = IsSettled clients f × (is_some (session_at f.sessions s) ≡ true) × (k ≡ takes_of f.takes s)
-MeetsNoStep clients f (entry.Author m) = IsSettled clients f × MayAuthor clients f m
+MeetsNoStep clients f (entry.Take s k) =
+    IsSettled clients f × (is_some (session_at f.sessions s) ≡ true) × (k ≡ takes_of f.takes s)
 MeetsNoStep clients f (entry.Arrive s m) = IsSettled clients f × ComesIn f s m
-MeetsNoStep clients f (entry.Judged id) = next clients f ≡ Some (entry.Judged id)
-MeetsNoStep clients f (entry.Deliver id) = next clients f ≡ Some (entry.Deliver id)
-MeetsNoStep clients f (entry.Invalid id) = next clients f ≡ Some (entry.Invalid id)
 MeetsNoStep clients f (entry.Again s id) = IsSettled clients f × IsNamedHeld f s id
 MeetsNoStep clients f (entry.Offered s id) = IsSettled clients f × IsNamedNew f s id
 MeetsNoStep clients f (entry.Seen s id) = IsSettled clients f × IsNamedHeld f s id
 MeetsNoStep clients f (entry.Asked s id) = IsSettled clients f × IsNamedHeld f s id
-MeetsNoStep clients f (entry.Out s now what) = IsSettled clients f × IsDue clients f (session_at f.sessions s) now what
+MeetsNoStep clients f (entry.Judged id) = next clients f ≡ Some (entry.Judged id)
+MeetsNoStep clients f (entry.Deliver id) = next clients f ≡ Some (entry.Deliver id)
+MeetsNoStep clients f (entry.Invalid id) = next clients f ≡ Some (entry.Invalid id)
 MeetsNoStep clients f (entry.Brief n) = f.start ≡ start.Empty
-MeetsNoStep clients f (entry.Kept from m) = IsSettled clients f × (f.start ≡ start.Opening) × MayKeep clients f from m
 MeetsNoStep clients f (entry.Tried t) = IsSettled clients f × (f.start ≡ start.Opening) × MayRestore f t
 MeetsNoStep clients f (entry.Want contact id) = IsSettled clients f × (f.start ≡ start.Opening) × MayWant f contact id
+MeetsNoStep clients f e = IsSettled clients f × MayStandAlone clients f e
 
 -- entries of which each meets this behind those before it
 abbrev pub AllMeet : Meaning → Facts → List Entry → Type 0

@@ -125,11 +125,10 @@ pub fn records()
     ensures held { HeldByRecords }
 {}
 
-/// Names: a batch that may follow a legal journal names only messages that are held before it, but
-/// for those that it brings, offers or requests.
+/// Names: a batch that may follow names only messages that are held before it, but for those that
+/// it brings, offers or requests.
 pub fn names()
-    ensures { (clients : Meaning) (j : List (List Entry)) (b : List Entry) → Legal clients j
-        → Allowed clients (facts j) b → NamesHeld (facts j) b }
+    ensures { (clients : Meaning) (f : Facts) (b : List Entry) → Allowed clients f b → NamesHeld f b }
 {}
 
 /// Served: in a legal journal the dependencies of each delivered message stand before it among the

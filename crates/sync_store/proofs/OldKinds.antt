@@ -1,23 +1,17 @@
 -- Which kinds of entries a format has: a batch that is none of a brief account has older kinds
 -- alone.
-use Rattle.std.proofs.Common.{◌≡◌, ℕ, Bool, true, false, cond, List, [], ◌∷◌, ◌++◌, sym, subst}
-use Rattle.std.specs.Prelude.{Option, Some, None, not, ◌&&◌}
+use Rattle.std.proofs.Common.{◌≡◌, Bool, true, false, List, [], ◌∷◌, sym, ◌∙◌}
 use Rattle.std.specs.List.{AllByRecursion}
-use Rattle.sync_ids.specs.Ids.{message_id_of}
-use Rattle.sync_ids.specs.Values.{MessageValue}
-use Rattle.sync_ids.specs.declared.records.Record.{Record}
-use Rattle.sync_ids.specs.declared.records.Record.TheVariants as record_kind
+use Rattle.std.proofs.lemmas.Bool.{false≢true}
 use Rattle.sync_rules.specs.declared.entries.Entry.{Entry}
 use Rattle.sync_rules.specs.declared.entries.Entry.TheVariants as entry
 use Rattle.sync_rules.specs.Allows.{is_account_kind}
 use Rattle.sync_rules.specs.Clients.{Meaning}
-use Rattle.sync_rules.specs.Facts.{Facts, Held, Id, contact_of, held_at, is_invisible, level_at}
-use Rattle.sync_rules.specs.Facts.{row_at}
-use Rattle.sync_rules.specs.Legal.{Allowed, IsSettling}
-use Rattle.sync_rules.specs.Lists.{firsts}
-use Rattle.sync_rules.specs.Sessions.{is_remembered, is_shown, is_welcome, one_if, room_after}
-use Rattle.sync_rules.specs.Sessions.{taken_acks, taken_from, taken_message, taken_message_of}
-use Rattle.sync_rules.specs.Sessions.{taken_offers, taken_requests}
+use Rattle.sync_rules.specs.Facts.{Facts}
+use Rattle.sync_rules.specs.Legal.{Allowed, IsSettling, MayStandAlone}
+use Rattle.sync_rules.proofs.BatchEntries.{record_each}
+use Rattle.sync_rules.proofs.BatchKinds.{by_kind, rows_account}
+use Rattle.sync_rules.proofs.StepKinds.{is_of_record}
 use Rattle.entry_codec.specs.declared.naming.Format.{Format}
 use Rattle.entry_codec.specs.Spelling.{IsOfFormat, IsOld}
 use Rattle.entry_codec.proofs.FormatKinds.{of_old}
@@ -49,87 +43,33 @@ pub settling_old : (clients : Meaning) (f : Facts) (es : List Entry) → IsSettl
     → AllByRecursion IsOld es
 settling_old clients f es settling = steps_old es (all_steps clients f es settling)
 
--- ---- what a record is taken as
-
-one_old : (b : Bool) (e : Entry) (es : List Entry) → IsOld e → AreOld es → AreOld (one_if b e ++ es)
-one_old true e es one others = (one, others)
-one_old false e es one others = others
-
-acks_old : (f : Facts) (s c : ℕ) (ids : List Id) → AreOld (taken_acks f s c ids)
-acks_old f s c [] = tt
-acks_old f s c (id ∷ ids) =
-    one_old (is_shown f c id && not (row_at f.rows c id).seen) (entry.Seen s id)
-    (taken_acks f s c ids) tt (acks_old f s c ids)
-
-requests_old : (f : Facts) (s c : ℕ) (ids : List Id) → AreOld (taken_requests f s c ids)
-requests_old f s c [] = tt
-requests_old f s c (id ∷ ids) =
-    one_old (is_shown f c id) (entry.Asked s id) (taken_requests f s c ids) tt
-    (requests_old f s c ids)
-
-both_old : (a b : Bool) (d e : Entry) (es : List Entry) → IsOld d → IsOld e → AreOld es
-    → AreOld ((one_if a d ++ one_if b e) ++ es)
-both_old true true d e es first second others = (first, (second, others))
-both_old true false d e es first second others = (first, others)
-both_old false true d e es first second others = (second, others)
-both_old false false d e es first second others = others
-
-offers_old : (f : Facts) (s c room : ℕ) (ids : List Id) → AreOld (taken_offers f s c room ids)
-offers_old f s c room [] = tt
-offers_old f s c room (id ∷ ids) =
-    let later = room_after (is_remembered f c room id) room in
-    both_old (is_shown f c id) (is_remembered f c room id) (entry.Again s id) (entry.Offered s id)
-    (taken_offers f s c later ids) tt tt (offers_old f s c later ids)
-
-came_old : (b : Bool) (s : ℕ) (m : MessageValue)
-    → AreOld (one_if b (entry.Again s (message_id_of m)))
-came_old true s m = (tt, tt)
-came_old false s m = tt
-
-held_old : (f : Facts) (s c : ℕ) (m : MessageValue) (o : Option Held)
-    → AreOld (taken_message_of f s c m o)
-held_old f s c m None = (tt, tt)
-held_old f s c m (Some h) = came_old (not (is_invisible (level_at f.levels c h.message.group))) s m
-
-message_old : (f : Facts) (s c : ℕ) (m : MessageValue) → AreOld (taken_message f s c m)
-message_old f s c m =
-    elim (is_welcome f c m.group) as (λ b.
-    AreOld (cond b (taken_message_of f s c m (held_at f.held (message_id_of m))) [])) [
-      | true ↦ held_old f s c m (held_at f.held (message_id_of m))
-      | false ↦ tt
-    ]
-
-taken_old : (f : Facts) (s c : ℕ) (r : Record) → AreOld (taken_from f s c r)
-taken_old f s c (record_kind.Ack ids) = acks_old f s c (firsts ids)
-taken_old f s c (record_kind.Message m) = message_old f s c m
-taken_old f s c (record_kind.Offer ids) = offers_old f s c _ (firsts ids)
-taken_old f s c (record_kind.Request ids) = requests_old f s c (firsts ids)
-taken_old f s c (record_kind.Versions versions) = tt
-taken_old f s c (record_kind.Priority nonce) = tt
-
 -- ---- a batch
 
-alone : (e : Entry) (rest : List Entry) → rest ≡ [] → IsOld e → AreOld (e ∷ rest)
-alone e rest none old = (old, subst AreOld (sym none) tt)
+mark_old : (e : Entry) → is_of_record e ≡ true → IsOld e
+mark_old (entry.Brief n) is = absurd (false≢true is)
+mark_old (entry.Kept from m) is = absurd (false≢true is)
+mark_old (entry.Tried t) is = absurd (false≢true is)
+mark_old (entry.Want contact id) is = absurd (false≢true is)
+mark_old _ is = tt
+
+-- of a batch of none of a brief account's own kinds
+abbrev ArePlainOld : List Entry → Type 0
+ArePlainOld b = is_account_kind b ≡ false → AreOld b
+
+stands_old : (clients : Meaning) (f : Facts) (e : Entry) → MayStandAlone clients f e → ArePlainOld (e ∷ [])
+stands_old clients f (entry.Kept from m) may plain = absurd (false≢true (sym plain))
+stands_old clients f (entry.Brief n) may plain = absurd may
+stands_old clients f (entry.Tried t) may plain = absurd may
+stands_old clients f (entry.Want contact id) may plain = absurd may
+stands_old clients f _ may plain = (tt, tt)
 
 pub allowed_old : (clients : Meaning) (f : Facts) (batch : List Entry) → Allowed clients f batch
     → is_account_kind batch ≡ false → AllByRecursion IsOld batch
-allowed_old clients f [] is plain = absurd is
-allowed_old clients f (entry.Take s k ∷ rest) is plain =
-    (tt, subst AreOld (sym is.1.taken_so) (taken_old f s (contact_of f.sessions s) is.1.read))
-allowed_old clients f (entry.Arrive s m ∷ rest) is plain = absurd is
-allowed_old clients f (entry.Judged id ∷ rest) is plain =
-    settling_old clients f (entry.Judged id ∷ rest) is.2
-allowed_old clients f (entry.Deliver id ∷ rest) is plain =
-    settling_old clients f (entry.Deliver id ∷ rest) is.2
-allowed_old clients f (entry.Invalid id ∷ rest) is plain =
-    settling_old clients f (entry.Invalid id ∷ rest) is.2
-allowed_old clients f (entry.Again s id ∷ rest) is plain = absurd is
-allowed_old clients f (entry.Offered s id ∷ rest) is plain = absurd is
-allowed_old clients f (entry.Seen s id ∷ rest) is plain = absurd is
-allowed_old clients f (entry.Asked s id ∷ rest) is plain = absurd is
-allowed_old clients f (entry.Brief n ∷ rest) is plain = cc
-allowed_old clients f (entry.Kept from m ∷ rest) is plain = cc
-allowed_old clients f (entry.Tried t ∷ rest) is plain = cc
-allowed_old clients f (entry.Want contact id ∷ rest) is plain = cc
-allowed_old clients f (e ∷ rest) is plain = alone e rest is.0 tt
+allowed_old clients f =
+    by_kind clients f ArePlainOld (record {
+      alone = λ e settled may. stands_old clients f e may;
+      of_record = λ s k r settled next plain. (tt, record_each IsOld mark_old f s r);
+      steps = λ e es step is plain. settling_old clients f (e ∷ es) is.2;
+      brief = λ n empty plain. absurd (false≢true (sym plain));
+      rows = λ e es row is plain. absurd (false≢true (sym plain ∙ rows_account e es row));
+    })

@@ -40,7 +40,7 @@ contact_allowed clients f n settled is =
     let few = where_so (nat_lt f.contacts 256) (Ok f.contacts) refused.TooManyContacts n is in
     let same : f.contacts ≡ n =
     (let both : ◌≡◌ {A = Result ℕ Refused} (Ok f.contacts) (Ok n) = few.1 in cc) in
-    (refl, settled, sym same, subst (λ k. k < 256) same (ltb-true f.contacts 256 few.0))
+    (refl, settled, (sym same, subst (λ k. k < 256) same (ltb-true f.contacts 256 few.0)))
 
 pub group_allowed : (clients : Meaning) (f : Facts) (def : GroupValue) (id : Id)
     → IsSettled clients f → group_answer clients f def ≡ Ok id
@@ -63,7 +63,7 @@ pub level_allowed : (clients : Meaning) (f : Facts) (c : ℕ) (g : Id) (l : Leve
 level_allowed clients f c g l u settled is =
     let known = where_so (nat_lt c f.contacts) _ refused.UnknownContact u is in
     let there = where_so (is_some (group_at f.groups g)) _ refused.UnknownGroup u known.1 in
-    (refl, settled, ltb-true c f.contacts known.0, there.0)
+    (refl, settled, (ltb-true c f.contacts known.0, there.0))
 
 judged_allowed : (clients : Meaning) (f : Facts) (m : MessageValue) (answer : Judgement) (id : Id)
     → IsSettled clients f → is_some (group_at f.groups m.group) ≡ true

@@ -18,13 +18,15 @@ use Rattle.sync_rules.specs.Lists.{In, firsts, is_among, same_id}
 use Rattle.sync_rules.proofs.Elements.{same_id-is, same_id_itself}
 use Rattle.sync_rules.specs.Facts.{Facts, Held, Id, after, after_all, arrived, authored, contact_in, contact_of, entries_of, held_at, row_at, session_at}
 use Rattle.sync_rules.specs.Laws.{IsAuthored}
-use Rattle.sync_rules.specs.Legal.{Allowed, GoesOn, IsSettling}
+use Rattle.sync_rules.specs.Legal.{Allowed, GoesOn, MayStandAlone}
+use Rattle.sync_rules.proofs.BatchEntries.{settling_each}
+use Rattle.sync_rules.proofs.BatchKinds.{by_kind}
 use Rattle.sync_rules.specs.Meeting.{AllMeet, MeetsNoStep}
 use Rattle.sync_rules.specs.PeerLaws.{is_shown_seen, is_with}
 use Rattle.sync_rules.proofs.RowLaws.{among-firsts, seen_step}
 use Rattle.sync_rules.specs.Sessions.{is_remembered, is_welcome, one_if, room_after, taken, taken_acks, taken_message, taken_message_of, taken_offer, taken_offers, taken_requests}
 use Rattle.sync_rules.proofs.StartLaws.{stays_closed_all}
-use Rattle.sync_rules.proofs.StepLaws.{IsSettlingEntry, next_is_settling}
+use Rattle.sync_rules.proofs.StepLaws.{IsSettlingEntry}
 use Rattle.world_laws.specs.Worlds.{AllHeard, HasNoBrief, IsHeard, begins_no_brief, names}
 use Rattle.world_laws.proofs.PlainLaws.{batch_plain}
 
@@ -111,36 +113,38 @@ step_says heard (entry.Kept from m) k = absurd k
 step_says heard (entry.Tried t) k = absurd k
 step_says heard _ k = tt
 
-settling_says : (heard : ℕ → List Record) (clients : Meaning) (f : Facts) (es : List Entry) → IsSettling clients f es → AllByRecursion (SaysHeard heard) es
-settling_says heard clients f [] s = tt
-settling_says heard clients f (e ∷ es) s = (step_says heard e (next_is_settling clients f e s.0), settling_says heard clients (after f e) es s.1)
-
-says_alone : (heard : ℕ → List Record) (e : Entry) (rest : List Entry) → rest ≡ [] → SaysHeard heard e → AllByRecursion (SaysHeard heard) (e ∷ rest)
-says_alone heard e rest none says = (says, subst (AllByRecursion (SaysHeard heard)) (sym none) tt)
-
 -- where a journal is no brief account, none of an account's own kinds stands behind it
 not_opening : (f : Facts) → is_opening f.start ≡ false → f.start ≡ start.Opening → ⊥
 not_opening f closed opening = false≢true (sym closed ∙ ap is_opening opening)
 
+stands_says : (heard : ℕ → List Record) (clients : Meaning) (f : Facts) → is_opening f.start ≡ false → (e : Entry)
+    → MayStandAlone clients f e → SaysHeard heard e
+stands_says heard clients f closed (entry.Contact c) may = tt
+stands_says heard clients f closed (entry.Group def) may = tt
+stands_says heard clients f closed (entry.Level c g l) may = tt
+stands_says heard clients f closed (entry.Session s) may = tt
+stands_says heard clients f closed (entry.Author m) may = tt
+stands_says heard clients f closed (entry.Out s now what) may = tt
+stands_says heard clients f closed (entry.Kept from m) may = absurd (not_opening f closed may.0)
+stands_says heard clients f closed _ may = absurd may
+
+-- of a batch that was heard
+abbrev SaysWhatIsHeard : (ℕ → List Record) → Facts → List Entry → Type 0
+SaysWhatIsHeard heard f b = IsHeard heard f b → AllByRecursion (SaysHeard heard) b
+
 batch_says : (heard : ℕ → List Record) (clients : Meaning) (f : Facts) (b : List Entry) → is_opening f.start ≡ false → Allowed clients f b → IsHeard heard f b
     → AllByRecursion (SaysHeard heard) b
-batch_says heard clients f [] closed a h = absurd a
-batch_says heard clients f (entry.Contact c ∷ rest) closed a h = says_alone heard (entry.Contact c) rest a.0 tt
-batch_says heard clients f (entry.Group def ∷ rest) closed a h = says_alone heard (entry.Group def) rest a.0 tt
-batch_says heard clients f (entry.Level c g l ∷ rest) closed a h = says_alone heard (entry.Level c g l) rest a.0 tt
-batch_says heard clients f (entry.Session s ∷ rest) closed a h = says_alone heard (entry.Session s) rest a.0 tt
-batch_says heard clients f (entry.Take s k ∷ rest) closed a h =
-    (tt, subst (AllByRecursion (SaysHeard heard)) (sym h.2) (record_says heard f s h.0 h.1))
-batch_says heard clients f (entry.Author m ∷ rest) closed a h = says_alone heard (entry.Author m) rest a.0 tt
-batch_says heard clients f (entry.Judged id ∷ rest) closed a h = settling_says heard clients f (entry.Judged id ∷ rest) a.2
-batch_says heard clients f (entry.Deliver id ∷ rest) closed a h = settling_says heard clients f (entry.Deliver id ∷ rest) a.2
-batch_says heard clients f (entry.Invalid id ∷ rest) closed a h = settling_says heard clients f (entry.Invalid id ∷ rest) a.2
-batch_says heard clients f (entry.Out s now what ∷ rest) closed a h = says_alone heard (entry.Out s now what) rest a.0 tt
-batch_says heard clients f (entry.Brief n ∷ rest) closed a h = says_alone heard (entry.Brief n) rest a.0 tt
-batch_says heard clients f (entry.Kept from m ∷ rest) closed a h = absurd (not_opening f closed a.2)
-batch_says heard clients f (entry.Tried t ∷ rest) closed a h = absurd (not_opening f closed a.opening)
-batch_says heard clients f (entry.Want contact id ∷ rest) closed a h = absurd (not_opening f closed a.opening)
-batch_says heard clients f _ closed a h = absurd a
+batch_says heard clients f b closed a h =
+    by_kind clients f (SaysWhatIsHeard heard f) (record {
+      alone = λ e settled may h. (stands_says heard clients f closed e may, tt);
+      of_record = λ s k r settled next h. (
+        tt,
+        subst (AllByRecursion (SaysHeard heard)) (sym h.2) (record_says heard f s h.0 h.1),
+      );
+      steps = λ e es step is h. settling_each (SaysHeard heard) (step_says heard) clients f (e ∷ es) is.2;
+      brief = λ n empty h. (tt, tt);
+      rows = λ e es row is h. absurd (not_opening f closed is.opening);
+    }) b a h
 
 pub batches_say : (heard : ℕ → List Record) (clients : Meaning) (f : Facts) (bs : List (List Entry)) → is_opening f.start ≡ false → HasNoBrief bs
     → GoesOn clients f bs → AllHeard heard f bs → AllByRecursion (SaysHeard heard) (entries_of bs)
