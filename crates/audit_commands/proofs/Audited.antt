@@ -3,8 +3,8 @@ use Rattle.std.proofs.Common.{◌≡◌, ◌∙◌, ap, subst, sym, inl, inr, Re
 use Rattle.std.proofs.Common.{None}
 use Rattle.std.specs.Prelude.{IsErrAnd}
 use Rattle.outside.specs.Disk.{RelatesTold}
-use Rattle.outside.specs.Files.{Two, File, read_files}
-use Rattle.outside.specs.Outside.{DiskRun, Outside}
+use Rattle.outside.specs.Files.{File, ReadsSame, SyncsBoth, Two, read_files}
+use Rattle.outside.specs.Outside.{AnyImage, DiskRun, Outside}
 use Rattle.outside.specs.Streams.{IsIdle, Stream}
 use Rattle.outside.proofs.CallSteps.{becomes_told}
 use Rattle.entry_codec.specs.Standing.{Standing}
@@ -12,7 +12,6 @@ use Rattle.file_standing.specs.Standing.{stands}
 use Rattle.sync_rules.specs.Clients.{Meaning}
 use Rattle.journal_audit.specs.declared.report.Report.{Report}
 use Rattle.journal_audit.specs.Answers.{IsAuditOf}
-use Rattle.journal_audit.specs.Files.{AnyImage, ReadsSame, SyncsBoth}
 use Rattle.store_commands.specs.Show.{KeepsFiles, PrintsText}
 use Rattle.store_commands.specs.Stopping.{NeverReads, StopsBy, StopsWhere}
 use Rattle.sync_words.specs.declared.outcome.Outcome.{Outcome}

@@ -3,7 +3,7 @@
 use Rattle.std.specs.Prelude.{◌≡◌, ◌⊎◌, Option, Some, None, Result, Ok, Err}
 use Rattle.outside.specs.Disk.{RelatesTold}
 use Rattle.outside.specs.Faults.{CountRose}
-use Rattle.outside.specs.Files.{Two, File, read_files}
+use Rattle.outside.specs.Files.{File, SyncsBoth, Two, read_files}
 use Rattle.outside.specs.Outside.{DiskRun, Outside}
 use Rattle.outside.specs.Streams.{Stream}
 use Rattle.entry_codec.specs.Standing.{Standing, damaged, no_store}
@@ -11,7 +11,6 @@ use Rattle.file_standing.specs.Standing.{stands}
 use Rattle.sync_rules.specs.Clients.{Meaning}
 use Rattle.journal_audit.specs.declared.report.Report.{Report}
 use Rattle.journal_audit.specs.Answers.{IsAuditOf}
-use Rattle.journal_audit.specs.Files.{SyncsBoth}
 use Rattle.store_commands.specs.Show.{FilesReadSame, LeavesFilesSo, PrintsText}
 use Rattle.store_commands.specs.Stopping.{NeverReads, StopsEarly}
 use Rattle.sync_words.specs.declared.outcome.Outcome.{Outcome}

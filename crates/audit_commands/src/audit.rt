@@ -1,11 +1,10 @@
 // The command `audit`.
 ghost use Rattle.std.specs.Prelude.{◌≡◌, Some};
 ghost use Rattle.outside.specs.Disk.{RelatesTold};
-ghost use Rattle.outside.specs.Files.{File, Two, read_files};
-ghost use Rattle.outside.specs.Outside.{DiskRun};
+ghost use Rattle.outside.specs.Files.{File, ReadsSame, Two, read_files};
+ghost use Rattle.outside.specs.Outside.{AnyImage, DiskRun};
 ghost use Rattle.file_standing.specs.Standing.{stands};
 ghost use Rattle.sync_words.specs.Outcomes.{came_to};
-ghost use Rattle.journal_audit.specs.Files.{AnyImage, ReadsSame};
 ghost use Rattle.store_commands.specs.Show.{PrintsText};
 ghost use Rattle.audit_commands.specs.Audits.{AuditedBy, HasAudited, LeavesSynced, TellsOutcome};
 ghost use Rattle.audit_commands.specs.Texts.{legal_text};

@@ -7,7 +7,7 @@ ghost use Rattle.sync_rules.specs.Legal.{accepts_served, suits_nonce};
 ghost use Rattle.sync_rules.specs.Sessions.{shared_ids};
 ghost use Rattle.sync_rules.specs.Steps.{is_served, verdict_in};
 ghost use Rattle.sync_rules.specs.declared.limits.TheConstants.{MAX_CONTACTS};
-ghost use Rattle.sync_rules.specs.Allows.{allows, is_due, is_settled, is_settling_kind};
+ghost use Rattle.sync_rules.specs.Allows.{allows, is_due_on, is_settled, is_settling_kind};
 ghost use Rattle.sync_rules.specs.Allows.{is_empty_start, is_opening, may_add_group, may_author};
 ghost use Rattle.sync_rules.specs.Allows.{may_begin, may_keep, may_take};
 ghost use Rattle.session_core.specs.Known.{IsIdOf, IsOfAll, IsOfEntry};
@@ -207,7 +207,7 @@ fn allows_out<J: JournalView, C: Clients>(
 ) -> Result<bool, AllocError>
     requires { (J.seen journal.now).shared ≡ shared_ids (C.meaning clients.now)
         (J.seen journal.now).facts }
-    ensures { IfOk result (λ yes. yes ≡ is_due (C.meaning clients.now) (J.seen journal.now).facts
+    ensures { IfOk result (λ yes. yes ≡ is_due_on (C.meaning clients.now) (J.seen journal.now).facts
         (session_at (J.seen journal.now).facts.sessions session) now what.now) }
 {
     let Some(on) = journal.session_of(session) else {

@@ -197,7 +197,8 @@ module _ (clients : Meaning) (whole : Facts) where
         kept_from = session_contact_known f sessions s (session_at f.sessions s) refl met.1.known_session;
       }) (after f (entry.Arrive s m)) refl refl refl refl
   told_one f g (entry.Kept from m) met sound sessions c a w =
-      kept_one f g from m c sound a w met.0 met.1.1 (after f (entry.Kept from m)) refl refl refl refl
+      kept_one f g from m c sound a w met.0 met.1.1
+      (after f (entry.Kept from m)) refl refl refl refl
   told_one f g (entry.Judged id) met sound sessions c a w = record {
     tells = (next_along clients f g (within_whole f whole g c w) sound a ∙ met, tt);
     along = record {

@@ -10,9 +10,10 @@ use Rattle.sync_rules.specs.Growth.{HasSameSteps}
 use Rattle.sync_rules.specs.Left.{left_among, left_for, left_of}
 use Rattle.sync_rules.specs.Legal.{IsSettling}
 use Rattle.sync_rules.specs.Steps.{IsSettled, next}
+use Rattle.sync_rules.specs.EntryTests.{IsSettlingEntry}
 use Rattle.sync_rules.proofs.LeftLaws.{step_lowers}
 use Rattle.sync_rules.proofs.StepKinds.{same_next}
-use Rattle.sync_rules.proofs.StepLaws.{IsSettlingEntry, next_is_settling}
+use Rattle.sync_rules.proofs.StepLaws.{next_is_settling}
 use Rattle.brief_account.specs.Account.{cascade, settling_of, steps_from}
 
 -- ---- turns

@@ -148,7 +148,8 @@ lists_held contacts wanted id has contact known =
 
 lists_after : (clients : Meaning) (f : Facts) (e : Entry) → MeetsNoStep clients f e → HasLists f.contacts f.wanted
     → HasLists (after f e).contacts (after f e).wanted
-lists_after clients f (entry.Contact c) met has = lists_more f.contacts f.wanted c (wanted_from f.wanted c) met.1.0 has
+lists_after clients f (entry.Contact c) met has =
+    lists_more f.contacts f.wanted c (wanted_from f.wanted c) met.1.0 has
 lists_after clients f (entry.Author m) met has = lists_held f.contacts f.wanted (message_id_of m) has
 lists_after clients f (entry.Arrive s m) met has = lists_held f.contacts f.wanted (message_id_of m) has
 lists_after clients f (entry.Kept from m) met has = lists_held f.contacts f.wanted (message_id_of m) has

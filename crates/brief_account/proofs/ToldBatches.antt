@@ -65,8 +65,11 @@ module _ (clients : Meaning) where
       let e : Entry = entry.Kept from m in
       goes_on_both clients g (closed front) ((e ∷ []) ∷ filled MAX_STEPS is_kept [] es)
       (closed_goes g front settling few)
-      (subst (λ (x : Facts). GoesOn clients x ((e ∷ []) ∷ filled MAX_STEPS is_kept [] es)) (sym (closed_after g front))
-      ((refl, told.0.0, (told.0.1, told.0.2)), told_goes es (after (after_all g front) e) [] tt (omega arith) told.1))
+      (subst (λ (x : Facts). GoesOn clients x ((e ∷ []) ∷ filled MAX_STEPS is_kept [] es))
+          (sym (closed_after g front)) (
+        (refl, told.0.0, (told.0.1, told.0.2)),
+        told_goes es (after (after_all g front) e) [] tt (omega arith) told.1,
+      ))
   told_goes (entry.Judged id ∷ es) g front settling few told =
       step_goes g front (entry.Judged id) es (told_goes es) settling few told.0 told.1
   told_goes (entry.Deliver id ∷ es) g front settling few told =

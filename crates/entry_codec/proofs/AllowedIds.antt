@@ -1,6 +1,6 @@
 -- A batch that may follow a journal names as held only what is held.
 use Rattle.std.proofs.Common.{◌≡◌, ℕ, Bool, true, false, cond, ◌||◌, List, [], ◌∷◌, refl}
-use Rattle.std.specs.Prelude.{◌&&◌, is_some, Some}
+use Rattle.std.specs.Prelude.{is_some, Some}
 use Rattle.std.specs.List.{AllByRecursion, list_all}
 use Rattle.std.proofs.lemmas.Bool.{and_parts, false≢true}
 use Rattle.sync_rules.specs.declared.entries.Entry.{Entry}
@@ -37,7 +37,8 @@ all_among hs (id ∷ ids) all =
     let both = and_parts (is_held hs id) (list_all (is_held hs) ids) all in
     (held_is_among hs id both.0, all_among hs ids both.1)
 
-out_names : (hs : List Held) (what : Out) → list_all (is_held hs) (held_named what) ≡ true → OutNames (IsOfHeld hs) what
+out_names : (hs : List Held) (what : Out) → list_all (is_held hs) (held_named what) ≡ true
+    → OutNames (IsOfHeld hs) what
 out_names hs (out.Acks ids) all = all_among hs ids all
 out_names hs (out.Requests ids) all = tt
 out_names hs (out.Offers ids) all = all_among hs ids all

@@ -1,5 +1,6 @@
 -- A batch that may follow a journal adds one message at most, and one session at most to the list of those that began.
-use Rattle.std.proofs.Common.{◌≡◌, ℕ, ◌+◌, ◌≤◌, Bool, true, false, cond, List, [], ◌∷◌, length, refl, arith, length-append}
+use Rattle.std.proofs.Common.{◌≡◌, ℕ, ◌+◌, ◌≤◌, Bool, true, false, cond, List, [], ◌∷◌, length}
+use Rattle.std.proofs.Common.{refl, arith, length-append}
 use Rattle.std.specs.Prelude.{Option, Some, None, not}
 use Rattle.std.specs.List.{AllByRecursion, list_all}
 use Rattle.std.proofs.lemmas.Bool.{false≢true}
@@ -14,10 +15,10 @@ use Rattle.sync_rules.specs.Lists.{firsts}
 use Rattle.sync_rules.specs.Facts.{Facts, Held, after, after_all, arrived, authored, contact_of, held_at, is_invisible, kept_as, level_at}
 use Rattle.sync_rules.specs.Sessions.{is_welcome, one_if, taken, taken_message, taken_message_of}
 use Rattle.sync_rules.specs.Legal.{Allowed, SuitsRows}
+use Rattle.sync_rules.specs.EntryTests.{IsSettlingEntry}
 use Rattle.sync_rules.proofs.BatchEntries.{all_pass, rows_each, settling_each}
 use Rattle.sync_rules.proofs.BatchKinds.{by_kind}
 use Rattle.sync_rules.proofs.StepKinds.{all_of_acks, all_of_offers, all_of_requests}
-use Rattle.sync_rules.proofs.StepLaws.{IsSettlingEntry}
 
 -- how many messages and sessions an entry adds
 abbrev adds : Entry → ℕ
@@ -132,7 +133,8 @@ batch_adds clients f =
     by_kind clients f (λ (es : List Entry). adds_all es ≤ 1) (record {
       alone = λ e settled may. omega (arith, few_added e);
       of_record = λ s k r settled next. omega (arith, taken_adds f s r);
-      steps = λ e es step is. none_added (e ∷ es) (settling_each AddsNone step_adds clients f (e ∷ es) is.2);
+      steps = λ e es step is. none_added (e ∷ es)
+          (settling_each AddsNone step_adds clients f (e ∷ es) is.2);
       brief = λ n empty. omega arith;
       rows = λ e es row is. none_added (e ∷ es) (rows_each AddsNone row_adds f (e ∷ es) is.suits);
     })

@@ -1,5 +1,6 @@
 -- How long the payload of a batch is that may follow a journal.
-use Rattle.std.proofs.Common.{◌≡◌, ℕ, suc, ◌+◌, ◌*◌, ◌-◌, ◌≤◌, Bool, true, false, cond, List, [], ◌∷◌, ◌++◌, length, refl, arith, length-append}
+use Rattle.std.proofs.Common.{◌≡◌, ℕ, suc, ◌+◌, ◌*◌, ◌-◌, ◌≤◌, Bool, true, false, cond, List, []}
+use Rattle.std.proofs.Common.{◌∷◌, ◌++◌, length, refl, arith, length-append}
 use Rattle.std.specs.Prelude.{Option, Some, None, is_some, not, ◌&&◌, nat_lt}
 use Rattle.std.specs.List.{AllByRecursion, flat_map}
 use Rattle.sync_ids.specs.Values.{MessageValue}
@@ -11,13 +12,16 @@ use Rattle.sync_rules.specs.declared.entries.Entry.{Entry}
 use Rattle.sync_rules.specs.declared.entries.Entry.TheVariants as entry
 use Rattle.sync_rules.specs.Clients.{Meaning}
 use Rattle.sync_rules.specs.Lists.{firsts, firsts_after, is_among, unless_among}
-use Rattle.sync_rules.specs.Facts.{Facts, Held, contact_of, held_at, is_invisible, level_at, row_at, wanted_from}
+use Rattle.sync_rules.specs.Facts.{Facts, Held, contact_of, held_at, is_invisible, level_at, row_at}
+use Rattle.sync_rules.specs.Facts.{wanted_from}
 use Rattle.sync_rules.specs.declared.limits.TheConstants.{MAX_WANTED}
-use Rattle.sync_rules.specs.Sessions.{is_remembered, is_shown, is_shown_held, is_welcome, one_if, room_after, taken, taken_acks, taken_from, taken_message, taken_message_of, taken_offers, taken_requests}
+use Rattle.sync_rules.specs.Sessions.{is_remembered, is_shown, is_shown_held, is_welcome, one_if}
+use Rattle.sync_rules.specs.Sessions.{room_after, taken, taken_acks, taken_from, taken_message}
+use Rattle.sync_rules.specs.Sessions.{taken_message_of, taken_offers, taken_requests}
 use Rattle.sync_rules.specs.Legal.{Allowed, SuitsRows}
+use Rattle.sync_rules.specs.EntryTests.{IsSettlingEntry}
 use Rattle.sync_rules.proofs.BatchEntries.{rows_each, settling_each}
 use Rattle.sync_rules.proofs.BatchKinds.{by_kind}
-use Rattle.sync_rules.proofs.StepLaws.{IsSettlingEntry}
 use Rattle.entry_codec.specs.declared.lengths.TheConstants.{MAX_BATCH_LEN}
 use Rattle.entry_codec.specs.Spelling.{IsEntry, spelling, spelling_in}
 use Rattle.entry_codec.specs.declared.naming.Format.{Format}
@@ -126,21 +130,38 @@ row_short f _ is = absurd is
 abbrev FitFrame : List Entry → Type 0
 FitFrame es = AreEntries es → length (spellings es) ≤ 56845
 
-record_short : (f : Facts) (s k : ℕ) (r : Record) → IsRecord r → FitFrame (entry.Take s k ∷ taken f s r)
+record_short : (f : Facts) (s k : ℕ) (r : Record) → IsRecord r
+    → FitFrame (entry.Take s k ∷ taken f s r)
 record_short f s k r within all =
-    omega (arith, payload_cons (entry.Take s k) (taken f s r), (length_within (entry.Take s k) all.0).1,
-    taken_short f s (contact_of f.sessions s) r within all.1)
+    omega (
+      arith,
+      payload_cons (entry.Take s k) (taken f s r),
+      (length_within (entry.Take s k) all.0).1,
+      taken_short f s (contact_of f.sessions s) r within all.1,
+    )
 
-batch_short : (clients : Meaning) (f : Facts) (batch : List Entry) → Allowed clients f batch → FitFrame batch
+batch_short : (clients : Meaning) (f : Facts) (batch : List Entry) → Allowed clients f batch
+    → FitFrame batch
 batch_short clients f =
     by_kind clients f FitFrame (record {
       alone = λ e settled may all. omega (arith, payload_cons e [], (short e all.0).1);
       of_record = λ s k r settled next. record_short f s k r next.within;
       steps = λ e es step is all.
-          omega (arith, is.1, few_each (e ∷ es) (settling_each IsRow step_short clients f (e ∷ es) is.2) all);
-      brief = λ n empty all. omega (arith, payload_cons (entry.Brief n) [], (short (entry.Brief n) all.0).1);
+          omega (
+            arith,
+            is.1,
+            few_each (e ∷ es)
+                (settling_each IsRow step_short clients f (e ∷ es) is.2) all,
+          );
+      brief = λ n empty all. omega
+          (arith, payload_cons (entry.Brief n) [], (short (entry.Brief n) all.0).1);
       rows = λ e es row is all.
-          omega (arith, is.few, few_each (e ∷ es) (rows_each IsRow row_short f (e ∷ es) is.suits) all);
+          omega (
+            arith,
+            is.few,
+            few_each (e ∷ es)
+                (rows_each IsRow row_short f (e ∷ es) is.suits) all,
+          );
     })
 
 first_len : (batch : List Entry) → payload_len format.Whole batch ≡ length (spellings batch)

@@ -1,5 +1,6 @@
 -- A batch that may follow a journal takes one record at most.
-use Rattle.std.proofs.Common.{◌≡◌, ℕ, ◌+◌, ◌≤◌, Bool, true, false, cond, List, [], ◌∷◌, refl, ap, ◌∙◌, arith}
+use Rattle.std.proofs.Common.{◌≡◌, ℕ, ◌+◌, ◌≤◌, Bool, true, false, cond, List, [], ◌∷◌, refl, ap}
+use Rattle.std.proofs.Common.{◌∙◌, arith}
 use Rattle.std.specs.Prelude.{◌==◌, Some}
 use Rattle.std.specs.List.{AllByRecursion}
 use Rattle.std.specs.FinMap as fin_map
@@ -12,10 +13,10 @@ use Rattle.sync_rules.specs.Clients.{Meaning}
 use Rattle.sync_rules.specs.Facts.{Facts, after, after_all, count_or, takes_of}
 use Rattle.sync_rules.specs.Sessions.{taken}
 use Rattle.sync_rules.specs.Legal.{Allowed, SuitsRows}
+use Rattle.sync_rules.specs.EntryTests.{IsSettlingEntry}
 use Rattle.sync_rules.proofs.BatchEntries.{record_each, rows_each, settling_each}
 use Rattle.sync_rules.proofs.BatchKinds.{by_kind}
 use Rattle.sync_rules.proofs.StepKinds.{is_of_record}
-use Rattle.sync_rules.proofs.StepLaws.{IsSettlingEntry}
 
 -- how many records an entry takes
 abbrev takes_in : Entry → ℕ
@@ -86,10 +87,18 @@ batch_takes clients f =
       of_record = λ s k r settled next.
           omega (arith, none_taken (taken f s r) (record_each TakesNone marks_take_none f s r));
       steps = λ e es step is.
-          omega (arith, none_taken (e ∷ es) (settling_each TakesNone steps_take_none clients f (e ∷ es) is.2));
+          omega (
+            arith,
+            none_taken (e ∷ es)
+                (settling_each TakesNone steps_take_none clients f (e ∷ es) is.2),
+          );
       brief = λ n empty. omega arith;
       rows = λ e es row is.
-          omega (arith, none_taken (e ∷ es) (rows_each TakesNone rows_take_none f (e ∷ es) is.suits));
+          omega (
+            arith,
+            none_taken (e ∷ es)
+                (rows_each TakesNone rows_take_none f (e ∷ es) is.suits),
+          );
     })
 
 pub one_take : (clients : Meaning) (f : Facts) (batch : List Entry) (session : ℕ) → Allowed clients f batch

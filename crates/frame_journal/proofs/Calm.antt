@@ -1,12 +1,11 @@
 -- Syncs leave only what a crash might have left before.
 use Rattle.std.proofs.Common.{◌≡◌, ℕ, zero, suc, List, Option, None, Some, Result, Ok, Err, refl, sym, ap, ◌∙◌, subst}
 use Rattle.outside.specs.declared.failed.Failed.{Failed}
-use Rattle.outside.specs.Files.{Two, File, IsFileImage, IsImage, read_files, settled}
+use Rattle.outside.specs.Files.{File, IsFileImage, IsImage, ReadsSame, Two, read_files, settled}
 use Rattle.outside.specs.Links.{Links, sent_of}
 use Rattle.outside.specs.Outside.{Outside, IsNow, DiskCall, MomentsAre}
 use Rattle.outside.specs.Disk.{RelatesTold, SyncsFile}
 use Rattle.outside.proofs.CallSteps.{moments_none, moments_call, becomes_told, now_images}
-use Rattle.frame_journal.specs.Gates.{ReadsSame}
 use Rattle.frame_journal.proofs.Torn.{settled_only}
 
 settled_back : (f : File) (c : List ℕ) → IsFileImage f f.now → IsFileImage (settled f.now) c → IsFileImage f c

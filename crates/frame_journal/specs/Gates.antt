@@ -1,20 +1,7 @@
 -- What syncs of both files do, and writes behind a gate and of it.
-use Rattle.std.specs.Prelude.{◌≡◌, ℕ, ◌+◌, ◌-◌, List, [], ◌∷◌, ◌++◌, take, drop, Some}
-use Rattle.outside.specs.Files.{Two, File, file_of, with_file, read_files, settled}
+use Rattle.std.specs.Prelude.{◌≡◌, ℕ, ◌+◌, ◌-◌, List, [], ◌∷◌, ◌++◌, take, drop}
+use Rattle.outside.specs.Files.{Two, File, file_of, with_file, settled}
 use Rattle.outside.specs.Disk.{overwritten}
-use Rattle.outside.specs.Outside.{Outside, MomentsAre, IsNow}
-
--- both files read as before
-abbrev pub ReadsSame : Two File → Two File → Type 0
-ReadsSame old new = read_files new ≡ read_files old
-
--- both files read as before, with nothing pending in them
-abbrev pub SyncsBoth : Two File → Two File → Type 0
-SyncsBoth old new = new ≡ record { first = settled old.first.now; second = settled old.second.now }
-
--- at each moment of a run a crash leaves what it might have left before the run, and nothing was sent
-abbrev pub AnyImage : Outside → Outside → Type 0
-AnyImage old new = (two : Two File) → old.files ≡ Some two → MomentsAre old new (IsNow two old.links)
 
 -- bytes stand behind a gate, which stands before `end`, and nothing is pending in the file
 abbrev pub WritesBehind : ℕ → ℕ → List ℕ → Two File → Two File → Type 0

@@ -17,8 +17,8 @@ pub record JournalValue : Type 0 where
   pub last : ℕ
 
 -- the journal of this format and generation in a prepared file with no frame, which has 15 bytes
-abbrev pub fresh : ℕ → ℕ → ℕ → JournalValue
-fresh file format generation = record {
+abbrev pub fresh_journal : ℕ → ℕ → ℕ → JournalValue
+fresh_journal file format generation = record {
   file = file;
   format = format;
   generation = generation;

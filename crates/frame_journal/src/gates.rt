@@ -3,18 +3,18 @@ ghost use Rattle.std.specs.Prelude.{◌≡◌, ◌<◌, ◌≤◌, ◌-◌, Some
 ghost use Rattle.std.specs.Prelude.{◌==◌, length, OnOk};
 ghost use Rattle.std.specs.Option.{ForSome};
 ghost use Rattle.outside.specs.Faults.{HasCause};
-ghost use Rattle.outside.specs.Files.{Two, File, file_of, NothingPending};
+ghost use Rattle.outside.specs.Files.{File, NothingPending, ReadsSame, SyncsBoth, Two, file_of};
 ghost use Rattle.outside.specs.Disk.{RelatesTold};
 ghost use Rattle.outside.specs.Frames.{is_open};
-ghost use Rattle.outside.specs.Outside.{DiskRun, MakesCalls, MakesAtMost};
+ghost use Rattle.outside.specs.Outside.{AnyImage, DiskRun, MakesAtMost, MakesCalls};
 ghost use Rattle.outside.specs.Steps.{PassedMoments};
 ghost use Rattle.frame_journal.specs.Append.{WritesAndOpensGate, Gated};
 ghost use Rattle.frame_journal.specs.Create.{IsCleared, ClearsFile, CreatesJournal, PreparesJournal, behind_gate};
 ghost use Rattle.frame_journal.specs.Create.{ShutOrBegun, BeforeOrShut, HasShutGate, ShutsGate};
 ghost use Rattle.frame_journal.specs.Create.{CutsToFirstByte, IsPrepared, PublishesHeader, ShutOrOpened};
-ghost use Rattle.frame_journal.specs.Gates.{SyncsBoth, AnyImage, WritesBehind, OpensGate};
+ghost use Rattle.frame_journal.specs.Gates.{WritesBehind, OpensGate};
 ghost use Rattle.frame_journal.specs.Journal.{is_format};
-ghost use Rattle.frame_journal.specs.Gates.{KeepsFront, KeepsAllBut, ReadsSame};
+ghost use Rattle.frame_journal.specs.Gates.{KeepsFront, KeepsAllBut};
 
 use crate::DiskFault;
 use outside::Disk;

@@ -3,7 +3,7 @@ ghost use Rattle.std.specs.Prelude.{◌≡◌, ◌+◌, ◌<◌, ◌≤◌, true
 ghost use Rattle.std.specs.Prelude.{IsErrOf, vec_len};
 ghost use Rattle.frame_journal.specs.Header.{StartsJournal};
 ghost use Rattle.frame_journal.specs.Next.{IsNextFrame, MovesReader, OnTrue, ReadsNext};
-ghost use Rattle.frame_journal.specs.Journal.{fresh, is_format, rewound};
+ghost use Rattle.frame_journal.specs.Journal.{fresh_journal, is_format, rewound};
 ghost use Rattle.std.specs.Option.{ForSome};
 ghost use Rattle.outside.specs.Faults.{HasCause, CountRose};
 ghost use Rattle.outside.specs.Files.{Two, File, file_of, read_files};
@@ -91,7 +91,7 @@ impl Journal {
     pub fn fresh(file: u8, format: u8, generation: u64) -> Journal
         requires file { file < 2 }
         requires format { is_format format ≡ true }
-        ensures { result ≡ fresh file format generation }
+        ensures { result ≡ fresh_journal file format generation }
     {
         Journal {
             file,

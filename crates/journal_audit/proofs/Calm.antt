@@ -1,14 +1,14 @@
 -- Syncs and reads leave only what a crash might have left before.
-use Rattle.std.proofs.Common.{◌≡◌, ℕ, zero, suc, ◌-◌, ◌<◌, ◌≤◌, min, length, take, drop, arith, ◌++◌, List, Option, None, Some, Result, Ok, Err, refl, sym, ap, ◌∙◌, subst}
+use Rattle.std.proofs.Common.{◌≡◌, ℕ, zero, suc, ◌-◌, ◌<◌, ◌≤◌, length, take, arith, ◌++◌, List}
+use Rattle.std.proofs.Common.{Some, Result, Ok, Err, refl, sym, ap, ◌∙◌, subst}
 use Rattle.outside.specs.declared.failed.Failed.{Failed}
 use Rattle.std.proofs.Math.Seq.{take-append_seam, take-length}
 use Rattle.std.proofs.lemmas.Grind.{same_number_lists}
-use Rattle.outside.specs.Files.{Two, File, IsFileImage, IsImage, read_files, settled}
+use Rattle.outside.specs.Files.{File, IsFileImage, IsImage, Two, read_files, settled}
 use Rattle.outside.specs.Links.{Links, sent_of}
 use Rattle.outside.specs.Outside.{Outside, IsNow, DiskCall, OnlyReads, MomentsAre}
 use Rattle.outside.specs.Disk.{RelatesTold, ReadsBytes, SyncsFile}
 use Rattle.outside.proofs.CallSteps.{looks_call, looks_none, moments_none, moments_call, becomes_told, now_images}
-use Rattle.journal_audit.specs.Files.{ReadsSame}
 
 -- nothing pending: there is one image
 settled_only : (bytes c : List ℕ) → IsFileImage (settled bytes) c → c ≡ bytes

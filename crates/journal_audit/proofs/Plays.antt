@@ -1,11 +1,10 @@
 -- Batches that are tested and taken, entry by entry.
-use Rattle.std.proofs.Common.{◌≡◌, ℕ, zero, suc, ◌<◌, Bool, true, false, cond, ◌&&◌, List, [], ◌∷◌, length, Option, Some, None, refl, sym, ◌∙◌, ap, subst, is_some, IfSome}
-use Rattle.std.specs.FinSet as fin_set
+use Rattle.std.proofs.Common.{◌≡◌, ℕ, suc, Bool, true, false, cond, ◌&&◌, List, [], ◌∷◌, Option}
+use Rattle.std.proofs.Common.{Some, None, refl, sym, ◌∙◌, ap, subst}
 use Rattle.std.specs.List.{list_all, slice_get}
 use Rattle.std.proofs.lemmas.Bool.{and_from, and_parts, false≢true, or_left, or_right}
 use Rattle.std.specs.Prelude.{nat_lt}
 use Rattle.session_core.specs.Known.{IsOfAll}
-use Rattle.session_core.proofs.Unknown.{unknown}
 use Rattle.sync_rules.specs.declared.answers.Judgement.{Judgement}
 use Rattle.sync_rules.specs.declared.answers.Judgement.TheVariants as judgement
 use Rattle.sync_rules.specs.declared.entries.Entry.{Entry}
@@ -16,7 +15,6 @@ use Rattle.sync_rules.specs.Allows.{AllowsIsAllowed, allows, is_some_of, same_en
 use Rattle.sync_rules.specs.Clients.{Meaning}
 use Rattle.sync_rules.specs.Consistency.{IsConsistent}
 use Rattle.sync_rules.specs.Facts.{Facts, Held, Id, after, after_all, contact_in, facts, is_held, nothing, session_at}
-use Rattle.sync_rules.specs.Legal.{Allowed, IsDue, Legal}
 use Rattle.sync_rules.specs.Lists.{is_among, same_id}
 use Rattle.sync_rules.specs.Meeting.{AllMeet, MeetsNoStep}
 use Rattle.sync_rules.specs.Naming.{NamesDistinct}
@@ -34,8 +32,8 @@ use Rattle.sync_rules.proofs.Sound.{SoundFacts}
 use Rattle.sync_rules.proofs.StepKinds.{next_is_step}
 use Rattle.journal_audit.specs.declared.facts.PlainFacts.{PlainFacts}
 use Rattle.journal_audit.specs.declared.messages.Line.{Line}
-use Rattle.journal_audit.specs.Changes.{AreNamed, BecomesKnown, MayHoldMessage, MayTakeEntry, FitsOut}
-use Rattle.journal_audit.specs.Lines.{held_in, held_of, ids_flagged, judged_in}
+use Rattle.journal_audit.specs.Changes.{BecomesKnown, MayTakeEntry, FitsOut}
+use Rattle.journal_audit.specs.Lines.{held_in, held_of, ids_flagged}
 use Rattle.journal_audit.specs.Plain.{IsPlainSound, KnowsMeanings, facts_of, shared_in, shares}
 use Rattle.journal_audit.specs.Playing.{AllFit, IsOfLegal, all_go, goes}
 use Rattle.journal_audit.proofs.Lines.{flagged_is, own_flag}
@@ -111,7 +109,8 @@ meeting_fits clients f (entry.Again s id) fit m = m.1.held
 meeting_fits clients f (entry.Seen s id) fit m = m.1.held
 meeting_fits clients f (entry.Asked s id) fit m = m.1.held
 meeting_fits clients f (entry.Out s now what) fit m = out_fits f (contact_in (session_at f.sessions s)) what (due_names_distinct f fit.held fit.wanted clients (session_at f.sessions s) now what m.1)
-meeting_fits clients f (entry.Kept from x) fit m = record { known_group = m.1.1.known_group; new = m.1.1.new }
+meeting_fits clients f (entry.Kept from x) fit m =
+    record { known_group = m.1.1.known_group; new = m.1.1.new }
 meeting_fits clients f (entry.Tried t) fit m = m.2.held
 meeting_fits clients f _ fit m = tt
 

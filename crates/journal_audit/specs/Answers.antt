@@ -1,7 +1,7 @@
 -- What an audit answers, by what the two files stand for.
 use Rattle.std.specs.Prelude.{◌≡◌, true, ℕ, List, Option, Result, Ok, Err}
 use Rattle.outside.specs.Disk.{RelatesTold}
-use Rattle.outside.specs.Files.{File, Two}
+use Rattle.outside.specs.Files.{File, SyncsBoth, Two}
 use Rattle.entry_codec.specs.Standing.{Standing, damaged, journal, no_store}
 use Rattle.file_standing.specs.Standing.{stands}
 use Rattle.sync_rules.specs.declared.entries.Entry.{Entry}
@@ -11,7 +11,6 @@ use Rattle.journal_audit.specs.declared.fault.AuditFault.{AuditFault}
 use Rattle.journal_audit.specs.declared.fault.AuditFault.TheVariants as fault
 use Rattle.journal_audit.specs.declared.files.Taken.{Taken}
 use Rattle.journal_audit.specs.declared.report.Report.{Report}
-use Rattle.journal_audit.specs.Files.{SyncsBoth}
 use Rattle.journal_audit.specs.Reading.{IsDamage, whole_of}
 use Rattle.journal_audit.specs.Reports.{EndsAreCounted, IsReport}
 

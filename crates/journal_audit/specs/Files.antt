@@ -1,23 +1,10 @@
 -- What the calls of an audit leave of two files, and what they read of them.
 use Rattle.std.specs.Prelude.{◌≡◌, false, true, ℕ, List, Option, None, Some, Result, Ok, Err}
-use Rattle.outside.specs.Files.{File, Two, file_of, read_files, settled}
+use Rattle.outside.specs.Files.{Two, file_of}
 use Rattle.outside.specs.Frames.{format_in, generation_in, is_open, journal_file}
-use Rattle.outside.specs.Outside.{IsNow, MomentsAre, Outside}
 use Rattle.journal_audit.specs.declared.fault.AuditFault.{AuditFault}
 use Rattle.journal_audit.specs.declared.fault.AuditFault.TheVariants as fault
 use Rattle.journal_audit.specs.declared.files.Header.{Header}
-
--- both files read as before
-abbrev pub ReadsSame : Two File → Two File → Type 0
-ReadsSame old new = read_files new ≡ read_files old
-
--- both files read as before, with nothing pending in them
-abbrev pub SyncsBoth : Two File → Two File → Type 0
-SyncsBoth old new = new ≡ record { first = settled old.first.now; second = settled old.second.now }
-
--- at each moment of a run a crash leaves what it might have left before the run, and nothing was sent
-abbrev pub AnyImage : Outside → Outside → Type 0
-AnyImage old new = (two : Two File) → old.files ≡ Some two → MomentsAre old new (IsNow two old.links)
 
 -- the header of these bytes: none where it is not open
 abbrev pub IsHeaderOf : List ℕ → Option Header → Type 0

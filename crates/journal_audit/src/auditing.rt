@@ -3,10 +3,9 @@ ghost use Rattle.std.specs.Prelude.{◌≡◌, IsErrOf, Some};
 ghost use Rattle.std.specs.Option.{ForSome};
 ghost use Rattle.outside.specs.Disk.{RelatesTold};
 ghost use Rattle.outside.specs.Faults.{CountRose};
-ghost use Rattle.outside.specs.Files.{File, read_files, Two};
-ghost use Rattle.outside.specs.Outside.{DiskRun, OnlyReads};
+ghost use Rattle.outside.specs.Files.{File, ReadsSame, Two, read_files};
+ghost use Rattle.outside.specs.Outside.{AnyImage, DiskRun, OnlyReads};
 ghost use Rattle.journal_audit.specs.Answers.{IsAudited, AuditLeavesSettled};
-ghost use Rattle.journal_audit.specs.Files.{AnyImage, ReadsSame};
 ghost use Rattle.journal_audit.specs.declared.fault.AuditFault.TheVariants as fault;
 
 use crate::AuditFault;

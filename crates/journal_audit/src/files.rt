@@ -4,13 +4,13 @@ ghost use Rattle.std.specs.Prelude.{take, ◌⊎◌};
 ghost use Rattle.std.specs.Option.{ForSome, option_map};
 ghost use Rattle.outside.specs.Disk.{RelatesTold};
 ghost use Rattle.outside.specs.Faults.{HasCause, CountRose};
-ghost use Rattle.outside.specs.Files.{Two, file_of, read_files};
+ghost use Rattle.outside.specs.Files.{ReadsSame, SyncsBoth, Two, file_of, read_files};
 ghost use Rattle.outside.specs.Frames.{format_in, is_open, journal_file};
-ghost use Rattle.outside.specs.Outside.{DiskRun, OnlyReads};
+ghost use Rattle.outside.specs.Outside.{AnyImage, DiskRun, OnlyReads};
 ghost use Rattle.journal_audit.specs.declared.fault.AuditFault.TheVariants as fault;
 ghost use Rattle.sync_rules.specs.Clients.{Meaning};
 ghost use Rattle.journal_audit.specs.Answers.{IsFileTaken};
-ghost use Rattle.journal_audit.specs.Files.{AnyImage, IsFileFound, IsHeaderOf, ReadsSame, SyncsBoth};
+ghost use Rattle.journal_audit.specs.Files.{IsFileFound, IsHeaderOf};
 
 use crate::AuditFault;
 use entry_codec::{Format, format_of};

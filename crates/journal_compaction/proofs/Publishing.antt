@@ -14,7 +14,7 @@ use Rattle.outside.specs.Outside.{DiskRun, MomentsAre, Outside}
 use Rattle.outside.specs.Steps.{FileMoment, PassedMoments, other_of}
 use Rattle.outside.proofs.CallSteps.{becomes_told, moments_map, moments_then, told_back}
 use Rattle.frame_journal.specs.Create.{PreparesJournal, PublishesHeader, ShutOrOpened, opened}
-use Rattle.frame_journal.specs.Journal.{JournalValue, fresh}
+use Rattle.frame_journal.specs.Journal.{JournalValue, fresh_journal}
 use Rattle.sync_rules.specs.declared.entries.Entry.{Entry}
 use Rattle.sync_rules.specs.Clients.{Meaning}
 use Rattle.sync_rules.specs.Facts.{Facts, Held, facts, nothing}
@@ -30,7 +30,7 @@ use Rattle.entry_codec.specs.Standing.{room_of}
 use Rattle.entry_codec.specs.StandingLaws.{HoldsJournal}
 use Rattle.entry_codec.proofs.FormatKinds.{short_journal}
 use Rattle.entry_codec.proofs.FrontLaws.{found_open}
-use Rattle.journal_migration.specs.Copying.{marked}
+use Rattle.journal_migration.specs.Copying.{header_mark}
 use Rattle.journal_migration.specs.Migrating.{HoldsSecond}
 use Rattle.journal_migration.specs.Starting.{EndsOrStays}
 use Rattle.journal_migration.specs.declared.fault.MigrationFault.{MigrationFault}
@@ -69,7 +69,7 @@ pub record IsWritten (clients : Meaning) (f : Facts) (m n : JournalValue)
   pub settled : NothingPending now n.file
   pub gate : ℕ
   pub closed : gate ≢ 1
-  pub frames : HasFrames (file_of now n.file).now (gate ∷ marked (m.generation + 1))
+  pub frames : HasFrames (file_of now n.file).now (gate ∷ header_mark (m.generation + 1))
       (written (names_of f) (brief_of clients f))
 
 pub written_now : (clients : Meaning) (f : Facts) (p : Plan) (m n0 n : JournalValue)
@@ -79,7 +79,7 @@ pub written_now : (clients : Meaning) (f : Facts) (p : Plan) (m n0 n : JournalVa
     → IsWriterShut n now
     → IsWritten clients f m n two now
 written_now clients f p m n0 n two mid now plan prepares begun file adds works =
-    let header = prepares.gate ∷ marked (m.generation + 1) in
+    let header = prepares.gate ∷ header_mark (m.generation + 1) in
     let first : HasFrames (file_of mid n0.file).now header [] =
     subst (λ (b : List ℕ). HasFrames b header []) (sym (ap (λ (x : File). x.now) prepares.bytes))
     (begun_frames prepares.gate (m.generation + 1)) in
@@ -160,11 +160,11 @@ module _ (laws : CompactionLaws) (clients : Meaning) (f : Facts) (m n : JournalV
             other_generation;
         format_is = ap (λ (b : List ℕ). format_of (format_in b)) other
             ∙ ap format_of (opened_format (file_of now n.file).now so.gate g _ frames);
-        header = 1 ∷ marked g;
+        header = 1 ∷ header_mark g;
         frames =
             subst (λ (b : List ℕ).
-            HasFrames b (1 ∷ marked g) (payloads kind.Short nothing (brief j))) (sym other)
-            (subst (HasFrames (opened (file_of now n.file).now) (1 ∷ marked g)) payloads_are
+            HasFrames b (1 ∷ header_mark g) (payloads kind.Short nothing (brief j))) (sym other)
+            (subst (HasFrames (opened (file_of now n.file).now) (1 ∷ header_mark g)) payloads_are
             (opened_frames (file_of now n.file).now so.gate g _ frames));
         legal = (laws.keeps clients j holds.legal settled_so).legal;
         kinds = short_journal (brief j);
@@ -248,18 +248,18 @@ module _ (laws : CompactionLaws) (clients : Meaning) (f : Facts) (m n : JournalV
 
 -- the other file was prepared, and a writer of it begun
 pub record Begun (m n0 : JournalValue) (o0 o1 : Outside) : Type 0 where
-  pub value : n0 ≡ fresh (1 - m.file) 2 (m.generation + 1)
+  pub value : n0 ≡ fresh_journal (1 - m.file) 2 (m.generation + 1)
   pub prepared : RelatesTold (PreparesJournal (1 - m.file) 2 (m.generation + 1)) o0.files o1.files
   pub stays : EndsOrStays (1 - m.file) o0 o1
   pub run : DiskRun o0 o1
 
 pub begun_so : (m n0 : JournalValue) (file generation : ℕ) (o0 o1 : Outside) → file ≡ m.file
-    → generation ≡ m.generation → n0 ≡ fresh (1 - file) 2 (generation + 1)
+    → generation ≡ m.generation → n0 ≡ fresh_journal (1 - file) 2 (generation + 1)
     → RelatesTold (PreparesJournal (1 - file) 2 (generation + 1)) o0.files o1.files
     → EndsOrStays (1 - file) o0 o1
     → DiskRun o0 o1 → Begun m n0 o0 o1
 begun_so m n0 file generation o0 o1 one other value prepared stays run = record {
-  value = value ∙ (λ i. fresh (1 - one i) 2 (other i + 1));
+  value = value ∙ (λ i. fresh_journal (1 - one i) 2 (other i + 1));
   prepared =
       subst (λ (k : ℕ). RelatesTold (PreparesJournal (1 - k) 2 (m.generation + 1)) o0.files
       o1.files) one
@@ -281,15 +281,15 @@ works_begun m n0 o0 o1 begun x told =
     let one : new.0 ≡ x = cc in
     let prepares = new.2 in
     let frames : HasFrames (file_of new.0 (1 - m.file)).now
-    (prepares.gate ∷ marked (m.generation + 1)) [] =
-    subst (λ (b : List ℕ). HasFrames b (prepares.gate ∷ marked (m.generation + 1)) [])
+    (prepares.gate ∷ header_mark (m.generation + 1)) [] =
+    subst (λ (b : List ℕ). HasFrames b (prepares.gate ∷ header_mark (m.generation + 1)) [])
     (sym (ap (λ (f : File). f.now) prepares.bytes))
     (begun_frames prepares.gate (m.generation + 1)) in
-    let there : IsWriterShut (fresh (1 - m.file) 2 (m.generation + 1)) new.0 = record {
+    let there : IsWriterShut (fresh_journal (1 - m.file) 2 (m.generation + 1)) new.0 = record {
       at_rest = prepares.at_rest;
       shut = record {
         gate = prepares.gate;
-        behind = marked (m.generation + 1);
+        behind = header_mark (m.generation + 1);
         payloads = [];
         closed = prepares.closed;
         header = refl;

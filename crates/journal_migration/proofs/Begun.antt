@@ -6,7 +6,7 @@ use Rattle.outside.specs.Frames.{HasFrames, format_in}
 use Rattle.outside.specs.Outside.{OnlyReads, Outside}
 use Rattle.outside.proofs.CallSteps.{becomes_told}
 use Rattle.frame_journal.specs.Create.{PreparesJournal}
-use Rattle.frame_journal.specs.Journal.{JournalValue, fresh}
+use Rattle.frame_journal.specs.Journal.{JournalValue, fresh_journal}
 use Rattle.sync_rules.specs.declared.entries.Entry.{Entry}
 use Rattle.sync_rules.specs.Clients.{Meaning}
 use Rattle.sync_rules.specs.Facts.{Facts, facts}
@@ -14,7 +14,7 @@ use Rattle.entry_codec.specs.declared.naming.Format.TheVariants as kind
 use Rattle.entry_codec.specs.Naming.{format_of}
 use Rattle.entry_codec.specs.Fronts.{Front}
 use Rattle.entry_codec.proofs.FrontLaws.{front_start}
-use Rattle.journal_migration.specs.Copying.{CopiesBatches, marked}
+use Rattle.journal_migration.specs.Copying.{CopiesBatches, header_mark}
 use Rattle.journal_migration.specs.Migrating.{HoldsFirst, KeepsJournal}
 use Rattle.journal_migration.specs.Starting.{EndsOrStays}
 use Rattle.journal_migration.proofs.Copied.{shut_header}
@@ -25,15 +25,16 @@ use Rattle.journal_migration.proofs.Sides.{holds_on, read_file}
 pub copies_begun : (clients : Meaning) (f : Facts) (generation : ℕ) (j : List (List Entry))
     (file : ℕ) (r n : JournalValue) (two two' : Two File) → file < 2
     → HoldsFirst clients file generation j two
-    → facts j ≡ f → r.file ≡ file → r.end ≡ 15 → n ≡ fresh (1 - file) 2 (generation + 1)
+    → facts j ≡ f → r.file ≡ file → r.end ≡ 15 → n ≡ fresh_journal (1 - file) 2 (generation + 1)
     → PreparesJournal (1 - file) 2 (generation + 1) two two'
     → CopiesBatches clients f generation j r n 0 two'
 copies_begun clients f generation j file r n two two' few holds same reader begun writer prepares =
-    let header = prepares.gate ∷ marked (generation + 1) in
+    let header = prepares.gate ∷ header_mark (generation + 1) in
     let frames : HasFrames (file_of two' (1 - file)).now header [] =
     subst (λ (b : List ℕ). HasFrames b header []) (sym (ap (λ (f : File). f.now) prepares.bytes))
     (begun_frames prepares.gate (generation + 1)) in
-    let shut = shut_header (file_of two' (1 - file)).now prepares.gate (marked (generation + 1)) []
+    let shut = shut_header (file_of two' (1 - file)).now prepares.gate
+    (header_mark (generation + 1)) []
     frames prepares.closed in
     let now = holds_on clients file generation j two two' few holds
     (own_still two two' file few prepares.other) prepares.at_rest.settled shut in
@@ -76,7 +77,7 @@ module _ (clients : Meaning) (f : Facts) (generation : ℕ) (j : List (List Entr
       })
 
   -- and then all is ready for the first frame
-  pub begun_copies : facts j ≡ f → r.file ≡ file → r.end ≡ 15 → n ≡ fresh (1 - file) 2
+  pub begun_copies : facts j ≡ f → r.file ≡ file → r.end ≡ 15 → n ≡ fresh_journal (1 - file) 2
       (generation + 1) → RelatesTold (PreparesJournal (1 - file) 2 (generation + 1)) o1.files
       o2.files
       → KeepsJournal clients j (CopiesBatches clients f generation j r n 0) o0 o2

@@ -30,7 +30,8 @@ use Rattle.entry_codec.proofs.Growing.{facts_push, journal_end_push, payloads_pu
 use Rattle.entry_codec.proofs.LawProofs.{batch_len_same}
 use Rattle.journal_migration.specs.Cited.{MigrationLaws}
 use Rattle.journal_migration.specs.Copying.{CopiesBatches, CopiesNext, CopiesSo, IsAtLastGate}
-use Rattle.journal_migration.specs.Copying.{IsPair, IsRespelled, brought_by, counted_to, marked}
+use Rattle.journal_migration.specs.Copying.{IsPair, IsRespelled, brought_by, counted_to}
+use Rattle.journal_migration.specs.Copying.{header_mark}
 use Rattle.journal_migration.specs.Migrating.{HoldsFirst, KeepsJournal, StandsStill}
 use Rattle.journal_migration.specs.declared.fault.MigrationFault.{MigrationFault}
 use Rattle.journal_migration.specs.declared.fault.MigrationFault.TheVariants as fault
@@ -130,12 +131,12 @@ module _ (clients : Meaning) (f : Facts) (generation : ℕ) (j : List (List Entr
       moments_map o o' (FileMoment Q two sent (1 - r.file)) (StandsStill clients j sent)
       (λ m moment.
       let shut : is_open (file_of m.files (1 - r.file)) ≡ false =
-      elim (moment.this (copies.gate ∷ marked (generation + 1))
+      elim (moment.this (copies.gate ∷ header_mark (generation + 1))
       (payloads kind.Short nothing copies.done) copies.frames copies.end_is) [
         | inl before ↦ shut_header (file_of m.files (1 - r.file)) copies.gate
-            (marked (generation + 1)) _ before copies.closed
+            (header_mark (generation + 1)) _ before copies.closed
         | inr with_it ↦ shut_header (file_of m.files (1 - r.file)) copies.gate
-            (marked (generation + 1)) _ with_it copies.closed
+            (header_mark (generation + 1)) _ with_it copies.closed
       ] in
       shut_still clients j r.file generation two pair.reads copies.holds Q sent m moment shut)
       (passed_on passed)
@@ -192,7 +193,7 @@ written_copies laws clients f generation j r r' n n' count brought to framed two
     ∙ sym (own_file two own pair.reads) in
     let reads : file_of (read_files two') own ≡ file_of (read_files two) own = read_file two' own
     ∙ ap (λ (x : File). x.now) this ∙ sym (read_file two own) in
-    let header = copies.gate ∷ marked (generation + 1) in
+    let header = copies.gate ∷ header_mark (generation + 1) in
     let respelled : payload_of framed ≡ payload kind.Short (facts done) batch =
     ap payload_of w.respelled.framed_is
     ∙ payload_framed (spellings kind.Short (take count (names_of f)) batch)
@@ -207,7 +208,7 @@ written_copies laws clients f generation j r r' n n' count brought to framed two
     subst (NothingPending two') pair.writes w.appends.at_rest.settled in
     let shut : is_open (file_of two' other).now ≡ false =
     ap (λ (t : ℕ). is_open (file_of two' t).now) (sym pair.writes)
-    ∙ shut_header (file_of two' n.file).now copies.gate (marked (generation + 1)) _ frames
+    ∙ shut_header (file_of two' n.file).now copies.gate (header_mark (generation + 1)) _ frames
     copies.closed in
     let holds = holds_on clients own generation j two two' pair.reads copies.holds this pending
     shut in

@@ -31,7 +31,7 @@ use Rattle.entry_codec.specs.Spelling.{IsEntry}
 use Rattle.entry_codec.proofs.FormatKinds.{short_journal}
 use Rattle.entry_codec.proofs.FrontLaws.{found_open}
 use Rattle.journal_migration.specs.Cited.{MigrationLaws}
-use Rattle.journal_migration.specs.Copying.{CopiesWhole, IsPair, marked}
+use Rattle.journal_migration.specs.Copying.{CopiesWhole, IsPair, header_mark}
 use Rattle.journal_migration.specs.Migrating.{HoldsSecond, StandsStill}
 use Rattle.journal_migration.proofs.Fronts.{gate_whole}
 use Rattle.journal_migration.proofs.Keeping.{own_kept, shut_still}
@@ -41,8 +41,8 @@ use Rattle.journal_migration.proofs.Sides.{read_file, settled_first, settled_one
 -- ---- an opened header
 
 module _ (bytes : List ℕ) (gate generation : ℕ) (ps : List (List ℕ))
-    (frames : HasFrames bytes (gate ∷ marked generation) ps) where
-  pub opened_frames : HasFrames (opened bytes) (1 ∷ marked generation) ps
+    (frames : HasFrames bytes (gate ∷ header_mark generation) ps) where
+  pub opened_frames : HasFrames (opened bytes) (1 ∷ header_mark generation) ps
   opened_frames = record {
     gate = frames.gate;
     rest = frames.rest;
@@ -63,8 +63,9 @@ module _ (bytes : List ℕ) (gate generation : ℕ) (ps : List (List ℕ))
   pub opened_open : is_open (opened bytes) ≡ true
   opened_open =
       let rest = flat_map frame_of ps ++ frames.gate ∷ frames.rest in
-      let bytes' : List ℕ = (1 ∷ marked generation) ++ rest in
-      let total : length bytes' ≡ 14 + length rest = length-append (1 ∷ marked generation) rest in
+      let bytes' : List ℕ = (1 ∷ header_mark generation) ++ rest in
+      let total : length bytes' ≡ 14 + length rest =
+      length-append (1 ∷ header_mark generation) rest in
       let long : nat_le 14 (length bytes') ≡ true =
       le-leb 14 (length bytes') (omega (arith, total)) in
       ap (λ (b : List ℕ). is_open (opened b)) frames.whole
@@ -134,13 +135,13 @@ module _ (laws : MigrationLaws) (clients : Meaning) (generation : ℕ) (j : List
             other_generation;
         format_is = ap (λ (b : List ℕ). format_of (format_in b)) other
             ∙ ap format_of (opened_format bytes whole.copies.gate (generation + 1) _ frames);
-        header = 1 ∷ marked (generation + 1);
+        header = 1 ∷ header_mark (generation + 1);
         frames =
             subst (λ (b : List ℕ).
-            HasFrames b (1 ∷ marked (generation + 1)) (payloads kind.Short nothing j))
+            HasFrames b (1 ∷ header_mark (generation + 1)) (payloads kind.Short nothing j))
             (sym other)
             (subst (λ (d : List (List Entry)).
-            HasFrames (opened bytes) (1 ∷ marked (generation + 1))
+            HasFrames (opened bytes) (1 ∷ header_mark (generation + 1))
             (payloads kind.Short nothing d)) all.0
             (opened_frames bytes whole.copies.gate (generation + 1) _ frames));
         legal = subst (Legal clients) all.0 whole.copies.front.legal;

@@ -12,12 +12,12 @@ use Rattle.outside.proofs.CallSteps.{becomes_told, told_back}
 use Rattle.frame_journal.specs.Append.{AppendsFrame, IsFramed, payload_of}
 use Rattle.frame_journal.specs.Create.{IsPrepared, PreparesJournal, behind_gate}
 use Rattle.frame_journal.specs.Header.{StartsJournal}
-use Rattle.frame_journal.specs.Journal.{JournalValue, fresh}
+use Rattle.frame_journal.specs.Journal.{JournalValue, fresh_journal}
 use Rattle.frame_journal.specs.Next.{MovesReader, NextFrame}
 use Rattle.frame_journal.proofs.AppendSteps.{end_more}
 use Rattle.entry_codec.specs.declared.naming.Format.TheVariants as kind
 use Rattle.entry_codec.specs.Payloads.{spellings}
-use Rattle.journal_migration.specs.Copying.{IsPair, IsRespelled, IsShut, AreBothShut, marked}
+use Rattle.journal_migration.specs.Copying.{IsPair, IsRespelled, IsShut, AreBothShut, header_mark}
 use Rattle.journal_migration.specs.Starting.{IsSettledBoth}
 use Rattle.journal_migration.proofs.Copied.{framed_so}
 use Rattle.journal_migration.proofs.Sides.{own_file, read_file, settled_first, settled_one}
@@ -25,7 +25,7 @@ use Rattle.journal_migration.proofs.Sides.{settled_second}
 
 -- a prepared file has the header of a journal of format 2
 pub begun_frames : (gate generation : ℕ) → HasFrames (gate ∷ behind_gate 2 generation)
-    (gate ∷ marked generation) []
+    (gate ∷ header_mark generation) []
 begun_frames gate generation =
     record {
       gate = 0;
@@ -98,15 +98,17 @@ works_on r r' n n' framed two two' pair works is appends reader len writer end =
 
 -- the reader begun in the one file, the writer in the other
 pub works_begun : (file generation : ℕ) (r n : JournalValue) (two two' : Two File) → file < 2
-    → r.file ≡ file → length (file_of two file).now ≡ r.len → n ≡ fresh (1 - file) 2 generation
+    → r.file ≡ file → length (file_of two file).now ≡ r.len
+    → n ≡ fresh_journal (1 - file) 2 generation
     → IsSettledBoth two → PreparesJournal (1 - file) 2 generation two two' → AreBothShut r n two'
 works_begun file generation r n two two' few reader len writer settled prepares =
     let same = own_still two two' file few prepares.other in
     let own =
     pending_still two two' file same (settled_one two file few settled.first settled.second) in
     let there = prepares.at_rest.settled in
-    let frames : HasFrames (file_of two' (1 - file)).now (prepares.gate ∷ marked generation) [] =
-    subst (λ (b : List ℕ). HasFrames b (prepares.gate ∷ marked generation) [])
+    let frames : HasFrames (file_of two' (1 - file)).now
+    (prepares.gate ∷ header_mark generation) [] =
+    subst (λ (b : List ℕ). HasFrames b (prepares.gate ∷ header_mark generation) [])
     (sym (ap (λ (f : File). f.now) prepares.bytes)) (begun_frames prepares.gate generation) in
     record {
       first_settled = settled_first two' file few own there;
@@ -119,7 +121,7 @@ works_begun file generation r n two two' few reader len writer settled prepares 
           subst (λ (v : JournalValue). IsShut (file_of two' v.file).now v.end) (sym writer)
           (record {
             gate = prepares.gate;
-            behind = marked generation;
+            behind = header_mark generation;
             payloads = [];
             closed = prepares.closed;
             header = refl;
@@ -165,7 +167,7 @@ pub works_ready : (file generation : ℕ) (r n : JournalValue) (o0 o1 o2 : Outsi
     → ForSome o0.files IsSettledBoth → OnlyReads o0 o1 → DiskRun o1 o2
     → ForSome o0.files (λ two. StartsJournal (read_files two) (Ok r))
     → RelatesTold (PreparesJournal (1 - file) 2 generation) o1.files o2.files → r.file ≡ file
-    → n ≡ fresh (1 - file) 2 generation
+    → n ≡ fresh_journal (1 - file) 2 generation
     → ForSome o2.files (AreBothShut r n)
 works_ready file generation r n o0 o1 o2 few settled looks run starts becomes reader writer x told =
     let mid = told_back o1 o2 x run.same_told told in

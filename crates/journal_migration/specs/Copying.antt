@@ -93,8 +93,8 @@ pub record AreBothShut (r n : JournalValue) (two : Two File) : Type 0 where
   pub shut : IsShut (file_of two n.file).now n.end
 
 -- the 13 bytes of a header of format 2 behind its gate
-abbrev pub marked : ℕ → List ℕ
-marked generation = 66 ∷ 83 ∷ 80 ∷ 74 ∷ 2 ∷ to_be_bytes w64 generation
+abbrev pub header_mark : ℕ → List ℕ
+header_mark generation = 66 ∷ 83 ∷ 80 ∷ 74 ∷ 2 ∷ to_be_bytes w64 generation
 
 -- The files hold a journal of format 1 in the reader's file, and these facts are the journal's. The
 -- reader has come to the gate behind some batches of it, a front; they stand in the writer's file
@@ -110,7 +110,7 @@ pub record CopiesBatches (clients : Meaning) (f : Facts) (generation : ℕ) (j :
   pub goes_on : j ≡ done ++ left
   pub gate : ℕ
   pub closed : gate ≢ 1
-  pub frames : HasFrames (file_of two n.file).now (gate ∷ marked (generation + 1))
+  pub frames : HasFrames (file_of two n.file).now (gate ∷ header_mark (generation + 1))
       (payloads kind.Short nothing done)
   pub end_is : n.end ≡ journal_end kind.Short done
   pub counted : count ≡ length (facts done).held

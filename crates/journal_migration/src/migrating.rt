@@ -6,7 +6,7 @@ ghost use Rattle.outside.specs.Files.{Two, File};
 ghost use Rattle.outside.specs.Outside.{DiskRun};
 ghost use Rattle.outside.specs.Disk.{RelatesTold};
 ghost use Rattle.frame_journal.specs.Create.{PreparesJournal};
-ghost use Rattle.frame_journal.specs.Journal.{fresh};
+ghost use Rattle.frame_journal.specs.Journal.{fresh_journal};
 ghost use Rattle.sync_rules.specs.declared.entries.Entry.{Entry};
 ghost use Rattle.sync_rules.specs.Clients.{Meaning};
 ghost use Rattle.sync_rules.specs.Facts.{facts};
@@ -72,7 +72,7 @@ pub fn migrate<D: Disk>(
 pub fn begin<D: Disk>(disk: &mut D, file: u8, generation: u64) -> Result<Journal, DiskFault>
     requires file { file < 2 }
     requires settled { ForSome (D.tells disk.old).files IsSettledBoth }
-    ensures value { IfOk result (λ n. n ≡ fresh file 2 generation) }
+    ensures value { IfOk result (λ n. n ≡ fresh_journal file 2 generation) }
     ensures prepared { OnOk result (RelatesTold (PreparesJournal file 2 generation) (D.tells disk.old).files
         (D.tells disk.new).files) }
     ensures moments { EndsOrStays file (D.tells disk.old) (D.tells disk.new) }

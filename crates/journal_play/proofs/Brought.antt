@@ -12,13 +12,14 @@ use Rattle.sync_rules.specs.Facts.{Facts, Held, Id, after, after_all, after_batc
 use Rattle.sync_rules.specs.Sessions.{taken, taken_message_of, one_if}
 use Rattle.sync_rules.specs.Legal.{IsSettling, AllSettling}
 use Rattle.sync_rules.specs.Hearing.{HearsRecord, take_batch, one_session}
-use Rattle.sync_rules.proofs.StepLaws.{IsSettlingEntry, next_is_settling}
+use Rattle.sync_rules.proofs.StepLaws.{next_is_settling}
 use Rattle.sync_rules.proofs.Settling.{after_batches-append}
 use Rattle.sync_rules.proofs.WorkLaws.{facts-push}
 use Rattle.journal_play.specs.Playing.{PlaysRecords}
 use Rattle.journal_play.specs.Fates.{is_brought, with_record, with_records}
 use Rattle.journal_play.proofs.Takes.{Alike, AllQuiet, alike_then, alike_all, quiet_if, quiet_acks, quiet_requests, quiet_offers, map_push, contact_is, welcome_by}
 use Rattle.sync_rules.specs.declared.limits.TheConstants.{MAX_WANTED}
+use Rattle.sync_rules.specs.EntryTests.{IsSettlingEntry}
 
 -- what the facts of a journal of one session and one group are that holds these messages
 pub record Brings (def : GroupValue) (messages : List MessageValue) (f : Facts) : Type 0 where

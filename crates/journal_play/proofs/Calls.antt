@@ -10,7 +10,7 @@ use Rattle.message_graph.specs.declared.nodes.Step.{Step}
 use Rattle.message_graph.specs.Nodes.{after_step, with_answer, fate_of}
 use Rattle.journal_play.specs.declared.kept.Head.{Head}
 use Rattle.journal_play.specs.declared.kept.Fresh.{Fresh}
-use Rattle.journal_play.specs.Holding.{Holding}
+use Rattle.journal_play.specs.Holding.{HeldHeads}
 use Rattle.journal_play.specs.Playing.{Played, judged_of}
 use Rattle.journal_play.specs.Keeping.{ended_as, head_line, IsJudged, open_line, open_text}
 
@@ -30,7 +30,8 @@ either_way (Err e) f g a b = g b
 
 -- ---- one step
 
-pub end_is : (inside old : Played) (read h : Head) (new : Holding) (text : List ℕ) (s : Step) (n : ℕ) (said : state.Fate) → inside ≡ old
+pub end_is : (inside old : Played) (read h : Head) (new : HeldHeads) (text : List ℕ) (s : Step)
+    (n : ℕ) (said : state.Fate) → inside ≡ old
     → new ≡ record { heads = inside.heads; nodes = after_step s inside.nodes } → text ≡ inside.text ++ head_line said read
     → slice_get old.heads n ≡ Some h → slice_get inside.heads n ≡ Some read
     → record inside { heads = new.heads; nodes = new.nodes; text = text } ≡ ended_as s said h old
@@ -41,7 +42,8 @@ end_is inside old read h new text s n said same is_new is_text at is_read =
     ∙ ap (ended_as s said read) same
     ∙ ap (λ (q : Head). ended_as s said q old) read_is
 
-pub judge_is : (clients : Meaning) (inside old : Played) (just : Option Fresh) (one : Fresh) (answer : Judged) (new : Holding) (n : ℕ) → inside ≡ old
+pub judge_is : (clients : Meaning) (inside old : Played) (just : Option Fresh) (one : Fresh)
+    (answer : Judged) (new : HeldHeads) (n : ℕ) → inside ≡ old
     → just ≡ Some one → one.number ≡ n → new ≡ record { heads = inside.heads; nodes = with_answer n answer inside.nodes }
     → answer ≡ judged_of (clients.verdict inside.kind one.message)
     → IsJudged clients just n old (record inside { heads = new.heads; nodes = new.nodes })

@@ -6,10 +6,10 @@ use Rattle.message_graph.specs.declared.nodes.Judged.{Judged}
 use Rattle.message_graph.specs.declared.nodes.Ending.TheVariants as ending
 use Rattle.message_graph.specs.declared.nodes.Step.{Step}
 use Rattle.message_graph.specs.declared.nodes.Step.TheVariants as graph_step
-use Rattle.message_graph.specs.Nodes.{after_step, change, fresh, with_answer}
+use Rattle.message_graph.specs.Nodes.{after_step, change, fresh_node, with_answer}
 use Rattle.journal_play.specs.declared.kept.Head.{Head}
 use Rattle.journal_play.specs.declared.kept.Rest.{Rest}
-use Rattle.journal_play.specs.Holding.{Holding, head_with, heads_of, rest_of, with_more}
+use Rattle.journal_play.specs.Holding.{HeldHeads, head_with, heads_of, rest_of, with_more}
 
 -- nodes that keep their names say the same
 heads_change : (f : Node → Node) → ((node : Node) → (f node).name ≡ node.name) → (n : ℕ) (rests : List Rest) (nodes : List Node)
@@ -62,19 +62,25 @@ heads_at (r ∷ rests) (m ∷ nodes) (suc n) rest id at named = heads_at rests n
 -- ---- what the calls leave
 
 -- what is kept, as contracts see it
-abbrev pub shown : List Rest → List Node → Holding
+abbrev pub shown : List Rest → List Node → HeldHeads
 shown rests nodes = record { heads = heads_of rests nodes; nodes = nodes }
 
-pub held_changed : (rests : List Rest) (F : List Node → List Node) (old new : List Node) (held : Holding) → shown rests old ≡ held
+pub held_changed : (rests : List Rest) (F : List Node → List Node) (old new : List Node)
+    (held : HeldHeads) → shown rests old ≡ held
     → heads_of rests (F old) ≡ heads_of rests old → new ≡ F old → shown rests new ≡ record held { nodes = F held.nodes }
 held_changed rests F old new held same keeps is =
     ap (shown rests) is
     ∙ (λ i. record { heads = keeps i; nodes = F old })
-    ∙ ap (λ (h : Holding). record h { nodes = F h.nodes }) same
+    ∙ ap (λ (h : HeldHeads). record h { nodes = F h.nodes }) same
 
-pub held_more : (rests more : List Rest) (old new : List Node) (held : Holding) (h : Head) → shown rests old ≡ held → length old ≡ length rests
-    → new ≡ old ++ fresh h.id 0 ∷ [] → more ≡ rests ++ rest_of h ∷ [] → shown more new ≡ with_more h held
+pub held_more : (rests more : List Rest) (old new : List Node) (held : HeldHeads) (h : Head)
+    → shown rests old ≡ held → length old ≡ length rests
+    → new ≡ old ++ fresh_node h.id 0 ∷ [] → more ≡ rests ++ rest_of h ∷ []
+    → shown more new ≡ with_more h held
 held_more rests more old new held h same each is_nodes is_rests =
     (λ i. shown (is_rests i) (is_nodes i))
-    ∙ (λ i. record { heads = heads_push rests old (rest_of h) (fresh h.id 0) each i; nodes = old ++ fresh h.id 0 ∷ [] })
+    ∙ (λ i. record {
+      heads = heads_push rests old (rest_of h) (fresh_node h.id 0) each i;
+      nodes = old ++ fresh_node h.id 0 ∷ [];
+    })
     ∙ ap (with_more h) same

@@ -160,5 +160,6 @@ module _ (clients : Meaning) (f : Facts) (group : Id) (one : IsOneGroup f group)
 
 -- the next step of a journal of one group
 pub next_same : (clients : Meaning) (f : Facts) (group : Id) → IsOneGroup f group → ((h : Held) → In h f.held → h.message.group ≡ group)
-    → next clients f ≡ option_map (entry_of (id_at f.held)) (nodes.next (map (node_of clients f) f.held))
+    → next clients f ≡ option_map (entry_of (id_at f.held))
+    (nodes.next_step (map (node_of clients f) f.held))
 next_same clients f group one groups = first_same clients f group one (id_at f.held) 0 f.held (λ k within. ap (id_at f.held) (omega arith)) groups

@@ -22,10 +22,10 @@ use Rattle.sync_rules.specs.Sessions.{taken, taken_message, taken_message_of, is
 use Rattle.sync_rules.specs.Legal.{Legal, IsSettling, AllSettling}
 use Rattle.sync_rules.specs.Rounds.{Graph, good, bad, graph_of}
 use Rattle.sync_rules.specs.Laws.{DecidesStates}
-use Rattle.sync_rules.specs.EntryTests.{delivers, invalidates, ends}
+use Rattle.sync_rules.specs.EntryTests.{IsSettlingEntry, delivers, ends, invalidates}
 use Rattle.sync_rules.specs.Hearing.{HearsRecord, IsHearing, take_batch, one_session}
 use Rattle.sync_rules.proofs.Elements.{In-push_cases, same_id_itself, tally, tally-is}
-use Rattle.sync_rules.proofs.StepLaws.{IsSettlingEntry, next_is_settling}
+use Rattle.sync_rules.proofs.StepLaws.{next_is_settling}
 use Rattle.sync_rules.proofs.RoundLaws.{disjoint, Grows, good_grows, bad_grows}
 use Rattle.sync_rules.proofs.Sound.{SoundFacts, held_at-In}
 use Rattle.sync_rules.proofs.Kept.{after_batches-is}

@@ -16,7 +16,7 @@ use Rattle.message_graph.specs.declared.nodes.Fate.{Fate}
 use Rattle.message_graph.specs.declared.nodes.Fate.TheVariants as fate
 use Rattle.message_graph.specs.declared.nodes.Step.{Step}
 use Rattle.message_graph.specs.declared.nodes.Step.TheVariants as graph_step
-use Rattle.message_graph.specs.Nodes.{next, number_of, fate_of}
+use Rattle.message_graph.specs.Nodes.{next_step, node_number, fate_of}
 use Rattle.journal_play.specs.declared.kept.Head.{Head}
 use Rattle.journal_play.specs.declared.kept.Fresh.{Fresh}
 use Rattle.journal_play.specs.Playing.{Played, Story, StoryStandsFor, HasPlayed, IsTextOf, head_of, shown_of}
@@ -37,7 +37,9 @@ shown_taking story m true false = shown_holding story m
 shown_taking story m false known = refl
 
 pub taken_shown : (story : Story) (r : Record) → shown_of (taking story r) ≡ taking_in (shown_of story) r
-taken_shown story (record_kind.Message m) = shown_taking story m (same_id m.group story.group) (is_some (number_of story.nodes (message_id_of m)))
+taken_shown story (record_kind.Message m) =
+    shown_taking story m (same_id m.group story.group)
+    (is_some (node_number story.nodes (message_id_of m)))
 taken_shown story _ = refl
 
 at_end : (ms : List MessageValue) (m : MessageValue) → slice_get (ms ++ m ∷ []) (length (map head_of ms)) ≡ Some m
@@ -51,7 +53,9 @@ fresh_taking story m true false = at_end story.messages m
 fresh_taking story m false known = tt
 
 pub taken_fresh : (story : Story) (r : Record) → IsFresh (fresh_in (shown_of story) r) (taking story r)
-taken_fresh story (record_kind.Message m) = fresh_taking story m (same_id m.group story.group) (is_some (number_of story.nodes (message_id_of m)))
+taken_fresh story (record_kind.Message m) =
+    fresh_taking story m (same_id m.group story.group)
+    (is_some (node_number story.nodes (message_id_of m)))
 taken_fresh story _ = tt
 
 -- ---- one step
@@ -95,11 +99,12 @@ messages_stay clients (graph_step.Invalid n) m story = refl
 messages_stay clients (graph_step.Deliver n) m story = refl
 
 pub shown_step : (clients : Meaning) (def : GroupValue) (k : ℕ) (old : List (List Entry)) (just : Option Fresh) (start : Story) (play now : Played)
-    → ReachesShown clients def k old start play → IsFresh just start → (s : Step) → next play.nodes ≡ Some s → ShowsStep clients just s play now
+    → ReachesShown clients def k old start play → IsFresh just start → (s : Step)
+    → next_step play.nodes ≡ Some s → ShowsStep clients just s play now
     → ReachesShown clients def k old start now
 shown_step clients def k old just start play now r fresh s e step =
     let story : Story = r.story in
-    let e' : next story.nodes ≡ Some s = ap (λ (p : Played). next p.nodes) r.shows ∙ e in
+    let e' : next_step story.nodes ≡ Some s = ap (λ (p : Played). next_step p.nodes) r.shows ∙ e in
     let at = message_there clients def k (facts r.reaches.journal) (entries_of r.reaches.journal) story r.reaches.stands.mirrors s e' in
     let stepped : IsStepped clients s story (stepping clients s at.0 story) =
     (λ m there. let same : Some at.0 ≡ Some m = sym at.1 ∙ there in let is : at.0 ≡ m = cc in ap (λ (q : MessageValue). stepping clients s q story) is) in
@@ -124,7 +129,7 @@ begins_shown clients def kind group heads nodes text g h n t known = record {
 pub hears_shown : (clients : Meaning) (def : GroupValue) (records : List Record) (old mid now : Played) (r : Record) (just : Option Fresh) → HasPlayed clients def records old → IsRecord r
     → mid ≡ taking_in old r → just ≡ fresh_in old r
     → ((story : Story) (d : GroupValue) (k : ℕ) (j : List (List Entry)) → shown_of story ≡ mid → IsFresh just story → StoryStandsFor clients d k j story → ReachesShown clients d k j story now)
-    → next now.nodes ≡ None → HasPlayed clients def (records ++ r ∷ []) now
+    → next_step now.nodes ≡ None → HasPlayed clients def (records ++ r ∷ []) now
 hears_shown clients def records old mid now r just p within taken is_just reaches none =
     let k : ℕ = length records in
     let story : Story = taking p.story r in
@@ -134,7 +139,8 @@ hears_shown clients def records old mid now r just p within taken is_just reache
     let stands : StoryStandsFor clients def (k + 1) (after_record p.told.journal k r) story =
     take_stands clients def k p.told.journal p.story p.told.stands p.told.settled r within in
     let reached : ReachesShown clients def (k + 1) (after_record p.told.journal k r) story now = reaches story def (k + 1) (after_record p.told.journal k r) shows fresh stands in
-    let none' : next reached.story.nodes ≡ None = ap (λ (q : Played). next q.nodes) reached.shows ∙ none in
+    let none' : next_step reached.story.nodes ≡ None =
+    ap (λ (q : Played). next_step q.nodes) reached.shows ∙ none in
     record { story = reached.story; told = hears clients def records p.story reached.story r p.told within reached.reaches none'; shows = reached.shows }
 
 open_one : (f : Fate) (m : MessageValue) → open_line f (head_of m) ≡ pending_line f m

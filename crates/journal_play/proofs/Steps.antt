@@ -60,12 +60,14 @@ In_there (x ∷ hs) zero h at = let is : h ≡ x = cc in inl is
 In_there (x ∷ hs) (suc n) h at = inr (In_there hs n h at)
 
 -- the node of the next step is there
-pub next_there : (ns : List Node) (s : Step) → nodes.next ns ≡ Some s → (node : Node) × (slice_get ns (step_number s) ≡ Some node)
+pub next_there : (ns : List Node) (s : Step) → nodes.next_step ns ≡ Some s
+    → (node : Node) × (slice_get ns (step_number s) ≡ Some node)
 next_there ns (graph_step.Judge n) e = let t = next_judge ns n e in (t.0, t.1)
 next_there ns (graph_step.Invalid n) e = let t = next_end ns n ending.Invalid e in (t.0, t.1)
 next_there ns (graph_step.Deliver n) e = let t = next_end ns n ending.Delivered e in (t.0, t.1)
 
-pub next_within : (ns : List Node) (s : Step) → nodes.next ns ≡ Some s → step_number s < length ns
+pub next_within : (ns : List Node) (s : Step) → nodes.next_step ns ≡ Some s
+    → step_number s < length ns
 next_within ns s e = let t = next_there ns s e in there_within ns (step_number s) t.0 t.1
 
 -- ---- what a legal journal of one group keeps
@@ -152,10 +154,11 @@ module _ (clients : Meaning) (def : GroupValue) (k : ℕ) (f : Facts) (es : List
   found : held_at f.held (message_id_of msg) ≡ Some (arrived 0 msg)
   found = sound.names (arrived 0 msg) inside
 
-  pub is_next : (s : Step) → nodes.next play.nodes ≡ Some s → next clients f ≡ Some (entry_of (id_at f.held) s)
+  pub is_next : (s : Step) → nodes.next_step play.nodes ≡ Some s
+      → next clients f ≡ Some (entry_of (id_at f.held) s)
   is_next s e =
       next_same clients f (group_id_of def) (one_group clients def f m.groups sound) (of_group clients def f m.groups sound)
-      ∙ ap (option_map (entry_of (id_at f.held))) (ap nodes.next (sym m.nodes) ∙ e)
+      ∙ ap (option_map (entry_of (id_at f.held))) (ap nodes.next_step (sym m.nodes) ∙ e)
 
   verdict : verdict_in clients f.groups msg ≡ clients.verdict play.kind msg
   verdict = verdict_of clients def play.kind f.groups msg m.kind m.groups (of_group clients def f m.groups sound (arrived 0 msg) inside)
@@ -247,7 +250,8 @@ pub record IsBatch (clients : Meaning) (def : GroupValue) (k : ℕ) (f : Facts) 
   pub mirrors : MirrorsFacts clients def k (after f made) (es ++ made ∷ []) play
 
 pub step_mirrors : (clients : Meaning) (def : GroupValue) (k : ℕ) (f : Facts) (es : List Entry) (play : Story)
-    → MirrorsFacts clients def k f es play → SoundFacts clients f → (s : Step) → nodes.next play.nodes ≡ Some s
+    → MirrorsFacts clients def k f es play → SoundFacts clients f → (s : Step)
+    → nodes.next_step play.nodes ≡ Some s
     → (msg : MessageValue) → slice_get play.messages (step_number s) ≡ Some msg → IsBatch clients def k f es (stepping clients s msg play)
 step_mirrors clients def k f es play m sound (graph_step.Judge n) e msg at = record {
   made = entry.Judged (message_id_of msg);
@@ -276,7 +280,8 @@ entries-push (x ∷ j) b = ap (λ (es : List Entry). x ++ es) (entries-push j b)
 
 -- a message at the number of the next step
 pub message_there : (clients : Meaning) (def : GroupValue) (k : ℕ) (f : Facts) (es : List Entry) (play : Story) → MirrorsFacts clients def k f es play
-    → (s : Step) → nodes.next play.nodes ≡ Some s → (msg : MessageValue) × (slice_get play.messages (step_number s) ≡ Some msg)
+    → (s : Step) → nodes.next_step play.nodes ≡ Some s
+    → (msg : MessageValue) × (slice_get play.messages (step_number s) ≡ Some msg)
 message_there clients def k f es play m s e =
     let t = next_there play.nodes s e in
     let node : slice_get (map (node_of clients f) (map (arrived 0) play.messages)) (step_number s) ≡ Some t.0 =
@@ -285,7 +290,8 @@ message_there clients def k f es play m s e =
     of_map (arrived 0) play.messages (step_number s) held.0 held.1
 
 pub reaches_step : (clients : Meaning) (def : GroupValue) (k : ℕ) (old : List (List Entry)) (play now : Story) → SettlesToStory clients def k old play
-    → (s : Step) → nodes.next play.nodes ≡ Some s → IsStepped clients s play now → SettlesToStory clients def k old now
+    → (s : Step) → nodes.next_step play.nodes ≡ Some s → IsStepped clients s play now
+    → SettlesToStory clients def k old now
 reaches_step clients def k old play now r s e stepped =
     let j : List (List Entry) = r.journal in
     let at = message_there clients def k (facts j) (entries_of j) play r.stands.mirrors s e in

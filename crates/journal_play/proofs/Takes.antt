@@ -195,7 +195,7 @@ arrive_mirrors clients def k f es play m sound msg none =
     false_from_ne_true (fin_set.contains f.invalid id) (λ c. false≢true (sym new ∙ (one_group clients def f m.groups sound).invalid id c)) in
     let undelivered : is_among f.delivered id ≡ false =
     false_from_ne_true (is_among f.delivered id) (λ c. false≢true (sym new ∙ delivered_held clients f sound id c)) in
-    let node : node_of clients f x ≡ nodes.fresh id 0 =
+    let node : node_of clients f x ≡ nodes.fresh_node id 0 =
     (λ i. let n : Node = record { name = id; group = 0; answer = answer_shown (cond (unjudged i) (Some (verdict_in clients f.groups msg)) None); ending = ending_by (valid i) (undelivered i) } in n) in
     let same : told (es ++ entry.Arrive 0 msg ∷ []) ≡ told es = told-push es (entry.Arrive 0 msg) ∙ append-nil (told es) in
     record {
@@ -220,7 +220,7 @@ some_map F None = refl
 some_map F (Some x) = refl
 
 number_held : (clients : Meaning) (f : Facts) (ns : List Node) (id : Id) → ns ≡ map (node_of clients f) f.held
-    → is_some (nodes.number_of ns id) ≡ is_some (held_at f.held id)
+    → is_some (nodes.node_number ns id) ≡ is_some (held_at f.held id)
 number_held clients f ns id e =
     number_of-node_named ns id
     ∙ ap (λ l. is_some (nodes.node_named l id)) e
@@ -310,9 +310,11 @@ module _ (clients : Meaning) (def : GroupValue) (k : ℕ) (f : Facts) (es : List
         let o : Option Held = held_at f.held (message_id_of msg) in
         let b : Bool = same_id msg.group play.group in
         let first : Goes b o b (is_some o) = by_cases b o refl in
-        let second : Goes b o b (is_some (nodes.number_of play.nodes (message_id_of msg))) =
+        let second : Goes b o b (is_some (nodes.node_number play.nodes (message_id_of msg))) =
         subst (λ n. Goes b o b n) (sym (number_held clients f play.nodes (message_id_of msg) m.nodes)) first in
-        let P : Bool → Type 0 = λ w. Goes w o b (is_some (nodes.number_of play.nodes (message_id_of msg))) in
+        let P : Bool
+        → Type 0 =
+        λ w. Goes w o b (is_some (nodes.node_number play.nodes (message_id_of msg))) in
         subst P (sym (welcome_by def f m.groups m.levels m.sessions msg.group b (ap (same_id msg.group) (sym m.group)))) second
 
   pub take_mirrors : (r : Record) → MirrorsFacts clients def (k + 1) (after_all f (entry.Take 0 k ∷ taken f 0 r)) (es ++ entry.Take 0 k ∷ taken f 0 r) (taking play r)
@@ -355,12 +357,12 @@ take_stands clients def k j play s settled r within =
 
 -- no step of what is kept, no step of the journal
 pub settled_by : (clients : Meaning) (def : GroupValue) (k : ℕ) (j : List (List Entry)) (play : Story) → StoryStandsFor clients def k j play
-    → nodes.next play.nodes ≡ None → IsSettled clients (facts j)
+    → nodes.next_step play.nodes ≡ None → IsSettled clients (facts j)
 settled_by clients def k j play s none =
     let f : Facts = facts j in
     let sound : SoundFacts clients f = legal_sound clients j s.legal in
     next_same clients f (group_id_of def) (one_group clients def f s.mirrors.groups sound) (of_group clients def f s.mirrors.groups sound)
-    ∙ ap (option_map (entry_of (id_at f.held))) (ap nodes.next (sym s.mirrors.nodes) ∙ none)
+    ∙ ap (option_map (entry_of (id_at f.held))) (ap nodes.next_step (sym s.mirrors.nodes) ∙ none)
 
 plays_more : (clients : Meaning) (j : List (List Entry)) (k : ℕ) (records : List Record) (j' j'' : List (List Entry)) (r : Record)
     → PlaysRecords clients j k records j' → IsRecord r → HearsRecord clients j' 0 (k + length records) r j'' → PlaysRecords clients j k (records ++ r ∷ []) j''
@@ -379,7 +381,7 @@ after_record j k r = j ++ take_batch j 0 k r ∷ []
 
 pub hears : (clients : Meaning) (def : GroupValue) (records : List Record) (old now : Story) (r : Record) (p : IsStoryOf clients def records old) → IsRecord r
     → SettlesToStory clients def (length records + 1) (after_record p.journal (length records) r) now
-    → nodes.next now.nodes ≡ None → IsStoryOf clients def (records ++ r ∷ []) now
+    → nodes.next_step now.nodes ≡ None → IsStoryOf clients def (records ++ r ∷ []) now
 hears clients def records old now r p within reached none =
     let k : ℕ = length records in
     let j : List (List Entry) = p.journal in

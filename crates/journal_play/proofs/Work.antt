@@ -6,7 +6,7 @@ use Rattle.message_graph.specs.declared.nodes.Ending.{Ending}
 use Rattle.message_graph.specs.declared.nodes.Ending.TheVariants as ending
 use Rattle.message_graph.specs.declared.nodes.Step.{Step}
 use Rattle.message_graph.specs.declared.nodes.Step.TheVariants as graph_step
-use Rattle.message_graph.specs.Nodes.{next, with_answer, with_ending, after_step}
+use Rattle.message_graph.specs.Nodes.{next_step, with_answer, with_ending, after_step}
 use Rattle.message_graph.proofs.NodeLaws.{next_judge, next_end, length-change}
 use Rattle.journal_play.specs.Keeping.{IsStepDone}
 
@@ -34,7 +34,8 @@ less_ended (x ∷ nodes) zero node end at open_now =
     omega (arith, none)
 less_ended (x ∷ nodes) (suc n) node end at open_now = omega (arith, less_ended nodes n node end at open_now)
 
-pub less_done : (s : Step) (old new : List Node) → next old ≡ Some s → IsStepDone s old new → work new < work old
+pub less_done : (s : Step) (old new : List Node) → next_step old ≡ Some s → IsStepDone s old new
+    → work new < work old
 less_done (graph_step.Judge n) old new e d =
     let t = next_judge old n e in
     subst (λ (ns : List Node). work ns < work old) (sym d.1) (less_judged old n t.0 d.0 t.1 t.2)

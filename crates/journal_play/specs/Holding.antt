@@ -1,12 +1,12 @@
 -- The held messages by number, and what is kept of each beside its id.
 use Rattle.std.specs.Prelude.{ℕ, List, [], ◌∷◌, ◌++◌}
 use Rattle.message_graph.specs.declared.nodes.Node.{Node}
-use Rattle.message_graph.specs.Nodes.{fresh}
+use Rattle.message_graph.specs.Nodes.{fresh_node}
 use Rattle.journal_play.specs.declared.kept.Head.{Head}
 use Rattle.journal_play.specs.declared.kept.Rest.{Rest}
 
 -- what the lines of the held messages say, and their nodes
-pub record Holding : Type 0 where
+pub record HeldHeads : Type 0 where
   pub heads : List Head
   pub nodes : List Node
 
@@ -25,5 +25,6 @@ heads_of (rest ∷ rests) [] = []
 heads_of (rest ∷ rests) (node ∷ nodes) = head_with node.name rest ∷ heads_of rests nodes
 
 -- one more message is held
-abbrev pub with_more : Head → Holding → Holding
-with_more h held = record { heads = held.heads ++ h ∷ []; nodes = held.nodes ++ fresh h.id 0 ∷ [] }
+abbrev pub with_more : Head → HeldHeads → HeldHeads
+with_more h held =
+    record { heads = held.heads ++ h ∷ []; nodes = held.nodes ++ fresh_node h.id 0 ∷ [] }

@@ -18,7 +18,8 @@ use Rattle.message_graph.specs.declared.nodes.Fate.TheVariants as fate
 use Rattle.message_graph.specs.declared.nodes.Step.{Step}
 use Rattle.message_graph.specs.declared.nodes.Step.TheVariants as step
 use Rattle.message_graph.specs.declared.nodes.Judged.{Judged}
-use Rattle.message_graph.specs.Nodes.{number_of, fresh, with_answer, with_ending, after_step, step_number, fate_of}
+use Rattle.message_graph.specs.Nodes.{node_number, fresh_node, with_answer, with_ending, after_step}
+use Rattle.message_graph.specs.Nodes.{step_number, fate_of}
 use Rattle.sync_words.specs.StreamTexts.{try_text}
 use Rattle.journal_play.specs.declared.kept.Head.{Head}
 use Rattle.journal_play.specs.declared.kept.Fresh.{Fresh}
@@ -29,13 +30,14 @@ use Rattle.journal_play.specs.Playing.{Played, Story, head_of, judged_of, shown_
 abbrev pub holding : Story → MessageValue → Story
 holding play m = record play {
   messages = play.messages ++ m ∷ [];
-  nodes = play.nodes ++ fresh (message_id_of m) 0 ∷ [];
+  nodes = play.nodes ++ fresh_node (message_id_of m) 0 ∷ [];
 }
 
 -- a message is held where it is of the group and its id is new
 abbrev pub taking_message : Story → MessageValue → Story
 taking_message play m =
-    cond (same_id m.group play.group) (cond (is_some (number_of play.nodes (message_id_of m))) play (holding play m)) play
+    cond (same_id m.group play.group)
+    (cond (is_some (node_number play.nodes (message_id_of m))) play (holding play m)) play
 
 abbrev pub taking : Story → Record → Story
 taking play (record_kind.Message m) = taking_message play m
@@ -86,12 +88,15 @@ pending_text (m ∷ messages) (node ∷ nodes) = pending_line (fate_of node) m +
 
 -- one more message is held
 abbrev pub with_head : Head → Played → Played
-with_head h play = record play { heads = play.heads ++ h ∷ []; nodes = play.nodes ++ fresh h.id 0 ∷ [] }
+with_head h play =
+    record play { heads = play.heads ++ h ∷ []; nodes = play.nodes ++ fresh_node h.id 0 ∷ [] }
 
 -- a message is held where it is of the group and its id is new
 abbrev pub taking_one : Played → MessageValue → Played
 taking_one play m =
-    cond (same_id m.group play.group) (cond (is_some (number_of play.nodes (message_id_of m))) play (with_head (head_of m) play)) play
+    cond (same_id m.group play.group)
+    (cond (is_some (node_number play.nodes (message_id_of m))) play
+    (with_head (head_of m) play)) play
 
 abbrev pub taking_in : Played → Record → Played
 taking_in play (record_kind.Message m) = taking_one play m
@@ -101,7 +106,8 @@ taking_in play _ = play
 abbrev pub fresh_one : Played → MessageValue → Option Fresh
 fresh_one play m =
     cond (same_id m.group play.group)
-    (cond (is_some (number_of play.nodes (message_id_of m))) None (Some (record { number = length play.heads; message = m }))) None
+    (cond (is_some (node_number play.nodes (message_id_of m))) None
+    (Some (record { number = length play.heads; message = m }))) None
 
 abbrev pub fresh_in : Played → Record → Option Fresh
 fresh_in play (record_kind.Message m) = fresh_one play m

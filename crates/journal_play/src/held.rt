@@ -2,7 +2,7 @@
 ghost use Rattle.std.specs.Prelude.{◌≡◌, ◌+◌, ◌<◌, ◌≤◌, [], length, IfOk, OnOk, None, Some};
 ghost use Rattle.std.specs.Prelude.{slice_get, vec_capacity};
 ghost use Rattle.std.specs.Option.{option_map};
-ghost use Rattle.message_graph.specs.Nodes.{after_step, fate_of, next, number_of, with_answer, EndsNode};
+ghost use Rattle.message_graph.specs.Nodes.{after_step, fate_of, next_step, node_number, with_answer, EndsNode};
 ghost use Rattle.journal_play.specs.Holding.{with_more};
 
 use crate::kept::{Head, Rest};
@@ -29,9 +29,9 @@ pub(crate) struct HeldGraph {
 
 impl Model for HeldGraph {
     ghost use Rattle.std.specs.Prelude.{◌≡◌, ◌+◌, ◌<◌, ◌≤◌, ◌^◌, length, vec_capacity};
-    ghost use Rattle.journal_play.specs.Holding.{Holding, heads_of};
+    ghost use Rattle.journal_play.specs.Holding.{HeldHeads, heads_of};
 
-    ghost Value = { Holding };
+    ghost Value = { HeldHeads };
 
     ghost view = { λ h. record {
       heads = heads_of h.rest.items h.graph.nodes;
@@ -79,7 +79,7 @@ impl HeldGraph {
     /// Holds a message, and answers its number. It fails only for want of memory, also where
     /// 2^32 - 1 messages are held.
     pub(crate) fn hold(&mut self, head: Head) -> Result<u32, AllocError>
-        requires { number_of self.old.nodes head.id ≡ None }
+        requires { node_number self.old.nodes head.id ≡ None }
         ensures held { OnOk result (self.new ≡ with_more head self.old) }
         ensures number { IfOk result (λ number. number ≡ length self.old.heads) }
     {
@@ -104,7 +104,7 @@ impl HeldGraph {
 
     /// The number of the message of this id. `None` comes exactly where it is not held.
     pub(crate) fn number(&self, id: &MessageId) -> Option<u32>
-        ensures { result ≡ number_of self.now.nodes id.now }
+        ensures { result ≡ node_number self.now.nodes id.now }
     {
         self.graph.number(&id.0)
     }
@@ -129,14 +129,14 @@ impl HeldGraph {
 
     /// The next step. `None` comes exactly where no message has a step.
     pub(crate) fn next(&self) -> Option<Step>
-        ensures { result ≡ next self.now.nodes }
+        ensures { result ≡ next_step self.now.nodes }
     {
         self.graph.next()
     }
 
     /// Takes the answer of a message's client, which is the next step.
     pub(crate) fn judged(&mut self, n: u32, answer: Judged) -> Result<(), AllocError>
-        requires { next self.old.nodes ≡ Some (Step.Judge n) }
+        requires { next_step self.old.nodes ≡ Some (Step.Judge n) }
         ensures { OnOk result
             (self.new ≡ record self.old { nodes = with_answer n answer self.old.nodes }) }
     {
@@ -145,7 +145,7 @@ impl HeldGraph {
 
     /// Makes the next step, which is no judgement; takes no memory.
     pub(crate) fn apply(&mut self, step: Step)
-        requires next { next self.old.nodes ≡ Some step }
+        requires next { next_step self.old.nodes ≡ Some step }
         requires ends { EndsNode step }
         ensures { self.new ≡ record self.old { nodes = after_step step self.old.nodes } }
     {

@@ -8,7 +8,7 @@ ghost use Rattle.sync_rules.specs.Clients.{Meaning};
 ghost use Rattle.sync_rules.specs.Steps.{kind_of_def};
 ghost use Rattle.sync_rules.specs.declared.entries.Entry.{Entry};
 ghost use Rattle.sync_rules.specs.declared.states.Fate.TheVariants as fate_kind;
-ghost use Rattle.message_graph.specs.Nodes.{after_step, EndsNode, next, number_of, step_number};
+ghost use Rattle.message_graph.specs.Nodes.{after_step, EndsNode, next_step, node_number, step_number};
 ghost use Rattle.journal_play.specs.declared.kept.Head.{Head};
 ghost use Rattle.journal_play.specs.Keeping.{ended_as, fresh_in, fresh_one, IsStepDone, IsFresh};
 ghost use Rattle.journal_play.specs.Keeping.{IsJudged, open_line, open_text};
@@ -147,7 +147,7 @@ impl Play {
 
     // Holds a message, and answers its number.
     fn hold(&mut self, head: Head) -> Result<u32, AllocError>
-        requires { number_of self.old.nodes head.id ≡ None }
+        requires { node_number self.old.nodes head.id ≡ None }
         ensures held { OnOk result (self.new ≡ with_head head self.old) }
         ensures number { IfOk result (λ number. number ≡ length self.old.heads) }
     {
@@ -167,7 +167,7 @@ impl Play {
             (j : List (List Entry)) → shown_of story ≡ self.old
             → IsFresh just.now story → StoryStandsFor (C.meaning clients.now) def k j story
             → ReachesShown (C.meaning clients.now) def k j story self.new) }
-        ensures settled { OnOk result (next self.new.nodes ≡ None) }
+        ensures settled { OnOk result (next_step self.new.nodes ≡ None) }
     {
         'steps: while let Some(step) = self.next() {
             self.make(alloc, clients, just, step)?;
@@ -176,7 +176,7 @@ impl Play {
     }
 
     fn next(&self) -> Option<Step>
-        ensures { result ≡ next self.now.nodes }
+        ensures { result ≡ next_step self.now.nodes }
     {
         self.held.next()
     }
@@ -188,7 +188,7 @@ impl Play {
         just: &Option<Fresh>,
         step: Step,
     ) -> Result<(), AllocError>
-        requires { next self.old.nodes ≡ Some step }
+        requires { next_step self.old.nodes ≡ Some step }
         ensures shows { OnOk result (ShowsStep (C.meaning clients.now) just.now step self.old
             self.new) }
         ensures done { OnOk result (IsStepDone step self.old.nodes self.new.nodes) }
@@ -209,7 +209,7 @@ impl Play {
         just: &Option<Fresh>,
         n: u32,
     ) -> Result<(), AllocError>
-        requires { next self.old.nodes ≡ Some (Step.Judge n) }
+        requires { next_step self.old.nodes ≡ Some (Step.Judge n) }
         ensures { OnOk result (IsJudged (C.meaning clients.now) just.now n self.old self.new) }
     {
         let Some(one) = just else {
@@ -225,7 +225,7 @@ impl Play {
 
     // Ends the message of that number, as the step says, and adds its line.
     fn end(&mut self, step: Step, n: u32, state: sync_rules::Fate) -> Result<(), AllocError>
-        requires next { next self.old.nodes ≡ Some step }
+        requires next { next_step self.old.nodes ≡ Some step }
         requires ends { EndsNode step }
         requires number { step_number step ≡ n }
         requires state { state ≢ fate_kind.Unknown }

@@ -289,11 +289,13 @@ no_held (Some x) e = absurd (false≢true (sym e))
 
 module _ (clients : Meaning) (s : StateValue) (few : HasNextNumbers s.facts)
     (apart : AreApart (map (λ (h : Held). h.id) s.facts.held)) where
-  stands_can : (e : Entry) → MayStandAlone clients s.facts e → HasRoom s (e ∷ []) → CanTakeAll s (e ∷ [])
+  stands_can : (e : Entry) → MayStandAlone clients s.facts e → HasRoom s (e ∷ [])
+      → CanTakeAll s (e ∷ [])
   stands_can (entry.Contact c) may r = alone s (entry.Contact c) r may
   stands_can (entry.Group def) may r =
       let small = may.few in
-      alone s (entry.Group def) r (no_group (group_at s.facts.groups (group_id_of def)) may.new, omega (arith, small))
+      alone s (entry.Group def) r
+      (no_group (group_at s.facts.groups (group_id_of def)) may.new, omega (arith, small))
   stands_can (entry.Level c g l) may r =
       let rows = rows_enough (length s.facts.held) (rows_room s.room c) few.held r.contact.rows in
       alone s (entry.Level c g l) r (may.1, omega (arith, rows), may.0)
@@ -305,31 +307,45 @@ module _ (clients : Meaning) (s : StateValue) (few : HasNextNumbers s.facts)
       )
   stands_can (entry.Author m) may r =
       alone s (entry.Author m) r
-      (record { known = may.known_group; new = no_held (held_at s.facts.held (message_id_of m)) may.new; few = few.held })
+      (record {
+        known = may.known_group;
+        new = no_held (held_at s.facts.held (message_id_of m)) may.new;
+        few = few.held;
+      })
   stands_can (entry.Out n now what) may r =
       let known = is_there (session_at s.facts.sessions n) clients s.facts now what may in
       let room : HasContactRoom s 1 (contact_of s.facts.sessions n) =
       some_contact s (session_at s.facts.sessions n) 1 known r.contact in
-      let rows = rows_enough (length s.facts.held) (rows_room s.room (contact_of s.facts.sessions n)) few.held room.rows in
+      let rows = rows_enough (length s.facts.held)
+      (rows_room s.room (contact_of s.facts.sessions n)) few.held room.rows in
       alone s (entry.Out n now what) r (
         record { known = known; rows = omega (arith, rows) },
         sent_can (session_at s.facts.sessions n) clients s.facts now what apart may,
       )
   stands_can (entry.Kept from m) may r =
       alone s (entry.Kept from m) r
-      (record { known = may.1.known_group; new = no_held (held_at s.facts.held (message_id_of m)) may.1.new; few = few.held })
+      (record {
+        known = may.1.known_group;
+        new = no_held (held_at s.facts.held (message_id_of m)) may.1.new;
+        few = few.held;
+      })
   stands_can _ may r = absurd may
 
-  record_can : (n k : ℕ) (r : Record) → TakesNext s.facts n k r → HasRoom s (entry.Take n k ∷ taken s.facts n r)
+  record_can : (n k : ℕ) (r : Record) → TakesNext s.facts n k r
+      → HasRoom s (entry.Take n k ∷ taken s.facts n r)
       → CanTakeAll s (entry.Take n k ∷ taken s.facts n r)
   record_can n k r next room =
       let es : List Entry = entry.Take n k ∷ taken s.facts n r in
       let own : HasContactRoom s (length es) (contact_of s.facts.sessions n) =
       some_contact s (session_at s.facts.sessions n) (length es) next.known_session room.contact in
-      let rows = rows_enough (length s.facts.held) (rows_room s.room (contact_of s.facts.sessions n)) few.held own.rows in
+      let rows = rows_enough (length s.facts.held)
+      (rows_room s.room (contact_of s.facts.sessions n)) few.held own.rows in
       let count = room.entries in
       let wants = own.wants in (
-        record { room = room_first s (entry.Take n k) (taken s.facts n r) room; kind = few.records n },
+        record {
+          room = room_first s (entry.Take n k) (taken s.facts n r) room;
+          kind = few.records n;
+        },
         (λ then t. can_taken s.facts n next.known_session r then few.held (record {
           held = ap (λ (f : Facts). f.held) t.facts;
           sessions = ap (λ (f : Facts). f.sessions) t.facts;
@@ -338,14 +354,17 @@ module _ (clients : Meaning) (s : StateValue) (few : HasNextNumbers s.facts)
           rows = let q = t.room.rows (contact_of s.facts.sessions n) in omega (arith, q, rows);
           wants = let q = t.room.wants (contact_of s.facts.sessions n) in omega (arith, q, wants);
           wanted =
-              let q = ap (λ (f : Facts). length (wanted_from f.wanted (contact_of s.facts.sessions n))) t.facts in
+              let q = ap
+              (λ (f : Facts). length (wanted_from f.wanted (contact_of s.facts.sessions n)))
+              t.facts in
               omega (arith, q);
         })),
       )
 
 -- a batch that is neither a settling one nor one of rows can be taken where there is room for it
 abbrev CanTakePlain : StateValue → List Entry → Type 0
-CanTakePlain s b = is_settling_kind b ≡ false → is_rows_kind b ≡ false → HasRoom s b → CanTakeAll s b
+CanTakePlain s b = is_settling_kind b ≡ false → is_rows_kind b ≡ false → HasRoom s b
+    → CanTakeAll s b
 
 pub can_batch : (clients : Meaning) (s : StateValue) (b : List Entry) → Allowed clients s.facts b → is_settling_kind b ≡ false → is_rows_kind b ≡ false
     → HasRoom s b → HasNextNumbers s.facts → AreApart (map (λ (h : Held). h.id) s.facts.held) → (s.facts.start ≡ start.Empty → s.facts.begun ≡ 0)

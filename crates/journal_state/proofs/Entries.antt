@@ -72,7 +72,8 @@ position_is : (p : Known → Bool) (xs : List Known) → position p xs ≡ posit
 position_is p [] = refl
 position_is p (x ∷ xs) = position_from-zero p (x ∷ xs)
 
-pub number_more : (gs more : List Known) (id : Id) (n : ℕ) → levels.number_of gs id ≡ Some n → levels.number_of (gs ++ more) id ≡ Some n
+pub number_more : (gs more : List Known) (id : Id) (n : ℕ) → levels.group_number gs id ≡ Some n
+    → levels.group_number (gs ++ more) id ≡ Some n
 number_more gs more id n e =
     position_is (λ g. same_id g.id id) (gs ++ more)
     ∙ position_more (λ g. same_id g.id id) 0 gs more n (sym (position_is (λ g. same_id g.id id) gs) ∙ e)
@@ -94,7 +95,8 @@ numbered_from i (g ∷ gs) id n e =
       | false ↦ λ q. numbered_from (i + 1) gs id n q
     ] e
 
-pub numbered_known : (gs : List Known) (id : Id) (n : ℕ) → levels.number_of gs id ≡ Some n → is_some (group_at gs id) ≡ true
+pub numbered_known : (gs : List Known) (id : Id) (n : ℕ) → levels.group_number gs id ≡ Some n
+    → is_some (group_at gs id) ≡ true
 numbered_known gs id n e = numbered_from 0 gs id n (sym (position_is (λ g. same_id g.id id) gs) ∙ e)
 
 pub map_same : {A B : Type 0} (f g : A → B) (xs : List A) → ((n : ℕ) (x : A) → slice_get xs n ≡ Some x → f x ≡ g x) → map f xs ≡ map g xs

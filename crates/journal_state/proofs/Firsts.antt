@@ -52,7 +52,9 @@ number_from (h ∷ hs) (n ∷ ns) i e d =
     ]
 
 -- a node's name and its message's id are found at one number
-pub number_same : (hs : List Held) (ns : List Node) → map (λ (n : Node). n.name) ns ≡ map (λ (h : Held). h.id) hs → (d : Id) → nodes.number_of ns d ≡ place_of hs d
+pub number_same : (hs : List Held) (ns : List Node)
+    → map (λ (n : Node). n.name) ns ≡ map (λ (h : Held). h.id) hs → (d : Id)
+    → nodes.node_number ns d ≡ place_of hs d
 number_same hs ns e d = position_is (λ (node : Node). nodes.same_name d node.name) ns ∙ (number_from hs ns 0 e d ∙ from_zero (place_of hs d))
 
 -- the name of the node of a number is the id of its message

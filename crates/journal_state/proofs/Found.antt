@@ -82,7 +82,7 @@ number_told (step.Judge n) number a end t = sym t.0
 number_told (step.Invalid n) number a end t = sym t.0
 number_told (step.Deliver n) number a end t = sym t.0
 
-pub node_found : (ns : List Node) (s : Step) → nodes.next ns ≡ Some s → IsNextNode ns s
+pub node_found : (ns : List Node) (s : Step) → nodes.next_step ns ≡ Some s → IsNextNode ns s
 node_found ns s e =
     let f = first_of ns 0 ns s e in
     let t = told (nodes.node_named ns) (0 + f.place) f.node.group s f.node.answer f.node.ending f.node refl refl refl f.is in
@@ -102,7 +102,8 @@ pub record IsNext (p : Parts) (s : Step) : Type 0 where
   pub there : slice_get p.held (step_number s) ≡ Some message
   pub tells : Tells s (step_number s) node.answer node.ending
 
-pub next_found : (p : Parts) → IsState p → (s : Step) → nodes.next p.nodes ≡ Some s → IsNext p s
+pub next_found : (p : Parts) → IsState p → (s : Step) → nodes.next_step p.nodes ≡ Some s
+    → IsNext p s
 next_found p st s e =
     let f : IsNextNode p.nodes s = node_found p.nodes s e in
     let within : step_number s < length p.held = (let below : step_number s < length p.nodes = next_within p.nodes s e in omega (arith, below, many_nodes p st)) in
@@ -119,7 +120,8 @@ same_place p s m n a b e =
     let both : Some m ≡ Some n = sym (s.distinct m one.0 one.1) ∙ (ap (place_of p.held) ids ∙ s.distinct n two.0 two.1) in
     cc
 
-judge_by : (p : Parts) → IsState p → (n : ℕ) → n < length p.held → (o : Option Step) → nodes.next p.nodes ≡ o
+judge_by : (p : Parts) → IsState p → (n : ℕ) → n < length p.held → (o : Option Step)
+    → nodes.next_step p.nodes ≡ o
     → option_map (entry_of (id_at p.held)) o ≡ Some (entry.Judged (id_at p.held n)) → o ≡ Some (step.Judge n)
 judge_by p s n b None e f = absurd (let none : None ≡ Some (entry.Judged (id_at p.held n)) = f in cc)
 judge_by p s n b (Some (step.Judge m)) e f =
@@ -131,10 +133,14 @@ judge_by p s n b (Some (step.Deliver m)) e f = absurd (let wrong : entry.Deliver
 
 -- where the next entry judges the message of a number, so does the graph's next step
 pub judge_next : (clients : Meaning) (p : Parts) (s : IsState p) → KnowsJudgements clients (value_of p) → (n : ℕ) → n < length p.held
-    → next clients (facts_of p) ≡ Some (entry.Judged (id_at p.held n)) → nodes.next p.nodes ≡ Some (step.Judge n)
-judge_next clients p s k n b e = judge_by p s n b (nodes.next p.nodes) refl (found_next clients p s k (nodes.next p.nodes) refl ∙ e)
+    → next clients (facts_of p) ≡ Some (entry.Judged (id_at p.held n))
+    → nodes.next_step p.nodes ≡ Some (step.Judge n)
+judge_next clients p s k n b e =
+    judge_by p s n b (nodes.next_step p.nodes) refl
+    (found_next clients p s k (nodes.next_step p.nodes) refl ∙ e)
 
-invalid_by : (p : Parts) → IsState p → (n : ℕ) → n < length p.held → (o : Option Step) → nodes.next p.nodes ≡ o
+invalid_by : (p : Parts) → IsState p → (n : ℕ) → n < length p.held → (o : Option Step)
+    → nodes.next_step p.nodes ≡ o
     → option_map (entry_of (id_at p.held)) o ≡ Some (entry.Invalid (id_at p.held n)) → o ≡ Some (step.Invalid n)
 invalid_by p s n b None e f = absurd (let none : None ≡ Some (entry.Invalid (id_at p.held n)) = f in cc)
 invalid_by p s n b (Some (step.Judge m)) e f = absurd (let wrong : entry.Judged (id_at p.held m) ≡ entry.Invalid (id_at p.held n) = cc in cc)
@@ -145,10 +151,14 @@ invalid_by p s n b (Some (step.Invalid m)) e f =
 invalid_by p s n b (Some (step.Deliver m)) e f = absurd (let wrong : entry.Deliver (id_at p.held m) ≡ entry.Invalid (id_at p.held n) = cc in cc)
 
 pub invalid_next : (clients : Meaning) (p : Parts) (s : IsState p) → KnowsJudgements clients (value_of p) → (n : ℕ) → n < length p.held
-    → next clients (facts_of p) ≡ Some (entry.Invalid (id_at p.held n)) → nodes.next p.nodes ≡ Some (step.Invalid n)
-invalid_next clients p s k n b e = invalid_by p s n b (nodes.next p.nodes) refl (found_next clients p s k (nodes.next p.nodes) refl ∙ e)
+    → next clients (facts_of p) ≡ Some (entry.Invalid (id_at p.held n))
+    → nodes.next_step p.nodes ≡ Some (step.Invalid n)
+invalid_next clients p s k n b e =
+    invalid_by p s n b (nodes.next_step p.nodes) refl
+    (found_next clients p s k (nodes.next_step p.nodes) refl ∙ e)
 
-deliver_by : (p : Parts) → IsState p → (n : ℕ) → n < length p.held → (o : Option Step) → nodes.next p.nodes ≡ o
+deliver_by : (p : Parts) → IsState p → (n : ℕ) → n < length p.held → (o : Option Step)
+    → nodes.next_step p.nodes ≡ o
     → option_map (entry_of (id_at p.held)) o ≡ Some (entry.Deliver (id_at p.held n)) → o ≡ Some (step.Deliver n)
 deliver_by p s n b None e f = absurd (let none : None ≡ Some (entry.Deliver (id_at p.held n)) = f in cc)
 deliver_by p s n b (Some (step.Judge m)) e f = absurd (let wrong : entry.Judged (id_at p.held m) ≡ entry.Deliver (id_at p.held n) = cc in cc)
@@ -159,5 +169,8 @@ deliver_by p s n b (Some (step.Deliver m)) e f =
     ap (λ k. Some (step.Deliver k)) (same_place p s m n a b ids)
 
 pub deliver_next : (clients : Meaning) (p : Parts) (s : IsState p) → KnowsJudgements clients (value_of p) → (n : ℕ) → n < length p.held
-    → next clients (facts_of p) ≡ Some (entry.Deliver (id_at p.held n)) → nodes.next p.nodes ≡ Some (step.Deliver n)
-deliver_next clients p s k n b e = deliver_by p s n b (nodes.next p.nodes) refl (found_next clients p s k (nodes.next p.nodes) refl ∙ e)
+    → next clients (facts_of p) ≡ Some (entry.Deliver (id_at p.held n))
+    → nodes.next_step p.nodes ≡ Some (step.Deliver n)
+deliver_next clients p s k n b e =
+    deliver_by p s n b (nodes.next_step p.nodes) refl
+    (found_next clients p s k (nodes.next_step p.nodes) refl ∙ e)

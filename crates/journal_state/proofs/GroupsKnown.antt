@@ -11,7 +11,8 @@ use Rattle.journal_state.proofs.Entries.{numbered_known}
 
 -- messages and nodes that go together, each node with the number of its message's group
 knows_along : (groups : List Known) (hs : List Held) (ns : List Node) → map (λ (n : Node). n.name) ns ≡ map (λ (h : Held). h.id) hs
-    → ((k : ℕ) (h : Held) (node : Node) → slice_get hs k ≡ Some h → slice_get ns k ≡ Some node → levels.number_of groups h.message.group ≡ Some node.group)
+    → ((k : ℕ) (h : Held) (node : Node) → slice_get hs k ≡ Some h → slice_get ns k ≡ Some node
+    → levels.group_number groups h.message.group ≡ Some node.group)
     → list_all (λ h. is_some (group_at groups h.message.group)) hs ≡ true
 knows_along groups [] ns named grouped = refl
 knows_along groups (h ∷ hs) [] named grouped = absurd (cc)

@@ -178,13 +178,19 @@ not_held (Some h) e = absurd (false≢true (sym e))
 abbrev LeavesPlain : Facts → List Entry → Type 0
 LeavesPlain f b = is_settling_kind b ≡ false → is_account_kind b ≡ false → IsLeftAfter f b
 
-stands_left : (clients : Meaning) (f : Facts) → JudgesHeld f → (e : Entry) → MayStandAlone clients f e
+stands_left : (clients : Meaning) (f : Facts) → JudgesHeld f → (e : Entry)
+    → MayStandAlone clients f e
     → LeavesPlain f (e ∷ [])
-stands_left clients f j (entry.Contact c) may kind plain = quiet_is f (entry.Contact c ∷ []) (refl, tt)
-stands_left clients f j (entry.Group def) may kind plain = quiet_is f (entry.Group def ∷ []) (refl, tt)
-stands_left clients f j (entry.Level c g l) may kind plain = quiet_is f (entry.Level c g l ∷ []) (refl, tt)
-stands_left clients f j (entry.Session s) may kind plain = quiet_is f (entry.Session s ∷ []) (refl, tt)
-stands_left clients f j (entry.Out s now what) may kind plain = quiet_is f (entry.Out s now what ∷ []) (refl, tt)
+stands_left clients f j (entry.Contact c) may kind plain =
+    quiet_is f (entry.Contact c ∷ []) (refl, tt)
+stands_left clients f j (entry.Group def) may kind plain =
+    quiet_is f (entry.Group def ∷ []) (refl, tt)
+stands_left clients f j (entry.Level c g l) may kind plain =
+    quiet_is f (entry.Level c g l ∷ []) (refl, tt)
+stands_left clients f j (entry.Session s) may kind plain =
+    quiet_is f (entry.Session s ∷ []) (refl, tt)
+stands_left clients f j (entry.Out s now what) may kind plain =
+    quiet_is f (entry.Out s now what ∷ []) (refl, tt)
 stands_left clients f j (entry.Author m) may kind plain =
     brought_left f (after f (entry.Author m)) (authored m) refl refl refl refl
     (j (message_id_of m) (not_held (held_at f.held (message_id_of m)) may.new))

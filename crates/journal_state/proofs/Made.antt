@@ -33,13 +33,16 @@ use Rattle.journal_state.proofs.Delivered.{delivered_state, delivered_facts}
 abbrev pub Claims : (Id → Entry) → ℕ → StateValue → Type 0
 Claims kind n v = (n < length v.facts.held) × ((clients : Meaning) × (KnowsJudgements clients v × (next clients v.facts ≡ Some (kind (id_at v.facts.held n)))))
 
-pub judge_node : (p : Parts) → IsState p → (v : StateValue) → value_of p ≡ v → (n : ℕ) → Claims entry.Judged n v → nodes.next p.nodes ≡ Some (step.Judge n)
+pub judge_node : (p : Parts) → IsState p → (v : StateValue) → value_of p ≡ v → (n : ℕ)
+    → Claims entry.Judged n v → nodes.next_step p.nodes ≡ Some (step.Judge n)
 judge_node p s v view n claim = let k : Claims entry.Judged n (value_of p) = subst (Claims entry.Judged n) (sym view) claim in judge_next k.1.0 p s k.1.1.0 n k.0 k.1.1.1
 
-pub refuse_node : (p : Parts) → IsState p → (v : StateValue) → value_of p ≡ v → (n : ℕ) → Claims entry.Invalid n v → nodes.next p.nodes ≡ Some (step.Invalid n)
+pub refuse_node : (p : Parts) → IsState p → (v : StateValue) → value_of p ≡ v → (n : ℕ)
+    → Claims entry.Invalid n v → nodes.next_step p.nodes ≡ Some (step.Invalid n)
 refuse_node p s v view n claim = let k : Claims entry.Invalid n (value_of p) = subst (Claims entry.Invalid n) (sym view) claim in invalid_next k.1.0 p s k.1.1.0 n k.0 k.1.1.1
 
-pub deliver_node : (p : Parts) → IsState p → (v : StateValue) → value_of p ≡ v → (n : ℕ) → Claims entry.Deliver n v → nodes.next p.nodes ≡ Some (step.Deliver n)
+pub deliver_node : (p : Parts) → IsState p → (v : StateValue) → value_of p ≡ v → (n : ℕ)
+    → Claims entry.Deliver n v → nodes.next_step p.nodes ≡ Some (step.Deliver n)
 deliver_node p s v view n claim = let k : Claims entry.Deliver n (value_of p) = subst (Claims entry.Deliver n) (sym view) claim in deliver_next k.1.0 p s k.1.1.0 n k.0 k.1.1.1
 
 -- what is shown of a message is so of it
@@ -53,7 +56,8 @@ same_known p clients answers f hs same others k = same ∙ (k ∙ sym others)
 
 -- ---- judged
 
-module _ (p : Parts) (s : IsState p) (n : ℕ) (e : nodes.next p.nodes ≡ Some (step.Judge n)) (j : Judged) (share : Bool) (a : Judgement) (shows : answer_of_node (Some j) share ≡ Some a)
+module _ (p : Parts) (s : IsState p) (n : ℕ) (e : nodes.next_step p.nodes ≡ Some (step.Judge n))
+    (j : Judged) (share : Bool) (a : Judgement) (shows : answer_of_node (Some j) share ≡ Some a)
     (ns : List Node) (is : ns ≡ nodes.with_answer n j p.nodes) where
   pub judged_then : IsState (record p { nodes = ns; shares = slice_set p.shares n share })
   judged_then =
@@ -77,7 +81,8 @@ module _ (p : Parts) (s : IsState p) (n : ℕ) (e : nodes.next p.nodes ≡ Some 
 
 -- ---- invalid
 
-module _ (p : Parts) (s : IsState p) (n : ℕ) (e : nodes.next p.nodes ≡ Some (step.Invalid n)) (ns : List Node) (is : ns ≡ nodes.with_ending n ending.Invalid p.nodes) where
+module _ (p : Parts) (s : IsState p) (n : ℕ) (e : nodes.next_step p.nodes ≡ Some (step.Invalid n))
+    (ns : List Node) (is : ns ≡ nodes.with_ending n ending.Invalid p.nodes) where
   pub refused_then : IsState (record p { nodes = ns })
   refused_then =
       let f : IsNext p (step.Invalid n) = next_found p s (step.Invalid n) e in
@@ -103,7 +108,8 @@ got [] n x within is = absurd (omega arith)
 got (y ∷ xs) zero x within is = ap Some (sym is)
 got (y ∷ xs) (suc n) x within is = got xs n x (omega arith) is
 
-module _ (p : Parts) (s : IsState p) (n : ℕ) (e : nodes.next p.nodes ≡ Some (step.Deliver n)) (m : MessageValue) (m_is : option_map (λ (h : Held). h.message) (slice_get p.held n) ≡ Some m)
+module _ (p : Parts) (s : IsState p) (n : ℕ) (e : nodes.next_step p.nodes ≡ Some (step.Deliver n))
+    (m : MessageValue) (m_is : option_map (λ (h : Held). h.message) (slice_get p.held n) ≡ Some m)
     (group : Id) (group_is : group ≡ m.group) (o : Origin) (o_is : option_map (λ (h : Held). h.origin) (slice_get p.held n) ≡ Some o)
     (share : Bool) (share_is : share ≡ slice_index_or p.shares n share) (outgoing : Bool) (out_is : outgoing ≡ (is_author o || share))
     (t : retry.Table) (g : GrowsRoom p.retry t) (u : retry.Table) (r : ReadiesMessage t u (goes_to p.table.levels group outgoing) p.table.contacts n)

@@ -116,7 +116,9 @@ position_is : {X : Type 0} (test : X → Bool) (xs : List X) → position test x
 position_is test [] = refl
 position_is test (x ∷ xs) = position_from-zero test (x ∷ xs)
 
-pub no_number : (hs : List Held) (ns : List Node) → map (λ (n : Node). n.name) ns ≡ map (λ (h : Held). h.id) hs → (id : Id) → held_at hs id ≡ None → nodes.number_of ns id ≡ None
+pub no_number : (hs : List Held) (ns : List Node)
+    → map (λ (n : Node). n.name) ns ≡ map (λ (h : Held). h.id) hs → (id : Id) → held_at hs id ≡ None
+    → nodes.node_number ns id ≡ None
 no_number hs ns e id none = position_is (λ (node : Node). nodes.same_name id node.name) ns ∙ number_by hs ns 0 e id none
 
 node_more : (ns : List Node) (x : Node) (id : Id) → nodes.is_delivered x.ending ≡ false → is_delivered_in (nodes.node_named (ns ++ x ∷ []) id) ≡ is_delivered_in (nodes.node_named ns id)
@@ -226,24 +228,29 @@ wants_none old new id contacts each =
 abbrev pub held_parts : Parts → Held → ℕ → retry.Table → ℕ → Parts
 held_parts p h group t space = record p {
   held = p.held ++ h ∷ [];
-  nodes = p.nodes ++ nodes.fresh h.id group ∷ [];
+  nodes = p.nodes ++ nodes.fresh_node h.id group ∷ [];
   shares = p.shares ++ false ∷ [];
   retry = t;
   space = space;
 }
 
 module _ (p : Parts) (s : IsState p) (h : Held) (group : ℕ) (t : retry.Table) (space : ℕ) (new : held_at p.held h.id ≡ None)
-    (known : levels.number_of p.table.groups h.message.group ≡ Some group) (u : UnwantsBelow p.table.contacts p.retry t h.id) where
+    (known : levels.group_number p.table.groups h.message.group ≡ Some group)
+    (u : UnwantsBelow p.table.contacts p.retry t h.id) where
   kept_still : (contact n : ℕ) → retry.kept_at t contact n ≡ retry.kept_at p.retry contact n
   kept_still contact n = ap (λ (rows : List (List retry.KeptRow)). retry.kept_in (slice_index_or rows contact []) n) u.rows
 
-  delivered_still : map (name_at (p.nodes ++ nodes.fresh h.id group ∷ [])) p.delivered ≡ map (name_at p.nodes) p.delivered
-  delivered_still = delivered_more p.nodes (nodes.fresh h.id group) p.delivered s.within
+  delivered_still : map (name_at (p.nodes ++ nodes.fresh_node h.id group ∷ [])) p.delivered
+      ≡ map (name_at p.nodes) p.delivered
+  delivered_still = delivered_more p.nodes (nodes.fresh_node h.id group) p.delivered s.within
 
-  answers_held : answers_of (p.nodes ++ nodes.fresh h.id group ∷ []) (p.shares ++ false ∷ []) ≡ answers_of p.nodes p.shares ++ None ∷ []
-  answers_held = answers_more p.nodes p.shares (nodes.fresh h.id group) s.each_share refl
+  answers_held : answers_of (p.nodes ++ nodes.fresh_node h.id group ∷ []) (p.shares ++ false ∷ [])
+      ≡ answers_of p.nodes p.shares ++ None ∷ []
+  answers_held = answers_more p.nodes p.shares (nodes.fresh_node h.id group) s.each_share refl
 
-  shared_still : shared_among (p.held ++ h ∷ []) (answers_of (p.nodes ++ nodes.fresh h.id group ∷ []) (p.shares ++ false ∷ [])) ≡ shared_among p.held (answers_of p.nodes p.shares)
+  shared_still : shared_among (p.held ++ h ∷ [])
+      (answers_of (p.nodes ++ nodes.fresh_node h.id group ∷ []) (p.shares ++ false ∷ []))
+      ≡ shared_among p.held (answers_of p.nodes p.shares)
   shared_still =
       ap (shared_among (p.held ++ h ∷ [])) answers_held
       ∙ shared_more p.held (answers_of p.nodes p.shares) h (answers_length p.nodes p.shares ∙ many_nodes p s)
@@ -254,23 +261,29 @@ module _ (p : Parts) (s : IsState p) (h : Held) (group : ℕ) (t : retry.Table) 
   held_length : length (p.held ++ h ∷ []) ≡ length p.held + 1
   held_length = length-append p.held (h ∷ [])
 
-  nodes_length : length (p.nodes ++ nodes.fresh h.id group ∷ []) ≡ length p.nodes + 1
-  nodes_length = length-append p.nodes (nodes.fresh h.id group ∷ [])
+  nodes_length : length (p.nodes ++ nodes.fresh_node h.id group ∷ []) ≡ length p.nodes + 1
+  nodes_length = length-append p.nodes (nodes.fresh_node h.id group ∷ [])
 
-  grouped_old : (n : ℕ) (x : Held) → slice_get p.held n ≡ Some x → (node : Node) → slice_get (p.nodes ++ nodes.fresh h.id group ∷ []) n ≡ Some node
-      → levels.number_of p.table.groups x.message.group ≡ Some node.group
+  grouped_old : (n : ℕ) (x : Held) → slice_get p.held n ≡ Some x → (node : Node)
+      → slice_get (p.nodes ++ nodes.fresh_node h.id group ∷ []) n ≡ Some node
+      → levels.group_number p.table.groups x.message.group ≡ Some node.group
   grouped_old n x at node here =
       let inside : n < length p.held = within_held p.held n x at in
       let was = there p.nodes n (omega (arith, inside, many_nodes p s)) in
-      let same : Some was.0 ≡ Some node = sym (still_at p.nodes (nodes.fresh h.id group) n was.0 was.1) ∙ here in
+      let same : Some was.0 ≡ Some node =
+      sym (still_at p.nodes (nodes.fresh_node h.id group) n was.0 was.1) ∙ here in
       let one : was.0 ≡ node = cc in
       s.grouped n x was.0 at was.1 ∙ ap (λ (w : Node). Some w.group) one
 
-  grouped_new : (node : Node) → slice_get (p.nodes ++ nodes.fresh h.id group ∷ []) (length p.held) ≡ Some node → levels.number_of p.table.groups h.message.group ≡ Some node.group
+  grouped_new : (node : Node)
+      → slice_get (p.nodes ++ nodes.fresh_node h.id group ∷ []) (length p.held) ≡ Some node
+      → levels.group_number p.table.groups h.message.group ≡ Some node.group
   grouped_new node here =
-      let same : Some (nodes.fresh h.id group) ≡ Some node =
-      sym (end_here p.nodes (nodes.fresh h.id group)) ∙ (ap (slice_get (p.nodes ++ nodes.fresh h.id group ∷ [])) (many_nodes p s) ∙ here) in
-      let one : nodes.fresh h.id group ≡ node = cc in
+      let same : Some (nodes.fresh_node h.id group) ≡ Some node =
+      sym (end_here p.nodes (nodes.fresh_node h.id group))
+      ∙ (ap (slice_get (p.nodes ++ nodes.fresh_node h.id group ∷ [])) (many_nodes p s) ∙ here)
+      in
+      let one : nodes.fresh_node h.id group ≡ node = cc in
       known ∙ ap (λ (w : Node). Some w.group) one
 
   distinct_old : (n : ℕ) (x : Held) → slice_get p.held n ≡ Some x → place_of (p.held ++ h ∷ []) x.id ≡ Some n
@@ -285,43 +298,66 @@ module _ (p : Parts) (s : IsState p) (h : Held) (group : ℕ) (t : retry.Table) 
   wants_free contact beyond = u.beyond contact beyond ∙ s.free_wants contact beyond
 
   ready_old : (n : ℕ) (x : Held) → slice_get p.held n ≡ Some x → (contact : ℕ) → contact < 256
-      → (retry.kept_at t contact n).ready ≡ may_go p.table.levels (map (name_at (p.nodes ++ nodes.fresh h.id group ∷ [])) p.delivered)
-      (shared_among (p.held ++ h ∷ []) (answers_of (p.nodes ++ nodes.fresh h.id group ∷ []) (p.shares ++ false ∷ []))) contact x
+      → (retry.kept_at t contact n).ready
+      ≡ may_go p.table.levels
+      (map (name_at (p.nodes ++ nodes.fresh_node h.id group ∷ [])) p.delivered)
+      (shared_among (p.held ++ h ∷ [])
+      (answers_of (p.nodes ++ nodes.fresh_node h.id group ∷ []) (p.shares ++ false ∷ [])))
+      contact x
   ready_old n x at contact below =
       ap (λ (k : retry.KeptRow). k.ready) (kept_still contact n)
       ∙ (s.ready contact n x below at ∙ (λ i. may_go p.table.levels (sym delivered_still i) (sym shared_still i) contact x))
 
   ready_new : (contact : ℕ) → contact < 256
-      → (retry.kept_at t contact (length p.held)).ready ≡ may_go p.table.levels (map (name_at (p.nodes ++ nodes.fresh h.id group ∷ [])) p.delivered)
-      (shared_among (p.held ++ h ∷ []) (answers_of (p.nodes ++ nodes.fresh h.id group ∷ []) (p.shares ++ false ∷ []))) contact h
+      → (retry.kept_at t contact (length p.held)).ready
+      ≡ may_go p.table.levels
+      (map (name_at (p.nodes ++ nodes.fresh_node h.id group ∷ [])) p.delivered)
+      (shared_among (p.held ++ h ∷ [])
+      (answers_of (p.nodes ++ nodes.fresh_node h.id group ∷ []) (p.shares ++ false ∷ [])))
+      contact h
   ready_new contact below =
       ap (λ (k : retry.KeptRow). k.ready) (kept_still contact (length p.held) ∙ s.free_rows contact (length p.held) (omega arith))
       ∙ sym (ap (λ b. b && (is_level_shared (level_at p.table.levels contact h.message.group)
-      && (is_author h.origin || is_among (shared_among (p.held ++ h ∷ []) (answers_of (p.nodes ++ nodes.fresh h.id group ∷ []) (p.shares ++ false ∷ []))) h.id)))
+      && (is_author h.origin || is_among
+      (shared_among (p.held ++ h ∷ [])
+      (answers_of (p.nodes ++ nodes.fresh_node h.id group ∷ []) (p.shares ++ false ∷ [])))
+      h.id)))
       (ap (λ (ids : List Id). is_among ids h.id) delivered_still ∙ not_delivered))
 
   pub held_state : IsState (held_parts p h group t space)
   held_state = record {
     named =
-        map-append (λ (n : Node). n.name) p.nodes (nodes.fresh h.id group ∷ [])
+        map-append (λ (n : Node). n.name) p.nodes (nodes.fresh_node h.id group ∷ [])
         ∙ (ap (λ (ids : List Id). ids ++ h.id ∷ []) s.named ∙ sym (map-append (λ (x : Held). x.id) p.held (h ∷ [])));
     grouped = λ n x node a b. end_cases
-        {P = λ k w. (y : Node) → slice_get (p.nodes ++ nodes.fresh h.id group ∷ []) k ≡ Some y → levels.number_of p.table.groups w.message.group ≡ Some y.group}
+        {P = λ k w. (y : Node) → slice_get (p.nodes ++ nodes.fresh_node h.id group ∷ []) k ≡ Some y
+        → levels.group_number p.table.groups w.message.group ≡ Some y.group}
         p.held h grouped_old grouped_new n x a node b;
     distinct = λ n x at. end_cases {P = λ k w. place_of (p.held ++ h ∷ []) w.id ≡ Some k} p.held h distinct_old distinct_new n x at;
     each_share =
         length-append p.shares (false ∷ []) ∙ (ap (λ n. n + 1) s.each_share ∙ sym nodes_length);
-    order = λ n node at. end_cases {P = λ k (w : Node). w.answer ≡ None → w.ending ≡ None} p.nodes (nodes.fresh h.id group) s.order (λ none. refl) n node at;
-    within = within_more (length p.nodes) (length (p.nodes ++ nodes.fresh h.id group ∷ [])) p.delivered (omega (arith, nodes_length)) s.within;
-    ended = λ id. ap (λ (ids : List Id). is_among ids id) delivered_still ∙ (s.ended id ∙ sym (node_more p.nodes (nodes.fresh h.id group) id refl));
-    many = let sums : delivered_among (p.nodes ++ nodes.fresh h.id group ∷ []) ≡ delivered_among p.nodes + 0 = sum_more one_if_delivered p.nodes (nodes.fresh h.id group) in omega (arith, sums, s.many);
+    order = λ n node at. end_cases {P = λ k (w : Node). w.answer ≡ None → w.ending ≡ None} p.nodes
+        (nodes.fresh_node h.id group) s.order (λ none. refl) n node at;
+    within = within_more (length p.nodes)
+        (length (p.nodes ++ nodes.fresh_node h.id group ∷ [])) p.delivered
+        (omega (arith, nodes_length)) s.within;
+    ended = λ id. ap (λ (ids : List Id). is_among ids id) delivered_still
+        ∙ (s.ended id ∙ sym (node_more p.nodes (nodes.fresh_node h.id group) id refl));
+    many = let sums : delivered_among (p.nodes ++ nodes.fresh_node h.id group ∷ [])
+        ≡ delivered_among p.nodes + 0 =
+        sum_more one_if_delivered p.nodes (nodes.fresh_node h.id group) in
+        omega (arith, sums, s.many);
     free_rows = λ contact n beyond. kept_still contact n ∙ s.free_rows contact n (omega (arith, held_length));
     free_wants = wants_free;
     hidden = s.hidden;
     shown = s.shown;
     ready = λ contact n x below at. end_cases
-        {P = λ k w. (c : ℕ) → c < 256 → (retry.kept_at t c k).ready ≡ may_go p.table.levels (map (name_at (p.nodes ++ nodes.fresh h.id group ∷ [])) p.delivered)
-        (shared_among (p.held ++ h ∷ []) (answers_of (p.nodes ++ nodes.fresh h.id group ∷ []) (p.shares ++ false ∷ []))) c w}
+        {P = λ k w. (c : ℕ) → c < 256
+        → (retry.kept_at t c k).ready ≡ may_go p.table.levels
+        (map (name_at (p.nodes ++ nodes.fresh_node h.id group ∷ [])) p.delivered)
+        (shared_among (p.held ++ h ∷ [])
+        (answers_of (p.nodes ++ nodes.fresh_node h.id group ∷ []) (p.shares ++ false ∷ []))) c
+        w}
         p.held h ready_old ready_new n x at contact below;
   }
 
@@ -337,8 +373,9 @@ module _ (p : Parts) (s : IsState p) (h : Held) (group : ℕ) (t : retry.Table) 
   pub held_facts : facts_of (held_parts p h group t space) ≡ record (facts_of p) { held = p.held ++ h ∷ []; wanted = wanted_by_none (wants_in p.retry p.table.contacts) h.id }
   held_facts = λ i. record (facts_of p) {
     held = p.held ++ h ∷ [];
-    judged = fin_set.from_list (names_more is_judged p.nodes (nodes.fresh h.id group) refl i);
-    invalid = fin_set.from_list (names_more is_invalid p.nodes (nodes.fresh h.id group) refl i);
+    judged = fin_set.from_list (names_more is_judged p.nodes (nodes.fresh_node h.id group) refl i);
+    invalid =
+        fin_set.from_list (names_more is_invalid p.nodes (nodes.fresh_node h.id group) refl i);
     delivered = delivered_still i;
     rows = rows_still i;
     wanted = wants_none p.retry t h.id p.table.contacts u.wants i;

@@ -50,7 +50,8 @@ module _ (clients : Meaning) (p : Parts) (s : IsState p) (k : KnowsJudgements cl
 
   -- ---- dependencies
 
-  fails_at : (g : Id) (n : ℕ) → levels.number_of p.table.groups g ≡ Some n → (d : Id) (o : Option Held) → IsBoth clients (facts_of p) p.table.groups p.nodes d o
+  fails_at : (g : Id) (n : ℕ) → levels.group_number p.table.groups g ≡ Some n
+      → (d : Id) (o : Option Held) → IsBoth clients (facts_of p) p.table.groups p.nodes d o
       → nodes.fails n (nodes.node_named p.nodes d) ≡ (is_elsewhere g o || fin_set.contains (facts_of p).invalid d)
   fails_at g n e d None b = ap (nodes.fails n) b ∙ sym (invalid_is d ∙ ap (passes is_invalid) b)
   fails_at g n e d (Some h) b =
@@ -58,17 +59,20 @@ module _ (clients : Meaning) (p : Parts) (s : IsState p) (k : KnowsJudgements cl
       ∙ (λ i. (ap not (same_group p.table.groups h.message.group g b.0.group n b.2.grouped e) ∙ not-cond (same_id h.message.group g)) i
       || sym (invalid_is d ∙ ap (passes is_invalid) b.1) i)
 
-  fails_same : (g : Id) (n : ℕ) → levels.number_of p.table.groups g ≡ Some n → (d : Id) → nodes.fails n (nodes.node_named p.nodes d) ≡ is_failing (facts_of p) g d
+  fails_same : (g : Id) (n : ℕ) → levels.group_number p.table.groups g ≡ Some n → (d : Id)
+      → nodes.fails n (nodes.node_named p.nodes d) ≡ is_failing (facts_of p) g d
   fails_same g n e d = fails_at g n e d (held_at p.held d) (both d)
 
-  serves_at : (g : Id) (n : ℕ) → levels.number_of p.table.groups g ≡ Some n → (d : Id) (o : Option Held) → IsBoth clients (facts_of p) p.table.groups p.nodes d o
+  serves_at : (g : Id) (n : ℕ) → levels.group_number p.table.groups g ≡ Some n
+      → (d : Id) (o : Option Held) → IsBoth clients (facts_of p) p.table.groups p.nodes d o
       → nodes.serves n (nodes.node_named p.nodes d) ≡ (is_beside g o && is_among (facts_of p).delivered d)
   serves_at g n e d None b = ap (nodes.serves n) b
   serves_at g n e d (Some h) b =
       ap (nodes.serves n) b.1
       ∙ (λ i. same_group p.table.groups h.message.group g b.0.group n b.2.grouped e i && sym (s.ended d ∙ ap is_delivered_in b.1) i)
 
-  serves_same : (g : Id) (n : ℕ) → levels.number_of p.table.groups g ≡ Some n → (d : Id) → nodes.serves n (nodes.node_named p.nodes d) ≡ is_served (facts_of p) g d
+  serves_same : (g : Id) (n : ℕ) → levels.group_number p.table.groups g ≡ Some n → (d : Id)
+      → nodes.serves n (nodes.node_named p.nodes d) ≡ is_served (facts_of p) g d
   serves_same g n e d = serves_at g n e d (held_at p.held d) (both d)
 
   -- ---- the step of one message
@@ -84,7 +88,8 @@ module _ (clients : Meaning) (p : Parts) (s : IsState p) (k : KnowsJudgements cl
       ap (λ b. cond b (Some (entry.Invalid h.id)) (cond served (Some (entry.Deliver h.id)) None)) e
       ∙ ap (λ b. cond b (Some (entry.Deliver h.id)) None) q
 
-  accepted_same : (name : ℕ → Id) (number : ℕ) (h : Held) (node : Node) → h.id ≡ name number → levels.number_of p.table.groups h.message.group ≡ Some node.group → (deps : List Id)
+  accepted_same : (name : ℕ → Id) (number : ℕ) (h : Held) (node : Node) → h.id ≡ name number
+      → levels.group_number p.table.groups h.message.group ≡ Some node.group → (deps : List Id)
       → step_accepted (facts_of p) h deps ≡ option_map (entry_of name) (nodes.step_accepted (nodes.node_named p.nodes) number node.group deps)
   accepted_same name number h node named e deps =
       by_tests name number h named (list_any (is_failing (facts_of p) h.message.group) deps)
@@ -103,7 +108,8 @@ module _ (clients : Meaning) (p : Parts) (s : IsState p) (k : KnowsJudgements cl
   judged_same name number h node j answer open_same (Some ending.Invalid) d i = λ k. cond (d k || i k) None (step_open (facts_of p) h answer)
   judged_same name number h node j answer open_same (Some ending.Delivered) d i = λ k. cond (d k || i k) None (step_open (facts_of p) h answer)
 
-  by_same : (name : ℕ → Id) (number : ℕ) (h : Held) (node : Node) → h.id ≡ name number → levels.number_of p.table.groups h.message.group ≡ Some node.group
+  by_same : (name : ℕ → Id) (number : ℕ) (h : Held) (node : Node) → h.id ≡ name number
+      → levels.group_number p.table.groups h.message.group ≡ Some node.group
       → is_among (facts_of p).delivered h.id ≡ nodes.is_delivered node.ending → fin_set.contains (facts_of p).invalid h.id ≡ nodes.is_invalid node.ending
       → (a : Option Judged) (share : Bool) → step_by (facts_of p) h (answer_of_node a share) ≡ option_map (entry_of name) (nodes.step_by (nodes.node_named p.nodes) number node a)
   by_same name number h node named e d i None share = ap (λ (x : Id). Some (entry.Judged x)) named
@@ -137,7 +143,8 @@ module _ (clients : Meaning) (p : Parts) (s : IsState p) (k : KnowsJudgements cl
       ]
 
   -- the next step
-  pub next_same : next clients (facts_of p) ≡ option_map (entry_of (id_at p.held)) (nodes.next p.nodes)
+  pub next_same : next clients (facts_of p)
+      ≡ option_map (entry_of (id_at p.held)) (nodes.next_step p.nodes)
   next_same =
       first_same (id_at p.held) 0 p.nodes p.held
       (paired clients (facts_of p) p.table.groups p.nodes p.shares p.held s.named k (λ n h node a b. s.grouped n h node a b))
@@ -172,12 +179,14 @@ first_number all number (x ∷ xs) s e =
     ] refl e
 
 -- the next step is that of a node
-pub next_within : (ns : List Node) (s : Step) → nodes.next ns ≡ Some s → step_number s < length ns
+pub next_within : (ns : List Node) (s : Step) → nodes.next_step ns ≡ Some s
+    → step_number s < length ns
 next_within ns s e = let within = first_number ns 0 ns s e in omega (arith, within)
 
 -- ---- what the graph answers
 
-pub found_next : (clients : Meaning) (p : Parts) (s : IsState p) (k : KnowsJudgements clients (value_of p)) (o : Option Step) → o ≡ nodes.next p.nodes
+pub found_next : (clients : Meaning) (p : Parts) (s : IsState p)
+    (k : KnowsJudgements clients (value_of p)) (o : Option Step) → o ≡ nodes.next_step p.nodes
     → option_map (entry_of (id_at p.held)) o ≡ next clients (facts_of p)
 found_next clients p s k o e = ap (option_map (entry_of (id_at p.held))) e ∙ sym (next_same clients p s k)
 
@@ -189,6 +198,8 @@ none_left : (name : ℕ → Id) (o : Option Step) (x : Option Entry) (b : Bool) 
 none_left name None x b e f = (λ t. sym f, λ n. e)
 none_left name (Some y) x b e f = (λ t. absurd (false≢true (sym e ∙ t)), λ n. absurd (let wrong : Some (entry_of name y) ≡ None = f ∙ n in cc))
 
-pub settled_same : (clients : Meaning) (p : Parts) (s : IsState p) (k : KnowsJudgements clients (value_of p)) (o : Option Step) (b : Bool) → o ≡ nodes.next p.nodes → b ≡ is_none o
+pub settled_same : (clients : Meaning) (p : Parts) (s : IsState p)
+    (k : KnowsJudgements clients (value_of p)) (o : Option Step) (b : Bool)
+    → o ≡ nodes.next_step p.nodes → b ≡ is_none o
     → IsTrue b ↔ IsSettled clients (facts_of p)
 settled_same clients p s k o b e f = none_left (id_at p.held) o (next clients (facts_of p)) b f (found_next clients p s k o e)

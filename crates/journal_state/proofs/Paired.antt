@@ -49,13 +49,16 @@ there_from (x ∷ gs) g i n e =
     ] e
 
 -- the group of a number has the id
-group_named : (gs : List Known) (g : Id) (n : ℕ) → levels.number_of gs g ≡ Some n → (k : Known) × (slice_get gs (n - 0) ≡ Some k) × (k.id ≡ g)
+group_named : (gs : List Known) (g : Id) (n : ℕ) → levels.group_number gs g ≡ Some n
+    → (k : Known) × (slice_get gs (n - 0) ≡ Some k) × (k.id ≡ g)
 group_named gs g n e =
     let from : position_from (λ (k : Known). same_id k.id g) 0 gs ≡ Some n = sym (position_is (λ (k : Known). same_id k.id g) gs) ∙ e in
     let t = there_from gs g 0 n from in
     (t.0, t.1, id_is t.0.id g ((at_number gs g 0 n from).1 t.0 t.1))
 
-same_by : (gs : List Known) (g h : Id) (a b : ℕ) → levels.number_of gs g ≡ Some a → levels.number_of gs h ≡ Some b → (x : Bool) → nat_eq a b ≡ x → (y : Bool) → same_id g h ≡ y → x ≡ y
+same_by : (gs : List Known) (g h : Id) (a b : ℕ) → levels.group_number gs g ≡ Some a
+    → levels.group_number gs h ≡ Some b → (x : Bool) → nat_eq a b ≡ x → (y : Bool) → same_id g h ≡ y
+    → x ≡ y
 same_by gs g h a b p q true e true f = refl
 same_by gs g h a b p q false e false f = refl
 same_by gs g h a b p q true e false f =
@@ -67,11 +70,13 @@ same_by gs g h a b p q true e false f =
     absurd (false≢true (sym f ∙ (ap (same_id g) (sym ids) ∙ id_itself g)))
 same_by gs g h a b p q false e true f =
     let ids : g ≡ h = id_is g h f in
-    let same : a ≡ b = (let both : Some a ≡ Some b = sym p ∙ (ap (levels.number_of gs) ids ∙ q) in cc) in
+    let same : a ≡ b =
+    (let both : Some a ≡ Some b = sym p ∙ (ap (levels.group_number gs) ids ∙ q) in cc) in
     absurd (false≢true (sym e ∙ (ap (nat_eq a) (sym same) ∙ grind arith)))
 
 -- two groups have one number exactly where they have one id
-pub same_group : (gs : List Known) (g h : Id) (a b : ℕ) → levels.number_of gs g ≡ Some a → levels.number_of gs h ≡ Some b → nat_eq a b ≡ same_id g h
+pub same_group : (gs : List Known) (g h : Id) (a b : ℕ) → levels.group_number gs g ≡ Some a
+    → levels.group_number gs h ≡ Some b → nat_eq a b ≡ same_id g h
 same_group gs g h a b p q = same_by gs g h a b p q (nat_eq a b) refl (same_id g h) refl
 
 -- ---- nodes and messages
@@ -79,7 +84,7 @@ same_group gs g h a b p q = same_by gs g h a b p q (nat_eq a b) refl (same_id g 
 -- a node is that of a held message
 pub record IsOf (clients : Meaning) (f : Facts) (groups : List Known) (node : Node) (h : Held) : Type 0 where
   pub named : node.name ≡ h.id
-  pub grouped : levels.number_of groups h.message.group ≡ Some node.group
+  pub grouped : levels.group_number groups h.message.group ≡ Some node.group
   pub share : Bool
   pub answered : answer_of_node node.answer share ≡ answer_of clients f h
 
@@ -91,7 +96,8 @@ module _ (clients : Meaning) (f : Facts) (groups : List Known) where
   Each (n ∷ ns) (h ∷ hs) = IsOf clients f groups n h × Each ns hs
 
   abbrev Grouped : List Node → List Held → Type 0
-  Grouped ns hs = (n : ℕ) (h : Held) (node : Node) → slice_get hs n ≡ Some h → slice_get ns n ≡ Some node → levels.number_of groups h.message.group ≡ Some node.group
+  Grouped ns hs = (n : ℕ) (h : Held) (node : Node) → slice_get hs n ≡ Some h
+      → slice_get ns n ≡ Some node → levels.group_number groups h.message.group ≡ Some node.group
 
   pub paired : (ns : List Node) (shares : List Bool) (hs : List Held) → map (λ (n : Node). n.name) ns ≡ map (λ (h : Held). h.id) hs
       → answers_of ns shares ≡ map (answer_of clients f) hs → Grouped ns hs → Each ns hs

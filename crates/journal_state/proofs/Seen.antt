@@ -11,7 +11,8 @@ use Rattle.sync_rules.specs.Sessions.{is_author, is_sendable, is_ripe, owed_to, 
 use Rattle.sync_rules.specs.Views.{is_seen_in}
 use Rattle.retry_table.specs.Table as retry
 use Rattle.retry_table.specs.Table.{tried_of}
-use Rattle.retry_table.specs.Due.{numbers_where, is_open, is_sent_at, is_offered_at, owed_in, message_in, offers_in}
+use Rattle.retry_table.specs.Due.{numbers_where, may_be_sent, is_sent_at, is_offered_at, owed_in}
+use Rattle.retry_table.specs.Due.{message_in, offers_in}
 use Rattle.journal_state.specs.Parts.{Parts, answers_of, facts_of, shared_among}
 use Rattle.journal_state.specs.Whole.{IsState, id_at}
 use Rattle.journal_state.proofs.Rows.{row_by, row_found}
@@ -85,7 +86,8 @@ module _ (p : Parts) (s : IsState p) where
   shared = shared_among p.held (answers_of p.nodes p.shares)
 
   sendable_there : (contact n : ℕ) (h : Held) → contact < 256 → slice_get p.held n ≡ Some h
-      → is_sendable (facts_of p) (shared_among p.held (answers_of p.nodes p.shares)) contact h ≡ is_open (retry.kept_at p.retry contact n)
+      → is_sendable (facts_of p) (shared_among p.held (answers_of p.nodes p.shares)) contact h
+      ≡ may_be_sent (retry.kept_at p.retry contact n)
   sendable_there contact n h known at =
       regrouped (is_among (facts_of p).delivered h.id) (is_level_shared (level_at p.table.levels contact h.message.group)) (not (row_at (facts_of p).rows contact h.id).seen)
       (is_author h.origin || is_among (shared_among p.held (answers_of p.nodes p.shares)) h.id)

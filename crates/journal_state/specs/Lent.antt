@@ -32,7 +32,7 @@ judged_of (judgement.Accept deps share) = judged.Accepted deps
 -- a node is that of a held message: its id, the place of its group among the groups, its judgement if it is judged, and its end
 pub record IsNodeOf (s : StateValue) (h : Held) (answer : Option Judgement) (node : Node) : Type 0 where
   pub named : node.name ≡ h.id
-  pub grouped : levels.number_of s.facts.groups h.message.group ≡ Some node.group
+  pub grouped : levels.group_number s.facts.groups h.message.group ≡ Some node.group
   pub answered : node.answer ≡ option_map judged_of answer
   pub ended : node.ending ≡ ending_by (fin_set.contains s.facts.invalid h.id) (is_among s.facts.delivered h.id)
 

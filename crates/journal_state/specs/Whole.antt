@@ -62,7 +62,7 @@ pub record IsState (p : Parts) : Type 0 where
   -- the nodes are the held messages, in order, each with the number of its group, and no two have one id
   pub named : map (λ n. n.name) p.nodes ≡ map (λ h. h.id) p.held
   pub grouped : (n : ℕ) (h : Held) (node : Node) → slice_get p.held n ≡ Some h → slice_get p.nodes n ≡ Some node
-      → levels.number_of p.table.groups h.message.group ≡ Some node.group
+      → levels.group_number p.table.groups h.message.group ≡ Some node.group
   pub distinct : (n : ℕ) (h : Held) → slice_get p.held n ≡ Some h → place_of p.held h.id ≡ Some n
   pub each_share : length p.shares ≡ length p.nodes
   -- what is not judged has not ended

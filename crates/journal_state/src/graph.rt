@@ -2,7 +2,7 @@
 ghost use Rattle.std.specs.Prelude.{◌≡◌, ◌+◌, ◌-◌, ◌^◌, ◌<◌, ◌++◌, ◌∷◌, [], max, length, IfOk};
 ghost use Rattle.std.specs.Prelude.{OnOk, OnErr, None, Some, slice_get};
 ghost use Rattle.std.specs.Option.{option_map};
-ghost use Rattle.message_graph.specs.Nodes.{after_step, fate_of, fresh, next, number_of};
+ghost use Rattle.message_graph.specs.Nodes.{after_step, fate_of, fresh_node, next_step, node_number};
 ghost use Rattle.message_graph.specs.Nodes.{with_answer, EndsNode};
 ghost use Rattle.journal_state.specs.Left.{left_in};
 
@@ -54,12 +54,12 @@ impl CountedGraph {
 
     /// Holds a message of a group under a new name, and answers its number; takes no memory.
     pub(crate) fn hold(&mut self, name: [u8; 32], group: u32) -> u32
-        requires new { number_of self.old.nodes name ≡ None }
+        requires new { node_number self.old.nodes name ≡ None }
         requires room { 0 < self.old.spare }
         requires few { length self.old.nodes < 2 ^ 32 - 1 }
         ensures number { result ≡ length self.old.nodes }
         ensures nodes { self.new ≡ record {
-          nodes = self.old.nodes ++ fresh name group ∷ [];
+          nodes = self.old.nodes ++ fresh_node name group ∷ [];
           spare =
               self.old.spare - 1;
         } }
@@ -71,7 +71,7 @@ impl CountedGraph {
 
     /// The number of the node that has the name; `None` exactly where the name is new.
     pub(crate) fn number(&self, name: &[u8; 32]) -> Option<u32>
-        ensures { result ≡ number_of self.now.nodes name.now }
+        ensures { result ≡ node_number self.now.nodes name.now }
     {
         self.graph.number(name)
     }
@@ -92,7 +92,7 @@ impl CountedGraph {
     /// Takes the answer of a message's client, which is the next step. After an error all is as
     /// before.
     pub(crate) fn judged(&mut self, n: u32, answer: Judged) -> Result<(), AllocError>
-        requires { next self.old.nodes ≡ Some (Step.Judge n) }
+        requires { next_step self.old.nodes ≡ Some (Step.Judge n) }
         ensures ok { OnOk result
             (self.new ≡ record self.old { nodes = with_answer n answer self.old.nodes }) }
         ensures err { OnErr result (self.new ≡ self.old) }
@@ -105,14 +105,14 @@ impl CountedGraph {
     /// The next step: that of the least number that has one. `None` exactly where no node has a
     /// step.
     pub(crate) fn next(&self) -> Option<Step>
-        ensures { result ≡ next self.now.nodes }
+        ensures { result ≡ next_step self.now.nodes }
     {
         self.graph.next()
     }
 
     /// Makes the next step, which is no judgement; takes no memory.
     pub(crate) fn apply(&mut self, step: Step)
-        requires next { next self.old.nodes ≡ Some step }
+        requires next { next_step self.old.nodes ≡ Some step }
         requires ends { EndsNode step }
         ensures { self.new ≡ record self.old { nodes = after_step step self.old.nodes } }
     {

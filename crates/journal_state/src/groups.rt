@@ -6,7 +6,7 @@ ghost use Rattle.sync_rules.specs.Facts.{group_at};
 ghost use Rattle.sync_rules.specs.Lists.{is_among};
 ghost use Rattle.sync_rules.specs.Steps.{is_served};
 ghost use Rattle.sync_rules.specs.Views.{place_of};
-ghost use Rattle.visibility_table.specs.Table.{number_of};
+ghost use Rattle.visibility_table.specs.Table.{group_number};
 
 use crate::state::State;
 use message_graph::Fate;
@@ -16,7 +16,7 @@ use sync_rules::View;
 impl State {
     /// The number of the group of this id. `None` comes exactly where no group has it.
     pub fn group(&self, id: &GroupId) -> Option<u32>
-        ensures number { result ≡ number_of self.now.facts.groups id.now }
+        ensures number { result ≡ group_number self.now.facts.groups id.now }
         ensures within { IfSome result (λ n. n < length self.now.facts.groups) }
         ensures found { MatchOption result (group_at self.now.facts.groups id.now ≡ None)
             (λ n. slice_get self.now.facts.groups n ≡ group_at self.now.facts.groups id.now) }

@@ -28,7 +28,7 @@ use Rattle.mailbox_core.specs.Files.{box_ending, box_records}
 use Rattle.mailbox_core.specs.Laws.{ReadsAreBoxes}
 use Rattle.mailbox_core.specs.Reading.{HasReadBox, ReadsSome, ReadsTo, ReadsUntilFull}
 use Rattle.mailbox_core.specs.Taking.{AllTaken, NoRoomFor, SomeTaken, TakesTo, first_batch}
-use Rattle.mailbox_core.specs.Taking.{next_take}
+use Rattle.mailbox_core.specs.Taking.{batch_of_take}
 use Rattle.sync_words.specs.declared.outcome.Outcome.{Outcome}
 use Rattle.sync_words.specs.declared.outcome.Outcome.TheVariants as outcome
 use Rattle.sync_words.specs.Outcomes.{came_to}
@@ -97,7 +97,7 @@ lacked : (clients : Meaning) (session : ℕ) (s : StoreValue) (f : Facts) (k : �
     → Lacked clients session s f k rs more
 lacked clients session s f k [] more at = absurd at
 lacked clients session s f k (r ∷ rs) more (inl at) = record {
-  next = next_take s.state.facts session k r;
+  next = batch_of_take s.state.facts session k r;
   at = inl (at.0, refl);
   over = at.1;
 }

@@ -17,7 +17,7 @@ use Rattle.mailbox_core.specs.declared.ends.BoxEnding.{BoxEnding}
 use Rattle.mailbox_core.specs.declared.ends.BoxEnding.TheVariants as box
 use Rattle.mailbox_core.specs.Files.{box_ending, box_records}
 use Rattle.mailbox_core.specs.Reading.{ReadsSome, ReadsTo}
-use Rattle.mailbox_core.specs.Taking.{AllTaken, first_batch, next_take}
+use Rattle.mailbox_core.specs.Taking.{AllTaken, first_batch, batch_of_take}
 use Rattle.sync_words.specs.declared.outcome.Outcome.{Outcome}
 use Rattle.sync_words.specs.declared.outcome.Outcome.TheVariants as outcome
 use Rattle.mailbox_commands.specs.declared.taking.TheConstants.{MAX_MAIL}
@@ -43,7 +43,8 @@ taken_text n = codes "taken " ++ (decimal n ++ 10 ∷ [])
 abbrev pub IsNextTake : Facts → ℕ → List Entry → Facts → ℕ → List Record → List (List Entry)
     → Type 0
 IsNextTake last session next f k [] more = ⊥
-IsNextTake last session next f k (r ∷ rs) more = (more ≡ []) × (next ≡ next_take last session k r)
+IsNextTake last session next f k (r ∷ rs) more = (more ≡ [])
+    × (next ≡ batch_of_take last session k r)
 
 -- the next batch of the reading of records: that with which the session begins, or the next
 -- record's

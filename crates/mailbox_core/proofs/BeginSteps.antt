@@ -3,7 +3,7 @@ use Rattle.std.proofs.Common.{◌≡◌, ℕ, ◌<◌, true, false, cond, List, 
 use Rattle.std.proofs.Common.{refl, sym, ◌∙◌, ap, subst, inl, inr, arith, Some, None, is_some}
 use Rattle.std.proofs.Common.{nat_eq, eq-eqb, eqb-true, Result, Ok, Err}
 use Rattle.outside.specs.Outside.{Outside}
-use Rattle.record_stream.specs.Reading.{fresh}
+use Rattle.record_stream.specs.Reading.{fresh_reader}
 use Rattle.sync_ids.specs.declared.records.Record.{Record}
 use Rattle.sync_rules.specs.declared.entries.Entry.{Entry}
 use Rattle.sync_rules.specs.declared.entries.Entry.TheVariants as entry
@@ -227,20 +227,21 @@ module _ (clients : Meaning) (contact : ℕ) (bytes : List ℕ) (s : StoreValue)
               (takes_of s.state.facts.takes s.state.facts.begun) rs rest) same by_facts;
         }
 
-    whole : left_of fresh bytes ≡ record { records = box_records bytes; ending = box_ending bytes }
+    whole : left_of fresh_reader bytes
+        ≡ record { records = box_records bytes; ending = box_ending bytes }
     whole = left_first bytes
 
     abbrev From : (Facts → ℕ → List Record → Batches → Type 0) → Batches → Type 0
     From P more =
         TakesTo clients session.number P s1.state.facts (next_on s1 session.number)
-        (left_of fresh bytes).records more
+        (left_of fresh_reader bytes).records more
 
     some_behind : (more : Batches) → From (SomeTaken clients session.number) more
         → ReadsTo clients contact (SomeTaken clients s.state.facts.begun) s.state.facts
         (box_records bytes)
         (begun.more ++ more)
     some_behind more t =
-        behind (SomeTaken clients s.state.facts.begun) (left_of fresh bytes) more
+        behind (SomeTaken clients s.state.facts.begun) (left_of fresh_reader bytes) more
         (ap (λ (l : RecordsLeft). l.records) whole)
         (subst (λ (n : ℕ). From (SomeTaken clients n) more) begun.answer.2 t)
 
@@ -249,18 +250,19 @@ module _ (clients : Meaning) (contact : ℕ) (bytes : List ℕ) (s : StoreValue)
         (box_records bytes)
         (begun.more ++ more)
     full_behind more t =
-        behind (NoRoomFor s.state.facts.begun s2) (left_of fresh bytes) more
+        behind (NoRoomFor s.state.facts.begun s2) (left_of fresh_reader bytes) more
         (ap (λ (l : RecordsLeft). l.records) whole)
         (subst (λ (n : ℕ). From (NoRoomFor n s2) more) begun.answer.2 t)
 
     reads_so : (more : Batches) (result : Result BoxEnd StoreFault)
         → RestSo clients session.number s1 s2
-        (left_of fresh bytes) more result
+        (left_of fresh_reader bytes) more result
         → ReadsSo clients contact bytes s.state.facts s2 (begun.more ++ more) result
     reads_so more (Ok end) so = (
       so.0,
       so.1,
-      behind AllTaken (left_of fresh bytes) more (ap (λ (l : RecordsLeft). l.records) whole) so.2,
+      behind AllTaken (left_of fresh_reader bytes) more
+          (ap (λ (l : RecordsLeft). l.records) whole) so.2,
       so.3 ∙ ap (λ (l : RecordsLeft). length l.records) whole,
       so.4 ∙ ap (λ (l : RecordsLeft). l.ending) whole,
     )
@@ -270,7 +272,7 @@ module _ (clients : Meaning) (contact : ℕ) (bytes : List ℕ) (s : StoreValue)
     reads_so more (Err fault.DiskFault) so = (so.0, inr (some_behind more so.1))
 
     pub box_read : (result : Result BoxEnd StoreFault) → HasReadRest clients session.number s1 s2
-        (left_of fresh bytes)
+        (left_of fresh_reader bytes)
         result o1 o2
         → HasReadBox clients contact bytes s s2 result o o2
     box_read result has = record {
@@ -281,7 +283,7 @@ module _ (clients : Meaning) (contact : ℕ) (bytes : List ℕ) (s : StoreValue)
     }
 
     pub box_read_at : (left : RecordsLeft) (result : Result BoxEnd StoreFault)
-        → left ≡ left_of fresh bytes
+        → left ≡ left_of fresh_reader bytes
         → HasReadRest clients session.number s1 s2 left result o1 o2
         → HasReadBox clients contact bytes s s2 result o o2
     box_read_at left result is has =

@@ -19,7 +19,7 @@ use Rattle.sync_rules.proofs.SessionLaws.{legal_sessions}
 use Rattle.sync_rules.proofs.WorkLaws.{facts-push, settles_itself}
 use Rattle.mailbox_laws.specs.Boxes.{HearsAll, box_session, with_box}
 use Rattle.mailbox_core.specs.Laws.{OutputsAreSent, ReadsAreBoxes}
-use Rattle.mailbox_core.specs.Taking.{AllTaken, TakesRecord, TakesTo, next_take}
+use Rattle.mailbox_core.specs.Taking.{AllTaken, TakesRecord, TakesTo, batch_of_take}
 
 abbrev Batches : Type 0
 Batches = List (List Entry)
@@ -51,7 +51,7 @@ record_heard : (clients : Meaning) (session k : ℕ) (j : Batches) (r : Record) 
     → IsSettled clients (after_batches (facts j) more)
     → HearsRecord clients j session k r (j ++ more)
 record_heard clients session k j r more takes settled =
-    let its : List Entry = next_take (facts j) session k r in
+    let its : List Entry = batch_of_take (facts j) session k r in
     record {
       settles = record {
         more = takes.settling;

@@ -9,7 +9,7 @@ use Rattle.record_grammar.specs.declared.front.Reason.{Reason}
 use Rattle.record_stream.specs.Answers.{LeavesOf, told_by}
 use Rattle.record_stream.specs.declared.reader.Next.{Next}
 use Rattle.record_stream.specs.declared.reader.Next.TheVariants as next_kind
-use Rattle.record_stream.specs.Reading.{AwaitsBytes, ReaderState, ReadsOn, fresh}
+use Rattle.record_stream.specs.Reading.{AwaitsBytes, ReaderState, ReadsOn, fresh_reader}
 use Rattle.sync_ids.specs.declared.records.Record.{Record}
 use Rattle.mailbox_core.specs.declared.ends.BoxEnding.TheVariants as box
 use Rattle.sync_course.specs.Links.{closes}
@@ -24,7 +24,7 @@ abbrev ending_in : ReaderState → List ℕ → Ending
 ending_in r piece = ending r.place (r.bytes ++ (piece ++ []))
 
 -- a whole file
-pub left_first : (bytes : List ℕ) → left_of fresh bytes
+pub left_first : (bytes : List ℕ) → left_of fresh_reader bytes
     ≡ record { records = box_records bytes; ending = box_ending bytes }
 left_first bytes = λ i. record {
   records = records_to_take (items 0 (append-nil bytes i));

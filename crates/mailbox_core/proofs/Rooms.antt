@@ -14,7 +14,8 @@ use Rattle.sync_rules.specs.Allows.{is_settling_kind}
 use Rattle.sync_rules.specs.Clients.{Meaning}
 use Rattle.sync_rules.specs.Facts.{Facts, after_all}
 use Rattle.sync_rules.specs.Legal.{AllSettling, IsSettlingBatch}
-use Rattle.sync_rules.proofs.StepLaws.{IsSettlingEntry, next_is_settling}
+use Rattle.sync_rules.specs.EntryTests.{IsSettlingEntry}
+use Rattle.sync_rules.proofs.StepLaws.{next_is_settling}
 use Rattle.sync_store.specs.Commits.{KeepsStore, needed}
 use Rattle.sync_store.specs.Fitting.{FitsFiles, ImagesStand}
 use Rattle.sync_store.specs.Store.{IsStore, StoreValue, format_meant, written_in}

@@ -16,7 +16,7 @@ use Rattle.sync_rules.specs.Clients.{Meaning}
 use Rattle.sync_rules.specs.Facts.{Facts, after, after_all, after_batches, session_at}
 use Rattle.sync_rules.specs.Growth.{output_in, output_of}
 use Rattle.sync_rules.specs.Legal.{IsDue}
-use Rattle.sync_rules.specs.Output.{first_records, records_of}
+use Rattle.sync_rules.specs.Output.{first_records, out_records}
 use Rattle.sync_rules.specs.Steps.{IsSettled}
 use Rattle.sync_store.specs.declared.fault.StoreFault.{StoreFault}
 use Rattle.sync_store.specs.declared.fault.StoreFault.TheVariants as fault
@@ -84,11 +84,11 @@ output-append f session (x ∷ xs) ys =
 -- the record of one output
 out_adds : (f : Facts) (session now : ℕ) (what : Out) → output_of f session
     (out_batch session now what ∷ [])
-    ≡ records_of f.held what
+    ≡ out_records f.held what
 out_adds f session now what =
     append-nil (output_in f session (out_batch session now what))
-    ∙ (append-nil (cond (nat_eq session session) (records_of f.held what) [])
-    ∙ ap (λ b. cond b (records_of f.held what) []) (eq-eqb session session refl))
+    ∙ (append-nil (cond (nat_eq session session) (out_records f.held what) [])
+    ∙ ap (λ b. cond b (out_records f.held what) []) (eq-eqb session session refl))
 
 -- ---- one output
 
@@ -97,7 +97,7 @@ module _ (clients : Meaning) (session now : ℕ) (s s' : StoreValue) (to to' : L
   pub put_made : (u : Unit {0}) (what : Out) → IsDue clients s.state.facts
       (session_at s.state.facts.sessions session)
       now what
-      → to' ≡ to ++ spelled (records_of s.state.facts.held what) → HasCommitted clients s s'
+      → to' ≡ to ++ spelled (out_records s.state.facts.held what) → HasCommitted clients s s'
       (out_batch session now what) (Ok u) o o'
       → HasPut clients session now s s' to to' (Ok true) o o'
   put_made u what due bytes has = record {

@@ -29,7 +29,7 @@ use Rattle.sync_store.specs.Rooms.{StoreComesTo}
 use Rattle.mailbox_core.specs.Sending.{IsSessionQuiet, SendsAll, SendsSome, SendsUntilFull}
 use Rattle.mailbox_core.specs.Sending.{batch_session}
 use Rattle.mailbox_core.specs.Taking.{AllTaken, NoRoomFor, SomeTaken, TakesRecord, TakesTo}
-use Rattle.mailbox_core.specs.Taking.{first_batch, next_take}
+use Rattle.mailbox_core.specs.Taking.{first_batch, batch_of_take}
 
 -- a settled store that is ready and has this session
 pub record IsOpenFor (clients : Meaning) (session : Session) (s : StoreValue)
@@ -87,7 +87,7 @@ TakesSo clients session r s s' more (Ok _) =
 TakesSo clients session r s s' more (Err fault.Closed) = ⊥
 TakesSo clients session r s s' more (Err fault.Full) =
     (s'.closed ≡ false) × IsSettled clients s'.state.facts × (more ≡ [])
-    × (s'.limit < needed s' (next_take s'.state.facts session (next_on s session) r))
+    × (s'.limit < needed s' (batch_of_take s'.state.facts session (next_on s session) r))
 TakesSo clients session r s s' more (Err fault.Memory) =
     (s'.closed ≡ false) × ((more ≡ [])
     ⊎ TakesRecord clients s.state.facts session (next_on s session) r more)

@@ -4,7 +4,7 @@ use Rattle.std.specs.Option.{option_map}
 use Rattle.std.proofs.lemmas.Bool.{true≢false, false_from_ne_true}
 use Rattle.message_graph.specs.declared.nodes.Node.{Node}
 use Rattle.message_graph.specs.declared.states.Waiting.{Waiting}
-use Rattle.message_graph.specs.Nodes.{same_name, node_named, number_of, change}
+use Rattle.message_graph.specs.Nodes.{same_name, node_named, node_number, change}
 use Rattle.message_graph.specs.Waits.{wait_at, group_at}
 use Rattle.message_graph.specs.Whole.{dependencies, dependencies_at, occurrences}
 use Rattle.message_graph.proofs.Positions.{place, Tells, position-place, position_tells, place_pushed, position-push}
@@ -72,23 +72,31 @@ module _ (f : Node → Node) where
     place-change name (suc n) (node ∷ nodes) = ap (λ o. cond (same_name name node.name) (Some 0) (option_map suc o)) (place-change name n nodes)
 
     -- a change that keeps names keeps the numbers
-    pub number_of-change : (nodes : List Node) (n : ℕ) (name : List ℕ) → number_of (change f n nodes) name ≡ number_of nodes name
+    pub number_of-change : (nodes : List Node) (n : ℕ) (name : List ℕ)
+        → node_number (change f n nodes) name ≡ node_number nodes name
     number_of-change nodes n name =
         position-place (λ (node : Node). same_name name node.name) (change f n nodes) ∙ place-change name n nodes ∙ sym (position-place (λ (node : Node). same_name name node.name) nodes)
 
     -- and changes what holds that node's name alone
-    pub differs-change : (nodes : List Node) (n : ℕ) (node : Node) → slice_get nodes n ≡ Some node → number_of nodes node.name ≡ Some n → Differs (node_named nodes) (node_named (change f n nodes)) node.name (Some node) (f node)
+    pub differs-change : (nodes : List Node) (n : ℕ) (node : Node) → slice_get nodes n ≡ Some node
+        → node_number nodes node.name ≡ Some n
+        → Differs (node_named nodes) (node_named (change f n nodes)) node.name (Some node) (f node)
     differs-change nodes n node at own = record {
-      there = λ name e. let is : name ≡ node.name = sym (same_equal node.name name e) in node_named-number nodes name ∙ ap (node_at nodes) (ap (number_of nodes) is ∙ own) ∙ at;
+      there = λ name e. let is : name ≡ node.name = sym (same_equal node.name name e) in
+          node_named-number nodes name ∙ ap (node_at nodes) (ap (node_number nodes) is ∙ own) ∙ at;
       shows = λ name e. let is : name ≡ node.name = sym (same_equal node.name name e) in
-          node_named-number (change f n nodes) name ∙ ap (node_at (change f n nodes)) (number_of-change nodes n name ∙ ap (number_of nodes) is ∙ own) ∙ get-change_same nodes n node at;
+          node_named-number (change f n nodes) name
+          ∙ ap (node_at (change f n nodes))
+          (number_of-change nodes n name ∙ ap (node_number nodes) is ∙ own)
+          ∙ get-change_same nodes n node at;
       others = λ name e.
           node_named-number (change f n nodes) name ∙ ap (node_at (change f n nodes)) (number_of-change nodes n name)
-          ∙ by name e (number_of nodes name) refl
+          ∙ by name e (node_number nodes name) refl
           ∙ sym (node_named-number nodes name);
     }
       where
-        by : (name : List ℕ) → same_name node.name name ≡ false → (o : Option ℕ) → number_of nodes name ≡ o → node_at (change f n nodes) o ≡ node_at nodes o
+        by : (name : List ℕ) → same_name node.name name ≡ false → (o : Option ℕ)
+            → node_number nodes name ≡ o → node_at (change f n nodes) o ≡ node_at nodes o
         by name e None h = refl
         by name e (Some k) h = get-change_other nodes n k (λ same.
             let t : Tells (λ (m : Node). same_name name m.name) nodes (Some k) = subst (Tells (λ (m : Node). same_name name m.name) nodes) h (position_tells (λ (m : Node). same_name name m.name) nodes) in
@@ -123,23 +131,35 @@ dependencies_at-push [] m (suc k) h = refl
 dependencies_at-push (x ∷ nodes) m zero h = refl
 dependencies_at-push (x ∷ nodes) m (suc k) h = dependencies_at-push nodes m k h
 
-module _ (nodes : List Node) (m : Node) (new : number_of nodes m.name ≡ None) where
-  pub number_of-push : (name : List ℕ) → number_of (nodes ++ m ∷ []) name ≡ place_pushed (λ (node : Node). same_name name node.name) nodes m (number_of nodes name)
+module _ (nodes : List Node) (m : Node) (new : node_number nodes m.name ≡ None) where
+  pub number_of-push : (name : List ℕ)
+      → node_number (nodes ++ m ∷ []) name
+      ≡ place_pushed (λ (node : Node). same_name name node.name) nodes m (node_number nodes name)
   number_of-push name = position-push (λ (node : Node). same_name name node.name) nodes m
 
   -- a new name that was none of the old
   pub differs-push : Differs (node_named nodes) (node_named (nodes ++ m ∷ [])) m.name None m
   differs-push = record {
-    there = λ name e. let is : name ≡ m.name = sym (same_equal m.name name e) in node_named-number nodes name ∙ ap (node_at nodes) (ap (number_of nodes) is ∙ new);
+    there = λ name e. let is : name ≡ m.name = sym (same_equal m.name name e) in
+        node_named-number nodes name ∙ ap (node_at nodes) (ap (node_number nodes) is ∙ new);
     shows = λ name e. let is : name ≡ m.name = sym (same_equal m.name name e) in
-        node_named-number (nodes ++ m ∷ []) name ∙ ap (node_at (nodes ++ m ∷ [])) (number_of-push name ∙ ap (place_pushed (λ (node : Node). same_name name node.name) nodes m) (ap (number_of nodes) is ∙ new)
+        node_named-number (nodes ++ m ∷ []) name
+        ∙ ap (node_at (nodes ++ m ∷ []))
+        (number_of-push name
+        ∙ ap (place_pushed (λ (node : Node). same_name name node.name) nodes m)
+        (ap (node_number nodes) is ∙ new)
         ∙ ap (λ b. cond b (Some (length nodes)) None) (ap (same_name name) (sym is) ∙ same_refl name)) ∙ get-push_new nodes m;
-    others = λ name e. node_named-number (nodes ++ m ∷ []) name ∙ ap (node_at (nodes ++ m ∷ [])) (number_of-push name) ∙ by name e (number_of nodes name) refl ∙ sym (node_named-number nodes name);
+    others = λ name e. node_named-number (nodes ++ m ∷ []) name
+        ∙ ap (node_at (nodes ++ m ∷ [])) (number_of-push name)
+        ∙ by name e (node_number nodes name) refl ∙ sym (node_named-number nodes name);
   }
     where
       unlike : (name : List ℕ) → same_name m.name name ≡ false → same_name name m.name ≡ false
       unlike name e = false_from_ne_true (same_name name m.name) (λ alike. true≢false (sym (same_refl m.name) ∙ ap (same_name m.name) (sym (same_equal name m.name alike)) ∙ e))
 
-      by : (name : List ℕ) → same_name m.name name ≡ false → (o : Option ℕ) → number_of nodes name ≡ o → node_at (nodes ++ m ∷ []) (place_pushed (λ (node : Node). same_name name node.name) nodes m o) ≡ node_at nodes o
+      by : (name : List ℕ) → same_name m.name name ≡ false → (o : Option ℕ)
+          → node_number nodes name ≡ o
+          → node_at (nodes ++ m ∷ [])
+          (place_pushed (λ (node : Node). same_name name node.name) nodes m o) ≡ node_at nodes o
       by name e None h = ap (λ b. node_at (nodes ++ m ∷ []) (cond b (Some (length nodes)) None)) (unlike name e)
       by name e (Some k) h = let there = node_there nodes k (number_within nodes name k h) in get-push_old nodes m k there.0 there.1 ∙ sym there.1

@@ -9,7 +9,8 @@ use Rattle.message_graph.specs.declared.nodes.Ending.TheVariants as ending
 use Rattle.message_graph.specs.declared.states.Waiting.{Waiting}
 use Rattle.message_graph.specs.declared.states.Waiting.TheVariants as waiting
 use Rattle.message_graph.specs.declared.states.News.TheVariants as news
-use Rattle.message_graph.specs.Nodes.{same_name, node_named, number_of, is_invalid, is_delivered, fresh, with_answer, with_ending}
+use Rattle.message_graph.specs.Nodes.{same_name, node_named, node_number, is_invalid, is_delivered}
+use Rattle.message_graph.specs.Nodes.{fresh_node, with_answer, with_ending}
 use Rattle.message_graph.specs.Waits.{NodeWaits, missing, waiting_open, waiting_by, waiting_of, told_times, wait_at, group_at}
 use Rattle.message_graph.specs.Links.{WaitIndex, Numbers, holder_of, edge_at, count_before, first_for}
 use Rattle.message_graph.specs.Whole.{occurrences, dependencies, dependencies_at, IsGraph, ending_news}
@@ -76,7 +77,7 @@ module _ (nodes : List Node) (links : WaitIndex) (states : NodeWaits) (spare : �
         holders = λ name. g.holders name ∙ sym (number_of-change f keeps nodes n name);
         own = λ k m h. number_of-change f keeps nodes n m.name ∙ elim (cases_eq k n) [
           | inl same ↦ let is : f node ≡ m = (let c : Some (f node) ≡ Some m = sym (get-change_same f nodes n node at) ∙ ap (slice_get now) (sym same) ∙ h in cc) in
-              ap (λ (x : Node). number_of nodes x.name) (sym is) ∙ own ∙ ap Some (sym same)
+              ap (λ (x : Node). node_number nodes x.name) (sym is) ∙ own ∙ ap Some (sym same)
           | inr other ↦ g.own k m (sym (get-change_other f nodes n k other) ∙ h)
         ];
         waits = same_waits after.waits (waiting_of (node_named now)) now (len ∙ many ∙ sym (length-change f n nodes)) (λ k m h. told k ∙ elim (cases_eq k n) [
@@ -123,7 +124,7 @@ module _ (nodes : List Node) (links : WaitIndex) (states : NodeWaits) (spare : �
         holders = λ name. holders name ∙ g.holders name ∙ sym (number_of-change f keeps nodes n name);
         own = λ k m h. number_of-change f keeps nodes n m.name ∙ elim (cases_eq k n) [
           | inl same ↦ let is : f node ≡ m = (let c : Some (f node) ≡ Some m = sym (get-change_same f nodes n node at) ∙ ap (slice_get now) (sym same) ∙ h in cc) in
-              ap (λ (x : Node). number_of nodes x.name) (sym is) ∙ own ∙ ap Some (sym same)
+              ap (λ (x : Node). node_number nodes x.name) (sym is) ∙ own ∙ ap Some (sym same)
           | inr other ↦ g.own k m (sym (get-change_other f nodes n k other) ∙ h)
         ];
         waits = same_waits later.waits (waiting_of (node_named now)) now (ap length waits ∙ length-set states.waits n (waiting_open (node_named nodes) node.group answer) ∙ many ∙ sym (length-change f n nodes)) (λ k m h. ap (λ w. wait_at w k) waits ∙ elim (cases_eq k n) [
@@ -168,23 +169,33 @@ module _ (nodes : List Node) (links : WaitIndex) (states : NodeWaits) (spare : �
       plus_none k = omega arith
 
   -- a node was held under a new name, and those that wait for it were told
-  pub hold_kept : (name : List ℕ) (group : ℕ) (after : WaitIndex) (later : NodeWaits) → number_of nodes name ≡ None → length nodes < 2 ^ 32 - 1 → 0 < spare
+  pub hold_kept : (name : List ℕ) (group : ℕ) (after : WaitIndex) (later : NodeWaits)
+      → node_number nodes name ≡ None → length nodes < 2 ^ 32 - 1 → 0 < spare
       → ((other : List ℕ) → holder_of after other ≡ (if same_name other name then Some (length nodes) else holder_of links other)) → after.numbers.names ≡ links.numbers.names ++ name ∷ [] → links.numbers.room ≤ after.numbers.room + 1 → after.edges ≡ links.edges → links.room ≤ after.room + 1
       → length later.waits ≡ length nodes + 1 → later.room + 1 ≡ states.room
-      → ((k : ℕ) → wait_at later.waits k ≡ told_times (news.Arrived group) (group_at (nodes ++ fresh name group ∷ []) k) (count_before after.edges name k (length after.edges)) (wait_at (states.waits ++ waiting.Unjudged ∷ []) k))
-      → IsGraph (nodes ++ fresh name group ∷ []) after later (spare - 1)
+      → ((k : ℕ)
+      → wait_at later.waits k ≡ told_times (news.Arrived group)
+      (group_at (nodes ++ fresh_node name group ∷ []) k)
+      (count_before after.edges name k (length after.edges))
+      (wait_at (states.waits ++ waiting.Unjudged ∷ []) k))
+      → IsGraph (nodes ++ fresh_node name group ∷ []) after later (spare - 1)
   hold_kept name group after later new few spares holders one_more left edges room len places told =
-      let m = fresh name group in
+      let m = fresh_node name group in
       let now = nodes ++ m ∷ [] in
       let d = differs-push nodes m new in
       let many = many_waits nodes links states spare g in
       let total : length now ≡ length nodes + 1 = length-append nodes (m ∷ []) in
       record {
         few = omega (arith, total);
-        holders = λ other. holders other ∙ sym (number_of-push nodes m new other ∙ pushed other (number_of nodes other) refl ∙ ap (λ o. if same_name other name then Some (length nodes) else o) (sym (g.holders other)));
+        holders = λ other. holders other
+            ∙ sym (number_of-push nodes m new other ∙ pushed other (node_number nodes other) refl
+            ∙ ap (λ o. if same_name other name then Some (length nodes) else o)
+            (sym (g.holders other)));
         own = λ k x h. elim (get-push_cases nodes m k x h) [
           | inl old ↦ number_of-push nodes m new x.name ∙ ap (place_pushed (λ (node : Node). same_name x.name node.name) nodes m) (g.own k x old)
-          | inr last ↦ ap (λ (y : Node). number_of now y.name) (sym last.1) ∙ number_of-push nodes m new name ∙ ap (place_pushed (λ (node : Node). same_name name node.name) nodes m) new
+          | inr last ↦ ap (λ (y : Node). node_number now y.name) (sym last.1)
+              ∙ number_of-push nodes m new name
+              ∙ ap (place_pushed (λ (node : Node). same_name name node.name) nodes m) new
               ∙ ap (λ b. cond b (Some (length nodes)) None) (same_refl name) ∙ ap Some (sym last.0)
         ];
         waits = same_waits later.waits (waiting_of (node_named now)) now (len ∙ sym total) (λ k x h. told k ∙ elim (get-push_cases nodes m k x h) [
@@ -209,17 +220,37 @@ module _ (nodes : List Node) (links : WaitIndex) (states : NodeWaits) (spare : �
         places = omega (arith, g.places);
       }
     where
-      pushed : (other : List ℕ) (o : Option ℕ) → number_of nodes other ≡ o → place_pushed (λ (node : Node). same_name other node.name) nodes (fresh name group) o ≡ (if same_name other name then Some (length nodes) else o)
+      pushed : (other : List ℕ) (o : Option ℕ) → node_number nodes other ≡ o
+          → place_pushed (λ (node : Node). same_name other node.name) nodes
+          (fresh_node name group) o ≡ (if same_name other name then Some (length nodes) else o)
       pushed other None h = refl
-      pushed other (Some k) h = sym (ap (λ b. if b then Some (length nodes) else Some k) (false_from_ne_true (same_name other name) (λ alike. let c : None ≡ Some k = sym new ∙ ap (number_of nodes) (sym (same_equal other name alike)) ∙ h in cc)))
+      pushed other (Some k) h =
+          sym (ap (λ b. if b then Some (length nodes) else Some k)
+          (false_from_ne_true (same_name other name)
+          (λ alike. let c : None ≡ Some k = sym new
+          ∙ ap (node_number nodes) (sym (same_equal other name alike)) ∙ h in cc)))
 
-      arrival_told : (other : ℕ) (names : List (List ℕ)) → missing (node_named (nodes ++ fresh name group ∷ [])) other names ≡ lack_times (news.Arrived group) other (occurrences name names) (missing (node_named nodes) other names)
+      arrival_told : (other : ℕ) (names : List (List ℕ))
+          → missing (node_named (nodes ++ fresh_node name group ∷ [])) other names
+          ≡ lack_times (news.Arrived group) other (occurrences name names)
+          (missing (node_named nodes) other names)
       arrival_told other names =
-          let d = differs-push nodes (fresh name group) new in
-          elim (group == other) as (λ b. group == other ≡ b → missing (node_named (nodes ++ fresh name group ∷ [])) other names ≡ lack_times (news.Arrived group) other (occurrences name names) (missing (node_named nodes) other names)) [
-            | true ↦ λ same. missing_same (node_named nodes) (node_named (nodes ++ fresh name group ∷ [])) name None (fresh name group) d other (λ i. not (same i) || false) (λ i. same i && false) names
+          let d = differs-push nodes (fresh_node name group) new in
+          elim (group == other) as
+          (λ b. group == other ≡ b
+          → missing (node_named (nodes ++ fresh_node name group ∷ [])) other names
+          ≡ lack_times (news.Arrived group) other (occurrences name names)
+          (missing (node_named nodes) other names)) [
+            | true ↦ λ same. missing_same (node_named nodes)
+                (node_named (nodes ++ fresh_node name group ∷ [])) name None
+                (fresh_node name group) d other (λ i. not (same i) || false)
+                (λ i. same i && false) names
                 ∙ sym (stays other same (occurrences name names) (missing (node_named nodes) other names))
-            | false ↦ λ apart. missing_doomed (node_named nodes) (node_named (nodes ++ fresh name group ∷ [])) name None (fresh name group) d other (news.Arrived group) (λ count i. if apart i then Some count else None) (λ i. not (apart i) || false) names
+            | false ↦ λ apart. missing_doomed (node_named nodes)
+                (node_named (nodes ++ fresh_node name group ∷ [])) name None
+                (fresh_node name group) d other (news.Arrived group)
+                (λ count i. if apart i then Some count else None)
+                (λ i. not (apart i) || false) names
           ] refl
         where
           stays : (other : ℕ) → group == other ≡ true → (times : ℕ) (o : Option ℕ) → lack_times (news.Arrived group) other times o ≡ o

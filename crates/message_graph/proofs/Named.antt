@@ -2,7 +2,7 @@
 use Rattle.std.proofs.Common.{◌≡◌, ℕ, suc, ◌<◌, true, false, cond, if◌then◌else◌, List, [], ◌∷◌, length, Option, None, Some, slice_get, refl, sym, ap, subst, ◌∙◌}
 use Rattle.std.specs.Option.{option_map}
 use Rattle.message_graph.specs.declared.nodes.Node.{Node}
-use Rattle.message_graph.specs.Nodes.{same_name, node_named, number_of}
+use Rattle.message_graph.specs.Nodes.{same_name, node_named, node_number}
 use Rattle.message_graph.proofs.Positions.{place, Tells, position-place, position_tells}
 
 -- the node at a number that may be missing
@@ -23,9 +23,11 @@ node_named-place (node ∷ nodes) name =
     ]
 
 -- the node of a name is that of its number
-pub node_named-number : (nodes : List Node) (name : List ℕ) → node_named nodes name ≡ node_at nodes (number_of nodes name)
+pub node_named-number : (nodes : List Node) (name : List ℕ)
+    → node_named nodes name ≡ node_at nodes (node_number nodes name)
 node_named-number nodes name = node_named-place nodes name ∙ ap (node_at nodes) (sym (position-place (λ (node : Node). same_name name node.name) nodes))
 
-pub number_within : (nodes : List Node) (name : List ℕ) (number : ℕ) → number_of nodes name ≡ Some number → number < length nodes
+pub number_within : (nodes : List Node) (name : List ℕ) (number : ℕ)
+    → node_number nodes name ≡ Some number → number < length nodes
 number_within nodes name number found =
     let t : Tells (λ (n : Node). same_name name n.name) nodes (Some number) = subst (Tells (λ (n : Node). same_name name n.name) nodes) found (position_tells (λ (n : Node). same_name name n.name) nodes) in t.0

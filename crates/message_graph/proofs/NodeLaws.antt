@@ -9,7 +9,9 @@ use Rattle.message_graph.specs.declared.nodes.Ending.{Ending}
 use Rattle.message_graph.specs.declared.nodes.Ending.TheVariants as ending
 use Rattle.message_graph.specs.declared.nodes.Step.{Step}
 use Rattle.message_graph.specs.declared.nodes.Step.TheVariants as step
-use Rattle.message_graph.specs.Nodes.{same_name, node_named, number_of, fails, serves, step_judged, step_by, step_of, or_else, first_step, next, change}
+use Rattle.message_graph.specs.Nodes.{same_name, node_named, node_number, fails, serves}
+use Rattle.message_graph.specs.Nodes.{step_judged, step_by, step_of, or_else, first_step, next_step}
+use Rattle.message_graph.specs.Nodes.{change}
 use Rattle.message_graph.specs.Whole.{ending_step}
 
 -- ---- numbers
@@ -29,7 +31,8 @@ numbered_from (node ∷ nodes) name number =
     ]
 
 -- a name has a number exactly where it has a node
-pub number_of-node_named : (nodes : List Node) (name : List ℕ) → is_some (number_of nodes name) ≡ is_some (node_named nodes name)
+pub number_of-node_named : (nodes : List Node) (name : List ℕ)
+    → is_some (node_number nodes name) ≡ is_some (node_named nodes name)
 number_of-node_named nodes name = ap is_some (position_from-zero (λ (node : Node). same_name name node.name) nodes) ∙ numbered_from nodes name 0
 
 -- a changed node leaves their number
@@ -95,14 +98,16 @@ end_tells held number node (Some answer) n e is h =
     let r = end_judged held number node.group answer node.ending n e h in (record { answer = answer; given = is; goes_on = r.0 }, r.1)
 
 -- the node of a judgement, and of an ending
-pub next_judge : (nodes : List Node) (n : ℕ) → next nodes ≡ Some (step.Judge n) → (node : Node) × (slice_get nodes n ≡ Some node) × (node.answer ≡ None)
+pub next_judge : (nodes : List Node) (n : ℕ) → next_step nodes ≡ Some (step.Judge n)
+    → (node : Node) × (slice_get nodes n ≡ Some node) × (node.answer ≡ None)
 next_judge nodes n h =
     let r = first_step_tells nodes 0 nodes (step.Judge n) h in
     let t = judge_tells (node_named nodes) (0 + r.0) r.1 r.1.answer n r.3 in
     let is : r.0 ≡ n = omega (arith, t.1) in
     (r.1, ap (λ k. slice_get nodes k) (sym is) ∙ r.2, t.0)
 
-pub next_end : (nodes : List Node) (n : ℕ) (e : Ending) → next nodes ≡ Some (ending_step e n) → (node : Node) × (slice_get nodes n ≡ Some node) × HasAnswer node
+pub next_end : (nodes : List Node) (n : ℕ) (e : Ending) → next_step nodes ≡ Some (ending_step e n)
+    → (node : Node) × (slice_get nodes n ≡ Some node) × HasAnswer node
 next_end nodes n e h =
     let r = first_step_tells nodes 0 nodes (ending_step e n) h in
     let t = end_tells (node_named nodes) (0 + r.0) r.1 r.1.answer n e refl r.3 in

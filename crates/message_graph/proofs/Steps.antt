@@ -11,7 +11,8 @@ use Rattle.message_graph.specs.declared.nodes.Step.{Step}
 use Rattle.message_graph.specs.declared.nodes.Step.TheVariants as step
 use Rattle.message_graph.specs.declared.states.Waiting.{Waiting}
 use Rattle.message_graph.specs.declared.states.Waiting.TheVariants as waiting
-use Rattle.message_graph.specs.Nodes.{node_named, fails, serves, step_accepted, step_judged, step_by, or_else, first_step, next}
+use Rattle.message_graph.specs.Nodes.{node_named, fails, serves, step_accepted, step_judged}
+use Rattle.message_graph.specs.Nodes.{step_by, or_else, first_step, next_step}
 use Rattle.message_graph.specs.Waits.{with_dependency, missing, from_missing, waiting_by, waiting_of, step_missing, step_waiting, none_missing, has_step, wait_at}
 
 abbrev not_some : Option ℕ → Bool
@@ -96,7 +97,9 @@ first-waiting nodes whole number (node ∷ rest) agree =
     ]
 
 -- the next step is that of the first node that waits for no other
-pub next-waiting : (nodes : List Node) (waits : List Waiting) → waits ≡ map (waiting_of (node_named nodes)) nodes → next nodes ≡ step_at waits (position_from has_step 0 waits)
+pub next-waiting : (nodes : List Node) (waits : List Waiting)
+    → waits ≡ map (waiting_of (node_named nodes)) nodes
+    → next_step nodes ≡ step_at waits (position_from has_step 0 waits)
 next-waiting nodes waits h =
     first-waiting nodes waits 0 nodes (λ k. ap (wait_at waits) (omega arith) ∙ ap (λ w. wait_at w k) h) ∙ ap (λ w. step_at waits (position_from has_step 0 w)) (sym h)
 
@@ -119,7 +122,10 @@ none_missing_delivers number zero h = refl
 none_missing_delivers number (suc count) h = absurd (true≢false (sym h))
 
 -- the next step, where what its node waits for was read
-pub next_read : (nodes : List Node) (waits : List Waiting) (number : ℕ) (wait : Waiting) → waits ≡ map (waiting_of (node_named nodes)) nodes → position_from has_step 0 waits ≡ Some number → slice_get waits number ≡ Some wait → (next nodes ≡ step_waiting number wait) × (has_step wait ≡ true)
+pub next_read : (nodes : List Node) (waits : List Waiting) (number : ℕ) (wait : Waiting)
+    → waits ≡ map (waiting_of (node_named nodes)) nodes
+    → position_from has_step 0 waits ≡ Some number → slice_get waits number ≡ Some wait
+    → (next_step nodes ≡ step_waiting number wait) × (has_step wait ≡ true)
 next_read nodes waits number wait h found read =
     let at : wait_at waits number ≡ wait = get_or_from_slice_get waits number wait waiting.Ended read in
     (next-waiting nodes waits h ∙ ap (step_at waits) found ∙ ap (step_waiting number) at, ap has_step (sym at) ∙ (first_tells waits number found).1)

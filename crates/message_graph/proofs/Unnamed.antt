@@ -4,7 +4,8 @@ use Rattle.std.specs.Option.{option_map}
 use Rattle.message_graph.specs.declared.nodes.Node.{Node}
 use Rattle.message_graph.specs.declared.nodes.Unnamed.{Unnamed}
 use Rattle.std.proofs.lemmas.Option.{get_or_from_slice_get}
-use Rattle.message_graph.specs.Nodes.{with_name, with_names, change, fate_of, fate_by, node_named, number_of, same_name}
+use Rattle.message_graph.specs.Nodes.{with_name, with_names, change, fate_of, fate_by, node_named}
+use Rattle.message_graph.specs.Nodes.{node_number, same_name}
 use Rattle.message_graph.specs.Waits.{group_at, group_in}
 use Rattle.message_graph.proofs.Linked.{same_equal}
 use Rattle.message_graph.proofs.Named.{node_named-number, node_at}
@@ -69,7 +70,9 @@ fate_there (x ∷ names) (y ∷ rests) zero rest h l r = (λ i. Some (fate_by (s
 fate_there (x ∷ names) (y ∷ rests) (suc k) rest h l r = fate_there names rests k rest (omega arith) (omega arith) r
 
 -- the rest at the number of a name is that of the node of that name
-pub named_rest : (names : List (List ℕ)) (rests : List Unnamed) (name : List ℕ) (k : ℕ) (rest : Unnamed) → number_of (with_names names rests) name ≡ Some k → rest ≡ get_or rests k rest
+pub named_rest : (names : List (List ℕ)) (rests : List Unnamed) (name : List ℕ) (k : ℕ)
+    (rest : Unnamed) → node_number (with_names names rests) name ≡ Some k
+    → rest ≡ get_or rests k rest
     → Some (with_name name rest) ≡ node_named (with_names names rests) name
 named_rest names rests name k rest found read =
     let nodes = with_names names rests in

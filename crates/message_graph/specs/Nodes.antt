@@ -38,8 +38,8 @@ node_named [] name = None
 node_named (node ∷ nodes) name = if same_name name node.name then Some node else node_named nodes name
 
 -- the number of the node that has the name
-abbrev pub number_of : List Node → List ℕ → Option ℕ
-number_of nodes name = position (λ node. same_name name node.name) nodes
+abbrev pub node_number : List Node → List ℕ → Option ℕ
+node_number nodes name = position (λ node. same_name name node.name) nodes
 
 -- whether the node ended as invalid, and as delivered
 abbrev pub is_invalid : Option Ending → Bool
@@ -103,8 +103,8 @@ first_step nodes number [] = None
 first_step nodes number (node ∷ rest) = or_else (step_of nodes number node) (first_step nodes (number + 1) rest)
 
 -- the next step: that of the least number that has one
-abbrev pub next : List Node → Option Step
-next nodes = first_step nodes 0 nodes
+abbrev pub next_step : List Node → Option Step
+next_step nodes = first_step nodes 0 nodes
 
 -- the fate of a node that has no ending, by its answer
 abbrev pub fate_open : Option Judged → Fate
@@ -121,8 +121,8 @@ abbrev pub fate_of : Node → Fate
 fate_of node = fate_by node.answer node.ending
 
 -- a node that was just held
-abbrev pub fresh : List ℕ → ℕ → Node
-fresh name group = record { name = name; group = group; answer = None; ending = None }
+abbrev pub fresh_node : List ℕ → ℕ → Node
+fresh_node name group = record { name = name; group = group; answer = None; ending = None }
 
 -- the list with one node changed
 abbrev pub change : (Node → Node) → ℕ → List Node → List Node

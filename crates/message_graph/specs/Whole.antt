@@ -9,7 +9,7 @@ use Rattle.message_graph.specs.declared.nodes.Step.{Step}
 use Rattle.message_graph.specs.declared.nodes.Step.TheVariants as step
 use Rattle.message_graph.specs.declared.states.News.{News}
 use Rattle.message_graph.specs.declared.states.News.TheVariants as news
-use Rattle.message_graph.specs.Nodes.{same_name, node_named, number_of}
+use Rattle.message_graph.specs.Nodes.{same_name, node_named, node_number}
 use Rattle.message_graph.specs.Waits.{NodeWaits, waiting_of}
 use Rattle.message_graph.specs.Links.{WaitIndex, holder_of, count_before, first_for}
 
@@ -33,7 +33,7 @@ dependencies_at (node ∷ nodes) (suc number) = dependencies_at nodes number
 -- the number of the node that holds a name, if there is one
 abbrev pub number_if : List Node → Option (List ℕ) → Option ℕ
 number_if nodes None = None
-number_if nodes (Some name) = number_of nodes name
+number_if nodes (Some name) = node_number nodes name
 
 -- the number of the node that holds the first name that a node depends on
 abbrev pub first_held : List Node → Node → Option ℕ
@@ -54,8 +54,9 @@ IsNodeInOrder node = node.answer ≡ None → node.ending ≡ None
 
 pub record IsGraph (nodes : List Node) (links : WaitIndex) (states : NodeWaits) (spare : ℕ) : Type 0 where
   pub few : length nodes < 2 ^ 32
-  pub holders : (name : List ℕ) → holder_of links name ≡ number_of nodes name
-  pub own : (number : ℕ) (node : Node) → slice_get nodes number ≡ Some node → number_of nodes node.name ≡ Some number
+  pub holders : (name : List ℕ) → holder_of links name ≡ node_number nodes name
+  pub own : (number : ℕ) (node : Node) → slice_get nodes number ≡ Some node
+      → node_number nodes node.name ≡ Some number
   pub waits : states.waits ≡ map (waiting_of (node_named nodes)) nodes
   pub edges : (name : List ℕ) (waiter : ℕ) → count_before links.edges name waiter (length links.edges) ≡ occurrences name (dependencies_at nodes waiter)
   pub firsts : (waiter : ℕ) → first_for links.edges waiter ≡ slice_get (dependencies_at nodes waiter) 0

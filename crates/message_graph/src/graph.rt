@@ -2,7 +2,7 @@
 ghost use Rattle.std.specs.Prelude.{◌≡◌, ◌+◌, ◌-◌, ◌^◌, ◌<◌, ◌++◌, ◌∷◌, ◌↔◌, [], max, length};
 ghost use Rattle.std.specs.Prelude.{map, IsTrue, IfOk, OnOk, OnErr, None, Some, slice_get};
 ghost use Rattle.std.specs.Option.{option_map};
-ghost use Rattle.message_graph.specs.Nodes.{number_of, next, fresh, fate_of, with_answer};
+ghost use Rattle.message_graph.specs.Nodes.{node_number, next_step, fresh_node, fate_of, with_answer};
 ghost use Rattle.message_graph.specs.Nodes.{with_ending, after_step, EndsNode};
 ghost use Rattle.message_graph.specs.Whole.{ending_step, ending_news, first_held};
 
@@ -73,12 +73,12 @@ impl Graph {
 
     /// Holds a message of a group under a new name, and answers its number; takes no memory.
     pub fn hold(&mut self, name: [u8; 32], group: u32) -> u32
-        requires new { number_of self.old.nodes name ≡ None }
+        requires new { node_number self.old.nodes name ≡ None }
         requires room { 0 < self.old.spare }
         requires few { length self.old.nodes < 2 ^ 32 - 1 }
         ensures number { result ≡ length self.old.nodes }
         ensures nodes { self.new ≡ record {
-          nodes = self.old.nodes ++ fresh name group ∷ [];
+          nodes = self.old.nodes ++ fresh_node name group ∷ [];
           spare =
               self.old.spare - 1;
         } }
@@ -119,7 +119,7 @@ impl Graph {
 
     /// The number of the node that has the name; `None` exactly where the name is new.
     pub fn number(&self, name: &[u8; 32]) -> Option<u32>
-        ensures { result ≡ number_of self.now.nodes name.now }
+        ensures { result ≡ node_number self.now.nodes name.now }
     {
         self.index.holder(name)
     }
@@ -140,7 +140,7 @@ impl Graph {
     /// Takes the answer of a message's client, which is the next step. After an error all is as
     /// before.
     pub fn judged(&mut self, n: u32, answer: Judged) -> Result<(), AllocError>
-        requires { next self.old.nodes ≡ Some (Step.Judge n) }
+        requires { next_step self.old.nodes ≡ Some (Step.Judge n) }
         ensures ok { OnOk result
             (self.new ≡ record self.old { nodes = with_answer n answer self.old.nodes }) }
         ensures err { OnErr result (self.new ≡ self.old) }
@@ -157,7 +157,7 @@ impl Graph {
     /// The next step: that of the least number that has one. `None` exactly where no node has a
     /// step.
     pub fn next(&self) -> Option<Step>
-        ensures { result ≡ next self.now.nodes }
+        ensures { result ≡ next_step self.now.nodes }
     {
         let number = self.states.first()?;
         let n = number as u32;
@@ -171,7 +171,7 @@ impl Graph {
 
     /// Makes the next step, which is no judgement; takes no memory.
     pub fn apply(&mut self, step: Step)
-        requires next { next self.old.nodes ≡ Some step }
+        requires next { next_step self.old.nodes ≡ Some step }
         requires ends { EndsNode step }
         ensures { self.new ≡ record self.old { nodes = after_step step self.old.nodes } }
     {
@@ -203,7 +203,7 @@ impl Graph {
 
     /// Ends a node, and tells those who wait for it.
     fn end(&mut self, n: u32, ending: Ending, news: News)
-        requires next { next self.old.nodes ≡ Some (ending_step ending n) }
+        requires next { next_step self.old.nodes ≡ Some (ending_step ending n) }
         requires news { news ≡ ending_news ending }
         ensures { self.new ≡ record self.old { nodes = with_ending n ending self.old.nodes } }
     {

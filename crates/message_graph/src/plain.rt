@@ -2,7 +2,7 @@
 ghost use Rattle.std.specs.Prelude.{◌≡◌, ◌^◌, ◌<◌, ◌≤◌, length, option_copied};
 ghost use Rattle.std.specs.List.{list_any, list_all};
 ghost use Rattle.message_graph.specs.Nodes.{same_name, node_named, fails, serves, step_accepted};
-ghost use Rattle.message_graph.specs.Nodes.{step_of, next, fate_of};
+ghost use Rattle.message_graph.specs.Nodes.{step_of, next_step, fate_of};
 
 use crate::nodes::{Ending, Fate, Judged, Node, Step, fate_by};
 
@@ -98,7 +98,7 @@ fn step_of(nodes: &[Node], number: u32, node: &Node) -> Option<Step>
 /// The next step of a list of nodes, by looking at one after the other.
 pub fn next_in(nodes: &[Node]) -> Option<Step>
     requires { length nodes.now < 2 ^ 32 }
-    ensures { result ≡ next nodes.now }
+    ensures { result ≡ next_step nodes.now }
 {
     let mut number = 0;
     for node in nodes {

@@ -2,7 +2,7 @@
 ghost use Rattle.std.specs.Prelude.{◌≡◌, ℕ, List, ◌+◌, ◌<◌, ◌≤◌, ◌++◌, length, map, option_copied};
 ghost use Rattle.std.specs.Prelude.{IfOk, OnOk, OnErr, Some};
 ghost use Rattle.std.specs.Option.{option_map};
-ghost use Rattle.message_graph.specs.Nodes.{node_named, number_of, with_name, with_names};
+ghost use Rattle.message_graph.specs.Nodes.{node_named, node_number, with_name, with_names};
 ghost use Rattle.message_graph.specs.Waits.{missing, from_missing, waiting_open, told_times};
 ghost use Rattle.message_graph.specs.Waits.{wait_at, group_in};
 ghost use Rattle.message_graph.specs.Links.{holder_of, edge_at, count_before, last_before};
@@ -45,7 +45,7 @@ pub(crate) fn tell(
 
 /// The node that holds the name.
 fn held<'a>(nodes: &'a [Unnamed], index: &Index, name: &[u8; 32]) -> Option<&'a Unnamed>
-    requires { (other : List ℕ) → holder_of index.now other ≡ number_of (with_names
+    requires { (other : List ℕ) → holder_of index.now other ≡ node_number (with_names
         index.now.numbers.names nodes.now) other }
     ensures { option_map (with_name name.now) (option_copied result) ≡ node_named (with_names
         index.now.numbers.names nodes.now) name.now }
@@ -56,7 +56,7 @@ fn held<'a>(nodes: &'a [Unnamed], index: &Index, name: &[u8; 32]) -> Option<&'a 
 
 /// What an accepted node of the group waits for.
 pub(crate) fn missing(nodes: &[Unnamed], index: &Index, group: u32, names: &[[u8; 32]]) -> Waiting
-    requires { (other : List ℕ) → holder_of index.now other ≡ number_of (with_names
+    requires { (other : List ℕ) → holder_of index.now other ≡ node_number (with_names
         index.now.numbers.names nodes.now) other }
     ensures { result ≡ from_missing (missing (node_named (with_names index.now.numbers.names
         nodes.now)) group names.now) }
@@ -98,7 +98,7 @@ fn accepted(
     group: u32,
     names: &[[u8; 32]],
 ) -> Result<Waiting, AllocError>
-    requires holders { (other : List ℕ) → holder_of index.old other ≡ number_of (with_names
+    requires holders { (other : List ℕ) → holder_of index.old other ≡ node_number (with_names
         index.old.numbers.names nodes.now) other }
     requires room { spare ≤ index.old.room }
     ensures waiting { IfOk result
@@ -130,7 +130,7 @@ pub(crate) fn answered(
     group: u32,
     answer: &Judged,
 ) -> Result<Waiting, AllocError>
-    requires holders { (other : List ℕ) → holder_of index.old other ≡ number_of (with_names
+    requires holders { (other : List ℕ) → holder_of index.old other ≡ node_number (with_names
         index.old.numbers.names nodes.now) other }
     requires room { spare ≤ index.old.room }
     ensures waiting { IfOk result (λ waiting. waiting ≡ waiting_open (node_named (with_names

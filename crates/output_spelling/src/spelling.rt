@@ -3,7 +3,7 @@ ghost use Rattle.std.specs.Prelude.{◌≡◌, ◌∷◌, ◌++◌, [], IfOk, On
 ghost use Rattle.record_grammar.specs.Spelling.{spelled, spelling};
 ghost use Rattle.sync_ids.specs.declared.records.Record.TheVariants as record_kind;
 ghost use Rattle.sync_rules.specs.Facts.{held_at};
-ghost use Rattle.sync_rules.specs.Output.{message_record, nonce_record, records_of};
+ghost use Rattle.sync_rules.specs.Output.{message_record, nonce_record, out_records};
 
 use record_grammar::{
     encode_ack, encode_message, encode_offer, encode_priority, encode_request, encode_versions,
@@ -17,7 +17,7 @@ use sync_store::Store;
 /// It fails only for want of memory.
 pub fn spell_out(alloc: Global, store: &Store, out: &Out) -> Result<Vec<u8>, AllocError>
     ensures { IfOk result (λ bytes. bytes.items ≡ spelled
-        (records_of store.now.state.facts.held out.now)) }
+        (out_records store.now.state.facts.held out.now)) }
 {
     let mut bytes = Vec::new(alloc);
     match out {

@@ -13,7 +13,7 @@ use Rattle.outside.specs.Host.{LinkCause, DialsLink, MakesLink, HearsAnswer, hea
 use Rattle.outside.specs.MemDisk.{dialled, sent, answered, MemDiskValue, answers_after, with_call}
 use Rattle.outside.proofs.MemSound.{links_after-push}
 use Rattle.outside.specs.MemHost.{MemHostValue, Readings, last_of, first_readings, readings_told, next_reading, upcoming_of, plans_of, links_of, RaisesCount, BeginsAgain, MakesDial, MakesAnswer, RepliesOnLink, MakesSend, MakesReading}
-use Rattle.outside.specs.LinksTold.{heard_on, links_told}
+use Rattle.outside.specs.LinksTold.{links_heard, links_told}
 use Rattle.outside.specs.MemLaws.{as_many, length-changed_at}
 use Rattle.outside.specs.Planned.{AnswersAsPlanned}
 use Rattle.outside.proofs.HostCalls.{answers_after-push}
@@ -29,43 +29,51 @@ same_cause link old new t e = record { later = omega (arith, ap (λ l. slice_ind
 
 -- ---- what was heard
 
-heard_same : (links : List (List Answered)) (F G : ℕ → ℕ) → ((i : ℕ) → G i ≡ F i) → heard_on links G ≡ heard_on links F
+heard_same : (links : List (List Answered)) (F G : ℕ → ℕ) → ((i : ℕ) → G i ≡ F i)
+    → links_heard links G ≡ links_heard links F
 heard_same [] F G e = refl
 heard_same (a ∷ links) F G e =
-    ap (λ n. record { answers = a; failures = n } ∷ heard_on links (λ i. G (suc i))) (e 0)
+    ap (λ n. record { answers = a; failures = n } ∷ links_heard links (λ i. G (suc i))) (e 0)
     ∙ ap (λ h. record { answers = a; failures = F 0 } ∷ h) (heard_same links (λ i. F (suc i)) (λ i. G (suc i)) (λ i. e (suc i)))
 
 -- a link more
-heard_more : (links : List (List Answered)) (F G : ℕ → ℕ) → G (length links) ≡ 0 → ((i : ℕ) → i ≢ length links → G i ≡ F i) → heard_on (links ++ [] ∷ []) G ≡ heard_on links F ++ nothing_heard ∷ []
+heard_more : (links : List (List Answered)) (F G : ℕ → ℕ) → G (length links) ≡ 0
+    → ((i : ℕ) → i ≢ length links → G i ≡ F i)
+    → links_heard (links ++ [] ∷ []) G ≡ links_heard links F ++ nothing_heard ∷ []
 heard_more [] F G begun others = ap (λ n. record { answers = []; failures = n } ∷ []) begun
 heard_more (a ∷ links) F G begun others =
-    ap (λ n. record { answers = a; failures = n } ∷ heard_on (links ++ [] ∷ []) (λ i. G (suc i))) (others 0 (omega arith))
+    ap (λ n. record { answers = a; failures = n } ∷ links_heard (links ++ [] ∷ []) (λ i. G (suc i)))
+    (others 0 (omega arith))
     ∙ ap (λ h. record { answers = a; failures = F 0 } ∷ h)
     (heard_more links (λ i. F (suc i)) (λ i. G (suc i)) begun (λ i other. others (suc i) (λ same. other (omega (arith, same)))))
 
 -- an answer on a link
 heard_reply : (link room : ℕ) (reply : Reply) (links : List (List Answered)) (F G : ℕ → ℕ) → G link ≡ 0 → ((i : ℕ) → i ≢ link → G i ≡ F i)
-    → heard_on (changed_at link (λ l. l ++ record { failures = F link; room = room; reply = reply } ∷ []) links) G ≡ changed_at link (hear_reply room reply) (heard_on links F)
+    → links_heard
+    (changed_at link (λ l. l ++ record { failures = F link; room = room; reply = reply } ∷ [])
+    links) G ≡ changed_at link (hear_reply room reply) (links_heard links F)
 heard_reply link room reply [] F G begun others = refl
 heard_reply zero room reply (a ∷ links) F G begun others =
     let now = a ++ record { failures = F 0; room = room; reply = reply } ∷ [] in
-    ap (λ n. record { answers = now; failures = n } ∷ heard_on links (λ i. G (suc i))) begun
+    ap (λ n. record { answers = now; failures = n } ∷ links_heard links (λ i. G (suc i))) begun
     ∙ ap (λ h. record { answers = now; failures = 0 } ∷ h) (heard_same links (λ i. F (suc i)) (λ i. G (suc i)) (λ i. others (suc i) (omega arith)))
 heard_reply (suc link) room reply (a ∷ links) F G begun others =
     let change : List Answered → List Answered = λ l. l ++ record { failures = F (suc link); room = room; reply = reply } ∷ [] in
-    ap (λ n. record { answers = a; failures = n } ∷ heard_on (changed_at link change links) (λ i. G (suc i))) (others 0 (omega arith))
+    ap (λ n. record { answers = a; failures = n } ∷ links_heard (changed_at link change links)
+    (λ i. G (suc i))) (others 0 (omega arith))
     ∙ ap (λ h. record { answers = a; failures = F 0 } ∷ h)
     (heard_reply link room reply links (λ i. F (suc i)) (λ i. G (suc i)) begun (λ i other. others (suc i) (λ same. other (omega (arith, same)))))
 
 -- a failure on a link
 heard_failure : (link : ℕ) (links : List (List Answered)) (F G : ℕ → ℕ) → G link ≡ one_more (F link) → ((i : ℕ) → i ≢ link → G i ≡ F i)
-    → heard_on links G ≡ changed_at link hear_failure (heard_on links F)
+    → links_heard links G ≡ changed_at link hear_failure (links_heard links F)
 heard_failure link [] F G raised others = refl
 heard_failure zero (a ∷ links) F G raised others =
-    ap (λ n. record { answers = a; failures = n } ∷ heard_on links (λ i. G (suc i))) raised
+    ap (λ n. record { answers = a; failures = n } ∷ links_heard links (λ i. G (suc i))) raised
     ∙ ap (λ h. record { answers = a; failures = one_more (F 0) } ∷ h) (heard_same links (λ i. F (suc i)) (λ i. G (suc i)) (λ i. others (suc i) (omega arith)))
 heard_failure (suc link) (a ∷ links) F G raised others =
-    ap (λ n. record { answers = a; failures = n } ∷ heard_on links (λ i. G (suc i))) (others 0 (omega arith))
+    ap (λ n. record { answers = a; failures = n } ∷ links_heard links (λ i. G (suc i)))
+    (others 0 (omega arith))
     ∙ ap (λ h. record { answers = a; failures = F 0 } ∷ h)
     (heard_failure link links (λ i. F (suc i)) (λ i. G (suc i)) raised (λ i other. others (suc i) (λ same. other (omega (arith, same)))))
 
@@ -74,10 +82,12 @@ told_same : (old new : MemDiskValue) → new ≡ old → Some (links_of new) ≡
 told_same old new e = ap (λ (d : MemDiskValue). Some (links_of d)) e
 
 heard_on_same : (old new : MemDiskValue) (s s' : List ℕ) → new ≡ old → s' ≡ s
-    → Some (heard_on (answers_after [] new.calls) (λ i. slice_index s' i)) ≡ Some (heard_on (answers_after [] old.calls) (λ i. slice_index s i))
+    → Some (links_heard (answers_after [] new.calls) (λ i. slice_index s' i))
+    ≡ Some (links_heard (answers_after [] old.calls) (λ i. slice_index s i))
 heard_on_same old new s s' e same =
-    ap (λ (d : MemDiskValue). Some (heard_on (answers_after [] d.calls) (λ i. slice_index s' i))) e
-    ∙ ap (λ l. Some (heard_on (answers_after [] old.calls) (λ i. slice_index l i))) same
+    ap (λ (d : MemDiskValue). Some (links_heard (answers_after [] d.calls) (λ i. slice_index s' i)))
+    e
+    ∙ ap (λ l. Some (links_heard (answers_after [] old.calls) (λ i. slice_index l i))) same
 
 -- ---- a dial
 
@@ -97,7 +107,7 @@ dial_made spec link old new number e silences =
       number,
       ap length made ∙ length-append (links_of old.disk) (record { spec = spec; sent = [] } ∷ []),
       ap Some made,
-      ap (λ a. Some (heard_on a G)) heard
+      ap (λ a. Some (links_heard a G)) heard
           ∙ ap Some (heard_more (answers_after [] calls) F G (ap G as_many_is ∙ silences.begun) (λ i other. silences.others i (λ same. other (same ∙ sym as_many_is)))),
     )
 
@@ -126,14 +136,16 @@ dials_links spec (Err e) old new makes =
 -- ---- an answer
 
 replied : (link room : ℕ) (reply : Reply) (old new : MemHostValue) → RepliesOnLink link room reply old new
-    → Some (heard_on (answers_after [] new.disk.calls) (λ i. slice_index new.silences i)) ≡ option_map (changed_at link (hear_reply room reply)) (Some (heard_on (answers_after [] old.disk.calls) (λ i. slice_index old.silences i)))
+    → Some (links_heard (answers_after [] new.disk.calls) (λ i. slice_index new.silences i))
+    ≡ option_map (changed_at link (hear_reply room reply))
+    (Some (links_heard (answers_after [] old.disk.calls) (λ i. slice_index old.silences i)))
 replied link room reply old new r =
     let calls = old.disk.calls in
     let a : Answered = record { failures = slice_index old.silences link; room = room; reply = reply } in
     let F : ℕ → ℕ = λ i. slice_index old.silences i in
     let G : ℕ → ℕ = λ i. slice_index new.silences i in
-    ap (λ (d : MemDiskValue). Some (heard_on (answers_after [] d.calls) G)) r.disk
-    ∙ ap (λ h. Some (heard_on h G)) (answers_after-push [] calls (answered link a))
+    ap (λ (d : MemDiskValue). Some (links_heard (answers_after [] d.calls) G)) r.disk
+    ∙ ap (λ h. Some (links_heard h G)) (answers_after-push [] calls (answered link a))
     ∙ ap Some (heard_reply link room reply (answers_after [] calls) F G r.silences.begun r.silences.others)
 
 replied_told : (link room : ℕ) (reply : Reply) (old new : MemHostValue) → RepliesOnLink link room reply old new → links_of new.disk ≡ links_of old.disk
@@ -146,7 +158,10 @@ hears_reply : (link : ℕ) (answer : Heard) (buf : List ℕ) (reply : Reply) (ol
 hears_reply link answer buf reply old new clock planned same r = record {
   same_dialled = ap length (replied_told link (length buf) reply old new r);
   same_told = ap Some (replied_told link (length buf) reply old new r);
-  heard = replied link (length buf) reply old new r ∙ ap (λ f. option_map f (Some (heard_on (answers_after [] old.disk.calls) (λ i. slice_index old.silences i)))) (sym same);
+  heard = replied link (length buf) reply old new r
+      ∙ ap (λ f. option_map f
+      (Some (links_heard (answers_after [] old.disk.calls) (λ i. slice_index old.silences i))))
+      (sym same);
   same_readings = ap readings_told clock;
   planned = planned;
   same_upcoming = ap (λ k. Some (upcoming_of k)) clock;
@@ -165,7 +180,8 @@ answers_links link heard.Failed buf old new makes =
       same_dialled = ap (λ (d : MemDiskValue). length (links_of d)) same;
       same_told = told_same old.disk new.disk same;
       heard =
-          ap (λ (d : MemDiskValue). Some (heard_on (answers_after [] d.calls) (λ i. slice_index new.silences i))) same
+          ap (λ (d : MemDiskValue). Some
+          (links_heard (answers_after [] d.calls) (λ i. slice_index new.silences i))) same
           ∙ ap Some (heard_failure link (answers_after [] old.disk.calls) (λ i. slice_index old.silences i) (λ i. slice_index new.silences i) out.silences.raised out.silences.others);
       same_readings = ap (λ (h : MemHostValue). readings_told h.clock) makes.rest;
       planned = elim out.cause [ inl due ↦ inl due.plan | inr none ↦ inr (ap plans_of none.scripts) ];
@@ -180,11 +196,14 @@ sent_told : (old new : MemHostValue) (link : ℕ) (bytes : List ℕ) → new.dis
 sent_told old new link bytes e = ap (λ (d : MemDiskValue). Some (links_of d)) e ∙ ap Some (links_after-push [] old.disk.calls (sent link bytes))
 
 sent_heard : (old new : MemHostValue) (link : ℕ) (bytes : List ℕ) → new.disk ≡ with_call (sent link bytes) old.disk → new.silences ≡ old.silences
-    → Some (heard_on (answers_after [] new.disk.calls) (λ i. slice_index new.silences i)) ≡ Some (heard_on (answers_after [] old.disk.calls) (λ i. slice_index old.silences i))
+    → Some (links_heard (answers_after [] new.disk.calls) (λ i. slice_index new.silences i))
+    ≡ Some (links_heard (answers_after [] old.disk.calls) (λ i. slice_index old.silences i))
 sent_heard old new link bytes e same =
-    ap (λ (d : MemDiskValue). Some (heard_on (answers_after [] d.calls) (λ i. slice_index new.silences i))) e
-    ∙ ap (λ h. Some (heard_on h (λ i. slice_index new.silences i))) (answers_after-push [] old.disk.calls (sent link bytes))
-    ∙ ap (λ l. Some (heard_on (answers_after [] old.disk.calls) (λ i. slice_index l i))) same
+    ap (λ (d : MemDiskValue). Some
+    (links_heard (answers_after [] d.calls) (λ i. slice_index new.silences i))) e
+    ∙ ap (λ h. Some (links_heard h (λ i. slice_index new.silences i)))
+    (answers_after-push [] old.disk.calls (sent link bytes))
+    ∙ ap (λ l. Some (links_heard (answers_after [] old.disk.calls) (λ i. slice_index l i))) same
 
 length-changed : (link : ℕ) (bytes : List ℕ) (links : List ToldLink) → length (with_sent link bytes links) ≡ length links
 length-changed link bytes links = length-changed_at link _ links
@@ -193,7 +212,8 @@ length-changed link bytes links = length-changed_at link _ links
 pub record WentOut (link : ℕ) (bytes : List ℕ) (old new : MemHostValue) : Type 0 where
   pub told : Some (links_of new.disk) ≡ option_map (with_sent link bytes) (Some (links_of old.disk))
   pub dialled : length (links_of new.disk) ≡ length (links_of old.disk)
-  pub heard : Some (heard_on (answers_after [] new.disk.calls) (λ i. slice_index new.silences i)) ≡ Some (heard_on (answers_after [] old.disk.calls) (λ i. slice_index old.silences i))
+  pub heard : Some (links_heard (answers_after [] new.disk.calls) (λ i. slice_index new.silences i))
+      ≡ Some (links_heard (answers_after [] old.disk.calls) (λ i. slice_index old.silences i))
 
 went_out : (old new : MemHostValue) (link : ℕ) (bytes : List ℕ) → new.disk ≡ with_call (sent link bytes) old.disk → new.silences ≡ old.silences → WentOut link bytes old new
 went_out old new link bytes e same = record {

@@ -7,7 +7,9 @@ use Rattle.outside.specs.declared.call.Call.{Call}
 use Rattle.outside.specs.declared.pick.Pick.TheVariants as pick
 use Rattle.outside.specs.Files.{Two, File, IsFileImage, IsImage, is_written}
 use Rattle.outside.proofs.Images.{image_synced}
-use Rattle.outside.specs.MemDisk.{Change, wrote, wrote_not, cut, cut_not, synced, dialled, sent, answered, hosted, KeptFile, kept, changed, kept_after, both_kept, files_of, disk_files, MemDiskValue, change_of, fresh}
+use Rattle.outside.specs.MemDisk.{Change, wrote, wrote_not, cut, cut_not, synced, dialled, sent}
+use Rattle.outside.specs.MemDisk.{answered, hosted, KeptFile, kept, changed, kept_after, both_kept}
+use Rattle.outside.specs.MemDisk.{files_of, disk_files, MemDiskValue, change_of, fresh_disk}
 use Rattle.outside.proofs.MemSound.{IsSound, start_sound}
 use Rattle.outside.specs.MemImage.{one_changed, one_after, PickOf, IsFilled, left_at, PicturesDisk}
 
@@ -96,13 +98,13 @@ derefed choice file s s' l l' a e f p =
 
 pub pictured : {E : Type 0} (choice : Pick) (v disk : MemDiskValue) (a b : List ℕ) (r : Result MemDiskValue E) → v ≡ disk
     → PickOf choice (one_after 0 (kept v.start.first) v.calls) a → PickOf choice (one_after 1 (kept v.start.second) v.calls) b
-    → IfOk r (λ d. d ≡ fresh (record { first = a; second = b }))
+    → IfOk r (λ d. d ≡ fresh_disk (record { first = a; second = b }))
     → IfOk r (λ d. PicturesDisk choice (disk_files disk) d) × IfOk r (λ d. IsImage (files_of (disk_files disk)) d.start)
 pictured choice v disk a b (Ok d) same p q e =
     let picked = both_picked choice v a b p q in
     let image = both_image choice v a b picked.0 picked.1 in
     let start : d.start ≡ record { first = a; second = b } = ap (λ (x : MemDiskValue). x.start) e in
-    let fresh_is : d ≡ fresh d.start = e ∙ ap fresh (sym start) in
+    let fresh_is : d ≡ fresh_disk d.start = e ∙ ap fresh_disk (sym start) in
     let P : List ℕ → Type 0 = PickOf choice (disk_files disk).first in
     let Q : List ℕ → Type 0 = PickOf choice (disk_files disk).second in
     let first = subst (λ (x : MemDiskValue). PickOf choice (disk_files x).first a) same picked.0 in

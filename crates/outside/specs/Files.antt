@@ -51,6 +51,14 @@ pub record IsImage (files : Two File) (left : Two (List ℕ)) : Type 0 where
 abbrev pub read_files : Two File → Two (List ℕ)
 read_files files = record { first = files.first.now; second = files.second.now }
 
+-- both files read as before
+abbrev pub ReadsSame : Two File → Two File → Type 0
+ReadsSame old new = read_files new ≡ read_files old
+
 -- nothing is pending in this file
 abbrev pub NothingPending : Two File → ℕ → Type 0
 NothingPending files file = file_of files file ≡ settled (file_of files file).now
+
+-- both files read as before, with nothing pending in them
+abbrev pub SyncsBoth : Two File → Two File → Type 0
+SyncsBoth old new = new ≡ record { first = settled old.first.now; second = settled old.second.now }

@@ -9,17 +9,17 @@ abbrev pub sent_by : List Change → List (List ℕ)
 sent_by calls = map (λ link. link.sent) (links_after [] calls)
 
 -- what was heard on each link, by its answers and its failures since the last of them
-abbrev pub heard_on : List (List Answered) → (ℕ → ℕ) → List HeardOn
-heard_on [] failures = []
-heard_on (answers ∷ links) failures =
-    record { answers = answers; failures = failures 0 } ∷ heard_on links (λ i. failures (suc i))
+abbrev pub links_heard : List (List Answered) → (ℕ → ℕ) → List HeardOn
+links_heard [] failures = []
+links_heard (answers ∷ links) failures =
+    record { answers = answers; failures = failures 0 } ∷ links_heard links (λ i. failures (suc i))
 
 abbrev pub links_told : List Change → List ℕ → List ℕ → Readings → List (List Planned) → Links
 links_told calls silences faults clock scripts = record {
   dialled = length (links_after [] calls);
   faults = λ i. slice_index faults i;
   told = Some (links_after [] calls);
-  heard = Some (heard_on (answers_after [] calls) (λ i. slice_index silences i));
+  heard = Some (links_heard (answers_after [] calls) (λ i. slice_index silences i));
   readings = readings_told clock;
   planned = Some (plans_of scripts);
   upcoming = Some (upcoming_of clock);

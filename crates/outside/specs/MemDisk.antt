@@ -212,5 +212,14 @@ pub record MakesChange {T E : Type 0} (fine failed : Option Change) (result : Re
   pub outcome : MatchResult result (λ _. WasMade fine old new) (λ _. HasFailed failed old new)
 
 -- a disk of which no call was made
-abbrev pub fresh : Two (List ℕ) → MemDiskValue
-fresh start = record { start = start; calls = []; made = 0; failing = []; stop = None; faults = 0; starved = 0 }
+abbrev pub fresh_disk : Two (List ℕ) → MemDiskValue
+fresh_disk start =
+    record {
+      start = start;
+      calls = [];
+      made = 0;
+      failing = [];
+      stop = None;
+      faults = 0;
+      starved = 0;
+    }

@@ -60,8 +60,8 @@ abbrev pub one_made : Schedule → Schedule
 one_made schedule = record schedule { made = one_more schedule.made }
 
 -- the next call is to fail
-abbrev pub is_due : Schedule → Bool
-is_due schedule = is_listed schedule.failing schedule.made
+abbrev pub fails_now : Schedule → Bool
+fails_now schedule = is_listed schedule.failing schedule.made
 
 -- A host: its disk; what each of the eight links is still to answer; how many calls on each failed since it answered,
 -- and how many at all; its clock; the nonces to be given; its dials and its sends; how many of its calls found no memory.
@@ -153,7 +153,7 @@ pub record FindsNone (old new : MemHostValue) : Type 0 where
   pub starved : new.starved ≡ one_more old.starved
 
 pub record DialMade (spec : List ℕ) (link : ℕ) (old new : MemHostValue) : Type 0 where
-  pub fine : is_due old.dials ≡ false
+  pub fine : fails_now old.dials ≡ false
   pub number : link ≡ length (links_of old.disk)
   pub disk : new.disk ≡ with_call (dialled spec) old.disk
   pub silences : BeginsAgain link old.silences new.silences
@@ -161,7 +161,7 @@ pub record DialMade (spec : List ℕ) (link : ℕ) (old new : MemHostValue) : Ty
   pub starved : new.starved ≡ old.starved
 
 pub record DialDue (old new : MemHostValue) : Type 0 where
-  pub due : is_due old.dials ≡ true
+  pub due : fails_now old.dials ≡ true
   pub disk : new.disk ≡ old.disk
   pub starved : new.starved ≡ old.starved
 
@@ -212,14 +212,14 @@ pub record MakesAnswer (link : ℕ) (answer : Heard) (buf : List ℕ) (old new :
   pub outcome : MatchOption (reply_in answer buf) (NoReply link (length buf) old new) (λ reply. RepliesOnLink link (length buf) reply old new)
 
 pub record SendMade (link : ℕ) (bytes : List ℕ) (old new : MemHostValue) : Type 0 where
-  pub fine : is_due old.sends ≡ false
+  pub fine : fails_now old.sends ≡ false
   pub disk : new.disk ≡ with_call (sent link bytes) old.disk
   pub faults : new.faults ≡ old.faults
   pub starved : new.starved ≡ old.starved
 
 -- a send that is to fail lets the first half of its bytes out
 pub record SendDue (link : ℕ) (bytes : List ℕ) (old new : MemHostValue) : Type 0 where
-  pub due : is_due old.sends ≡ true
+  pub due : fails_now old.sends ≡ true
   pub disk : new.disk ≡ with_call (sent link (take (length bytes / 2) bytes)) old.disk
   pub starved : new.starved ≡ old.starved
 

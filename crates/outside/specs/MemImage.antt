@@ -4,7 +4,9 @@ use Rattle.outside.specs.declared.pick.Pick.{Pick}
 use Rattle.outside.specs.declared.pick.Pick.TheVariants as pick
 use Rattle.outside.specs.Files.{Two, File, is_written}
 use Rattle.outside.specs.Disk.{overwritten, after_cut}
-use Rattle.outside.specs.MemDisk.{Change, wrote, wrote_not, cut, cut_not, synced, dialled, sent, answered, hosted, KeptFile, kept, after_wrote, after_wrote_not, MemDiskValue, fresh}
+use Rattle.outside.specs.MemDisk.{Change, wrote, wrote_not, cut, cut_not, synced, dialled, sent}
+use Rattle.outside.specs.MemDisk.{answered, hosted, KeptFile, kept, after_wrote, after_wrote_not}
+use Rattle.outside.specs.MemDisk.{MemDiskValue, fresh_disk}
 
 -- two numbers name one file
 abbrev pub same_file : ℕ → ℕ → Bool
@@ -75,6 +77,6 @@ PickOf pick.Ones k bytes = IsFilled 1 k.file bytes
 
 -- a fresh disk with the image of both files that was asked for
 pub record PicturesDisk (chosen : Pick) (two : Two KeptFile) (disk : MemDiskValue) : Type 0 where
-  pub fresh : disk ≡ fresh disk.start
+  pub fresh : disk ≡ fresh_disk disk.start
   pub first : PickOf chosen two.first disk.start.first
   pub second : PickOf chosen two.second disk.start.second

@@ -19,7 +19,7 @@ use Rattle.outside.specs.MemDisk.{Change, wrote, wrote_not, cut, cut_not, synced
 use Rattle.outside.specs.MemDisk.{answered, hosted, KeptFile, changed, kept_after, both_kept}
 use Rattle.outside.specs.MemDisk.{link_changed, links_after, answers_changed, answers_after}
 use Rattle.outside.specs.MemMoments.{WasAt, files_at}
-use Rattle.outside.specs.LinksTold.{heard_on}
+use Rattle.outside.specs.LinksTold.{links_heard}
 
 -- ---- images: what writes, cuts and syncs do to what a crash may leave
 
@@ -235,10 +235,10 @@ length-changed_at n f [] = refl
 length-changed_at zero f (x ∷ xs) = refl
 length-changed_at (suc n) f (x ∷ xs) = ap suc (length-changed_at n f xs)
 
-pub length-heard_on : (links : List (List Answered)) (failures : ℕ → ℕ)
-    → length (heard_on links failures) ≡ length links
-length-heard_on [] failures = refl
-length-heard_on (_ ∷ links) failures = ap suc (length-heard_on links (λ i. failures (suc i)))
+pub length-links_heard : (links : List (List Answered)) (failures : ℕ → ℕ)
+    → length (links_heard links failures) ≡ length links
+length-links_heard [] failures = refl
+length-links_heard (_ ∷ links) failures = ap suc (length-links_heard links (λ i. failures (suc i)))
 
 one_longer : {A B : Type 0} (xs : List A) (ys : List B) (x : A) (y : B) → length xs ≡ length ys
     → length (xs ++ x ∷ []) ≡ length (ys ++ y ∷ [])
@@ -269,9 +269,9 @@ pub each_told : (calls : List Change) (links : List ToldLink) → Some (links_af
 each_told calls links had = let same : links_after [] calls ≡ links = cc in ap length (sym same)
 
 pub each_heard : (calls : List Change) (failures : ℕ → ℕ) (heard : List HeardOn)
-    → Some (heard_on (answers_after [] calls) failures) ≡ Some heard
+    → Some (links_heard (answers_after [] calls) failures) ≡ Some heard
     → length heard ≡ length (links_after [] calls)
 each_heard calls failures heard had =
-    let same : heard_on (answers_after [] calls) failures ≡ heard = cc in
-    ap length (sym same) ∙ length-heard_on (answers_after [] calls) failures
+    let same : links_heard (answers_after [] calls) failures ≡ heard = cc in
+    ap length (sym same) ∙ length-links_heard (answers_after [] calls) failures
     ∙ as_many [] [] calls refl

@@ -65,6 +65,11 @@ pub record MomentsAre (old new : Outside) (P : Moment → Type 0) : Type 0 where
   pub each : (m : Moment) → new.moments old.clock m → P m
   pub before : (t : ℕ) (m : Moment) → t ≤ old.clock → new.moments t m → old.moments t m ⊎ P m
 
+-- at each moment of a run a crash leaves what it might have left before the run, and nothing was sent
+abbrev pub AnyImage : Outside → Outside → Type 0
+AnyImage old new = (two : Two File) → old.files ≡ Some two
+    → MomentsAre old new (IsNow two old.links)
+
 -- what no run of calls on a disk changes
 pub record DiskRun (old new : Outside) : Type 0 where
   pub same_links : new.links ≡ old.links
@@ -76,7 +81,7 @@ pub record DiskRun (old new : Outside) : Type 0 where
 pub record OnlyReads (old new : Outside) : Type 0 where
   pub same_files : new.files ≡ old.files
   pub run : DiskRun old new
-  pub moments : (two : Two File) → old.files ≡ Some two → MomentsAre old new (IsNow two old.links)
+  pub moments : AnyImage old new
 
 -- ---- how many calls of the disk a run makes, where they are told: just so many, or no more
 

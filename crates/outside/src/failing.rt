@@ -1,6 +1,6 @@
 //! Which calls are to fail.
 ghost use Rattle.std.specs.Prelude.{◌≡◌, ◌≤◌, [], ◌∷◌, ◌++◌, OnOk, OnErr};
-ghost use Rattle.outside.specs.MemHost.{Schedule, one_made, is_due};
+ghost use Rattle.outside.specs.MemHost.{Schedule, one_made, fails_now};
 
 use std::alloc::{AllocError, Global};
 use std::marker::Model;
@@ -57,7 +57,7 @@ impl Failing {
 
     /// Counts a call, and says whether it is to fail. The count stands still at 2^64 - 1.
     pub fn next(&mut self) -> bool
-        ensures due { result ≡ is_due self.old }
+        ensures due { result ≡ fails_now self.old }
         ensures counts { self.new ≡ one_made self.old }
         ensures later { self.old.made ≤ self.new.made }
     {

@@ -7,7 +7,7 @@ ghost use Rattle.outside.specs.Faults.{HasCause, one_more};
 ghost use Rattle.outside.specs.Files.{file_of, with_file, IsImage};
 ghost use Rattle.outside.specs.Outside.{DiskCall};
 ghost use Rattle.outside.specs.Disk.{RelatesTold, ReadsBytes, WritesFile, CutsFile, SyncsFile, overwritten};
-ghost use Rattle.outside.specs.MemDisk.{two_of, fresh, disk_files, files_of, bytes_of, wrote};
+ghost use Rattle.outside.specs.MemDisk.{two_of, fresh_disk, disk_files, files_of, bytes_of, wrote};
 ghost use Rattle.outside.specs.MemDisk.{wrote_not, cut, cut_not, synced, dialled};
 ghost use Rattle.outside.specs.MemDisk.{sent as bytes_sent, answered, hosted, reply_of, with_call};
 ghost use Rattle.outside.specs.MemDisk.{bytes_each, fails_next, MakesChange};
@@ -76,7 +76,7 @@ impl Model for MemDisk {
 impl MemDisk {
     /// A disk with these two files, nothing pending in them.
     pub fn new(alloc: Global, file0: Vec<u8>, file1: Vec<u8>) -> Result<MemDisk, AllocError>
-        ensures { IfOk result (λ d. d ≡ fresh (two_of file0.items file1.items)) }
+        ensures { IfOk result (λ d. d ≡ fresh_disk (two_of file0.items file1.items)) }
     {
         Ok(MemDisk {
             alloc,

@@ -14,7 +14,8 @@ use Rattle.sync_rules.specs.Facts.{Facts, after, after_all, after_batches, nothi
 use Rattle.sync_rules.specs.Sessions.{taken_message, taken_message_of, is_welcome, one_if}
 use Rattle.sync_rules.specs.Legal.{IsSettling, AllSettling, Legal}
 use Rattle.sync_rules.specs.Hearing.{HearsRecord, IsHearing, take_batch}
-use Rattle.sync_rules.proofs.StepLaws.{IsSettlingEntry, next_is_settling}
+use Rattle.sync_rules.specs.EntryTests.{IsSettlingEntry}
+use Rattle.sync_rules.proofs.StepLaws.{next_is_settling}
 use Rattle.sync_rules.proofs.Settling.{goes_on_both, after_batches-append}
 use Rattle.sync_rules.proofs.WorkLaws.{facts-push, settles_legal}
 use Rattle.sync_rules.proofs.HearLaws.{Stays, stays_all, stays_batches}

@@ -5,7 +5,7 @@ use Rattle.std.specs.Prelude.{if◌then◌else◌}
 use Rattle.record_grammar.specs.Stream.{ending, items}
 use Rattle.record_grammar.specs.declared.stream.Item.{Item}
 use Rattle.record_stream.specs.Pieces.{Hearing}
-use Rattle.record_stream.specs.Reading.{AwaitsBytes, ReaderState, ReadsOn, fresh}
+use Rattle.record_stream.specs.Reading.{AwaitsBytes, ReaderState, ReadsOn, fresh_reader}
 
 -- nothing was read
 pub read_none : (piece : List ℕ) (r : ReaderState) → ReadsOn piece r [] piece r
@@ -69,7 +69,8 @@ joined piece left more rest old mid new has others first second =
     read_then (piece ++ more) (left ++ more) rest old mid new has others (read_wider piece left more old mid has first) second
 
 -- all is read, and no item is left
-pub whole : (bytes : List ℕ) (has : List Item) (r : ReaderState) → ReadsOn bytes fresh has [] r → AwaitsBytes r
+pub whole : (bytes : List ℕ) (has : List Item) (r : ReaderState)
+    → ReadsOn bytes fresh_reader has [] r → AwaitsBytes r
     → (items 0 bytes ≡ has) × (ending 0 bytes ≡ ending r.place r.bytes)
 whole bytes has r read waits =
     let its : items 0 bytes ≡ has ++ items r.place r.bytes = rw (append-nil bytes, append-nil r.bytes) at (read.items_stay []) in

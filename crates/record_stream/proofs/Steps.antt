@@ -9,7 +9,8 @@ use Rattle.record_grammar.specs.declared.front.Reason.{Reason}
 use Rattle.record_grammar.specs.declared.reading.Found.{Found}
 use Rattle.record_grammar.specs.declared.reading.Found.TheVariants as found
 use Rattle.record_grammar.specs.declared.stream.Item.TheVariants as item
-use Rattle.record_stream.specs.Reading.{AwaitsBytes, EndsBad, IsStreamRefused, ReaderState, ReadsOn, after, fresh}
+use Rattle.record_stream.specs.Reading.{AwaitsBytes, EndsBad, IsStreamRefused, ReaderState, ReadsOn}
+use Rattle.record_stream.specs.Reading.{after, fresh_reader}
 
 pub rest_nil : IsRest []
 unfolding found_in front_in
@@ -146,6 +147,6 @@ bad_leaves place b why f e is goes = (
 )
 
 -- a reader at the start of a stream waits for its first byte
-pub waits_at_start : AwaitsBytes fresh
+pub waits_at_start : AwaitsBytes fresh_reader
 unfolding items parsed
 waits_at_start = record { rest = rest_nil; nothing = refl; room = λ _. omega arith }

@@ -2,7 +2,7 @@
 use Rattle.std.specs.Prelude.{◌≡◌, ℕ, ◌+◌, ◌<◌, List, [], ◌++◌, length, Option, Some, None}
 use Rattle.record_grammar.specs.Stream.{ending, items}
 use Rattle.record_grammar.specs.declared.stream.Item.{Item}
-use Rattle.record_stream.specs.Reading.{AwaitsBytes, ReaderState, ReadsOn, fresh}
+use Rattle.record_stream.specs.Reading.{AwaitsBytes, ReaderState, ReadsOn, fresh_reader}
 
 -- A reader took a piece but for what is left of it, and a listener heard the items that it gave, in order: whatever it had
 -- heard before since some state, it has heard that and these since then.
@@ -34,5 +34,6 @@ ReadingsFollow = (piece left rest : List ℕ) (old mid new : ReaderState) (has o
 -- Once all bytes of a stream were read from its start, the items given are those of the stream, and it ends as what the
 -- reader holds does.
 abbrev pub ReadingsAreWhole : Type 0
-ReadingsAreWhole = (bytes : List ℕ) (has : List Item) (r : ReaderState) → ReadsOn bytes fresh has [] r → AwaitsBytes r
+ReadingsAreWhole = (bytes : List ℕ) (has : List Item) (r : ReaderState)
+    → ReadsOn bytes fresh_reader has [] r → AwaitsBytes r
     → (items 0 bytes ≡ has) × (ending 0 bytes ≡ ending r.place r.bytes)

@@ -15,8 +15,8 @@ pub record ReaderState : Type 0 where
   pub failed : Bool
 
 -- a reader at the start of a stream
-abbrev pub fresh : ReaderState
-fresh = record { place = 0; bytes = []; failed = false }
+abbrev pub fresh_reader : ReaderState
+fresh_reader = record { place = 0; bytes = []; failed = false }
 
 -- a reader after an answer about the front of its bytes
 abbrev pub after : ReaderState → Found → ReaderState

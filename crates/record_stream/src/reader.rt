@@ -3,7 +3,7 @@ ghost use Rattle.std.specs.Prelude.{◌≡◌, ◌≢◌, ℕ, ◌-◌, ◌<◌,
 ghost use Rattle.std.specs.Prelude.{IfOk, OnOk, OnErr, true, if◌then◌else◌};
 ghost use Rattle.record_grammar.specs.Reading.{found_in};
 ghost use Rattle.record_grammar.specs.Stream.{IsRest, ending, items};
-ghost use Rattle.record_stream.specs.Reading.{AwaitsBytes, EndsBad, ReadsOn, after, fresh};
+ghost use Rattle.record_stream.specs.Reading.{AwaitsBytes, EndsBad, ReadsOn, after, fresh_reader};
 ghost use Rattle.record_grammar.specs.declared.front.Reason.{Reason};
 
 use crate::piece::Piece;
@@ -69,7 +69,7 @@ impl Reader {
     /// A reader at the start of a stream. It takes its whole buffer of 49,156 bytes here, and
     /// nothing else later; it fails only for want of memory.
     pub fn new(alloc: Global) -> Result<Reader, AllocError>
-        ensures fresh { IfOk result (λ r. r ≡ fresh) }
+        ensures fresh { IfOk result (λ r. r ≡ fresh_reader) }
         ensures waits { IfOk result (λ r. AwaitsBytes r) }
     {
         Ok(Reader {

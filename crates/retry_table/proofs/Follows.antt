@@ -1,5 +1,8 @@
 -- Sets that follow rows: what a change leaves, and that a search of a queue is one of the rows.
-use Rattle.std.proofs.Common.{◌≡◌, ℕ, zero, suc, ◌+◌, ◌-◌, ◌^◌, ◌<◌, ◌≤◌, Bool, true, false, cond, ◌&&◌, not, nat_le, List, [], ◌∷◌, ◌++◌, length, Option, None, Some, IfSome, refl, sym, ap, subst, ◌∙◌, get_or, set, replicate, arith, length-append, inl, inr}
+use Rattle.std.proofs.Common.{◌≡◌, ℕ, suc, ◌+◌, ◌-◌, ◌^◌, ◌<◌, ◌≤◌, Bool, true, false, cond, ◌&&◌}
+use Rattle.std.proofs.Common.{not, nat_le, List, [], ◌∷◌, ◌++◌, length, None, Some, IfSome, refl}
+use Rattle.std.proofs.Common.{sym, ap, subst, ◌∙◌, get_or, set, replicate, arith, length-append}
+use Rattle.std.proofs.Common.{inl, inr}
 use Rattle.std.proofs.lemmas.List.{length-set, length-replicate, get_or-set_same, get_or-set_other}
 use Rattle.std.proofs.lemmas.Bool.{cases_eq}
 use Rattle.std.specs.List.{position_from}
@@ -8,7 +11,7 @@ use Rattle.due_tree.specs.Sets.{next_set}
 use Rattle.due_tree.proofs.Places.{longer_at}
 use Rattle.sync_rules.specs.declared.entries.Mode.TheVariants as mode
 use Rattle.retry_table.specs.Table.{KeptRow, no_kept, kept_in}
-use Rattle.retry_table.specs.Due.{numbers_where, is_open, is_sent_at, is_offered_at}
+use Rattle.retry_table.specs.Due.{numbers_where, may_be_sent, is_sent_at, is_offered_at}
 use Rattle.retry_table.specs.Queues.{is_awaited, is_timely, next_timely, HasPassingRows}
 use Rattle.retry_table.specs.declared.blocks.Times.TheVariants as times
 
@@ -86,11 +89,15 @@ module _ {X Y : Type 0} (p : X → Bool) (q : Y → Bool) (d : X) (e : Y) (p_non
 
 message_due : (now : ℕ) (kept : KeptRow) → is_timely times.ToSend now kept ≡ is_sent_at mode.Batch now kept
 message_due now kept =
-    elim (is_open kept) as (λ b. is_due now (cond b (Some kept.row.expiry) None) ≡ (b && nat_le kept.row.expiry now)) [ true ↦ refl | false ↦ refl ]
+    elim (may_be_sent kept) as
+    (λ b. is_due now (cond b (Some kept.row.expiry) None) ≡ (b && nat_le kept.row.expiry now))
+    [ true ↦ refl | false ↦ refl ]
 
 offer_due : (now : ℕ) (kept : KeptRow) → is_timely times.ToOffer now kept ≡ is_offered_at now kept
 offer_due now kept =
-    elim (is_open kept) as (λ b. is_due now (cond (b && not kept.row.asked) (Some kept.row.expiry) None) ≡ (b && (not kept.row.asked && nat_le kept.row.expiry now))) [
+    elim (may_be_sent kept) as
+    (λ b. is_due now (cond (b && not kept.row.asked) (Some kept.row.expiry) None)
+    ≡ (b && (not kept.row.asked && nat_le kept.row.expiry now))) [
       | true ↦ elim (not kept.row.asked) as (λ a. is_due now (cond a (Some kept.row.expiry) None) ≡ (a && nat_le kept.row.expiry now)) [ true ↦ refl | false ↦ refl ]
       | false ↦ refl
     ]

@@ -13,16 +13,16 @@ numbers_where test first [] = []
 numbers_where test first (x ∷ xs) = cond (test x) (first ∷ numbers_where test (first + 1) xs) (numbers_where test (first + 1) xs)
 
 -- a message may be sent to the contact: it is ready, and the contact has not seen it
-abbrev pub is_open : KeptRow → Bool
-is_open kept = kept.ready && not kept.row.seen
+abbrev pub may_be_sent : KeptRow → Bool
+may_be_sent kept = kept.ready && not kept.row.seen
 
 -- a message is to be sent: in interactive mode one that was asked for, in batch mode one whose time has come
 abbrev pub is_sent_at : Mode → ℕ → KeptRow → Bool
-is_sent_at mode now kept = is_open kept && is_ripe mode now kept.row
+is_sent_at mode now kept = may_be_sent kept && is_ripe mode now kept.row
 
 -- a message is to be offered: it was not asked for, and its time has come
 abbrev pub is_offered_at : ℕ → KeptRow → Bool
-is_offered_at now kept = is_open kept && (not kept.row.asked && nat_le kept.row.expiry now)
+is_offered_at now kept = may_be_sent kept && (not kept.row.asked && nat_le kept.row.expiry now)
 
 -- the numbers that wait for our acknowledgement
 abbrev pub owed_in : List KeptRow → List ℕ

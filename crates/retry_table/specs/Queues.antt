@@ -5,17 +5,17 @@ use Rattle.std.specs.List.{position_from}
 use Rattle.due_tree.specs.Due.{is_due}
 use Rattle.due_tree.specs.Cells.{lesser}
 use Rattle.retry_table.specs.Table.{KeptRow, kept_in}
-use Rattle.retry_table.specs.Due.{is_open}
+use Rattle.retry_table.specs.Due.{may_be_sent}
 use Rattle.retry_table.specs.declared.blocks.Times.{Times}
 use Rattle.retry_table.specs.declared.blocks.Times.TheVariants as times
 
 -- in the queue of messages for batch mode: the expiry
 abbrev pub message_place : KeptRow → Option ℕ
-message_place kept = cond (is_open kept) (Some kept.row.expiry) None
+message_place kept = cond (may_be_sent kept) (Some kept.row.expiry) None
 
 -- in the queue of offers: the expiry
 abbrev pub offer_place : KeptRow → Option ℕ
-offer_place kept = cond (is_open kept && not kept.row.asked) (Some kept.row.expiry) None
+offer_place kept = cond (may_be_sent kept && not kept.row.asked) (Some kept.row.expiry) None
 
 abbrev pub time_place : Times → KeptRow → Option ℕ
 time_place times.ToSend kept = message_place kept
@@ -23,7 +23,7 @@ time_place times.ToOffer kept = offer_place kept
 
 -- in the set of asked messages
 abbrev pub is_awaited : KeptRow → Bool
-is_awaited kept = is_open kept && kept.row.asked
+is_awaited kept = may_be_sent kept && kept.row.asked
 
 -- whether a number is greater than another, or absent where that is there
 abbrev pub is_later : Option ℕ → Option ℕ → Bool

@@ -4,7 +4,7 @@ ghost use Rattle.sync_rules.specs.Facts.{one_more_try, expiry_after, row_seen, r
 ghost use Rattle.sync_rules.specs.Facts.{row_asked, row_sent, row_offered};
 ghost use Rattle.retry_table.specs.Table.{no_kept, with_row, with_ready, row_owed, row_restored};
 ghost use Rattle.retry_table.specs.Table.{tried_of};
-ghost use Rattle.retry_table.specs.Due.{is_open};
+ghost use Rattle.retry_table.specs.Due.{may_be_sent};
 ghost use Rattle.retry_table.specs.Queues.{message_place, is_awaited, offer_place};
 
 use std::marker::Model;
@@ -196,7 +196,7 @@ impl KeptRow {
 
     /// Whether the message may be sent to the contact.
     fn is_open(self) -> bool
-        ensures { result ≡ is_open self }
+        ensures { result ≡ may_be_sent self }
     {
         self.ready && !self.seen
     }

@@ -10,7 +10,7 @@ use Rattle.sync_rules.specs.Facts.{Facts, Held, Id, Known, group_at, held_at}
 use Rattle.sync_rules.specs.Lists.{same_id}
 use Rattle.sync_rules.specs.Sessions.{is_author}
 use Rattle.store_commands.specs.Plans.{Plan, refuses, message_plan}
-use Rattle.store_commands.specs.Post.{message_of}
+use Rattle.store_commands.specs.Post.{posted_message}
 use Rattle.client_sharing.specs.declared.bodies.Saying.{Saying}
 use Rattle.client_sharing.specs.Bodies.{body_of, is_sharing}
 use Rattle.sharing_commands.specs.declared.saying.Speech.{Speech}
@@ -49,7 +49,7 @@ abbrev pub saying_in : Facts → Speech → Saying
 saying_in f s = record { join = s.join; previous = previous_own f s.group; def = s.def }
 
 abbrev pub message_said : Facts → Speech → MessageValue
-message_said f s = message_of s.group s.timestamp (body_of (saying_in f s))
+message_said f s = posted_message s.group s.timestamp (body_of (saying_in f s))
 
 abbrev pub say_by : Meaning → Facts → Speech → Option Refused → Plan
 say_by clients f s (Some why) = refuses why

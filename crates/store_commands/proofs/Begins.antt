@@ -3,10 +3,9 @@ use Rattle.std.proofs.Common.{◌≡◌, Option, Some, Ok, Err, sym, ◌∙◌, 
 use Rattle.std.specs.Option.{ForSome}
 use Rattle.outside.specs.Disk.{RelatesTold}
 use Rattle.outside.specs.Faults.{CountRose}
-use Rattle.outside.specs.Files.{Two, File}
+use Rattle.outside.specs.Files.{File, SyncsBoth, Two}
 use Rattle.outside.specs.Outside.{Outside, MomentsAre, DiskRun}
 use Rattle.outside.proofs.CallSteps.{becomes_told}
-use Rattle.frame_journal.specs.Gates.{SyncsBoth}
 use Rattle.sync_store.specs.Begin.{BeginsJournal, InitMoment, IsAnswer}
 use Rattle.sync_store.specs.declared.fault.InitFault.TheVariants as init
 use Rattle.sync_words.specs.declared.outcome.Outcome.{Outcome}

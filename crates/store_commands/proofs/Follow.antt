@@ -1,6 +1,6 @@
 -- An entry that a loaded journal lets a command plan may follow once the journal is settled:
 -- settling keeps contacts, groups and held messages, and delivered messages stay so.
-use Rattle.std.proofs.Common.{◌≡◌, ℕ, ◌<◌, Bool, true, false, cond, List, [], ◌∷◌, length, refl}
+use Rattle.std.proofs.Common.{◌≡◌, ℕ, ◌<◌, Bool, true, false, List, [], ◌∷◌, length, refl}
 use Rattle.std.proofs.Common.{sym, ap, ◌∙◌, subst, Option, Some, None, Ok, Err}
 use Rattle.std.specs.Prelude.{◌&&◌, ◌||◌, ◌==◌, nat_lt, is_none, is_some, if◌then◌else◌}
 use Rattle.std.specs.List.{list_all, list_any}
@@ -22,61 +22,14 @@ use Rattle.sync_rules.specs.Lists.{is_among, same_id}
 use Rattle.sync_rules.specs.Facts.{Facts, Held, Id, Known, after, after_all, after_batches}
 use Rattle.sync_rules.specs.Facts.{group_at, held_at}
 use Rattle.sync_rules.specs.Legal.{accepts_served, AllSettling, IsSettling}
-use Rattle.sync_rules.specs.Steps.{answer_of, first_or_next, first_step, is_beside, is_ended}
-use Rattle.sync_rules.specs.Steps.{is_failing, is_served, kind_of_def, step, step_by, step_open}
+use Rattle.sync_rules.specs.Steps.{is_beside}
+use Rattle.sync_rules.specs.Steps.{is_served, kind_of_def}
 use Rattle.sync_rules.specs.Steps.{verdict_in}
+use Rattle.sync_rules.proofs.StepLaws.{next_is_settling}
 use Rattle.store_commands.specs.Commit.{MayFollow}
 use Rattle.sync_store.specs.Refusals.{judged_answer}
 use Rattle.store_commands.specs.Plans.{adds, refuses, body_plan, contact_plan, group_plan}
 use Rattle.store_commands.specs.Plans.{level_plan, message_plan, planned, post_plan}
-
--- ---- the entries of settling
-
-abbrev IsSettlingEntry : Entry → Type 0
-IsSettlingEntry (entry.Judged id) = Unit {0}
-IsSettlingEntry (entry.Deliver id) = Unit {0}
-IsSettlingEntry (entry.Invalid id) = Unit {0}
-IsSettlingEntry _ = ⊥
-
-as_entry : (d e : Entry) → Some d ≡ Some e → IsSettlingEntry d → IsSettlingEntry e
-as_entry d e is kind = let same : d ≡ e = cc in subst IsSettlingEntry same kind
-
-open_kind : (f : Facts) (h : Held) (answer : Judgement) (e : Entry) → step_open f h answer ≡ Some e
-    → IsSettlingEntry e
-open_kind f h judgement.Refuse e is = as_entry (entry.Invalid h.id) e is tt
-open_kind f h (judgement.Accept deps share) e is =
-    elim (list_any (is_failing f h.message.group) deps) as (λ b.
-    cond b (Some (entry.Invalid h.id))
-    (cond (list_all (is_served f h.message.group) deps) (Some (entry.Deliver h.id)) None)
-    ≡ Some e → IsSettlingEntry e) [
-      | true ↦ λ w. as_entry (entry.Invalid h.id) e w tt
-      | false ↦ λ w.
-          elim (list_all (is_served f h.message.group) deps) as (λ b.
-          cond b (Some (entry.Deliver h.id)) None ≡ Some e → IsSettlingEntry e) [
-            | true ↦ λ v. as_entry (entry.Deliver h.id) e v tt
-            | false ↦ λ v. cc
-          ] w
-    ] is
-
-by_kind : (f : Facts) (h : Held) (o : Option Judgement) (e : Entry) → step_by f h o ≡ Some e
-    → IsSettlingEntry e
-by_kind f h None e is = as_entry (entry.Judged h.id) e is tt
-by_kind f h (Some answer) e is =
-    elim (is_ended f h.id) as (λ b. cond b None (step_open f h answer) ≡ Some e
-    → IsSettlingEntry e) [
-      | true ↦ λ w. cc
-      | false ↦ λ w. open_kind f h answer e w
-    ] is
-
-first_kind : (clients : Meaning) (f : Facts) (hs : List Held) (e : Entry)
-    → first_step clients f hs ≡ Some e → IsSettlingEntry e
-first_kind clients f [] e is = cc
-first_kind clients f (h ∷ hs) e is =
-    elim (step clients f h) as (λ o. step clients f h ≡ o
-    → first_or_next o (first_step clients f hs) ≡ Some e → IsSettlingEntry e) [
-      | None ↦ λ s w. first_kind clients f hs e w
-      | Some x ↦ λ s w. by_kind f h (answer_of clients f h) e (s ∙ w)
-    ] refl is
 
 -- ---- what settling keeps
 
@@ -117,7 +70,7 @@ stays_batch : (clients : Meaning) (f : Facts) (es : List Entry) → IsSettling c
 stays_batch clients f [] s = stays_same f
 stays_batch clients f (e ∷ es) s =
     stays_then f (after f e) (after_all (after f e) es)
-    (stays_entry f e (first_kind clients f f.held e s.0))
+    (stays_entry f e (next_is_settling clients f e s.0))
     (stays_batch clients (after f e) es s.1)
 
 pub stays : (clients : Meaning) (f : Facts) (bs : List (List Entry)) → AllSettling clients f bs

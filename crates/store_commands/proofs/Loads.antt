@@ -1,10 +1,9 @@
 -- Files that a load left.
 use Rattle.std.proofs.Common.{◌≡◌, ap, ◌∙◌, sym, Option, Some}
 use Rattle.outside.specs.Disk.{RelatesTold}
-use Rattle.outside.specs.Files.{Two, File, read_files}
-use Rattle.outside.specs.Outside.{Outside}
+use Rattle.outside.specs.Files.{File, SyncsBoth, Two, read_files}
+use Rattle.outside.specs.Outside.{AnyImage, Outside}
 use Rattle.outside.proofs.CallSteps.{becomes_told}
-use Rattle.frame_journal.specs.Gates.{AnyImage, SyncsBoth}
 use Rattle.store_commands.specs.Show.{LeavesFilesSo}
 
 pub reads_same : (old new : Option (Two File)) (two two' : Two File) → RelatesTold SyncsBoth old new

@@ -31,7 +31,7 @@ use Rattle.store_commands.specs.Show.{LeavesFilesSo}
 use Rattle.store_commands.specs.Plans.{adds, refuses, body_plan, message_plan, planned}
 use Rattle.store_commands.specs.Plans.{post_plan}
 use Rattle.store_commands.specs.Post.{HasPosted, IsBody, IsPlanOfPost, IsBodyRead, PostStops}
-use Rattle.store_commands.specs.Post.{PostsBody, group_test, message_of}
+use Rattle.store_commands.specs.Post.{PostsBody, group_test, posted_message}
 use Rattle.store_commands.specs.Stopping.{InputStops}
 use Rattle.store_commands.specs.Works.{WorkBy}
 use Rattle.store_commands.proofs.EntryLemmas.{added_entry, added_none, added_refused}
@@ -184,20 +184,21 @@ module _ (clients : Meaning) (group : Id) (timestamp : ℕ) (old new : Outside)
 
   -- memory was wanting for the message
   added_memory : (body : List ℕ) → HasAdded clients
-      (λ f. post_plan clients f (message_of group timestamp body)) settling.BeforeAndAfter old new
+      (λ f. post_plan clients f (posted_message group timestamp body)) settling.BeforeAndAfter old
+      new
       out out' outcome.Memory
   added_memory body =
-      added_none clients (λ f. post_plan clients f (message_of group timestamp body))
+      added_none clients (λ f. post_plan clients f (posted_message group timestamp body))
       settling.BeforeAndAfter old new out out' outcome.Memory run (λ two told. rests two told)
       tt (λ two told. tt) quiet
 
   refused_body : (body : List ℕ) (why : Refused) → IsBody input input' body
-      → post_plan clients s.state.facts (message_of group timestamp body) ≡ refuses why
+      → post_plan clients s.state.facts (posted_message group timestamp body) ≡ refuses why
       → PostsBody clients group timestamp old new input input' out out' (outcome.Refused why)
   refused_body body why read is = record {
     body = body;
     reads = read;
-    added = added_refused clients (λ f. post_plan clients f (message_of group timestamp body))
+    added = added_refused clients (λ f. post_plan clients f (posted_message group timestamp body))
         settling.BeforeAndAfter old new out out' s why run rests loaded is quiet;
   }
 
@@ -206,7 +207,7 @@ module _ (clients : Meaning) (group : Id) (timestamp : ℕ) (old new : Outside)
     pub posted_unread : (came : Outcome) → IsBodyRead input input' (Err came) → Posted came
     posted_unread (outcome.Refused refused.BodyTooLong) read =
         refused_body read.0 refused.BodyTooLong read.1
-        (plan_long clients s.state.facts (message_of group timestamp read.0) known read.2)
+        (plan_long clients s.state.facts (posted_message group timestamp read.0) known read.2)
     posted_unread outcome.ReadFault read =
         inl (stops_unread clients (group_test group) (InputStops ⊥ input input') old new out out'
         run
@@ -219,16 +220,17 @@ module _ (clients : Meaning) (group : Id) (timestamp : ℕ) (old new : Outside)
 
     -- the message is refused
     posted_refused : (body : List ℕ) (why : Refused) → IsBody input input' body
-        → post_plan clients s.state.facts (message_of group timestamp body) ≡ refuses why
+        → post_plan clients s.state.facts (posted_message group timestamp body) ≡ refuses why
         → Posted (outcome.Refused why)
     posted_refused body refused.UnknownGroup read is =
-        absurd (body_other clients s.state.facts (message_of group timestamp body) known
-        (sym (plan_known clients s.state.facts (message_of group timestamp body) known) ∙ is))
+        absurd (body_other clients s.state.facts (posted_message group timestamp body) known
+        (sym (plan_known clients s.state.facts (posted_message group timestamp body) known) ∙ is))
     posted_refused body _ read is = refused_body body _ read is
 
     -- the message may not be added
     pub posted_fault : (body : List ℕ) (came : Outcome) → IsBody input input' body → IsPlanOfPost
-        (post_plan clients s.state.facts (message_of group timestamp body)) (Err came) → Posted came
+        (post_plan clients s.state.facts (posted_message group timestamp body)) (Err came)
+        → Posted came
     posted_fault body outcome.Memory read is =
         inr (record { body = body; reads = read; added = added_memory body })
     posted_fault body (outcome.Refused why) read is = posted_refused body why read is
@@ -255,7 +257,7 @@ pub posted_entry : (clients : Meaning) (group : Id) (timestamp : ℕ) (o o1 o2 :
     → DiskRun o o1
     → ((two : Two File) → o.files ≡ Some two → LeavesFilesSo (LoadKeeps (Ok s) two) two o o1)
     → MayExtend clients s o1.files → IsBody input input' body
-    → post_plan clients s.state.facts (message_of group timestamp body) ≡ adds e
+    → post_plan clients s.state.facts (posted_message group timestamp body) ≡ adds e
     → EntryAdded clients settling.BeforeAndAfter s e o1 o2 out out' came
     → HasPosted clients group timestamp o o2 input input' out out' came
 posted_entry clients group timestamp o o1 o2 input input' out out' s body e came run rests ready
@@ -263,7 +265,7 @@ posted_entry clients group timestamp o o1 o2 input input' out out' s body e came
     posted_late clients group timestamp o o2 o1 o2 input input' out out' came added.by (record {
       body = body;
       reads = read;
-      added = added_entry clients (λ f. post_plan clients f (message_of group timestamp body))
+      added = added_entry clients (λ f. post_plan clients f (posted_message group timestamp body))
           settling.BeforeAndAfter o o1 o2 out out' s e came run rests ready is added;
     })
 

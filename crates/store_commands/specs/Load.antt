@@ -3,9 +3,8 @@ use Rattle.std.specs.Prelude.{◌≡◌, List, Option, Result, Ok, Err}
 use Rattle.outside.specs.declared.limits.TheConstants.{MAX_JOURNAL}
 use Rattle.outside.specs.Disk.{RelatesTold}
 use Rattle.outside.specs.Faults.{CountRose}
-use Rattle.outside.specs.Files.{Two, File}
+use Rattle.outside.specs.Files.{File, SyncsBoth, Two}
 use Rattle.outside.specs.Outside.{Outside}
-use Rattle.frame_journal.specs.Gates.{SyncsBoth}
 use Rattle.sync_rules.specs.declared.entries.Entry.{Entry}
 use Rattle.sync_rules.specs.Clients.{Meaning}
 use Rattle.sync_rules.specs.Facts.{facts}

@@ -29,8 +29,8 @@ pub record IsBody (input input' : Stream) (body : List ℕ) : Type 0 where
   pub whole : (IsAtEnd input'.bytes × (length body ≤ MAX_BODY)) ⊎ (length body ≡ MAX_BODY + 1)
 
 -- the message of a group, a time and a body
-abbrev pub message_of : Id → ℕ → List ℕ → MessageValue
-message_of group timestamp body = record { group = group; timestamp = timestamp; body = body }
+abbrev pub posted_message : Id → ℕ → List ℕ → MessageValue
+posted_message group timestamp body = record { group = group; timestamp = timestamp; body = body }
 
 -- the body was read, and the message that is added, or refused, is of it
 pub record PostsBody (clients : Meaning) (group : Id) (timestamp : ℕ) (old new : Outside)
@@ -38,7 +38,8 @@ pub record PostsBody (clients : Meaning) (group : Id) (timestamp : ℕ) (old new
   pub body : List ℕ
   pub reads : IsBody input input' body
   pub added : HasAdded clients
-      (λ f. post_plan clients f (message_of group timestamp body)) settling.BeforeAndAfter old new
+      (λ f. post_plan clients f (posted_message group timestamp body)) settling.BeforeAndAfter old
+      new
       out out' came
 
 -- the test before the body is read: the group is known

@@ -1,9 +1,8 @@
 // A store that is loaded, or what the command comes to without one.
 ghost use Rattle.std.specs.Prelude.{◌≡◌, Some};
 ghost use Rattle.outside.specs.Disk.{RelatesTold};
-ghost use Rattle.outside.specs.Files.{Two, File, read_files};
+ghost use Rattle.outside.specs.Files.{File, ReadsSame, Two, read_files};
 ghost use Rattle.outside.specs.Outside.{DiskRun};
-ghost use Rattle.frame_journal.specs.Gates.{ReadsSame};
 ghost use Rattle.file_standing.specs.Standing.{stands};
 ghost use Rattle.store_commands.specs.Show.{LeavesFilesSo};
 ghost use Rattle.store_commands.specs.Load.{IsLoaded, IsStoreOpened, LoadLeavesSettled, LoadedBy};

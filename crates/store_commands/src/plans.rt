@@ -3,7 +3,7 @@ ghost use Rattle.std.specs.Prelude.{◌≡◌, ◌≤◌, true, is_some};
 ghost use Rattle.sync_rules.specs.Facts.{group_at};
 ghost use Rattle.store_commands.specs.Plans.{contact_plan, group_plan, level_plan, message_plan};
 ghost use Rattle.store_commands.specs.Plans.{plan_of, post_plan};
-ghost use Rattle.store_commands.specs.Post.{IsPlanOfPost, message_of};
+ghost use Rattle.store_commands.specs.Post.{IsPlanOfPost, posted_message};
 
 use sync_ids::{GroupDef, GroupId, MAX_TIMESTAMP, Message, MessageFault, MessageId};
 use sync_rules::{Clients, Entry, Level, Refused};
@@ -59,7 +59,7 @@ pub fn plan_post<C: Clients>(
     requires known { is_some (group_at store.now.state.facts.groups group) ≡ true }
     requires timestamp { timestamp ≤ MAX_TIMESTAMP }
     ensures { IsPlanOfPost (post_plan (C.meaning clients.now) store.now.state.facts
-        (message_of group timestamp body.items)) result }
+        (posted_message group timestamp body.items)) result }
 {
     match Message::new(group, timestamp, body) {
         Ok(message) => plan_message(store, clients, message),

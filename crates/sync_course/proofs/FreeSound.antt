@@ -16,7 +16,7 @@ use Rattle.sync_course.specs.Events.{Event, batches_of}
 use Rattle.sync_course.specs.Free.{Begins, Free, FreeStep, Hold, Holds, IsNothingUnderWay, Rests}
 use Rattle.sync_course.specs.Free.{first_free, forget, hold_at, joined_by, spot_in}
 use Rattle.sync_course.specs.Links.{Link, closed_from, link_of}
-use Rattle.sync_course.specs.Links.{is_going, closes, items_after, link_after, new_items}
+use Rattle.sync_course.specs.Links.{is_going, closes, items_after, link_after_take, new_items}
 use Rattle.sync_course.specs.Links.{stands_behind}
 use Rattle.sync_course.specs.LinkTurns.{LinkStep, Spot, next_take}
 use Rattle.sync_course.specs.Paths.{Path}
@@ -134,13 +134,16 @@ module _ (go_on : StreamsGoOn) (join : RecordsJoin) where
   -- a record is taken
   counted_taken : (f g : Facts) (session place : ℕ) (r : Record) (its : List Item) (link : Link)
       → takes_of g.takes session ≡ takes_of f.takes session + 1 → IsCounted f session (item.One place r ∷ its) link
-      → IsCounted g session (items_after r its) (link_after place r link)
+      → IsCounted g session (items_after r its) (link_after_take place r link)
   unfolding records_of
   counted_taken f g session place r its link one c =
       let count : takes_of g.takes session ≡ length (c.done ++ r ∷ []) =
       one ∙ ap (λ n. n + 1) c.count ∙ sym (length-append c.done (r ∷ [])) in
       elim (closes r) as (λ b. IsCounted g session (cond b [] its)
-      (record link { nonce = (link_after place r link).nonce; stands = cond b (end.NoVersion place) link.stands })) [
+      (record link {
+        nonce = (link_after_take place r link).nonce;
+        stands = cond b (end.NoVersion place) link.stands;
+      })) [
         | true ↦ record {
           done = c.done ++ r ∷ [];
           dropped = records_of its ++ c.dropped;

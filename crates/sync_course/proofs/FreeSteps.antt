@@ -17,9 +17,10 @@ use Rattle.sync_rules.specs.Clients.{Meaning}
 use Rattle.sync_rules.specs.Facts.{Facts, after_all, session_at, takes_of}
 use Rattle.sync_rules.specs.Growth.{output_in}
 use Rattle.sync_rules.proofs.StepKinds.{takes_one}
-use Rattle.sync_rules.proofs.StepLaws.{IsSettlingEntry, next_is_settling}
+use Rattle.sync_rules.proofs.StepLaws.{next_is_settling}
 use Rattle.sync_rules.proofs.WorkLaws.{allowed_settling}
 use Rattle.sync_rules.specs.Legal.{Allowed, IsDue, IsSettlingBatch}
+use Rattle.sync_rules.specs.EntryTests.{IsSettlingEntry}
 use Rattle.sync_course.specs.declared.TheConstants.{MAX_OUTPUTS}
 use Rattle.sync_course.specs.declared.ends.LinkEnd.{LinkEnd}
 use Rattle.sync_course.specs.declared.ends.LinkEnd.TheVariants as end

@@ -12,7 +12,7 @@ use Rattle.sync_rules.specs.declared.entries.Entry.{Entry}
 use Rattle.sync_rules.specs.declared.entries.Session.{Session}
 use Rattle.sync_rules.specs.Clients.{Meaning}
 use Rattle.sync_rules.specs.Facts.{Facts, after_all, after_batches, facts, takes_of}
-use Rattle.sync_rules.specs.Growth.{IsFront}
+use Rattle.sync_rules.specs.Growth.{ContinuesList}
 use Rattle.sync_rules.specs.Legal.{Legal, IsSettlingBatch}
 use Rattle.sync_rules.proofs.Continuing.{front_itself, front_then}
 use Rattle.sync_course.specs.Acts.{Act, AtFront, Does, Send, Fail, batches_in, events_of}
@@ -26,7 +26,7 @@ use Rattle.sync_course.specs.Paths.{Path}
 use Rattle.sync_course.specs.Story.{AllSuitNode, FreeActs, MomentStands, begun_by}
 use Rattle.sync_course.specs.Story.{heard_at, AllSuitPlanned, IsOfCourse}
 use Rattle.sync_course.specs.Suits.{IsCounted, heard_in, AllSuitCourse, SuitsCourse}
-use Rattle.sync_course.specs.Suits.{heard_on}
+use Rattle.sync_course.specs.Suits.{heard_at_place}
 use Rattle.sync_course.proofs.ActLaws.{batches_in-append}
 use Rattle.sync_course.proofs.FreeSound.{IsBegunAt, IsFreeSound, first_free_sound, free_sound}
 use Rattle.sync_course.proofs.FreeSteps.{step_adds, free_batches, held_pends, NotPlain}
@@ -39,7 +39,7 @@ use Rattle.sync_course.proofs.SendLaws.{front_of_none, front_so, output}
 use Rattle.sync_course.proofs.ToldLaws.{batches_of-append}
 use Rattle.record_grammar.specs.Stream.{records, records_of}
 use Rattle.sync_ids.specs.declared.records.Record.{Record}
-use Rattle.sync_rules.proofs.StepLaws.{next_is_settling, IsSettlingEntry}
+use Rattle.sync_rules.proofs.StepLaws.{next_is_settling}
 use Rattle.sync_rules.specs.Lists.{In}
 use Rattle.sync_course.specs.Turns.{Attaches, Broken, Greets, Place, RunStep}
 use Rattle.sync_course.specs.Turns.{Settles, Stage, Terms, first_place}
@@ -48,6 +48,7 @@ use Rattle.outside.specs.Runs as runs
 use Rattle.outside.proofs.RunLaws as runs_laws
 use Rattle.record_grammar.specs.declared.stream.Item.TheVariants as item
 use Rattle.sync_rules.specs.declared.entries.Entry.TheVariants as entry
+use Rattle.sync_rules.specs.EntryTests.{IsSettlingEntry}
 
 -- ---- which sessions began
 
@@ -62,7 +63,7 @@ begun_by-append (_ ∷ bs) cs = begun_by-append bs cs
 -- the record that is next on a session stands at its number among all that are heard on its link
 pub next_stands : FrontsHaveFronts → (heard : ℕ → List ℕ) (f : Facts) (session place n : ℕ)
     (r : Record)
-    (its : List Item) (link : Link) → IsFront link.heard (heard n)
+    (its : List Item) (link : Link) → ContinuesList link.heard (heard n)
     → IsCounted f session (item.One place r ∷ its) link
     → slice_get (records (heard n)) (takes_of f.takes session) ≡ Some r
 unfolding records_of
@@ -83,7 +84,7 @@ module _ (go_on : StreamsGoOn) (join : RecordsJoin) (fronts : FrontsHaveFronts) 
   AllSuit f bs = AllSuitNode clients first plans heard f bs
 
   free_suits : (e : Event) (p q : Free) → FreeStep clients first p e q
-      → ((i : ℕ) → IsFront (heard_at p i) (heard i)) → IsFreeSound clients first p
+      → ((i : ℕ) → ContinuesList (heard_at p i) (heard i)) → IsFreeSound clients first p
       → ((s : Session) → e ≡ Commit (entry.Session s ∷ []) → p.facts.begun ≡ first + length p.links
       → slice_get plans (length p.links) ≡ Some s)
       → AllSuit p.facts (batches_of (e ∷ []))
@@ -113,7 +114,7 @@ module _ (go_on : StreamsGoOn) (join : RecordsJoin) (fronts : FrontsHaveFronts) 
             read = r;
             stands =
                 next_stands fronts heard p.facts (first + n) place n r its link
-                (subst (λ o. IsFront (heard_in o) (heard n)) at (grows n))
+                (subst (λ o. ContinuesList (heard_in o) (heard n)) at (grows n))
                 (subst (λ l. IsCounted p.facts (first + n) l link) (held_pends holds)
                 (s.counted n link at));
             so = refl;
@@ -135,7 +136,7 @@ module _ (go_on : StreamsGoOn) (join : RecordsJoin) (fronts : FrontsHaveFronts) 
 
   -- as many sessions began before, and those that begin on the path are planned behind them
   pub free_path_suits : (n : ℕ) (p q : Free) (es : List Event) → Path (FreeStep clients first) p es q
-      → ((i : ℕ) → IsFront (heard_at q i) (heard i)) → IsFreeSound clients first p
+      → ((i : ℕ) → ContinuesList (heard_at q i) (heard i)) → IsFreeSound clients first p
       → p.facts.begun ≡ first + n
       → ((k i : ℕ) (x : Session) → i ≡ n + k → slice_get (begun_by (batches_of es)) k ≡ Some x
       → slice_get plans i ≡ Some x)
@@ -308,16 +309,18 @@ module _ (clients : Meaning) (terms : Terms) where
 
 pub run_suits : StreamsGoOn → RecordsJoin → FrontsHaveFronts → (clients : Meaning) (terms : Terms) (sessions : List Session)
     (j : List (List Entry)) (events : List Event) (last : Place) → Legal clients j → Broken clients terms sessions (facts j) events last
-    → AllSuitPlanned clients terms.first sessions (heard_on last) (facts j) (batches_of events)
+    → AllSuitPlanned clients terms.first sessions (heard_at_place last) (facts j)
+    (batches_of events)
 run_suits go_on join fronts clients terms sessions j events last legal broken =
     let start = first_place sessions (facts j) in
     let first : ℕ = terms.first in
     let numbered : first ≡ (facts j).begun = broken.numbered in
     let begun : (facts j).begun ≡ first + 0 = omega (arith, numbered) in
-    path_planned clients terms sessions (heard_on last) (facts j) start last events broken.path
-    (free_path_suits go_on join fronts clients first sessions (heard_on last) 0
+    path_planned clients terms sessions (heard_at_place last)
+    (facts j) start last events broken.path
+    (free_path_suits go_on join fronts clients first sessions (heard_at_place last) 0
     (first_free (facts j)) (forget last) events (run_is_free clients terms start last events broken.path)
-    (λ i. front_itself (heard_on last i))
+    (λ i. front_itself (heard_at_place last i))
     (subst (λ k. IsFreeSound clients k (first_free (facts j))) (sym numbered)
     (first_free_sound clients j legal)) begun
     (λ k i x number at.

@@ -9,7 +9,8 @@ use Rattle.std.specs.declared.cmp.Ordering.TheVariants as ordering
 use Rattle.std.proofs.lemmas.Bool.{and_from, and_parts, false≢true, lt-ltb, ltb-true, or_cases, or_left, or_right}
 use Rattle.sync_rules.specs.Lists.{In}
 use Rattle.sync_course.specs.declared.ends.LinkEnd.TheVariants as end
-use Rattle.sync_course.specs.Links.{Link, beats, closed_from, is_beaten, is_before, is_going, is_kept}
+use Rattle.sync_course.specs.Links.{Link, beats, closed_from, is_beaten, is_before, is_going}
+use Rattle.sync_course.specs.Links.{is_nonce_kept}
 use Rattle.sync_course.specs.Redundant.{KeptRather, closed_as, closed_upto}
 
 -- ---- the order
@@ -39,15 +40,16 @@ module _ (x y z : List ℕ) (first second whole : Bool)
   before_then ordering.Equal ordering.Equal e f a b =
       ap (λ o. is_before o whole) (nat_list_cmp_total.congr x y z e ∙ f) ∙ both a b
 
-kept_then : (x y z : Option (List ℕ)) (first second whole : Bool) → (first ≡ true → second ≡ true → whole ≡ true) → is_kept x y first ≡ true
-    → is_kept y z second ≡ true → is_kept x z whole ≡ true
+kept_then : (x y z : Option (List ℕ)) (first second whole : Bool)
+    → (first ≡ true → second ≡ true → whole ≡ true) → is_nonce_kept x y first ≡ true
+    → is_nonce_kept y z second ≡ true → is_nonce_kept x z whole ≡ true
 kept_then None y z first second whole both a b = cc
 kept_then (Some x) None z first second whole both a b = cc
 kept_then (Some x) (Some y) None first second whole both a b = cc
 kept_then (Some x) (Some y) (Some z) first second whole both a b =
     before_then x y z first second whole both (slice_cmp nat_cmp x y) (slice_cmp nat_cmp y z) refl refl a b
 
-not_kept : (x : Option (List ℕ)) → is_kept x x false ≡ false
+not_kept : (x : Option (List ℕ)) → is_nonce_kept x x false ≡ false
 not_kept None = refl
 not_kept (Some x) = not_before (slice_cmp nat_cmp x x) refl
   where
@@ -60,7 +62,7 @@ pub record Beats (i : ℕ) (a : Link) (k : ℕ) (b : Link) : Type 0 where
   pub first_going : is_going a.stands ≡ true
   pub second_going : is_going b.stands ≡ true
   pub same_contact : nat_eq a.contact b.contact ≡ true
-  pub kept : is_kept a.nonce b.nonce (nat_lt i k) ≡ true
+  pub kept : is_nonce_kept a.nonce b.nonce (nat_lt i k) ≡ true
 
 pub beats_parts : (i : ℕ) (a : Link) (k : ℕ) (b : Link) → beats i a k b ≡ true → Beats i a k b
 beats_parts i a k b is =
@@ -101,7 +103,9 @@ never false absent = refl
 pub not_itself : {A : Type 0} → (i : ℕ) (a : Link) → beats i a i a ≡ true → A
 not_itself i a is =
     let none = never (nat_lt i i) (λ is. let less : i < i = ltb-true i i is in omega (arith, less)) in
-    absurd (false≢true (sym (not_kept a.nonce) ∙ ap (λ b. is_kept a.nonce a.nonce b) (sym none) ∙ (beats_parts i a i a is).kept))
+    absurd (false≢true
+    (sym (not_kept a.nonce) ∙ ap (λ b. is_nonce_kept a.nonce a.nonce b) (sym none)
+    ∙ (beats_parts i a i a is).kept))
 
 -- ---- the one that is kept
 

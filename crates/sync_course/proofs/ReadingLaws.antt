@@ -9,13 +9,13 @@ use Rattle.record_grammar.specs.declared.stream.Ending.{Ending}
 use Rattle.record_grammar.specs.declared.stream.Ending.TheVariants as ending_kind
 use Rattle.record_grammar.specs.declared.stream.Item.{Item}
 use Rattle.record_stream.specs.Pieces.{ReadingsFollow, ReadingsWiden}
-use Rattle.record_stream.specs.Reading.{AwaitsBytes, EndsBad, ReaderState, ReadsOn, fresh}
+use Rattle.record_stream.specs.Reading.{AwaitsBytes, EndsBad, ReaderState, ReadsOn, fresh_reader}
 use Rattle.sync_course.specs.declared.ends.LinkEnd.TheVariants as end
 use Rattle.sync_course.proofs.RunLaws.{new_items_are}
 use Rattle.sync_course.specs.Links.{new_items, stands_behind}
 use Rattle.sync_course.specs.Reading.{HasRead, IsReading}
 
-pub fresh_has_read : AwaitsBytes fresh → items 0 [] ≡ [] → HasRead [] fresh
+pub fresh_has_read : AwaitsBytes fresh_reader → items 0 [] ≡ [] → HasRead [] fresh_reader
 fresh_has_read awaits none = record {
   reads = record {
     items_stay = λ more. ap (λ l. l ++ items 0 ([] ++ ([] ++ more))) (sym none);
@@ -28,7 +28,7 @@ fresh_has_read awaits none = record {
 pub piece_comes : ReadingsWiden → (heard bytes : List ℕ) (r : ReaderState) → HasRead heard r → IsReading (heard ++ bytes) bytes r (new_items heard bytes)
 piece_comes widen heard bytes r h = record {
   given = items 0 heard;
-  reads = widen heard [] bytes fresh r (items 0 heard) h.reads;
+  reads = widen heard [] bytes fresh_reader r (items 0 heard) h.reads;
   to_come = new_items_are heard bytes (items r.place (r.bytes ++ bytes)) (h.reads.items_stay bytes);
 }
 
@@ -45,7 +45,7 @@ answer_comes follow heard left left' r r' its has reading reads =
           ∙ ap (λ l. has ++ items r'.place (r'.bytes ++ l)) (append-nil left'),
       record {
         given = reading.given ++ has;
-        reads = follow heard left left' fresh r r' reading.given has reading.reads reads;
+        reads = follow heard left left' fresh_reader r r' reading.given has reading.reads reads;
         to_come = refl;
       },
     )
@@ -56,7 +56,8 @@ pub none_come : (heard left : List ℕ) (r : ReaderState) (its : List Item) → 
 none_come heard left r its reading none awaits =
     let nothing : items r.place (r.bytes ++ left) ≡ [] =
     ap (λ l. items r.place (r.bytes ++ l)) none ∙ ap (items r.place) (append-nil r.bytes) ∙ awaits.nothing in
-    let reads : ReadsOn heard fresh reading.given [] r = subst (λ l. ReadsOn heard fresh reading.given l r) none reading.reads in
+    let reads : ReadsOn heard fresh_reader reading.given [] r =
+    subst (λ l. ReadsOn heard fresh_reader reading.given l r) none reading.reads in
     let stays = reads.items_stay [] in
     let whole : items 0 heard ≡ reading.given =
     ap (items 0) (sym (append-nil heard))
@@ -65,7 +66,7 @@ none_come heard left r its reading none awaits =
     ∙ append-nil reading.given in (
       reading.to_come ∙ nothing,
       record {
-        reads = subst (λ given. ReadsOn heard fresh given [] r) (sym whole) reads;
+        reads = subst (λ given. ReadsOn heard fresh_reader given [] r) (sym whole) reads;
         awaits = awaits;
       },
     )

@@ -14,7 +14,7 @@ use Rattle.sync_rules.specs.Clients.{Meaning}
 use Rattle.sync_rules.specs.Facts.{Facts, after_batches, facts, session_at}
 use Rattle.sync_rules.specs.Growth.{output_in}
 use Rattle.sync_rules.specs.Legal.{GoesOn, Legal, MayBegin}
-use Rattle.sync_rules.specs.Output.{first_records, records_of, sent}
+use Rattle.sync_rules.specs.Output.{first_records, out_records, sent}
 use Rattle.sync_rules.proofs.Continuing.{facts-append, legal-append}
 use Rattle.sync_rules.proofs.OutputLaws.{not_begun_sent, sent_push, settling_silent, silent_adds_nothing, take_silent}
 use Rattle.sync_rules.proofs.SessionLaws.{legal_sessions}
@@ -140,7 +140,7 @@ event_spares clients first e p q i t s o f =
       puts = λ n now room what link holds at is_due allowed.
           let is_open : is_sent_to link.stands ≡ true =
           subst (λ h. HoldsOpen h p.links) holds o link at in
-          ap (λ b. cond b (records_of p.facts.held what) [] ++ [])
+          ap (λ b. cond b (out_records p.facts.held what) [] ++ [])
           (ne_eqb (first + n) (first + i)
           (λ same.
           let is : first + n ≡ first + i = same in

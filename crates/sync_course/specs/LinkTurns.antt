@@ -19,7 +19,8 @@ use Rattle.sync_rules.specs.Steps.{IsSettled}
 use Rattle.sync_course.specs.declared.ends.LinkEnd.TheVariants as end
 use Rattle.sync_course.specs.declared.TheConstants.{MAX_OUTPUTS}
 use Rattle.sync_course.specs.Events.{Event, Commit, Hear, Miss, Read, Break, Pass}
-use Rattle.sync_course.specs.Links.{Link, is_going, is_sent_to, items_after, link_after, new_items, stands_behind, stands_ended}
+use Rattle.sync_course.specs.Links.{Link, is_going, is_sent_to, items_after, link_after_take}
+use Rattle.sync_course.specs.Links.{new_items, stands_behind, stands_ended}
 
 -- What a link does: it asks for bytes; it takes these items; it waits for the clock; it sends, at this reading, so many outputs
 -- more; it puts the bytes of an output out; or its turn is done.
@@ -84,7 +85,7 @@ answered_spot answer.Failed buf p = failed_spot p
 abbrev pub taken_spot : ℕ → Record → List Item → List Entry → Spot → Spot
 taken_spot place r its batch p = record {
   doing = Takes (items_after r its);
-  link = link_after place r p.link;
+  link = link_after_take place r p.link;
   moved = p.moved;
   facts = after_all p.facts batch;
 }

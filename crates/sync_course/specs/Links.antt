@@ -58,8 +58,8 @@ nonce_after None (record_kind.Priority nonce) = Some nonce
 nonce_after known _ = known
 
 -- a link on which a record at this place was taken
-abbrev pub link_after : ℕ → Record → Link → Link
-link_after place r link = record link {
+abbrev pub link_after_take : ℕ → Record → Link → Link
+link_after_take place r link = record link {
   nonce = nonce_after link.nonce r;
   stands = cond (closes r) (end.NoVersion place) link.stands;
 }
@@ -88,15 +88,17 @@ is_before ordering.Equal smaller = smaller
 is_before ordering.Less smaller = false
 
 -- the first nonce is kept rather than the other, where both are known
-abbrev pub is_kept : Option (List ℕ) → Option (List ℕ) → Bool → Bool
-is_kept None other smaller = false
-is_kept (Some nonce) None smaller = false
-is_kept (Some nonce) (Some other) smaller = is_before (slice_cmp nat_cmp nonce other) smaller
+abbrev pub is_nonce_kept : Option (List ℕ) → Option (List ℕ) → Bool → Bool
+is_nonce_kept None other smaller = false
+is_nonce_kept (Some nonce) None smaller = false
+is_nonce_kept (Some nonce) (Some other) smaller = is_before (slice_cmp nat_cmp nonce other) smaller
 
 -- the link of the number i is kept rather than that of the number k: both are asked and lead to the same contact, and its nonce is
 -- greater, or equal where i is the smaller number
 abbrev pub beats : ℕ → Link → ℕ → Link → Bool
-beats i a k b = is_going a.stands && (is_going b.stands && (nat_eq a.contact b.contact && is_kept a.nonce b.nonce (nat_lt i k)))
+beats i a k b = is_going a.stands &&
+    (is_going b.stands &&
+    (nat_eq a.contact b.contact && is_nonce_kept a.nonce b.nonce (nat_lt i k)))
 
 -- some link of a list, whose first has the number i, is kept rather than that of the number k
 abbrev pub is_beaten : ℕ → List Link → ℕ → Link → Bool

@@ -21,8 +21,8 @@ abbrev pub heard_in : Option Link → List ℕ
 heard_in None = []
 heard_in (Some link) = link.heard
 
-abbrev pub heard_on : Place → ℕ → List ℕ
-heard_on p i = heard_in (slice_get p.links i)
+abbrev pub heard_at_place : Place → ℕ → List ℕ
+heard_at_place p i = heard_in (slice_get p.links i)
 
 -- a batch of a session of a link: it takes, as its k-th, the k-th record heard on that link
 pub record TakesHeard (first : ℕ) (heard : ℕ → List ℕ) (f : Facts) (session k : ℕ) (rest : List Entry) : Type 0 where

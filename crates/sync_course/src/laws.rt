@@ -25,7 +25,7 @@ ghost use Rattle.sync_course.specs.DueOutputs.{OutIsDue};
 ghost use Rattle.sync_course.specs.Paths.{Path};
 ghost use Rattle.sync_course.specs.Quiet.{EndsQuiet};
 ghost use Rattle.sync_course.specs.Pending.{pending_at};
-ghost use Rattle.sync_course.specs.Suits.{AllSuitCourse, heard_on, IsCounted};
+ghost use Rattle.sync_course.specs.Suits.{AllSuitCourse, heard_at_place, IsCounted};
 ghost use Rattle.sync_course.specs.Turns.{Broken, Course, first_place, is_over, Place};
 ghost use Rattle.sync_course.specs.Turns.{RunStep, Terms, with_spot};
 ghost use Rattle.sync_course.specs.Free.{first_free, forget, Free, FreeStep, owing_free};
@@ -90,7 +90,7 @@ pub fn batches_suit()
     ensures { (clients : Meaning) (terms : Terms) (sessions : List Session)
         (j : List (List Entry)) (events : List Event) (last : Place) → Legal clients j
         → Broken clients terms sessions (facts j) events last
-        → AllSuitCourse clients terms.first sessions (heard_on last) (facts j) (batches_of events) }
+        → AllSuitCourse clients terms.first sessions (heard_at_place last) (facts j) (batches_of events) }
 {
     streams_go_on();
     records_join();
@@ -103,7 +103,7 @@ pub fn batches_suit_as_planned()
     ensures { (clients : Meaning) (terms : Terms) (sessions : List Session)
         (j : List (List Entry)) (events : List Event) (last : Place) → Legal clients j
         → Broken clients terms sessions (facts j) events last
-        → AllSuitPlanned clients terms.first sessions (heard_on last) (facts j)
+        → AllSuitPlanned clients terms.first sessions (heard_at_place last) (facts j)
         (batches_of events) }
 {
     streams_go_on();

@@ -1,9 +1,8 @@
 -- What the calls of a store come to, as acts; and a batch that is added beside the sessions.
 use Rattle.std.proofs.Common.{◌++◌, [], ◌∷◌, ◌≡◌, ◌<◌, false, List, ◌∙◌, subst, Result, Ok, Err, Some, ◌≢◌, ℕ, refl, sym, ap, inl, inr, arith, append-nil}
 use Rattle.sync_rules.specs.Clients.{Meaning}
-use Rattle.sync_rules.specs.Facts.{Facts, after_all, after_batches, facts, session_at}
+use Rattle.sync_rules.specs.Facts.{Facts, Journal, after_all, after_batches, facts, session_at}
 use Rattle.sync_rules.specs.Legal.{AllSettling}
-use Rattle.sync_node.specs.Output.{Journal}
 use Rattle.outside.specs.Faults.{CountRose}
 use Rattle.outside.specs.Files.{Two, File}
 use Rattle.outside.specs.Outside.{DiskRun, MakesAtMost, Outside}

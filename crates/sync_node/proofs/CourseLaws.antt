@@ -7,12 +7,12 @@ use Rattle.outside.specs.Outside.{LinkCall, MakesAtMost, Outside, Moment}
 use Rattle.outside.proofs.CallCounts.{most_link, most_none}
 use Rattle.sync_rules.specs.declared.entries.Entry.{Entry}
 use Rattle.sync_rules.specs.Clients.{Meaning}
+use Rattle.sync_rules.specs.Facts.{Journal}
 use Rattle.entry_codec.specs.Standing.{journal}
 use Rattle.sync_store.specs.Store.{StoreValue}
 use Rattle.sync_store.specs.Fitting.{FitsFiles, FitsSome}
 use Rattle.sync_store.specs.Moments.{IsBetween, LeadsTo, WithAtMost}
 use Rattle.sync_node.specs.Courses.{FitsWith, ReadsFront}
-use Rattle.sync_node.specs.Output.{Journal}
 
 -- files that are told on one side of a call are told on the other
 pub told_as : {A : Type 0} (a b : Option A) (x : A) → is_some b ≡ is_some a → a ≡ Some x

@@ -10,7 +10,8 @@ use Rattle.sync_node.specs.Sending.{ClosesSome}
 use Rattle.std.specs.Cmp.Lexicographic.{slice_cmp}
 use Rattle.std.specs.Ordering.{nat_cmp}
 use Rattle.std.specs.declared.cmp.Ordering.{Ordering}
-use Rattle.sync_course.specs.Links.{beats, is_beaten, is_before, is_going, is_kept, without_redundant}
+use Rattle.sync_course.specs.Links.{beats, is_beaten, is_before, is_going, is_nonce_kept}
+use Rattle.sync_course.specs.Links.{without_redundant}
 use Rattle.sync_course.specs.Redundant.{closed_upto}
 use Rattle.sync_course.proofs.KeptLaws.{closed_whole, closes_next}
 use Rattle.sync_course.specs.declared.ends.LinkEnd.{LinkEnd}
@@ -134,13 +135,15 @@ outdoes_when a b before r o theirs own first second same one two order is =
         → outdoes_of a b before ≡ is_before (slice_cmp nat_cmp theirs own) before
     whole first second same one two =
         ap (λ (e : LinkEnd). is_going e && (is_going b.end
-        && (nat_eq a.session.contact b.session.contact && is_kept a.nonce b.nonce before))) first
+        && (nat_eq a.session.contact b.session.contact && is_nonce_kept a.nonce b.nonce before)))
+        first
         ∙ ap (λ (e : LinkEnd). is_going e
-        && (nat_eq a.session.contact b.session.contact && is_kept a.nonce b.nonce before)) second
-        ∙ ap (λ (t : Bool). t && is_kept a.nonce b.nonce before)
+        && (nat_eq a.session.contact b.session.contact && is_nonce_kept a.nonce b.nonce before))
+        second
+        ∙ ap (λ (t : Bool). t && is_nonce_kept a.nonce b.nonce before)
         (eq-eqb a.session.contact b.session.contact same)
-        ∙ ap (λ (n : Option (List ℕ)). is_kept n b.nonce before) one
-        ∙ ap (λ (n : Option (List ℕ)). is_kept (Some theirs) n before) two
+        ∙ ap (λ (n : Option (List ℕ)). is_nonce_kept n b.nonce before) one
+        ∙ ap (λ (n : Option (List ℕ)). is_nonce_kept (Some theirs) n before) two
 
 -- ---- some link of a list is kept rather than one
 

@@ -4,6 +4,7 @@ use Rattle.outside.specs.Outside.{MakesAtMost, Moment, Outside}
 use Rattle.outside.specs.Runs.{TellsAll}
 use Rattle.outside.proofs.CallCounts.{most_none, most_then}
 use Rattle.sync_rules.specs.Clients.{Meaning}
+use Rattle.sync_rules.specs.Facts.{Journal}
 use Rattle.entry_codec.specs.Standing.{journal}
 use Rattle.sync_store.specs.Store.{StoreValue}
 use Rattle.sync_course.specs.Acts.{Act, AtFront, batches_in, commit_acts, events_of, sends_on}
@@ -13,7 +14,7 @@ use Rattle.sync_course.proofs.ToldLaws.{told_none, told_then}
 use Rattle.sync_node.specs.Courses.{FitsWith, ReadsAs}
 use Rattle.sync_node.specs.Did.{ComesAtFronts, Did, DidSome, HasSentBy, SinceThen}
 use Rattle.sync_node.specs.Going.{LetsNothingFall}
-use Rattle.sync_node.specs.Output.{Journal, sent_on}
+use Rattle.sync_node.specs.Output.{sent_on}
 use Rattle.sync_node.proofs.CourseLaws.{told_as}
 use Rattle.sync_node.proofs.SafeLaws.{goes_none}
 use Rattle.sync_node.proofs.WorkLaws.{goes_then}

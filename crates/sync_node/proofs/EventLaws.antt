@@ -6,7 +6,7 @@ use Rattle.outside.specs.Disk.{RelatesTold}
 use Rattle.outside.specs.Links.{HeardOn, Planned}
 use Rattle.outside.specs.Outside.{MakesAtMost, Outside}
 use Rattle.sync_rules.specs.Clients.{Meaning}
-use Rattle.sync_rules.specs.Facts.{Facts}
+use Rattle.sync_rules.specs.Facts.{Facts, Journal}
 use Rattle.sync_store.specs.Store.{StoreValue}
 use Rattle.sync_course.specs.Acts.{Act, Does, Fail, Send, commit_acts, events_of}
 use Rattle.sync_course.specs.Events.{Break, Event, GrowsBy, Pass, PlansAfter, RoseIf, ChangesThrough, TellsEvents, UpcomingAfter, batches_of, commits, has_failure, heard_after, heard_by, is_failure, readings_of}
@@ -16,7 +16,6 @@ use Rattle.sync_course.proofs.ToldLaws.{batches_of-append, readings_of-append}
 use Rattle.sync_node.specs.declared.fault.Fault.{Fault}
 use Rattle.sync_node.specs.declared.fault.Fault.TheVariants as fault
 use Rattle.sync_node.specs.Courses.{FitsWith, ReadsAs}
-use Rattle.sync_node.specs.Output.{Journal}
 use Rattle.sync_node.specs.Went.{Stopped, Went}
 
 -- ---- events without some that tell of nothing

@@ -6,7 +6,7 @@ use Rattle.outside.specs.Outside.{Outside}
 use Rattle.sync_rules.specs.declared.entries.Entry.{Entry}
 use Rattle.sync_rules.specs.declared.entries.Session.{Session}
 use Rattle.sync_rules.specs.Clients.{Meaning}
-use Rattle.sync_rules.specs.Facts.{Facts, after_all, session_at, takes_of}
+use Rattle.sync_rules.specs.Facts.{Facts, Journal, after_all, session_at, takes_of}
 use Rattle.sync_rules.specs.Legal.{Allowed}
 use Rattle.sync_rules.specs.Sessions.{taken}
 use Rattle.sync_rules.specs.Steps.{IsSettled}
@@ -24,12 +24,11 @@ use Rattle.sync_node.specs.Batches.{SettleStops, Settled}
 use Rattle.sync_node.specs.Causes.{LinkGoes}
 use Rattle.sync_node.specs.Did.{Did}
 use Rattle.sync_node.specs.Going.{LetsNothingFall}
-use Rattle.sync_node.specs.Output.{Journal}
 use Rattle.sync_node.specs.Keeps.{HasOrStops, IsReadyOrRose, LinkKeeps, LinkWorks, OfLink, StaysSettled, StoreKeeps, stop_of}
 use Rattle.sync_node.specs.Working.{IsAble}
 use Rattle.sync_node.specs.OnRuns.{GreetsBy}
 use Rattle.sync_node.specs.Sending.{SendsOn}
-use Rattle.sync_node.specs.Starting.{HasBegun, StartStops}
+use Rattle.sync_node.specs.Starting.{SessionBegan, StartStops}
 use Rattle.sync_course.specs.LinkTurns.{next_take, out_batch}
 use Rattle.sync_node.proofs.CauseLaws.{link_kept, link_sent, link_then, rose_before}
 use Rattle.sync_node.proofs.OutLaws.{still_so}
@@ -329,7 +328,7 @@ pub has_begun : (clients : Meaning) (n : ℕ) (x begun : Session) (first second 
     → Some begun ≡ session_at s1.state.facts.sessions x.number → begun.number ≡ x.number
     → l0.session ≡ begun → AwaitsBytes l0.reader → l0.end ≡ link_end.Going
     → GreetsBy n first second l0 l o1 o2 → LinkGoes n l0 l o1 o2
-    → HasBegun clients n x l s s1 o o2
+    → SessionBegan clients n x l s s1 o o2
 has_begun clients n x begun first second l0 l s s1 o o1 o2 batch is settled commits found numbered session awaits going greets goes =
     let facts : s1.state.facts ≡ after_all s.state.facts (session_batch x) =
     commits.facts ∙ ap (λ (b : List Entry). after_all s.state.facts b) is in

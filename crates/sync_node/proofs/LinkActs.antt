@@ -7,14 +7,15 @@ use Rattle.record_grammar.specs.declared.stream.Item.{Item}
 use Rattle.sync_ids.specs.declared.records.Record.{Record}
 use Rattle.sync_rules.specs.declared.entries.Entry.{Entry}
 use Rattle.sync_rules.specs.Clients.{Meaning}
-use Rattle.sync_rules.specs.Facts.{Facts, after_all, after_batches}
+use Rattle.sync_rules.specs.Facts.{Facts, Journal, after_all, after_batches}
 use Rattle.sync_rules.specs.Legal.{Allowed, AllSettling}
 use Rattle.sync_rules.proofs.OutputLaws.{settling_silent, silent_adds_nothing, take_silent}
 use Rattle.sync_store.specs.Ready.{IsReady}
 use Rattle.sync_store.specs.Store.{StoreValue}
 use Rattle.sync_course.specs.Acts.{Does, commit_acts}
 use Rattle.sync_course.specs.Events.{Commit, Event, Pass, asked_event}
-use Rattle.sync_course.specs.Links.{items_after, link_after, stands_behind, is_going, new_items, stands_ended}
+use Rattle.sync_course.specs.Links.{items_after, link_after_take, stands_behind, is_going}
+use Rattle.sync_course.specs.Links.{new_items, stands_ended}
 use Rattle.sync_course.specs.LinkTurns.{LinkStep, Spot, Takes, next_take, taken_spot, PassesItem, Waits, Asks, Done, answered_spot}
 use Rattle.sync_course.specs.Owing.{Owing, adds_to, paid}
 use Rattle.sync_course.specs.Paths.{Path}
@@ -24,7 +25,6 @@ use Rattle.sync_node.specs.declared.fault.Fault.{Fault}
 use Rattle.sync_node.specs.Batches.{CommitStops, Committed, Settled, SettleStops, SettlesBy}
 use Rattle.sync_node.specs.Did.{Did}
 use Rattle.sync_node.specs.OnLinks.{LinkActs, LinkStopped, LinkWent, RecordStopped, RecordTaken, ItemsStopped, NextWent, PieceWent, HearingStopped, HearingWent}
-use Rattle.sync_node.specs.Output.{Journal}
 use Rattle.sync_node.proofs.BatchLaws.{settling_front}
 use Rattle.sync_node.proofs.TakeLaws.{IsNextTake, closed_behind, learned, not_taking, to_come}
 use Rattle.sync_node.proofs.PrimLaws.{did_pass, did_quiet}
@@ -226,19 +226,19 @@ module _ (clients : Meaning) (n session : ℕ) where
 
     pub link_take_stops : (s s' : StoreValue) (o o' : Outside) (e : Fault)
         → CommitStops clients its_batch s s' o o' e
-        → LinkStopped clients n session p (link_after place r p.link) s s' o o' e
+        → LinkStopped clients n session p (link_after_take place r p.link) s s' o o' e
     link_take_stops s s' o o' e stops = λ first is.
         commit_stopped clients (LinkActs clients first n)
-        (λ (x : Owing Spot). x.at.link ≡ link_after place r p.link) (paid p) (paid take_spot)
+        (λ (x : Owing Spot). x.at.link ≡ link_after_take place r p.link) (paid p) (paid take_spot)
         its_batch
         (step_of first is p take_spot (Commit its_batch) take_step (take_owes first))
         refl s s' o o' e stops
 
     pub link_take_no_memory : (s : StoreValue) (o : Outside) → IsReady clients s o.files
-        → LinkStopped clients n session p (link_after place r p.link) s s o o fault.Memory
+        → LinkStopped clients n session p (link_after_take place r p.link) s s o o fault.Memory
     link_take_no_memory s o ready = λ first is.
         no_memory clients (LinkActs clients first n)
-        (λ (x : Owing Spot). x.at.link ≡ link_after place r p.link) (paid p) s o ready
+        (λ (x : Owing Spot). x.at.link ≡ link_after_take place r p.link) (paid p) s o ready
         (inr (record {
           batch = its_batch;
           next = paid take_spot;
@@ -253,7 +253,7 @@ module _ (clients : Meaning) (n session : ℕ) where
 abbrev behind_take : Record → ℕ → List Item → Spot → Facts → Spot
 behind_take r place its p f = record {
   doing = Takes (items_after r its);
-  link = link_after place r p.link;
+  link = link_after_take place r p.link;
   moved = p.moved;
   facts = f;
 }
@@ -309,7 +309,7 @@ module _ {clients : Meaning} {session : ℕ} {r : Record} {s : StoreValue} {batc
   record_stops_at_settle {mid = mid} {s' = s'} {o = o} {m = m} {o' = o'} commits e stops = record {
     stops = λ n place its p takes same.
         let q : Spot = behind_take r place its p mid.state.facts in
-        link_stops_then n (link_after place r p.link) s' o' e
+        link_stops_then n (link_after_take place r p.link) s' o' e
         (committed_take mid o m commits n place its p takes same)
         (link_settle_stops clients n session q (items_after r its) mid s' m o' e refl refl stops);
   }
@@ -346,7 +346,7 @@ module _ (follow : ReadingsFollow) {piece left : List ℕ} {l : Link} where
     same_number : l'.session.number ≡ l.session.number
     same_number = ap (λ (x : Session). x.number) learns.same_session
 
-    stands_so : (heard : List ℕ) → link_after place r (link_at l heard) ≡ link_at l' heard
+    stands_so : (heard : List ℕ) → link_after_take place r (link_at l heard) ≡ link_at l' heard
     stands_so heard = learned place r (record l { reader = reader }) l' heard learns
 
     pub item_one : {clients : Meaning} {n : ℕ} {s s' : StoreValue} {o o' : Outside} → l.end ≡ link_end.Going

@@ -13,6 +13,7 @@ use Rattle.outside.specs.Links.{Links, sent_of, with_sent}
 use Rattle.outside.specs.Outside.{DiskRun, LinkCall, MakesAtMost, Moment, Outside, QuietCall}
 use Rattle.outside.proofs.RunLaws.{quiet_moments, send_moments, sent_at-other, sent_at-with_sent}
 use Rattle.sync_rules.specs.Clients.{Meaning}
+use Rattle.sync_rules.specs.Facts.{Journal}
 use Rattle.entry_codec.specs.Standing.{journal, room_of}
 use Rattle.sync_store.specs.Fitting.{FitsFiles, FitsSome, ImagesStand}
 use Rattle.sync_store.specs.Moments.{IsBetween, JournalMoment, LeadsTo}
@@ -26,7 +27,7 @@ use Rattle.sync_node.specs.Batches.{Breaks}
 use Rattle.sync_node.specs.Courses.{FitsWith, ReadsAs, ReadsFront}
 use Rattle.sync_node.specs.Did.{ComesAtFronts, Did, DidSome, HasSentBy}
 use Rattle.sync_node.specs.Going.{LetsNothingFall}
-use Rattle.sync_node.specs.Output.{Journal, sent_on}
+use Rattle.sync_node.specs.Output.{sent_on}
 use Rattle.sync_node.proofs.CourseLaws.{fits_grown, fits_on, quiet_most, reads_front}
 use Rattle.sync_node.proofs.DidLaws.{did_none, since_none}
 use Rattle.sync_node.proofs.WorkLaws.{goes_sent}

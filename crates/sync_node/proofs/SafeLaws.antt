@@ -9,11 +9,11 @@ use Rattle.outside.specs.Runs.{LinksGrow}
 use Rattle.outside.proofs.RunLaws.{grow_same}
 use Rattle.outside.proofs.CallSteps.{calls_link, calls_none}
 use Rattle.sync_rules.specs.Clients.{Meaning}
+use Rattle.sync_rules.specs.Facts.{Journal}
 use Rattle.sync_store.specs.Store.{StoreValue}
 use Rattle.sync_store.specs.Fitting.{FitsFiles, FitsSome}
 use Rattle.sync_store.specs.Moments.{LeadsTo}
 use Rattle.sync_node.specs.Going.{LetsNothingFall, specs_of}
-use Rattle.sync_node.specs.Output.{Journal}
 
 pub goes_none : (o : Outside) → LetsNothingFall o o
 goes_none o = record {

@@ -13,9 +13,9 @@ use Rattle.sync_rules.specs.declared.entries.Entry.{Entry}
 use Rattle.sync_rules.specs.declared.entries.Out.{Out}
 use Rattle.sync_rules.specs.declared.entries.Session.{Session}
 use Rattle.sync_rules.specs.Clients.{Meaning}
-use Rattle.sync_rules.specs.Facts.{after_all}
+use Rattle.sync_rules.specs.Facts.{Journal, after_all}
 use Rattle.sync_rules.specs.Legal.{Allowed}
-use Rattle.sync_rules.specs.Output.{records_of}
+use Rattle.sync_rules.specs.Output.{out_records}
 use Rattle.sync_store.specs.Fitting.{ImagesStand}
 use Rattle.sync_store.specs.Ready.{IsReady}
 use Rattle.sync_store.specs.Store.{StoreValue, written_in}
@@ -36,7 +36,6 @@ use Rattle.sync_node.specs.Courses.{IsReadyToSend, link_at, sends_on, spot_at}
 use Rattle.sync_node.specs.Did.{Did}
 use Rattle.sync_node.specs.Sending.{EndsBy, MaySend, SendsOn}
 use Rattle.sync_node.specs.OnLinks.{DueStopped, DueWent, LinkActs, LinkMakes, LinkStopped, LinkWent, OutsWent, PutStopped, PutWent, SendingStopped, SendingWent, HearingStopped, HearingWent, TurnWent}
-use Rattle.sync_node.specs.Output.{Journal}
 use Rattle.sync_node.proofs.OutLaws.{all_paid, kept_by, may_end, may_not_end, sent_session}
 use Rattle.sync_node.proofs.OutLaws.{sent_then, still_so}
 use Rattle.sync_node.proofs.DidLaws.{did_none, did_then}
@@ -166,12 +165,12 @@ module _ (clients : Meaning) (n now : ℕ) (what : Out) (l : Link) (s : StoreVal
   out_paid first at link =
       all_paid n link _
       (λ other. ap spelled (append-nil _
-      ∙ off_link l.session.number (first + link) (records_of s.state.facts.held what)
+      ∙ off_link l.session.number (first + link) (out_records s.state.facts.held what)
       (λ same. other (omega (arith, same, at)))))
 
   module _ (stand : ImagesStand) (s1 : StoreValue) (o1 o' : Outside) (l' : Link) (bytes : List ℕ)
       (commits : Committed clients batch s s1 o o1)
-      (is_bytes : bytes ≡ spelled (records_of s.state.facts.held what))
+      (is_bytes : bytes ≡ spelled (out_records s.state.facts.held what))
       (roomy : s1.end + room_of (written_in s1) s1.state.facts ≤ MAX_JOURNAL)
       (within : n < o1.links.dialled) (sends : SendsOn n bytes l l' o1 o') (may : MaySend l.end) where
     owed_bytes : (first : ℕ) → l.session.number ≡ first + n
@@ -179,7 +178,7 @@ module _ (clients : Meaning) (n now : ℕ) (what : Out) (l : Link) (s : StoreVal
     owed_bytes first at =
         is_bytes
         ∙ ap spelled (sym (append-nil _
-        ∙ on_link l.session.number (first + n) (records_of s.state.facts.held what) at))
+        ∙ on_link l.session.number (first + n) (out_records s.state.facts.held what) at))
 
     facts_are : after_all s.state.facts its_batch ≡ s1.state.facts
     facts_are = ap (after_all s.state.facts) (sym is) ∙ sym commits.facts

@@ -3,7 +3,7 @@ use Rattle.std.proofs.Common.{◌≡◌, ◌≢◌, ℕ, suc, ◌+◌, ◌<◌, 
 use Rattle.std.specs.List.{AllByRecursion}
 use Rattle.std.proofs.lemmas.Bool.{ne_eqb}
 use Rattle.record_grammar.specs.Spelling.{spelled, spelling}
-use Rattle.record_stream.specs.Reading.{ReaderState, AwaitsBytes, fresh}
+use Rattle.record_stream.specs.Reading.{ReaderState, AwaitsBytes, fresh_reader}
 use Rattle.sync_rules.specs.declared.entries.Entry.{Entry}
 use Rattle.sync_rules.specs.declared.entries.Session.{Session}
 use Rattle.sync_rules.specs.Clients.{Meaning}
@@ -40,7 +40,7 @@ use Rattle.sync_node.specs.Did.{Did}
 use Rattle.sync_node.specs.OnRuns.{BeginStopped, BeginWent, GreetsBy, IsGreeting, RunActs, RunStopped, RunWent, StartStopped, StartWent, StartWentLast, StartWorks}
 use Rattle.sync_node.specs.Keeps.{stop_of}
 use Rattle.sync_node.specs.Sending.{EndsBy, SendsOn}
-use Rattle.sync_node.specs.Starting.{HasBegun}
+use Rattle.sync_node.specs.Starting.{SessionBegan}
 use Rattle.sync_node.proofs.CourseRuns.{length_from}
 use Rattle.sync_node.proofs.DidLaws.{did_then}
 use Rattle.sync_node.proofs.KeepLaws.{commit_left, start_stops as leaves_by, was, session_batch}
@@ -393,9 +393,9 @@ module _ (clients : Meaning) (x : Session) (s : StoreValue) (o : Outside) (batch
       → s1.end + room_of (written_in s1) s1.state.facts ≤ MAX_JOURNAL
       → first ++ second ≡ spelled (first_records x)
       → Some begun ≡ session_at s1.state.facts.sessions x.number
-      → reader ≡ fresh → AwaitsBytes fresh
+      → reader ≡ fresh_reader → AwaitsBytes fresh_reader
       → GreetsBy n first second (record { session = begun; reader = reader; nonce = begun.nonce; end = link_end.Going }) l o1 o2
-      → HasBegun clients n x l s s1 o o2 → StartWent clients n x l s s1 o o2
+      → SessionBegan clients n x l s s1 o o2 → StartWent clients n x l s s1 o o2
   start_went n first second begun reader l s1 o1 o2 ready commits roomy bytes found is_fresh awaits greets has =
       let as_is : s1.state.facts ≡ after_all s.state.facts (session_batch x) = commits.facts ∙ ap (λ (b : List Entry). after_all s.state.facts b) is in
       record {
@@ -518,7 +518,7 @@ module _ (clients : Meaning) (first link : ℕ) (x : Session) (links : List Link
     (s s' : StoreValue) (o o' : Outside) (attached : AreAttached first links s.state.facts)
     (number : x.number ≡ s.state.facts.begun) (last : length links ≡ link)
     (facts : s'.state.facts ≡ after_all s.state.facts (session_batch x))
-    (begun : HasBegun clients link x l s s' o o') where
+    (begun : SessionBegan clients link x l s s' o o') where
   attached_push : AreAttached first (links ++ l ∷ []) s'.state.facts
   attached_push = record {
     begun =

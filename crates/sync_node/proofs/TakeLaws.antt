@@ -22,7 +22,8 @@ use Rattle.record_grammar.specs.declared.stream.Item.{Item}
 use Rattle.std.proofs.lemmas.Bool.{false≢true}
 use Rattle.record_grammar.specs.declared.stream.Ending.{Ending}
 use Rattle.sync_course.proofs.LinkLaws.{contains_zero, zero_contained}
-use Rattle.sync_course.specs.Links.{closes, has_zero, items_after, link_after, nonce_after, stands_behind}
+use Rattle.sync_course.specs.Links.{closes, has_zero, items_after, link_after_take, nonce_after}
+use Rattle.sync_course.specs.Links.{stands_behind}
 use Rattle.sync_course.specs.Reading.{IsReading}
 use Rattle.sync_node.specs.declared.link.Link.{Link}
 use Rattle.sync_course.specs.declared.ends.LinkEnd.{LinkEnd}
@@ -122,7 +123,7 @@ end_same place _ old new c = sym c
 
 -- what a record says of its link
 pub learned : (place : ℕ) (r : Record) (l l' : Link) (heard : List ℕ) → LearnsNonce place r l l'
-    → link_after place r (link_at l heard) ≡ link_at l' heard
+    → link_after_take place r (link_at l heard) ≡ link_at l' heard
 learned place r l l' heard learns = λ i. record {
   contact = ap (λ x. x.contact) (sym learns.same_session) i;
   nonce = (nonce_same l.nonce r ∙ sym learns.nonce) i;

@@ -6,6 +6,7 @@ use Rattle.sync_rules.specs.Clients.{Meaning}
 use Rattle.sync_store.specs.Ready.{IsReady}
 use Rattle.sync_store.specs.Store.{StoreValue}
 use Rattle.sync_rules.specs.declared.entries.Entry.{Entry}
+use Rattle.sync_rules.specs.Facts.{Journal}
 use Rattle.sync_course.specs.Acts.{Act, Does, commit_acts}
 use Rattle.sync_course.specs.Events.{Commit}
 use Rattle.sync_course.proofs.PathLaws.{path_one, path_then}
@@ -13,7 +14,6 @@ use Rattle.sync_node.specs.declared.fault.Fault.{Fault}
 use Rattle.sync_node.specs.declared.fault.Fault.TheVariants as fault
 use Rattle.sync_node.specs.Batches.{CommitStops, NodeStaysIdle}
 use Rattle.sync_node.specs.Did.{Did, DidSome}
-use Rattle.sync_node.specs.Output.{Journal}
 use Rattle.sync_node.specs.Went.{HasSoon, Stopped, StopsBroken, Went}
 use Rattle.sync_node.proofs.DidLaws.{did_none, did_then, some_then}
 use Rattle.sync_node.proofs.CauseLaws.{rose_before}

@@ -1,13 +1,12 @@
 -- A batch that is added to a journal beside the sessions, and settling behind it.
-use Rattle.std.specs.Prelude.{◌≡◌, ◌⊎◌, ◌*◌, List, [], ◌∷◌, ◌++◌, length}
+use Rattle.std.specs.Prelude.{◌≡◌, ◌⊎◌, ◌*◌, List, ◌∷◌, ◌++◌, length}
 use Rattle.sync_rules.specs.declared.entries.Entry.{Entry}
 use Rattle.sync_rules.specs.Clients.{Meaning}
-use Rattle.sync_rules.specs.Facts.{after_all, facts}
+use Rattle.sync_rules.specs.Facts.{Journal, after_all, facts}
 use Rattle.sync_rules.specs.Legal.{AllSettling}
 use Rattle.outside.specs.Outside.{MakesAtMost, Outside}
 use Rattle.sync_store.specs.Runs.{AddsBatch}
 use Rattle.sync_store.specs.Store.{StoreValue}
-use Rattle.sync_node.specs.Output.{Journal}
 
 -- the journal with the batch and settling behind it
 pub record AddsOne (clients : Meaning) (j : Journal) (batch : List Entry)

@@ -7,14 +7,13 @@ use Rattle.outside.specs.Faults.{CountRose}
 use Rattle.outside.specs.Outside.{Outside}
 use Rattle.sync_rules.specs.declared.entries.Entry.{Entry}
 use Rattle.sync_rules.specs.Clients.{Meaning}
-use Rattle.sync_rules.specs.Facts.{after_all, after_batches}
+use Rattle.sync_rules.specs.Facts.{Journal, after_all, after_batches}
 use Rattle.sync_rules.specs.Legal.{AllSettling}
 use Rattle.sync_rules.specs.Steps.{IsSettled}
 use Rattle.sync_store.specs.Ready.{IsReady}
 use Rattle.sync_store.specs.Runs.{AddsBatch}
 use Rattle.sync_course.specs.Acts.{commit_acts}
 use Rattle.sync_node.specs.Did.{Did, DidSome}
-use Rattle.sync_node.specs.Output.{Journal}
 use Rattle.sync_node.specs.declared.fault.Fault.TheVariants as fault
 
 -- the store is as before in all that contracts ask of it, and the host is the same

@@ -13,7 +13,7 @@ use Rattle.sync_store.specs.Fitting.{FitsFiles}
 use Rattle.record_grammar.specs.declared.stream.Item.{Item}
 use Rattle.sync_rules.specs.Facts.{Facts}
 use Rattle.sync_course.specs.Links as course_links
-use Rattle.sync_course.specs.Links.{is_going, is_kept, is_sent_to}
+use Rattle.sync_course.specs.Links.{is_going, is_nonce_kept, is_sent_to}
 use Rattle.sync_course.specs.Reading.{HasRead, IsReading}
 use Rattle.sync_node.specs.declared.link.Link.{Link}
 use Rattle.sync_course.specs.declared.ends.LinkEnd.{LinkEnd}
@@ -162,4 +162,5 @@ pub record BreaksBeginning (clients : Meaning) (session : Session) (links : List
 abbrev pub outdoes_of : Link → Link → Bool → Bool
 outdoes_of a b before =
     is_going a.end
-    && (is_going b.end && (nat_eq a.session.contact b.session.contact && is_kept a.nonce b.nonce before))
+    && (is_going b.end &&
+    (nat_eq a.session.contact b.session.contact && is_nonce_kept a.nonce b.nonce before))

@@ -5,12 +5,13 @@ use Rattle.std.specs.Prelude.{◌≡◌, ◌⊎◌, ℕ, ◌*◌, ◌≤◌, Lis
 use Rattle.outside.specs.Outside.{MakesAtMost, Moment, Outside}
 use Rattle.outside.specs.Runs.{TellsAll}
 use Rattle.sync_rules.specs.Clients.{Meaning}
+use Rattle.sync_rules.specs.Facts.{Journal}
 use Rattle.sync_store.specs.Store.{StoreValue}
 use Rattle.sync_course.specs.Acts.{Act, AtFront, batches_in, commit_acts, events_of, sends_on}
 use Rattle.sync_course.specs.Events.{TellsEvents as Tells}
 use Rattle.sync_node.specs.Courses.{FitsWith, ReadsAs}
 use Rattle.sync_node.specs.Going.{LetsNothingFall}
-use Rattle.sync_node.specs.Output.{Journal, sent_on}
+use Rattle.sync_node.specs.Output.{sent_on}
 
 -- a moment that came with some calls has P: one since an earlier value of the clock is from before
 -- them, or has P

@@ -16,7 +16,7 @@ use Rattle.sync_course.specs.contracts.ends.LinkEnd as link_ending
 use Rattle.sync_rules.specs.contracts.entries.Session as session
 use Rattle.record_stream.specs.Reading.{ReaderState}
 use Rattle.sync_course.specs.declared.ends.LinkEnd.{LinkEnd}
-use Rattle.sync_course.specs.declared.ends.LinkEnd.TheVariants as link_end
+use Rattle.sync_course.specs.Links.{is_going}
 use Rattle.sync_node.specs.Causes.{sessions_of}
 use Rattle.sync_node.specs.Working.{HasGivenItems}
 
@@ -59,10 +59,6 @@ new_node store = record {
 }
 
 -- ---- links
-
-abbrev pub is_going : LinkEnd → Bool
-is_going link_end.Going = true
-is_going _ = false
 
 -- how many links are still asked
 abbrev pub asked_among : List Link → ℕ

@@ -10,7 +10,7 @@ use Rattle.sync_rules.specs.Steps.{IsSettled}
 use Rattle.sync_store.specs.Store.{StoreValue}
 use Rattle.sync_course.specs.Acts.{Act}
 use Rattle.sync_course.specs.Links as course_links
-use Rattle.sync_course.specs.Links.{items_after, link_after}
+use Rattle.sync_course.specs.Links.{items_after, link_after_take}
 use Rattle.sync_course.specs.LinkTurns.{Asks, Doing, Done, LinkStep, Sends, Spot, Takes, Waits}
 use Rattle.sync_course.specs.Owing.{ActStep, Owing, paid}
 use Rattle.sync_course.specs.Reading.{HasRead, IsReading}
@@ -60,13 +60,18 @@ pub record RecordTaken (clients : Meaning) (session : ℕ) (r : Record) (s s' : 
   pub went : (n place : ℕ) (its : List Item) (p : Spot) → p.doing ≡ Takes (item.One place r ∷ its)
       → p.facts ≡ s.state.facts
       → LinkWent clients n session p
-      (record { doing = Takes (items_after r its); link = link_after place r p.link; moved = p.moved; facts = s'.state.facts }) s s' o o'
+      (record {
+        doing = Takes (items_after r its);
+        link = link_after_take place r p.link;
+        moved = p.moved;
+        facts = s'.state.facts;
+      }) s s' o o'
 
 pub record RecordStopped (clients : Meaning) (session : ℕ) (r : Record) (s s' : StoreValue)
     (o o' : Outside) (e : Fault) : Type 0 where
   pub stops : (n place : ℕ) (its : List Item) (p : Spot)
       → p.doing ≡ Takes (item.One place r ∷ its) → p.facts ≡ s.state.facts
-      → LinkStopped clients n session p (link_after place r p.link) s s' o o' e
+      → LinkStopped clients n session p (link_after_take place r p.link) s s' o o' e
 
 -- the record, by what the work of taking it answers, and what it keeps
 pub record RecordWorks (clients : Meaning) (session : ℕ) (r : Record) (s s' : StoreValue)

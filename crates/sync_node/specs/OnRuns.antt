@@ -26,7 +26,7 @@ use Rattle.sync_node.specs.Courses.{AllRead, IsLinkRead, IsReadyToSend, is_still
 use Rattle.sync_node.specs.Did.{Did}
 use Rattle.sync_node.specs.Going.{LetsNothingFall}
 use Rattle.sync_node.specs.Sending.{StaysOrFails}
-use Rattle.sync_node.specs.Starting.{HasBegun, StartStops}
+use Rattle.sync_node.specs.Starting.{SessionBegan, StartStops}
 use Rattle.sync_node.specs.Went.{Makes, Stopped, Went}
 
 abbrev pub RunActs : Meaning → Terms → Owing Place → Act → Owing Place → Type 0
@@ -184,7 +184,7 @@ pub record GreetsBy (n : ℕ) (first second : List ℕ) (l l' : Link) (o o' : Ou
 -- there. Nothing was heard on it.
 pub record StartWent (clients : Meaning) (n : ℕ) (session : Session) (l : Link)
     (s s' : StoreValue) (o o' : Outside) : Type 0 where
-  pub begun : HasBegun clients n session l s s' o o'
+  pub begun : SessionBegan clients n session l s s' o o'
   pub has_read : IsLinkRead [] l
   pub facts : s'.state.facts ≡ after_all s.state.facts (entry.Session session ∷ [])
   pub went : (two : Two File) → o.files ≡ Some two → (terms : Terms) (left : List Session)

@@ -3,11 +3,8 @@ use Rattle.std.specs.Prelude.{ℕ, ◌+◌, List}
 use Rattle.outside.specs.Links.{Links}
 use Rattle.outside.specs.Runs.{IsFront, answers_at, heard_bytes, sent_at}
 use Rattle.record_grammar.specs.Spelling.{spelled}
-use Rattle.sync_rules.specs.declared.entries.Entry.{Entry}
 use Rattle.sync_rules.specs.Output.{sent}
-
-abbrev pub Journal : Type 0
-Journal = List (List Entry)
+use Rattle.sync_rules.specs.Facts.{Journal}
 
 -- the bytes of all that a session sends, by its journal
 unfoldable pub output : Journal → ℕ → List ℕ

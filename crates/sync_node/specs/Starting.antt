@@ -16,7 +16,7 @@ use Rattle.sync_node.specs.Batches.{IsUndone}
 use Rattle.sync_node.specs.Working.{HasGivenItems}
 
 -- a link on which a session has begun; it failed only by a call on it
-pub record HasBegun (clients : Meaning) (number : ℕ) (session : Session) (l : Link)
+pub record SessionBegan (clients : Meaning) (number : ℕ) (session : Session) (l : Link)
     (s s' : StoreValue) (o o' : Outside) : Type 0 where
   pub ready : IsReady clients s' o'.files
   pub settled : IsSettled clients s'.state.facts

@@ -3,9 +3,8 @@ use Rattle.std.specs.Prelude.{◌≡◌, ℕ, List, ◌++◌}
 use Rattle.sync_rules.specs.declared.entries.Entry.{Entry}
 use Rattle.sync_rules.specs.declared.entries.Session.{Session}
 use Rattle.sync_rules.specs.Clients.{Meaning}
-use Rattle.sync_rules.specs.Facts.{Facts, facts}
+use Rattle.sync_rules.specs.Facts.{Facts, Journal, facts}
 use Rattle.sync_course.specs.Story.{AllSuitPlanned, SuitsPlanned}
-use Rattle.sync_node.specs.Output.{Journal}
 
 -- what a run adds: it settles, or it is as the sessions are planned, which are numbered from
 -- `first` on, one for each link in order

@@ -4,6 +4,7 @@ use Rattle.outside.specs.Faults.{CountRose}
 use Rattle.outside.specs.Outside.{Outside}
 use Rattle.sync_rules.specs.declared.entries.Entry.{Entry}
 use Rattle.sync_rules.specs.Clients.{Meaning}
+use Rattle.sync_rules.specs.Facts.{Journal}
 use Rattle.sync_store.specs.Commits.{needed}
 use Rattle.sync_store.specs.Ready.{IsReady}
 use Rattle.sync_store.specs.Store.{StoreValue}
@@ -13,7 +14,6 @@ use Rattle.sync_course.specs.Paths.{Path}
 use Rattle.sync_node.specs.declared.fault.Fault.{Fault}
 use Rattle.sync_node.specs.declared.fault.Fault.TheVariants as fault
 use Rattle.sync_node.specs.Did.{Did, DidSome}
-use Rattle.sync_node.specs.Output.{Journal}
 
 -- from one place to another: these acts were done, and lead there
 pub record Went {P : Type 0} (clients : Meaning) (step : P → Act → P → Type 0) (from to : P)

@@ -1,6 +1,6 @@
 //! A session that begins on a link.
 ghost use Rattle.std.specs.Prelude.{◌≡◌, ◌<◌, ◌∷◌, [], length, IfOk, OnErr, OnOk};
-ghost use Rattle.record_stream.specs.Reading.{AwaitsBytes, fresh};
+ghost use Rattle.record_stream.specs.Reading.{AwaitsBytes, fresh_reader};
 ghost use Rattle.sync_rules.specs.Legal.{Allowed};
 ghost use Rattle.sync_rules.specs.declared.entries.Entry.TheVariants as entry;
 ghost use Rattle.sync_store.specs.Ready.{IsReady};
@@ -67,7 +67,7 @@ fn start<H: Host, C: Clients>(
     requires ready { IsReady (C.meaning clients.now) store.old (H.tells host.old).files }
     requires allowed { Allowed (C.meaning clients.now) store.old.state.facts
         (entry.Session session ∷ []) }
-    requires fresh { reader ≡ fresh }
+    requires fresh { reader ≡ fresh_reader }
     requires waits { AwaitsBytes reader }
     requires dialled { number < (H.tells host.old).links.dialled }
     ensures work { StartWorks (C.meaning clients.now) session store.old store.new host.old host.new

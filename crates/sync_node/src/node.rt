@@ -121,7 +121,7 @@ impl Node {
     ghost use Rattle.sync_node.specs.OnRuns.{AskingStopped, AskingWent, BeginStopped, BeginWent};
     ghost use Rattle.sync_node.specs.OnRuns.{ByFault, OutsSent, OutsStopped, RoundStopped};
     ghost use Rattle.sync_node.specs.OnRuns.{RoundWent};
-    ghost use Rattle.sync_node.specs.Output.{Journal};
+    ghost use Rattle.sync_rules.specs.Facts.{Journal};
     ghost use Rattle.sync_node.specs.Plans.{session_of};
 
     /// A node over a store, which no failed call has closed. It takes the buffer here that links

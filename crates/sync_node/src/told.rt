@@ -4,6 +4,7 @@ ghost use Rattle.outside.specs.Files.{Two, File};
 ghost use Rattle.session_core.specs.Known.{IsOfAll};
 ghost use Rattle.sync_rules.specs.Allows.{is_account_kind, is_settling_kind};
 ghost use Rattle.sync_rules.specs.Legal.{Allowed};
+ghost use Rattle.sync_rules.specs.Facts.{Journal};
 ghost use Rattle.sync_store.specs.Fitting.{FitsFiles};
 ghost use Rattle.sync_store.specs.Moments.{LeadsTo};
 ghost use Rattle.sync_store.specs.Ready.{IsReady};
@@ -13,7 +14,6 @@ ghost use Rattle.sync_node.specs.Adding.{AddsAtMost};
 ghost use Rattle.sync_node.specs.Batches.{AddStops, Added, CommitStops, Committed, IsUndone};
 ghost use Rattle.sync_node.specs.Batches.{IsUndoneBy, SettleStops, Settled};
 ghost use Rattle.sync_node.specs.Cited.{NodeCallLaws};
-ghost use Rattle.sync_node.specs.Output.{Journal};
 
 use crate::fault::Fault;
 use outside::Host;

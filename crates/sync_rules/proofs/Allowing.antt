@@ -21,9 +21,17 @@ use Rattle.sync_rules.specs.Lists.{is_among}
 use Rattle.sync_rules.specs.Facts.{Facts, Id, group_at, held_at, is_held, is_no_row, row_at, session_at, takes_of, wanted_from, after}
 use Rattle.sync_rules.specs.Steps.{IsSettled, next, kind_of_def, verdict_in}
 use Rattle.sync_rules.specs.Sessions.{due}
-use Rattle.sync_rules.specs.Legal.{Allowed, AreRows, IsDue, IsKeptFrom, IsRowsBatch, IsSettling, IsSettlingBatch, MayAddGroup, MayAuthor, MayBegin, MayKeep, MayRestore, MayStandAlone, MayTake, MayWant, SuitsRows, accepts_served, is_empty_row, suits_nonce}
-use Rattle.sync_rules.proofs.StepLaws.{IsSettlingEntry, next_is_settling}
-use Rattle.sync_rules.specs.Allows.{allows, alone, are_rows, gives, is_due, is_empty, is_empty_start, is_kept_from, is_opening, is_rows, is_settled, is_settling, is_some_of, may_add_group, may_author, may_begin, may_keep, may_restore, may_stand_alone, may_take, may_want, read_as, same_entry, settles, suits_rows}
+use Rattle.sync_rules.specs.Legal.{Allowed, AreRows, IsDue, IsKeptFrom, IsRowsBatch, IsSettling}
+use Rattle.sync_rules.specs.Legal.{IsSettlingBatch, MayAddGroup, MayAuthor, MayBegin, MayKeep}
+use Rattle.sync_rules.specs.Legal.{MayRestore, MayStandAlone, MayTake, MayWant, SuitsRows}
+use Rattle.sync_rules.specs.Legal.{accepts_served, is_empty_row, suits_nonce}
+use Rattle.sync_rules.proofs.StepLaws.{next_is_settling}
+use Rattle.sync_rules.specs.Allows.{allows, alone, are_rows, gives, is_due_on, is_empty}
+use Rattle.sync_rules.specs.Allows.{is_empty_start, is_kept_from, is_opening, is_rows, is_settled}
+use Rattle.sync_rules.specs.Allows.{is_settling, is_some_of, may_add_group, may_author, may_begin}
+use Rattle.sync_rules.specs.Allows.{may_keep, may_restore, may_stand_alone, may_take, may_want}
+use Rattle.sync_rules.specs.Allows.{read_as, same_entry, settles, suits_rows}
+use Rattle.sync_rules.specs.EntryTests.{IsSettlingEntry}
 use Rattle.sync_rules.proofs.SameEntries.{both_decide, same_entry-is, some_out-Decides}
 use Rattle.sync_rules.proofs.TakenBack.{WholeIds, gives_some, some_gives}
 use Rattle.sync_rules.proofs.Elements.{same_id_itself}
@@ -80,7 +88,8 @@ author_decides clients f m =
     (both_decide (is_none (held_at f.held (message_id_of m))) accepted (none_decides (held_at f.held (message_id_of m))) (itself accepted)) in
     (λ h. let t = all.0 h in record { known_group = t.0; new = t.1.0; accepted = t.1.1 }, λ h. all.1 (h.known_group, (h.new, h.accepted)))
 
-due_decides : (clients : Meaning) (f : Facts) (o : Option Session) (now : ℕ) (what : Out) → Decides (is_due clients f o now what) (IsDue clients f o now what)
+due_decides : (clients : Meaning) (f : Facts) (o : Option Session) (now : ℕ) (what : Out)
+    → Decides (is_due_on clients f o now what) (IsDue clients f o now what)
 due_decides clients f None now what = (λ h. absurd (false≢true h), λ h. absurd h)
 due_decides clients f (Some s) now what = some_out-Decides (due clients f s now) what
 
@@ -230,22 +239,26 @@ never = (λ h. false≢true h, λ h. absurd h)
 stands_decides : (clients : Meaning) (f : Facts) (e : Entry)
     → Decides (may_stand_alone clients f e) (MayStandAlone clients f e)
 stands_decides clients f (entry.Contact c) =
-    both_decide (nat_eq c f.contacts) (nat_lt c MAX_CONTACTS) (Decides-eqb c f.contacts) (Decides-ltb c MAX_CONTACTS)
+    both_decide (nat_eq c f.contacts) (nat_lt c MAX_CONTACTS) (Decides-eqb c f.contacts)
+    (Decides-ltb c MAX_CONTACTS)
 stands_decides clients f (entry.Group def) = add_group_decides clients f def
 stands_decides clients f (entry.Level c g l) =
     let known : Bool = is_some (group_at f.groups g) in
     both_decide (nat_lt c f.contacts) known (Decides-ltb c f.contacts) (itself known)
 stands_decides clients f (entry.Session s) = begin_decides f s
 stands_decides clients f (entry.Author m) = author_decides clients f m
-stands_decides clients f (entry.Out s now what) = due_decides clients f (session_at f.sessions s) now what
+stands_decides clients f (entry.Out s now what) =
+    due_decides clients f (session_at f.sessions s) now what
 stands_decides clients f (entry.Kept from m) =
-    both_decide (is_opening f.start) (may_keep clients f from m) (opening_decides f.start) (keep_decides clients f from m)
+    both_decide (is_opening f.start) (may_keep clients f from m) (opening_decides f.start)
+    (keep_decides clients f from m)
 stands_decides clients f _ = never
 
 pub allows_decides : WholeIds → (clients : Meaning) (f : Facts) (b : List Entry) → Decides (allows clients f b) (Allowed clients f b)
 allows_decides all clients f [] = never
 allows_decides all clients f (entry.Take s k ∷ rest) =
-    both_decide (is_settled clients f) (may_take f s k rest) (settled_decides clients f) (take_decides all f s k rest)
+    both_decide (is_settled clients f) (may_take f s k rest) (settled_decides clients f)
+    (take_decides all f s k rest)
 allows_decides all clients f (entry.Judged id ∷ rest) = settling_decides clients f (entry.Judged id) rest
 allows_decides all clients f (entry.Deliver id ∷ rest) = settling_decides clients f (entry.Deliver id) rest
 allows_decides all clients f (entry.Invalid id ∷ rest) = settling_decides clients f (entry.Invalid id) rest

@@ -1,7 +1,7 @@
 -- What holds of the entries of each kind of batch holds of each entry of a batch that is allowed.
-use Rattle.std.proofs.Common.{◌≡◌, ℕ, Bool, true, false, List, [], ◌∷◌, refl}
+use Rattle.std.proofs.Common.{◌≡◌, ℕ, Bool, true, List, [], ◌∷◌, refl}
 use Rattle.std.specs.List.{AllByRecursion, list_all}
-use Rattle.std.proofs.lemmas.Bool.{and_from, and_parts, false≢true}
+use Rattle.std.proofs.lemmas.Bool.{and_from, and_parts}
 use Rattle.sync_ids.specs.declared.records.Record.{Record}
 use Rattle.sync_rules.specs.declared.entries.Entry.{Entry}
 use Rattle.sync_rules.specs.declared.entries.Entry.TheVariants as entry
@@ -11,10 +11,11 @@ use Rattle.sync_rules.specs.Facts.{Facts, after}
 use Rattle.sync_rules.specs.Sessions.{taken}
 use Rattle.sync_rules.specs.Legal.{Allowed, AreRows, IsSettling, MayStandAlone, SuitsRows}
 use Rattle.sync_rules.specs.Meeting.{AllMeet, MeetsNoStep}
+use Rattle.sync_rules.specs.EntryTests.{IsSettlingEntry}
 use Rattle.sync_rules.proofs.BatchKinds.{by_kind}
 use Rattle.sync_rules.proofs.MeetingLaws.{allowed_meets}
 use Rattle.sync_rules.proofs.StepKinds.{all_of_record, is_of_record, taken_of_record}
-use Rattle.sync_rules.proofs.StepLaws.{IsSettlingEntry, next_is_settling}
+use Rattle.sync_rules.proofs.StepLaws.{next_is_settling}
 
 -- a test that each entry passes, and what holds of each that passes
 pub all_pass : (test : Entry → Bool) (P : Entry → Type 0) → ((e : Entry) → test e ≡ true → P e)
@@ -39,7 +40,8 @@ record_each P up f session r =
     (all_of_record is_of_record session (taken_of_record session) f r)
 
 pub settling_each : (P : Entry → Type 0) → ((e : Entry) → IsSettlingEntry e → P e)
-    → (clients : Meaning) (f : Facts) (es : List Entry) → IsSettling clients f es → AllByRecursion P es
+    → (clients : Meaning) (f : Facts) (es : List Entry) → IsSettling clients f es
+    → AllByRecursion P es
 settling_each P up clients f [] is = tt
 settling_each P up clients f (e ∷ es) is =
     (up e (next_is_settling clients f e is.0), settling_each P up clients (after f e) es is.1)
@@ -67,7 +69,8 @@ each_by_kind clients f P holds =
       of_record = λ s k r settled next. (holds.take s k, record_each P holds.of_record f s r);
       steps = λ e es step is. settling_each P holds.step clients f (e ∷ es) is.2;
       brief = λ n empty. (holds.brief n empty, tt);
-      rows = λ e es row is. rows_each P (λ g d suits. holds.row g d is.opening suits) f (e ∷ es) is.suits;
+      rows = λ e es row is. rows_each P (λ g d suits. holds.row g d is.opening suits) f
+          (e ∷ es) is.suits;
     })
 
 -- ---- by what each entry meets at its place

@@ -11,7 +11,7 @@ use Rattle.sync_rules.specs.Steps.{IsSettled}
 use Rattle.sync_rules.specs.Sessions.{taken}
 use Rattle.sync_rules.specs.Allows.{is_account_kind, is_rows_kind, is_settling_kind}
 use Rattle.sync_rules.specs.Legal.{Allowed, IsRowsBatch, IsSettlingBatch, MayStandAlone}
-use Rattle.sync_rules.proofs.StepLaws.{IsSettlingEntry}
+use Rattle.sync_rules.specs.EntryTests.{IsSettlingEntry}
 
 -- a record that may be taken: its session is known, and it has the session's next number
 pub record TakesNext (f : Facts) (session k : ℕ) (r : Record) : Type 0 where
@@ -29,10 +29,13 @@ IsRowEntry _ = ⊥
 -- first of a brief account, and its rows
 pub record HoldsByKind (clients : Meaning) (f : Facts) (P : List Entry → Type 0) : Type 0 where
   pub alone : (e : Entry) → IsSettled clients f → MayStandAlone clients f e → P (e ∷ [])
-  pub of_record : (s k : ℕ) (r : Record) → IsSettled clients f → TakesNext f s k r → P (entry.Take s k ∷ taken f s r)
-  pub steps : (e : Entry) (es : List Entry) → IsSettlingEntry e → IsSettlingBatch clients f (e ∷ es) → P (e ∷ es)
+  pub of_record : (s k : ℕ) (r : Record) → IsSettled clients f → TakesNext f s k r
+      → P (entry.Take s k ∷ taken f s r)
+  pub steps : (e : Entry) (es : List Entry) → IsSettlingEntry e → IsSettlingBatch clients f (e ∷ es)
+      → P (e ∷ es)
   pub brief : (n : ℕ) → f.start ≡ start.Empty → P (entry.Brief n ∷ [])
-  pub rows : (e : Entry) (es : List Entry) → IsRowEntry e → IsRowsBatch clients f (e ∷ es) → P (e ∷ es)
+  pub rows : (e : Entry) (es : List Entry) → IsRowEntry e → IsRowsBatch clients f (e ∷ es)
+      → P (e ∷ es)
 
 pub by_kind : (clients : Meaning) (f : Facts) (P : List Entry → Type 0) → HoldsByKind clients f P
     → (b : List Entry) → Allowed clients f b → P b
@@ -47,13 +50,15 @@ by_kind clients f P holds (entry.Invalid id ∷ rest) a = holds.steps (entry.Inv
 by_kind clients f P holds (entry.Brief n ∷ rest) a =
     subst (λ (es : List Entry). P (entry.Brief n ∷ es)) (sym a.0) (holds.brief n a.1)
 by_kind clients f P holds (entry.Tried t ∷ rest) a = holds.rows (entry.Tried t) rest tt a
-by_kind clients f P holds (entry.Want contact id ∷ rest) a = holds.rows (entry.Want contact id) rest tt a
+by_kind clients f P holds (entry.Want contact id ∷ rest) a =
+    holds.rows (entry.Want contact id) rest tt a
 by_kind clients f P holds (e ∷ rest) a =
     subst (λ (es : List Entry). P (e ∷ es)) (sym a.0) (holds.alone e a.1 a.2)
 
 -- ---- a batch's kind by its first entry
 
-pub steps_settle : (e : Entry) (es : List Entry) → IsSettlingEntry e → is_settling_kind (e ∷ es) ≡ true
+pub steps_settle : (e : Entry) (es : List Entry) → IsSettlingEntry e
+    → is_settling_kind (e ∷ es) ≡ true
 steps_settle (entry.Judged id) es step = refl
 steps_settle (entry.Deliver id) es step = refl
 steps_settle (entry.Invalid id) es step = refl

@@ -233,7 +233,8 @@ held_after_one clients f (entry.Arrive t m) met s h =
       known_origin = session_contact_known f s t (session_at f.sessions t) refl met.1.known_session;
     }) h
 held_after_one clients f (entry.Kept from m) met s h =
-    held_more f (after f (entry.Kept from m)) (kept_as from m) (continues_after f (entry.Kept from m)) refl met.1.1.new
+    held_more f (after f (entry.Kept from m)) (kept_as from m)
+    (continues_after f (entry.Kept from m)) refl met.1.1.new
     (record {
       named = refl;
       is_id = refl;
@@ -292,7 +293,8 @@ levels_there f g levels c has contact group l at =
 pub levels_after_one : (clients : Meaning) (f : Facts) (e : Entry) → MeetsNoStep clients f e → HasLevels f → HasLevels (after f e)
 levels_after_one clients f (entry.Level c x l) m has =
     let g : Facts = after f (entry.Level c x l) in
-    level_put g f.levels c x l m.1.0 m.1.1 (levels_there f g f.levels (continues_after f (entry.Level c x l)) has)
+    level_put g f.levels c x l m.1.0 m.1.1
+    (levels_there f g f.levels (continues_after f (entry.Level c x l)) has)
 levels_after_one clients f it m has =
     levels_there f (after f it) f.levels (continues_after f it) has
 

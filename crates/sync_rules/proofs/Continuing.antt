@@ -13,7 +13,7 @@ use Rattle.sync_rules.specs.Lists.{same_id}
 use Rattle.sync_rules.specs.Facts.{Facts, Held, Id, Known, after, after_all, after_batches, nothing, facts, group_at, held_at, session_at, takes_of, count_or, authored, arrived, kept_as, known_of, contact_of, ExtendsJournal}
 use Rattle.sync_rules.specs.Legal.{Legal, Allowed, GoesOn}
 use Rattle.sync_rules.specs.EntryTests.{judges, invalidates}
-use Rattle.sync_rules.specs.Growth.{IsFront, ContinuesFacts}
+use Rattle.sync_rules.specs.Growth.{ContinuesList, ContinuesFacts}
 use Rattle.sync_rules.proofs.Sound.{held_at-push}
 use Rattle.sync_rules.proofs.Flags.{judged_scan, invalid_scan}
 use Rattle.sync_rules.proofs.Settling.{goes_on_both, goes_on_front, goes_on_back, after_batches-append}
@@ -21,13 +21,14 @@ use Rattle.sync_rules.proofs.Settling.{goes_on_both, goes_on_front, goes_on_back
 -- ---- fronts
 
 module _ {A : Type 0} where
-  pub front_itself : (xs : List A) → IsFront xs xs
+  pub front_itself : (xs : List A) → ContinuesList xs xs
   front_itself xs = record { more = []; goes_on = sym (append-nil xs) }
 
-  pub front_push : (xs : List A) (x : A) → IsFront xs (xs ++ x ∷ [])
+  pub front_push : (xs : List A) (x : A) → ContinuesList xs (xs ++ x ∷ [])
   front_push xs x = record { more = x ∷ []; goes_on = refl }
 
-  pub front_then : (xs ys zs : List A) → IsFront xs ys → IsFront ys zs → IsFront xs zs
+  pub front_then : (xs ys zs : List A) → ContinuesList xs ys → ContinuesList ys zs
+      → ContinuesList xs zs
   front_then xs ys zs a b = record {
     more = a.more ++ b.more;
     goes_on = b.goes_on ∙ (ap (λ (t : List A). t ++ b.more) a.goes_on ∙ append_assoc xs a.more b.more);
@@ -84,21 +85,21 @@ continues_begun f (entry.Session s) = omega arith
 continues_begun f (entry.Brief n) = omega arith
 continues_begun f _ = omega arith
 
-continues_groups : (f : Facts) (e : Entry) → IsFront f.groups (after f e).groups
+continues_groups : (f : Facts) (e : Entry) → ContinuesList f.groups (after f e).groups
 continues_groups f (entry.Group def) = front_push f.groups (known_of def)
 continues_groups f _ = front_itself f.groups
 
-continues_sessions : (f : Facts) (e : Entry) → IsFront f.sessions (after f e).sessions
+continues_sessions : (f : Facts) (e : Entry) → ContinuesList f.sessions (after f e).sessions
 continues_sessions f (entry.Session s) = front_push f.sessions s
 continues_sessions f _ = front_itself f.sessions
 
-continues_held : (f : Facts) (e : Entry) → IsFront f.held (after f e).held
+continues_held : (f : Facts) (e : Entry) → ContinuesList f.held (after f e).held
 continues_held f (entry.Author m) = front_push f.held (authored m)
 continues_held f (entry.Arrive s m) = front_push f.held (arrived (contact_of f.sessions s) m)
 continues_held f (entry.Kept from m) = front_push f.held (kept_as from m)
 continues_held f _ = front_itself f.held
 
-continues_delivered : (f : Facts) (e : Entry) → IsFront f.delivered (after f e).delivered
+continues_delivered : (f : Facts) (e : Entry) → ContinuesList f.delivered (after f e).delivered
 continues_delivered f (entry.Deliver id) = front_push f.delivered id
 continues_delivered f _ = front_itself f.delivered
 

@@ -23,7 +23,8 @@ use Rattle.sync_rules.specs.Facts.{Facts, Held, Id, after, after_all, nothing, f
 use Rattle.sync_rules.specs.Steps.{IsSettled}
 use Rattle.sync_rules.specs.Sessions.{ids_where, shared_ids, is_sendable, is_ripe, owed_to, wanted_of, send_of, offers_of, out_or, acks_due, requests_due, send_due, offers_due, due_by, due}
 use Rattle.sync_rules.specs.Legal.{Legal, Allowed, IsDue}
-use Rattle.sync_rules.specs.Output.{AllHeld, records_of, first_records, nonce_record, message_record, sent}
+use Rattle.sync_rules.specs.Output.{AllHeld, out_records, first_records, nonce_record}
+use Rattle.sync_rules.specs.Output.{message_record, sent}
 use Rattle.sync_rules.specs.Meeting.{MeetsNoStep, AllMeet}
 use Rattle.sync_rules.specs.Consistency.{ids_of_held, HasHeld, HasWanted, IsConsistent}
 use Rattle.sync_rules.specs.Growth.{output_by, output_in}
@@ -279,7 +280,7 @@ message_within f l id None at e = tt
 message_within f l id (Some x) at e = (l.messages id x at, tt)
 
 pub records_within : (whole : MessageIdsAreWhole) (f : Facts) → HasHeld f → HasLimits f → (contact : ℕ) (what : Out) → NamesDistinct f contact what
-    → AllByRecursion IsRecord (records_of f.held what)
+    → AllByRecursion IsRecord (out_records f.held what)
 records_within whole f h l contact (out.Acks ids) n = (
   record { some = n.0.some; few = n.0.few; whole = are_ids ids (λ id e. held_whole whole f h id (held_at f.held id) refl (n.1 id e)) },
   tt,
@@ -299,7 +300,8 @@ one_of_message : (o : Option Held) → is_some o ≡ true → length (message_re
 one_of_message None e = absurd (false≢true e)
 one_of_message (Some h) e = refl
 
-pub one_record : (f : Facts) (contact : ℕ) (what : Out) → NamesDistinct f contact what → length (records_of f.held what) ≡ 1
+pub one_record : (f : Facts) (contact : ℕ) (what : Out) → NamesDistinct f contact what
+    → length (out_records f.held what) ≡ 1
 one_record f contact (out.Acks ids) n = refl
 one_record f contact (out.Requests ids) n = refl
 one_record f contact (out.Offers ids) n = refl
@@ -326,7 +328,7 @@ output_by_within : (whole : MessageIdsAreWhole) (clients : Meaning) (f : Facts) 
     → AllByRecursion IsRecord (output_by f n e)
 output_by_within whole clients f n (entry.Session s) c l m b = all_by_cond (nat_eq s.number n) (first_records s) (first_within s b)
 output_by_within whole clients f n (entry.Out s now what) c l m b =
-    all_by_cond (nat_eq s n) (records_of f.held what)
+    all_by_cond (nat_eq s n) (out_records f.held what)
     (records_within whole f c.held l (contact_of f.sessions s) what (due_names_distinct f c.held c.wanted clients (session_at f.sessions s) now what m.1))
 output_by_within whole clients f n _ c l m b = tt
 

@@ -47,7 +47,8 @@ one_session_hears clients def known = record {
           refl,
           (
             omega arith,
-            ap (λ b. is_some (cond b (Some (known_of def)) None)) (same_id_itself (group_id_of def)),
+            ap (λ b. is_some (cond b (Some (known_of def)) None))
+                (same_id_itself (group_id_of def)),
           ),
         ),
         (

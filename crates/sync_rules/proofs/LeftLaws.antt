@@ -4,7 +4,7 @@ use Rattle.std.specs.FinSet as fin_set
 use Rattle.sync_rules.specs.declared.entries.Entry.{Entry}
 use Rattle.sync_rules.specs.declared.entries.Entry.TheVariants as entry
 use Rattle.sync_rules.specs.Clients.{Meaning}
-use Rattle.sync_rules.specs.EntryTests.{ends, judges}
+use Rattle.sync_rules.specs.EntryTests.{IsSettlingEntry, ends, judges}
 use Rattle.sync_rules.specs.Facts.{Facts, Held, Id, after, after_all}
 use Rattle.sync_rules.specs.Steps.{is_ended, next}
 use Rattle.sync_rules.specs.Legal.{IsSettling}
@@ -12,7 +12,7 @@ use Rattle.sync_rules.specs.Left.{left_for, left_among, left_of}
 use Rattle.sync_rules.specs.Lists.{In}
 use Rattle.sync_rules.proofs.Elements.{same_id_itself}
 use Rattle.sync_rules.proofs.Flags.{ended_scan, judged_scan}
-use Rattle.sync_rules.proofs.StepLaws.{IsSettlingEntry, Told, first_step_some, next_is_settling, told_some}
+use Rattle.sync_rules.proofs.StepLaws.{Told, first_step_some, next_is_settling, told_some}
 
 abbrev left_by : Bool → Bool → ℕ
 left_by judged ended = cond judged (cond ended 0 1) 2

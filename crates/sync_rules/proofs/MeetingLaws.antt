@@ -18,7 +18,8 @@ use Rattle.sync_rules.specs.Lists.{same_id, is_among, has_repeat, firsts}
 use Rattle.sync_rules.specs.Facts.{Facts, Held, Id, Rows, Wants, after, after_all, nothing, entries_of, group_at, held_at, is_held, session_at, contact_of, level_at, is_invisible, row_at, wanted_from, change_row, row_heard, row_seen, row_asked, start_after, with_want}
 use Rattle.sync_rules.specs.Steps.{IsSettled, next}
 use Rattle.sync_rules.specs.Sessions.{taken, taken_message, taken_message_of, taken_acks, taken_requests, taken_offers, one_if, is_welcome, is_shown, is_shown_held, is_remembered, room_after}
-use Rattle.sync_rules.specs.Legal.{Allowed, AreRows, GoesOn, Legal, IsSettling, MayStandAlone, SuitsRows}
+use Rattle.sync_rules.specs.Legal.{Allowed, AreRows, GoesOn, Legal, IsSettling, MayStandAlone}
+use Rattle.sync_rules.specs.Legal.{SuitsRows}
 use Rattle.sync_rules.specs.Meeting.{IsNamedHeld, MeetsNoStep, AllMeet, EachMeets}
 use Rattle.sync_rules.proofs.BatchKinds.{TakesNext, by_kind}
 use Rattle.sync_rules.proofs.Elements.{among-push, same_id-is, same_id_itself}
@@ -254,7 +255,8 @@ rows_meet clients f (e ∷ es) settled opening s = (
 
 -- ---- batches
 
-stands_meets : (clients : Meaning) (f : Facts) (e : Entry) → IsSettled clients f → MayStandAlone clients f e
+stands_meets : (clients : Meaning) (f : Facts) (e : Entry) → IsSettled clients f
+    → MayStandAlone clients f e
     → MeetsNoStep clients f e
 stands_meets clients f (entry.Contact c) settled may = (settled, may)
 stands_meets clients f (entry.Group def) settled may = (settled, may)
@@ -265,11 +267,13 @@ stands_meets clients f (entry.Out s now what) settled may = (settled, may)
 stands_meets clients f (entry.Kept from m) settled may = (settled, may)
 stands_meets clients f _ settled may = absurd may
 
-record_meets : (clients : Meaning) (f : Facts) (s k : ℕ) (r : Record) → IsSettled clients f → TakesNext f s k r
+record_meets : (clients : Meaning) (f : Facts) (s k : ℕ) (r : Record) → IsSettled clients f
+    → TakesNext f s k r
     → AllMeet clients f (entry.Take s k ∷ taken f s r)
 record_meets clients f s k r settled next = (
   (settled, next.known_session, next.numbered),
-  subst (λ (from : Start). AllMeet clients (record f { start = from; takes = (after f (entry.Take s k)).takes }) (taken f s r))
+  subst (λ (from : Start). AllMeet clients
+      (record f { start = from; takes = (after f (entry.Take s k)).takes }) (taken f s r))
       (sym (goes_with_take f.start s k))
       (meets_record clients f s next.known_session settled (after f (entry.Take s k)).takes r),
 )

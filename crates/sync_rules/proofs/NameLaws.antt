@@ -1,5 +1,6 @@
 -- What an allowed batch names is held before it.
-use Rattle.std.proofs.Common.{◌≡◌, ℕ, zero, suc, Bool, true, false, not, cond, ◌&&◌, List, [], ◌∷◌, ◌++◌, take, refl, ap, subst, inl, inr, Option, Some, None, is_some}
+use Rattle.std.proofs.Common.{◌≡◌, ℕ, zero, suc, Bool, true, false, not, cond, ◌&&◌, List, [], ◌∷◌}
+use Rattle.std.proofs.Common.{◌++◌, take, refl, ap, subst, inl, inr, Option, Some, None, is_some}
 use Rattle.std.specs.List.{list_all}
 use Rattle.std.proofs.lemmas.Bool.{and_parts, and_from, false≢true}
 use Rattle.sync_ids.specs.Values.{MessageValue}
@@ -16,10 +17,14 @@ use Rattle.sync_rules.specs.declared.entries.Out.TheVariants as out
 use Rattle.sync_rules.specs.declared.entries.Session.{Session}
 use Rattle.sync_rules.specs.Clients.{Meaning}
 use Rattle.sync_rules.specs.Lists.{same_id, firsts}
-use Rattle.sync_rules.specs.Facts.{Facts, Held, Id, after, contact_of, held_at, is_held, is_invisible, level_at, row_at, session_at}
-use Rattle.sync_rules.specs.Sessions.{acks_due, due_by, first_id, ids_where, is_remembered, is_ripe, is_sendable, is_shown, is_shown_held}
-use Rattle.sync_rules.specs.Sessions.{is_welcome, offers_due, offers_of, one_if, out_or, owed_to, requests_due, room_after, send_due, send_of}
-use Rattle.sync_rules.specs.Sessions.{shared_ids, taken, taken_acks, taken_message, taken_message_of, taken_offers, taken_requests, wanted_of}
+use Rattle.sync_rules.specs.Facts.{Facts, Held, Id, after, contact_of, held_at, is_held}
+use Rattle.sync_rules.specs.Facts.{is_invisible, level_at, row_at, session_at}
+use Rattle.sync_rules.specs.Sessions.{acks_due, due_by, first_id, ids_where, is_remembered, is_ripe}
+use Rattle.sync_rules.specs.Sessions.{is_sendable, is_shown, is_shown_held}
+use Rattle.sync_rules.specs.Sessions.{is_welcome, offers_due, offers_of, one_if, out_or, owed_to}
+use Rattle.sync_rules.specs.Sessions.{requests_due, room_after, send_due, send_of}
+use Rattle.sync_rules.specs.Sessions.{shared_ids, taken, taken_acks, taken_message}
+use Rattle.sync_rules.specs.Sessions.{taken_message_of, taken_offers, taken_requests, wanted_of}
 use Rattle.sync_rules.specs.Legal.{Allowed, AreRows, IsDue, IsSettling, MayStandAlone, SuitsRows}
 use Rattle.sync_rules.specs.Growth.{IsStepOf}
 use Rattle.sync_rules.specs.Knowing.{NamesHeld, held_named, held_names}
@@ -142,7 +147,8 @@ rows_held f (e ∷ es) s =
 first_held : (h : Held) (hs : List Held) → is_held (h ∷ hs) h.id ≡ true
 first_held h hs = ap (λ b. is_some (cond b (Some h) (held_at hs h.id))) (same_id_itself h.id)
 
-later_held : (h : Held) (hs : List Held) (id : Id) → is_held hs id ≡ true → is_held (h ∷ hs) id ≡ true
+later_held : (h : Held) (hs : List Held) (id : Id) → is_held hs id ≡ true
+    → is_held (h ∷ hs) id ≡ true
 later_held h hs id e =
     elim (same_id h.id id) as (λ b. is_some (cond b (Some h) (held_at hs id)) ≡ true) [
       | true ↦ refl
@@ -154,18 +160,24 @@ all_later : (h : Held) (hs : List Held) (ids : List Id) → list_all (is_held hs
 all_later h hs [] all = refl
 all_later h hs (id ∷ ids) all =
     let both = and_parts (is_held hs id) (list_all (is_held hs) ids) all in
-    and_from (is_held (h ∷ hs) id) (list_all (is_held (h ∷ hs)) ids) (later_held h hs id both.0) (all_later h hs ids both.1)
+    and_from (is_held (h ∷ hs) id) (list_all (is_held (h ∷ hs)) ids) (later_held h hs id both.0)
+    (all_later h hs ids both.1)
 
-where_held : (test : Held → Bool) (hs : List Held) → list_all (is_held hs) (ids_where test hs) ≡ true
+where_held : (test : Held → Bool) (hs : List Held)
+    → list_all (is_held hs) (ids_where test hs) ≡ true
 where_held test [] = refl
 where_held test (h ∷ hs) =
     let later = all_later h hs (ids_where test hs) (where_held test hs) in
-    elim (test h) as (λ b. list_all (is_held (h ∷ hs)) (cond b (h.id ∷ ids_where test hs) (ids_where test hs)) ≡ true) [
-      | true ↦ and_from (is_held (h ∷ hs) h.id) (list_all (is_held (h ∷ hs)) (ids_where test hs)) (first_held h hs) later
+    elim (test h) as
+    (λ b. list_all (is_held (h ∷ hs)) (cond b (h.id ∷ ids_where test hs) (ids_where test hs))
+    ≡ true) [
+      | true ↦ and_from (is_held (h ∷ hs) h.id) (list_all (is_held (h ∷ hs)) (ids_where test hs))
+          (first_held h hs) later
       | false ↦ later
     ]
 
-all_take : (test : Id → Bool) (n : ℕ) (ids : List Id) → list_all test ids ≡ true → list_all test (take n ids) ≡ true
+all_take : (test : Id → Bool) (n : ℕ) (ids : List Id) → list_all test ids ≡ true
+    → list_all test (take n ids) ≡ true
 all_take test zero [] all = refl
 all_take test zero (id ∷ ids) all = refl
 all_take test (suc n) [] all = refl
@@ -178,30 +190,37 @@ module _ (test : Id → Bool) where
   abbrev NamesPass : Out → Type 0
   NamesPass what = list_all test (held_named what) ≡ true
 
-  acks_pass : (ids : List Id) (what : Out) → list_all test ids ≡ true → acks_due ids ≡ Some what → NamesPass what
+  acks_pass : (ids : List Id) (what : Out) → list_all test ids ≡ true → acks_due ids ≡ Some what
+      → NamesPass what
   acks_pass [] what all e = cc
-  acks_pass (id ∷ ids) what all e = let same : out.Acks (id ∷ ids) ≡ what = cc in subst NamesPass same all
+  acks_pass (id ∷ ids) what all e = let same : out.Acks (id ∷ ids) ≡ what = cc in
+      subst NamesPass same all
 
-  requests_pass : (mode : Mode) (ids : List Id) (what : Out) → requests_due mode ids ≡ Some what → NamesPass what
+  requests_pass : (mode : Mode) (ids : List Id) (what : Out) → requests_due mode ids ≡ Some what
+      → NamesPass what
   requests_pass mode_kind.Batch ids what e = cc
   requests_pass mode_kind.Interactive [] what e = cc
   requests_pass mode_kind.Interactive (id ∷ ids) what e =
       let same : out.Requests (id ∷ ids) ≡ what = cc in subst NamesPass same refl
 
-  send_pass : (ids : List Id) (what : Out) → list_all test ids ≡ true → send_due (first_id ids) ≡ Some what → NamesPass what
+  send_pass : (ids : List Id) (what : Out) → list_all test ids ≡ true
+      → send_due (first_id ids) ≡ Some what → NamesPass what
   send_pass [] what all e = cc
   send_pass (id ∷ ids) what all e =
-      let one : NamesPass (out.Send id) = ap (λ b. b && true) (and_parts (test id) (list_all test ids) all).0 in
+      let one : NamesPass (out.Send id) =
+      ap (λ b. b && true) (and_parts (test id) (list_all test ids) all).0 in
       let same : out.Send id ≡ what = cc in
       subst NamesPass same one
 
-  offers_pass : (mode : Mode) (ids : List Id) (what : Out) → list_all test ids ≡ true → offers_due mode ids ≡ Some what → NamesPass what
+  offers_pass : (mode : Mode) (ids : List Id) (what : Out) → list_all test ids ≡ true
+      → offers_due mode ids ≡ Some what → NamesPass what
   offers_pass mode_kind.Batch ids what all e = cc
   offers_pass mode_kind.Interactive [] what all e = cc
   offers_pass mode_kind.Interactive (id ∷ ids) what all e =
       let same : out.Offers (id ∷ ids) ≡ what = cc in subst NamesPass same all
 
-due_held : (f : Facts) (shared : List Id) (x : Session) (now : ℕ) (what : Out) → due_by f shared x now ≡ Some what
+due_held : (f : Facts) (shared : List Id) (x : Session) (now : ℕ) (what : Out)
+    → due_by f shared x now ≡ Some what
     → list_all (is_held f.held) (held_named what) ≡ true
 due_held f shared x now what e =
     let test : Id → Bool = is_held f.held in
@@ -210,38 +229,45 @@ due_held f shared x now what e =
     let send : Option Out = send_due (send_of f shared x.contact x.mode now) in
     let offers : Option Out = offers_due x.mode (offers_of f shared x.contact now) in
     elim (out_or-cases acks (out_or requests (out_or send offers)) what e) [
-      | inl a ↦ acks_pass test (owed_to f x.contact) what (all_take test MAX_IDS _ (where_held _ f.held)) a
+      | inl a ↦ acks_pass test (owed_to f x.contact) what
+          (all_take test MAX_IDS _ (where_held _ f.held)) a
       | inr r ↦
           elim (out_or-cases requests (out_or send offers) what r) [
             | inl a ↦ requests_pass test x.mode (wanted_of f x.contact) what a
             | inr r ↦
                 elim (out_or-cases send offers what r) [
                   | inl a ↦ send_pass test _ what
-                      (where_held (λ h. is_sendable f shared x.contact h && is_ripe x.mode now (row_at f.rows x.contact h.id)) f.held) a
+                      (where_held
+                      (λ h. is_sendable f shared x.contact h && is_ripe x.mode now
+                      (row_at f.rows x.contact h.id)) f.held) a
                   | inr a ↦ offers_pass test x.mode (offers_of f shared x.contact now) what
                       (all_take test MAX_IDS _ (where_held _ f.held)) a
                 ]
           ]
     ]
 
-out_held : (clients : Meaning) (f : Facts) (o : Option Session) (now : ℕ) (what : Out) → IsDue clients f o now what
+out_held : (clients : Meaning) (f : Facts) (o : Option Session) (now : ℕ) (what : Out)
+    → IsDue clients f o now what
     → list_all (is_held f.held) (held_named what) ≡ true
 out_held clients f None now what due = absurd due
 out_held clients f (Some x) now what due = due_held f (shared_ids clients f) x now what due
 
 -- ---- batches
 
-stands_held : (clients : Meaning) (f : Facts) (e : Entry) → MayStandAlone clients f e → are_held f.held e ≡ true
+stands_held : (clients : Meaning) (f : Facts) (e : Entry) → MayStandAlone clients f e
+    → are_held f.held e ≡ true
 stands_held clients f (entry.Contact c) may = refl
 stands_held clients f (entry.Group def) may = refl
 stands_held clients f (entry.Level c g l) may = refl
 stands_held clients f (entry.Session x) may = refl
 stands_held clients f (entry.Author m) may = refl
-stands_held clients f (entry.Out n now what) may = out_held clients f (session_at f.sessions n) now what may
+stands_held clients f (entry.Out n now what) may =
+    out_held clients f (session_at f.sessions n) now what may
 stands_held clients f (entry.Kept from m) may = refl
 stands_held clients f _ may = absurd may
 
-pub allowed_names_held : (clients : Meaning) (f : Facts) (b : List Entry) → Allowed clients f b → NamesHeld f b
+pub allowed_names_held : (clients : Meaning) (f : Facts) (b : List Entry) → Allowed clients f b
+    → NamesHeld f b
 allowed_names_held clients f =
     by_kind clients f (NamesHeld f) (record {
       alone = λ e settled may. ap (λ b. b && true) (stands_held clients f e may);

@@ -12,11 +12,13 @@ use Rattle.sync_rules.specs.declared.entries.Session.{Session}
 use Rattle.sync_rules.specs.Clients.{Meaning}
 use Rattle.sync_rules.specs.Facts.{Facts, Held, Id, after, after_all, nothing, facts, entries_of, held_at, session_at, contact_in, takes_of}
 use Rattle.sync_rules.specs.Legal.{Legal, Allowed, IsDue, IsSettling, MayBegin}
-use Rattle.sync_rules.specs.Output.{IsOpen, first_records, message_record, records_of, records_by, records_in, sent, sent_on}
+use Rattle.sync_rules.specs.Output.{IsOpen, first_records, message_record, out_records, records_by}
+use Rattle.sync_rules.specs.Output.{records_in, sent, sent_on}
 use Rattle.sync_rules.specs.Meeting.{MeetsNoStep, AllMeet}
 use Rattle.sync_rules.specs.Consistency.{HasSessions}
 use Rattle.sync_rules.specs.Growth.{output_by, output_in, output_of, is_silent}
-use Rattle.sync_rules.proofs.StepLaws.{IsSettlingEntry, next_is_settling}
+use Rattle.sync_rules.specs.EntryTests.{IsSettlingEntry}
+use Rattle.sync_rules.proofs.StepLaws.{next_is_settling}
 use Rattle.sync_rules.proofs.Sound.{SoundFacts}
 use Rattle.sync_rules.proofs.Kept.{sound_after, after_batches-is}
 use Rattle.sync_rules.proofs.Runs.{sound_nothing}
@@ -134,8 +136,8 @@ records_unknown clients f s h (entry.Session y ∷ es) n later none m then =
 records_unknown clients f s h (entry.Out t now what ∷ es) n later none m then =
     rest_unknown f (entry.Out t now what) es n later (session_at (after_all f ((entry.Out t now what) ∷ es)).sessions n)
     (records_unknown clients (after f (entry.Out t now what)) (sound_after clients f (entry.Out t now what) (meets_fits clients f (entry.Out t now what) m.0) s) (sessions_after_one clients f (entry.Out t now what) m.0 h) es n later none m.1 then)
-    (none_out clients f n t now what (records_of later what) none m.0.1 (nat_eq t n) refl)
-    (none_out clients f n t now what (records_of f.held what) none m.0.1 (nat_eq t n) refl)
+    (none_out clients f n t now what (out_records later what) none m.0.1 (nat_eq t n) refl)
+    (none_out clients f n t now what (out_records f.held what) none m.0.1 (nat_eq t n) refl)
 records_unknown clients f s h (e ∷ es) n later none m then =
     rest_unknown f e es n later (session_at (after_all f (e ∷ es)).sessions n)
     (records_unknown clients (after f e) (sound_after clients f e (meets_fits clients f e m.0) s)

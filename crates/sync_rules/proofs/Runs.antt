@@ -1,5 +1,6 @@
 -- Each entry of an allowed batch meets what it must, so a legal journal keeps the invariant.
-use Rattle.std.proofs.Common.{◌≡◌, ℕ, Bool, true, false, not, cond, List, [], ◌∷◌, ◌++◌, refl, sym, ◌∙◌, ap, subst, Option, Some, None, is_some}
+use Rattle.std.proofs.Common.{◌≡◌, ℕ, Bool, true, false, not, cond, List, [], ◌∷◌, ◌++◌, refl, sym}
+use Rattle.std.proofs.Common.{◌∙◌, ap, Option, Some, None, is_some}
 use Rattle.std.specs.FinSet as fin_set
 use Rattle.std.specs.Cmp.Lexicographic.{slice_cmp}
 use Rattle.std.specs.Ordering.{nat_cmp}
@@ -15,7 +16,8 @@ use Rattle.sync_rules.specs.Lists.{firsts}
 use Rattle.sync_rules.specs.Facts.{Facts, Held, Id, after, after_all, after_batches, nothing, facts, entries_of, group_at, held_at, contact_of, session_at, level_at, is_invisible}
 use Rattle.sync_rules.specs.Steps.{next}
 use Rattle.sync_rules.specs.Sessions.{taken, taken_message, taken_message_of, taken_acks, taken_requests, taken_offers, taken_offer, one_if, is_welcome, is_remembered, room_after}
-use Rattle.sync_rules.specs.Legal.{Allowed, AreRows, IsSettling, GoesOn, Legal, MayStandAlone, SuitsRows}
+use Rattle.sync_rules.specs.Legal.{Allowed, AreRows, IsSettling, GoesOn, Legal, MayStandAlone}
+use Rattle.sync_rules.specs.Legal.{SuitsRows}
 use Rattle.sync_rules.proofs.BatchKinds.{by_kind}
 use Rattle.sync_rules.proofs.StepLaws.{next_is_settling}
 use Rattle.sync_rules.proofs.Sound.{SoundFacts}
@@ -124,11 +126,13 @@ fits_rows clients f (e ∷ es) s = (fits_row clients f e s.0, fits_rows clients 
 
 -- ---- batches
 
-stands_fits : (clients : Meaning) (f : Facts) (e : Entry) → MayStandAlone clients f e → Fits clients f e
+stands_fits : (clients : Meaning) (f : Facts) (e : Entry) → MayStandAlone clients f e
+    → Fits clients f e
 stands_fits clients f (entry.Level c g l) may = may.1
 stands_fits clients f (entry.Author m) may = record { known = may.known_group; new = may.new }
 stands_fits clients f (entry.Out s now what) may = may
-stands_fits clients f (entry.Kept from m) may = record { known = may.1.known_group; new = may.1.new }
+stands_fits clients f (entry.Kept from m) may =
+    record { known = may.1.known_group; new = may.1.new }
 stands_fits clients f (entry.Contact c) may = tt
 stands_fits clients f (entry.Group def) may = tt
 stands_fits clients f (entry.Session s) may = tt

@@ -18,9 +18,10 @@ use Rattle.sync_rules.specs.Sessions.{taken, taken_message, taken_message_of, ta
 use Rattle.sync_rules.specs.Legal.{Allowed, IsSettling, AllSettling}
 use Rattle.sync_rules.specs.Hearing.{SettlesJournal}
 use Rattle.sync_rules.specs.Growth.{IsBegun, IsStepOf, HasSameSteps, leaves_steps, OnlySettles, TakesOne}
+use Rattle.sync_rules.specs.EntryTests.{IsSettlingEntry}
 use Rattle.std.specs.Cmp.{nat_eq_equiv}
 use Rattle.sync_rules.proofs.Elements.{same_id_itself}
-use Rattle.sync_rules.proofs.StepLaws.{Told, first_step_some, told_some, next_is_settling, IsSettlingEntry}
+use Rattle.sync_rules.proofs.StepLaws.{Told, first_step_some, told_some, next_is_settling}
 use Rattle.sync_rules.proofs.Continuing.{one_more_there, facts-append}
 
 -- ---- the next step
@@ -288,7 +289,8 @@ left_all f (e ∷ es) k =
       delivered = b.delivered ∙ a.delivered;
     }
 
-pub taken_of_record : (session : ℕ) (e : Entry) → is_taken_on session e ≡ true → is_of_record e ≡ true
+pub taken_of_record : (session : ℕ) (e : Entry) → is_taken_on session e ≡ true
+    → is_of_record e ≡ true
 taken_of_record session (entry.Arrive s m) k = refl
 taken_of_record session (entry.Again s id) k = refl
 taken_of_record session (entry.Offered s id) k = refl

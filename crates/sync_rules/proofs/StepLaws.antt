@@ -10,6 +10,7 @@ use Rattle.sync_rules.specs.Clients.{Meaning}
 use Rattle.sync_rules.specs.Facts.{Facts, Held, Id}
 use Rattle.sync_rules.specs.Steps.{verdict_in, is_failing, is_served, is_ended, step, step_by, step_open, step_accepted, first_step, first_or_next, next}
 use Rattle.sync_rules.specs.Lists.{In}
+use Rattle.sync_rules.specs.EntryTests.{IsSettlingEntry, IsSettlingEntry}
 
 -- a message that is to be judged
 pub record Judges (f : Facts) (h : Held) (id : Id) : Type 0 where
@@ -135,13 +136,6 @@ first_step_none clients f (x ∷ hs) is h inside =
           ]
       | Some y ↦ λ s t. cc
     ] refl is
-
--- an entry of settling
-abbrev pub IsSettlingEntry : Entry → Type 0
-IsSettlingEntry (entry.Judged id) = Unit {0}
-IsSettlingEntry (entry.Deliver id) = Unit {0}
-IsSettlingEntry (entry.Invalid id) = Unit {0}
-IsSettlingEntry _ = ⊥
 
 told_settles : (clients : Meaning) (f : Facts) (h : Held) (e : Entry) → Told clients f h (Some e) → IsSettlingEntry e
 told_settles clients f h (entry.Judged id) t = tt

@@ -7,7 +7,8 @@ use Rattle.sync_rules.specs.Facts.{Facts, after_all, after_batches, nothing, fac
 use Rattle.sync_rules.specs.Steps.{next}
 use Rattle.sync_rules.specs.Legal.{Allowed, IsSettlingBatch, AllSettling, GoesOn, Legal}
 use Rattle.sync_rules.specs.Hearing.{SettlesJournal}
-use Rattle.sync_rules.proofs.StepLaws.{IsSettlingEntry, next_is_settling}
+use Rattle.sync_rules.specs.EntryTests.{IsSettlingEntry}
+use Rattle.sync_rules.proofs.StepLaws.{next_is_settling}
 use Rattle.sync_rules.proofs.Settling.{goes_on_both, after_batches-append}
 
 -- ---- journals

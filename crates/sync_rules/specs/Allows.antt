@@ -139,9 +139,9 @@ may_author clients f m =
     && (is_none (held_at f.held (message_id_of m)) && accepts_served f m.group (verdict_in clients f.groups m))
 
 -- this is what is due on a session
-abbrev pub is_due : Meaning → Facts → Option Session → ℕ → Out → Bool
-is_due clients f None now what = false
-is_due clients f (Some s) now what = is_some_of same_out (due clients f s now) what
+abbrev pub is_due_on : Meaning → Facts → Option Session → ℕ → Out → Bool
+is_due_on clients f None now what = false
+is_due_on clients f (Some s) now what = is_some_of same_out (due clients f s now) what
 
 -- ---- what a record is taken as
 
@@ -289,7 +289,8 @@ may_stand_alone clients f (entry.Group def) = may_add_group clients f def
 may_stand_alone clients f (entry.Level c g l) = nat_lt c f.contacts && is_some (group_at f.groups g)
 may_stand_alone clients f (entry.Session s) = may_begin f s
 may_stand_alone clients f (entry.Author m) = may_author clients f m
-may_stand_alone clients f (entry.Out s now what) = is_due clients f (session_at f.sessions s) now what
+may_stand_alone clients f (entry.Out s now what) =
+    is_due_on clients f (session_at f.sessions s) now what
 may_stand_alone clients f (entry.Kept from m) = is_opening f.start && may_keep clients f from m
 may_stand_alone clients f _ = false
 

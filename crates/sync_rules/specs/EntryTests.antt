@@ -31,3 +31,10 @@ invalidates id _ = false
 -- the entry delivers the message or says that it is invalid
 abbrev pub ends : Id → Entry → Bool
 ends id e = delivers id e || invalidates id e
+
+-- an entry of settling
+abbrev pub IsSettlingEntry : Entry → Type 0
+IsSettlingEntry (entry.Judged id) = Unit {0}
+IsSettlingEntry (entry.Deliver id) = Unit {0}
+IsSettlingEntry (entry.Invalid id) = Unit {0}
+IsSettlingEntry _ = ⊥

@@ -24,6 +24,10 @@ use Rattle.sync_rules.specs.declared.limits.TheConstants.{MAX_TRIES}
 use Rattle.sync_rules.specs.declared.states.Origin.TheVariants as origin
 use Rattle.sync_rules.specs.Lists.{same_id, is_among, without, firsts}
 
+-- a journal: a list of batches, each a list of entries
+abbrev pub Journal : Type 0
+Journal = List (List Entry)
+
 abbrev pub Id : Type 0
 Id = List ℕ
 

@@ -9,12 +9,12 @@ use Rattle.sync_rules.specs.declared.entries.Session.{Session}
 use Rattle.sync_rules.specs.declared.states.Start.{Start}
 use Rattle.sync_rules.specs.declared.states.Start.TheVariants as start
 use Rattle.sync_rules.specs.Facts.{Facts, Held, Id, Known, after, after_all, group_at, held_at, is_held, session_at, takes_of}
-use Rattle.sync_rules.specs.Output.{first_records, records_of}
+use Rattle.sync_rules.specs.Output.{first_records, out_records}
 
 -- ---- what goes on
 
 -- one list is the front of another
-pub record IsFront {A : Type 0} (front whole : List A) : Type 0 where
+pub record ContinuesList {A : Type 0} (front whole : List A) : Type 0 where
   pub more : List A
   pub goes_on : whole ≡ front ++ more
 
@@ -22,10 +22,10 @@ pub record IsFront {A : Type 0} (front whole : List A) : Type 0 where
 pub record ContinuesFacts (f later : Facts) : Type 0 where
   pub contacts : f.contacts ≤ later.contacts
   pub begun : f.begun ≤ later.begun
-  pub groups : IsFront f.groups later.groups
-  pub sessions : IsFront f.sessions later.sessions
-  pub held : IsFront f.held later.held
-  pub delivered : IsFront f.delivered later.delivered
+  pub groups : ContinuesList f.groups later.groups
+  pub sessions : ContinuesList f.sessions later.sessions
+  pub held : ContinuesList f.held later.held
+  pub delivered : ContinuesList f.delivered later.delivered
   pub same_group : (id : Id) (g : Known) → group_at f.groups id ≡ Some g → group_at later.groups id ≡ Some g
   pub same_session : (n : ℕ) (s : Session) → session_at f.sessions n ≡ Some s → session_at later.sessions n ≡ Some s
   pub same_held : (id : Id) (h : Held) → held_at f.held id ≡ Some h → held_at later.held id ≡ Some h
@@ -39,7 +39,7 @@ pub record ContinuesFacts (f later : Facts) : Type 0 where
 -- that of an output of the session
 abbrev pub output_by : Facts → ℕ → Entry → List Record
 output_by f session (entry.Session s) = cond (nat_eq s.number session) (first_records s) []
-output_by f session (entry.Out s now what) = cond (nat_eq s session) (records_of f.held what) []
+output_by f session (entry.Out s now what) = cond (nat_eq s session) (out_records f.held what) []
 output_by f session _ = []
 
 -- the records that entries add, one after the other

@@ -139,7 +139,8 @@ IsDue clients f (Some s) now what = due clients f s now ≡ Some what
 abbrev pub MayStandAlone : Meaning → Facts → Entry → Type 0
 MayStandAlone clients f (entry.Contact c) = (c ≡ f.contacts) × (c < MAX_CONTACTS)
 MayStandAlone clients f (entry.Group def) = MayAddGroup clients f def
-MayStandAlone clients f (entry.Level c g l) = (c < f.contacts) × (is_some (group_at f.groups g) ≡ true)
+MayStandAlone clients f (entry.Level c g l) = (c < f.contacts)
+    × (is_some (group_at f.groups g) ≡ true)
 MayStandAlone clients f (entry.Session s) = MayBegin f s
 MayStandAlone clients f (entry.Author m) = MayAuthor clients f m
 MayStandAlone clients f (entry.Out s now what) = IsDue clients f (session_at f.sessions s) now what

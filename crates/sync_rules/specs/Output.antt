@@ -47,15 +47,15 @@ message_record None = []
 message_record (Some h) = record_kind.Message h.message ∷ []
 
 -- the record of one output; of a message that is not held there is none, and a legal journal sends no such message
-abbrev pub records_of : List Held → Out → List Record
-records_of held (out.Acks ids) = record_kind.Ack ids ∷ []
-records_of held (out.Requests ids) = record_kind.Request ids ∷ []
-records_of held (out.Offers ids) = record_kind.Offer ids ∷ []
-records_of held (out.Send id) = message_record (held_at held id)
+abbrev pub out_records : List Held → Out → List Record
+out_records held (out.Acks ids) = record_kind.Ack ids ∷ []
+out_records held (out.Requests ids) = record_kind.Request ids ∷ []
+out_records held (out.Offers ids) = record_kind.Offer ids ∷ []
+out_records held (out.Send id) = message_record (held_at held id)
 
 -- the record of an entry, where it is an output of the session
 abbrev pub records_by : List Held → ℕ → Entry → List Record
-records_by held session (entry.Out s now what) = cond (nat_eq s session) (records_of held what) []
+records_by held session (entry.Out s now what) = cond (nat_eq s session) (out_records held what) []
 records_by held session _ = []
 
 abbrev pub records_in : List Held → ℕ → List Entry → List Record

@@ -24,7 +24,7 @@ ghost use Rattle.sync_rules.specs.Legal.{Allowed, AllSettling, GoesOn, IsDue, Is
 ghost use Rattle.sync_rules.specs.Legal.{IsSettlingBatch, Legal};
 ghost use Rattle.sync_rules.specs.Meeting.{AllMeet, EachMeets};
 ghost use Rattle.sync_rules.specs.Naming.{BringsWithin, HasLimits, NamesDistinct};
-ghost use Rattle.sync_rules.specs.Output.{first_records, records_of, sent};
+ghost use Rattle.sync_rules.specs.Output.{first_records, out_records, sent};
 ghost use Rattle.sync_rules.specs.Rounds.{bad, good, Graph};
 ghost use Rattle.sync_rules.specs.Sessions.{due};
 ghost use Rattle.sync_rules.specs.Steps.{IsSettled, next};
@@ -178,7 +178,7 @@ pub fn sent_adds()
         → Allowed clients f (entry.Take session k ∷ rest)
         → list_all is_silent (entry.Take session k ∷ rest) ≡ true }
     ensures one { (f : Facts) (contact : ℕ) (what : Out) → NamesDistinct f contact what
-        → length (records_of f.held what) ≡ 1 }
+        → length (out_records f.held what) ≡ 1 }
 {}
 
 /// A session that has not begun has taken and sent nothing.
@@ -222,7 +222,7 @@ pub fn limits()
     ensures journal { (j : List (List Entry)) → AllByRecursion BringsWithin (entries_of j)
         → HasLimits (facts j) }
     ensures records { (f : Facts) (contact : ℕ) (what : Out) → HasHeld f → HasLimits f
-        → NamesDistinct f contact what → AllByRecursion IsRecord (records_of f.held what) }
+        → NamesDistinct f contact what → AllByRecursion IsRecord (out_records f.held what) }
     ensures sends { (clients : Meaning) (j : List (List Entry)) (session : ℕ) → Legal clients j
         → AllByRecursion BringsWithin (entries_of j) → AllByRecursion IsRecord (sent j session) }
 {

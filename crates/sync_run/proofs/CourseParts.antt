@@ -23,6 +23,7 @@ use Rattle.sync_course.specs.Turns.{is_at_end, is_over, over_by, some_going}
 use Rattle.sync_node.specs.declared.link.Link.{Link}
 use Rattle.sync_course.specs.declared.ends.LinkEnd.{LinkEnd}
 use Rattle.sync_course.specs.declared.ends.LinkEnd.TheVariants as link_end
+use Rattle.sync_course.specs.Links.{is_going}
 use Rattle.sync_node.specs.Courses.{AllRead, links_from, place_at}
 use Rattle.sync_node.specs.OnRuns.{BeginStopped, BeginWent, ByFault, RoundStopped, RoundWent}
 use Rattle.sync_node.specs.OnRuns.{RunActs, RunStopped, RunWent}
@@ -31,7 +32,7 @@ use Rattle.sync_node.specs.declared.fault.NodeFault.TheVariants as node_fault
 use Rattle.sync_node.proofs.CourseLaws.{told_as}
 use Rattle.sync_node.proofs.PrimLaws.{did_pass}
 use Rattle.sync_node.proofs.WentLaws.{stopped_then, went_none, went_one, went_then}
-use Rattle.sync_node.specs.Node.{IsNode, NodeValue, asked_among, is_going}
+use Rattle.sync_node.specs.Node.{IsNode, NodeValue, asked_among}
 use Rattle.sync_node.specs.Plans.{session_of}
 use Rattle.sync_run.specs.declared.dialling.Dialled.{Dialled}
 use Rattle.sync_run.specs.declared.run.Limits.{Limits}

@@ -13,7 +13,7 @@ use Rattle.entry_codec.specs.Standing.{journal}
 use Rattle.file_standing.specs.Standing.{stands}
 use Rattle.sync_rules.specs.declared.entries.Session.{Session}
 use Rattle.sync_rules.specs.Clients.{Meaning}
-use Rattle.sync_rules.specs.Facts.{facts}
+use Rattle.sync_rules.specs.Facts.{Journal, facts}
 use Rattle.sync_store.specs.Store.{StoreValue}
 use Rattle.sync_course.specs.Acts.{AtFront, batches_in, events_of}
 use Rattle.sync_course.specs.Events.{Event, GrowsBy, RoseIf, TellsEvents, has_failure, heard_after}
@@ -25,7 +25,7 @@ use Rattle.sync_node.proofs.CourseLaws.{fits_on}
 use Rattle.sync_node.specs.Courses.{FitsWith, ReadsAs}
 use Rattle.sync_node.specs.Did.{SinceThen}
 use Rattle.sync_node.specs.Going.{LetsNothingFall}
-use Rattle.sync_node.specs.Output.{Journal, sent_on}
+use Rattle.sync_node.specs.Output.{sent_on}
 use Rattle.sync_words.specs.declared.link_words.LinkWords.{LinkWords}
 use Rattle.sync_course.specs.Closing.{Closing}
 use Rattle.store_commands.specs.Commit.{MayMigrate}

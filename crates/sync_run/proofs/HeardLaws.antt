@@ -22,7 +22,7 @@ use Rattle.sync_course.proofs.PathLaws.{path_keeps}
 use Rattle.sync_course.specs.Links.{Link, closed_from, link_of}
 use Rattle.sync_course.specs.Owing.{Owing}
 use Rattle.sync_course.specs.Paths.{Path}
-use Rattle.sync_course.specs.Suits.{heard_in, heard_on}
+use Rattle.sync_course.specs.Suits.{heard_in, heard_at_place}
 use Rattle.sync_course.specs.Turns.{Attaches, Greets, Place, RunStep, Settles, Stage, Terms}
 use Rattle.sync_course.specs.Turns.{first_place}
 use Rattle.sync_rules.specs.declared.entries.Entry.{Entry}
@@ -107,7 +107,7 @@ path_few clients terms sessions f es last path =
 pub path_told : (clients : Meaning) (terms : Terms) (sessions : List Session) (f : Facts)
     (es : List Event) (last : Place) (n : ℕ)
     → Path (RunStep clients terms) (first_place sessions f) es last → length last.links ≤ n
-    → (i : ℕ) → at_of (heard_after es (unheard n)) i ≡ heard_on last i
+    → (i : ℕ) → at_of (heard_after es (unheard n)) i ≡ heard_at_place last i
 path_told clients terms sessions f es last n path few i =
     elim (cases_lt i n) [
       | inl within ↦
@@ -123,10 +123,10 @@ path_told clients terms sessions f es last n path few i =
 -- batches that are committed bring nothing
 pub commits_bring : (clients : Meaning) (terms : Terms) (p q : Owing Place) (bs : List (List Entry))
     → Path (RunActs clients terms) p (commit_acts bs) q → (i : ℕ)
-    → heard_on q.at i ≡ heard_on p.at i
-commits_bring clients terms p q [] path i = ap (λ (x : Owing Place). heard_on x.at i) path
+    → heard_at_place q.at i ≡ heard_at_place p.at i
+commits_bring clients terms p q [] path i = ap (λ (x : Owing Place). heard_at_place x.at i) path
 commits_bring clients terms p q (b ∷ bs) path i =
     commits_bring clients terms path.0 q bs path.2 i
     ∙ free_path_adds clients terms.first (Commit b ∷ []) (forget p.at) (forget path.0.at) i
     (forget path.0.at, step_is_free clients terms p.at path.0.at (Commit b) path.1.1, refl)
-    ∙ append-nil (heard_on p.at i)
+    ∙ append-nil (heard_at_place p.at i)

@@ -4,21 +4,20 @@ use Rattle.std.proofs.Common.{false, inl, refl, subst, sym, true, ℕ, ◌++◌,
 use Rattle.std.specs.Prelude.{IsErrAnd, if◌then◌else◌, length, nat_lt}
 use Rattle.outside.proofs.CallSteps.{becomes_told, moments_map}
 use Rattle.outside.specs.Disk.{RelatesTold}
-use Rattle.outside.specs.Files.{File, Two, read_files}
+use Rattle.outside.specs.Files.{File, ReadsSame, Two, read_files}
 use Rattle.outside.specs.Links.{Links}
 use Rattle.outside.specs.Outside.{DiskRun, IsNow, Moment, MomentsAre, Outside}
-use Rattle.frame_journal.specs.Gates.{ReadsSame}
 use Rattle.entry_codec.specs.Standing.{Standing, journal}
 use Rattle.file_standing.specs.Standing.{stands}
 use Rattle.sync_rules.specs.Clients.{Meaning}
-use Rattle.sync_rules.specs.Facts.{Facts, facts}
+use Rattle.sync_rules.specs.Facts.{Facts, Journal, facts}
 use Rattle.sync_rules.specs.declared.limits.TheConstants.{MAX_SESSIONS}
 use Rattle.sync_rules.specs.declared.states.Refused.{Refused}
 use Rattle.sync_rules.specs.declared.states.Refused.TheVariants as refused
 use Rattle.sync_store.specs.Store.{StoreValue}
 use Rattle.sync_course.specs.Closing.{Closing}
 use Rattle.sync_node.specs.Courses.{ReadsAs}
-use Rattle.sync_node.specs.Output.{Journal, output, sent_on}
+use Rattle.sync_node.specs.Output.{output, sent_on}
 use Rattle.store_commands.specs.Load.{HasFacts, IsLoaded, LoadedBy}
 use Rattle.store_commands.specs.Show.{FilesReadSame, LeavesFilesSo}
 use Rattle.sync_words.specs.declared.link_words.LinkWords.{LinkWords}

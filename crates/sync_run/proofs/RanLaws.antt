@@ -10,18 +10,17 @@ use Rattle.std.proofs.lemmas.Option.{slice_get-map}
 use Rattle.outside.specs.declared.limits.TheConstants.{MAX_JOURNAL}
 use Rattle.outside.specs.Disk.{RelatesTold}
 use Rattle.outside.proofs.CallSteps.{becomes_told}
-use Rattle.outside.specs.Files.{Two, File, read_files}
+use Rattle.outside.specs.Files.{File, ReadsSame, Two, read_files}
 use Rattle.outside.specs.Links.{HeardOn, Links, sent_of}
 use Rattle.outside.specs.Outside.{DiskRun, IsNow, Moment, MomentsAre, Outside}
 use Rattle.outside.specs.Runs.{IsFront, LinksGrow, TellsAll, answers_at, heard_bytes}
 use Rattle.record_grammar.specs.Spelling.{spelled}
-use Rattle.frame_journal.specs.Gates.{ReadsSame}
 use Rattle.entry_codec.specs.Standing.{Standing, journal}
 use Rattle.file_standing.specs.Standing.{stands}
 use Rattle.sync_rules.specs.declared.entries.Session.{Session}
 use Rattle.sync_rules.specs.declared.states.Refused.{Refused}
 use Rattle.sync_rules.specs.Clients.{Meaning}
-use Rattle.sync_rules.specs.Facts.{Facts, after_all, facts}
+use Rattle.sync_rules.specs.Facts.{Facts, Journal, after_all, facts}
 use Rattle.sync_rules.specs.Legal.{Legal}
 use Rattle.sync_rules.specs.Output.{sent}
 use Rattle.sync_store.specs.Fitting.{FitsFiles, FitsSome}
@@ -40,7 +39,7 @@ use Rattle.sync_course.specs.Paths.{Path}
 use Rattle.sync_course.specs.Quiet.{EndsQuiet}
 use Rattle.sync_course.specs.Story.{AllIsSent, AllSuitPlanned, FreeActs, LinkFailed, MomentStands}
 use Rattle.sync_course.specs.Story.{begun_by, heard_at}
-use Rattle.sync_course.specs.Suits.{heard_in, heard_on as place_heard}
+use Rattle.sync_course.specs.Suits.{heard_in, heard_at_place as place_heard}
 use Rattle.sync_course.specs.Turns.{Broken, Course, Ended, Place, RunStep, Settles, Terms}
 use Rattle.sync_course.specs.Turns.{first_place, is_over}
 use Rattle.sync_course.proofs.ActLaws.{batches_in-append}
@@ -50,7 +49,7 @@ use Rattle.sync_course.proofs.PathLaws.{path_then}
 use Rattle.sync_course.proofs.SendLaws.{events_path}
 use Rattle.sync_node.specs.Courses.{FitsWith, ReadsAs}
 use Rattle.sync_node.specs.OnRuns.{RunActs}
-use Rattle.sync_node.specs.Output.{Journal, heard_on, output, sent_on}
+use Rattle.sync_node.specs.Output.{heard_on, output, sent_on}
 use Rattle.sync_node.proofs.EventLaws.{EventPath, as_events}
 use Rattle.sync_words.specs.declared.link_words.LinkWords.{LinkWords}
 use Rattle.sync_words.specs.declared.outcome.Outcome.{Outcome}
@@ -60,7 +59,7 @@ use Rattle.sync_run.specs.Courses.{HearsRun, OfJournal, RanSoFar, RanToEnd, RunC
 use Rattle.sync_run.specs.Courses.{RunWasSpent, WasFull, WasOver, run_test, terms_of}
 use Rattle.sync_run.specs.Dialling.{MakesLinks, PassesTime, unheard}
 use Rattle.sync_run.specs.Headline.{AllSentWhenFull, IsUntouched, LeavesFilesAtRest, RunLeaves}
-use Rattle.sync_run.specs.Headline.{SentWhole, StandsForRun, sent_by}
+use Rattle.sync_run.specs.Headline.{SentWhole, StandsForRun, sent_at_moment}
 use Rattle.sync_run.specs.Parts.{AnswersAt, FillsAt, RanOnLinks}
 use Rattle.sync_run.proofs.LeavingLaws.{reads_still}
 use Rattle.sync_run.proofs.EndLaws.{course_by_heard}
@@ -264,7 +263,7 @@ module _ (clients : Meaning) (limits : Limits) (words : List LinkWords) (s : Sto
         (record { numbered = refl; path = ways.path })))
 
     at_front : (m : Moment) → AtFront clients all loaded.of (λ link. []) m
-        → Stands (sent_by m) m.files
+        → Stands (sent_at_moment m) m.files
     unfolding output
     at_front m at =
         let st =
@@ -289,7 +288,8 @@ module _ (clients : Meaning) (limits : Limits) (words : List LinkWords) (s : Sto
                 all_suit);
           };
           has_sent = λ link.
-              subst (λ (k : Journal). IsFront (sent_by m link) (spelled (sent k (first + link))))
+              subst (λ (k : Journal). IsFront (sent_at_moment m link)
+              (spelled (sent k (first + link))))
               same
               (st.has_sent link);
         }
@@ -312,7 +312,7 @@ module _ (clients : Meaning) (limits : Limits) (words : List LinkWords) (s : Sto
     abbrev MayLeave : Moment → Type 0
     MayLeave m = IsUntouched two o0 m
         ⊎ StoodFor stood (λ begin.
-        StandsForRun clients words begin (heard_on o3.links) (sent_by m) m.files)
+        StandsForRun clients words begin (heard_on o3.links) (sent_at_moment m) m.files)
 
     untouched : (m : Moment) → IsNow two o0.links m → MayLeave m
     untouched m now =

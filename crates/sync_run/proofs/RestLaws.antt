@@ -1,8 +1,8 @@
 -- Files at rest: nothing is pending in them, so that a crash leaves what a read gives.
 use Rattle.std.proofs.Common.{◌≡◌, ℕ, List, sym, ap, ◌∙◌, subst, Option, None, Some, Result, Err}
 use Rattle.outside.specs.Disk.{RelatesTold}
-use Rattle.outside.specs.Files.{Two, File, IsFileImage, IsImage, NothingPending, read_files, settled}
-use Rattle.frame_journal.specs.Gates.{SyncsBoth}
+use Rattle.outside.specs.Files.{File, IsFileImage, IsImage, NothingPending, SyncsBoth, Two}
+use Rattle.outside.specs.Files.{read_files, settled}
 use Rattle.frame_journal.proofs.Torn.{settled_only}
 use Rattle.sync_rules.specs.Clients.{Meaning}
 use Rattle.sync_store.specs.Store.{StoreValue}

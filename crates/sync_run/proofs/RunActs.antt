@@ -15,7 +15,7 @@ use Rattle.sync_ids.specs.declared.records.Record.{Record}
 use Rattle.sync_rules.specs.declared.entries.Entry.{Entry}
 use Rattle.sync_rules.specs.declared.entries.Session.{Session}
 use Rattle.sync_rules.specs.Clients.{Meaning}
-use Rattle.sync_rules.specs.Facts.{Facts, after_all, after_batches, facts}
+use Rattle.sync_rules.specs.Facts.{Facts, Journal, after_all, after_batches, facts}
 use Rattle.sync_rules.specs.Legal.{AllSettling}
 use Rattle.sync_rules.proofs.OutputLaws.{settling_silent, silent_adds_nothing}
 use Rattle.sync_rules.proofs.StepKinds.{all_settling_only}
@@ -47,7 +47,7 @@ use Rattle.sync_node.specs.Courses.{FitsWith, ReadsAs, place_at}
 use Rattle.sync_node.specs.Did.{SinceThen}
 use Rattle.sync_node.specs.Node.{NodeValue, new_node}
 use Rattle.sync_node.specs.OnRuns.{RunActs}
-use Rattle.sync_node.specs.Output.{Journal, sent_on}
+use Rattle.sync_node.specs.Output.{sent_on}
 use Rattle.sync_node.specs.Went.{Went}
 use Rattle.sync_node.proofs.CourseLaws.{fits_grown, reads_front}
 use Rattle.sync_node.proofs.DidLaws.{front_shift, front_wide, since_then}

@@ -3,15 +3,14 @@ use Rattle.std.proofs.Common.{◌≡◌, ℕ, List, [], length, refl, sym, ◌�
 use Rattle.std.proofs.Common.{Some, is_some, slice_index_or}
 use Rattle.std.proofs.lemmas.List.{nil_from_length}
 use Rattle.outside.specs.Disk.{RelatesTold}
-use Rattle.outside.specs.Files.{Two, File, read_files}
+use Rattle.outside.specs.Files.{File, ReadsSame, Two, read_files}
 use Rattle.outside.specs.Links.{ToldLink, sent_of}
 use Rattle.outside.specs.Outside.{Moment, Outside}
 use Rattle.outside.specs.Runs.{LinksGrow, TellsAll}
 use Rattle.outside.proofs.CallSteps.{becomes_told}
-use Rattle.frame_journal.specs.Gates.{ReadsSame}
 use Rattle.sync_node.specs.Output.{sent_on}
 use Rattle.sync_node.proofs.CourseLaws.{told_as}
-use Rattle.sync_run.specs.Headline.{sent_by}
+use Rattle.sync_run.specs.Headline.{sent_at_moment}
 
 pub told_back : (o o' : Outside) → is_some o'.files ≡ is_some o.files → LinksGrow o.links o'.links
     → TellsAll o' → TellsAll o
@@ -55,6 +54,6 @@ nothing_sent o none link =
 
 -- a moment before which nothing was sent
 pub silent_by : (o : Outside) (m : Moment) (link : ℕ) → o.links.dialled ≡ 0
-    → m.sent ≡ sent_of o.links.told → sent_by m link ≡ []
+    → m.sent ≡ sent_of o.links.told → sent_at_moment m link ≡ []
 silent_by o m link none sent =
     ap (λ (s : List (List ℕ)). slice_index_or s link []) (sent ∙ none_sent o none)

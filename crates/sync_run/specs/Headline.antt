@@ -9,10 +9,10 @@ use Rattle.outside.specs.Outside.{Outside, Moment, MomentsAre, IsNow}
 use Rattle.outside.specs.Runs.{TellsAll}
 use Rattle.sync_rules.specs.declared.entries.Session.{Session}
 use Rattle.sync_rules.specs.Clients.{Meaning}
-use Rattle.sync_rules.specs.Facts.{facts}
+use Rattle.sync_rules.specs.Facts.{Journal, facts}
 use Rattle.entry_codec.specs.Standing.{journal}
 use Rattle.file_standing.specs.Standing.{stands}
-use Rattle.sync_node.specs.Output.{AreOutput, Journal, heard_on, output, sent_on}
+use Rattle.sync_node.specs.Output.{AreOutput, heard_on, output, sent_on}
 use Rattle.sync_node.specs.Suits.{SuitsRun}
 use Rattle.store_commands.specs.Stopping.{StoodFor}
 use Rattle.sync_words.specs.declared.link_words.LinkWords.{LinkWords}
@@ -24,8 +24,8 @@ use Rattle.sync_words.specs.declared.outcome.Outcome.TheVariants as outcome
 use Rattle.sync_run.specs.Plans.{ArePlanned}
 
 -- the bytes sent by a moment, on each link
-abbrev pub sent_by : Moment → ℕ → List ℕ
-sent_by m link = slice_index_or m.sent link []
+abbrev pub sent_at_moment : Moment → ℕ → List ℕ
+sent_at_moment m link = slice_index_or m.sent link []
 
 -- Files stand for a journal of a run of these words: it goes on from the one that the run began
 -- with by settling, by sessions as the words plan them, by what was taken of what was heard, in
@@ -42,7 +42,7 @@ pub record StandsForRun (clients : Meaning) (words : List LinkWords) (begin : Jo
 -- a moment that might have been before the command, at which nothing was sent
 pub record IsUntouched (two : Two File) (old : Outside) (m : Moment) : Type 0 where
   pub now : IsNow two old.links m
-  pub nothing_sent : (link : ℕ) → sent_by m link ≡ []
+  pub nothing_sent : (link : ℕ) → sent_at_moment m link ≡ []
 
 -- Where files, links and what they heard are told; the files were `two` when the command began. At
 -- each moment a crash leaves what it might have left before, nothing being sent, or files of which
@@ -53,7 +53,7 @@ pub record RunLeaves (clients : Meaning)
     (old new : Outside) (told : TellsAll new) : Type 0 where
   pub moments : MomentsAre old new (λ m. IsUntouched two old m
       ⊎ StoodFor (stands clients (read_files two))
-      (λ begin. P begin (heard_on new.links) (sent_by m) m.files))
+      (λ begin. P begin (heard_on new.links) (sent_at_moment m) m.files))
   pub ends : (begin : Journal) → stands clients (read_files two) ≡ journal begin
       → P begin (heard_on new.links) (sent_on new.links) (read_files told.two)
 

@@ -4,9 +4,8 @@ use Rattle.outside.specs.declared.limits.TheConstants.{LINKS}
 use Rattle.outside.specs.Links.{Links}
 use Rattle.outside.specs.Outside.{Outside}
 use Rattle.outside.specs.Runs.{IsFront}
-use Rattle.sync_rules.specs.Facts.{facts}
+use Rattle.sync_rules.specs.Facts.{Journal, facts}
 use Rattle.entry_codec.specs.Standing.{Standing, journal}
-use Rattle.sync_node.specs.Output.{Journal}
 use Rattle.sync_words.specs.declared.link_words.LinkWords.{LinkWords}
 use Rattle.sync_course.specs.Closing.{Closing}
 use Rattle.sync_words.specs.declared.outcome.Outcome.{Outcome}

@@ -8,7 +8,7 @@ use Rattle.outside.specs.Runs.{LinksGrow, TellsAll}
 use Rattle.sync_rules.specs.declared.entries.Entry.{Entry}
 use Rattle.sync_rules.specs.declared.entries.Session.{Session}
 use Rattle.sync_rules.specs.Clients.{Meaning}
-use Rattle.sync_rules.specs.Facts.{Facts, facts}
+use Rattle.sync_rules.specs.Facts.{Facts, Journal, facts}
 use Rattle.sync_store.specs.Store.{StoreValue}
 use Rattle.sync_course.specs.Acts.{Act, AtFront, Does, batches_in, commit_acts, events_of}
 use Rattle.sync_course.specs.Closing.{Closing, closing}
@@ -24,7 +24,7 @@ use Rattle.sync_node.specs.Node.{AnswersAndCloses, MayRun, NodeValue}
 use Rattle.sync_node.specs.OnRuns.{ByFault, RunActs, RunStopped, RunWent}
 use Rattle.sync_node.specs.declared.fault.NodeFault.{NodeFault}
 use Rattle.sync_course.specs.Links as course_links
-use Rattle.sync_node.specs.Output.{Journal, sent_on}
+use Rattle.sync_node.specs.Output.{sent_on}
 use Rattle.store_commands.specs.Commit.{MayMigrate, needed_by}
 use Rattle.sync_words.specs.declared.link_words.LinkWords.{LinkWords}
 use Rattle.sync_words.specs.declared.outcome.Outcome.{Outcome}

@@ -4,17 +4,16 @@ use Rattle.std.proofs.Common.{Err, IfOk, refl, sym, ap, ◌∙◌, subst, inl, i
 use Rattle.std.specs.Option.{ForSome}
 use Rattle.std.proofs.lemmas.Bool.{or_parts}
 use Rattle.std.proofs.lemmas.List.Elements.{All-nil}
-use Rattle.outside.specs.Files.{Two, File, IsFileImage, IsImage, file_of, settled}
+use Rattle.outside.specs.Files.{File, IsFileImage, IsImage, SyncsBoth, Two, file_of, settled}
 use Rattle.outside.specs.Frames.{HasFrames, IsPayload, is_open, format_in, header_of, journal_file}
 use Rattle.outside.specs.Links.{Links, sent_of}
 use Rattle.outside.specs.Disk.{RelatesTold}
-use Rattle.outside.specs.Outside.{Outside, Moment, MomentsAre, IsNow, OnlyReads, DiskRun}
+use Rattle.outside.specs.Outside.{AnyImage, DiskRun, IsNow, Moment, MomentsAre, OnlyReads, Outside}
 use Rattle.outside.specs.Steps.{FileMoment, PassedMoments}
 use Rattle.outside.proofs.CallSteps.{becomes_told, moments_map, moments_then}
 use Rattle.frame_journal.specs.Create.{ClearsFile, CreatesJournal, BeforeOrShut, ShutOrBegun}
 use Rattle.frame_journal.specs.Create.{begun_bytes}
 use Rattle.frame_journal.specs.declared.fault.DiskFault.{DiskFault}
-use Rattle.frame_journal.specs.Gates.{SyncsBoth, AnyImage}
 use Rattle.sync_rules.specs.Clients.{Meaning}
 use Rattle.sync_rules.specs.Facts.{nothing}
 use Rattle.entry_codec.specs.declared.naming.Format.TheVariants as kind

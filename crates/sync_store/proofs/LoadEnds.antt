@@ -8,14 +8,14 @@ use Rattle.std.specs.FinMap as fin_map
 use Rattle.std.specs.Ordering.{nat_cmp}
 use Rattle.sync_rules.specs.Facts.{Facts, count_or, facts, nothing, takes_of}
 use Rattle.sync_rules.specs.Steps.{answer_of}
-use Rattle.outside.specs.Files.{Two, File, IsFileImage, IsImage, file_of, read_files, settled}
+use Rattle.outside.specs.Files.{File, IsFileImage, IsImage, SyncsBoth, Two, file_of, read_files}
+use Rattle.outside.specs.Files.{settled}
 use Rattle.outside.specs.Frames.{format_in, generation_in, HasFrames}
 use Rattle.outside.specs.Links.{Links, sent_of}
-use Rattle.outside.specs.Outside.{Outside, Moment, IsNow, DiskRun, OnlyReads}
+use Rattle.outside.specs.Outside.{AnyImage, DiskRun, IsNow, Moment, OnlyReads, Outside}
 use Rattle.outside.specs.Disk.{RelatesTold}
 use Rattle.outside.proofs.CallSteps.{becomes_told, moments_map, moments_then}
 use Rattle.outside.specs.declared.disk.Place.{Place}
-use Rattle.frame_journal.specs.Gates.{AnyImage, SyncsBoth}
 use Rattle.frame_journal.specs.Journal.{JournalValue, is_format}
 use Rattle.frame_journal.specs.Header.{StartsJournal}
 use Rattle.frame_journal.specs.declared.fault.StartFault.{StartFault}

@@ -1,6 +1,6 @@
 -- Which kinds of entries a format has: a batch that is none of a brief account has older kinds
 -- alone.
-use Rattle.std.proofs.Common.{◌≡◌, Bool, true, false, List, [], ◌∷◌, sym, ◌∙◌}
+use Rattle.std.proofs.Common.{◌≡◌, true, false, List, [], ◌∷◌, sym, ◌∙◌}
 use Rattle.std.specs.List.{AllByRecursion}
 use Rattle.std.proofs.lemmas.Bool.{false≢true}
 use Rattle.sync_rules.specs.declared.entries.Entry.{Entry}
@@ -9,13 +9,13 @@ use Rattle.sync_rules.specs.Allows.{is_account_kind}
 use Rattle.sync_rules.specs.Clients.{Meaning}
 use Rattle.sync_rules.specs.Facts.{Facts}
 use Rattle.sync_rules.specs.Legal.{Allowed, IsSettling, MayStandAlone}
+use Rattle.sync_rules.specs.EntryTests.{IsSettlingEntry}
 use Rattle.sync_rules.proofs.BatchEntries.{record_each}
 use Rattle.sync_rules.proofs.BatchKinds.{by_kind, rows_account}
 use Rattle.sync_rules.proofs.StepKinds.{is_of_record}
 use Rattle.entry_codec.specs.declared.naming.Format.{Format}
 use Rattle.entry_codec.specs.Spelling.{IsOfFormat, IsOld}
 use Rattle.entry_codec.proofs.FormatKinds.{of_old}
-use Rattle.sync_store.specs.Settling.{IsEntryOfSettling}
 use Rattle.sync_store.proofs.Steps.{all_steps}
 
 abbrev AreOld : List Entry → Type 0
@@ -29,13 +29,13 @@ kinds_of format (e ∷ es) old = (of_old format e old.0, kinds_of format es old.
 
 -- ---- steps
 
-step_old : (e : Entry) → IsEntryOfSettling e → IsOld e
+step_old : (e : Entry) → IsSettlingEntry e → IsOld e
 step_old (entry.Judged id) is = tt
 step_old (entry.Deliver id) is = tt
 step_old (entry.Invalid id) is = tt
 step_old _ is = absurd is
 
-steps_old : (es : List Entry) → AllByRecursion IsEntryOfSettling es → AreOld es
+steps_old : (es : List Entry) → AllByRecursion IsSettlingEntry es → AreOld es
 steps_old [] steps = tt
 steps_old (e ∷ es) steps = (step_old e steps.0, steps_old es steps.1)
 
@@ -56,7 +56,8 @@ mark_old _ is = tt
 abbrev ArePlainOld : List Entry → Type 0
 ArePlainOld b = is_account_kind b ≡ false → AreOld b
 
-stands_old : (clients : Meaning) (f : Facts) (e : Entry) → MayStandAlone clients f e → ArePlainOld (e ∷ [])
+stands_old : (clients : Meaning) (f : Facts) (e : Entry) → MayStandAlone clients f e
+    → ArePlainOld (e ∷ [])
 stands_old clients f (entry.Kept from m) may plain = absurd (false≢true (sym plain))
 stands_old clients f (entry.Brief n) may plain = absurd may
 stands_old clients f (entry.Tried t) may plain = absurd may

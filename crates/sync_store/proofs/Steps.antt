@@ -4,31 +4,24 @@ use Rattle.std.proofs.Common.{length, Some, refl, sym, ap, ◌∙◌, arith}
 use Rattle.std.specs.List.{AllByRecursion}
 use Rattle.std.proofs.lemmas.Bool.{false≢true}
 use Rattle.sync_rules.specs.declared.entries.Entry.{Entry}
-use Rattle.sync_rules.specs.declared.entries.Entry.TheVariants as entry
 use Rattle.sync_rules.specs.Clients.{Meaning}
 use Rattle.sync_rules.specs.Facts.{Facts, after, after_all, after_batches, takes_of}
 use Rattle.sync_rules.specs.Left.{left_of}
-use Rattle.sync_rules.specs.Growth.{IsStepOf}
 use Rattle.sync_rules.proofs.LeftLaws.{steps_lower}
 use Rattle.sync_rules.specs.Legal.{AllSettling, IsSettling}
-use Rattle.sync_rules.proofs.StepKinds.{next_is_step, settling_only}
+use Rattle.sync_rules.proofs.BatchEntries.{settling_each}
+use Rattle.sync_rules.proofs.StepKinds.{settling_only}
 use Rattle.sync_rules.specs.Steps.{IsSettled, next}
-use Rattle.sync_store.specs.Settling.{AreFilled, IsFullBatch, IsEntryOfSettling, steps_in}
+use Rattle.sync_rules.specs.EntryTests.{IsSettlingEntry}
+use Rattle.sync_store.specs.Settling.{AreFilled, IsFullBatch, steps_in}
 use Rattle.sync_store.specs.Store.{HasNumbers}
 
 -- ---- the entries
 
-is_step : (f : Facts) (e : Entry) → IsStepOf f e → IsEntryOfSettling e
-is_step f (entry.Judged id) of = tt
-is_step f (entry.Deliver id) of = tt
-is_step f (entry.Invalid id) of = tt
-is_step f _ of = absurd of
-
 pub all_steps : (clients : Meaning) (f : Facts) (es : List Entry) → IsSettling clients f es
-    → AllByRecursion IsEntryOfSettling es
-all_steps clients f [] settling = tt
-all_steps clients f (e ∷ es) settling =
-    (is_step f e (next_is_step clients f e settling.0), all_steps clients (after f e) es settling.1)
+    → AllByRecursion IsSettlingEntry es
+all_steps clients f es settling =
+    settling_each IsSettlingEntry (λ e step. step) clients f es settling
 
 -- one step more
 pub settling-push : (clients : Meaning) (f : Facts) (es : List Entry) (e : Entry)

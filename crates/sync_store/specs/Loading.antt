@@ -2,12 +2,11 @@
 use Rattle.std.specs.Prelude.{◌≡◌, ◌⊎◌, ℕ, ◌+◌, ◌*◌, ◌-◌, ◌<◌, ◌≤◌, Bool, true, false, List, length}
 use Rattle.std.specs.Prelude.{Option, None, Some, Result, Ok, Err, IfOk, OnOk}
 use Rattle.std.specs.List.{AllByRecursion}
-use Rattle.outside.specs.Files.{Two, File, file_of, read_files}
+use Rattle.outside.specs.Files.{File, SyncsBoth, Two, file_of, read_files}
 use Rattle.outside.specs.Frames.{closed, format_in, frame_at, generation_in}
 use Rattle.outside.specs.Disk.{RelatesTold}
 use Rattle.outside.specs.Outside.{Outside, MakesAtMost, MakesJust}
 use Rattle.outside.specs.declared.disk.Place.{Place}
-use Rattle.frame_journal.specs.Gates.{SyncsBoth}
 use Rattle.frame_journal.specs.Journal.{JournalValue}
 use Rattle.frame_journal.specs.Next.{FrameCalls}
 use Rattle.sync_rules.specs.declared.entries.Entry.{Entry}

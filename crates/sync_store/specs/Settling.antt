@@ -5,7 +5,6 @@ use Rattle.std.specs.List.{AllByRecursion}
 use Rattle.outside.specs.Files.{Two, File}
 use Rattle.outside.specs.Outside.{Outside}
 use Rattle.sync_rules.specs.declared.entries.Entry.{Entry}
-use Rattle.sync_rules.specs.declared.entries.Entry.TheVariants as entry
 use Rattle.sync_rules.specs.declared.limits.TheConstants.{MAX_STEPS}
 use Rattle.sync_rules.specs.Clients.{Meaning}
 use Rattle.sync_rules.specs.Facts.{after_batches}
@@ -19,13 +18,6 @@ use Rattle.sync_store.specs.Fitting.{FitsFiles}
 use Rattle.sync_store.specs.Moments.{CallsFor, IsBetween, LeadsTo}
 use Rattle.sync_store.specs.declared.fault.StoreFault.{StoreFault}
 use Rattle.sync_store.specs.declared.fault.StoreFault.TheVariants as fault
-
--- an entry of settling
-abbrev pub IsEntryOfSettling : Entry → Type 0
-IsEntryOfSettling (entry.Judged id) = Unit {0}
-IsEntryOfSettling (entry.Deliver id) = Unit {0}
-IsEntryOfSettling (entry.Invalid id) = Unit {0}
-IsEntryOfSettling _ = ⊥
 
 -- how many entries batches have
 abbrev pub steps_in : List (List Entry) → ℕ

@@ -2,10 +2,9 @@
 ghost use Rattle.std.specs.Prelude.{◌≡◌, Some, IfOk, IsErrOf, OnOk};
 ghost use Rattle.std.specs.Option.{ForSome};
 ghost use Rattle.outside.specs.Faults.{HasCause, CountRose};
-ghost use Rattle.outside.specs.Files.{Two, File};
-ghost use Rattle.outside.specs.Outside.{DiskRun, OnlyReads, MomentsAre};
+ghost use Rattle.outside.specs.Files.{File, SyncsBoth, Two};
+ghost use Rattle.outside.specs.Outside.{AnyImage, DiskRun, MomentsAre, OnlyReads};
 ghost use Rattle.outside.specs.Disk.{RelatesTold};
-ghost use Rattle.frame_journal.specs.Gates.{SyncsBoth, AnyImage};
 ghost use Rattle.sync_store.specs.Begin.{BeginsJournal, InitMoment, IsAnswer, IsFree, has_open};
 
 use crate::InitFault;

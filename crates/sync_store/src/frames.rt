@@ -7,7 +7,7 @@ ghost use Rattle.entry_codec.specs.Payloads.{payload_len, spellings};
 ghost use Rattle.entry_codec.specs.Spelling.{EntryNames, IsEntry, IsId, MayBeWritten, spelling_in};
 ghost use Rattle.entry_codec.specs.Standing.{step_len};
 ghost use Rattle.frame_journal.specs.Append.{framed_of};
-ghost use Rattle.sync_store.specs.Settling.{IsEntryOfSettling};
+ghost use Rattle.sync_rules.specs.EntryTests.{IsSettlingEntry};
 
 use crate::formats::steps_len;
 use entry_codec::{Format, Names, batch_len, write_batch};
@@ -46,7 +46,7 @@ pub(crate) fn frame_batch<N: Names>(
 
 /// The same of settling entries, into a buffer that has room for them.
 pub(crate) fn frame_steps<N: Names>(format: Format, names: &N, entries: &[Entry], to: &mut Vec<u8>)
-    requires steps { AllByRecursion IsEntryOfSettling entries.now }
+    requires steps { AllByRecursion IsSettlingEntry entries.now }
     requires named { AllByRecursion (EntryNames (IsNamed format (N.named names.now))) entries.now }
     requires few { length entries.now ≤ MAX_STEPS }
     requires empty { to.old.items ≡ [] }
@@ -63,7 +63,7 @@ pub(crate) fn frame_steps<N: Names>(format: Format, names: &N, entries: &[Entry]
 }
 
 fn write_steps<N: Names>(format: Format, names: &N, entries: &[Entry], to: &mut Vec<u8>)
-    requires steps { AllByRecursion IsEntryOfSettling entries.now }
+    requires steps { AllByRecursion IsSettlingEntry entries.now }
     requires named { AllByRecursion (EntryNames (IsNamed format (N.named names.now))) entries.now }
     requires few { length entries.now ≤ MAX_STEPS }
     requires room { vec_len to.old + step_len format * length entries.now ≤ vec_capacity to.old }
@@ -81,7 +81,7 @@ fn write_steps<N: Names>(format: Format, names: &N, entries: &[Entry], to: &mut 
 
 #[tactic(auto, unfolding(entry_codec::specs::Spelling::spelling_in))]
 fn write_step<N: Names>(format: Format, names: &N, entry: &Entry, to: &mut Vec<u8>)
-    requires step { IsEntryOfSettling entry.now }
+    requires step { IsSettlingEntry entry.now }
     requires named { EntryNames (IsNamed format (N.named names.now)) entry.now }
     requires room { vec_len to.old + step_len format ≤ vec_capacity to.old }
     ensures written { to.new.items

@@ -3,9 +3,8 @@ ghost use Rattle.std.specs.Prelude.{◌≡◌, ◌+◌, ◌-◌, ◌<◌, ◌≤
 ghost use Rattle.std.specs.Option.{ForSome};
 ghost use Rattle.outside.specs.Faults.{CountRose};
 ghost use Rattle.outside.specs.Disk.{RelatesTold};
-ghost use Rattle.outside.specs.Files.{Two, File, read_files};
-ghost use Rattle.outside.specs.Outside.{DiskRun, OnlyReads};
-ghost use Rattle.frame_journal.specs.Gates.{AnyImage, ReadsSame};
+ghost use Rattle.outside.specs.Files.{File, ReadsSame, Two, read_files};
+ghost use Rattle.outside.specs.Outside.{AnyImage, DiskRun, OnlyReads};
 ghost use Rattle.journal_state.specs.Taking.{HasNextNumbers};
 ghost use Rattle.journal_state.specs.Whole.{KnowsJudgements};
 ghost use Rattle.sync_rules.specs.Facts.{nothing};

@@ -12,7 +12,7 @@ use Rattle.record_grammar.specs.Stream.{ending, items}
 use Rattle.record_grammar.specs.declared.stream.Item.{Item}
 use Rattle.record_grammar.specs.declared.stream.Ending.{Ending}
 use Rattle.record_stream.specs.Pieces.{Hearing, ReadingsAreWhole, ReadingsJoin}
-use Rattle.record_stream.specs.Reading.{AwaitsBytes, ReaderState, fresh}
+use Rattle.record_stream.specs.Reading.{AwaitsBytes, ReaderState, fresh_reader}
 use Rattle.sync_top.specs.declared.input.TheConstants.{MAX_INPUT}
 use Rattle.sync_top.specs.declared.input.Stop.{Stop}
 use Rattle.sync_top.specs.declared.input.Stop.TheVariants as stop
@@ -57,7 +57,8 @@ module _ (join : ReadingsJoin) (are_whole : ReadingsAreWhole) {L : Type 0}
   }
 
   -- all that was read of an input was heard
-  all_heard : (read : List ℕ) (r : ReaderState) (l l' : L) → Hearing heard read fresh [] r l l'
+  all_heard : (read : List ℕ) (r : ReaderState) (l l' : L)
+      → Hearing heard read fresh_reader [] r l l'
       → AwaitsBytes r → (first : L) (before : List Item) → heard first before l
       → heard first (before ++ items 0 read) l'
   all_heard read r l l' hearing waits first before h =
@@ -65,14 +66,15 @@ module _ (join : ReadingsJoin) (are_whole : ReadingsAreWhole) {L : Type 0}
       subst (λ (some : List Item). heard first (before ++ some) l') (sym all)
       (hearing.hears first before h)
 
-  all_ends : (read : List ℕ) (r : ReaderState) (l l' : L) → Hearing heard read fresh [] r l l'
+  all_ends : (read : List ℕ) (r : ReaderState) (l l' : L)
+      → Hearing heard read fresh_reader [] r l l'
       → AwaitsBytes r → ending r.place r.bytes ≡ ending 0 read
   all_ends read r l l' hearing waits = sym (are_whole read hearing.has r hearing.reads waits).1
 
   -- the input was heard whole, up to its end or to a fault
   heard_within : (input input' : Stream) (read : List ℕ) (r : ReaderState) (l l' : L) (why : Stop)
       (end : Ending) → Consumes input.bytes input'.bytes read
-      → length read ≤ MAX_INPUT → Hearing heard read fresh [] r l l' → AwaitsBytes r
+      → length read ≤ MAX_INPUT → Hearing heard read fresh_reader [] r l l' → AwaitsBytes r
       → end ≡ ending r.place r.bytes → StopsReading why input input' read
       → HearsInput heard input input' l l' why end
   heard_within input input' read r l l' why end consumed within hearing waits ends stops =
@@ -88,7 +90,7 @@ module _ (join : ReadingsJoin) (are_whole : ReadingsAreWhole) {L : Type 0}
       }
 
   -- a reader at the start
-  pub reading_none : (input : Stream) (r : ReaderState) (l : L) → r ≡ fresh → AwaitsBytes r
+  pub reading_none : (input : Stream) (r : ReaderState) (l : L) → r ≡ fresh_reader → AwaitsBytes r
       → Reading heard input input 0 r l l
   reading_none input r l start waits = record {
     read = [];
@@ -115,7 +117,7 @@ module _ (join : ReadingsJoin) (are_whole : ReadingsAreWhole) {L : Type 0}
             let sum = length-append so_far.read piece in let had = so_far.counted in omega arith;
         within = within;
         later = let earlier = so_far.later in omega arith;
-        hearing = hearing_then so_far.read piece fresh r r' l l' l'' so_far.hearing hearing;
+        hearing = hearing_then so_far.read piece fresh_reader r r' l l' l'' so_far.hearing hearing;
         waits = waits;
       }
 
@@ -173,9 +175,9 @@ module _ (join : ReadingsJoin) (are_whole : ReadingsAreWhole) {L : Type 0}
       let split : length read + wanted ≡ MAX_INPUT = omega arith in
       let bytes : read ++ take wanted piece ≡ take MAX_INPUT (read ++ piece) =
       sym (take-append-add read piece wanted) ∙ ap (λ n. take n (read ++ piece)) split in
-      let front : Hearing heard (take MAX_INPUT (read ++ piece)) fresh [] r' l l'' =
-      subst (λ (some : List ℕ). Hearing heard some fresh [] r' l l'') bytes
-      (hearing_then read (take wanted piece) fresh r r' l l' l'' so_far.hearing hearing) in
+      let front : Hearing heard (take MAX_INPUT (read ++ piece)) fresh_reader [] r' l l'' =
+      subst (λ (some : List ℕ). Hearing heard some fresh_reader [] r' l l'') bytes
+      (hearing_then read (take wanted piece) fresh_reader r r' l l' l'' so_far.hearing hearing) in
       record {
         read = read ++ piece;
         consumed = Consumes-trans input.bytes input'.bytes input''.bytes read piece so_far.consumed

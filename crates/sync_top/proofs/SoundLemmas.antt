@@ -10,7 +10,7 @@ use Rattle.sync_rules.specs.declared.entries.Entry.{Entry}
 use Rattle.sync_rules.specs.declared.entries.Entry.TheVariants as entry
 use Rattle.sync_rules.specs.declared.entries.Session.{Session}
 use Rattle.sync_rules.specs.Clients.{Meaning}
-use Rattle.sync_rules.specs.Facts.{Facts, after_all, after_batches, facts, nothing}
+use Rattle.sync_rules.specs.Facts.{Facts, Journal, after_all, after_batches, facts, nothing}
 use Rattle.sync_rules.specs.Laws.{BringsOnce, EndsOnce, HasOwnOrigin, IsInOrder, JudgesOnce}
 use Rattle.sync_rules.specs.Legal.{Allowed, IsSettlingBatch, Legal}
 use Rattle.sync_rules.specs.Output.{SendsTheOpen}
@@ -20,14 +20,14 @@ use Rattle.entry_codec.specs.Standing.{Standing}
 use Rattle.file_standing.specs.Standing.{stands}
 use Rattle.entry_codec.specs.StandingLaws.{StandingIsLegal}
 use Rattle.sync_course.specs.Suits.{TakesHeard}
-use Rattle.sync_node.specs.Output.{Journal, heard_on, sent_on}
+use Rattle.sync_node.specs.Output.{heard_on, sent_on}
 use Rattle.sync_node.specs.Suits.{AllSuitSessions, SuitsSessions, SuitsRun}
 use Rattle.commands.specs.declared.command.Command.TheVariants as command
 use Rattle.sync_words.specs.declared.link_words.LinkWords.{LinkWords}
 use Rattle.commands.specs.Reading.{Asked}
 use Rattle.commands.specs.Reading.Asked.{Usage, Do}
 use Rattle.store_commands.specs.Stopping.{StoodFor}
-use Rattle.sync_run.specs.Headline.{IsUntouched, StandsForRun, sent_by}
+use Rattle.sync_run.specs.Headline.{IsUntouched, StandsForRun, sent_at_moment}
 use Rattle.sync_top.specs.Run.{Covered}
 use Rattle.sync_top.specs.Sound.{AlwaysOpens, OpensSound, RunsAreSound, TakesInOrder}
 
@@ -114,14 +114,14 @@ runs_sound brings judges ends order origin open_only legal clients words begin h
 opens_then : RunsAreSound → (clients : Meaning) (words : List LinkWords) (two : Two File)
     (old : Outside) (standing : Standing) (heard : ℕ → List ℕ) (m : Moment)
     → IsUntouched two old m
-    ⊎ StoodFor standing (λ begin. StandsForRun clients words begin heard (sent_by m) m.files)
+    ⊎ StoodFor standing (λ begin. StandsForRun clients words begin heard (sent_at_moment m) m.files)
     → IsUntouched two old m
-    ⊎ StoodFor standing (λ begin. OpensSound clients begin heard (sent_by m) m.files)
+    ⊎ StoodFor standing (λ begin. OpensSound clients begin heard (sent_at_moment m) m.files)
 opens_then law clients words two old standing heard m (inl untouched) = inl untouched
 opens_then law clients words two old standing heard m (inr on) = inr (record {
   before = on.before;
   stood = on.stood;
-  has = law clients words on.before heard (sent_by m) m.files on.has;
+  has = law clients words on.before heard (sent_at_moment m) m.files on.has;
 })
 
 pub always_opens : RunsAreSound → (clients : Meaning) (words : Asked) (old new : Outside)

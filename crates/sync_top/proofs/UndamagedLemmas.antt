@@ -38,7 +38,7 @@ use Rattle.sync_node.specs.Output.{heard_on}
 use Rattle.sync_top.specs.Duties.{duty_of, sending_of}
 use Rattle.sync_top.specs.Run.{AsksSync, WordsComeTo, ComesOfStore, Covered, KeepsHost}
 use Rattle.sync_top.specs.Undamaged.{NeverDamaged, StandsForSome, Undamaged}
-use Rattle.sync_run.specs.Headline.{Headline, IsUntouched, StandsForRun, sent_by}
+use Rattle.sync_run.specs.Headline.{Headline, IsUntouched, StandsForRun, sent_at_moment}
 use Rattle.store_commands.specs.Stopping.{StoodFor}
 use Rattle.sync_words.specs.declared.link_words.LinkWords.{LinkWords}
 
@@ -165,7 +165,8 @@ module _ (clients : Meaning) (old new : Outside) where
   left_moment : (words : List LinkWords) (heard : ℕ → List ℕ) (standing : Standing) (two : Two File)
       → ((left : Two (List ℕ)) → IsImage two left → StandsForSome clients left)
       → (m : Moment) → IsUntouched two old m
-      ⊎ StoodFor standing (λ begin. StandsForRun clients words begin heard (sent_by m) m.files)
+      ⊎ StoodFor standing
+      (λ begin. StandsForRun clients words begin heard (sent_at_moment m) m.files)
       → StandsForSome clients m.files
   left_moment words heard standing two each m (inl untouched) = each m.files untouched.now.image
   left_moment words heard standing two each m (inr on) =

@@ -36,7 +36,7 @@ use Rattle.mailbox_commands.specs.Taking.{HasTakenMail, IsMail, in_errand}
 use Rattle.sync_run.specs.declared.run.Limits.{Limits}
 use Rattle.sync_run.specs.Ran.{HasRun}
 use Rattle.sync_top.specs.Serving.{MayAddPlanned, MayAudit, MayCompact, MayPost}
-use Rattle.sync_top.specs.Serving.{MayShow, MaySync, MayWork}
+use Rattle.sync_top.specs.Serving.{MayShow, MaySync, MayDoWork}
 
 -- what a command comes to, and what serves it
 pub record Duty : Type 1 where
@@ -61,8 +61,8 @@ abbrev pub to_show : Meaning → (Facts → Showing) → Duty
 to_show clients shown = unread (HasLooked clients shown) (MayShow clients shown)
 
 -- no header is open in the files
-abbrev pub MayBegin : Option (Two File) → Type 0
-MayBegin files = (two : Two File) × (files ≡ Some two) × (has_open two ≡ false)
+abbrev pub HasNoHeader : Option (Two File) → Type 0
+HasNoHeader files = (two : Two File) × (files ≡ Some two) × (has_open two ≡ false)
 
 -- the group that words describe
 abbrev pub def_of : (name : List ℕ) (major : ℕ) (descriptor : List ℕ) → GroupValue
@@ -86,7 +86,7 @@ abbrev pub to_take : Meaning → (contact : ℕ) → Duty
 to_take clients contact = record {
   comes = HasTakenMail clients contact;
   serves = λ old new input input'.
-      MayWork clients (λ f. mailbox_test f contact ≡ None) (λ j. (bytes : List ℕ)
+      MayDoWork clients (λ f. mailbox_test f contact ≡ None) (λ j. (bytes : List ℕ)
       → IsMail input input' bytes → HasErrandRoom clients (in_errand clients contact bytes) j)
       old.files;
 }
@@ -97,7 +97,7 @@ to_send clients asked = record {
   comes = λ old new input input' out out' came.
       HasSentMail clients asked old new out out' came × IsIdle input input';
   serves = λ old new input input'.
-      MayWork clients (λ f. mailbox_test f asked.contact ≡ None) (λ j. (now : ℕ)
+      MayDoWork clients (λ f. mailbox_test f asked.contact ≡ None) (λ j. (now : ℕ)
       → ReadsClock now old.links new.links → HasErrandRoom clients (out_errand clients asked now) j)
       old.files;
 }
@@ -112,7 +112,7 @@ to_run clients limits links = record {
 
 -- by the command; `try` and `records` are about no store
 abbrev pub duty_of : Meaning → Command → Duty
-duty_of clients command.Init = unread HasBegun MayBegin
+duty_of clients command.Init = unread HasBegun HasNoHeader
 duty_of clients command.Contact = to_add clients contact_plan settling.Before
 duty_of clients (command.Group name major descriptor) =
     to_add clients (λ f. group_plan clients f (def_of name major descriptor)) settling.Before
@@ -133,7 +133,7 @@ duty_of clients (command.Say group timestamp join name major descriptor) =
     (say_plan clients (speech_of group timestamp join (def_of name major descriptor)))
     settling.BeforeAndAfter
 duty_of clients (command.Agree contact group) =
-    unread (HasAgreed clients contact group) (MayWork clients
+    unread (HasAgreed clients contact group) (MayDoWork clients
     (λ f. agree_test f contact group ≡ None)
     (HasErrandRoom clients (agreement clients contact group)))
 duty_of clients command.Compact = unread (HasCompacted clients) (MayCompact clients)

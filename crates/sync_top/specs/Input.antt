@@ -7,7 +7,7 @@ use Rattle.record_grammar.specs.Stream.{ending, items}
 use Rattle.record_grammar.specs.declared.stream.Ending.{Ending}
 use Rattle.record_grammar.specs.declared.stream.Item.{Item}
 use Rattle.record_stream.specs.Pieces.{Hearing}
-use Rattle.record_stream.specs.Reading.{AwaitsBytes, ReaderState, fresh}
+use Rattle.record_stream.specs.Reading.{AwaitsBytes, ReaderState, fresh_reader}
 use Rattle.sync_top.specs.declared.input.TheConstants.{MAX_INPUT}
 use Rattle.sync_top.specs.declared.input.Stop.{Stop}
 use Rattle.sync_top.specs.declared.input.Stop.TheVariants as stop
@@ -37,5 +37,5 @@ pub record Reading {L : Type 0} (heard : L → List Item → L → Type 0) (inpu
   pub counted : total ≡ length read
   pub within : total ≤ MAX_INPUT
   pub later : input.faults ≤ input'.faults
-  pub hearing : Hearing heard read fresh [] r l l'
+  pub hearing : Hearing heard read fresh_reader [] r l l'
   pub waits : AwaitsBytes r

@@ -15,14 +15,14 @@ use Rattle.sync_words.specs.declared.link_words.LinkWords.{LinkWords}
 use Rattle.store_commands.specs.Commit.{HoweverSettled, MayMigrate, needed_by}
 use Rattle.store_commands.specs.Compact.{MayRenew, brief_len}
 use Rattle.store_commands.specs.Plans.{Plan, adds, post_plan}
-use Rattle.store_commands.specs.Post.{IsBody, message_of}
+use Rattle.store_commands.specs.Post.{IsBody, posted_message}
 use Rattle.store_commands.specs.Shown.{Showing, shows}
 use Rattle.sync_run.specs.declared.run.Limits.{Limits}
 use Rattle.sync_run.specs.Courses.{RanSoFar, run_test, terms_of}
 
 -- The files stand for a journal over which these tests hold, and which has this room; where they
 -- are in format 1, a generation is left.
-pub record MayWork (clients : Meaning) (tests : Facts → Type 0)
+pub record MayDoWork (clients : Meaning) (tests : Facts → Type 0)
     (has_room : List (List Entry) → Type 0) (files : Option (Two File)) : Type 0 where
   pub before : List (List Entry)
   pub stood : ReadsAs clients files before
@@ -48,7 +48,7 @@ pub record MayPost (clients : Meaning) (group : Id) (timestamp : ℕ) (files : O
   pub stood : ReadsAs clients files before
   pub known : is_some (group_at (facts before).groups group) ≡ true
   pub may_add : (body : List ℕ) → IsBody input input' body → MayAddPlanned clients
-      (λ f. post_plan clients f (message_of group timestamp body)) files
+      (λ f. post_plan clients f (posted_message group timestamp body)) files
 
 -- the files stand for a journal for whose brief account there is room, and a generation is left for
 -- it
@@ -75,7 +75,7 @@ pub record MayAudit (clients : Meaning) (files : Option (Two File)) : Type 0 whe
 -- what was heard
 abbrev pub MaySync : Meaning → Limits → List LinkWords → (old new : Outside) → Type 0
 MaySync clients limits words old new =
-    MayWork clients (λ f. run_test f words ≡ None) (λ begin.
+    MayDoWork clients (λ f. run_test f words ≡ None) (λ begin.
     (run : RanSoFar clients limits words begin old new) (batch : List Entry) (next : Place)
     → RunStep clients (terms_of limits begin) run.last (Commit batch) next
     → needed_by (begin ++ batches_of run.events) batch ≤ MAX_JOURNAL) old.files

@@ -7,14 +7,14 @@ use Rattle.outside.specs.Outside.{Outside}
 use Rattle.sync_rules.specs.declared.entries.Entry.{Entry}
 use Rattle.sync_rules.specs.declared.entries.Entry.TheVariants as entry
 use Rattle.sync_rules.specs.Clients.{Meaning}
-use Rattle.sync_rules.specs.Facts.{ExtendsJournal, facts, takes_of}
+use Rattle.sync_rules.specs.Facts.{ExtendsJournal, Journal, facts, takes_of}
 use Rattle.sync_rules.specs.Laws.{BringsOnce, EndsOnce, HasOwnOrigin, IsInOrder, JudgesOnce}
 use Rattle.sync_rules.specs.Legal.{Legal}
 use Rattle.sync_rules.specs.Output.{SendsTheOpen}
 use Rattle.entry_codec.specs.Standing.{Standing, journal}
 use Rattle.file_standing.specs.Standing.{stands}
 use Rattle.sync_course.specs.Suits.{TakesHeard}
-use Rattle.sync_node.specs.Output.{AreOutput, Journal}
+use Rattle.sync_node.specs.Output.{AreOutput}
 use Rattle.sync_words.specs.declared.link_words.LinkWords.{LinkWords}
 use Rattle.commands.specs.Reading.{Asked}
 use Rattle.store_commands.specs.Stopping.{StoodFor}

@@ -8,7 +8,7 @@ use Rattle.world_devices.specs.declared.stop.StepFault.TheVariants as fault
 use Rattle.world_links.specs.declared.link.Link.{Link}
 use Rattle.world_links.specs.declared.moves.Move.{Move}
 use Rattle.world_links.specs.declared.moves.Side.{Side}
-use Rattle.world_links.specs.Links.{cut, end_of, moved, side_of}
+use Rattle.world_links.specs.Links.{cut, side_end, moved, side_of}
 use Rattle.world_links.specs.Moves.{is_possible}
 use Rattle.world_laws.specs.Worlds.{WorldLink as RecordLink}
 use Rattle.sync_world.specs.Cited.{WorldLaws}
@@ -56,7 +56,7 @@ moved_side how l m (Some from) is =
       link = l;
       was = refl;
       from = from;
-      is = if_possible how from l m (is_possible how (end_of from l).flight) is;
+      is = if_possible how from l m (is_possible how (side_end from l).flight) is;
     }
 
 moved_link : (how : Move) (d : ℕ) (o : Option Link) (m : Link) → link_moved how d o ≡ Some m

@@ -6,8 +6,8 @@ use Rattle.std.proofs.lemmas.Bool.{cases_eq}
 use Rattle.sync_course.proofs.LiftLaws.{get_within}
 use Rattle.sync_rules.specs.Clients.{Meaning}
 use Rattle.sync_rules.proofs.Continuing.{continues_journals}
-use Rattle.sync_rules.specs.Facts.{Facts, facts}
-use Rattle.world_laws.specs.Worlds.{AreSteps, IsStep, Journal, World, journal_at, journal_in}
+use Rattle.sync_rules.specs.Facts.{Facts, Journal, facts}
+use Rattle.world_laws.specs.Worlds.{AreSteps, IsStep, World, journal_at, journal_in}
 use Rattle.world_laws.specs.Worlds.{last_of}
 use Rattle.world_devices.specs.declared.stop.StepFault.{StepFault}
 use Rattle.world_devices.specs.declared.stop.StepFault.TheVariants as fault

@@ -21,7 +21,7 @@ use Rattle.sync_world.specs.Doing.{Ground, LinkBecomes, LinksTwo, MakesRound, Ma
 use Rattle.sync_world.specs.Doing.{RestsWithin, Stays, Then, TurnsFrom, TurnsIf, TurnsLinked}
 use Rattle.sync_world.specs.Doing.{dialled, ground_of, plan_of}
 use Rattle.sync_world.specs.Leaving.{IsSame}
-use Rattle.sync_world.specs.Moving.{link_after}
+use Rattle.sync_world.specs.Moving.{link_after_step}
 use Rattle.sync_world.specs.Naming.{nonce_of}
 use Rattle.sync_world.specs.Refusing.{has_links}
 use Rattle.sync_world.specs.Standing.{is_fatal}
@@ -126,7 +126,8 @@ done_many (step.Restart d) s new does = device_many d _ (ground_of s) new does
 done_many (step.Rest rounds) s new does =
     rests_many rounds false (Ok does.0) (ground_of s) new does.1
 done_many made s new does =
-    becomes_many (link_after made s.links.items).0 (link_after made s.links.items).1 (ground_of s)
+    becomes_many (link_after_step made s.links.items).0 (link_after_step made s.links.items).1
+    (ground_of s)
     new does
 
 pub does_count : (made : WorldStep) (s : Stage) (new : Ground) → MakesStep made (Ok tt) s new

@@ -2,10 +2,10 @@
 use Rattle.std.proofs.Common.{◌≡◌, ℕ, zero, suc, List, [], ◌∷◌, refl}
 use Rattle.std.specs.List.{AllByRecursion}
 use Rattle.sync_rules.specs.Clients.{Meaning}
-use Rattle.sync_rules.specs.Facts.{facts}
+use Rattle.sync_rules.specs.Facts.{Journal, facts}
 use Rattle.sync_rules.specs.Legal.{Legal}
 use Rattle.world_laws.specs.Theorem.{IsNewWorld}
-use Rattle.world_laws.specs.Worlds.{HasNoBrief, Journal, journal_in}
+use Rattle.world_laws.specs.Worlds.{HasNoBrief, journal_in}
 use Rattle.sync_world.specs.Shown.{IsNewJournal, world_of}
 
 legal_in : (clients : Meaning) (js : List Journal) → AllByRecursion (IsNewJournal clients) js

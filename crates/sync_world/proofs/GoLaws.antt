@@ -18,19 +18,19 @@ use Rattle.sync_ids.specs.declared.records.Record.{Record}
 use Rattle.sync_node.specs.Node.{NodeValue}
 use Rattle.sync_rules.proofs.Continuing.{legal-append}
 use Rattle.sync_rules.specs.Lists.{In}
-use Rattle.sync_rules.specs.Facts.{ExtendsJournal}
+use Rattle.sync_rules.specs.Facts.{ExtendsJournal, Journal}
 use Rattle.sync_rules.specs.Legal.{Legal}
-use Rattle.world_laws.specs.Worlds.{Journal, World, journal_at, journal_in}
+use Rattle.world_laws.specs.Worlds.{World, journal_at, journal_in}
 use Rattle.world_devices.specs.Brought.{brought_on}
 use Rattle.world_devices.specs.Cited.{SentGrows}
 use Rattle.world_devices.specs.Devices.{DeviceValue}
-use Rattle.world_devices.specs.Linking.{IsUnlinked, KeepsLinks, LinksBy, number_of}
+use Rattle.world_devices.specs.Linking.{IsUnlinked, KeepsLinks, LinksBy, count_of_links}
 use Rattle.world_devices.specs.declared.stop.Ran.{Ran}
 use Rattle.world_devices.specs.declared.stop.Ran.TheVariants as ran
 use Rattle.world_devices.specs.declared.stop.StepFault.{StepFault}
 use Rattle.world_devices.specs.declared.stop.StepFault.TheVariants as fault
 use Rattle.world_devices.specs.Running.{DeviceRuns, HoldsAfterCrash, ReadsAsJournal, is_session_of}
-use Rattle.world_devices.specs.Running.{records_for, records_of}
+use Rattle.world_devices.specs.Running.{records_for, records_heard}
 use Rattle.world_links.specs.Ends.{EndValue, input_of}
 use Rattle.world_links.specs.Links.{cut, detached, left_at, left_by, with_flight}
 use Rattle.world_links.specs.declared.moves.Side.TheVariants as side
@@ -188,7 +188,7 @@ seat_heard laws w devices links d old n s is running session r own inside =
     let up = s.up.each d old is in
     let wires = s.wired d old is in
     let numbered : ◌≡◌ {A = Option ℕ} (Some (length n.links)) (Some old.links) =
-    sym (ap number_of running) ∙ up.numbered in
+    sym (ap count_of_links running) ∙ up.numbered in
     let long : length n.links ≡ old.links = some_same (length n.links) old.links numbered in
     let a : ℕ = session - n.first in
     let within : session - n.first < old.links = omega (arith, from, below, long) in
@@ -238,7 +238,7 @@ seat_heard laws w devices links d old n s is running session r own inside =
 node_heard : RecordLaws → (w : World) (devices : List DeviceValue) (links : List Link) (d : ℕ)
     (old : DeviceValue) (o : Option NodeValue) → IsShown w devices links
     → slice_get devices d ≡ Some old → old.node ≡ o → (session : ℕ) (r : Record)
-    → In r (records_of o old.host session) → In r (heard_by d w.links session)
+    → In r (records_heard o old.host session) → In r (heard_by d w.links session)
 node_heard laws w devices links d old None s is running session r inside = absurd inside
 node_heard laws w devices links d old (Some n) s is running session r inside =
     elim (is_session_of n session) as (λ b. is_session_of n session ≡ b

@@ -8,17 +8,17 @@ use Rattle.std.proofs.lemmas.List.{length-set}
 use Rattle.sync_course.proofs.LiftLaws.{get_other, get_set, get_within}
 use Rattle.client_basic.specs.Bodies.{bundle_meaning}
 use Rattle.sync_ids.specs.declared.records.Record.{Record}
-use Rattle.sync_rules.specs.Facts.{ExtendsJournal}
+use Rattle.sync_rules.specs.Facts.{ExtendsJournal, Journal}
 use Rattle.sync_rules.specs.Legal.{Legal}
 use Rattle.sync_rules.specs.Output.{sent}
-use Rattle.world_laws.specs.Worlds.{HasSession, Journal, WorldLink as RecordLink, World}
-use Rattle.world_laws.specs.Worlds.{contact_for, journal_at, journal_in, new_end}
+use Rattle.world_laws.specs.Worlds.{HasSession, WorldLink as RecordLink, World}
+use Rattle.world_laws.specs.Worlds.{contact_for, journal_at, journal_in, unused_end}
 use Rattle.world_devices.specs.Cited.{SentGrows}
 use Rattle.world_devices.specs.Devices.{DeviceValue}
 use Rattle.world_devices.specs.Linking.{AddsLink}
 use Rattle.world_devices.specs.Running.{DeviceRuns}
-use Rattle.world_links.specs.Ends.{EndValue, input_of, new_end as byte_end}
-use Rattle.world_links.specs.Links.{end_of, other, side_of}
+use Rattle.world_links.specs.Ends.{EndValue, input_of, unused_end as byte_end}
+use Rattle.world_links.specs.Links.{side_end, other, side_of}
 use Rattle.world_links.specs.declared.link.Link.{Link}
 use Rattle.world_links.specs.declared.moves.Side.{Side}
 use Rattle.world_links.specs.declared.moves.Side.TheVariants as side
@@ -124,7 +124,7 @@ pub linked_leads : (w : World) (devices : List DeviceValue) (links : List Link) 
     → IsShown w devices links → (d ≡ e → ⊥) → d < length devices → e < length devices
     → LeadsOn w false devices (links ++ new_link d e ∷ [])
 linked_leads w devices links d e s two near far = record {
-  after = world_of w.journals (w.links ++ record { near = new_end d; far = new_end e } ∷ []);
+  after = world_of w.journals (w.links ++ record { near = unused_end d; far = unused_end e } ∷ []);
   reached = linked_reached bundle_meaning d e w.journals w.links two;
   read = up_read w.journals devices s.up;
   shown = λ same. record {
@@ -153,8 +153,8 @@ begun_moves k d a session e is apart =
     record { device = refl; within = λ was. was; own = λ own. absurd (apart (sym own ∙ is)) }
 
 begun_at : (d a session : ℕ) (l : Link) (from : Side) → side_of d l ≡ Some from
-    → (end_of from l).at ≡ None → (end_of from l).heard ≡ 0
-    → Begun d a session l (with_end from (begun_end a session (end_of from l)) l)
+    → (side_end from l).at ≡ None → (side_end from l).heard ≡ 0
+    → Begun d a session l (with_end from (begun_end a session (side_end from l)) l)
 begun_at d a session l side.Near own at heard =
     let device = near_own d l own in
     record {
@@ -190,9 +190,9 @@ record Shows (d : ℕ) (j : Journal) (x : RecordLink) (l' : Link) : Type 0 where
   shown : ShowsLink l' link
 
 begun_shown : (d a session contact far : ℕ) (j : Journal) (l : Link) (x : RecordLink) (from : Side)
-    → ShowsLink l x → side_of d l ≡ Some from → (end_of from l).session ≡ None
-    → (end_of (other from) l).device ≡ far → HasSession j session (contact_for d far)
-    → Shows d j x (with_end from (begun_end a session (end_of from l)) l)
+    → ShowsLink l x → side_of d l ≡ Some from → (side_end from l).session ≡ None
+    → (side_end (other from) l).device ≡ far → HasSession j session (contact_for d far)
+    → Shows d j x (with_end from (begun_end a session (side_end from l)) l)
 begun_shown d a session contact far j l x side.Near s own fresh is known =
     let at : HasSession j session (contact_for d x.far.device) =
     subst (λ (k : ℕ). HasSession j session (contact_for d k)) (sym (s.far.device ∙ is)) known in
@@ -291,7 +291,7 @@ below_not d old a ls n m j w there here same =
     omega (arith, below, same)
 
 attached_is : (d a session : ℕ) (l : Link) (from : Side) → side_of d l ≡ Some from
-    → attached_at d a session l ≡ with_end from (begun_end a session (end_of from l)) l
+    → attached_at d a session l ≡ with_end from (begun_end a session (side_end from l)) l
 attached_is d a session l from own = ap (λ (o : Option Side). attached_from a session o l) own
 
 journal_own : (js : List Journal) (d : ℕ) (j : Journal) → d < length js → journal_in
@@ -408,7 +408,7 @@ attached_leads laws grows w devices links d far i session contact old new s is r
     (links_set d ran.journal i w.links at.link shows.link at.stands shows.runs) in
     let lead : LeadsOn w false (slice_set devices d new)
     (slice_set links i (with_end fresh.from
-    (begun_end old.links session (end_of fresh.from fresh.link)) fresh.link)) =
+    (begun_end old.links session (side_end fresh.from fresh.link)) fresh.link)) =
     record {
       after = world_of (slice_set w.journals d ran.journal) (slice_set w.links i shows.link);
       reached =
@@ -422,36 +422,36 @@ attached_leads laws grows w devices links d far i session contact old new s is r
         up = ups;
         shown =
             shown_set links w.links i
-            (with_end fresh.from (begun_end old.links session (end_of fresh.from fresh.link))
+            (with_end fresh.from (begun_end old.links session (side_end fresh.from fresh.link))
             fresh.link) shows.link shows.shown s.shown;
         placed =
             subst (λ (n : ℕ).
             ArePlaced n (slice_set links i
             (with_end fresh.from
-            (begun_end old.links session (end_of fresh.from fresh.link)) fresh.link)))
+            (begun_end old.links session (side_end fresh.from fresh.link)) fresh.link)))
             (sym (length-set devices d new))
             (all_placed (suc d) (length devices) links
             (slice_set links i (with_end fresh.from
-            (begun_end old.links session (end_of fresh.from fresh.link)) fresh.link))
+            (begun_end old.links session (side_end fresh.from fresh.link)) fresh.link))
             (all_set (suc d) i links fresh.link
-            (with_end fresh.from (begun_end old.links session (end_of fresh.from fresh.link))
+            (with_end fresh.from (begun_end old.links session (side_end fresh.from fresh.link))
             fresh.link) fresh.stands (begun.moves (suc d) (λ e. omega arith))) s.placed);
         wired =
             wired_set w.journals devices links
             (slice_set links i (with_end fresh.from
-            (begun_end old.links session (end_of fresh.from fresh.link)) fresh.link)) d
+            (begun_end old.links session (side_end fresh.from fresh.link)) fresh.link)) d
             ran.journal new within
             (begun_wired grows ran.journal (journal_at w d) d session contact old new links i
             fresh.link (with_end fresh.from
-            (begun_end old.links session (end_of fresh.from fresh.link)) fresh.link)
+            (begun_end old.links session (side_end fresh.from fresh.link)) fresh.link)
             ran.legal
             ran.extends adds fresh.stands begun (s.wired d old is))
             (λ e x apart there.
             all_wired (journal_in w.journals e) e (length devices) x links
             (slice_set links i (with_end fresh.from
-            (begun_end old.links session (end_of fresh.from fresh.link)) fresh.link))
+            (begun_end old.links session (side_end fresh.from fresh.link)) fresh.link))
             (all_set e i links fresh.link
-            (with_end fresh.from (begun_end old.links session (end_of fresh.from fresh.link))
+            (with_end fresh.from (begun_end old.links session (side_end fresh.from fresh.link))
             fresh.link) fresh.stands (begun.moves e apart)) s.placed (s.wired e x there));
       };
     } in

@@ -25,13 +25,13 @@ use Rattle.sync_rules.specs.declared.entries.Entry.{Entry}
 use Rattle.sync_rules.specs.declared.entries.Entry.TheVariants as entry
 use Rattle.sync_rules.specs.Clients.{Meaning}
 use Rattle.sync_rules.proofs.DueLaws.{sent_within}
-use Rattle.sync_rules.specs.Facts.{entries_of}
+use Rattle.sync_rules.specs.Facts.{Journal, entries_of}
 use Rattle.sync_rules.specs.Naming.{BringsWithin, IsWholeNonce}
 use Rattle.sync_rules.specs.Output.{sent}
 use Rattle.world_links.specs.Ends.{EndValue, flight_behind}
-use Rattle.world_links.specs.Flights.{first_len, first_records, in_front, len_of, len_or}
+use Rattle.world_links.specs.Flights.{first_len, first_n_records, in_front, len_of, len_or}
 use Rattle.world_links.specs.Flights.{records_in}
-use Rattle.world_laws.specs.Worlds.{End, Journal}
+use Rattle.world_laws.specs.Worlds.{End}
 use Rattle.sync_world.specs.Cited.{RecordLaws}
 use Rattle.sync_world.specs.Shown.{IsWithinJournal, ShowsEnd}
 use Rattle.sync_world.proofs.ShownMoves.{all_append}
@@ -118,11 +118,11 @@ none_first : first_len [] ≡ None
 unfolding first_len front_in
 none_first = refl
 
-none_in : (n : ℕ) → first_records n [] ≡ []
-unfolding first_records
+none_in : (n : ℕ) → first_n_records n [] ≡ []
+unfolding first_n_records
 none_in zero = refl
 none_in (suc n) =
-    ap (λ (o : Option ℕ). in_front [] o (first_records n (drop (len_or o) []))) none_first
+    ap (λ (o : Option ℕ). in_front [] o (first_n_records n (drop (len_or o) []))) none_first
 
 some_long : (r : Record) → 1 ≤ length (spelling r)
 unfolding spelling
@@ -130,15 +130,15 @@ some_long r = omega arith
 
 next_in : (n len : ℕ) (first more : List ℕ) → first_len (first ++ more) ≡ Some len
     → length first ≡ len
-    → first_records (suc n) (first ++ more) ≡ first ∷ first_records n more
-unfolding first_records
+    → first_n_records (suc n) (first ++ more) ≡ first ∷ first_n_records n more
+unfolding first_n_records
 next_in n len first more is long =
     ap (λ (o : Option ℕ).
-    in_front (first ++ more) o (first_records n (drop (len_or o) (first ++ more)))) is
-    ∙ (λ i. take_at first more len long i ∷ first_records n (drop_at first more len long i))
+    in_front (first ++ more) o (first_n_records n (drop (len_or o) (first ++ more)))) is
+    ∙ (λ i. take_at first more len long i ∷ first_n_records n (drop_at first more len long i))
 
 all_in : RecordLaws → (n : ℕ) (rs : List Record) → AllByRecursion IsRecord rs
-    → length (spelled rs) ≤ n → first_records n (spelled rs) ≡ map spelling rs
+    → length (spelled rs) ≤ n → first_n_records n (spelled rs) ≡ map spelling rs
 all_in laws n [] within enough = none_in n
 all_in laws zero (r ∷ rs) within enough =
     let some : 1 ≤ length (spelling r) = some_long r in

@@ -8,7 +8,7 @@ use Rattle.world_devices.specs.declared.stop.StepFault.{StepFault}
 use Rattle.world_devices.specs.declared.stop.StepFault.TheVariants as fault
 use Rattle.world_laws.specs.Worlds.{World}
 use Rattle.world_links.specs.Ends.{EndValue}
-use Rattle.world_links.specs.Links.{cut, end_of, given_too, joined, moved, side_of, with_flight}
+use Rattle.world_links.specs.Links.{cut, side_end, given_too, joined, moved, side_of, with_flight}
 use Rattle.world_links.specs.Moves.{flight_after, given_by, is_possible}
 use Rattle.world_links.specs.declared.link.Link.{Link}
 use Rattle.world_links.specs.declared.moves.Move.{Move}
@@ -76,7 +76,7 @@ was_side : (k : ℕ) (how : Move) (l l' : Link) (o : Option Side) → moved_from
     → LinkMoves k l l'
 was_side k how l l' None is = cc
 was_side k how l l' (Some from) is =
-    elim (is_possible how (end_of from l).flight) as (λ b.
+    elim (is_possible how (side_end from l).flight) as (λ b.
     (if b then Some (moved how from l) else None) ≡ Some l' → LinkMoves k l l') [
       | true ↦ λ e. subst (LinkMoves k l) (some_same (moved how from l) l' e)
           (moved_moves k how from l)

@@ -6,8 +6,8 @@ use Rattle.std.specs.Prelude.{slice_get}
 use Rattle.record_grammar.specs.Spelling.{spelled}
 use Rattle.sync_rules.specs.Lists.{In}
 use Rattle.sync_rules.specs.Output.{sent}
+use Rattle.sync_rules.specs.Facts.{Journal}
 use Rattle.sync_node.specs.Output.{output}
-use Rattle.world_laws.specs.Worlds.{Journal}
 
 -- ---- a look
 

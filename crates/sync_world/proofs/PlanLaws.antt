@@ -16,12 +16,12 @@ use Rattle.outside.specs.declared.answer.Answer.TheVariants as answer
 use Rattle.sync_node.specs.Node.{NodeValue}
 use Rattle.world_devices.specs.Brought.{brought_on, bytes_of, planned_bytes}
 use Rattle.world_devices.specs.Devices.{DeviceValue}
-use Rattle.world_devices.specs.Linking.{PlansMore, number_of}
+use Rattle.world_devices.specs.Linking.{PlansMore, count_of_links}
 use Rattle.world_devices.specs.Running.{HoldsAfterCrash}
-use Rattle.world_laws.specs.Worlds.{Journal, WorldLink as RecordLink, World, journal_at, journal_in}
+use Rattle.world_laws.specs.Worlds.{WorldLink as RecordLink, World, journal_at, journal_in}
 use Rattle.world_laws.specs.Worlds.{link_in}
 use Rattle.world_links.specs.Ends.{EndValue, answer_to, input_of}
-use Rattle.world_links.specs.Links.{end_of, side_of}
+use Rattle.world_links.specs.Links.{side_end, side_of}
 use Rattle.world_links.specs.declared.end.TheConstants.{PIECE_LEN}
 use Rattle.world_links.specs.declared.link.Link.{Link}
 use Rattle.world_links.specs.declared.moves.Side.{Side}
@@ -37,6 +37,7 @@ use Rattle.sync_world.proofs.WireLaws.{EndMoves, LinkMoves, all_placed, all_set,
 use Rattle.sync_world.proofs.WireLaws.{end_stays, eqb_not, get_cases, own_far}
 use Rattle.sync_world.proofs.WireLaws.{own_near, set_back, set_once}
 use Rattle.sync_world.proofs.WireLaws.{set_seat, some_same}
+use Rattle.sync_rules.specs.Facts.{Journal}
 
 -- ---- bytes
 
@@ -139,8 +140,8 @@ gone_on k d e e' h is apart =
     }
 
 planned_side : (d : ℕ) (old new : DeviceValue) (l l' : Link) (from : Side)
-    (p : PlansAt old new (end_of from l) (end_of from l')) → side_of d l ≡ Some from
-    → l' ≡ with_end from (end_of from l') l → Planned d p.number old new l l'
+    (p : PlansAt old new (side_end from l) (side_end from l')) → side_of d l ≡ Some from
+    → l' ≡ with_end from (side_end from l') l → Planned d p.number old new l l'
 planned_side d old new l l' side.Near p own rest =
     let h = p.brings.hears in
     let device : l.near.device ≡ d = near_own d l own in
@@ -220,7 +221,7 @@ up_same j old new files node links up = record {
   runs = ap is_some node ∙ up.runs;
   holds = holds_same j old new files up.holds;
   legal = up.legal;
-  numbered = ap number_of node ∙ (up.numbered ∙ ap (λ (n : ℕ). Some n) (sym links));
+  numbered = ap count_of_links node ∙ (up.numbered ∙ ap (λ (n : ℕ). Some n) (sym links));
 }
 
 pub up_device : (js : List Journal) (devices : List DeviceValue) (d : ℕ) (new : DeviceValue)

@@ -5,15 +5,16 @@ use Rattle.std.proofs.Common.{append-nil}
 use Rattle.std.specs.Prelude.{slice_get, slice_set}
 use Rattle.sync_ids.specs.declared.records.Record.{Record}
 use Rattle.sync_rules.specs.Clients.{Meaning}
+use Rattle.sync_rules.specs.Facts.{Journal}
 use Rattle.world_links.specs.declared.link.Link.{Link}
 use Rattle.world_links.specs.declared.moves.Move.{Move}
 use Rattle.world_links.specs.declared.moves.Side.{Side}
 use Rattle.world_links.specs.declared.moves.Side.TheVariants as side
 use Rattle.world_links.specs.Links.{all_carried, cut, moved}
-use Rattle.world_laws.specs.Moves.{Move as WorldMove, Carry, Cut, link_after, links_after}
+use Rattle.world_laws.specs.Moves.{Move as WorldMove, Carry, Cut, link_after_move, links_after_move}
 use Rattle.world_laws.specs.Moves.{world_after}
-use Rattle.world_laws.specs.Worlds.{AreSteps, End, IsStep, Journal, WorldLink as RecordLink, World}
-use Rattle.world_laws.specs.Worlds.{last_of, new_end}
+use Rattle.world_laws.specs.Worlds.{AreSteps, End, IsStep, WorldLink as RecordLink, World}
+use Rattle.world_laws.specs.Worlds.{last_of, unused_end}
 use Rattle.sync_world.specs.Cited.{WorldLaws}
 use Rattle.sync_world.specs.Shown.{MovesShown, MovesTo, ReachesWorld, ShowsLink, ShowsLinks}
 use Rattle.sync_world.specs.Shown.{arrived, carried, emptied_end, given_more, is_near, move_of}
@@ -54,10 +55,10 @@ reaches_then clients a b c first second = record {
 pub linked_reached : (clients : Meaning) (d e : ℕ) (js : List Journal) (xs : List RecordLink)
     → (d ≡ e → ⊥)
     → ReachesWorld clients (world_of js xs)
-    (world_of js (xs ++ record { near = new_end d; far = new_end e } ∷ []))
+    (world_of js (xs ++ record { near = unused_end d; far = unused_end e } ∷ []))
 linked_reached clients d e js xs two =
     reaches_one clients (world_of js xs)
-    (world_of js (xs ++ record { near = new_end d; far = new_end e } ∷ []))
+    (world_of js (xs ++ record { near = unused_end d; far = unused_end e } ∷ []))
     (inr (d, e, record { two = two; journals = refl; links = refl }))
 
 -- ---- moves
@@ -101,14 +102,14 @@ one_none clients x =
 
 after_at : (move : WorldMove) (near : Bool) (before : List RecordLink) (x : RecordLink)
     (behind : List RecordLink)
-    → links_after move near (length before) (before ++ x ∷ behind)
-    ≡ before ++ link_after move near x ∷ behind
+    → links_after_move move near (length before) (before ++ x ∷ behind)
+    ≡ before ++ link_after_move move near x ∷ behind
 after_at move near [] x behind = refl
 after_at move near (y ∷ before) x behind =
     ap (λ (l : List RecordLink). y ∷ l) (after_at move near before x behind)
 
 one_move : WorldLaws → (clients : Meaning) (move : WorldMove) (near : Bool) (x : RecordLink)
-    → OneMoves clients x (link_after move near x)
+    → OneMoves clients x (link_after_move move near x)
 one_move laws clients move near x = record {
   each = λ js before behind.
       subst (λ (l : List RecordLink).
@@ -238,7 +239,7 @@ pub move_shown : WorldLaws → (clients : Meaning) (how : Move) (from : Side) (i
     (xs : List RecordLink) (l : Link) → slice_get ls i ≡ Some l
     → ShowsLinks ls xs → MovesShown clients (slice_set ls i (moved how from l)) xs
 move_shown laws clients how from i ls xs l is s = record {
-  after = links_after (move_of how) (is_near from) i xs;
+  after = links_after_move (move_of how) (is_near from) i xs;
   shown = shown_moved_at how from i ls xs l is s;
   moves = λ js. move_reached laws clients (world_of js xs) (move_of how) (is_near from) i;
 }
@@ -247,7 +248,7 @@ pub cut_shown : WorldLaws → (clients : Meaning) (i : ℕ) (ls : List Link) (xs
     (l : Link) → slice_get ls i ≡ Some l → ShowsLinks ls xs
     → MovesShown clients (slice_set ls i (cut l)) xs
 cut_shown laws clients i ls xs l is s = record {
-  after = links_after Cut true i xs;
+  after = links_after_move Cut true i xs;
   shown = shown_cut_at true i ls xs l is s;
   moves = λ js. move_reached laws clients (world_of js xs) Cut true i;
 }

@@ -9,10 +9,10 @@ use Rattle.sync_ids.specs.declared.records.Record.{Record}
 use Rattle.sync_rules.specs.Clients.{Meaning}
 use Rattle.sync_rules.specs.Lists.{In}
 use Rattle.sync_rules.proofs.Elements.{In-append_cases, In-append_left, In-append_right}
-use Rattle.sync_rules.specs.Facts.{facts}
+use Rattle.sync_rules.specs.Facts.{Journal, facts}
 use Rattle.sync_rules.specs.Legal.{GoesOn}
 use Rattle.sync_rules.specs.Output.{sent}
-use Rattle.world_laws.specs.Worlds.{AllHeard, End, HasNoBrief, HasSession, Journal}
+use Rattle.world_laws.specs.Worlds.{AllHeard, End, HasNoBrief, HasSession}
 use Rattle.world_laws.specs.Worlds.{WorldLink as RecordLink, RunsDevice, WasGiven, WayRuns, WaysRun}
 use Rattle.world_laws.specs.Worlds.{World, contact_for, journal_at, journal_in, link_in, way_in}
 use Rattle.world_laws.specs.Worlds.{way_of}

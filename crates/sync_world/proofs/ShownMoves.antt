@@ -13,13 +13,14 @@ use Rattle.world_links.specs.declared.moves.Move.{Move}
 use Rattle.world_links.specs.declared.moves.Move.TheVariants as move
 use Rattle.world_links.specs.declared.moves.Side.{Side}
 use Rattle.world_links.specs.declared.moves.Side.TheVariants as side
-use Rattle.world_links.specs.Ends.{EndValue, new_end as byte_end}
+use Rattle.world_links.specs.Ends.{EndValue, unused_end as byte_end}
 use Rattle.world_links.specs.Links.{all_carried, cut, given_too, joined, left_at, left_by, moved}
 use Rattle.world_links.specs.Links.{with_flight}
-use Rattle.world_links.specs.Moves.{flight_after as bytes_after, given_by as bytes_given}
-use Rattle.world_laws.specs.Moves.{Cut, flight_after, given_by, link_after, links_after}
+use Rattle.world_links.specs.Moves.{flight_then as bytes_after, records_given as bytes_given}
+use Rattle.world_laws.specs.Moves.{Cut, flight_then, records_given, link_after_move}
+use Rattle.world_laws.specs.Moves.{links_after_move}
 use Rattle.world_laws.specs.Moves.{other_after, sender_after}
-use Rattle.world_laws.specs.Worlds.{End, WorldLink as RecordLink, new_end}
+use Rattle.world_laws.specs.Worlds.{End, WorldLink as RecordLink, unused_end}
 use Rattle.sync_world.specs.Shown.{ShownAt, ShowsEnd, ShowsLink, ShowsLinks, carried, emptied}
 use Rattle.sync_world.specs.Shown.{emptied_end, given_more, is_near, left_link, move_of}
 
@@ -35,7 +36,7 @@ joined_spelled [] = refl
 joined_spelled (r ∷ rs) = ap (λ (bytes : List ℕ). spelling r ++ bytes) (joined_spelled rs)
 
 flight_moved : (how : Move) (rs : List Record) → bytes_after how (map spelling rs) ≡ map spelling
-    (flight_after (move_of how) rs)
+    (flight_then (move_of how) rs)
 flight_moved move.Carry [] = refl
 flight_moved move.Carry (r ∷ rs) = refl
 flight_moved move.Lose [] = refl
@@ -46,7 +47,7 @@ flight_moved move.Swap (r ∷ []) = refl
 flight_moved move.Swap (r ∷ t ∷ rs) = refl
 
 flight_limits : (how : Move) (rs : List Record) → AllByRecursion IsRecord rs
-    → AllByRecursion IsRecord (flight_after (move_of how) rs)
+    → AllByRecursion IsRecord (flight_then (move_of how) rs)
 flight_limits move.Carry [] a = tt
 flight_limits move.Carry (r ∷ rs) a = a.1
 flight_limits move.Lose [] a = tt
@@ -57,7 +58,7 @@ flight_limits move.Swap (r ∷ []) a = a
 flight_limits move.Swap (r ∷ t ∷ rs) a = (a.1.0, (a.0, a.1.1))
 
 given_moved : (how : Move) (rs : List Record) → joined (bytes_given how (map spelling rs)) ≡ spelled
-    (given_by (move_of how) rs)
+    (records_given (move_of how) rs)
 given_moved move.Carry [] = refl
 given_moved move.Carry (r ∷ rs) = refl
 given_moved move.Lose rs = refl
@@ -66,7 +67,7 @@ given_moved move.Repeat (r ∷ rs) = refl
 given_moved move.Swap rs = refl
 
 given_limits : (how : Move) (rs : List Record) → AllByRecursion IsRecord rs
-    → AllByRecursion IsRecord (given_by (move_of how) rs)
+    → AllByRecursion IsRecord (records_given (move_of how) rs)
 given_limits move.Carry [] a = tt
 given_limits move.Carry (r ∷ rs) a = (a.0, tt)
 given_limits move.Lose rs a = tt
@@ -105,7 +106,7 @@ end_given e x more rs is within s = record {
 end_moved : (how : Move) (e : EndValue) (x : End) → ShowsEnd e x
     → ShowsEnd (with_flight (bytes_after how e.flight) e) (sender_after (move_of how) x)
 end_moved how e x s =
-    end_flight e x (bytes_after how e.flight) (flight_after (move_of how) x.flight)
+    end_flight e x (bytes_after how e.flight) (flight_then (move_of how) x.flight)
     (ap (bytes_after how) s.flight ∙ flight_moved how x.flight)
     (flight_limits how x.flight s.flight_within) s
 
@@ -117,11 +118,11 @@ other_is move.Swap x = refl
 
 other_moved : (how : Move) (from e : EndValue) (x y : End) → ShowsEnd from x → ShowsEnd e y
     → ShowsEnd (given_too (bytes_given how from.flight) e)
-    (other_after (move_of how) (given_more (given_by (move_of how) x.flight) y))
+    (other_after (move_of how) (given_more (records_given (move_of how) x.flight) y))
 other_moved how from e x y sending s =
     subst (ShowsEnd (given_too (bytes_given how from.flight) e))
-    (other_is how (given_more (given_by (move_of how) x.flight) y))
-    (end_given e y (bytes_given how from.flight) (given_by (move_of how) x.flight)
+    (other_is how (given_more (records_given (move_of how) x.flight) y))
+    (end_given e y (bytes_given how from.flight) (records_given (move_of how) x.flight)
     (ap (λ (flight : List (List ℕ)). joined (bytes_given how flight)) sending.flight
     ∙ given_moved how x.flight) (given_limits how x.flight sending.flight_within) s)
 
@@ -143,7 +144,7 @@ end_carried from e x y sending s =
 -- ---- one link
 
 pub shown_moved : (how : Move) (from : Side) (l : Link) (x : RecordLink) → ShowsLink l x
-    → ShowsLink (moved how from l) (link_after (move_of how) (is_near from) x)
+    → ShowsLink (moved how from l) (link_after_move (move_of how) (is_near from) x)
 shown_moved how side.Near l x s =
     record {
       near = end_moved how l.near x.near s.near;
@@ -156,7 +157,7 @@ shown_moved how side.Far l x s =
     }
 
 pub shown_cut : (near : Bool) (l : Link) (x : RecordLink) → ShowsLink l x → ShowsLink (cut l)
-    (link_after Cut near x)
+    (link_after_move Cut near x)
 shown_cut true l x s =
     record { near = end_emptied l.near x.near s.near; far = end_cut l.far x.far s.far }
 shown_cut false l x s =
@@ -211,7 +212,7 @@ shown_carried side.Far l x s =
       far = end_emptied l.far x.far s.far;
     }
 
-end_new : (d : ℕ) → ShowsEnd (byte_end d) (new_end d)
+end_new : (d : ℕ) → ShowsEnd (byte_end d) (unused_end d)
 end_new d = record {
   device = refl;
   session = refl;
@@ -223,7 +224,7 @@ end_new d = record {
 
 pub shown_new : (d e : ℕ)
     → ShowsLink (record { near = byte_end d; far = byte_end e; is_cut = false })
-    (record { near = new_end d; far = new_end e })
+    (record { near = unused_end d; far = unused_end e })
 shown_new d e = record { near = end_new d; far = end_new e }
 
 -- ---- several links
@@ -248,12 +249,14 @@ shown_set (m ∷ ls) (y ∷ xs) (suc i) l x one s = (s.0, shown_set ls xs i l x 
 
 pub shown_moved_at : (how : Move) (from : Side) (i : ℕ) (ls : List Link) (xs : List RecordLink)
     (l : Link) → slice_get ls i ≡ Some l → ShowsLinks ls xs
-    → ShowsLinks (slice_set ls i (moved how from l)) (links_after (move_of how) (is_near from) i xs)
+    → ShowsLinks (slice_set ls i (moved how from l))
+    (links_after_move (move_of how) (is_near from) i xs)
 shown_moved_at how from i [] xs l is s = cc
 shown_moved_at how from i (m ∷ ls) [] l is s = absurd s
 shown_moved_at how from zero (m ∷ ls) (x ∷ xs) l is s =
     let same : m ≡ l = cc in (
-      subst (λ (k : Link). ShowsLink (moved how from k) (link_after (move_of how) (is_near from) x))
+      subst (λ (k : Link). ShowsLink (moved how from k)
+          (link_after_move (move_of how) (is_near from) x))
           same (shown_moved how from m x s.0),
       s.1,
     )
@@ -262,12 +265,13 @@ shown_moved_at how from (suc i) (m ∷ ls) (x ∷ xs) l is s =
 
 pub shown_cut_at : (near : Bool) (i : ℕ) (ls : List Link) (xs : List RecordLink) (l : Link)
     → slice_get ls i ≡ Some l → ShowsLinks ls xs
-    → ShowsLinks (slice_set ls i (cut l)) (links_after Cut near i xs)
+    → ShowsLinks (slice_set ls i (cut l)) (links_after_move Cut near i xs)
 shown_cut_at near i [] xs l is s = cc
 shown_cut_at near i (m ∷ ls) [] l is s = absurd s
 shown_cut_at near zero (m ∷ ls) (x ∷ xs) l is s =
     let same : m ≡ l = cc in (
-      subst (λ (k : Link). ShowsLink (cut k) (link_after Cut near x)) same (shown_cut near m x s.0),
+      subst (λ (k : Link). ShowsLink (cut k) (link_after_move Cut near x)) same
+          (shown_cut near m x s.0),
       s.1,
     )
 shown_cut_at near (suc i) (m ∷ ls) (x ∷ xs) l is s = (s.0, shown_cut_at near i ls xs l is s.1)
@@ -281,10 +285,10 @@ shown_push (m ∷ ls) (y ∷ xs) l x one s = (s.0, shown_push ls xs l x one s.1)
 
 pub shown_linked : (d e : ℕ) (ls : List Link) (xs : List RecordLink) → ShowsLinks ls xs
     → ShowsLinks (ls ++ record { near = byte_end d; far = byte_end e; is_cut = false } ∷ [])
-    (xs ++ record { near = new_end d; far = new_end e } ∷ [])
+    (xs ++ record { near = unused_end d; far = unused_end e } ∷ [])
 shown_linked d e ls xs s =
     shown_push ls xs (record { near = byte_end d; far = byte_end e; is_cut = false })
-    (record { near = new_end d; far = new_end e }) (shown_new d e) s
+    (record { near = unused_end d; far = unused_end e }) (shown_new d e) s
 
 pub shown_all_left : (d : ℕ) (ls : List Link) (xs : List RecordLink) → ShowsLinks ls xs → ShowsLinks
     (map (left_by d) ls) (map (left_link d) xs)

@@ -6,10 +6,11 @@ use Rattle.sync_ids.specs.declared.records.Record.{Record}
 use Rattle.sync_rules.specs.Lists.{In}
 use Rattle.sync_rules.proofs.Elements.{In-append_right}
 use Rattle.sync_rules.specs.Output.{sent}
+use Rattle.sync_rules.specs.Facts.{Journal}
 use Rattle.world_links.specs.declared.link.Link.{Link}
 use Rattle.world_links.specs.Ends.{EndValue}
 use Rattle.world_links.specs.Links.{cut}
-use Rattle.world_laws.specs.Worlds.{End, Journal, WorldLink as RecordLink}
+use Rattle.world_laws.specs.Worlds.{End, WorldLink as RecordLink}
 use Rattle.sync_world.specs.Shown.{EndRuns}
 use Rattle.sync_world.specs.Shown.{ShownEndRuns, ShownLinkRuns, ShownLinksRun, ShowsEnd, ShowsLink}
 use Rattle.sync_world.specs.Shown.{ShowsLinks, emptied, emptied_end}

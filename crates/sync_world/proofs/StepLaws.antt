@@ -18,7 +18,7 @@ use Rattle.world_devices.specs.declared.stop.Ran.TheVariants as ran
 use Rattle.world_devices.specs.declared.stop.StepFault.{StepFault}
 use Rattle.world_devices.specs.declared.stop.StepFault.TheVariants as fault
 use Rattle.world_laws.specs.Worlds.{World, contact_for, journal_at}
-use Rattle.world_links.specs.Links.{end_of, left_by, other, side_of}
+use Rattle.world_links.specs.Links.{side_end, left_by, other, side_of}
 use Rattle.world_links.specs.declared.moves.Side.{Side}
 use Rattle.world_links.specs.declared.moves.Side.TheVariants as side
 use Rattle.world_links.specs.declared.link.Link.{Link}
@@ -190,9 +190,9 @@ side_same k l l' near far =
     else None) far
 
 fresh_at : (k far i : ℕ) (ls : List Link) (l l' : Link) (from : Side) → LinkMoves k l l'
-    → slice_get ls i ≡ Some l' → side_of k l ≡ Some from → (end_of from l).session ≡ None
-    → (end_of from l).at ≡ None
-    → (end_of from l).heard ≡ 0 → (end_of (other from) l).device ≡ far → HasFreshEnd k far i ls
+    → slice_get ls i ≡ Some l' → side_of k l ≡ Some from → (side_end from l).session ≡ None
+    → (side_end from l).at ≡ None
+    → (side_end from l).heard ≡ 0 → (side_end (other from) l).device ≡ far → HasFreshEnd k far i ls
 fresh_at k far i ls l l' side.Near m there own unbegun unplaced unheard is =
     let same = m.near.own (near_own k l own) in
     record {

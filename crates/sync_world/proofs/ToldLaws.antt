@@ -10,13 +10,13 @@ use Rattle.outside.specs.MemHost.{MemHostValue}
 use Rattle.client_basic.specs.Bodies.{bundle_meaning}
 use Rattle.entry_codec.specs.Standing.{Standing, journal}
 use Rattle.file_standing.specs.Standing.{stands}
-use Rattle.sync_rules.specs.Facts.{Facts, facts}
+use Rattle.sync_rules.specs.Facts.{Facts, Journal, facts}
 use Rattle.sync_node.specs.Node.{NodeValue}
-use Rattle.world_laws.specs.Worlds.{Journal, journal_in}
+use Rattle.world_laws.specs.Worlds.{journal_in}
 use Rattle.world_devices.specs.Devices.{DeviceValue}
 use Rattle.world_devices.specs.Linking.{DeviceLinksStand}
 use Rattle.world_devices.specs.Running.{HoldsAfterCrash, ReadsAsJournal}
-use Rattle.sync_world.specs.Replay.{PrintsText}
+use Rattle.sync_world.specs.Replay.{WritesWorld}
 use Rattle.sync_world.specs.Showing.{Runs, device_lines, facts_of, facts_of_node, is_marked}
 use Rattle.sync_world.specs.Showing.{journal_lines, lines_below, lines_then, player_lines}
 use Rattle.sync_world.specs.Standing.{AllLinksStand, AreRead, AreTold, IsManyDevices}
@@ -137,7 +137,7 @@ runs_below shown devices (suc number) text is d below =
 -- what was written of the text that the devices make is so of that of their journals
 pub prints_text : (p : Player) (Written : List ℕ → Type 0) (text given : List ℕ)
     → IsManyDevices p.world.devices.items → player_lines p ≡ Some text → given ≡ text
-    → Written given → PrintsText p Written
+    → Written given → WritesWorld p Written
 prints_text p Written text given are run same written = record {
   journals = are.journals;
   many = are.many;

@@ -11,11 +11,12 @@ use Rattle.client_basic.specs.Bodies.{bundle_meaning}
 use Rattle.record_grammar.specs.Spelling.{spelled}
 use Rattle.sync_ids.specs.Records.{IsRecord}
 use Rattle.sync_rules.specs.Output.{sent}
+use Rattle.sync_rules.specs.Facts.{Journal}
 use Rattle.sync_node.specs.declared.link.Link.{Link as NodeLink}
 use Rattle.sync_node.specs.Node.{NodeValue}
 use Rattle.sync_node.specs.Output.{output}
-use Rattle.world_laws.specs.Worlds.{End, Journal, WorldLink as RecordLink}
-use Rattle.world_devices.specs.Brought.{sent_by}
+use Rattle.world_laws.specs.Worlds.{End, WorldLink as RecordLink}
+use Rattle.world_devices.specs.Brought.{sent_by_host}
 use Rattle.world_devices.specs.Devices.{DeviceValue}
 use Rattle.world_devices.specs.Linking.{LinksStand, end_at, is_shut}
 use Rattle.world_links.specs.Ends.{EndValue, flight_behind}
@@ -98,7 +99,7 @@ get_some (x ∷ xs) (suc i) within = get_some xs i (omega (arith, within))
 record StandsAt (n : NodeValue) (device : DeviceValue) (j : Journal) (a : ℕ) : Type 0 where
   shut : Bool
   is : shut_at device (Some a) ≡ shut
-  sent : shut ≡ false → sent_by device.host a ≡ output j (n.first + a)
+  sent : shut ≡ false → sent_by_host device.host a ≡ output j (n.first + a)
 
 not_false : (b : Bool) → not b ≡ false → b ≡ true
 not_false true e = refl
@@ -193,15 +194,17 @@ near_keeps : (d : ℕ) (device : DeviceValue) (l : Link) (at : Option ℕ) → l
     → Looks d l (cut_if (shut_at device at) (record l { near = look_at device l.is_cut at l.near }))
 near_keeps d device l None own = looks_not d l
 near_keeps d device l (Some a) own =
-    near_if d l (is_shut (end_at device a)) (flight_behind l.is_cut (sent_by device.host a) l.near)
-    (length (sent_by device.host a)) own
+    near_if d l (is_shut (end_at device a))
+    (flight_behind l.is_cut (sent_by_host device.host a) l.near)
+    (length (sent_by_host device.host a)) own
 
 far_keeps : (d : ℕ) (device : DeviceValue) (l : Link) (at : Option ℕ) → l.far.device ≡ d
     → Looks d l (cut_if (shut_at device at) (record l { far = look_at device l.is_cut at l.far }))
 far_keeps d device l None own = looks_not d l
 far_keeps d device l (Some a) own =
-    far_if d l (is_shut (end_at device a)) (flight_behind l.is_cut (sent_by device.host a) l.far)
-    (length (sent_by device.host a)) own
+    far_if d l (is_shut (end_at device a))
+    (flight_behind l.is_cut (sent_by_host device.host a) l.far)
+    (length (sent_by_host device.host a)) own
 
 side_keeps : (d : ℕ) (device : DeviceValue) (l : Link) (near far : Bool)
     → (l.near.device == d) ≡ near → (l.far.device == d) ≡ far
@@ -275,9 +278,9 @@ module _ (laws : RecordLaws) (d : ℕ) (j : Journal) (n : NodeValue) (device : D
   limits = record { legal = stand.legal; within = stand.within }
 
   sees : (other a : ℕ) (is_cut : Bool) (e : EndValue) (x : End) → e.device ≡ d
-      → IsEndWired j device is_cut e a → sent_by device.host a ≡ output j (n.first + a)
+      → IsEndWired j device is_cut e a → sent_by_host device.host a ≡ output j (n.first + a)
       → ShowsEnd e x
-      → ShownEndRuns d j other (looked is_cut (sent_by device.host a) e) x
+      → ShownEndRuns d j other (looked is_cut (sent_by_host device.host a) e) x
   sees other a is_cut e x own w sent s =
       let on : e.session ≡ Some (n.first + a) = session_number n device j is_cut e a runs w in
       subst (λ (bytes : List ℕ). ShownEndRuns d j other (looked is_cut bytes e) x) (sym sent)
@@ -286,26 +289,26 @@ module _ (laws : RecordLaws) (d : ℕ) (j : Journal) (n : NodeValue) (device : D
 
   near_by : (a : ℕ) (l : Link) (x : RecordLink) (shut : Bool) → l.near.device ≡ d
       → IsEndWired j device l.is_cut l.near a
-      → (shut ≡ false → sent_by device.host a ≡ output j (n.first + a)) → ShowsLink l x
+      → (shut ≡ false → sent_by_host device.host a ≡ output j (n.first + a)) → ShowsLink l x
       → ShownLinkRuns d j (cut_if shut
-      (record l { near = looked l.is_cut (sent_by device.host a) l.near })) x
+      (record l { near = looked l.is_cut (sent_by_host device.host a) l.near })) x
   near_by a l x true own w sent s =
-      link_drops_near d j (flight_behind l.is_cut (sent_by device.host a) l.near)
-      (length (sent_by device.host a)) l x s
+      link_drops_near d j (flight_behind l.is_cut (sent_by_host device.host a) l.near)
+      (length (sent_by_host device.host a)) l x s
   near_by a l x false own w sent s =
-      link_runs_near d j l (looked l.is_cut (sent_by device.host a) l.near) x s
+      link_runs_near d j l (looked l.is_cut (sent_by_host device.host a) l.near) x s
       (sees l.far.device a l.is_cut l.near x.near own w (sent refl) s.near)
 
   far_by : (a : ℕ) (l : Link) (x : RecordLink) (shut : Bool) → l.far.device ≡ d
       → IsEndWired j device l.is_cut l.far a
-      → (shut ≡ false → sent_by device.host a ≡ output j (n.first + a)) → ShowsLink l x
+      → (shut ≡ false → sent_by_host device.host a ≡ output j (n.first + a)) → ShowsLink l x
       → ShownLinkRuns d j (cut_if shut
-      (record l { far = looked l.is_cut (sent_by device.host a) l.far })) x
+      (record l { far = looked l.is_cut (sent_by_host device.host a) l.far })) x
   far_by a l x true own w sent s =
-      link_drops_far d j (flight_behind l.is_cut (sent_by device.host a) l.far)
-      (length (sent_by device.host a)) l x s
+      link_drops_far d j (flight_behind l.is_cut (sent_by_host device.host a) l.far)
+      (length (sent_by_host device.host a)) l x s
   far_by a l x false own w sent s =
-      link_runs_far d j l (looked l.is_cut (sent_by device.host a) l.far) x s
+      link_runs_far d j l (looked l.is_cut (sent_by_host device.host a) l.far) x s
       (sees l.near.device a l.is_cut l.far x.far own w (sent refl) s.far)
 
   near_shows : (at : Option ℕ) (l : Link) (x : RecordLink) → l.near.device ≡ d
@@ -318,7 +321,7 @@ module _ (laws : RecordLaws) (d : ℕ) (j : Journal) (n : NodeValue) (device : D
       let stands = stands_at n device j a runs stand w.below in
       subst (λ (b : Bool).
       ShownLinkRuns d j
-      (cut_if b (record l { near = looked l.is_cut (sent_by device.host a) l.near })) x)
+      (cut_if b (record l { near = looked l.is_cut (sent_by_host device.host a) l.near })) x)
       (sym stands.is)
       (near_by a l x stands.shut own w stands.sent s)
 
@@ -332,7 +335,7 @@ module _ (laws : RecordLaws) (d : ℕ) (j : Journal) (n : NodeValue) (device : D
       let stands = stands_at n device j a runs stand w.below in
       subst (λ (b : Bool).
       ShownLinkRuns d j
-      (cut_if b (record l { far = looked l.is_cut (sent_by device.host a) l.far })) x)
+      (cut_if b (record l { far = looked l.is_cut (sent_by_host device.host a) l.far })) x)
       (sym stands.is)
       (far_by a l x stands.shut own w stands.sent s)
 
@@ -368,8 +371,9 @@ module _ (laws : RecordLaws) (d : ℕ) (j : Journal) (n : NodeValue) (device : D
 
   -- ---- how its ends are wired
 
-  seen_all : (a number : ℕ) → number ≡ n.first + a → sent_by device.host a ≡ output j (n.first + a)
-      → SeenBy j number (length (sent_by device.host a))
+  seen_all : (a number : ℕ) → number ≡ n.first + a
+      → sent_by_host device.host a ≡ output j (n.first + a)
+      → SeenBy j number (length (sent_by_host device.host a))
   seen_all a number same sent_is = record {
     before = sent j number;
     behind = [];
@@ -378,8 +382,8 @@ module _ (laws : RecordLaws) (d : ℕ) (j : Journal) (n : NodeValue) (device : D
   }
 
   seen_wired : (a : ℕ) (is_cut : Bool) (e : EndValue) → IsEndWired j device is_cut e a
-      → sent_by device.host a ≡ output j (n.first + a)
-      → IsEndWired j device is_cut (looked is_cut (sent_by device.host a) e) a
+      → sent_by_host device.host a ≡ output j (n.first + a)
+      → IsEndWired j device is_cut (looked is_cut (sent_by_host device.host a) e) a
   seen_wired a is_cut e w sent_is = record {
     below = w.below;
     session = w.session;
@@ -401,19 +405,20 @@ module _ (laws : RecordLaws) (d : ℕ) (j : Journal) (n : NodeValue) (device : D
       }
 
   near_wired : (a : ℕ) (l : Link) (shut : Bool) → IsEndWired j device l.is_cut l.near a
-      → (shut ≡ false → sent_by device.host a ≡ output j (n.first + a))
+      → (shut ≡ false → sent_by_host device.host a ≡ output j (n.first + a))
       → IsEndWired j device
-      (cut_if shut (record l { near = looked l.is_cut (sent_by device.host a) l.near })).is_cut
-      (cut_if shut (record l { near = looked l.is_cut (sent_by device.host a) l.near })).near a
-  near_wired a l true w sent_is = shut_wired a (length (sent_by device.host a)) l.is_cut l.near w
+      (cut_if shut (record l { near = looked l.is_cut (sent_by_host device.host a) l.near })).is_cut
+      (cut_if shut (record l { near = looked l.is_cut (sent_by_host device.host a) l.near })).near a
+  near_wired a l true w sent_is =
+      shut_wired a (length (sent_by_host device.host a)) l.is_cut l.near w
   near_wired a l false w sent_is = seen_wired a l.is_cut l.near w (sent_is refl)
 
   far_wired : (a : ℕ) (l : Link) (shut : Bool) → IsEndWired j device l.is_cut l.far a
-      → (shut ≡ false → sent_by device.host a ≡ output j (n.first + a))
+      → (shut ≡ false → sent_by_host device.host a ≡ output j (n.first + a))
       → IsEndWired j device
-      (cut_if shut (record l { far = looked l.is_cut (sent_by device.host a) l.far })).is_cut
-      (cut_if shut (record l { far = looked l.is_cut (sent_by device.host a) l.far })).far a
-  far_wired a l true w sent_is = shut_wired a (length (sent_by device.host a)) l.is_cut l.far w
+      (cut_if shut (record l { far = looked l.is_cut (sent_by_host device.host a) l.far })).is_cut
+      (cut_if shut (record l { far = looked l.is_cut (sent_by_host device.host a) l.far })).far a
+  far_wired a l true w sent_is = shut_wired a (length (sent_by_host device.host a)) l.is_cut l.far w
   far_wired a l false w sent_is = seen_wired a l.is_cut l.far w (sent_is refl)
 
   -- the end of the device is this one
@@ -426,26 +431,27 @@ module _ (laws : RecordLaws) (d : ℕ) (j : Journal) (n : NodeValue) (device : D
 
   near_stays_wired : (a : ℕ) (l : Link) (shut : Bool) → l.near.device ≡ d → l.near.at ≡ Some a
       → IsEndWired j device l.is_cut l.near a
-      → (shut ≡ false → sent_by device.host a ≡ output j (n.first + a))
+      → (shut ≡ false → sent_by_host device.host a ≡ output j (n.first + a))
       → LinkWired j d device
-      (cut_if shut (record l { near = looked l.is_cut (sent_by device.host a) l.near }))
+      (cut_if shut (record l { near = looked l.is_cut (sent_by_host device.host a) l.near }))
   near_stays_wired a l true own here w sent_is =
-      let l' : Link = cut (record l { near = looked l.is_cut (sent_by device.host a) l.near }) in
+      let l' : Link =
+      cut (record l { near = looked l.is_cut (sent_by_host device.host a) l.near }) in
       one_wired l' l'.near a (own_near d l' own) here (near_wired a l true w sent_is)
   near_stays_wired a l false own here w sent_is =
-      let l' : Link = record l { near = looked l.is_cut (sent_by device.host a) l.near } in
+      let l' : Link = record l { near = looked l.is_cut (sent_by_host device.host a) l.near } in
       one_wired l' l'.near a (own_near d l' own) here (near_wired a l false w sent_is)
 
   far_stays_wired : (a : ℕ) (l : Link) (shut : Bool) → (l.near.device ≡ d → ⊥) → l.far.device ≡ d
       → l.far.at ≡ Some a → IsEndWired j device l.is_cut l.far a
-      → (shut ≡ false → sent_by device.host a ≡ output j (n.first + a))
+      → (shut ≡ false → sent_by_host device.host a ≡ output j (n.first + a))
       → LinkWired j d device
-      (cut_if shut (record l { far = looked l.is_cut (sent_by device.host a) l.far }))
+      (cut_if shut (record l { far = looked l.is_cut (sent_by_host device.host a) l.far }))
   far_stays_wired a l true other own here w sent_is =
-      let l' : Link = cut (record l { far = looked l.is_cut (sent_by device.host a) l.far }) in
+      let l' : Link = cut (record l { far = looked l.is_cut (sent_by_host device.host a) l.far }) in
       one_wired l' l'.far a (own_far d l' other own) here (far_wired a l true w sent_is)
   far_stays_wired a l false other own here w sent_is =
-      let l' : Link = record l { far = looked l.is_cut (sent_by device.host a) l.far } in
+      let l' : Link = record l { far = looked l.is_cut (sent_by_host device.host a) l.far } in
       one_wired l' l'.far a (own_far d l' other own) here (far_wired a l false w sent_is)
 
   near_looks_wired : (at : Option ℕ) (l : Link) → l.near.at ≡ at → l.near.device ≡ d
@@ -458,7 +464,7 @@ module _ (laws : RecordLaws) (d : ℕ) (j : Journal) (n : NodeValue) (device : D
       let stands = stands_at n device j a runs stand w.below in
       subst (λ (b : Bool).
       LinkWired j d device
-      (cut_if b (record l { near = looked l.is_cut (sent_by device.host a) l.near })))
+      (cut_if b (record l { near = looked l.is_cut (sent_by_host device.host a) l.near })))
       (sym stands.is)
       (near_stays_wired a l stands.shut own here w stands.sent)
 
@@ -472,7 +478,7 @@ module _ (laws : RecordLaws) (d : ℕ) (j : Journal) (n : NodeValue) (device : D
       let stands = stands_at n device j a runs stand w.below in
       subst (λ (b : Bool).
       LinkWired j d device
-      (cut_if b (record l { far = looked l.is_cut (sent_by device.host a) l.far })))
+      (cut_if b (record l { far = looked l.is_cut (sent_by_host device.host a) l.far })))
       (sym stands.is)
       (far_stays_wired a l stands.shut other own here w stands.sent)
 

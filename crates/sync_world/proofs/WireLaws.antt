@@ -10,11 +10,10 @@ use Rattle.std.proofs.lemmas.List.{length-set}
 use Rattle.std.proofs.lemmas.Option.{slice_get-get_or}
 use Rattle.sync_course.proofs.LiftLaws.{get_other, get_set, get_within}
 use Rattle.sync_node.specs.Node.{NodeValue}
-use Rattle.sync_rules.specs.Facts.{ExtendsJournal}
+use Rattle.sync_rules.specs.Facts.{ExtendsJournal, Journal}
 use Rattle.sync_rules.specs.Legal.{Legal}
 use Rattle.client_basic.specs.Bodies.{bundle_meaning}
 use Rattle.sync_ids.specs.declared.records.Record.{Record}
-use Rattle.world_laws.specs.Worlds.{Journal}
 use Rattle.world_devices.specs.Brought.{brought_on}
 use Rattle.world_devices.specs.Cited.{SentGrows}
 use Rattle.world_devices.specs.Devices.{DeviceValue}

@@ -8,8 +8,8 @@ use Rattle.client_basic.specs.Bodies.{bundle_meaning}
 use Rattle.sync_rules.specs.Clients.{Meaning}
 use Rattle.world_laws.specs.Theorem.{HeldIsWritten, IsNewWorld, IsSoundWorld, RestIsDone}
 use Rattle.world_laws.specs.Theorem.{SeenIsHeld}
-use Rattle.sync_rules.specs.Facts.{facts}
-use Rattle.world_laws.specs.Worlds.{AreSteps, Journal, World, journal_at, journal_in, last_of}
+use Rattle.sync_rules.specs.Facts.{Journal, facts}
+use Rattle.world_laws.specs.Worlds.{AreSteps, World, journal_at, journal_in, last_of}
 use Rattle.world_devices.specs.Devices.{DeviceValue}
 use Rattle.world_devices.specs.Linking.{IsNewDevice, IsUnlinked, new_journal}
 use Rattle.world_devices.proofs.NewJournals.{new_holds, new_knows, new_plain}

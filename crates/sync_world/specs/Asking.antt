@@ -45,9 +45,9 @@ world_asked (word ∷ words) =
     read_or_wrong (number_in (2 ^ 64 - 1) word) 1 (λ seed. count_asked seed words)
 
 -- what all words ask for: none the script, `gen SEED COUNT` a world that is made from a seed
-abbrev pub asks : List (List ℕ) → Wanted
-asks [] = Wants asked.Script
-asks (word ∷ words) = if bytes_eq word (codes "gen") then world_asked words else Wrong 0
+abbrev pub asks_replay : List (List ℕ) → Wanted
+asks_replay [] = Wants asked.Script
+asks_replay (word ∷ words) = if bytes_eq word (codes "gen") then world_asked words else Wrong 0
 
 -- the answer to words that ask for this
 abbrev pub answer_of : Wanted → Result Asked Outcome

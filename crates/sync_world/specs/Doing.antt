@@ -14,13 +14,13 @@ use Rattle.sync_node.specs.declared.node.Plan.{Plan}
 use Rattle.world_devices.specs.Devices.{DeviceValue}
 use Rattle.world_devices.specs.Doing.{DeviceAddsEntry, DeviceBeginsSession, DeviceMakesTurn}
 use Rattle.world_devices.specs.Doing.{DeviceRestarts, clocked, stopped, with_plan}
-use Rattle.world_devices.specs.Linking.{DeviceLinksStand, asks, end_at}
+use Rattle.world_devices.specs.Linking.{DeviceLinksStand, is_link_asked, end_at}
 use Rattle.world_devices.specs.declared.stop.Ran.{Ran}
 use Rattle.world_devices.specs.declared.stop.StepFault.{StepFault}
 use Rattle.world_devices.specs.declared.stop.StepFault.TheVariants as fault
 use Rattle.world_laws.specs.Worlds.{contact_for}
 use Rattle.world_links.specs.Ends.{EndValue, answer_to, input_of}
-use Rattle.world_links.specs.Links.{end_of, left_by, side_of}
+use Rattle.world_links.specs.Links.{side_end, left_by, side_of}
 use Rattle.world_links.specs.declared.end.TheConstants.{PIECE_LEN}
 use Rattle.world_links.specs.declared.link.Link.{Link}
 use Rattle.world_links.specs.declared.moves.Side.{Side}
@@ -28,7 +28,7 @@ use Rattle.world_scripts.specs.Labels.{KindAndDescriptor, labelled}
 use Rattle.world_scripts.specs.declared.step.TheConstants.{MAX_DEVICES}
 use Rattle.world_scripts.specs.declared.step.WorldStep.{WorldStep}
 use Rattle.world_scripts.specs.declared.step.WorldStep.TheVariants as step
-use Rattle.sync_world.specs.Moving.{link_after}
+use Rattle.sync_world.specs.Moving.{link_after_step}
 use Rattle.sync_world.specs.Naming.{group_of, nonce_of}
 use Rattle.sync_world.specs.Posting.{message_of}
 use Rattle.sync_world.specs.Refusing.{group_labelled, has_links}
@@ -48,16 +48,16 @@ ground_of s = record { devices = s.devices.items; links = s.links.items }
 -- ---- what is done, by what it comes to
 
 -- what becomes of a world by calls that come to this: an answer, a crash of the device, or a fault
-abbrev pub Act : Type 0 → Type 1
-Act A = Result (Option A) StepFault → Ground → Ground → Type 0
+abbrev pub Becoming : Type 0 → Type 1
+Becoming A = Result (Option A) StepFault → Ground → Ground → Type 0
 
 -- nothing is done, and this is answered
-abbrev pub Stays : {A : Type 0} → A → Act A
+abbrev pub Stays : {A : Type 0} → A → Becoming A
 Stays a came old new = (came ≡ Ok (Some a)) × (new ≡ old)
 
 -- one is done and then another one, which is not where the first is broken off by a crash or a
 -- fault
-abbrev pub Then : {A : Type 0} → Act A → (A → Act A) → Act A
+abbrev pub Then : {A : Type 0} → Becoming A → (A → Becoming A) → Becoming A
 Then {A} First Second came old new =
     ((between : Ground) × (a : A) × First (Ok (Some a)) old between × Second a came between new)
     ⊎ (((a : A) → came ≡ Ok (Some a) → ⊥) × First came old new)
@@ -114,14 +114,14 @@ begun_on d link number (Ok (Some session)) links =
 begun_on d link number _ links = links
 
 -- a session of a device begins on the link of this number
-abbrev pub Attaches : (d link : ℕ) → Plan → Option (List ℕ) → Act ℕ
+abbrev pub Attaches : (d link : ℕ) → Plan → Option (List ℕ) → Becoming ℕ
 Attaches d link plan nonce came old new =
     DeviceDoes d (λ was is links.
     DeviceBeginsSession plan nonce came was is
     × LinksBehind d is came (begun_on d link was.links came old.links) links) old new
 
 -- a device dials another one, and both begin a session, first the one that dials
-abbrev pub LinksTwo : (d e : ℕ) → Mode → (latency : ℕ) → Act ℕ
+abbrev pub LinksTwo : (d e : ℕ) → Mode → (latency : ℕ) → Becoming ℕ
 LinksTwo d e mode latency came old new =
     Then
     (Attaches d (length old.links) (plan_of d e mode latency) (nonce_of mode (length old.links)))
@@ -140,14 +140,14 @@ abbrev pub hears_at_end : (is_cut : Bool) → DeviceValue → EndValue → Optio
     → DeviceValue × EndValue
 hears_at_end is_cut d e None = (d, e)
 hears_at_end is_cut d e (Some a) =
-    if asks (end_at d a)
+    if is_link_asked (end_at d a)
     then (with_plan a (answer_to is_cut (input_of e)) d, heard_next e) else (d, e)
 
 -- so of a link, at the side at which the device stands
 abbrev pub hears_on_link : DeviceValue → Link → Option Side → DeviceValue × Link
 hears_on_link d l None = (d, l)
 hears_on_link d l (Some from) =
-    let heard = hears_at_end l.is_cut d (end_of from l) (end_of from l).at in
+    let heard = hears_at_end l.is_cut d (side_end from l) (side_end from l).at in
     (heard.0, with_end from heard.1 l)
 
 -- so of all links, in order
@@ -160,7 +160,7 @@ hears_on_links number d (l ∷ ls) =
 
 -- One turn of a device: one answer is heard on each of its links that is still asked, and all that
 -- is due is sent. It answers whether all links were still.
-abbrev pub TurnsOnce : ℕ → Act Bool
+abbrev pub TurnsOnce : ℕ → Becoming Bool
 TurnsOnce d came old new =
     DeviceDoes d (λ was is links.
     let heard = hears_on_links d was old.links in
@@ -169,32 +169,32 @@ TurnsOnce d came old new =
 -- ---- rounds
 
 -- a turn of a device that has had a link since it was started; another one is still
-abbrev pub TurnsIf : (is_linked : Bool) → ℕ → Act Bool
+abbrev pub TurnsIf : (is_linked : Bool) → ℕ → Becoming Bool
 TurnsIf true d = TurnsOnce d
 TurnsIf false d = Stays true
 
-abbrev pub TurnsLinked : ℕ → Act Bool
+abbrev pub TurnsLinked : ℕ → Becoming Bool
 TurnsLinked d came old new = TurnsIf (has_links (slice_get old.devices d)) d came old new
 
 -- the turns of so many devices from this one on, in order, behind turns that were still or not
-abbrev pub TurnsFrom : (left d : ℕ) → (still : Bool) → Act Bool
+abbrev pub TurnsFrom : (left d : ℕ) → (still : Bool) → Becoming Bool
 TurnsFrom zero d still = Stays still
 TurnsFrom (suc left) d still =
     Then (TurnsLinked d) (λ quiet. TurnsFrom left (d + 1) (still && quiet))
 
 -- all that is in flight arrives, behind turns that were still or not
-abbrev pub Arrives : (still : Bool) → Act Bool
+abbrev pub Arrives : (still : Bool) → Becoming Bool
 Arrives still came old new =
     (came ≡ Ok (Some (still && not (list_any is_moving old.links))))
     × (new ≡ record old { links = map arrived old.links })
 
 -- a round: a turn of each device, in order, and then all that is in flight arrives. It answers
 -- whether it was quiet: each turn was still, and nothing was carried.
-abbrev pub MakesRound : Act Bool
+abbrev pub MakesRound : Becoming Bool
 MakesRound = Then (TurnsFrom MAX_DEVICES 0 true) Arrives
 
 -- at most so many rounds, behind one that was quiet or not; a quiet one is the last
-abbrev pub RestsWithin : ℕ → (quiet : Bool) → Act Bool
+abbrev pub RestsWithin : ℕ → (quiet : Bool) → Becoming Bool
 RestsWithin zero quiet = Stays quiet
 RestsWithin (suc rounds) true = Stays true
 RestsWithin (suc rounds) false = Then MakesRound (RestsWithin rounds)
@@ -203,7 +203,8 @@ RestsWithin (suc rounds) false = Then MakesRound (RestsWithin rounds)
 
 -- a step that this makes: it is made, or a call in it would pass the limit of a journal; want of
 -- memory is free
-abbrev pub MadeBy : {A : Type 0} → Act A → Result (Unit {0}) StepFault → Ground → Ground → Type 0
+abbrev pub MadeBy : {A : Type 0} → Becoming A → Result (Unit {0}) StepFault → Ground → Ground
+    → Type 0
 MadeBy {A} Does (Ok _) old new = (came : Option A) × Does (Ok came) old new
 MadeBy Does (Err fault.Full) old new = Does (Err fault.Full) old new
 MadeBy Does (Err _) old new = Unit {0}
@@ -249,7 +250,7 @@ MakesStep (step.Restart d) came s new =
     DeviceRestarts (Ok tt) was is × (links ≡ map (left_by d) s.links.items)) (ground_of s) new)
 MakesStep (step.Rest rounds) came s new = MadeBy (RestsWithin rounds false) came (ground_of s) new
 MakesStep made came s new =
-    LinkBecomes (link_after made s.links.items).0 (link_after made s.links.items).1 came
+    LinkBecomes (link_after_step made s.links.items).0 (link_after_step made s.links.items).1 came
     (ground_of s) new
 
 -- the group labels after a step: a group has a label from the first step on that added it

@@ -7,7 +7,7 @@ use Rattle.world_links.specs.declared.link.Link.{Link}
 use Rattle.world_links.specs.declared.moves.Move.{Move}
 use Rattle.world_links.specs.declared.moves.Move.TheVariants as move
 use Rattle.world_links.specs.declared.moves.Side.{Side}
-use Rattle.world_links.specs.Links.{cut, end_of, moved, side_of}
+use Rattle.world_links.specs.Links.{cut, side_end, moved, side_of}
 use Rattle.world_links.specs.Moves.{is_possible}
 use Rattle.world_scripts.specs.declared.step.WorldStep.{WorldStep}
 use Rattle.world_scripts.specs.declared.step.WorldStep.TheVariants as step
@@ -17,7 +17,7 @@ use Rattle.world_scripts.specs.declared.step.WorldStep.TheVariants as step
 abbrev pub moved_from : Move → Link → Option Side → Option Link
 moved_from how l None = None
 moved_from how l (Some side) =
-    if is_possible how (end_of side l).flight then Some (moved how side l) else None
+    if is_possible how (side_end side l).flight then Some (moved how side l) else None
 
 abbrev pub link_moved : Move → ℕ → Option Link → Option Link
 link_moved how device None = None
@@ -49,13 +49,13 @@ BecomesOne (Some l) old new _ = ⊥
 
 -- what a step makes of a link, where it moves what is in flight there or cuts it: the number of the
 -- link, and the link then
-abbrev pub link_after : WorldStep → List Link → ℕ × Option Link
-link_after (step.Carry link d) links = (link, link_moved move.Carry d (slice_get links link))
-link_after (step.Lose link d) links = (link, link_moved move.Lose d (slice_get links link))
-link_after (step.Repeat link d) links = (link, link_moved move.Repeat d (slice_get links link))
-link_after (step.Swap link d) links = (link, link_moved move.Swap d (slice_get links link))
-link_after (step.Cut link) links = (link, link_cut (slice_get links link))
-link_after _ links = (0, None)
+abbrev pub link_after_step : WorldStep → List Link → ℕ × Option Link
+link_after_step (step.Carry link d) links = (link, link_moved move.Carry d (slice_get links link))
+link_after_step (step.Lose link d) links = (link, link_moved move.Lose d (slice_get links link))
+link_after_step (step.Repeat link d) links = (link, link_moved move.Repeat d (slice_get links link))
+link_after_step (step.Swap link d) links = (link, link_moved move.Swap d (slice_get links link))
+link_after_step (step.Cut link) links = (link, link_cut (slice_get links link))
+link_after_step _ links = (0, None)
 
 -- a step that failed for want of memory, or since a journal is full, is the last one that is made
 abbrev pub fault_after : Result (Unit {0}) StepFault → Option StepFault

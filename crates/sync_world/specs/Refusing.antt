@@ -14,7 +14,7 @@ use Rattle.world_scripts.specs.declared.step.WorldStep.{WorldStep}
 use Rattle.world_scripts.specs.declared.step.WorldStep.TheVariants as step
 use Rattle.world_scripts.specs.declared.step.TheConstants.{MAX_ROUNDS}
 use Rattle.sync_world.specs.declared.stage.Stage.{Stage}
-use Rattle.sync_world.specs.Moving.{link_after}
+use Rattle.sync_world.specs.Moving.{link_after_step}
 use Rattle.sync_world.specs.Naming.{group_of}
 use Rattle.sync_world.specs.Posting.{message_of}
 
@@ -77,4 +77,4 @@ refuses (step.Clock at) w = false
 refuses (step.Stop d calls pick) w = is_none (slice_get w.devices.items d)
 refuses (step.Restart d) w = is_none (slice_get w.devices.items d)
 refuses (step.Rest rounds) w = (rounds == 0) || nat_lt MAX_ROUNDS rounds
-refuses made w = is_none (link_after made w.links.items).1
+refuses made w = is_none (link_after_step made w.links.items).1

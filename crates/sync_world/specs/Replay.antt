@@ -14,15 +14,15 @@ use Rattle.sync_world.specs.Showing.{Runs, journal_lines}
 use Rattle.sync_world.specs.Standing.{AreManyDevices}
 use Rattle.sync_world.specs.declared.asking.Asked.TheVariants as asked
 use Rattle.sync_world.specs.declared.player.Player.{Player}
-use Rattle.world_laws.specs.Worlds.{Journal}
 use Rattle.world_scripts.specs.Courses.{Opening, said}
 use Rattle.world_scripts.specs.declared.script.TheConstants.{MAX_SCRIPT}
+use Rattle.sync_rules.specs.Facts.{Journal}
 
 -- ---- what is printed
 
 -- What is written of a world: its devices have such journals as the promises on many devices speak
 -- of, each of them runs, and the text is the lines that these journals make.
-pub record PrintsText (p : Player) (Written : List ℕ → Type 0) : Type 0 where
+pub record WritesWorld (p : Player) (Written : List ℕ → Type 0) : Type 0 where
   pub journals : List Journal
   pub many : AreManyDevices journals p.world.devices.items
   pub run : (d : ℕ) → d < p.devices → Runs (slice_get p.world.devices.items d)
@@ -31,9 +31,9 @@ pub record PrintsText (p : Player) (Written : List ℕ → Type 0) : Type 0 wher
 -- What the printing of a world comes to: the whole text was written, or a front of it where a write
 -- failed; where memory was wanting for the text, nothing was written.
 abbrev pub PrintsWorld : Player → (out out' : Stream) → Outcome → Type 0
-PrintsWorld p out out' outcome.Done = PrintsText p (Appends out.bytes out'.bytes)
+PrintsWorld p out out' outcome.Done = WritesWorld p (Appends out.bytes out'.bytes)
 PrintsWorld p out out' outcome.WriteFault =
-    CountRose out.faults out'.faults × PrintsText p (GetsFront out out')
+    CountRose out.faults out'.faults × WritesWorld p (GetsFront out out')
 PrintsWorld p out out' outcome.Memory = IsIdle out out'
 PrintsWorld p out out' _ = ⊥
 

@@ -3,7 +3,7 @@ use Rattle.std.specs.Prelude.{◌≡◌, ℕ, zero, suc, ◌+◌, Bool, true, fa
 use Rattle.std.specs.Prelude.{◌∷◌, ◌++◌, length, Option, Some, None, slice_get}
 use Rattle.store_commands.specs.Shown.{show_text}
 use Rattle.sync_node.specs.Node.{NodeValue}
-use Rattle.sync_rules.specs.Facts.{Facts, Held, facts}
+use Rattle.sync_rules.specs.Facts.{Facts, Held, Journal, facts}
 use Rattle.sync_rules.specs.Steps.{fate_held}
 use Rattle.sync_rules.specs.declared.states.Fate.{Fate}
 use Rattle.sync_rules.specs.declared.states.Fate.TheVariants as fate
@@ -11,7 +11,7 @@ use Rattle.sync_words.specs.HeldTexts.{device_text}
 use Rattle.sync_world.specs.declared.player.Player.{Player}
 use Rattle.sync_world.specs.declared.player.States.{States}
 use Rattle.world_devices.specs.Devices.{DeviceValue}
-use Rattle.world_laws.specs.Worlds.{Journal, journal_in}
+use Rattle.world_laws.specs.Worlds.{journal_in}
 
 abbrev pub same_fate : Fate → Fate → Bool
 same_fate fate.Delivered fate.Delivered = true

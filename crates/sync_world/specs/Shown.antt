@@ -10,7 +10,7 @@ use Rattle.record_grammar.specs.Spelling.{spelled, spelling}
 use Rattle.entry_codec.specs.Spelling.{IsEntry}
 use Rattle.sync_rules.specs.Clients.{Meaning}
 use Rattle.sync_rules.specs.Lists.{In}
-use Rattle.sync_rules.specs.Facts.{facts}
+use Rattle.sync_rules.specs.Facts.{Journal, facts}
 use Rattle.sync_rules.specs.Legal.{Legal}
 use Rattle.world_links.specs.declared.link.Link.{Link}
 use Rattle.world_links.specs.declared.moves.Move.{Move}
@@ -21,7 +21,7 @@ use Rattle.world_links.specs.Ends.{EndValue, flight_behind}
 use Rattle.world_links.specs.Links.{all_carried}
 use Rattle.world_laws.specs.Moves.{Move as WorldMove, Carry, Lose, Repeat, Swap}
 use Rattle.world_laws.specs.Worlds.{AreSteps, End, HasNoBrief, HasSession, IsSent}
-use Rattle.world_laws.specs.Worlds.{Journal, WorldLink as RecordLink, World, contact_for, last_of}
+use Rattle.world_laws.specs.Worlds.{WorldLink as RecordLink, World, contact_for, last_of}
 use Rattle.world_laws.specs.Worlds.{link_in, way_of}
 
 -- ---- what is shown

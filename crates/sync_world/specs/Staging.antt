@@ -7,7 +7,7 @@ use Rattle.world_devices.specs.Devices.{DeviceValue}
 use Rattle.world_devices.specs.declared.stop.Ran.{Ran}
 use Rattle.world_devices.specs.declared.stop.Ran.TheVariants as ran
 use Rattle.world_links.specs.Ends.{EndValue, input_of, new_end}
-use Rattle.world_links.specs.Links.{end_of, left_by, other, side_of}
+use Rattle.world_links.specs.Links.{side_end, left_by, other, side_of}
 use Rattle.world_links.specs.declared.end.TheConstants.{PIECE_LEN}
 use Rattle.world_links.specs.declared.link.Link.{Link}
 use Rattle.world_links.specs.declared.moves.Side.{Side}
@@ -55,8 +55,8 @@ PlansEnd old new e e' = ((new ≡ old) × (e' ≡ e)) ⊎ PlansAt old new e e'
 pub record PlansSide (d : ℕ) (old new : DeviceValue) (l l' : Link) : Type 0 where
   pub from : Side
   pub own : side_of d l ≡ Some from
-  pub plans : PlansAt old new (end_of from l) (end_of from l')
-  pub rest : l' ≡ with_end from (end_of from l') l
+  pub plans : PlansAt old new (side_end from l) (side_end from l')
+  pub rest : l' ≡ with_end from (side_end from l') l
 
 abbrev pub PlansLink : ℕ → DeviceValue → DeviceValue → Link → Link → Type 0
 PlansLink d old new l l' = ((new ≡ old) × (l' ≡ l)) ⊎ PlansSide d old new l l'
@@ -85,7 +85,7 @@ begun_end number session e = record e { at = Some number; session = Some session
 abbrev pub attached_from : ℕ → ℕ → Option Side → Link → Link
 attached_from number session None l = l
 attached_from number session (Some from) l =
-    with_end from (begun_end number session (end_of from l)) l
+    with_end from (begun_end number session (side_end from l)) l
 
 abbrev pub attached_at : ℕ → ℕ → ℕ → Link → Link
 attached_at d number session l = attached_from number session (side_of d l) l
@@ -101,10 +101,10 @@ pub record HasFreshEnd (d far i : ℕ) (links : List Link) : Type 0 where
   pub stands : slice_get links i ≡ Some link
   pub from : Side
   pub own : side_of d link ≡ Some from
-  pub unbegun : (end_of from link).session ≡ None
-  pub unplaced : (end_of from link).at ≡ None
-  pub unheard : (end_of from link).heard ≡ 0
-  pub far_is : (end_of (other from) link).device ≡ far
+  pub unbegun : (side_end from link).session ≡ None
+  pub unplaced : (side_end from link).at ≡ None
+  pub unheard : (side_end from link).heard ≡ 0
+  pub far_is : (side_end (other from) link).device ≡ far
 
 -- the call was made, and the device did not crash in it
 abbrev pub IsCallMade : {E : Type 0} → Result Ran E → Type 0

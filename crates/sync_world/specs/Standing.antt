@@ -7,14 +7,14 @@ use Rattle.client_basic.specs.Bodies.{bundle_meaning}
 use Rattle.record_grammar.specs.Spelling.{spelled}
 use Rattle.sync_ids.specs.declared.records.Record.{Record}
 use Rattle.sync_node.specs.Node.{NodeValue}
-use Rattle.sync_rules.specs.Facts.{facts}
+use Rattle.sync_rules.specs.Facts.{Journal, facts}
 use Rattle.sync_rules.specs.Legal.{Legal}
 use Rattle.sync_rules.specs.Output.{sent}
 use Rattle.world_laws.specs.Theorem.{HeldIsWritten, IsNewWorld, RestIsDone, SeenIsHeld}
-use Rattle.world_laws.specs.Worlds.{Journal, World, journal_at, journal_in}
+use Rattle.world_laws.specs.Worlds.{World, journal_at, journal_in}
 use Rattle.world_devices.specs.Brought.{brought_on}
 use Rattle.world_devices.specs.Devices.{DeviceValue}
-use Rattle.world_devices.specs.Linking.{DeviceLinksStand, number_of}
+use Rattle.world_devices.specs.Linking.{DeviceLinksStand, count_of_links}
 use Rattle.world_devices.specs.Running.{HoldsAfterCrash, ReadsAsJournal}
 use Rattle.world_devices.specs.declared.stop.StepFault.{StepFault}
 use Rattle.world_devices.specs.declared.stop.StepFault.TheVariants as fault
@@ -31,7 +31,7 @@ pub record IsUp (j : Journal) (device : DeviceValue) : Type 0 where
   pub runs : is_some device.node ≡ true
   pub holds : HoldsAfterCrash j device.host
   pub legal : Legal bundle_meaning j
-  pub numbered : number_of device.node ≡ Some device.links
+  pub numbered : count_of_links device.node ≡ Some device.links
 
 -- there is a journal for each device, and each device is up with its own
 pub record AreUp (js : List Journal) (devices : List DeviceValue) : Type 0 where

@@ -1,11 +1,11 @@
 -- What becomes of a link by a look at what a device sent on it, and where all in flight on it
 -- arrives.
 use Rattle.std.specs.Prelude.{ℕ, Bool, true, false, ◌||◌, if◌then◌else◌, Option, Some, None}
-use Rattle.world_devices.specs.Brought.{sent_by}
+use Rattle.world_devices.specs.Brought.{sent_by_host}
 use Rattle.world_devices.specs.Devices.{DeviceValue}
 use Rattle.world_devices.specs.Linking.{end_at, is_shut}
 use Rattle.world_links.specs.Ends.{EndValue}
-use Rattle.world_links.specs.Links.{cut, end_of, side_of}
+use Rattle.world_links.specs.Links.{cut, side_end, side_of}
 use Rattle.world_links.specs.Moves.{has_first}
 use Rattle.world_links.specs.declared.link.Link.{Link}
 use Rattle.world_links.specs.declared.moves.Side.{Side}
@@ -16,7 +16,7 @@ use Rattle.sync_world.specs.Staging.{with_end}
 -- may not have it any more
 abbrev pub look_at : DeviceValue → Bool → Option ℕ → EndValue → EndValue
 look_at device is_cut None e = e
-look_at device is_cut (Some a) e = looked is_cut (sent_by device.host a) e
+look_at device is_cut (Some a) e = looked is_cut (sent_by_host device.host a) e
 
 -- whether the device closed the link of this number
 abbrev pub shut_at : DeviceValue → Option ℕ → Bool
@@ -30,8 +30,8 @@ cut_if false l = l
 abbrev pub look_side : DeviceValue → Link → Option Side → Link
 look_side device l None = l
 look_side device l (Some from) =
-    cut_if (shut_at device (end_of from l).at)
-    (with_end from (look_at device l.is_cut (end_of from l).at (end_of from l)) l)
+    cut_if (shut_at device (side_end from l).at)
+    (with_end from (look_at device l.is_cut (side_end from l).at (side_end from l)) l)
 
 -- a link after a look at the end of a device: what was sent is in flight, and where the device
 -- closed the link it is cut

@@ -1,7 +1,7 @@
 //! What the words ask for.
 ghost use Rattle.std.specs.Prelude.{◌≡◌, IfOk};
 ghost use Rattle.sync_words.specs.Words.{texts};
-ghost use Rattle.sync_world.specs.Asking.{IsWorldWithin, answer_of, asks, count_asked, wants};
+ghost use Rattle.sync_world.specs.Asking.{IsWorldWithin, answer_of, asks_replay, count_asked, wants};
 ghost use Rattle.sync_world.specs.Asking.{world_asked};
 
 use sync_words::{Outcome, number};
@@ -19,7 +19,7 @@ pub(crate) enum Asked {
 /// Reads the words: none, or `gen SEED COUNT`. The first wrong word is named, or the number of
 /// words where one is missing.
 pub(crate) fn read_words(words: &[String]) -> Result<Asked, Outcome>
-    ensures asked { result ≡ answer_of (asks (texts words.now)) }
+    ensures asked { result ≡ answer_of (asks_replay (texts words.now)) }
     ensures within { IfOk result IsWorldWithin }
 {
     let [name, rest @ ..] = words else {

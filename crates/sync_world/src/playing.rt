@@ -2,7 +2,7 @@
 ghost use Rattle.std.specs.Prelude.{◌≡◌, ◌≤◌, length};
 ghost use Rattle.sync_words.specs.Outcomes.{came_to};
 ghost use Rattle.sync_words.specs.Words.{texts};
-ghost use Rattle.sync_world.specs.Asking.{asks};
+ghost use Rattle.sync_world.specs.Asking.{asks_replay};
 ghost use Rattle.sync_world.specs.Playing.{ActsAt, CourseComesTo, ScriptComes};
 ghost use Rattle.sync_world.specs.Playing.{came_at, came_unread, made_by};
 ghost use Rattle.sync_world.specs.Replay.{OfScript, PlaysOut, Replayed, ReplaysWords};
@@ -33,7 +33,7 @@ pub fn replay<S: Source, W: Sink, E: Sink>(
     out: &mut W,
     err: &mut E,
 ) -> Status
-    ensures { Replayed (asks (texts words.now)) (S.tells input.old) (S.tells input.new)
+    ensures { Replayed (asks_replay (texts words.now)) (S.tells input.old) (S.tells input.new)
         (W.tells out.old) (W.tells out.new) (E.tells err.old) (E.tells err.new) result }
 {
     let outcome = Outcome::of(play(alloc, hasher, words, input, out));
@@ -49,7 +49,7 @@ fn play<S: Source, W: Sink>(
     input: &mut S,
     out: &mut W,
 ) -> Result<(), Outcome>
-    ensures { ReplaysWords (asks (texts words.now)) (S.tells input.old) (S.tells input.new)
+    ensures { ReplaysWords (asks_replay (texts words.now)) (S.tells input.old) (S.tells input.new)
         (W.tells out.old) (W.tells out.new) (came_to result) }
 {
     match read_words(words)? {

@@ -7,7 +7,7 @@ use Rattle.std.proofs.lemmas.Iterator.Adapters.{position_from-zero}
 use Rattle.sync_ids.specs.Values.{GroupValue}
 use Rattle.sync_rules.specs.Lists.{same_id}
 use Rattle.sync_rules.specs.Facts.{Id, Known, group_at}
-use Rattle.visibility_table.specs.Table.{known, number_of}
+use Rattle.visibility_table.specs.Table.{known, group_number}
 
 id_swap : (a b : Id) → same_id a b ≡ same_id b a
 id_swap a b = nat_list_eq_equiv.symm a b
@@ -21,7 +21,8 @@ position_is p [] = refl
 position_is p (x ∷ xs) = position_from-zero p (x ∷ xs)
 
 -- the place of an id among those that are kept is the number of its group
-pub kept_number : (id : Id) (es : List (Id × GroupValue)) → position (same_id id) (keys_of es) ≡ number_of (map known es) id
+pub kept_number : (id : Id) (es : List (Id × GroupValue))
+    → position (same_id id) (keys_of es) ≡ group_number (map known es) id
 kept_number id es =
     position_is (same_id id) (keys_of es) ∙ (at_keys id 0 es ∙ sym (position_is (λ (g : Known). same_id g.id id) (map known es)))
 
@@ -51,7 +52,9 @@ settled gs id None h = h
 settled gs id (Some n) h = let e : n - 0 ≡ n = omega arith in ap (slice_get gs) (sym e) ∙ h.1
 
 -- the group of that number is the one that is found by its id
-pub numbered : (gs : List Known) (id : Id) → MatchOption (number_of gs id) (group_at gs id ≡ None) (λ n. slice_get gs n ≡ group_at gs id)
+pub numbered : (gs : List Known) (id : Id)
+    → MatchOption (group_number gs id) (group_at gs id ≡ None)
+    (λ n. slice_get gs n ≡ group_at gs id)
 numbered gs id =
     settled gs id _ (subst (IsFrom gs id 0) (sym (position_is (λ (g : Known). same_id g.id id) gs)) (from gs id 0))
 

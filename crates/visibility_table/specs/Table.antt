@@ -31,8 +31,8 @@ abbrev pub known : Id × GroupValue → Known
 known e = record { def = e.1; id = e.0 }
 
 -- the number of the first group of an id
-abbrev pub number_of : List Known → Id → Option ℕ
-number_of groups id = position (λ g. same_id g.id id) groups
+abbrev pub group_number : List Known → Id → Option ℕ
+group_number groups id = position (λ g. same_id g.id id) groups
 
 -- a contact has a number left, and a level has room
 abbrev pub CanApply : TableOfLevels → Entry → Type 0

@@ -6,7 +6,7 @@ ghost use Rattle.sync_ids.specs.Ids.{group_id_of};
 ghost use Rattle.sync_rules.specs.Consistency.{ids_of_groups};
 ghost use Rattle.sync_rules.specs.Lists.{has_repeat};
 ghost use Rattle.sync_rules.specs.Facts.{group_at, known_of, level_at, put_level};
-ghost use Rattle.visibility_table.specs.Table.{after_entry, CanApply, empty_table, number_of};
+ghost use Rattle.visibility_table.specs.Table.{after_entry, CanApply, empty_table, group_number};
 
 use indexmap::IndexMap;
 use std::alloc::{AllocError, Global};
@@ -163,7 +163,7 @@ impl Levels {
 
     /// The number of the group of this id. `None` comes exactly where no group has it.
     pub fn group(&self, id: &GroupId) -> Option<u32>
-        ensures number { result ≡ number_of self.now.groups id.now }
+        ensures number { result ≡ group_number self.now.groups id.now }
         ensures within { IfSome result (λ n. n < length self.now.groups) }
         ensures found { MatchOption result (group_at self.now.groups id.now ≡ None)
             (λ n. slice_get self.now.groups n ≡ group_at self.now.groups id.now) }

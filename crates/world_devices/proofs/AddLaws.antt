@@ -11,7 +11,7 @@ use Rattle.outside.specs.MemDisk.{disk_files, files_of}
 use Rattle.outside.specs.MemHost.{MemHostValue}
 use Rattle.client_basic.specs.Bodies.{bundle_meaning}
 use Rattle.sync_rules.specs.declared.entries.Entry.{Entry}
-use Rattle.sync_rules.specs.Facts.{Facts, after_all, facts}
+use Rattle.sync_rules.specs.Facts.{Facts, Journal, after_all, facts}
 use Rattle.sync_rules.specs.Legal.{AllSettling}
 use Rattle.sync_rules.specs.Steps.{IsSettled}
 use Rattle.sync_store.specs.Fitting.{FitsFiles}
@@ -32,7 +32,7 @@ use Rattle.sync_node.specs.Node.{NodeValue}
 use Rattle.world_devices.specs.Devices.{DeviceValue, IsAnew, IsRunning, MayAddEntry, MayAddTo}
 use Rattle.world_devices.specs.Doing.{CameAdding, DeviceAddsEntry, HoldsSettled}
 use Rattle.world_devices.specs.Doing.{KeepsOwn, KeepsRest}
-use Rattle.world_devices.specs.Keeping.{Journal, LeavesSome}
+use Rattle.world_devices.specs.Keeping.{LeavesSome}
 use Rattle.world_devices.specs.Linking.{WhenDone}
 use Rattle.world_devices.specs.Running.{HoldsAfterCrash}
 use Rattle.world_devices.specs.declared.stop.Ran.{Ran}

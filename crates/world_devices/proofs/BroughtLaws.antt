@@ -5,7 +5,7 @@ use Rattle.std.proofs.lemmas.List.{take-append-drop}
 use Rattle.outside.specs.Links.{HeardOn, Planned, Reply, piece, pause, close, failure, got, idle, ended}
 use Rattle.outside.specs.Planned.{UsesPlan, pieces, plan_after, reply_to}
 use Rattle.outside.specs.Runs.{reply_bytes}
-use Rattle.outside.specs.LinksTold.{heard_on}
+use Rattle.outside.specs.LinksTold.{links_heard}
 use Rattle.outside.specs.HostTold.{host_told}
 use Rattle.outside.specs.MemDisk.{answers_after}
 use Rattle.outside.specs.MemHost.{MemHostValue, plans_of}
@@ -73,7 +73,7 @@ plans_bring (e ∷ events) plans plans' link through =
 
 -- the links that are told as heard
 abbrev pub told_heard : MemHostValue → List HeardOn
-told_heard h = heard_on (answers_after [] h.disk.calls) (λ i. slice_index h.silences i)
+told_heard h = links_heard (answers_after [] h.disk.calls) (λ i. slice_index h.silences i)
 
 pub no_more : (a b : List ℕ) → a ++ b ≡ [] → b ≡ []
 no_more [] b none = none

@@ -19,7 +19,7 @@ use Rattle.sync_course.specs.Story.{heard_at}
 use Rattle.sync_rules.specs.declared.entries.Session.{Session}
 use Rattle.sync_rules.specs.Lists.{In}
 use Rattle.sync_rules.proofs.Elements.{In-append_left}
-use Rattle.sync_rules.specs.Facts.{Facts, after_all, facts, session_at}
+use Rattle.sync_rules.specs.Facts.{Facts, Journal, after_all, facts, session_at}
 use Rattle.std.specs.Option.{option_map}
 use Rattle.std.proofs.lemmas.Bool.{eq-eqb}
 use Rattle.std.specs.List.{AllByRecursion}
@@ -48,14 +48,14 @@ use Rattle.sync_node.specs.declared.link.Link.{Link}
 use Rattle.sync_node.specs.Output.{heard_on, output}
 use Rattle.world_devices.specs.Brought.{brought_on, bytes_of, planned_bytes}
 use Rattle.world_devices.specs.Linking.{AddsLink, KeepsLinks, LinksStand, PlansMore}
-use Rattle.world_devices.specs.Linking.{first_of, number_of}
+use Rattle.world_devices.specs.Linking.{first_of, count_of_links}
 use Rattle.world_devices.specs.Devices.{DeviceValue, IsDevice, IsReadyStore, IsRunning}
 use Rattle.world_devices.specs.Devices.{MayBeRunning, links_made}
 use Rattle.outside.specs.declared.limits.TheConstants.{LINKS}
 use Rattle.sync_node.specs.Calls.{CallGoes}
 use Rattle.world_devices.specs.Cited.{DeviceLaws}
 use Rattle.world_devices.specs.Doing.{ComesOf}
-use Rattle.world_devices.specs.Keeping.{Journal, KeepsOn, LeavesSome, StandsForSome, WentOn}
+use Rattle.world_devices.specs.Keeping.{KeepsOn, LeavesSome, StandsForSome, WentOn}
 use Rattle.world_devices.specs.Running.{DeviceRuns, HoldsAfterCrash, IsStill, ReadsAsJournal}
 use Rattle.world_devices.specs.Running.{WentHearing, is_session_of, records_for}
 use Rattle.world_devices.specs.Running as running
@@ -120,7 +120,7 @@ link_of n session link on = omega (arith, on)
 
 -- a record that a link brings may be taken by the session of the link
 may_take : (n : NodeValue) (h : MemHostValue) (links : ℕ) → IsRunning n h links → (session link : ℕ) (r : Record) → session ≡ n.first + link → In r (records (brought_on h link))
-    → In r (running.records_of (Some n) h session)
+    → In r (running.records_heard (Some n) h session)
 may_take n h links run session link r on inside =
     elim (cases_lt link (length n.links)) [
       | inl within ↦
@@ -139,7 +139,7 @@ no_hear link (a ∷ acts) next = ap (λ (l : List ℕ). bytes_by link (event_of 
 
 -- what a place has heard is the front of what is brought
 was_brought : FrontsHaveFronts → (n : NodeValue) (h h' : MemHostValue) (links : ℕ) → IsRunning n h links → (did : CallDid n (host_told h) (host_told h')) → (session link : ℕ) (r : Record) → session ≡ n.first + link
-    → In r (records (heard_at did.to.at link)) → In r (running.records_of (Some n) h session)
+    → In r (records (heard_at did.to.at link)) → In r (running.records_heard (Some n) h session)
 was_brought fronts n h h' links run did session link r on inside =
     let rest : List ℕ = planned_bytes (plans_of h'.scripts link) in
     let bytes : List ℕ = event_bytes link (events_of did.acts) in
@@ -174,13 +174,13 @@ one_longer links links' pushed = ap length pushed.1 ∙ length-append links (pus
 pub record DeviceLeaves (node : Option NodeValue) (h at : MemHostValue) : Type 0 where
   pub keeps : KeepsOn (host_told h) (host_told at)
   pub hears : (j : Journal) → HoldsAfterCrash j h → LeavesSome
-      (WentHearing (running.records_of node h) j) (host_told at)
+      (WentHearing (running.records_heard node h) j) (host_told at)
 
 pub device_leaves : DeviceLaws → (node : Option NodeValue) (n : NodeValue) (h at : MemHostValue) (links : ℕ)
     → node ≡ Some n → IsRunning n h links → CallDid n (host_told h) (host_told at)
     → DeviceLeaves node h at
 device_leaves laws maybe n h at links is run did =
-    let taken : ℕ → List Record = running.records_of (Some n) h in
+    let taken : ℕ → List Record = running.records_heard (Some n) h in
     subst (λ (x : Option NodeValue). DeviceLeaves x h at) (sym is) (record {
       keeps = call_keeps laws n (host_told h) (host_told at) (told_host h) run.runs did;
       hears = λ j holds.
@@ -194,16 +194,17 @@ pub leaves_on : (node : Option NodeValue) (h at new : MemHostValue) → DeviceLe
     → ComesOf at new → DeviceLeaves node h new
 leaves_on node h at new leaves comes = record {
   keeps = λ j k. comes_keeps at new comes j (leaves.keeps j k);
-  hears = λ j holds. comes_hears (running.records_of node h) j at new comes (leaves.hears j holds);
+  hears = λ j holds. comes_hears (running.records_heard node h) j at new comes
+      (leaves.hears j holds);
 }
 
 pub leaves_come : (node : Option NodeValue) (h at : MemHostValue) → ComesOf h at
     → DeviceLeaves node h at
 leaves_come node h at comes = record {
   keeps = comes_keeps h at comes;
-  hears = λ j holds. comes_hears (running.records_of node h) j h at comes
-      (holds_some (WentHearing (running.records_of node h) j) j h
-      (hears_none (running.records_of node h) j) holds);
+  hears = λ j holds. comes_hears (running.records_heard node h) j h at comes
+      (holds_some (WentHearing (running.records_heard node h) j) j h
+      (hears_none (running.records_heard node h) j) holds);
 }
 
 pub leaves_runs : DeviceLaws → (d new : DeviceValue) → DeviceLeaves d.node d.host new.host
@@ -281,7 +282,7 @@ module _ (d : DeviceValue) (n n' : NodeValue) (h' : MemHostValue) (did : DidWell
   pub keeps_links : length n'.links ≡ length n.links → KeepsLinks d (behind d n' h' d.links)
   keeps_links number = record {
     same_first = ap (λ (k : ℕ). Some k) did.goes.same_first ∙ sym (ap first_of did.was);
-    same_number = ap (λ (k : ℕ). Some k) number ∙ sym (ap number_of did.was);
+    same_number = ap (λ (k : ℕ). Some k) number ∙ sym (ap count_of_links did.was);
     same_links = refl;
     brings = did.brings;
   }

@@ -11,7 +11,7 @@ use Rattle.outside.specs.Outside.{Outside}
 use Rattle.client_basic.specs.Bodies.{bundle_meaning}
 use Rattle.record_grammar.specs.Spelling.{spelled}
 use Rattle.sync_rules.specs.declared.entries.Entry.{Entry}
-use Rattle.sync_rules.specs.Facts.{facts}
+use Rattle.sync_rules.specs.Facts.{Journal, facts}
 use Rattle.sync_rules.specs.Output.{sent}
 use Rattle.sync_store.specs.Fitting.{FitsFiles}
 use Rattle.sync_store.specs.Store.{StoreValue}
@@ -41,7 +41,7 @@ use Rattle.sync_node.proofs.EventLaws.{runs_of}
 use Rattle.world_devices.specs.Cited.{DeviceLaws}
 use Rattle.world_devices.specs.Doing.{FullAtBeginning, FullInTurn, FullSent, next_session}
 use Rattle.world_devices.proofs.HostLaws.{told_host}
-use Rattle.world_devices.specs.Keeping.{IsRunSoFar, Journal, node_place}
+use Rattle.world_devices.specs.Keeping.{IsRunSoFar, node_place}
 use Rattle.world_devices.proofs.KeepLaws.{fits_whole}
 use Rattle.world_devices.proofs.RunLaws.{BeginStops, TurnStops, acts_fail, begin_from, free_path}
 use Rattle.world_devices.proofs.RunLaws.{node_failed, node_terms, turn_from, whole_path}

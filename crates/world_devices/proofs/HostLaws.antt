@@ -14,12 +14,13 @@ use Rattle.outside.proofs.RunLaws.{others_dial}
 use Rattle.outside.specs.Calls.{CallsGoOn}
 use Rattle.outside.proofs.CallSteps.{go_on_none, go_on_then}
 use Rattle.outside.specs.Changes.{Change, hosted}
-use Rattle.outside.specs.MemDisk.{MemDiskValue, calls_of, KeptFile, kept_after, changed, both_kept, disk_files, files_of, fresh, links_after, answers_after}
+use Rattle.outside.specs.MemDisk.{MemDiskValue, calls_of, KeptFile, kept_after, changed, both_kept}
+use Rattle.outside.specs.MemDisk.{disk_files, files_of, fresh_disk, links_after, answers_after}
 use Rattle.outside.specs.MemHost.{MemHostValue, Readings, CrashesHost, fresh_host, plans_of}
 use Rattle.outside.specs.MemHost.{upcoming_of}
 use Rattle.outside.specs.declared.limits.TheConstants.{LINKS}
 use Rattle.outside.specs.HostTold.{host_told}
-use Rattle.outside.specs.LinksTold.{heard_on}
+use Rattle.outside.specs.LinksTold.{links_heard}
 use Rattle.outside.specs.declared.pick.Pick.{Pick}
 use Rattle.world_devices.specs.Brought.{IsSilent, brought_on, planned_bytes}
 use Rattle.world_devices.specs.Devices.{IsAnew, LeavesDisk, links_made}
@@ -33,7 +34,7 @@ told_host h = record {
   files_are = refl;
   links = links_after [] h.disk.calls;
   links_are = refl;
-  heard = heard_on (answers_after [] h.disk.calls) (λ i. slice_index h.silences i);
+  heard = links_heard (answers_after [] h.disk.calls) (λ i. slice_index h.silences i);
   heard_are = refl;
 }
 
@@ -172,7 +173,8 @@ pub crash_only : (pick : Pick) (h h' : MemHostValue) (crashes : CrashesHost pick
 crash_only pick h h' crashes = record {
   each = λ two is left image.
       let start = crashes.disk.start in
-      let anew : h' ≡ fresh_host (fresh start) = crashes.anew ∙ ap fresh_host crashes.pictured.fresh in
+      let anew : h' ≡ fresh_host (fresh_disk start) = crashes.anew
+      ∙ ap fresh_host crashes.pictured.fresh in
       let only : Some (record { first = settled start.first; second = settled start.second }) ≡ Some two = sym (ap (λ (x : MemHostValue). (host_told x).files) anew) ∙ is in
       let same : record { first = settled start.first; second = settled start.second } ≡ two = cc in
       sym (still_files (record { first = settled start.first; second = settled start.second }) left

@@ -8,8 +8,7 @@ use Rattle.outside.specs.HostTold.{host_told}
 use Rattle.outside.specs.Links.{sent_of}
 use Rattle.outside.specs.MemDisk.{disk_files, files_of}
 use Rattle.outside.specs.MemHost.{MemHostValue}
-use Rattle.outside.specs.Outside.{Outside, Moment}
-use Rattle.frame_journal.specs.Gates.{AnyImage}
+use Rattle.outside.specs.Outside.{AnyImage, Moment, Outside}
 use Rattle.client_basic.specs.Bodies.{bundle_meaning}
 use Rattle.entry_codec.specs.Standing.{journal}
 use Rattle.file_standing.specs.Standing.{stands}
@@ -17,8 +16,9 @@ use Rattle.sync_store.specs.Fitting.{FitsFiles}
 use Rattle.sync_store.specs.Moments.{LeadsTo}
 use Rattle.sync_store.specs.Store.{StoreValue}
 use Rattle.sync_node.specs.Courses.{FitsWith}
-use Rattle.world_devices.specs.Keeping.{AfterCrash, Journal, LeavesSome, StandsForSome}
+use Rattle.world_devices.specs.Keeping.{AfterCrash, LeavesSome, StandsForSome}
 use Rattle.world_devices.specs.Running.{HoldsAfterCrash, IsStill}
+use Rattle.sync_rules.specs.Facts.{Journal}
 
 -- ---- files
 

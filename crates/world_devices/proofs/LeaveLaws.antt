@@ -10,7 +10,7 @@ use Rattle.sync_rules.specs.declared.entries.Entry.{Entry}
 use Rattle.sync_rules.specs.declared.entries.Session.{Session}
 use Rattle.sync_rules.specs.declared.limits.TheConstants.{MAX_SESSIONS}
 use Rattle.sync_rules.specs.CountLaws.{AllBegunListed}
-use Rattle.sync_rules.specs.Facts.{Facts, after_all, facts, after_batches}
+use Rattle.sync_rules.specs.Facts.{Facts, Journal, after_all, after_batches, facts}
 use Rattle.sync_rules.specs.Legal.{AllSettling, IsSettlingBatch, Legal}
 use Rattle.sync_rules.proofs.StepLaws.{next_is_settling}
 use Rattle.sync_store.specs.Store.{IsStore, StoreValue, counts_to, written_in}
@@ -18,7 +18,7 @@ use Rattle.sync_course.specs.Free.{IsPlain}
 use Rattle.sync_course.specs.Story.{AllSuitNode, IsOfCourse, SuitsNode}
 use Rattle.world_laws.specs.Worlds.{HasNoBrief, begins_no_brief, AllHeard, IsHeard}
 use Rattle.world_laws.proofs.PlainLaws.{plain_append, plain_listed}
-use Rattle.world_devices.specs.Keeping.{Journal, WentOn, LeavesSome}
+use Rattle.world_devices.specs.Keeping.{WentOn, LeavesSome}
 use Rattle.outside.specs.Files.{Two, File, IsImage, read_files}
 use Rattle.outside.specs.HostTold.{host_told}
 use Rattle.outside.specs.MemDisk.{disk_files, files_of}

@@ -20,7 +20,7 @@ use Rattle.file_standing.specs.Standing.{stands}
 use Rattle.sync_rules.specs.declared.entries.Entry.{Entry}
 use Rattle.sync_rules.specs.declared.entries.Entry.TheVariants as entry
 use Rattle.sync_rules.specs.declared.entries.Session.{Session}
-use Rattle.sync_rules.specs.Facts.{Facts, after_all, after_batches, facts}
+use Rattle.sync_rules.specs.Facts.{Facts, Journal, after_all, after_batches, facts}
 use Rattle.sync_rules.specs.Legal.{Allowed, AllSettling, IsSettlingBatch}
 use Rattle.sync_rules.specs.Lists.{In}
 use Rattle.sync_rules.specs.Output.{sent}
@@ -61,7 +61,7 @@ use Rattle.sync_node.specs.declared.fault.NodeFault.TheVariants as node_fault
 use Rattle.sync_node.specs.declared.link.Link.{Link}
 use Rattle.sync_node.proofs.DidLaws.{front_shift}
 use Rattle.sync_node.proofs.SentLaws.{from_at}
-use Rattle.world_devices.specs.Keeping.{AreLinksQuiet, IsRunSoFar, Journal, KeepsOn, LeavesSome}
+use Rattle.world_devices.specs.Keeping.{AreLinksQuiet, IsRunSoFar, KeepsOn, LeavesSome}
 use Rattle.world_devices.specs.Keeping.{StandsForSome, TellsSame, WentOn, node_place}
 use Rattle.world_devices.specs.Running.{WentHearing}
 use Rattle.sync_course.proofs.HeardLaws.{bytes_of, events_tell, free_path_adds}

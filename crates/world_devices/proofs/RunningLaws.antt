@@ -11,6 +11,7 @@ use Rattle.sync_rules.specs.declared.entries.Entry.{Entry}
 use Rattle.sync_rules.specs.Legal.{Allowed}
 use Rattle.sync_rules.specs.Steps.{IsSettled}
 use Rattle.sync_rules.specs.declared.limits.TheConstants.{MAX_SESSIONS}
+use Rattle.sync_rules.specs.Facts.{Journal}
 use Rattle.sync_store.specs.Store.{IsStore, StoreValue}
 use Rattle.sync_store.specs.Ready.{IsReady}
 use Rattle.sync_store.specs.Fitting.{FitsFiles}
@@ -20,7 +21,7 @@ use Rattle.world_laws.specs.Worlds.{HasNoBrief}
 use Rattle.world_devices.specs.Brought.{brought_on}
 use Rattle.world_devices.specs.Devices.{IsAnew, IsDevice, IsReadyStore, IsRunning, IsStarted}
 use Rattle.world_devices.specs.Devices.{MayAddEntry, MayBeRunning}
-use Rattle.world_devices.specs.Keeping.{Journal, HoldsLaterJournal, StandsForSome, TellsSame}
+use Rattle.world_devices.specs.Keeping.{HoldsLaterJournal, StandsForSome, TellsSame}
 use Rattle.world_devices.specs.Keeping.{WentOn}
 use Rattle.world_devices.proofs.LeaveLaws.{few_begun}
 use Rattle.world_devices.proofs.HostLaws.{LeavesTold, brings_none, brings_on}

@@ -11,14 +11,13 @@ use Rattle.outside.specs.MemDisk.{calls_of, disk_files, files_of}
 use Rattle.outside.proofs.CallCounts.{most_more, most_then}
 use Rattle.outside.proofs.CallSteps.{go_on_none, go_on_then}
 use Rattle.outside.specs.MemHost.{CrashesHost, MemHostValue}
-use Rattle.outside.specs.Outside.{MakesAtMost}
+use Rattle.outside.specs.Outside.{AnyImage, MakesAtMost}
 use Rattle.outside.specs.declared.pick.Pick.{Pick}
-use Rattle.frame_journal.specs.Gates.{AnyImage}
 use Rattle.client_basic.specs.Bodies.{bundle_meaning}
 use Rattle.entry_codec.specs.Standing.{journal}
 use Rattle.file_standing.specs.Standing.{stands}
 use Rattle.sync_rules.proofs.WorkLaws.{settles_itself, settles_then}
-use Rattle.sync_rules.specs.Facts.{Facts, after_all, facts}
+use Rattle.sync_rules.specs.Facts.{Facts, Journal, after_all, facts}
 use Rattle.sync_rules.specs.Hearing.{SettlesJournal}
 use Rattle.sync_rules.specs.Legal.{AllSettling}
 use Rattle.sync_rules.specs.Steps.{IsSettled}
@@ -36,9 +35,9 @@ use Rattle.world_devices.specs.Devices.{DeviceValue, HostGoesOn, IsAnew, IsDevic
 use Rattle.world_devices.specs.Doing.{FallsAtStop, CameStarting, ComesOf, ComesOfImage, CrashesTo}
 use Rattle.world_devices.specs.Doing.{DeviceRestarts, IsAhead, Settles, SettlesFrom}
 use Rattle.world_devices.specs.Doing.{load_calls}
-use Rattle.world_devices.specs.Keeping.{Journal, KeepsOn, LeavesSome, StandsForSome}
+use Rattle.world_devices.specs.Keeping.{KeepsOn, LeavesSome, StandsForSome}
 use Rattle.world_devices.specs.Keeping.{WentOn}
-use Rattle.world_devices.specs.Linking.{IsUnlinked, number_of}
+use Rattle.world_devices.specs.Linking.{IsUnlinked, count_of_links}
 use Rattle.world_devices.specs.Running.{HoldsAfterCrash, WentHearing}
 use Rattle.world_devices.specs.declared.stop.StepFault.{StepFault}
 use Rattle.world_devices.specs.declared.stop.StepFault.TheVariants as fault
@@ -349,7 +348,7 @@ err_only P Q (Ok a) is = absurd is
 err_only P Q (Err e) is = is
 
 -- a device without links runs
-pub node_unlinked : (node : Option NodeValue) → number_of node ≡ Some 0
+pub node_unlinked : (node : Option NodeValue) → count_of_links node ≡ Some 0
     → (n : NodeValue) × (node ≡ Some n)
 node_unlinked None is = cc
 node_unlinked (Some n) is = (n, refl)

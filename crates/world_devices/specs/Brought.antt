@@ -22,8 +22,8 @@ pub record IsSilent (host : MemHostValue) : Type 0 where
   pub plans : (link : ℕ) → plans_of host.scripts link ≡ []
 
 -- the bytes that were sent on a link
-abbrev pub sent_by : MemHostValue → ℕ → List ℕ
-sent_by host link = sent_at (host_told host).links.told link
+abbrev pub sent_by_host : MemHostValue → ℕ → List ℕ
+sent_by_host host link = sent_at (host_told host).links.told link
 
 -- the bytes of an answer
 abbrev pub bytes_of : Answer → List ℕ

@@ -19,7 +19,7 @@ use Rattle.file_standing.specs.Standing.{stands}
 use Rattle.sync_rules.specs.declared.entries.Entry.{Entry}
 use Rattle.sync_rules.specs.declared.entries.Entry.TheVariants as entry
 use Rattle.sync_rules.specs.declared.entries.Session.{Session}
-use Rattle.sync_rules.specs.Facts.{after_all, facts}
+use Rattle.sync_rules.specs.Facts.{Journal, after_all, facts}
 use Rattle.sync_rules.specs.Hearing.{SettlesJournal}
 use Rattle.sync_rules.specs.Legal.{AllSettling}
 use Rattle.sync_rules.specs.Steps.{IsSettled}
@@ -38,7 +38,7 @@ use Rattle.sync_node.specs.Output.{output, sent_on}
 use Rattle.sync_node.specs.Plans.{session_of}
 use Rattle.sync_node.specs.declared.node.Plan.{Plan}
 use Rattle.world_devices.specs.Devices.{DeviceValue, HostGoesOn, IsAnew}
-use Rattle.world_devices.specs.Keeping.{AfterCrash, Journal, LeavesSome, StandsForSome}
+use Rattle.world_devices.specs.Keeping.{AfterCrash, LeavesSome, StandsForSome}
 use Rattle.world_devices.specs.Linking.{IsUnlinked}
 use Rattle.world_devices.specs.Running.{HoldsAfterCrash}
 use Rattle.world_devices.specs.declared.stop.Ran.{Ran}

@@ -6,8 +6,7 @@ use Rattle.outside.specs.Runs.{answers_at}
 use Rattle.client_basic.specs.Bodies.{bundle_meaning}
 use Rattle.entry_codec.specs.Standing.{journal}
 use Rattle.file_standing.specs.Standing.{stands}
-use Rattle.sync_rules.specs.declared.entries.Entry.{Entry}
-use Rattle.sync_rules.specs.Facts.{facts}
+use Rattle.sync_rules.specs.Facts.{Journal, facts}
 use Rattle.sync_rules.specs.Legal.{Legal}
 use Rattle.sync_course.specs.Acts.{Act, batches_in, sends_on}
 use Rattle.sync_course.specs.Free.{Free, Rests}
@@ -17,9 +16,6 @@ use Rattle.sync_node.specs.Courses.{AllRead, FitsWith, links_from}
 use Rattle.sync_node.specs.Node.{NodeValue}
 use Rattle.sync_node.specs.Output.{heard_on, sent_on}
 use Rattle.world_laws.specs.Worlds.{HasNoBrief}
-
-abbrev pub Journal : Type 0
-Journal = List (List Entry)
 
 -- ---- what a crash leaves
 

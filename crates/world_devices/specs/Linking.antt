@@ -10,15 +10,14 @@ use Rattle.entry_codec.specs.Spelling.{IsEntry}
 use Rattle.sync_rules.specs.declared.entries.Entry.TheVariants as entry
 use Rattle.sync_course.specs.declared.ends.LinkEnd.{LinkEnd}
 use Rattle.sync_course.specs.Links.{is_going, is_sent_to}
-use Rattle.sync_rules.specs.Facts.{facts, session_at}
+use Rattle.sync_rules.specs.Facts.{Journal, facts, session_at}
 use Rattle.sync_rules.specs.Legal.{Legal}
 use Rattle.sync_node.specs.declared.link.Link.{Link}
 use Rattle.sync_node.specs.Node.{NodeValue}
 use Rattle.sync_node.specs.Output.{output}
 use Rattle.world_laws.specs.Worlds.{HasSession}
-use Rattle.world_devices.specs.Brought.{brought_on, bytes_of, sent_by}
+use Rattle.world_devices.specs.Brought.{brought_on, bytes_of, sent_by_host}
 use Rattle.world_devices.specs.Devices.{DeviceValue, IsAnew}
-use Rattle.world_devices.specs.Keeping.{Journal}
 use Rattle.world_devices.specs.Running.{HoldsAfterCrash}
 use Rattle.world_devices.specs.declared.stop.Ran.{Ran}
 use Rattle.world_devices.specs.declared.stop.Ran.TheVariants as ran
@@ -30,8 +29,8 @@ use Rattle.world_devices.specs.declared.stop.StepFault.{StepFault}
 abbrev pub first_of : Option NodeValue → Option ℕ
 first_of node = option_map (λ (n : NodeValue). n.first) node
 
-abbrev pub number_of : Option NodeValue → Option ℕ
-number_of node = option_map (λ (n : NodeValue). length n.links) node
+abbrev pub count_of_links : Option NodeValue → Option ℕ
+count_of_links node = option_map (λ (n : NodeValue). length n.links) node
 
 -- how a link stands, where the device runs and has it
 abbrev pub end_at : DeviceValue → ℕ → Option LinkEnd
@@ -40,9 +39,9 @@ end_at d link =
     option_map (λ (l : Link). l.end) (slice_get n.links link)) d.node
 
 -- a link that is still asked, and one that was closed on this side
-abbrev pub asks : Option LinkEnd → Bool
-asks None = false
-asks (Some stands) = is_going stands
+abbrev pub is_link_asked : Option LinkEnd → Bool
+is_link_asked None = false
+is_link_asked (Some stands) = is_going stands
 
 abbrev pub is_shut : Option LinkEnd → Bool
 is_shut None = false
@@ -53,14 +52,14 @@ is_shut (Some stands) = not (is_sent_to stands)
 -- the device goes on with the links that it had, and each brings what it brought
 pub record KeepsLinks (old new : DeviceValue) : Type 0 where
   pub same_first : first_of new.node ≡ first_of old.node
-  pub same_number : number_of new.node ≡ number_of old.node
+  pub same_number : count_of_links new.node ≡ count_of_links old.node
   pub same_links : new.links ≡ old.links
   pub brings : (link : ℕ) → brought_on new.host link ≡ brought_on old.host link
 
 -- it has no links
 pub record IsUnlinked (d : DeviceValue) : Type 0 where
   pub none : d.links ≡ 0
-  pub unlinked : number_of d.node ≡ Some 0
+  pub unlinked : count_of_links d.node ≡ Some 0
 
 -- by what came of a call
 abbrev pub LinksBy : Result Ran StepFault → DeviceValue → DeviceValue → Type 0
@@ -77,7 +76,7 @@ LinksByTurn (Err fault) old new = Unit {0}
 -- a session with this contact began on one link more, behind the others, on which nothing is heard yet
 pub record AddsLink (contact session : ℕ) (old new : DeviceValue) : Type 0 where
   pub same_first : first_of new.node ≡ first_of old.node
-  pub number : number_of new.node ≡ Some (old.links + 1)
+  pub number : count_of_links new.node ≡ Some (old.links + 1)
   pub one_more : new.links ≡ old.links + 1
   pub numbered : option_map (λ (n : NodeValue). n.first + old.links) old.node ≡ Some session
   pub brings : (link : ℕ) → brought_on new.host link ≡ brought_on old.host link
@@ -113,7 +112,8 @@ pub record LinksStand (n : NodeValue) (d : DeviceValue) (j : Journal) : Type 0 w
   pub counted : d.links ≡ length n.links
   pub limit : n.store.limit ≡ MAX_JOURNAL
   pub known : (link : ℕ) (l : Link) → slice_get n.links link ≡ Some l → session_at (facts j).sessions (n.first + link) ≡ Some l.session
-  pub sent : (link : ℕ) (l : Link) → slice_get n.links link ≡ Some l → is_sent_to l.end ≡ true → sent_by d.host link ≡ output j (n.first + link)
+  pub sent : (link : ℕ) (l : Link) → slice_get n.links link ≡ Some l → is_sent_to l.end ≡ true
+      → sent_by_host d.host link ≡ output j (n.first + link)
   pub unused : (link : ℕ) → d.links ≤ link → brought_on d.host link ≡ []
 
 -- where a device runs, its files hold a journal, and all of that stands for whatever journal they hold

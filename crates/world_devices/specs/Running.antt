@@ -9,13 +9,13 @@ use Rattle.sync_ids.specs.declared.records.Record.{Record}
 use Rattle.client_basic.specs.Bodies.{bundle_meaning}
 use Rattle.entry_codec.specs.Standing.{journal}
 use Rattle.file_standing.specs.Standing.{stands}
-use Rattle.sync_rules.specs.Facts.{facts}
+use Rattle.sync_rules.specs.Facts.{Journal, facts}
 use Rattle.sync_rules.specs.Legal.{GoesOn}
 use Rattle.sync_node.specs.Node.{NodeValue}
 use Rattle.world_laws.specs.Worlds.{AllHeard, HasNoBrief}
 use Rattle.world_devices.specs.Brought.{brought_on}
 use Rattle.world_devices.specs.Devices.{DeviceValue}
-use Rattle.world_devices.specs.Keeping.{AfterCrash, Journal, KeepsOn}
+use Rattle.world_devices.specs.Keeping.{AfterCrash, KeepsOn}
 
 -- ---- the journal
 
@@ -34,13 +34,14 @@ pub record ReadsAsJournal (j : Journal) (host : MemHostValue) : Type 0 where
 abbrev pub is_session_of : NodeValue → ℕ → Bool
 is_session_of n session = nat_le n.first session && nat_lt session (n.first + length n.links)
 
-abbrev pub records_of : Option NodeValue → MemHostValue → ℕ → List Record
-records_of None host session = []
-records_of (Some n) host session = cond (is_session_of n session) (records (brought_on host (session - n.first))) []
+abbrev pub records_heard : Option NodeValue → MemHostValue → ℕ → List Record
+records_heard None host session = []
+records_heard (Some n) host session =
+    cond (is_session_of n session) (records (brought_on host (session - n.first))) []
 
 -- the records that a session of a device may take now: those that its link brings
 abbrev pub records_for : DeviceValue → ℕ → List Record
-records_for d session = records_of d.node d.host session
+records_for d session = records_heard d.node d.host session
 
 -- ---- what a crash may leave
 

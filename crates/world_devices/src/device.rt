@@ -5,18 +5,19 @@ ghost use Rattle.std.specs.Prelude.{None, OnErr, OnOk, option_copied, option_map
 ghost use Rattle.outside.specs.HostTold.{host_told};
 ghost use Rattle.sync_rules.specs.Legal.{suits_nonce};
 ghost use Rattle.sync_rules.specs.declared.entries.Entry.TheVariants as entry_kind;
+ghost use Rattle.sync_rules.specs.Facts.{Journal};
 ghost use Rattle.world_devices.specs.Devices.{IsAnew, IsReadyStore};
 ghost use Rattle.world_devices.specs.Devices.{MayAddEntry, links_made};
-ghost use Rattle.world_devices.specs.Keeping.{Journal, StandsLegal};
+ghost use Rattle.world_devices.specs.Keeping.{StandsLegal};
 ghost use Rattle.world_devices.specs.Linking.{DeviceLinksStand, IsNewDevice, IsUnlinked};
 ghost use Rattle.world_devices.specs.Linking.{new_journal};
 ghost use Rattle.world_devices.specs.Linking.{WhenDone};
 ghost use Rattle.world_devices.specs.Linking.{KeepsLinks, LinksBy, LinksByAttach, LinksByPlan};
-ghost use Rattle.world_devices.specs.Linking.{LinksByTurn, asks, end_at, is_shut};
+ghost use Rattle.world_devices.specs.Linking.{LinksByTurn, is_link_asked, end_at, is_shut};
 ghost use Rattle.world_devices.specs.Refusals.{IsNotRefused, RefusedBy, refuses_group};
 ghost use Rattle.world_devices.specs.Refusals.{refuses_level, refuses_link};
 ghost use Rattle.world_devices.specs.Refusals.{refuses_message};
-ghost use Rattle.world_devices.specs.Brought.{IsSilent, sent_by};
+ghost use Rattle.world_devices.specs.Brought.{IsSilent, sent_by_host};
 ghost use Rattle.world_devices.specs.Running.{DeviceRuns, HoldsAfterCrash, IsStill};
 ghost use Rattle.world_devices.specs.Doing.{DeviceAddsEntry, DeviceBeginsSession, FallsAtStop, ComesOf, CrashesTo};
 ghost use Rattle.world_devices.specs.Doing.{IsAhead, KeepsOwn, load_calls};
@@ -454,7 +455,7 @@ impl Device {
 
     /// Whether a link is still asked.
     pub fn is_asked(&self, link: u8) -> bool
-        ensures { result ≡ asks (end_at self.now link) }
+        ensures { result ≡ is_link_asked (end_at self.now link) }
     {
         match &self.node {
             Some(node) if link < self.links => node.ending(link) == LinkEnd::Going,
@@ -490,7 +491,7 @@ impl Device {
 
     /// The bytes that were sent on a link since the device was started.
     pub fn sent(&self, link: u8) -> &[u8]
-        ensures { result.now ≡ sent_by self.now.host link }
+        ensures { result.now ≡ sent_by_host self.now.host link }
     {
         self.host.sent(link)
     }

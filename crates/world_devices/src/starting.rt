@@ -8,9 +8,10 @@ ghost use Rattle.world_devices.specs.Devices.{IsAnew, IsStarted, LeavesDisk, lin
 ghost use Rattle.world_devices.specs.Brought.{IsSilent};
 ghost use Rattle.world_devices.specs.Cited.{DeviceLaws};
 ghost use Rattle.world_devices.specs.Doing.{Settles, SettlesFrom, load_calls};
-ghost use Rattle.world_devices.specs.Keeping.{AreLinksQuiet, Journal};
+ghost use Rattle.world_devices.specs.Keeping.{AreLinksQuiet};
 ghost use Rattle.world_devices.specs.Running.{HoldsAfterCrash};
 ghost use Rattle.world_devices.specs.declared.starting.StartFault.TheVariants as start_fault;
+ghost use Rattle.sync_rules.specs.Facts.{Journal};
 
 use client_basic::Bundle;
 use entry_codec::laws::standing_is_legal;

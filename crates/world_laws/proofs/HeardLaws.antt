@@ -25,8 +25,8 @@ use Rattle.sync_rules.specs.Meeting.{AllMeet, MeetsNoStep}
 use Rattle.sync_rules.specs.PeerLaws.{is_shown_seen, is_with}
 use Rattle.sync_rules.proofs.RowLaws.{among-firsts, seen_step}
 use Rattle.sync_rules.specs.Sessions.{is_remembered, is_welcome, one_if, room_after, taken, taken_acks, taken_message, taken_message_of, taken_offer, taken_offers, taken_requests}
+use Rattle.sync_rules.specs.EntryTests.{IsSettlingEntry}
 use Rattle.sync_rules.proofs.StartLaws.{stays_closed_all}
-use Rattle.sync_rules.proofs.StepLaws.{IsSettlingEntry}
 use Rattle.world_laws.specs.Worlds.{AllHeard, HasNoBrief, IsHeard, begins_no_brief, names}
 use Rattle.world_laws.proofs.PlainLaws.{batch_plain}
 
@@ -117,7 +117,8 @@ step_says heard _ k = tt
 not_opening : (f : Facts) → is_opening f.start ≡ false → f.start ≡ start.Opening → ⊥
 not_opening f closed opening = false≢true (sym closed ∙ ap is_opening opening)
 
-stands_says : (heard : ℕ → List Record) (clients : Meaning) (f : Facts) → is_opening f.start ≡ false → (e : Entry)
+stands_says : (heard : ℕ → List Record) (clients : Meaning) (f : Facts) → is_opening f.start ≡ false
+    → (e : Entry)
     → MayStandAlone clients f e → SaysHeard heard e
 stands_says heard clients f closed (entry.Contact c) may = tt
 stands_says heard clients f closed (entry.Group def) may = tt
@@ -141,7 +142,8 @@ batch_says heard clients f b closed a h =
         tt,
         subst (AllByRecursion (SaysHeard heard)) (sym h.2) (record_says heard f s h.0 h.1),
       );
-      steps = λ e es step is h. settling_each (SaysHeard heard) (step_says heard) clients f (e ∷ es) is.2;
+      steps = λ e es step is h. settling_each (SaysHeard heard) (step_says heard) clients f
+          (e ∷ es) is.2;
       brief = λ n empty h. (tt, tt);
       rows = λ e es row is h. absurd (not_opening f closed is.opening);
     }) b a h

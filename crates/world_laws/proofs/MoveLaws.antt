@@ -3,11 +3,15 @@ use Rattle.std.proofs.Common.{ℕ, zero, suc, Bool, true, false, ◌⊎◌, List
 use Rattle.sync_ids.specs.declared.records.Record.{Record}
 use Rattle.sync_rules.specs.Clients.{Meaning}
 use Rattle.sync_rules.specs.Lists.{In}
+use Rattle.sync_rules.specs.Facts.{Journal}
 use Rattle.sync_rules.proofs.Elements.{In-append_cases}
-use Rattle.world_laws.specs.Worlds.{End, IsStep, Journal, WorldLink, Way, WayRuns, WaysRun, World, journal_at, link_in, way_in, way_of}
-use Rattle.world_laws.specs.Moves.{Carry, Cut, Lose, Move, Repeat, Swap, first_of, flight_after, given_by, link_after, links_after, other_after, receiver_after, sender_after, world_after}
+use Rattle.world_laws.specs.Worlds.{End, IsStep, WorldLink, Way, WayRuns, WaysRun, World}
+use Rattle.world_laws.specs.Worlds.{journal_at, link_in, way_in, way_of}
+use Rattle.world_laws.specs.Moves.{Carry, Cut, Lose, Move, Repeat, Swap, first_of, flight_then}
+use Rattle.world_laws.specs.Moves.{records_given, link_after_move, links_after_move, other_after}
+use Rattle.world_laws.specs.Moves.{receiver_after, sender_after, world_after}
 
-flight_before : (move : Move) (rs : List Record) (r : Record) → In r (flight_after move rs) → In r rs
+flight_before : (move : Move) (rs : List Record) (r : Record) → In r (flight_then move rs) → In r rs
 flight_before Carry [] r inside = inside
 flight_before Carry (x ∷ rs) r inside = inr inside
 flight_before Lose [] r inside = inside
@@ -23,16 +27,18 @@ first_there : (rs : List Record) (r : Record) → In r (first_of rs) → In r rs
 first_there [] r inside = inside
 first_there (x ∷ rs) r inside = elim inside [ inl e ↦ inl e | inr none ↦ absurd none ]
 
-given_there : (move : Move) (rs : List Record) (r : Record) → In r (given_by move rs) → In r rs
+given_there : (move : Move) (rs : List Record) (r : Record) → In r (records_given move rs) → In r rs
 given_there Carry rs r inside = first_there rs r inside
 given_there Lose rs r inside = absurd inside
 given_there Repeat rs r inside = first_there rs r inside
 given_there Swap rs r inside = absurd inside
 given_there Cut rs r inside = absurd inside
 
-given_before : (move : Move) (given rs : List Record) (r : Record) → In r (given ++ given_by move rs) → In r given ⊎ In r rs
+given_before : (move : Move) (given rs : List Record) (r : Record)
+    → In r (given ++ records_given move rs) → In r given ⊎ In r rs
 given_before move given rs r inside =
-    elim (In-append_cases r given (given_by move rs) inside) [ inl was ↦ inl was | inr new ↦ inr (given_there move rs r new) ]
+    elim (In-append_cases r given (records_given move rs) inside)
+    [ inl was ↦ inl was | inr new ↦ inr (given_there move rs r new) ]
 
 -- the way of a move
 sends_on : (d : ℕ) (j : Journal) (move : Move) (s r : End)
@@ -79,7 +85,8 @@ sends_back : (d : ℕ) (j : Journal) (move : Move) (s r : End)
 sends_back d j Cut s r = record { sender = refl; receiver = refl; session = inl refl; flight = λ x inside. absurd inside; given = λ x inside. inl inside }
 sends_back d j _ s r = record { sender = refl; receiver = refl; session = inl refl; flight = λ x inside. inl inside; given = λ x inside. inl inside }
 
-way_moves : (d : ℕ) (j : Journal) (move : Move) (near side : Bool) (l : WorldLink) → WayRuns d j (way_of side l) (way_of side (link_after move near l))
+way_moves : (d : ℕ) (j : Journal) (move : Move) (near side : Bool) (l : WorldLink)
+    → WayRuns d j (way_of side l) (way_of side (link_after_move move near l))
 way_moves d j move true true l = sends_on d j move l.near l.far
 way_moves d j move true false l = sends_back d j move l.near l.far
 way_moves d j move false true l = sends_back d j move l.far l.near
@@ -93,7 +100,8 @@ ways_stay d j side None = tt
 ways_stay d j side (Some l) = way_stays d j (way_of side l)
 
 ways_move : (d : ℕ) (j : Journal) (move : Move) (near : Bool) (i : ℕ) (links : List WorldLink) (k : ℕ) (side : Bool)
-    → WaysRun d j (way_in side (link_in links k)) (way_in side (link_in (links_after move near i links) k))
+    → WaysRun d j (way_in side (link_in links k))
+    (way_in side (link_in (links_after_move move near i links) k))
 ways_move d j move near i [] k side = tt
 ways_move d j move near zero (l ∷ ls) zero side = way_moves d j move near side l
 ways_move d j move near zero (l ∷ ls) (suc k) side = ways_stay d j side (link_in ls k)

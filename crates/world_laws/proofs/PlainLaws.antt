@@ -1,5 +1,6 @@
 -- A journal of which no batch begins a brief account has none of an account's own kinds of entry.
-use Rattle.std.proofs.Common.{◌≡◌, ℕ, Bool, true, false, ◌&&◌, List, [], ◌∷◌, ◌++◌, length, refl, sym, ◌∙◌, ap}
+use Rattle.std.proofs.Common.{◌≡◌, true, false, ◌&&◌, List, [], ◌∷◌, ◌++◌, length, refl, sym, ◌∙◌}
+use Rattle.std.proofs.Common.{ap}
 use Rattle.std.specs.List.{AllByRecursion, list_all}
 use Rattle.std.proofs.lemmas.Bool.{and_parts, false≢true}
 use Rattle.std.proofs.lemmas.List.Folds.{list_all-append}
@@ -8,16 +9,16 @@ use Rattle.sync_rules.specs.declared.entries.Entry.TheVariants as entry
 use Rattle.sync_rules.specs.Allows.{is_opening}
 use Rattle.sync_rules.specs.Clients.{Meaning}
 use Rattle.sync_rules.specs.CountLaws.{AllBegunListed, is_no_brief}
-use Rattle.sync_rules.specs.Facts.{Facts, after, after_all, entries_of, facts, nothing}
+use Rattle.sync_rules.specs.Facts.{Facts, Journal, after_all, entries_of, facts, nothing}
 use Rattle.sync_rules.specs.Legal.{Allowed, GoesOn, Legal, MayStandAlone, SuitsRows}
+use Rattle.sync_rules.specs.EntryTests.{IsSettlingEntry}
 use Rattle.sync_rules.proofs.BatchEntries.{passes_all, record_each, rows_each, settling_each}
 use Rattle.sync_rules.proofs.BatchKinds.{by_kind}
 use Rattle.sync_rules.proofs.BegunLaws.{entries_keep}
 use Rattle.sync_rules.proofs.Kept.{after_batches-is}
 use Rattle.sync_rules.proofs.StartLaws.{facts_closed}
 use Rattle.sync_rules.proofs.StepKinds.{is_of_record}
-use Rattle.sync_rules.proofs.StepLaws.{IsSettlingEntry}
-use Rattle.world_laws.specs.Worlds.{HasNoBrief, Journal, begins_no_brief}
+use Rattle.world_laws.specs.Worlds.{HasNoBrief, begins_no_brief}
 
 -- ---- the entries of a batch
 

@@ -17,19 +17,21 @@ use Rattle.sync_rules.proofs.Continuing.{continues_all}
 use Rattle.sync_rules.proofs.DueLaws.{due_names_distinct}
 use Rattle.sync_rules.specs.Lists.{In, is_among}
 use Rattle.sync_rules.proofs.Elements.{In-append_cases, In-append_left, same_id-is}
-use Rattle.sync_rules.specs.Facts.{ExtendsJournal, Facts, Held, Id, after, after_all, contact_in, entries_of, facts, held_at, is_held, nothing, session_at}
+use Rattle.sync_rules.specs.Facts.{ExtendsJournal, Facts, Held, Id, Journal, after, after_all}
+use Rattle.sync_rules.specs.Facts.{contact_in, entries_of, facts, held_at, is_held, nothing}
+use Rattle.sync_rules.specs.Facts.{session_at}
 use Rattle.sync_rules.specs.Growth.{output_by, output_in, output_of}
 use Rattle.sync_rules.proofs.Kept.{after_batches-is, sound_after}
 use Rattle.sync_rules.specs.Legal.{Legal}
 use Rattle.sync_rules.specs.Meeting.{AllMeet, MeetsNoStep}
 use Rattle.sync_rules.proofs.MeetingLaws.{legal_meets, meets_fits}
 use Rattle.sync_rules.specs.Naming.{NamesDistinct}
-use Rattle.sync_rules.specs.Output.{first_records, message_record, nonce_record, records_of, sent}
+use Rattle.sync_rules.specs.Output.{first_records, message_record, nonce_record, out_records, sent}
 use Rattle.sync_rules.proofs.Outputs.{FoundIn}
 use Rattle.sync_rules.proofs.OutputLaws.{sent_append, sent_is}
 use Rattle.sync_rules.proofs.Runs.{sound_nothing}
 use Rattle.sync_rules.proofs.Sound.{SoundFacts}
-use Rattle.world_laws.specs.Worlds.{IsSent, Journal, names}
+use Rattle.world_laws.specs.Worlds.{IsSent, names}
 
 -- a message that is held under its id
 record IsHeldAs (held : List Held) (m : MessageValue) : Type 0 where
@@ -77,7 +79,8 @@ message_names f h id (Some x) at r inside =
 alone : (held : List Held) (x r : Record) → NamesHeld held x → In r (x ∷ []) → NamesHeld held r
 alone held x r n inside = elim inside [ inl e ↦ subst (NamesHeld held) (sym e) n | inr none ↦ absurd none ]
 
-output_names : (f : Facts) → HasHeld f → (contact : ℕ) (what : Out) → NamesDistinct f contact what → (r : Record) → In r (records_of f.held what) → NamesHeld f.held r
+output_names : (f : Facts) → HasHeld f → (contact : ℕ) (what : Out) → NamesDistinct f contact what
+    → (r : Record) → In r (out_records f.held what) → NamesHeld f.held r
 output_names f h contact (out.Acks ids) n r inside = alone f.held (record_kind.Ack ids) r n.1 inside
 output_names f h contact (out.Requests ids) n r inside = alone f.held (record_kind.Request ids) r tt inside
 output_names f h contact (out.Offers ids) n r inside = alone f.held (record_kind.Offer ids) r n.1 inside
@@ -91,7 +94,7 @@ entry_names : (clients : Meaning) (f : Facts) (n : ℕ) (e : Entry) → IsConsis
 entry_names clients f n (entry.Session s) c m r inside = first_names f.held s r (in_cond (nat_eq s.number n) (first_records s) r inside)
 entry_names clients f n (entry.Out s now what) c m r inside =
     output_names f c.held (contact_in (session_at f.sessions s)) what (due_names_distinct f c.held c.wanted clients (session_at f.sessions s) now what m.1) r
-    (in_cond (nat_eq s n) (records_of f.held what) r inside)
+    (in_cond (nat_eq s n) (out_records f.held what) r inside)
 entry_names clients f n _ c m r inside = absurd inside
 
 -- ---- a journal

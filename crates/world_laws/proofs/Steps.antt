@@ -16,7 +16,9 @@ use Rattle.sync_rules.specs.Consistency.{HasRows}
 use Rattle.sync_rules.proofs.ConsistencyLaws.{legal_consistent}
 use Rattle.sync_rules.proofs.Continuing.{continues_journals, facts-append, legal-append}
 use Rattle.sync_rules.specs.Lists.{In, is_among}
-use Rattle.sync_rules.specs.Facts.{ExtendsJournal, Facts, Held, Id, Row, after_all, entries_of, facts, held_at, is_held, is_level_shared, level_at, row_at, row_or, session_at}
+use Rattle.sync_rules.specs.Facts.{ExtendsJournal, Facts, Held, Id, Journal, Row, after_all}
+use Rattle.sync_rules.specs.Facts.{entries_of, facts, held_at, is_held, is_level_shared, level_at}
+use Rattle.sync_rules.specs.Facts.{row_at, row_or, session_at}
 use Rattle.sync_rules.proofs.Kept.{after_batches-is}
 use Rattle.sync_rules.specs.Laws.{IsAuthored}
 use Rattle.sync_rules.specs.Legal.{Legal}
@@ -26,7 +28,10 @@ use Rattle.sync_rules.specs.Output.{sent}
 use Rattle.sync_rules.specs.Sessions.{is_author, shared_ids}
 use Rattle.sync_rules.proofs.Sound.{held_at-In, held_at-id}
 use Rattle.world_laws.specs.Theorem.{HeldIsWritten, IsNewWorld, IsSoundWorld, IsWritten, RestIsDone, SeenIsHeld}
-use Rattle.world_laws.specs.Worlds.{AreSteps, HasNoBrief, HasSession, IsSent, IsStep, Journal, WorldLink, Linked, RunsDevice, WasGiven, Way, WayRuns, WaysRun, World, contact_for, journal_at, last_of, link_in, new_end, way_at, way_in, way_of}
+use Rattle.world_laws.specs.Worlds.{AreSteps, HasNoBrief, HasSession, IsSent, IsStep, WorldLink}
+use Rattle.world_laws.specs.Worlds.{Linked, RunsDevice, WasGiven, Way, WayRuns, WaysRun, World}
+use Rattle.world_laws.specs.Worlds.{contact_for, journal_at, last_of, link_in, unused_end, way_at}
+use Rattle.world_laws.specs.Worlds.{way_in, way_of}
 use Rattle.world_laws.proofs.SentNames.{SentHeld, sent_message, sent_named, sent_stays}
 use Rattle.world_laws.proofs.HeardLaws.{Before, Heard, HeldFrom, Written, batches_say, held_from, seen_from}
 use Rattle.world_laws.proofs.PlainLaws.{plain_append, plain_closed}
@@ -326,7 +331,7 @@ link_cases (l ∷ ls) x (suc i) = link_cases ls x i
 
 module _ (clients : Meaning) (d e : ℕ) (two : d ≡ e → ⊥) (old : World) (s : IsSoundWorld clients old) where
   abbrev new_link : WorldLink
-  new_link = record { near = new_end d; far = new_end e }
+  new_link = record { near = unused_end d; far = unused_end e }
 
   abbrev linked : World
   linked = record { journals = old.journals; links = old.links ++ new_link ∷ [] }

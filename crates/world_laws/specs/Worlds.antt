@@ -10,13 +10,10 @@ use Rattle.sync_rules.specs.declared.entries.Entry.TheVariants as entry
 use Rattle.sync_rules.specs.declared.entries.Session.{Session}
 use Rattle.sync_rules.specs.Clients.{Meaning}
 use Rattle.sync_rules.specs.Lists.{In, same_id, is_among}
-use Rattle.sync_rules.specs.Facts.{Facts, Id, after_all, facts, session_at}
+use Rattle.sync_rules.specs.Facts.{Facts, Id, Journal, after_all, facts, session_at}
 use Rattle.sync_rules.specs.Legal.{GoesOn}
 use Rattle.sync_rules.specs.Output.{sent}
 use Rattle.sync_rules.specs.Sessions.{taken}
-
-abbrev pub Journal : Type 0
-Journal = List (List Entry)
 
 -- no batch of a journal begins a brief account
 abbrev pub begins_no_brief : List Entry → Bool
@@ -165,14 +162,14 @@ pub record RunsDevice (clients : Meaning) (d : ℕ) (old new : World) : Type 0 w
   pub ways : (i : ℕ) (near : Bool) → WaysRun d (journal_at new d) (way_at old i near) (way_at new i near)
 
 -- an end of a link that is new
-abbrev pub new_end : ℕ → End
-new_end d = record { device = d; session = None; flight = []; given = [] }
+abbrev pub unused_end : ℕ → End
+unused_end d = record { device = d; session = None; flight = []; given = [] }
 
 -- two devices are linked: there is one more link, on which nothing was sent
 pub record Linked (d e : ℕ) (old new : World) : Type 0 where
   pub two : d ≡ e → ⊥
   pub journals : new.journals ≡ old.journals
-  pub links : new.links ≡ old.links ++ record { near = new_end d; far = new_end e } ∷ []
+  pub links : new.links ≡ old.links ++ record { near = unused_end d; far = unused_end e } ∷ []
 
 abbrev pub IsStep : Meaning → World → World → Type 0
 IsStep clients old new = ((d : ℕ) × RunsDevice clients d old new) ⊎ ((d : ℕ) × (e : ℕ) × Linked d e old new)

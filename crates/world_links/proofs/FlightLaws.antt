@@ -1,9 +1,12 @@
 -- Records cut off the front of some bytes, and all records in flight that arrive.
-use Rattle.std.proofs.Common.{◌≡◌, ℕ, zero, suc, ◌+◌, ◌-◌, ◌<◌, ◌≤◌, List, [], ◌∷◌, ◌++◌, length, take, drop, refl, sym, ap, ◌∙◌, arith, append_assoc, length-drop, Option, Some, None}
+use Rattle.std.proofs.Common.{◌≡◌, ℕ, zero, suc, ◌+◌, ◌-◌, ◌≤◌, List, [], ◌∷◌, ◌++◌, length, take}
+use Rattle.std.proofs.Common.{drop, refl, sym, ap, ◌∙◌, arith, append_assoc, length-drop, Some}
+use Rattle.std.proofs.Common.{None}
 use Rattle.record_grammar.specs.declared.front.Front.{Front}
 use Rattle.record_grammar.specs.declared.front.Front.TheVariants as front
 use Rattle.record_grammar.specs.Reading.{front_in}
-use Rattle.world_links.specs.Flights.{first_len, first_records, in_front, len_of, len_or, records_in}
+use Rattle.world_links.specs.Flights.{first_len, first_n_records, in_front, len_of, len_or}
+use Rattle.world_links.specs.Flights.{records_in}
 
 -- ---- cutting
 
@@ -20,19 +23,24 @@ none_of : first_len [] ≡ None
 unfolding first_len front_in
 none_of = refl
 
-none_left : (m : ℕ) (bytes : List ℕ) → length bytes ≤ 0 → first_records m bytes ≡ []
-unfolding first_records
+none_left : (m : ℕ) (bytes : List ℕ) → length bytes ≤ 0 → first_n_records m bytes ≡ []
+unfolding first_n_records
 none_left zero bytes short = refl
-none_left (suc m) [] short = ap (λ o. in_front [] o (first_records m (drop (len_or o) []))) none_of
+none_left (suc m) [] short = ap
+    (λ o. in_front [] o (first_n_records m (drop (len_or o) []))) none_of
 none_left (suc m) (b ∷ bytes) short = absurd (omega arith)
 
 -- more room than bytes changes nothing
-agree : (n m : ℕ) (bytes : List ℕ) → length bytes ≤ n → length bytes ≤ m → first_records n bytes ≡ first_records m bytes
-unfolding first_records
+agree : (n m : ℕ) (bytes : List ℕ) → length bytes ≤ n → length bytes ≤ m
+    → first_n_records n bytes ≡ first_n_records m bytes
+unfolding first_n_records
 agree zero m bytes a b = sym (none_left m bytes a)
 agree (suc n) zero bytes a b = none_left (suc n) bytes b
 agree (suc n) (suc m) bytes a b =
-    elim (first_len bytes) as (λ o. first_len bytes ≡ o → in_front bytes o (first_records n (drop (len_or o) bytes)) ≡ in_front bytes o (first_records m (drop (len_or o) bytes))) [
+    elim (first_len bytes) as
+    (λ o. first_len bytes ≡ o
+    → in_front bytes o (first_n_records n (drop (len_or o) bytes))
+    ≡ in_front bytes o (first_n_records m (drop (len_or o) bytes))) [
       | None ↦ λ e. refl
       | Some len ↦ λ e.
           let some = long bytes len e in
@@ -40,14 +48,15 @@ agree (suc n) (suc m) bytes a b =
           ap (λ l. take len bytes ∷ l) (agree n m (drop len bytes) (omega arith) (omega arith))
     ] refl
 
-by_first : (n : ℕ) (bytes : List ℕ) (len : ℕ) → first_len bytes ≡ Some len → first_records (suc n) bytes ≡ take len bytes ∷ first_records n (drop len bytes)
-unfolding first_records
-by_first n bytes len is = ap (λ o. in_front bytes o (first_records n (drop (len_or o) bytes))) is
+by_first : (n : ℕ) (bytes : List ℕ) (len : ℕ) → first_len bytes ≡ Some len
+    → first_n_records (suc n) bytes ≡ take len bytes ∷ first_n_records n (drop len bytes)
+unfolding first_n_records
+by_first n bytes len is = ap (λ o. in_front bytes o (first_n_records n (drop (len_or o) bytes))) is
 
-by_none : (n : ℕ) (bytes : List ℕ) → first_len bytes ≡ None → first_records n bytes ≡ []
-unfolding first_records
+by_none : (n : ℕ) (bytes : List ℕ) → first_len bytes ≡ None → first_n_records n bytes ≡ []
+unfolding first_n_records
 by_none zero bytes is = refl
-by_none (suc n) bytes is = ap (λ o. in_front bytes o (first_records n (drop (len_or o) bytes))) is
+by_none (suc n) bytes is = ap (λ o. in_front bytes o (first_n_records n (drop (len_or o) bytes))) is
 
 -- the record at the front, and those behind it
 pub records_next : (bytes : List ℕ) (len : ℕ) → first_len bytes ≡ Some len → len ≤ length bytes → records_in bytes ≡ take len bytes ∷ records_in (drop len bytes)

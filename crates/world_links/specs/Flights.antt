@@ -24,10 +24,11 @@ len_or None = 0
 len_or (Some len) = len
 
 -- the first n records, or as many as there are
-unfoldable pub first_records : ℕ → List ℕ → List (List ℕ)
-first_records zero bytes = []
-first_records (suc n) bytes = in_front bytes (first_len bytes) (first_records n (drop (len_or (first_len bytes)) bytes))
+unfoldable pub first_n_records : ℕ → List ℕ → List (List ℕ)
+first_n_records zero bytes = []
+first_n_records (suc n) bytes =
+    in_front bytes (first_len bytes) (first_n_records n (drop (len_or (first_len bytes)) bytes))
 
 -- the records that stand whole at the front, one behind the other
 unfoldable pub records_in : List ℕ → List (List ℕ)
-records_in bytes = first_records (length bytes) bytes
+records_in bytes = first_n_records (length bytes) bytes

@@ -1,11 +1,11 @@
 -- A link and the moves of what is in flight on it.
-use Rattle.std.specs.Prelude.{ℕ, ◌==◌, Bool, true, false, if◌then◌else◌, List, [], ◌∷◌, ◌++◌, Option, Some, None}
+use Rattle.std.specs.Prelude.{ℕ, ◌==◌, true, if◌then◌else◌, List, [], ◌++◌, Option, Some, None}
 use Rattle.std.specs.List.{flat_map}
 use Rattle.world_links.specs.declared.moves.Move.{Move}
 use Rattle.world_links.specs.declared.moves.Side.{Side}
 use Rattle.world_links.specs.declared.moves.Side.TheVariants as side
 use Rattle.world_links.specs.declared.link.Link.{Link}
-use Rattle.world_links.specs.Ends.{EndValue, new_end}
+use Rattle.world_links.specs.Ends.{EndValue}
 use Rattle.world_links.specs.Moves.{flight_after, given_by}
 
 -- records, one behind the other
@@ -13,9 +13,9 @@ abbrev pub joined : List (List ℕ) → List ℕ
 joined records = flat_map (λ r. r) records
 
 -- the end of a side, and a link by the end of that side and the other one
-abbrev pub end_of : Side → Link → EndValue
-end_of side.Near l = l.near
-end_of side.Far l = l.far
+abbrev pub side_end : Side → Link → EndValue
+side_end side.Near l = l.near
+side_end side.Far l = l.far
 
 abbrev pub with_ends : Side → EndValue → EndValue → Link → Link
 with_ends side.Near own other l = record l { near = own; far = other }
@@ -39,12 +39,13 @@ given_too records e = record e { given = e.given ++ joined records }
 -- a link after a move of what is in flight from one side
 abbrev pub moved : Move → Side → Link → Link
 moved how from l =
-    with_ends from (with_flight (flight_after how (end_of from l).flight) (end_of from l))
-    (given_too (given_by how (end_of from l).flight) (end_of (other from) l)) l
+    with_ends from (with_flight (flight_after how (side_end from l).flight) (side_end from l))
+    (given_too (given_by how (side_end from l).flight) (side_end (other from) l)) l
 
 -- a link after all that is in flight from one side arrived
 abbrev pub all_carried : Side → Link → Link
-all_carried from l = with_ends from (with_flight [] (end_of from l)) (given_too (end_of from l).flight (end_of (other from) l)) l
+all_carried from l = with_ends from (with_flight [] (side_end from l))
+    (given_too (side_end from l).flight (side_end (other from) l)) l
 
 -- a link that is cut: what is in flight is dropped
 abbrev pub cut : Link → Link

@@ -1,7 +1,7 @@
 //! A link, and the moves of what is in flight on it.
 ghost use Rattle.std.specs.Prelude.{◌≡◌, false, IfOk, OnErr, OnOk, [], true};
 ghost use Rattle.world_links.specs.Ends.{new_end};
-ghost use Rattle.world_links.specs.Links.{all_carried, cut, end_of, given_too, left_by, moved};
+ghost use Rattle.world_links.specs.Links.{all_carried, cut, side_end, given_too, left_by, moved};
 ghost use Rattle.world_links.specs.Links.{side_of, with_flight};
 ghost use Rattle.world_links.specs.Moves.{flight_after, given_by, has_first, is_possible};
 
@@ -49,7 +49,7 @@ impl Link {
     /// there was not, all is as before, and so it is where memory was wanting.
     pub fn make(&mut self, how: Move, from: Side) -> Result<bool, AllocError>
         ensures possible { IfOk result
-            (λ done. done ≡ is_possible how (end_of from self.old).flight) }
+            (λ done. done ≡ is_possible how (side_end from self.old).flight) }
         ensures moved { OnOk result (self.new ≡ moved how from self.old) }
         ensures err { OnErr result (self.new ≡ self.old) }
     {
@@ -62,7 +62,7 @@ impl Link {
     /// All that is in flight from a side arrives at the other one. Answers whether that was
     /// anything. It fails only for want of memory.
     pub fn carry_all(&mut self, from: Side) -> Result<bool, AllocError>
-        ensures some { IfOk result (λ some. some ≡ has_first (end_of from self.old).flight) }
+        ensures some { IfOk result (λ some. some ≡ has_first (side_end from self.old).flight) }
         ensures carried { OnOk result (self.new ≡ all_carried from self.old) }
     {
         match from {

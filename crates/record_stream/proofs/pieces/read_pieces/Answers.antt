@@ -2,7 +2,7 @@ use Rattle.std.proofs.Common.{◌≡◌, ◌+◌, ◌<◌, ℕ, List, [], ◌∷
 use Rattle.std.specs.List.{flat_map}
 use Rattle.std.proofs.lemmas.List.{append-nil, take_all, take_more}
 use Rattle.std.proofs.lemmas.List.Concat.{flat_map-append}
-use Rattle.record_stream.specs.Reading.{fresh}
+use Rattle.record_stream.specs.Reading.{fresh_reader}
 use Rattle.record_stream.proofs.Hearing.{joined, whole}
 use Rattle.record_stream.proofs.pieces.read_pieces.Goals as goal
 
@@ -20,7 +20,9 @@ pieces-preserved c =
     let kept = hearing.hears c.pieces.keeper [] (sym (append-nil c.pieces.keeper.items.items)) in
     record {
       waits = c.in_ok-hear_piece.ensures.waits;
-      reads = rw (all, kept) (joined _ [] _ [] fresh c.pieces.reader c.hear_piece.new.reader c.pieces.keeper.items.items hearing.has c.pieces.invariant.reads hearing.reads);
+      reads = rw (all, kept)
+          (joined _ [] _ [] fresh_reader c.pieces.reader c.hear_piece.new.reader
+          c.pieces.keeper.items.items hearing.has c.pieces.invariant.reads hearing.reads);
     }
 
 pub returns-clause-items : goal.returns-clause-items

@@ -3,7 +3,7 @@ use Rattle.std.specs.Prelude.{is_some}
 use Rattle.sync_rules.specs.declared.entries.Entry.TheVariants as entry
 use Rattle.journal_state.specs.Whole.{StateValue}
 use Rattle.sync_rules.specs.Facts.{Id, group_at}
-use Rattle.store_commands.specs.Post.{message_of}
+use Rattle.store_commands.specs.Post.{posted_message}
 use Rattle.store_commands.proofs.Follow.{post_follows}
 use Rattle.store_commands.proofs.Passing.{posted_on}
 use Rattle.store_commands.proofs.Posts.{posted_entry, posted_fault, posted_none, posted_unknown}
@@ -70,19 +70,19 @@ returns-in_err-post g c =
 pub add_entry-requires-clause-follows : goal.add_entry-requires-clause-follows
 add_entry-requires-clause-follows g c =
     (post_follows (g.C.Clients.meaning c.args.clients.now) c.in_ok-store.store.state.facts
-    (message_of c.args.group c.args.timestamp c.in_ok-body.body.items)
+    (posted_message c.args.group c.args.timestamp c.in_ok-body.body.items)
     (entry.Author c.in_ok-post.post.message) c.in_ok-post.ensures.0).follows
 
 pub add_entry-requires-clause-kind : goal.add_entry-requires-clause-kind
 add_entry-requires-clause-kind g c =
     (post_follows (g.C.Clients.meaning c.args.clients.now) c.in_ok-store.store.state.facts
-    (message_of c.args.group c.args.timestamp c.in_ok-body.body.items)
+    (posted_message c.args.group c.args.timestamp c.in_ok-body.body.items)
     (entry.Author c.in_ok-post.post.message) c.in_ok-post.ensures.0).kind
 
 pub add_entry-requires-clause-plain : goal.add_entry-requires-clause-plain
 add_entry-requires-clause-plain g c =
     (post_follows (g.C.Clients.meaning c.args.clients.now) c.in_ok-store.store.state.facts
-    (message_of c.args.group c.args.timestamp c.in_ok-body.body.items)
+    (posted_message c.args.group c.args.timestamp c.in_ok-body.body.items)
     (entry.Author c.in_ok-post.post.message) c.in_ok-post.ensures.0).plain
 
 pub returns : goal.returns

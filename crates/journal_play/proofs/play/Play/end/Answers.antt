@@ -1,8 +1,8 @@
 -- The number of the next step is that of a held message.
 use Rattle.std.proofs.Common.{◌≡◌, ◌<◌, Some, length, ap, ◌∙◌, arith}
 use Rattle.std.specs.String.{string_bytes}
-use Rattle.message_graph.specs.Nodes.{next, after_step, step_number}
-use Rattle.journal_play.specs.Holding.{Holding}
+use Rattle.message_graph.specs.Nodes.{next_step, after_step, step_number}
+use Rattle.journal_play.specs.Holding.{HeldHeads}
 use Rattle.journal_play.specs.Playing.{Played}
 use Rattle.journal_play.proofs.Steps.{next_within}
 use Rattle.journal_play.proofs.Calls.{end_is}
@@ -11,7 +11,8 @@ use Rattle.journal_play.proofs.play.Play.end.Goals as goal
 pub head-head-requires : goal.head-head-requires
 head-head-requires c =
     let inside = c.self.inside in
-    let step : next inside.held.nodes ≡ Some c.args.step = ap (λ (p : Played). next p.nodes) c.self.view_is ∙ c.requires.next in
+    let step : next_step inside.held.nodes ≡ Some c.args.step =
+    ap (λ (p : Played). next_step p.nodes) c.self.view_is ∙ c.requires.next in
     let within : step_number c.args.step < length inside.held.nodes = next_within inside.held.nodes c.args.step step in
     let number : step_number c.args.step ≡ c.args.n = c.requires.number in
     omega (arith, within, number)
@@ -24,4 +25,5 @@ returns-clause-ended c = λ h at.
     c.apply.ensures c.in_ok-add_line.ensures at c.head-head.ensures
 
 pub returns-clause-done : goal.returns-clause-done
-returns-clause-done c = ap (λ (h : Holding). h.nodes) c.apply.ensures ∙ ap (λ (p : Played). after_step c.args.step p.nodes) c.self.view_is
+returns-clause-done c = ap (λ (h : HeldHeads). h.nodes) c.apply.ensures
+    ∙ ap (λ (p : Played). after_step c.args.step p.nodes) c.self.view_is

@@ -29,7 +29,8 @@ returns-in_err-reserve-clause-err c =
 pub apply-requires-clause-next : goal.apply-requires-clause-next
 apply-requires-clause-next c = deliver_node (parts c.self.inside) c.self.invariant.state c.args.self.now c.self.view_is c.args.n (c.requires.held, c.requires.next)
 
-node : (c : goal.After-make_ready) → nodes.next c.self.inside.graph.nodes ≡ Some (step.Deliver c.args.n)
+node : (c : goal.After-make_ready)
+    → nodes.next_step c.self.inside.graph.nodes ≡ Some (step.Deliver c.args.n)
 node c = deliver_node (parts c.self.inside) c.self.invariant.state c.args.self.now c.self.view_is c.args.n (c.requires.held, c.requires.next)
 
 ended : (c : goal.After-make_ready) → c.apply.new.self.nodes ≡ nodes.with_ending c.args.n ending.Delivered c.self.inside.graph.nodes

@@ -23,14 +23,17 @@ pub hold-number-requires-clause-new : goal.hold-number-requires-clause-new
 hold-number-requires-clause-new c =
     let new : held_at c.self.inside.messages.held (message_id_of c.args.message) ≡ None =
     ap (λ (v : StateValue). held_at v.facts.held (message_id_of c.args.message)) c.self.view_is ∙ c.requires.can.new in
-    ap (nodes.number_of c.self.inside.graph.nodes) (c.id.view_is ∙ c.requires.named)
+    ap (nodes.node_number c.self.inside.graph.nodes) (c.id.view_is ∙ c.requires.named)
     ∙ no_number c.self.inside.messages.held c.self.inside.graph.nodes c.self.invariant.state.named (message_id_of c.args.message) new
 
 new_id : (c : goal.After-hold) → held_at c.self.inside.messages.held (message_id_of c.args.message) ≡ None
 new_id c = ap (λ (v : StateValue). held_at v.facts.held (message_id_of c.args.message)) c.self.view_is ∙ c.requires.can.new
 
-known : (c : goal.After-hold) → levels.number_of c.self.inside.table.groups c.args.message.group ≡ Some c.unwrap-group.result
-known c = ap (levels.number_of c.self.inside.table.groups) (sym c.group.ensures) ∙ (sym c.group-2.ensures.number ∙ c.unwrap-group.ensures)
+known : (c : goal.After-hold)
+    → levels.group_number c.self.inside.table.groups c.args.message.group
+    ≡ Some c.unwrap-group.result
+known c = ap (levels.group_number c.self.inside.table.groups) (sym c.group.ensures)
+    ∙ (sym c.group-2.ensures.number ∙ c.unwrap-group.ensures)
 
 unwanted : (c : goal.After-hold) → UnwantsBelow c.self.inside.table.contacts c.self.inside.retry c.unwant_from_all.new.retry (message_id_of c.args.message)
 unwanted c =
@@ -40,10 +43,14 @@ unwanted c =
 items : (c : goal.After-hold) → c.push.new.self.items ≡ c.self.inside.shares.items ++ false ∷ []
 items c = rw c.unwrap.ensures at c.push.ensures.items
 
-nodes_are : (c : goal.After-hold) → c.hold-number.new.self.nodes ≡ c.self.inside.graph.nodes ++ nodes.fresh (message_id_of c.args.message) c.unwrap-group.result ∷ []
+nodes_are : (c : goal.After-hold)
+    → c.hold-number.new.self.nodes
+    ≡ c.self.inside.graph.nodes ++ nodes.fresh_node
+    (message_id_of c.args.message) c.unwrap-group.result ∷ []
 nodes_are c =
     ap (λ (g : nodes.Shown). g.nodes) c.hold-number.ensures.nodes
-    ∙ ap (λ (x : Id). c.self.inside.graph.nodes ++ nodes.fresh x c.unwrap-group.result ∷ []) (c.id.view_is ∙ c.requires.named)
+    ∙ ap (λ (x : Id). c.self.inside.graph.nodes ++ nodes.fresh_node x c.unwrap-group.result ∷ [])
+    (c.id.view_is ∙ c.requires.named)
 
 abbrev after_it : (c : goal.After-hold) → Parts
 after_it c = held_parts (parts c.self.inside) (message_held c) c.unwrap-group.result c.unwant_from_all.new.retry (c.self.inside.space - 1)
@@ -85,7 +92,8 @@ invariant_of-self c =
       few = c.self.invariant.few;
       met = c.self.invariant.met;
       honest = λ n node at share.
-          honest_more c.self.inside.graph.nodes c.self.inside.shares.items (nodes.fresh (message_id_of c.args.message) c.unwrap-group.result)
+          honest_more c.self.inside.graph.nodes c.self.inside.shares.items
+          (nodes.fresh_node (message_id_of c.args.message) c.unwrap-group.result)
           c.self.invariant.state.each_share c.self.invariant.honest n node
           (ap (λ (ns : List Node). slice_get ns n) (sym (nodes_are c)) ∙ at) (ap (λ (bs : List Bool). slice_get bs n) (sym (items c)) ∙ share);
     }

@@ -12,7 +12,8 @@ use Rattle.journal_state.specs.Inside.{parts}
 use Rattle.journal_state.proofs.Next.{found_next, many_nodes, next_within}
 use Rattle.journal_state.proofs.state.State.open_step.Goals as goal
 
-within_all : (ns : List Node) (bound : ℕ) → length ns ≡ bound → (o : Option Step) → o ≡ nodes.next ns → IfSome o (λ s. step_number s < bound)
+within_all : (ns : List Node) (bound : ℕ) → length ns ≡ bound → (o : Option Step)
+    → o ≡ nodes.next_step ns → IfSome o (λ s. step_number s < bound)
 within_all ns bound many None is = tt
 within_all ns bound many (Some s) is = let below : step_number s < length ns = next_within ns s (sym is) in omega (arith, below, many)
 

@@ -14,7 +14,8 @@ use Rattle.journal_state.proofs.state.State.refuse.Goals as goal
 pub apply-requires-clause-next : goal.apply-requires-clause-next
 apply-requires-clause-next c = refuse_node (parts c.self.inside) c.self.invariant.state c.args.self.now c.self.view_is c.args.n (c.requires.held, c.requires.next)
 
-node : (c : goal.After-apply) → nodes.next c.self.inside.graph.nodes ≡ Some (step.Invalid c.args.n)
+node : (c : goal.After-apply)
+    → nodes.next_step c.self.inside.graph.nodes ≡ Some (step.Invalid c.args.n)
 node c = refuse_node (parts c.self.inside) c.self.invariant.state c.args.self.now c.self.view_is c.args.n (c.requires.held, c.requires.next)
 
 made : (c : goal.After-apply) → c.apply.new.self.nodes ≡ nodes.with_ending c.args.n ending.Invalid c.self.inside.graph.nodes

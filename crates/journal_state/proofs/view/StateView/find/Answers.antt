@@ -9,7 +9,7 @@ use Rattle.journal_state.proofs.view.StateView.find.Goals as goal
 pub returns-clause-place : goal.returns-clause-place
 returns-clause-place c =
     c.number.ensures
-    ∙ (ap (nodes.number_of c.self.inside.graph.nodes) c.id.view_is
+    ∙ (ap (nodes.node_number c.self.inside.graph.nodes) c.id.view_is
     ∙ (number_same c.self.inside.messages.held c.self.inside.graph.nodes c.self.invariant.state.named c.args.id.now
     ∙ ap (λ (v : StateValue). place_of v.facts.held c.args.id.now) c.self.view_is))
 

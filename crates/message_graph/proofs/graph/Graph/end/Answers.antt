@@ -3,7 +3,7 @@ use Rattle.std.proofs.lemmas.List.{length-set}
 use Rattle.message_graph.specs.declared.nodes.Node.{Node}
 use Rattle.message_graph.specs.declared.nodes.Unnamed.{Unnamed}
 use Rattle.message_graph.specs.declared.states.Waiting.TheVariants as waiting
-use Rattle.message_graph.specs.Nodes.{Shown, next, with_ending, with_names}
+use Rattle.message_graph.specs.Nodes.{Shown, next_step, with_ending, with_names}
 use Rattle.message_graph.specs.Waits.{NodeWaits, told_times, wait_at, group_at, group_in}
 use Rattle.message_graph.specs.Links.{count_before, last_before}
 use Rattle.message_graph.specs.Whole.{ending_step, ending_news}
@@ -16,7 +16,8 @@ pub index_mut-node-requires : goal.index_mut-node-requires
 index_mut-node-requires c =
     let g = c.self.inside in
     let nodes = with_names g.index.numbers.names g.nodes.items in
-    let step : next nodes ≡ Some (ending_step c.args.ending c.args.n) = ap (λ (s : Shown). next s.nodes) c.self.view_is ∙ c.requires.next in
+    let step : next_step nodes ≡ Some (ending_step c.args.ending c.args.n) =
+    ap (λ (s : Shown). next_step s.nodes) c.self.view_is ∙ c.requires.next in
     let there = next_end nodes c.args.n c.args.ending step in
     let within : c.args.n < length g.nodes.items = omega (arith, there_within nodes c.args.n there.0 there.1, within_rests g.index.numbers.names g.nodes.items) in
     search rules
@@ -25,7 +26,8 @@ pub set-requires : goal.set-requires
 set-requires c =
     let g = c.self.inside in
     let nodes = with_names g.index.numbers.names g.nodes.items in
-    let step : next nodes ≡ Some (ending_step c.args.ending c.args.n) = ap (λ (s : Shown). next s.nodes) c.self.view_is ∙ c.requires.next in
+    let step : next_step nodes ≡ Some (ending_step c.args.ending c.args.n) =
+    ap (λ (s : Shown). next_step s.nodes) c.self.view_is ∙ c.requires.next in
     let there = next_end nodes c.args.n c.args.ending step in
     omega (arith, there_within nodes c.args.n there.0 there.1, many_waits nodes g.index g.states g.spare c.self.invariant.0)
 
@@ -33,7 +35,8 @@ pub last-last-requires : goal.last-last-requires
 last-last-requires c =
     let g = c.self.inside in
     let nodes = with_names g.index.numbers.names g.nodes.items in
-    let step : next nodes ≡ Some (ending_step c.args.ending c.args.n) = ap (λ (s : Shown). next s.nodes) c.self.view_is ∙ c.requires.next in
+    let step : next_step nodes ≡ Some (ending_step c.args.ending c.args.n) =
+    ap (λ (s : Shown). next_step s.nodes) c.self.view_is ∙ c.requires.next in
     let there = next_end nodes c.args.n c.args.ending step in
     omega (arith, there_within nodes c.args.n there.0 there.1, c.self.invariant.0.count)
 
@@ -42,7 +45,8 @@ last_is : (c : goal.After-deref) → (name : List ℕ) × (c.last-last.result �
 last_is c =
     let g = c.self.inside in
     let nodes = with_names g.index.numbers.names g.nodes.items in
-    let step : next nodes ≡ Some (ending_step c.args.ending c.args.n) = ap (λ (s : Shown). next s.nodes) c.self.view_is ∙ c.requires.next in
+    let step : next_step nodes ≡ Some (ending_step c.args.ending c.args.n) =
+    ap (λ (s : Shown). next_step s.nodes) c.self.view_is ∙ c.requires.next in
     let there = next_end nodes c.args.n c.args.ending step in
     (there.0.name, c.last-last.ensures there.0.name (c.self.invariant.0.holders there.0.name ∙ c.self.invariant.0.own c.args.n there.0 there.1))
 
@@ -62,7 +66,8 @@ invariant_of-self c =
     let g = c.self.inside in
     let names = g.index.numbers.names in
     let nodes = with_names names g.nodes.items in
-    let step : next nodes ≡ Some (ending_step c.args.ending c.args.n) = ap (λ (s : Shown). next s.nodes) c.self.view_is ∙ c.requires.next in
+    let step : next_step nodes ≡ Some (ending_step c.args.ending c.args.n) =
+    ap (λ (s : Shown). next_step s.nodes) c.self.view_is ∙ c.requires.next in
     let there = next_end nodes c.args.n c.args.ending step in
     let name = there.0.name in
     let read = c.index_mut-node.result.now in

@@ -3,7 +3,7 @@ use Rattle.message_graph.specs.declared.nodes.Node.{Node}
 use Rattle.message_graph.specs.declared.nodes.Unnamed.{Unnamed}
 use Rattle.message_graph.specs.declared.states.News.TheVariants as news
 use Rattle.message_graph.specs.declared.states.Waiting.TheVariants as waiting
-use Rattle.message_graph.specs.Nodes.{Shown, number_of, fresh, same_name, with_names}
+use Rattle.message_graph.specs.Nodes.{Shown, node_number, fresh_node, same_name, with_names}
 use Rattle.message_graph.specs.Waits.{told_times, wait_at, group_at, group_in}
 use Rattle.message_graph.specs.Links.{edge_at, holder_of, count_before, last_before}
 use Rattle.message_graph.proofs.Unnamed.{within_rests, length-with_names, with_names-push, group-with_names}
@@ -35,7 +35,10 @@ tell-requires-clause-waiters c = λ edge h.
     let inside : (edge_at c.hold-last.new.self.edges edge).1 < length nodes = subst (λ es. (edge_at es edge).1 < length nodes) (sym c.hold-last.ensures.edges) (waiters_inside nodes g.index g.states g.spare c.self.invariant.0 edge old) in
     omega (arith, inside, len, within_rests g.index.numbers.names g.nodes.items)
 
-nodes_are : (c : goal.After-deref) → with_names c.hold-last.new.self.numbers.names c.push.new.self.items ≡ with_names c.self.inside.index.numbers.names c.self.inside.nodes.items ++ fresh c.args.name c.args.group ∷ []
+nodes_are : (c : goal.After-deref)
+    → with_names c.hold-last.new.self.numbers.names c.push.new.self.items
+    ≡ with_names c.self.inside.index.numbers.names c.self.inside.nodes.items ++ fresh_node
+    c.args.name c.args.group ∷ []
 unfolding new_rest
 nodes_are c =
     let g = c.self.inside in
@@ -46,13 +49,14 @@ invariant_of-self c =
     let g = c.self.inside in
     let names = g.index.numbers.names in
     let nodes = with_names names g.nodes.items in
-    let m : Node = fresh c.args.name c.args.group in
+    let m : Node = fresh_node c.args.name c.args.group in
     let items = items_are c.before in
     let now = nodes_are c.before in
     let count : length nodes ≡ length g.nodes.items = length-with_names names g.nodes.items c.self.invariant.2 in
     let counted : c.len-number.result ≡ length g.nodes.items = search rules in
     let number : c.len-number.result ≡ length nodes = counted ∙ sym count in
-    let new : number_of nodes c.args.name ≡ None = ap (λ (s : Shown). number_of s.nodes c.args.name) c.self.view_is ∙ c.requires.new in
+    let new : node_number nodes c.args.name ≡ None =
+    ap (λ (s : Shown). node_number s.nodes c.args.name) c.self.view_is ∙ c.requires.new in
     let few : length nodes < 2 ^ 32 - 1 = subst (λ (s : Shown). length s.nodes < 2 ^ 32 - 1) (sym c.self.view_is) c.requires.few in
     let spares : 0 < g.spare = subst (λ (s : Shown). 0 < s.spare) (sym c.self.view_is) c.requires.room in
     let holders : (other : List ℕ) → holder_of c.hold-last.new.self other ≡ (if same_name other c.args.name then Some (length nodes) else holder_of g.index other) =
@@ -73,4 +77,10 @@ invariant_of-self c =
 
 pub returns-clause-nodes : goal.returns-clause-nodes
 returns-clause-nodes c =
-    (λ i. record { nodes = (nodes_are c.before ∙ ap (λ (s : Shown). s.nodes ++ fresh c.args.name c.args.group ∷ []) c.self.view_is) i; spare = ap (λ (s : Shown). s.spare - 1) c.self.view_is i })
+    (λ i. record {
+      nodes =
+          (nodes_are c.before
+          ∙ ap (λ (s : Shown). s.nodes ++ fresh_node c.args.name c.args.group ∷ []) c.self.view_is)
+          i;
+      spare = ap (λ (s : Shown). s.spare - 1) c.self.view_is i;
+    })

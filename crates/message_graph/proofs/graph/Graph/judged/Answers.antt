@@ -3,7 +3,7 @@ use Rattle.std.proofs.lemmas.List.{length-set}
 use Rattle.message_graph.specs.declared.nodes.Node.{Node}
 use Rattle.message_graph.specs.declared.nodes.Unnamed.{Unnamed}
 use Rattle.message_graph.specs.declared.nodes.Step.TheVariants as step
-use Rattle.message_graph.specs.Nodes.{Shown, next, node_named, with_answer, with_names}
+use Rattle.message_graph.specs.Nodes.{Shown, next_step, node_named, with_answer, with_names}
 use Rattle.message_graph.specs.Waits.{NodeWaits, waiting_open}
 use Rattle.message_graph.specs.Links.{Numbers}
 use Rattle.message_graph.proofs.NodeLaws.{next_judge, there_within}
@@ -15,7 +15,8 @@ pub index-requires : goal.index-requires
 index-requires c =
     let g = c.self.inside in
     let nodes = with_names g.index.numbers.names g.nodes.items in
-    let step_is : next nodes ≡ Some (step.Judge c.args.n) = ap (λ (s : Shown). next s.nodes) c.self.view_is ∙ c.requires in
+    let step_is : next_step nodes ≡ Some (step.Judge c.args.n) =
+    ap (λ (s : Shown). next_step s.nodes) c.self.view_is ∙ c.requires in
     let there = next_judge nodes c.args.n step_is in
     let within : c.args.n < length g.nodes.items = omega (arith, there_within nodes c.args.n there.0 there.1, within_rests g.index.numbers.names g.nodes.items) in
     search rules
@@ -24,7 +25,8 @@ pub set-requires : goal.set-requires
 set-requires c =
     let g = c.self.inside in
     let nodes = with_names g.index.numbers.names g.nodes.items in
-    let step_is : next nodes ≡ Some (step.Judge c.args.n) = ap (λ (s : Shown). next s.nodes) c.self.view_is ∙ c.requires in
+    let step_is : next_step nodes ≡ Some (step.Judge c.args.n) =
+    ap (λ (s : Shown). next_step s.nodes) c.self.view_is ∙ c.requires in
     let there = next_judge nodes c.args.n step_is in
     omega (arith, there_within nodes c.args.n there.0 there.1, many_waits nodes g.index g.states g.spare c.self.invariant.0)
 
@@ -32,7 +34,8 @@ pub index_mut-node-requires : goal.index_mut-node-requires
 index_mut-node-requires c =
     let g = c.self.inside in
     let nodes = with_names g.index.numbers.names g.nodes.items in
-    let step_is : next nodes ≡ Some (step.Judge c.args.n) = ap (λ (s : Shown). next s.nodes) c.self.view_is ∙ c.requires in
+    let step_is : next_step nodes ≡ Some (step.Judge c.args.n) =
+    ap (λ (s : Shown). next_step s.nodes) c.self.view_is ∙ c.requires in
     let there = next_judge nodes c.args.n step_is in
     let within : c.args.n < length g.nodes.items = omega (arith, there_within nodes c.args.n there.0 there.1, within_rests g.index.numbers.names g.nodes.items) in
     search rules
@@ -42,7 +45,8 @@ invariant_of-self-2 c =
     let g = c.self.inside in
     let names = g.index.numbers.names in
     let nodes = with_names names g.nodes.items in
-    let step_is : next nodes ≡ Some (step.Judge c.args.n) = ap (λ (s : Shown). next s.nodes) c.self.view_is ∙ c.requires in
+    let step_is : next_step nodes ≡ Some (step.Judge c.args.n) =
+    ap (λ (s : Shown). next_step s.nodes) c.self.view_is ∙ c.requires in
     let there = next_judge nodes c.args.n step_is in
     let read = c.index_mut-node.result.now in
     let rests = set g.nodes.items c.args.n (record read { answer = Some c.args.answer }) in

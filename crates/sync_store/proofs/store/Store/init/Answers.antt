@@ -1,7 +1,7 @@
 use Rattle.outside.proofs.CallSteps.{becomes_told}
-use Rattle.frame_journal.specs.Gates.{SyncsBoth}
 use Rattle.sync_store.proofs.BeginSteps.{init_then}
 use Rattle.sync_store.proofs.store.Store.init.Goals as goal
+use Rattle.outside.specs.Files.{SyncsBoth}
 
 pub returns-in_err-begin-clause-any_moment : goal.returns-in_err-begin-clause-any_moment
 returns-in_err-begin-clause-any_moment g c two told =

@@ -1,17 +1,23 @@
 use Rattle.std.proofs.Common.{◌≡◌, Some, None, MatchOption, slice_get, sym, ap, subst, ◌∙◌}
 use Rattle.sync_rules.specs.Facts.{group_at}
-use Rattle.visibility_table.specs.Table.{TableOfLevels, number_of}
+use Rattle.visibility_table.specs.Table.{TableOfLevels, group_number}
 use Rattle.visibility_table.proofs.Groups.{kept_number, numbered}
 use Rattle.visibility_table.proofs.levels.Levels.group.Goals as goal
 
-none : (c : goal.After-from_residual) → c.from_residual.result ≡ number_of c.args.self.now.groups c.args.id.now
+none : (c : goal.After-from_residual)
+    → c.from_residual.result ≡ group_number c.args.self.now.groups c.args.id.now
 none c =
     c.from_residual.ensures
-    ∙ (c.in_err-number.ensures.index ∙ (kept_number c.args.id.now c.self.inside.groups.entries ∙ ap (λ (t : TableOfLevels). number_of t.groups c.args.id.now) c.self.view_is))
+    ∙ (c.in_err-number.ensures.index
+    ∙ (kept_number c.args.id.now c.self.inside.groups.entries
+    ∙ ap (λ (t : TableOfLevels). group_number t.groups c.args.id.now) c.self.view_is))
 
-some : (c : goal.In_ok-number) → Some c.in_ok-number.number ≡ number_of c.args.self.now.groups c.args.id.now
+some : (c : goal.In_ok-number)
+    → Some c.in_ok-number.number ≡ group_number c.args.self.now.groups c.args.id.now
 some c =
-    c.in_ok-number.ensures.index ∙ (kept_number c.args.id.now c.self.inside.groups.entries ∙ ap (λ (t : TableOfLevels). number_of t.groups c.args.id.now) c.self.view_is)
+    c.in_ok-number.ensures.index
+    ∙ (kept_number c.args.id.now c.self.inside.groups.entries
+    ∙ ap (λ (t : TableOfLevels). group_number t.groups c.args.id.now) c.self.view_is)
 
 pub returns-in_err-number-clause-number : goal.returns-in_err-number-clause-number
 returns-in_err-number-clause-number c = none c
