@@ -66,7 +66,7 @@ module _ (clients : Meaning) where
       goes_on_both clients g (closed front) ((e ∷ []) ∷ filled MAX_STEPS is_kept [] es)
       (closed_goes g front settling few)
       (subst (λ (x : Facts). GoesOn clients x ((e ∷ []) ∷ filled MAX_STEPS is_kept [] es))
-          (sym (closed_after g front)) (
+      (sym (closed_after g front)) (
         (refl, told.0.0, (told.0.1, told.0.2)),
         told_goes es (after (after_all g front) e) [] tt (omega arith) told.1,
       ))

@@ -8,8 +8,9 @@ use Rattle.outside.specs.MemLaws.{length-overwritten}
 use Rattle.outside.specs.Outside.{Outside, DiskCall}
 use Rattle.outside.specs.Steps.{ReachedFile, PassedMoments, other_of}
 use Rattle.outside.proofs.CallSteps.{begun, wrote_ok, wrote_err, synced_ok, synced_err, file_of-with_file, other_of-with_file}
+use Rattle.outside.proofs.Calm.{settled_only}
 use Rattle.frame_journal.specs.Gates.{WritesBehind, KeepsFront}
-use Rattle.frame_journal.proofs.Torn.{settled_only, torn_front}
+use Rattle.frame_journal.proofs.Torn.{torn_front}
 
 pub behind_front : (bytes : List ℕ) (end : ℕ) (framed : List ℕ) → end ≤ length bytes → take end (overwritten bytes end framed) ≡ take end bytes
 behind_front bytes end framed within =

@@ -11,8 +11,9 @@ use Rattle.outside.specs.Frames.{is_open}
 use Rattle.outside.specs.Outside.{Outside, DiskCall}
 use Rattle.outside.specs.Steps.{FileMoment, ReachedFile, PassedMoments, other_of}
 use Rattle.outside.proofs.CallSteps.{moments_map, moments_then, begun, looked, wrote_ok, wrote_err, synced_ok, synced_err, cut_ok, cut_err, file_of-with_file, other_of-with_file}
+use Rattle.outside.proofs.Calm.{settled_only}
 use Rattle.frame_journal.specs.Create.{HasShutGate, ShutsGate, CutsToFirstByte, ClearsFile, BeforeOrShut}
-use Rattle.frame_journal.proofs.Torn.{settled_only, torn_byte}
+use Rattle.frame_journal.proofs.Torn.{torn_byte}
 use Rattle.frame_journal.proofs.CreateSteps.{not_open}
 
 -- a file too short for a header

@@ -7,8 +7,9 @@ use Rattle.outside.specs.Disk.{RelatesTold, WritesFile, SyncsFile, after_write, 
 use Rattle.outside.specs.Outside.{Outside, DiskCall}
 use Rattle.outside.specs.Steps.{ReachedFile, PassedMoments}
 use Rattle.outside.proofs.CallSteps.{begun, wrote_ok, wrote_err, synced_ok, synced_err}
+use Rattle.outside.proofs.Calm.{settled_only}
 use Rattle.frame_journal.specs.Gates.{KeepsAllBut}
-use Rattle.frame_journal.proofs.Torn.{settled_only, torn_byte}
+use Rattle.frame_journal.proofs.Torn.{torn_byte}
 
 passes_settled : (bytes c : List ℕ) (place : ℕ) → place < length bytes → IsFileImage (settled bytes) c → KeepsAllBut bytes place c
 passes_settled bytes c place inside image =

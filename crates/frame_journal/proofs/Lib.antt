@@ -7,3 +7,4 @@ pub mod CreateSteps
 pub mod ClearSteps
 pub mod Read
 pub mod Prepared
+pub mod Framed

@@ -1,17 +1,13 @@
 -- What a crash leaves of a file in which one write is pending.
-use Rattle.std.proofs.Common.{◌≡◌, ℕ, ◌+◌, ◌<◌, ◌≤◌, false, List, [], ◌∷◌, ◌++◌, length, take, drop, get_or, refl, sym, ap, ◌∙◌, arith, add-one, length-take, length-drop, take-append-drop}
+use Rattle.std.proofs.Common.{◌≡◌, ℕ, ◌+◌, ◌<◌, ◌≤◌, false, List, [], ◌∷◌, ◌++◌, length, take, drop}
+use Rattle.std.proofs.Common.{get_or, sym, ap, ◌∙◌, arith, add-one, length-take, length-drop}
+use Rattle.std.proofs.Common.{take-append-drop}
 use Rattle.std.proofs.lemmas.Grind.{same_number_lists}
 use Rattle.std.proofs.lemmas.List.{get_or-take, get_or-drop}
 use Rattle.std.proofs.lemmas.Bool.Decides.{nat_tests}
 use Rattle.std.proofs.Math.Seq.{drop-cons}
 use Rattle.outside.specs.Files.{IsFileImage, settled, is_written}
 use Rattle.outside.specs.Disk.{after_write}
-
--- nothing pending: there is one image
-pub settled_only : (bytes c : List ℕ) → IsFileImage (settled bytes) c → c ≡ bytes
-settled_only bytes c image =
-    let long : length c ≡ length bytes = omega (arith, image.no_shorter, image.no_longer) in
-    same_number_lists c bytes long (λ k below. let inside : k < length bytes = omega arith in image.kept k inside refl)
 
 before_range : (at n k : ℕ) → k < at → is_written ((at, n) ∷ []) k ≡ false
 before_range at n k below = grind (arith, nat_tests)

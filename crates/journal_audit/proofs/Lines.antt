@@ -6,17 +6,16 @@ use Rattle.std.specs.List.{AllByRecursion, list_any, slice_get}
 use Rattle.std.specs.Option.{option_map}
 use Rattle.std.specs.Ordering.{is_eq}
 use Rattle.std.proofs.lemmas.Bool.{false≢true, or_left, or_parts, or_right}
-use Rattle.std.proofs.lemmas.List.{length-map}
 use Rattle.sync_rules.specs.Consistency.{ids_of_held}
-use Rattle.sync_rules.specs.Facts.{Held, Id, Ids, held_at, id_cmp, is_held}
+use Rattle.sync_rules.specs.Facts.{Held, Id, held_at, id_cmp, is_held}
 use Rattle.sync_rules.specs.Lists.{has_repeat, is_among, same_id}
-use Rattle.sync_rules.specs.Views.{IsFound, IsPlace, place_of}
-use Rattle.sync_rules.proofs.ConsistencyLaws.{has_repeat-push}
+use Rattle.sync_rules.specs.Views.{IsFound, place_of}
 use Rattle.sync_rules.proofs.Elements.{same_id-is, same_id_itself, same_id_swap}
 use Rattle.sync_rules.proofs.Sound.{contains-more}
 use Rattle.journal_audit.specs.declared.messages.Line.{Line}
-use Rattle.journal_audit.specs.Lines.{AreLines, Kept, delivered_in, delivered_line, held_in, held_of, id_at, ids_flagged, invalid_in, invalid_line, judged_in, judged_line, line_changed}
-use Rattle.journal_audit.proofs.Places.{held_push, place_found}
+use Rattle.journal_audit.specs.Lines.{held_in, held_of, id_at, ids_flagged, invalid_in}
+use Rattle.journal_audit.specs.Lines.{invalid_line, judged_in, judged_line, line_changed}
+use Rattle.sync_rules.proofs.PlaceLaws.{place_found}
 
 -- ---- lines by number
 

@@ -1,6 +1,9 @@
 -- Marks that grow by rounds reach just the good messages, or just the bad ones.
-use Rattle.std.proofs.Common.{◌≡◌, ◌≢◌, ℕ, zero, suc, ◌+◌, ◌*◌, ◌<◌, ◌≤◌, ◌⊎◌, inl, inr, Bool, true, false, cond, ◌&&◌, ◌||◌, nat_eq, List, [], ◌∷◌, length, length-set, Option, Some, None, refl, sym, ◌∙◌, ap, subst, arith, add-one, get_or, set, replicate}
-use Rattle.std.specs.List.{AllByRecursion, count_by, list_all, list_any, slice_get}
+use Rattle.std.proofs.Common.{◌≡◌, ◌≢◌, ℕ, zero, suc, ◌+◌, ◌*◌, ◌<◌, ◌≤◌, ◌⊎◌, inl, inr, Bool, true}
+use Rattle.std.proofs.Common.{false, cond, ◌&&◌, ◌||◌, List, [], ◌∷◌, length, length-set, Option}
+use Rattle.std.proofs.Common.{Some, None, refl, sym, ◌∙◌, ap, subst, arith, add-one, get_or, set}
+use Rattle.std.proofs.Common.{replicate}
+use Rattle.std.specs.List.{AllByRecursion, count_by, list_any, slice_get}
 use Rattle.std.proofs.lemmas.Bool.{and_from, and_parts, false≢true, or_cases, or_left, or_right}
 use Rattle.std.proofs.lemmas.Bool.Decides.{eqb_tells}
 use Rattle.std.proofs.lemmas.List.{get_or-set_other, length-map}
@@ -20,7 +23,7 @@ use Rattle.journal_audit.specs.declared.messages.Line.{Line}
 use Rattle.journal_audit.specs.Lines.{held_in, held_of}
 use Rattle.journal_audit.specs.Rounding.{AreMarked, AreStable, IsGraphOfLines, in_round, is_bad_by, is_good_by, is_marked, is_next, is_next_at, mark_at, round_count}
 use Rattle.journal_audit.proofs.Lines.{get_held, held_get, place_own}
-use Rattle.journal_audit.proofs.Places.{place_found}
+use Rattle.sync_rules.proofs.PlaceLaws.{place_found}
 
 -- ---- rounds
 

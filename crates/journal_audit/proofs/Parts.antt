@@ -1,10 +1,10 @@
 -- What a change of a part of plain facts makes of the facts, and of what is known of the clients.
-use Rattle.std.proofs.Common.{◌≡◌, ℕ, Bool, true, false, ◌&&◌, List, [], ◌∷◌, ◌++◌, map, Option, Some, None, refl, sym, ◌∙◌, ap, subst, is_some}
+use Rattle.std.proofs.Common.{◌≡◌, ℕ, true, false, List, [], ◌∷◌, ◌++◌, map, Option, Some, None}
+use Rattle.std.proofs.Common.{refl, sym, ◌∙◌, ap, subst, is_some}
 use Rattle.std.specs.FinSet as fin_set
 use Rattle.std.specs.List.{AllByRecursion, slice_get}
 use Rattle.std.proofs.lemmas.Bool.{and_parts, false≢true}
 use Rattle.sync_ids.specs.Values.{MessageValue}
-use Rattle.sync_rules.specs.declared.answers.Judgement.{Judgement}
 use Rattle.sync_rules.specs.declared.states.Origin.{Origin}
 use Rattle.sync_rules.specs.Clients.{Meaning}
 use Rattle.sync_rules.specs.Facts.{Facts, Held, Id, Ids, Known, Wants, group_at, is_held, wanted_by_none}
@@ -13,10 +13,13 @@ use Rattle.sync_rules.specs.Views.{IsFound, place_of}
 use Rattle.sync_rules.proofs.Sound.{verdict_stays}
 use Rattle.journal_audit.specs.declared.facts.PlainFacts.{PlainFacts}
 use Rattle.journal_audit.specs.declared.messages.Line.{Line}
-use Rattle.journal_audit.specs.Lines.{AreLines, Kept, delivered_in, delivered_line, held_in, held_of, id_at, ids_flagged, invalid_in, invalid_line, judged_in, judged_line, line_changed}
-use Rattle.journal_audit.specs.Plain.{AreGrouped, KnowsMeanings, facts_of}
+use Rattle.journal_audit.specs.Lines.{AreLines, Kept, delivered_in, delivered_line, held_in}
+use Rattle.journal_audit.specs.Lines.{held_of, id_at, invalid_in, invalid_line, judged_in}
+use Rattle.journal_audit.specs.Lines.{judged_line, line_changed}
+use Rattle.journal_audit.specs.Plain.{AreGrouped, facts_of}
 use Rattle.journal_audit.proofs.Lines.{delivered_push, delivered_same, flagged_push, id_at-get, invalid_more, judged_more, map_push, same_each, same_flagged, same_held, same_ids}
-use Rattle.journal_audit.proofs.Places.{held_push, place_found}
+use Rattle.sync_rules.proofs.PlaceLaws.{place_found}
+use Rattle.journal_audit.proofs.Places.{held_push}
 
 -- an id that is not held has no place
 pub no_place : (hs : List Held) (id : Id) → is_held hs id ≡ false → place_of hs id ≡ None

@@ -1,42 +1,18 @@
 -- The places of held messages by their ids.
-use Rattle.std.proofs.Common.{◌≡◌, ℕ, zero, suc, ◌+◌, ◌<◌, Bool, true, false, cond, List, [], ◌∷◌, ◌++◌, length, map, Option, Some, None, refl, sym, ◌∙◌, ap, arith, get_or, set}
+use Rattle.std.proofs.Common.{◌≡◌, ℕ, zero, suc, ◌+◌, ◌<◌, Bool, true, false, cond, List, [], ◌∷◌}
+use Rattle.std.proofs.Common.{◌++◌, length, Option, Some, None, refl, sym, ◌∙◌, ap, arith, get_or}
+use Rattle.std.proofs.Common.{set}
 use Rattle.std.specs.BTreeMap.{BTreeMap, get}
 use Rattle.std.specs.Cmp.Lexicographic.{texts_ties}
 use Rattle.std.specs.Option.{option_map}
 use Rattle.std.specs.Ordering.{is_eq}
 use Rattle.std.proofs.lemmas.List.{length-map}
 use Rattle.sync_rules.specs.Lists.{same_id}
-use Rattle.sync_rules.specs.Facts.{Held, Id, held_at, id_cmp}
-use Rattle.sync_rules.specs.Views.{IsFound, IsPlace, place_of}
+use Rattle.sync_rules.specs.Facts.{Held, Id, id_cmp}
+use Rattle.sync_rules.specs.Views.{place_of}
 use Rattle.sync_rules.proofs.Elements.{same_id-is}
 use Rattle.journal_audit.specs.declared.messages.Line.{Line}
 use Rattle.journal_audit.specs.Lines.{ArePlaces, held_in, held_of, line_changed}
-
--- ---- what a place tells
-
-found_later : (h : Held) (hs : List Held) (id : Id) → same_id h.id id ≡ false → (r : Option ℕ) → IsFound hs id r → IsFound (h ∷ hs) id (option_map suc r)
-found_later h hs id other None none = ap (λ b. cond b (Some h) (held_at hs id)) other ∙ none
-found_later h hs id other (Some n) at = record {
-  message = at.message;
-  named = at.named;
-  first = ap (λ b. cond b (Some h) (held_at hs id)) other ∙ at.first;
-  stands = at.stands;
-  within = omega (arith, at.within);
-}
-
-pub place_found : (hs : List Held) (id : Id) → IsFound hs id (place_of hs id)
-place_found [] id = refl
-place_found (h ∷ hs) id =
-    elim (same_id h.id id) as (λ b. same_id h.id id ≡ b → IsFound (h ∷ hs) id (cond b (Some 0) (option_map suc (place_of hs id)))) [
-      | true ↦ λ e. record {
-        message = h;
-        named = same_id-is h.id id e;
-        first = ap (λ b. cond b (Some h) (held_at hs id)) e;
-        stands = refl;
-        within = omega arith;
-      }
-      | false ↦ λ e. found_later h hs id e (place_of hs id) (place_found hs id)
-    ] refl
 
 -- ---- one message more
 

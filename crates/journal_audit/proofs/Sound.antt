@@ -1,24 +1,24 @@
 -- What holds of plain facts stays so, entry by entry.
-use Rattle.std.proofs.Common.{◌≡◌, ◌≢◌, ℕ, ◌+◌, ◌<◌, ◌≤◌, ◌⊎◌, Bool, true, false, not, cond, ◌&&◌, ◌||◌, List, [], ◌∷◌, ◌++◌, length, Option, Some, None, refl, sym, ◌∙◌, ap, subst, inl, inr, arith, is_some, nat_eq, nat_lt, eqb-true, eq-eqb}
+use Rattle.std.proofs.Common.{◌≡◌, ◌≢◌, ℕ, ◌+◌, ◌<◌, ◌≤◌, Bool, true, false, not, cond, ◌&&◌, ◌||◌}
+use Rattle.std.proofs.Common.{List, [], ◌∷◌, ◌++◌, length, Some, refl, sym, ◌∙◌, ap, subst, arith}
+use Rattle.std.proofs.Common.{is_some, nat_eq, nat_lt, eqb-true}
 use Rattle.std.specs.FinMap as fin_map
-use Rattle.std.specs.List.{AllByRecursion, list_all, slice_get}
-use Rattle.std.proofs.lemmas.Bool.{and_from, and_parts, false≢true, lt-ltb, or_parts}
+use Rattle.std.specs.List.{slice_get}
+use Rattle.std.proofs.lemmas.Bool.{and_from, and_parts, false≢true}
 use Rattle.sync_rules.specs.declared.entries.Level.{Level}
 use Rattle.sync_rules.specs.declared.entries.Level.TheVariants as level
-use Rattle.sync_rules.specs.Facts.{Held, Id, Known, LevelMap, Row, Rows, change_row, group_at, held_at, is_held, is_invisible, is_level_shared, known_of, level_at, level_or, no_row, pair_cmp, put_level, row_at, row_or}
+use Rattle.sync_rules.specs.Facts.{Held, Id, Known, LevelMap, Rows, group_at, is_invisible}
+use Rattle.sync_rules.specs.Facts.{is_level_shared, level_at, level_or, pair_cmp, put_level, row_at}
+use Rattle.sync_rules.specs.Facts.{row_or}
 use Rattle.sync_rules.specs.Lists.{same_id}
-use Rattle.sync_rules.specs.Views.{IsFound, IsPlace, place_of}
-use Rattle.sync_rules.proofs.Elements.{same_id-is, same_id_itself}
-use Rattle.sync_rules.proofs.RowLaws.{hits, row_at_change}
+use Rattle.sync_rules.proofs.Elements.{same_id-is}
 use Rattle.sync_rules.proofs.ScanLaws.{level_at_set}
-use Rattle.sync_rules.proofs.Sound.{group_at-push, held_at-push}
+use Rattle.sync_rules.proofs.Sound.{group_at-push}
 use Rattle.journal_audit.specs.declared.messages.Line.{Line}
-use Rattle.journal_audit.specs.Lines.{AreLines, Kept, delivered_in, delivered_line, held_in, held_of, id_at, invalid_line, judged_line, line_changed}
-use Rattle.journal_audit.specs.Numbers.{CursorLists, from_of, has, has_for, until_of}
-use Rattle.journal_audit.specs.Plain.{AreGrouped, AreSound, HasPlainLevels, HasPlainRows, OwesAcks, WaitsOrHasEnded, is_awake}
-use Rattle.journal_audit.proofs.Lines.{HasLine, OldOrNew, WasLine, held_get, old_or_new, place_own, same_held, same_place, was_line}
-use Rattle.journal_audit.proofs.Kept.{lines_changed, lines_delivered, lines_none, lines_push}
-use Rattle.journal_audit.proofs.Places.{held_push, place_found}
+use Rattle.journal_audit.specs.Lines.{Kept, held_in}
+use Rattle.journal_audit.specs.Numbers.{CursorLists, from_of, until_of}
+use Rattle.journal_audit.specs.Plain.{AreGrouped, AreSound, OwesAcks, WaitsOrHasEnded, is_awake}
+use Rattle.journal_audit.proofs.Kept.{lines_none}
 
 -- ---- tests
 

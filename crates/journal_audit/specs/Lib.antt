@@ -1,6 +1,5 @@
 pub mod Answers
 pub mod Changes
-pub mod Codes
 pub mod Files
 pub mod Frames
 pub mod Lines

@@ -27,7 +27,7 @@ pub(crate) struct ContactRow {
 }
 
 impl Model for ContactRow {
-    ghost use Rattle.journal_audit.specs.Codes.{row_code};
+    ghost use Rattle.sync_rules.specs.Codes.{row_code};
     ghost use Rattle.sync_rules.specs.Facts.{Row};
 
     ghost Value = { Row };
@@ -178,7 +178,7 @@ pub(crate) struct Rows {
 
 impl Model for Rows {
     ghost use Rattle.std.specs.FinMap as fin_map;
-    ghost use Rattle.journal_audit.specs.Codes.{rows_code};
+    ghost use Rattle.sync_rules.specs.Codes.{rows_code};
     ghost use Rattle.sync_rules.specs.Facts.{Rows, pair_cmp};
 
     ghost Value = { Rows };

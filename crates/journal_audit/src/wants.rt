@@ -87,7 +87,7 @@ pub(crate) struct Wants {
 impl Model for Wants {
     ghost use Rattle.std.specs.FinMap as fin_map;
     ghost use Rattle.std.specs.Ordering.{nat_cmp};
-    ghost use Rattle.journal_audit.specs.Codes.{wants_code};
+    ghost use Rattle.sync_rules.specs.Codes.{wants_code};
     ghost use Rattle.sync_rules.specs.Facts.{Wants};
 
     ghost Value = { Wants };

@@ -17,7 +17,8 @@ use Rattle.outside.proofs.CallSteps.{moments_map, moments_none, moments_then, no
 use Rattle.frame_journal.specs.Append.{AppendsFrame, BeforeOrWith, IsFramed, framed_of, payload_of}
 use Rattle.frame_journal.specs.Journal.{JournalValue}
 use Rattle.frame_journal.proofs.AppendSteps.{end_more}
-use Rattle.journal_migration.proofs.Copied.{framed_length, framed_so, payload_framed, shut_header}
+use Rattle.frame_journal.proofs.Framed.{framed_as, framed_length, payload_framed}
+use Rattle.journal_migration.proofs.Copied.{shut_header}
 use Rattle.journal_migration.proofs.Sides.{image_only}
 use Rattle.journal_compaction.specs.Paging.{frames_len}
 use Rattle.journal_compaction.specs.Writing.{WritesPayloads, AppendsPayloads, IsFileIdle}
@@ -152,7 +153,7 @@ some_bytes n t is some = omega (arith, eqb-false n 0 (sym is ∙ some))
 
 pub framed_is : (p framed : List ℕ) → framed ≡ framed_of p → 1 ≤ length p → length p ≤ 65536
     → IsFramed framed
-framed_is p framed is some few = framed_so p framed is (some, few)
+framed_is p framed is some few = framed_as p framed is (some, few)
 
 -- what was told of the files before the frame is told behind it
 pub works_one : (n n' : JournalValue) (p framed : List ℕ) (len : ℕ) (o o' : Outside)

@@ -1,21 +1,20 @@
 -- A frame copied, call by call.
 use Rattle.std.proofs.Common.{◌≡◌, ◌≢◌, ℕ, ◌+◌, ◌-◌, ◌^◌, ◌<◌, Bool, true, false, List, [], ◌∷◌}
 use Rattle.std.proofs.Common.{◌++◌, length, take, drop, Option, None, Some, Result, Ok, Err, inl}
-use Rattle.std.proofs.Common.{inr, refl, sym, ap, subst, ◌∙◌, arith, append_assoc, length-append}
+use Rattle.std.proofs.Common.{inr, refl, sym, ap, subst, ◌∙◌, arith}
 use Rattle.std.specs.Prelude.{◌&&◌, ◌==◌}
-use Rattle.std.specs.Int.{w32, to_be_bytes}
 use Rattle.std.proofs.lemmas.Bool.{ne_eqb}
 use Rattle.std.proofs.lemmas.Bool.Decides.{nat_tests}
-use Rattle.std.proofs.Math.Seq.{take-append_seam, drop-append_seam}
 use Rattle.outside.specs.Disk.{RelatesTold}
 use Rattle.outside.specs.Files.{Two, File, NothingPending, file_of, read_files}
-use Rattle.outside.specs.Frames.{HasFrames, IsPayload, closed, frame_at, is_open}
+use Rattle.outside.specs.Frames.{HasFrames, closed, frame_at, is_open}
 use Rattle.outside.specs.Frames as frames_of
 use Rattle.outside.specs.Links.{sent_of}
 use Rattle.outside.specs.Outside.{OnlyReads, MomentsAre, Outside}
 use Rattle.outside.specs.Steps.{FileMoment, PassedMoments, other_of}
 use Rattle.outside.proofs.CallSteps.{becomes_told, moments_map}
-use Rattle.frame_journal.specs.Append.{AppendsFrame, BeforeOrWith, IsFramed, framed_of, payload_of}
+use Rattle.frame_journal.specs.Append.{AppendsFrame, BeforeOrWith, payload_of}
+use Rattle.frame_journal.proofs.Framed.{framed_length, payload_framed}
 use Rattle.frame_journal.specs.Journal.{JournalValue}
 use Rattle.frame_journal.specs.Next.{IsNextFrame, NextFrame}
 use Rattle.sync_rules.specs.declared.entries.Entry.{Entry}
@@ -40,37 +39,6 @@ use Rattle.journal_migration.proofs.FirstIds.{names_few, names_front}
 use Rattle.journal_migration.proofs.Fronts.{frame_granted, front_moves, rest_front}
 use Rattle.journal_migration.proofs.Keeping.{keeps_looks, keeps_map, keeps_then, shut_still}
 use Rattle.journal_migration.proofs.Sides.{holds_on, own_file, read_file}
-
--- ---- a frame
-
-be_long : (n : ℕ) → length (to_be_bytes w32 n) ≡ 4
-be_long n = refl
-
-pub framed_length : (p : List ℕ) → length (framed_of p) ≡ 5 + length p
-framed_length p =
-    let head = to_be_bytes w32 (length p) in
-    omega (arith, be_long (length p), length-append head p, length-append (head ++ p) (0 ∷ []))
-
-behind_head : (p : List ℕ) → drop 4 (framed_of p) ≡ p ++ 0 ∷ []
-behind_head p =
-    let head = to_be_bytes w32 (length p) in
-    ap (drop 4) (append_assoc head p (0 ∷ []))
-    ∙ ap (λ n. drop n (head ++ (p ++ 0 ∷ []))) (sym (be_long (length p)))
-    ∙ drop-append_seam head (p ++ 0 ∷ [])
-
-pub payload_framed : (p : List ℕ) → payload_of (framed_of p) ≡ p
-payload_framed p =
-    let n : length (framed_of p) - 5 ≡ length p = omega (arith, framed_length p) in
-    ap (λ k. take k (drop 4 (framed_of p))) n ∙ ap (take (length p)) (behind_head p)
-    ∙ take-append_seam p (0 ∷ [])
-
-pub framed_so : (p framed : List ℕ) → framed ≡ framed_of p → IsPayload p → IsFramed framed
-framed_so p framed is fits =
-    let same = payload_framed p in
-    subst IsFramed (sym is) (record {
-      fits = subst IsPayload (sym same) fits;
-      spelled = ap framed_of (sym same);
-    })
 
 -- ---- a header that is not open
 

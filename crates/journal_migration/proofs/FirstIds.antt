@@ -1,4 +1,4 @@
--- The first so many ids of a list as names.
+-- The ids of held messages as names, and the first so many of them.
 use Rattle.std.proofs.Common.{◌≡◌, ℕ, zero, suc, ◌<◌, ◌≤◌, true, false, cond, ◌||◌, List, [], ◌∷◌}
 use Rattle.std.proofs.Common.{◌++◌, length, map, take, refl, sym, ap, ◌∙◌, arith, length-append}
 use Rattle.std.specs.Prelude.{Option, Some, None, is_some}
@@ -182,15 +182,26 @@ take_whole zero (x ∷ ids) all = tt
 take_whole (suc count) [] all = tt
 take_whole (suc count) (x ∷ ids) all = (all.0, take_whole count ids all.1)
 
+pub sound_names : ((m : MessageValue) → length (message_id_of m) ≡ 32) → (s : StateValue)
+    → IsSound s → AreNames (names_of s.facts)
+sound_names whole s sound =
+    let same = ids_map s.facts.held in
+    record {
+      distinct = ap has_repeat (sym same)
+          ∙ apart_no_repeat (map (λ (h : Held). h.id) s.facts.held) sound.distinct;
+      whole = own_whole whole s.facts.held sound.named;
+      few = omega (arith, ids_len s.facts.held, sound.few);
+    }
+
 pub first_names : ((m : MessageValue) → length (message_id_of m) ≡ 32) → (s : StateValue)
     (count : ℕ) → IsSound s → AreNames (take count (names_of s.facts))
 first_names whole s count sound =
     let ids = names_of s.facts in
+    let names = sound_names whole s sound in
     record {
-      distinct = take_no_repeat count ids (ap has_repeat (sym (ids_map s.facts.held))
-          ∙ apart_no_repeat (map (λ (h : Held). h.id) s.facts.held) sound.distinct);
-      whole = take_whole count ids (own_whole whole s.facts.held sound.named);
-      few = omega (arith, length-take count ids, ids_len s.facts.held, sound.few);
+      distinct = take_no_repeat count ids names.distinct;
+      whole = take_whole count ids names.whole;
+      few = omega (arith, length-take count ids, names.few);
     }
 
 -- ---- the names before a batch

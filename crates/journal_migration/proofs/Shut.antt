@@ -19,7 +19,7 @@ use Rattle.entry_codec.specs.declared.naming.Format.TheVariants as kind
 use Rattle.entry_codec.specs.Payloads.{spellings}
 use Rattle.journal_migration.specs.Copying.{IsPair, IsRespelled, IsShut, AreBothShut, header_mark}
 use Rattle.journal_migration.specs.Starting.{IsSettledBoth}
-use Rattle.journal_migration.proofs.Copied.{framed_so}
+use Rattle.frame_journal.proofs.Framed.{framed_as}
 use Rattle.journal_migration.proofs.Sides.{own_file, read_file, settled_first, settled_one}
 use Rattle.journal_migration.proofs.Sides.{settled_second}
 
@@ -149,7 +149,7 @@ works_appended r r' n n' names to framed brought o o1 o2 pair works looks run be
     let one : new.0 ≡ x = cc in
     let moved = (next mid.0 before).moved in
     let far : r'.end ≡ r.end + 5 + length to = ap (λ (v : JournalValue). v.end) moved in
-    let is = framed_so (spellings kind.Short names respelled.batch) framed respelled.framed_is
+    let is = framed_as (spellings kind.Short names respelled.batch) framed respelled.framed_is
     (respelled.some, omega (arith, respelled.no_longer, size, far)) in
     subst (AreBothShut r' n') one
     (works_on r r' n n' framed mid.0 new.0 pair (works mid.0 before) is new.2

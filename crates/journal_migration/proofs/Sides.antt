@@ -2,11 +2,11 @@
 use Rattle.std.proofs.Common.{◌≡◌, ℕ, zero, suc, ◌-◌, ◌<◌, true, false, cond, List, None, Some}
 use Rattle.std.proofs.Common.{refl, sym, ap, subst, ◌∙◌, arith}
 use Rattle.std.specs.Prelude.{◌&&◌, nat_lt}
-use Rattle.std.proofs.lemmas.Grind.{same_number_lists}
 use Rattle.outside.specs.Files.{Two, File, IsFileImage, NothingPending, file_of, read_files}
 use Rattle.outside.specs.Files.{settled}
 use Rattle.outside.specs.Frames.{format_in, generation_in, is_open, journal_file}
 use Rattle.outside.specs.Steps.{other_of}
+use Rattle.outside.proofs.Calm.{settled_only}
 use Rattle.sync_rules.specs.declared.entries.Entry.{Entry}
 use Rattle.sync_rules.specs.Clients.{Meaning}
 use Rattle.entry_codec.specs.Naming.{format_of}
@@ -52,11 +52,6 @@ two_same m n (suc zero) few this other = λ i. record { first = other i; second 
 two_same m n (suc (suc k)) few this other = absurd (omega (arith, few))
 
 -- a crash leaves of a file in which nothing is pending what it reads as
-pub settled_only : (bytes c : List ℕ) → IsFileImage (settled bytes) c → c ≡ bytes
-settled_only bytes c image =
-    same_number_lists c bytes (omega (arith, image.no_shorter, image.no_longer)) (λ k below.
-    image.kept k (omega (arith, image.no_longer)) refl)
-
 pub image_only : (two : Two File) (file : ℕ) (c : List ℕ) → NothingPending two file → IsFileImage
     (file_of two file) c → c ≡ (file_of two file).now
 image_only two file c pending image =

@@ -14,7 +14,7 @@ use Rattle.message_graph.specs.declared.nodes.Judged.{Judged}
 use Rattle.message_graph.specs.declared.nodes.Node.{Node}
 use Rattle.message_graph.specs.Nodes as nodes
 use Rattle.journal_state.specs.Parts.{answer_of_node, answers_of, shared_among}
-use Rattle.journal_state.proofs.Places.{id_swap, id_itself}
+use Rattle.sync_rules.proofs.Elements.{same_id_itself, same_id_swap}
 use Rattle.journal_state.specs.Sound.{AreApart}
 
 abbrev pub ids_of : List Held → List Id
@@ -52,7 +52,8 @@ module _ {A : Type 0} (F F' : Held → A) (id : Id) (others : (x : Held) → sam
       let none : is_among (ids_of hs) id ≡ false = ap (is_among (ids_of hs)) (sym named ∙ ap (λ (w : Held). w.id) (sym is)) ∙ apart.0 in
       (λ i. F' (is i) ∷ rest_same hs none i)
   one_set (x ∷ hs) (suc n) h at named apart =
-      let away : same_id x.id id ≡ false = ap (same_id x.id) (sym named) ∙ (id_swap x.id h.id ∙ not_there hs n h x.id at apart.0) in
+      let away : same_id x.id id ≡ false = ap (same_id x.id) (sym named)
+      ∙ (same_id_swap x.id h.id ∙ not_there hs n h x.id at apart.0) in
       (λ i. others x away i ∷ one_set hs n h at named apart.1 i)
 
 contains-more : (s : Ids) (x q : Id) → fin_set.contains (fin_set.insert s x) q ≡ (same_id q x || fin_set.contains s q)
@@ -65,7 +66,9 @@ answers_judged clients f n h at apart =
     (λ x away. ap (λ b. cond b (Some (verdict_in clients f.groups x.message)) None) (contains-more f.judged h.id x.id ∙ ap (λ b. b || fin_set.contains f.judged x.id) away))
     f.held n h at refl apart
     ∙ ap (λ (o : Option Judgement). set (map (answer_of clients f) f.held) n o)
-    (ap (λ b. cond b (Some (verdict_in clients f.groups h.message)) None) (contains-more f.judged h.id h.id ∙ ap (λ b. b || fin_set.contains f.judged h.id) (id_itself h.id)))
+    (ap (λ b. cond b (Some (verdict_in clients f.groups h.message)) None)
+    (contains-more f.judged h.id h.id
+    ∙ ap (λ b. b || fin_set.contains f.judged h.id) (same_id_itself h.id)))
 
 -- ---- the messages that may be sent on
 

@@ -12,7 +12,7 @@ use Rattle.message_graph.specs.declared.nodes.Node.{Node}
 use Rattle.message_graph.specs.Nodes as nodes
 use Rattle.journal_state.specs.Parts.{names_where, ids_where}
 use Rattle.journal_state.specs.Sound.{AreApart}
-use Rattle.journal_state.proofs.Places.{id_swap, id_is}
+use Rattle.sync_rules.proofs.Elements.{same_id-is, same_id_swap}
 
 -- ---- distinct ids
 
@@ -42,7 +42,8 @@ pub first_apart : (hs : List Held) → AreFirst hs → AreApart (map (λ (h : He
 first_apart [] first = tt
 first_apart (h ∷ hs) first = (
   false_from_ne_true (is_among (map (λ (x : Held). x.id) hs) h.id) (λ e.
-      let t = among_at hs h.id e in not_zero (same_id h.id t.1.id) (place_of hs t.1.id) t.0 (id_swap h.id t.1.id ∙ t.3) (first (suc t.0) t.1 t.2)),
+      let t = among_at hs h.id e in not_zero (same_id h.id t.1.id) (place_of hs t.1.id) t.0
+      (same_id_swap h.id t.1.id ∙ t.3) (first (suc t.0) t.1 t.2)),
   first_apart hs (λ k x at. one_less (same_id h.id x.id) (place_of hs x.id) k (first (suc k) x at)),
 )
 
@@ -59,14 +60,15 @@ module _ (test : Node → Bool) where
       let both = or_parts (same_id n.name d) (is_among (map (λ (x : Node). x.name) ns) d) e in
       let rest = not_named ns d both.1 in
       elim (test n) as (λ b. list_any (same_id d) (cond b (n.name ∷ names_where test ns) (names_where test ns)) ≡ false) [
-        | true ↦ (λ i. (id_swap d n.name ∙ both.0) i || rest i)
+        | true ↦ (λ i. (same_id_swap d n.name ∙ both.0) i || rest i)
         | false ↦ rest
       ]
 
   here : (n : Node) (ns : List Node) (d : Id) → same_id d n.name ≡ true → is_among (map (λ (x : Node). x.name) ns) n.name ≡ false
       → (b : Bool) → list_any (same_id d) (cond b (n.name ∷ names_where test ns) (names_where test ns)) ≡ b
   here n ns d s apart true = ap (λ b. b || list_any (same_id d) (names_where test ns)) s
-  here n ns d s apart false = not_named ns d (ap (is_among (map (λ (x : Node). x.name) ns)) (id_is d n.name s) ∙ apart)
+  here n ns d s apart false = not_named ns d
+      (ap (is_among (map (λ (x : Node). x.name) ns)) (same_id-is d n.name s) ∙ apart)
 
   beyond : (n : Node) (ns : List Node) (d : Id) → same_id d n.name ≡ false
       → (b : Bool) → list_any (same_id d) (cond b (n.name ∷ names_where test ns) (names_where test ns)) ≡ list_any (same_id d) (names_where test ns)

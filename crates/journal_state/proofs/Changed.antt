@@ -9,7 +9,7 @@ use Rattle.sync_rules.specs.Facts.{Id}
 use Rattle.message_graph.specs.declared.nodes.Node.{Node}
 use Rattle.message_graph.specs.Nodes as nodes
 use Rattle.journal_state.specs.Parts.{names_where, ids_where}
-use Rattle.journal_state.proofs.Places.{id_swap, id_is, id_itself}
+use Rattle.sync_rules.proofs.Elements.{same_id-is, same_id_itself, same_id_swap}
 use Rattle.journal_state.specs.Sound.{AreApart}
 use Rattle.journal_state.proofs.Apart.{passes, set_named}
 
@@ -32,7 +32,9 @@ pub own_found : (ns : List Node) (n : ℕ) (y : Node) → slice_get ns n ≡ Som
 own_found [] n y at apart = absurd (let e : None ≡ Some y = at in cc)
 own_found (x ∷ ns) zero y at apart =
     let is : x ≡ y = cc in
-    (λ i. cond (same_id y.name (is i).name) (Some x) (nodes.node_named ns y.name)) ∙ (ap (λ b. cond b (Some x) (nodes.node_named ns y.name)) (id_itself y.name) ∙ ap Some is)
+    (λ i. cond (same_id y.name (is i).name) (Some x) (nodes.node_named ns y.name))
+    ∙ (ap (λ b. cond b (Some x) (nodes.node_named ns y.name)) (same_id_itself y.name)
+    ∙ ap Some is)
 own_found (x ∷ ns) (suc n) y at apart =
     ap (λ b. cond b (Some x) (nodes.node_named ns y.name)) (not_own ns n y x.name at apart.0) ∙ own_found ns n y at apart.1
 
@@ -55,7 +57,9 @@ module _ (f : Node → Node) (keeps : (x : Node) → (f x).name ≡ x.name) wher
       elim (same_id d x.name) as (λ b. same_id d x.name ≡ b → cond b (Some x) (nodes.node_named (nodes.change f n ns) d)
       ≡ cond (same_id d y.name) (Some (f y)) (cond b (Some x) (nodes.node_named ns d))) [
         | true ↦ λ e.
-            let away : same_id d y.name ≡ false = ap (λ (i : Id). same_id i y.name) (id_is d x.name e) ∙ (id_swap x.name y.name ∙ not_own ns n y x.name at apart.0) in
+            let away : same_id d y.name ≡ false =
+            ap (λ (i : Id). same_id i y.name) (same_id-is d x.name e)
+            ∙ (same_id_swap x.name y.name ∙ not_own ns n y x.name at apart.0) in
             sym (ap (λ b. cond b (Some (f y)) (Some x)) away)
         | false ↦ λ e. named_changed ns n y at apart.1 d
       ] refl

@@ -21,7 +21,7 @@ use Rattle.journal_state.specs.Whole.{IsState, is_delivered_in, may_go}
 use Rattle.journal_state.specs.Changes.{delivered_parts}
 use Rattle.journal_state.specs.Delivery.{goes_to, ReadiesMessage}
 use Rattle.journal_state.specs.Taking.{moved}
-use Rattle.journal_state.proofs.Places.{id_swap, id_is, id_itself}
+use Rattle.sync_rules.proofs.Elements.{same_id-is, same_id_itself, same_id_swap}
 use Rattle.journal_state.proofs.Listed.{id_there}
 use Rattle.journal_state.specs.Sound.{AreApart}
 use Rattle.journal_state.proofs.Apart.{first_apart}
@@ -84,7 +84,7 @@ not_shared (h ∷ hs) (a ∷ answers) d none =
     parts_of false b e = (refl, e)
 
 own_in : (t : Bool) (x : Id) (xs : List Id) → is_among xs x ≡ false → is_among (cond t (x ∷ xs) xs) x ≡ t
-own_in true x xs none = ap (λ b. b || is_among xs x) (id_itself x)
+own_in true x xs none = ap (λ b. b || is_among xs x) (same_id_itself x)
 own_in false x xs none = none
 
 later_in : (t : Bool) (x : Id) (xs : List Id) (d : Id) → same_id x d ≡ false → is_among (cond t (x ∷ xs) xs) d ≡ is_among xs d
@@ -95,7 +95,9 @@ away_from : (hs : List Held) (n : ℕ) (h : Held) (d : Id) → slice_get hs n �
 away_from [] n h d at none = absurd (let e : None ≡ Some h = at in cc)
 away_from (x ∷ hs) zero h d at none =
     let is : x ≡ h = cc in
-    id_swap d h.id ∙ (ap (λ (w : Held). same_id w.id d) (sym is) ∙ first (same_id x.id d) (is_among (ids_of hs) d) none)
+    same_id_swap d h.id
+    ∙ (ap (λ (w : Held). same_id w.id d) (sym is)
+    ∙ first (same_id x.id d) (is_among (ids_of hs) d) none)
   where
     first : (a b : Bool) → (a || b) ≡ false → a ≡ false
     first true b e = e
@@ -161,7 +163,8 @@ module _ (p : Parts) (s : IsState p) (n : ℕ) (y : Node) (h : Held) (at : slice
   ended_now : (d : Id) → is_among (map (name_at (nodes.with_ending n ending.Delivered p.nodes)) (p.delivered ++ n ∷ [])) d
       ≡ is_delivered_in (nodes.node_named (nodes.with_ending n ending.Delivered p.nodes) d)
   ended_now d =
-      let own : same_id d y.name ≡ same_id h.id d = ap (same_id d) (name_there p.nodes p.held s.named n y h at there) ∙ id_swap d h.id in
+      let own : same_id d y.name ≡ same_id h.id d =
+      ap (same_id d) (name_there p.nodes p.held s.named n y h at there) ∙ same_id_swap d h.id in
       let apart : AreApart (names_of p.nodes) = subst AreApart (sym s.named) (first_apart p.held s.distinct) in
       among_now d
       ∙ (ended_by (same_id h.id d) (is_among (map (name_at p.nodes) p.delivered) d) d refl (s.ended d)
@@ -185,7 +188,9 @@ module _ (p : Parts) (s : IsState p) (n : ℕ) (y : Node) (h : Held) (at : slice
         s.ready contact n h known there
         ∙ ap (λ b. b && (is_level_shared (level_at p.table.levels contact h.message.group) && (is_author h.origin || is_among (shared_among p.held (answers_of p.nodes p.shares)) h.id))) not_before in
         let is_now : is_among (map (name_at (nodes.with_ending n ending.Delivered p.nodes)) (p.delivered ++ n ∷ [])) h.id ≡ true =
-        among_now h.id ∙ (ap (λ b. is_among (map (name_at p.nodes) p.delivered) h.id || b) (id_itself h.id) ∙ or_true (is_among (map (name_at p.nodes) p.delivered) h.id)) in
+        among_now h.id
+        ∙ (ap (λ b. is_among (map (name_at p.nodes) p.delivered) h.id || b)
+        (same_id_itself h.id) ∙ or_true (is_among (map (name_at p.nodes) p.delivered) h.id)) in
         by b e was is_now
       where
         by : (b : Bool) → nat_lt contact p.table.contacts ≡ b → (retry.kept_at p.retry contact n).ready ≡ false
@@ -219,7 +224,11 @@ module _ (p : Parts) (s : IsState p) (n : ℕ) (y : Node) (h : Held) (at : slice
         && (is_author x.origin || is_among (shared_among p.held (sym (answers_kept p.nodes p.shares n ending.Delivered) i)) x.id))))
       where
         by : (b : Bool) → same_id h.id x.id ≡ b → b ≡ false
-        by true q = absurd (ne (let places : Some k ≡ Some n = sym (s.distinct k x here) ∙ (ap (place_of p.held) (sym (id_is h.id x.id q)) ∙ s.distinct n h there) in let same : k ≡ n = cc in same))
+        by true q =
+            absurd (ne
+            (let places : Some k ≡ Some n = sym (s.distinct k x here)
+            ∙ (ap (place_of p.held) (sym (same_id-is h.id x.id q)) ∙ s.distinct n h there) in
+            let same : k ≡ n = cc in same))
         by false q = refl
 
     ready_now : (contact k : ℕ) (x : Held) → contact < 256 → slice_get p.held k ≡ Some x → (b : Bool) → nat_eq k n ≡ b → (retry.kept_at t contact k).ready

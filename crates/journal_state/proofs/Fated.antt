@@ -24,7 +24,7 @@ use Rattle.journal_state.specs.Lent.{StandsForNodes, judged_of}
 use Rattle.journal_state.specs.Parts.{Parts, answer_of_node, answers_of, facts_of, is_invalid, is_judged, name_at}
 use Rattle.sync_rules.specs.Left.{left_among, left_for, left_of}
 use Rattle.journal_state.specs.Whole.{IsState, is_delivered_in, value_of}
-use Rattle.journal_state.proofs.Places.{place_found}
+use Rattle.sync_rules.proofs.PlaceLaws.{place_found}
 use Rattle.journal_state.proofs.Listed.{id_there, below_is}
 use Rattle.journal_state.proofs.Seen.{there}
 use Rattle.journal_state.specs.Sound.{AreApart}

@@ -18,7 +18,7 @@ use Rattle.journal_state.specs.Parts.{Parts, answer_of_node, answers_of, facts_o
 use Rattle.journal_state.specs.Sound.{AreApart, DeliversJudged}
 use Rattle.journal_state.specs.Whole.{IsState, is_delivered_in, value_of}
 use Rattle.journal_state.proofs.Apart.{first_apart, passes, set_named}
-use Rattle.journal_state.proofs.Places.{id_swap}
+use Rattle.sync_rules.proofs.Elements.{same_id_swap}
 
 -- ---- a node's number is its message's
 
@@ -43,7 +43,7 @@ number_from (h ∷ hs) (n ∷ ns) i e d =
     let whole : n.name ∷ map (λ (x : Node). x.name) ns ≡ h.id ∷ map (λ (x : Held). x.id) hs = e in
     let own : n.name ≡ h.id = cc in
     let rest : map (λ (x : Node). x.name) ns ≡ map (λ (x : Held). x.id) hs = cc in
-    let same : same_id d n.name ≡ same_id h.id d = ap (same_id d) own ∙ id_swap d h.id in
+    let same : same_id d n.name ≡ same_id h.id d = ap (same_id d) own ∙ same_id_swap d h.id in
     ap (λ b. cond b (Some i) (position_from (λ (node : Node). nodes.same_name d node.name) (i + 1) ns)) same
     ∙ elim (same_id h.id d) as (λ b. cond b (Some i) (position_from (λ (node : Node). nodes.same_name d node.name) (i + 1) ns)
     ≡ option_map (λ n. i + n) (cond b (Some 0) (option_map suc (place_of hs d)))) [

@@ -8,8 +8,10 @@ use Rattle.sync_rules.specs.Views.{place_of, IsFound}
 use Rattle.retry_table.specs.Table as retry
 use Rattle.journal_state.specs.Parts.{Parts, facts_of, rows_in, wants_in}
 use Rattle.journal_state.specs.Whole.{IsState}
-use Rattle.journal_state.proofs.Places.{id_is, id_itself, place_found}
-use Rattle.journal_state.proofs.Pairs.{row_at_put, lean_put}
+use Rattle.sync_rules.proofs.Elements.{same_id-is, same_id_itself}
+use Rattle.sync_rules.proofs.PlaceLaws.{place_found}
+use Rattle.sync_rules.proofs.RowLaws.{row_at_put}
+use Rattle.journal_state.proofs.Pairs.{lean_put}
 use Rattle.journal_state.proofs.Rows.{row_by, row_found, rows_are, lean_in}
 use Rattle.journal_state.proofs.Seen.{row_there}
 use Rattle.journal_state.proofs.Tables.{SameKept, either, kept_here, kept_there}
@@ -93,7 +95,14 @@ module _ (p : Parts) (s : IsState p) (contact n : ℕ) (h : Held) (at : slice_ge
   other_row c id away None found = refl
   other_row c id away (Some m) found =
       ap (λ (x : retry.KeptRow). x.row) (kept_there p.retry t contact n (retry.with_row change (retry.kept_at p.retry contact n)) k c m
-      (λ same q. false≢true (sym away ∙ (ap (λ (x : Id). same_id h.id x) (sym found.named ∙ ap (λ (x : Held). x.id) (let both : Some found.message ≡ Some h = sym found.stands ∙ (ap (slice_get p.held) q ∙ at) in (let one : found.message ≡ h = cc in one))) ∙ id_itself h.id))))
+      (λ same q. false≢true
+      (sym away
+      ∙ (ap (λ (x : Id). same_id h.id x)
+      (sym found.named
+      ∙ ap (λ (x : Held). x.id)
+      (let both : Some found.message ≡ Some h = sym found.stands
+      ∙ (ap (slice_get p.held) q ∙ at) in (let one : found.message ≡ h = cc in one)))
+      ∙ same_id_itself h.id))))
 
   each_row : (c : ℕ) (id : Id) → row_by (retry.rows_of t c) (place_of p.held id) ≡ row_at (change_row (rows_in p.retry p.held) contact h.id change) c id
   each_row c id =
@@ -102,7 +111,7 @@ module _ (p : Parts) (s : IsState p) (contact n : ℕ) (h : Held) (at : slice_ge
       by : (b : Bool) → same_id h.id id ≡ b
           → row_by (retry.rows_of t c) (place_of p.held id) ≡ cond (nat_eq c contact && same_id h.id id) (change (row_at (rows_in p.retry p.held) contact h.id)) (row_at (rows_in p.retry p.held) c id)
       by true e =
-          let is : h.id ≡ id = id_is h.id id e in
+          let is : h.id ≡ id = same_id-is h.id id e in
           ap (row_by (retry.rows_of t c)) (ap (place_of p.held) (sym is) ∙ s.distinct n h at)
           ∙ (own_row c
           ∙ ((λ i. cond (nat_eq c contact && sym e i) (change (row_at (rows_in p.retry p.held) contact h.id)) (row_at (rows_in p.retry p.held) c (is i)))))

@@ -22,7 +22,7 @@ use Rattle.message_graph.specs.Nodes as nodes
 use Rattle.journal_state.specs.Bringing.{brings_one}
 use Rattle.journal_state.specs.Parts.{Parts, facts_of, is_judged}
 use Rattle.journal_state.specs.Whole.{IsState}
-use Rattle.journal_state.proofs.Places.{id_swap}
+use Rattle.sync_rules.proofs.Elements.{same_id_swap}
 use Rattle.journal_state.specs.Sound.{AreApart, JudgesHeld}
 use Rattle.journal_state.proofs.Apart.{first_apart, passes, set_named}
 
@@ -217,7 +217,7 @@ none_named (n ∷ ns) (h ∷ hs) e id none =
     let whole : n.name ∷ map (λ (x : Node). x.name) ns ≡ h.id ∷ map (λ (x : Held). x.id) hs = e in
     let own : n.name ≡ h.id = cc in
     let rest : map (λ (x : Node). x.name) ns ≡ map (λ (x : Held). x.id) hs = cc in
-    let same : same_id id n.name ≡ same_id h.id id = ap (same_id id) own ∙ id_swap id h.id in
+    let same : same_id id n.name ≡ same_id h.id id = ap (same_id id) own ∙ same_id_swap id h.id in
     ap (λ b. cond b (Some n) (nodes.node_named ns id)) same
     ∙ elim (same_id h.id id) as (λ b. cond b (Some h) (held_at hs id) ≡ None → cond b (Some n) (nodes.node_named ns id) ≡ None) [
       | true ↦ λ w. absurd (let wrong : Some h ≡ None = w in cc)

@@ -31,8 +31,9 @@ use Rattle.journal_state.proofs.Next.{many_nodes}
 use Rattle.journal_state.proofs.Seen.{there}
 use Rattle.retry_table.specs.Table as retry
 use Rattle.journal_state.specs.Levelling.{levelled, levelled_at, SetsLevels}
-use Rattle.journal_state.proofs.Places.{id_is, id_itself, id_swap}
-use Rattle.journal_state.proofs.Pairs.{hits, hits_is, pair_total}
+use Rattle.sync_rules.proofs.Elements.{same_id-is, same_id_itself, same_id_swap}
+use Rattle.sync_rules.proofs.RowLaws.{hits, hits-is}
+use Rattle.sync_rules.proofs.ScanLaws.{pair_total}
 use Rattle.journal_state.specs.Room.{room_in}
 use Rattle.journal_state.specs.Taking.{SpendsRoom, moved}
 use Rattle.journal_state.proofs.Tables.{either, kept_here, kept_there, kept_length, room_spent, one_less}
@@ -125,15 +126,15 @@ pub level_put : (ls : fin_map.FinMap pair_cmp Level) (c : ℕ) (g : Id) (l : Lev
 level_put ls c g level.Invisible contact group =
     ap level_or (fin_map.get-remove pair_total ls (c, g) (contact, group))
     ∙ (level_dropped (eq_by_cmp pair_cmp (contact, group) (c, g)) (fin_map.get ls (contact, group))
-    ∙ ap (λ b. cond b level.Invisible (level_at ls contact group)) (hits_is contact c group g))
+    ∙ ap (λ b. cond b level.Invisible (level_at ls contact group)) (hits-is contact c group g))
 level_put ls c g level.Visible contact group =
     ap level_or (fin_map.get-insert pair_total ls (c, g) level.Visible (contact, group))
     ∙ (level_chosen (eq_by_cmp pair_cmp (contact, group) (c, g)) level.Visible (fin_map.get ls (contact, group))
-    ∙ ap (λ b. cond b level.Visible (level_at ls contact group)) (hits_is contact c group g))
+    ∙ ap (λ b. cond b level.Visible (level_at ls contact group)) (hits-is contact c group g))
 level_put ls c g level.Shared contact group =
     ap level_or (fin_map.get-insert pair_total ls (c, g) level.Shared (contact, group))
     ∙ (level_chosen (eq_by_cmp pair_cmp (contact, group) (c, g)) level.Shared (fin_map.get ls (contact, group))
-    ∙ ap (λ b. cond b level.Shared (level_at ls contact group)) (hits_is contact c group g))
+    ∙ ap (λ b. cond b level.Shared (level_at ls contact group)) (hits-is contact c group g))
 
 -- ---- delivered messages by number and by id
 
@@ -147,7 +148,8 @@ module _ (p : Parts) (s : IsState p) (n : ℕ) (h : Held) (at : slice_get p.held
       apart : (x : Held) → slice_get p.held k ≡ Some x → nat_eq n k ≡ false → (b : Bool) → same_id x.id h.id ≡ b → false ≡ b
       apart x here e false q = refl
       apart x here e true q =
-          let places : Some k ≡ Some n = sym (s.distinct k x here) ∙ (ap (place_of p.held) (id_is x.id h.id q) ∙ s.distinct n h at) in
+          let places : Some k ≡ Some n = sym (s.distinct k x here)
+          ∙ (ap (place_of p.held) (same_id-is x.id h.id q) ∙ s.distinct n h at) in
           let same : k ≡ n = cc in
           absurd (false≢true (sym e ∙ (ap (nat_eq n) same ∙ grind arith)))
 
@@ -155,7 +157,7 @@ module _ (p : Parts) (s : IsState p) (n : ℕ) (h : Held) (at : slice_get p.held
       by x here true e =
           let same : Some x ≡ Some h = sym here ∙ (ap (slice_get p.held) (sym (eqb-true n k e)) ∙ at) in
           let one : x ≡ h = cc in
-          sym (ap (λ (w : Held). same_id w.id h.id) one ∙ id_itself h.id)
+          sym (ap (λ (w : Held). same_id w.id h.id) one ∙ same_id_itself h.id)
       by x here false e = apart x here e (same_id x.id h.id) refl
 
   delivered_by : (ks : List ℕ) → list_all (λ k. nat_lt k (length p.nodes)) ks ≡ true → list_any (nat_eq n) ks ≡ is_among (map (name_at p.nodes) ks) h.id
@@ -185,11 +187,11 @@ shared_at (x ∷ hs) (a ∷ answers) zero h at apart many =
     let is : x ≡ h = cc in
     ap (λ (w : Held). is_among (cond (may_share a) (x.id ∷ shared_among hs answers) (shared_among hs answers)) w.id) (sym is)
     ∙ elim (may_share a) as (λ b. is_among (cond b (x.id ∷ shared_among hs answers) (shared_among hs answers)) x.id ≡ b) [
-      | true ↦ ap (λ b. b || is_among (shared_among hs answers) x.id) (id_itself x.id)
+      | true ↦ ap (λ b. b || is_among (shared_among hs answers) x.id) (same_id_itself x.id)
       | false ↦ none_shared hs answers x.id apart.0
     ]
 shared_at (x ∷ hs) (a ∷ answers) (suc n) h at apart many =
-    let away : same_id x.id h.id ≡ false = id_swap x.id h.id ∙ other hs n h x.id at apart.0 in
+    let away : same_id x.id h.id ≡ false = same_id_swap x.id h.id ∙ other hs n h x.id at apart.0 in
     let rest = shared_at hs answers n h at apart.1 (omega arith) in
     elim (may_share a) as (λ b. is_among (cond b (x.id ∷ shared_among hs answers) (shared_among hs answers)) h.id ≡ may_share (slice_index_or answers n None)) [
       | true ↦ ap (λ b. b || is_among (shared_among hs answers) h.id) away ∙ rest
@@ -274,7 +276,8 @@ module _ (p : Parts) (s : IsState p) (honest : Honest p.nodes p.shares) (c : ℕ
       one ∙ (two ∙ (three ∙ four))
     where
       hit : hits c h.message.group c g ≡ same_id h.message.group g
-      hit = let own : nat_eq c c ≡ true = grind arith in ap (λ b. b && same_id g h.message.group) own ∙ id_swap g h.message.group
+      hit = let own : nat_eq c c ≡ true = grind arith in
+          ap (λ b. b && same_id g h.message.group) own ∙ same_id_swap g h.message.group
 
   ready_there : (contact n : ℕ) (h : Held) → (contact ≡ c → ⊥) → contact < 256 → slice_get p.held n ≡ Some h
       → (retry.kept_at new contact n).ready ≡ may_go (put_level p.table.levels (c, g) l) (map (name_at p.nodes) p.delivered) (shared_among p.held (answers_of p.nodes p.shares)) contact h
@@ -320,7 +323,8 @@ module _ (p : Parts) (s : IsState p) (honest : Honest p.nodes p.shares) (c : ℕ
   level_shown known contact group e = by (same_id g group) refl
     where
       by : (b : Bool) → same_id g group ≡ b → is_some (group_at p.table.groups group) ≡ true
-      by true q = ap (λ (x : Id). is_some (group_at p.table.groups x)) (sym (id_is g group q)) ∙ known
+      by true q = ap (λ (x : Id). is_some (group_at p.table.groups x)) (sym (same_id-is g group q))
+          ∙ known
       by false q =
           s.shown contact group
           (ap is_invisible (sym (level_put p.table.levels c g l contact group

@@ -1,4 +1,3 @@
-pub mod Places
 pub mod Numbers
 mod OwnIds
 pub mod Pairs

@@ -24,7 +24,7 @@ use Rattle.journal_state.specs.Left.{delivered_among, one_if_delivered}
 use Rattle.journal_state.specs.Parts.{Parts, answer_of_node, answers_of, facts_of, is_invalid, is_judged, name_at, names_where, rows_in, shared_among, wants_in}
 use Rattle.journal_state.specs.Unwanted.{UnwantsBelow}
 use Rattle.journal_state.specs.Whole.{IsState, KnowsJudgements, is_delivered_in, may_go, value_of}
-use Rattle.journal_state.proofs.Places.{id_itself, id_swap}
+use Rattle.sync_rules.proofs.Elements.{same_id_itself, same_id_swap}
 use Rattle.journal_state.specs.Sound.{AreApart}
 use Rattle.journal_state.proofs.Apart.{first_apart, passes, set_named}
 use Rattle.journal_state.proofs.Rows.{row_by, row_found, rows_are, lean_in}
@@ -89,7 +89,7 @@ no_node (h ∷ hs) (n ∷ ns) e id none =
     let whole : n.name ∷ map (λ (x : Node). x.name) ns ≡ h.id ∷ map (λ (x : Held). x.id) hs = e in
     let own : n.name ≡ h.id = cc in
     let rest : map (λ (x : Node). x.name) ns ≡ map (λ (x : Held). x.id) hs = cc in
-    let same : same_id id n.name ≡ same_id h.id id = ap (same_id id) own ∙ id_swap id h.id in
+    let same : same_id id n.name ≡ same_id h.id id = ap (same_id id) own ∙ same_id_swap id h.id in
     ap (λ b. cond b (Some n) (nodes.node_named ns id)) same
     ∙ elim (same_id h.id id) as (λ b. cond b (Some h) (held_at hs id) ≡ None → cond b (Some n) (nodes.node_named ns id) ≡ None) [
       | true ↦ λ q. absurd (let wrong : Some h ≡ None = q in cc)
@@ -105,7 +105,7 @@ number_by (h ∷ hs) (n ∷ ns) i e id none =
     let whole : n.name ∷ map (λ (x : Node). x.name) ns ≡ h.id ∷ map (λ (x : Held). x.id) hs = e in
     let own : n.name ≡ h.id = cc in
     let rest : map (λ (x : Node). x.name) ns ≡ map (λ (x : Held). x.id) hs = cc in
-    let same : same_id id n.name ≡ same_id h.id id = ap (same_id id) own ∙ id_swap id h.id in
+    let same : same_id id n.name ≡ same_id h.id id = ap (same_id id) own ∙ same_id_swap id h.id in
     ap (λ b. cond b (Some i) (position_from (λ (node : Node). nodes.same_name id node.name) (i + 1) ns)) same
     ∙ elim (same_id h.id id) as (λ b. cond b (Some h) (held_at hs id) ≡ None → cond b (Some i) (position_from (λ (node : Node). nodes.same_name id node.name) (i + 1) ns) ≡ None) [
       | true ↦ λ q. absurd (let wrong : Some h ≡ None = q in cc)
@@ -292,7 +292,7 @@ module _ (p : Parts) (s : IsState p) (h : Held) (group : ℕ) (t : retry.Table) 
   distinct_new : place_of (p.held ++ h ∷ []) h.id ≡ Some (length p.held)
   distinct_new =
       place_more p.held h h.id
-      ∙ (λ i. or_end (no_place p.held h.id new i) (id_itself h.id i) (length p.held))
+      ∙ (λ i. or_end (no_place p.held h.id new i) (same_id_itself h.id i) (length p.held))
 
   wants_free : (contact : ℕ) → p.table.contacts ≤ contact → (retry.wants_of t contact).ids ≡ []
   wants_free contact beyond = u.beyond contact beyond ∙ s.free_wants contact beyond

@@ -13,7 +13,7 @@ use Rattle.message_graph.specs.declared.nodes.Node.{Node}
 use Rattle.message_graph.specs.Nodes as nodes
 use Rattle.visibility_table.specs.Table as levels
 use Rattle.journal_state.specs.Parts.{answer_of_node, answers_of}
-use Rattle.journal_state.proofs.Places.{id_swap, id_is, id_itself}
+use Rattle.sync_rules.proofs.Elements.{same_id-is, same_id_itself, same_id_swap}
 
 -- ---- groups by number
 
@@ -54,7 +54,7 @@ group_named : (gs : List Known) (g : Id) (n : ℕ) → levels.group_number gs g 
 group_named gs g n e =
     let from : position_from (λ (k : Known). same_id k.id g) 0 gs ≡ Some n = sym (position_is (λ (k : Known). same_id k.id g) gs) ∙ e in
     let t = there_from gs g 0 n from in
-    (t.0, t.1, id_is t.0.id g ((at_number gs g 0 n from).1 t.0 t.1))
+    (t.0, t.1, same_id-is t.0.id g ((at_number gs g 0 n from).1 t.0 t.1))
 
 same_by : (gs : List Known) (g h : Id) (a b : ℕ) → levels.group_number gs g ≡ Some a
     → levels.group_number gs h ≡ Some b → (x : Bool) → nat_eq a b ≡ x → (y : Bool) → same_id g h ≡ y
@@ -67,9 +67,9 @@ same_by gs g h a b p q true e false f =
     let same : a ≡ b = eqb-true a b e in
     let known : one.0 ≡ two.0 = (let both : Some one.0 ≡ Some two.0 = sym one.1 ∙ (ap (λ n. slice_get gs (n - 0)) same ∙ two.1) in cc) in
     let ids : g ≡ h = sym one.2 ∙ (ap (λ (k : Known). k.id) known ∙ two.2) in
-    absurd (false≢true (sym f ∙ (ap (same_id g) (sym ids) ∙ id_itself g)))
+    absurd (false≢true (sym f ∙ (ap (same_id g) (sym ids) ∙ same_id_itself g)))
 same_by gs g h a b p q false e true f =
-    let ids : g ≡ h = id_is g h f in
+    let ids : g ≡ h = same_id-is g h f in
     let same : a ≡ b =
     (let both : Some a ≡ Some b = sym p ∙ (ap (levels.group_number gs) ids ∙ q) in cc) in
     absurd (false≢true (sym e ∙ (ap (nat_eq a) (sym same) ∙ grind arith)))
@@ -131,7 +131,8 @@ module _ (clients : Meaning) (f : Facts) (groups : List Known) where
   both_found [] (h ∷ hs) each d = absurd each
   both_found (n ∷ ns) [] each d = absurd each
   both_found (n ∷ ns) (h ∷ hs) each d =
-      let same : same_id d n.name ≡ same_id h.id d = ap (same_id d) each.0.named ∙ id_swap d h.id in
+      let same : same_id d n.name ≡ same_id h.id d = ap (same_id d) each.0.named
+      ∙ same_id_swap d h.id in
       let later = both_found ns hs each.1 d in
       elim (same_id h.id d) as (λ b. same_id d n.name ≡ b → IsBoth (n ∷ ns) d (cond b (Some h) (held_at hs d))) [
         | true ↦ λ e. (n, ap (λ b. cond b (Some n) (nodes.node_named ns d)) e, each.0)
@@ -151,7 +152,7 @@ own_node (n ∷ ns) (h ∷ hs) e d k node p q =
     let whole : n.name ∷ map (λ (x : Node). x.name) ns ≡ h.id ∷ map (λ (x : Held). x.id) hs = e in
     let own : n.name ≡ h.id = cc in
     let rest : map (λ (x : Node). x.name) ns ≡ map (λ (x : Held). x.id) hs = cc in
-    let same : same_id d n.name ≡ same_id h.id d = ap (same_id d) own ∙ id_swap d h.id in
+    let same : same_id d n.name ≡ same_id h.id d = ap (same_id d) own ∙ same_id_swap d h.id in
     ap (λ b. cond b (Some n) (nodes.node_named ns d)) same
     ∙ elim (same_id h.id d) as (λ b. cond b (Some 0) (option_map suc (place_of hs d)) ≡ Some k → cond b (Some n) (nodes.node_named ns d) ≡ Some node) [
       | true ↦ λ p. let zero_is : 0 ≡ k = cc in (let at : Some n ≡ Some node = ap (slice_get (n ∷ ns)) zero_is ∙ q in at)

@@ -6,7 +6,8 @@ use Rattle.sync_rules.specs.Facts.{Id, Held, Row, Rows, no_row, row_at}
 use Rattle.sync_rules.specs.Views.{place_of}
 use Rattle.retry_table.specs.Table as retry
 use Rattle.journal_state.specs.Parts.{put_rows, rows_from, rows_in}
-use Rattle.journal_state.proofs.Pairs.{row_at_put, row_at_empty, IsLean, lean_empty, lean_put, same_rows}
+use Rattle.sync_rules.proofs.RowLaws.{row_at_put}
+use Rattle.journal_state.proofs.Pairs.{row_at_empty, IsLean, lean_empty, lean_put, same_rows}
 
 -- the row of the message of a place
 abbrev pub row_by : List retry.KeptRow → Option ℕ → Row

@@ -12,7 +12,7 @@ use Rattle.sync_rules.specs.Facts.{Facts, Held, Id, held_at, is_held}
 use Rattle.sync_ids.specs.declared.lists.TheConstants.{MAX_IDS}
 use Rattle.sync_rules.specs.Sessions.{acks_due, due_by, first_id, ids_where, offers_due, offers_of, out_or, owed_to, requests_due, send_due, send_of, wanted_of}
 use Rattle.journal_state.specs.Taking.{CanSend}
-use Rattle.journal_state.proofs.Places.{id_itself, id_swap}
+use Rattle.sync_rules.proofs.Elements.{same_id_itself, same_id_swap}
 use Rattle.journal_state.specs.Sound.{AreApart}
 
 abbrev ids_of : List Held → List Id
@@ -56,7 +56,7 @@ none_more : (x : Id) (earlier xs : List Id) → is_among xs x ≡ false → None
 none_more x earlier [] apart none = tt
 none_more x earlier (y ∷ ys) apart none =
     let both = or_parts (same_id y x) (is_among ys x) apart in
-    ((λ i. (id_swap x y ∙ both.0) i || none.0 i), none_more x earlier ys both.1 none.1)
+    ((λ i. (same_id_swap x y ∙ both.0) i || none.0 i), none_more x earlier ys both.1 none.1)
 
 firsts_apart : (earlier xs : List Id) → AreApart xs → NoneAmong earlier xs → firsts_after earlier xs ≡ xs
 firsts_apart earlier [] apart none = refl
@@ -86,7 +86,10 @@ all_more x held (h ∷ hs) all = (held_more x held h.id all.0, all_more x held h
 
 all_held : (held : List Held) → AllHeld held held
 all_held [] = tt
-all_held (h ∷ hs) = (ap (λ b. is_some (cond b (Some h) (held_at hs h.id))) (id_itself h.id), all_more h hs hs (all_held hs))
+all_held (h ∷ hs) = (
+  ap (λ b. is_some (cond b (Some h) (held_at hs h.id))) (same_id_itself h.id),
+  all_more h hs hs (all_held hs),
+)
 
 held_where : (held : List Held) (test : Held → Bool) (hs : List Held) → AllHeld held hs → list_all (is_held held) (ids_where test hs) ≡ true
 held_where held test [] all = refl

@@ -12,7 +12,7 @@ use Rattle.message_graph.specs.declared.nodes.Ending.TheVariants as ending
 use Rattle.message_graph.specs.Nodes as nodes
 use Rattle.journal_state.specs.Parts.{Parts, name_at}
 use Rattle.journal_state.specs.Whole.{StateValue, IsState, is_delivered_in, value_of}
-use Rattle.journal_state.proofs.Places.{place_found}
+use Rattle.sync_rules.proofs.PlaceLaws.{place_found}
 use Rattle.journal_state.proofs.Paired.{own_node}
 use Rattle.journal_state.proofs.Seen.{there}
 use Rattle.journal_state.proofs.Next.{many_nodes}

@@ -21,7 +21,7 @@ use Rattle.journal_state.specs.Parts.{Parts, answer_of_node, answers_of, facts_o
 use Rattle.journal_state.specs.Whole.{IsState, KnowsJudgements, is_delivered_in, may_go, value_of}
 use Rattle.journal_state.specs.Changes.{judged_parts, invalid_parts}
 use Rattle.journal_state.specs.Taking.{moved}
-use Rattle.journal_state.proofs.Places.{id_is}
+use Rattle.sync_rules.proofs.Elements.{same_id-is}
 use Rattle.journal_state.specs.Sound.{AreApart}
 use Rattle.journal_state.proofs.Apart.{first_apart}
 use Rattle.journal_state.proofs.Changed.{names_of, own_found, names_kept, named_changed, names_same, set_grown}
@@ -92,7 +92,7 @@ module _ (p : Parts) (s : IsState p) (f : Node → Node) (keeps : (x : Node) →
   ended_by : (b : Bool) (d : Id) → same_id d y.name ≡ b → nodes.is_delivered (f y).ending ≡ nodes.is_delivered y.ending
       → is_delivered_in (nodes.node_named p.nodes d) ≡ is_delivered_in (cond b (Some (f y)) (nodes.node_named p.nodes d))
   ended_by true d e same =
-      ap (λ (x : Id). is_delivered_in (nodes.node_named p.nodes x)) (id_is d y.name e)
+      ap (λ (x : Id). is_delivered_in (nodes.node_named p.nodes x)) (same_id-is d y.name e)
       ∙ (ap is_delivered_in (own_found p.nodes n y at (subst AreApart (sym s.named) (first_apart p.held s.distinct))) ∙ sym same)
   ended_by false d e same = refl
 
@@ -126,7 +126,10 @@ module _ (p : Parts) (s : IsState p) (n : ℕ) (y : Node) (h : Held) (at : slice
       ap (λ b. is_level_shared (level_at p.table.levels contact x.message.group) && (is_author x.origin || b)) (sym (shared_others p.held (answers_of p.nodes p.shares) n h (Some a) x.id there away))
     where
       by : (b : Bool) → same_id h.id x.id ≡ b → b ≡ false
-      by true q = absurd (false≢true (sym not_delivered ∙ (ap (is_among (map (name_at p.nodes) p.delivered)) (id_is h.id x.id q) ∙ e)))
+      by true q =
+          absurd (false≢true
+          (sym not_delivered
+          ∙ (ap (is_among (map (name_at p.nodes) p.delivered)) (same_id-is h.id x.id q) ∙ e)))
       by false q = refl
 
   ordered : (k : ℕ) (x : Node) → slice_get (nodes.with_answer n j p.nodes) k ≡ Some x → x.answer ≡ None → x.ending ≡ None

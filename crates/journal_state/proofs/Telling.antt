@@ -27,7 +27,7 @@ use Rattle.journal_state.specs.Stepping.{entry_of}
 use Rattle.journal_state.specs.Taking.{CanHold}
 use Rattle.journal_state.specs.Telling.{TellsSteps, TellsTo, TellsWithin, kept_entry, no_message, told_entries, told_entry, told_number, told_step}
 use Rattle.journal_state.specs.Whole.{StateValue, id_at}
-use Rattle.journal_state.proofs.Places.{id_swap}
+use Rattle.sync_rules.proofs.Elements.{same_id_swap}
 
 -- ---- a step
 
@@ -150,7 +150,8 @@ not_before : (hs : List Held) (n : ℕ) (h : Held) → slice_get hs n ≡ Some h
 not_before [] n h at apart = absurd (let e : None ≡ Some h = at in cc)
 not_before (x ∷ hs) zero h at apart = refl
 not_before (x ∷ hs) (suc n) h at apart =
-    let away : same_id x.id h.id ≡ false = id_swap x.id h.id ∙ another_id hs n h x.id at apart.0 in
+    let away : same_id x.id h.id ≡ false = same_id_swap x.id h.id
+    ∙ another_id hs n h x.id at apart.0 in
     ap (λ b. cond b (Some x) (held_at (take n hs) h.id)) away ∙ not_before hs n h at apart.1
 
 one_taken : (hs : List Held) (n : ℕ) (h : Held) → slice_get hs n ≡ Some h → take (n + 1) hs ≡ take n hs ++ h ∷ []

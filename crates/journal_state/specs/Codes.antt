@@ -1,20 +1,18 @@
 -- The facts of a journal as data: a code for each part, by which what a contract sees can hold them.
-use Rattle.std.specs.Prelude.{ℕ, Bool, List, Option, refl}
-use Rattle.std.specs.Coded.{Coded, code_by, coded×, coded_list, coded_option, coded_bool, coded_ℕ}
+use Rattle.std.specs.Prelude.{ℕ, List, Option, refl}
+use Rattle.std.specs.Coded.{Coded, code_by, coded×, coded_list, coded_option, coded_ℕ}
 use Rattle.std.specs.FinMap as fin_map
 use Rattle.std.specs.FinSet as fin_set
 use Rattle.std.specs.Ordering.{nat_cmp}
-use Rattle.sync_ids.specs.Values.{MessageValue}
 use Rattle.sync_rules.specs.contracts.answers.Judgement as judgement
 use Rattle.sync_rules.specs.contracts.entries.Session as session
-use Rattle.sync_rules.specs.contracts.states.Origin as origin
 use Rattle.sync_rules.specs.contracts.states.Start as start
 use Rattle.sync_rules.specs.declared.answers.Judgement.{Judgement}
 use Rattle.sync_rules.specs.declared.entries.Session.{Session}
-use Rattle.sync_rules.specs.declared.states.Origin.{Origin}
 use Rattle.sync_rules.specs.declared.states.Start.{Start}
-use Rattle.sync_rules.specs.Codes.{id_code, known_code, levels_code}
-use Rattle.sync_rules.specs.Facts.{Facts, Held, Id, Ids, Known, LevelMap, Row, Rows, Wants}
+use Rattle.sync_rules.specs.Codes.{held_code, id_code, known_code, levels_code, rows_code}
+use Rattle.sync_rules.specs.Codes.{wants_code}
+use Rattle.sync_rules.specs.Facts.{Facts, Held, Id, Ids, Known, LevelMap, Rows, Wants}
 
 abbrev pub sessions_code : Coded (List Session)
 sessions_code = coded_list session.the_row.coded
@@ -22,30 +20,8 @@ sessions_code = coded_list session.the_row.coded
 abbrev pub takes_code : Coded (fin_map.FinMap nat_cmp ℕ)
 takes_code = fin_map.code coded_ℕ coded_ℕ
 
-abbrev pub message_code : Coded MessageValue
-message_code =
-    code_by (Id × (ℕ × Id)) (coded× id_code (coded× coded_ℕ id_code)) (λ m. (m.group, (m.timestamp, m.body)))
-    (λ p. record { group = p.0; timestamp = p.1.0; body = p.1.1 }) (λ _. refl)
-
-abbrev pub held_code : Coded Held
-held_code =
-    code_by (Id × (MessageValue × Origin)) (coded× id_code (coded× message_code origin.the_row.coded)) (λ h. (h.id, (h.message, h.origin)))
-    (λ p. record { id = p.0; message = p.1.0; origin = p.1.1 }) (λ _. refl)
-
 abbrev pub ids_code : Coded Ids
 ids_code = fin_set.code id_code
-
-abbrev pub row_code : Coded Row
-row_code =
-    code_by (Bool × (Bool × (Bool × (ℕ × ℕ)))) (coded× coded_bool (coded× coded_bool (coded× coded_bool (coded× coded_ℕ coded_ℕ))))
-    (λ r. (r.seen, (r.owed, (r.asked, (r.tries, r.expiry)))))
-    (λ p. record { seen = p.0; owed = p.1.0; asked = p.1.1.0; tries = p.1.1.1.0; expiry = p.1.1.1.1 }) (λ _. refl)
-
-abbrev pub rows_code : Coded Rows
-rows_code = fin_map.code (coded× coded_ℕ id_code) row_code
-
-abbrev pub wants_code : Coded Wants
-wants_code = fin_map.code coded_ℕ (coded_list id_code)
 
 -- how the journal began, the contacts, groups, levels and sessions; the messages; what is owed and wanted
 abbrev Before : Type 0

@@ -12,3 +12,4 @@ pub mod ClockSteps
 pub mod CallCounts
 pub mod RunLaws
 pub mod CallSteps
+pub mod Calm

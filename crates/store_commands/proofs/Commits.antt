@@ -1,13 +1,13 @@
 -- From the batch that is added to the entry and its line.
-use Rattle.std.proofs.Common.{◌≡◌, ℕ, ◌<◌, List, [], ◌∷◌, ◌++◌, length, refl, sym, ap}
-use Rattle.std.proofs.Common.{◌∙◌, subst, inl, arith, Some, Result, Ok, Err}
-use Rattle.std.proofs.lemmas.List.{ext_get_or}
+use Rattle.std.proofs.Common.{◌≡◌, ℕ, List, [], ◌∷◌, ◌++◌, sym, ap}
+use Rattle.std.proofs.Common.{◌∙◌, subst, inl, Some, Result, Ok, Err}
 use Rattle.outside.specs.Files.{Two, File, IsFileImage, IsImage, NothingPending, read_files}
 use Rattle.outside.specs.Files.{settled}
 use Rattle.outside.specs.Links.{sent_of}
 use Rattle.outside.specs.Outside.{Outside, Moment, DiskRun}
 use Rattle.outside.proofs.CallSteps.{moments_none, run_none}
 use Rattle.outside.specs.Streams.{Stream, IsIdle}
+use Rattle.outside.proofs.Calm.{settled_only}
 use Rattle.sync_rules.specs.declared.entries.Entry.{Entry}
 use Rattle.sync_rules.specs.Clients.{Meaning}
 use Rattle.sync_rules.proofs.WorkLaws.{settles_itself}
@@ -31,12 +31,6 @@ use Rattle.store_commands.proofs.Working.{failed_by, printed_by, printed_ends, p
 -- ---- no call was made
 
 -- a crash leaves of a file in which nothing is pending what a read gives
-settled_only : (bytes left : List ℕ) → IsFileImage (settled bytes) left → left ≡ bytes
-settled_only bytes left image =
-    let long : length left ≡ length bytes = omega (arith, image.no_shorter, image.no_longer) in
-    ext_get_or 0 left bytes long (λ i below. let within : i < length bytes =
-    omega (arith, below, long) in image.kept i within refl)
-
 file_only : (file : File) (left : List ℕ) → file ≡ settled file.now → IsFileImage file left
     → left ≡ file.now
 file_only file left pending image =

@@ -20,6 +20,7 @@ use Rattle.sync_rules.specs.declared.states.Refused.TheVariants as refused
 use Rattle.sync_rules.specs.Clients.{Meaning}
 use Rattle.sync_rules.specs.Lists.{is_among, same_id}
 use Rattle.sync_rules.specs.Facts.{Facts, Held, Id, Known, after, after_all, after_batches}
+use Rattle.sync_rules.specs.EntryTests.{IsSettlingEntry}
 use Rattle.sync_rules.specs.Facts.{group_at, held_at}
 use Rattle.sync_rules.specs.Legal.{accepts_served, AllSettling, IsSettling}
 use Rattle.sync_rules.specs.Steps.{is_beside}
@@ -178,8 +179,10 @@ level_may clients f c g l known there = record {
         let below : c < f.contacts = ltb-true c f.contacts known in (
           refl,
           settled,
-          subst (λ n. c < n) (sym s.contacts) below,
-          ap (λ (gs : List Known). is_some (group_at gs g)) s.groups ∙ there,
+          (
+            subst (λ n. c < n) (sym s.contacts) below,
+            ap (λ (gs : List Known). is_some (group_at gs g)) s.groups ∙ there,
+          ),
         );
   };
   kind = refl;

@@ -23,6 +23,7 @@ pub mod MeetingLaws
 pub mod OutputLaws
 pub mod Outputs
 pub mod PeerFacts
+pub mod PlaceLaws
 pub mod RoundLaws
 pub mod RowLaws
 pub mod Runs

@@ -10,7 +10,9 @@ use Rattle.sync_rules.specs.declared.entries.Out.TheVariants as out
 use Rattle.sync_rules.specs.declared.limits.TheConstants.{MAX_TRIES}
 use Rattle.sync_rules.specs.Lists.{same_id, is_among, has_repeat, firsts, firsts_after, unless_among}
 use Rattle.sync_rules.specs.Facts.{Facts, Id, Row, Rows, pair_cmp, no_row, is_no_row, row_or, row_at, put_row, change_row, change_rows, row_heard, row_seen, row_acked, row_asked, row_offered, row_sent, row_tried, one_more_try, expiry_after, wait_for, contact_of, latency_of, after, after_all}
-use Rattle.sync_rules.specs.PeerLaws.{is_with, is_of, is_heard, is_shown_seen, is_asked, is_counted_from, acks, sends, tries, is_out, is_acked, is_answered, tries_stated, expiry_stated, never}
+use Rattle.sync_rules.specs.PeerLaws.{is_with, is_of, is_heard, is_shown_seen, is_asked}
+use Rattle.sync_rules.specs.PeerLaws.{is_counted_from, tries, is_out, is_acked, is_answered}
+use Rattle.sync_rules.specs.PeerLaws.{tries_stated, expiry_stated, never}
 use Rattle.sync_rules.proofs.Elements.{same_id-is, same_id_itself, same_id_swap}
 use Rattle.sync_rules.proofs.ScanLaws.{pair_total, pair_tied}
 
@@ -40,10 +42,13 @@ row_dropped false o = refl
 abbrev pub hits : ℕ → Id → ℕ → Id → Bool
 hits contact id c x = nat_eq contact c && same_id x id
 
-hits-is : (contact c : ℕ) (id x : Id) → eq_by_cmp pair_cmp (contact, id) (c, x) ≡ hits contact id c x
+pub hits-is : (contact c : ℕ) (id x : Id)
+    → eq_by_cmp pair_cmp (contact, id) (c, x) ≡ hits contact id c x
 hits-is contact c id x = pair_tied contact c id x ∙ ap (λ b. nat_eq contact c && b) (same_id_swap id x)
 
-row_at_put : (rows : Rows) (contact c : ℕ) (id x : Id) (r : Row) → row_at (put_row rows (c, x) r) contact id ≡ cond (hits contact id c x) r (row_at rows contact id)
+pub row_at_put : (rows : Rows) (contact c : ℕ) (id x : Id) (r : Row)
+    → row_at (put_row rows (c, x) r) contact id
+    ≡ cond (hits contact id c x) r (row_at rows contact id)
 row_at_put rows contact c id x r =
     elim (is_no_row r) as (λ b. is_no_row r ≡ b → row_at (cond b (fin_map.remove rows (c, x)) (fin_map.insert rows (c, x) r)) contact id ≡ cond (hits contact id c x) r (row_at rows contact id)) [
       | true ↦ λ e.

@@ -2,7 +2,7 @@
 //! batch adds to a session's output, and what each entry of a legal journal meets. Each is the
 //! contract of a function that does nothing, over every journal and over every meaning of the
 //! clients; most are of facts, so that they serve where the journal is not known. The lemmas of
-//! `specs/` that prove them may be cited as well.
+//! `proofs/` that prove them may be cited as well.
 ghost use Rattle.std.specs.Prelude.{◌≡◌, ℕ, ◌≤◌, true, List, [], ◌∷◌, ◌++◌, length, Option, Some};
 ghost use Rattle.std.specs.Prelude.{None};
 ghost use Rattle.std.specs.List.{AllByRecursion, list_all};

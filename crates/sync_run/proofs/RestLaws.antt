@@ -3,7 +3,7 @@ use Rattle.std.proofs.Common.{◌≡◌, ℕ, List, sym, ap, ◌∙◌, subst, O
 use Rattle.outside.specs.Disk.{RelatesTold}
 use Rattle.outside.specs.Files.{File, IsFileImage, IsImage, NothingPending, SyncsBoth, Two}
 use Rattle.outside.specs.Files.{read_files, settled}
-use Rattle.frame_journal.proofs.Torn.{settled_only}
+use Rattle.outside.proofs.Calm.{settled_only}
 use Rattle.sync_rules.specs.Clients.{Meaning}
 use Rattle.sync_store.specs.Store.{StoreValue}
 use Rattle.sync_store.specs.Ready.{IsReady}

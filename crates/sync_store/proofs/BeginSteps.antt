@@ -11,6 +11,7 @@ use Rattle.outside.specs.Disk.{RelatesTold}
 use Rattle.outside.specs.Outside.{AnyImage, DiskRun, IsNow, Moment, MomentsAre, OnlyReads, Outside}
 use Rattle.outside.specs.Steps.{FileMoment, PassedMoments}
 use Rattle.outside.proofs.CallSteps.{becomes_told, moments_map, moments_then}
+use Rattle.outside.proofs.Calm.{settled_only}
 use Rattle.frame_journal.specs.Create.{ClearsFile, CreatesJournal, BeforeOrShut, ShutOrBegun}
 use Rattle.frame_journal.specs.Create.{begun_bytes}
 use Rattle.frame_journal.specs.declared.fault.DiskFault.{DiskFault}
@@ -24,7 +25,6 @@ use Rattle.entry_codec.specs.Standing.{journal, no_store}
 use Rattle.entry_codec.specs.ReadingFiles.{read_standing, stands_in}
 use Rattle.file_standing.specs.Standing.{stands}
 use Rattle.sync_store.specs.Begin.{BeginsJournal, InitMoment, IsFree, has_open}
-use Rattle.sync_store.proofs.FitSteps.{settled_only}
 
 -- no header is open
 none_open : (m : Two (List ℕ)) → is_open m.first ≡ false → is_open m.second ≡ false

@@ -4,7 +4,6 @@ use Rattle.std.proofs.Common.{length, Option, Some, Ok, Err, refl, sym, ap, ◌�
 use Rattle.std.proofs.Common.{arith}
 use Rattle.std.specs.List.{AllByRecursion}
 use Rattle.std.specs.Option.{ForSome}
-use Rattle.std.proofs.lemmas.List.{ext_get_or}
 use Rattle.outside.specs.Files.{Two, File, IsFileImage, IsImage, NothingPending, file_of}
 use Rattle.outside.specs.Files.{read_files, settled}
 use Rattle.outside.specs.Frames.{HasFrames, IsAtRest, format_in, generation_in}
@@ -30,22 +29,19 @@ use Rattle.entry_codec.specs.Standing.{journal, room_of}
 use Rattle.file_standing.specs.Standing.{stands}
 use Rattle.entry_codec.specs.StandingLaws.{JournalsStand}
 use Rattle.outside.specs.declared.limits.TheConstants.{MAX_JOURNAL}
+use Rattle.outside.proofs.Calm.{settled_only}
 use Rattle.sync_store.specs.declared.fault.StoreFault.{StoreFault}
 use Rattle.sync_store.specs.Store.{StoreValue, format_meant, written_in}
 use Rattle.sync_store.specs.Fitting.{FitsFiles, FitsSome}
 use Rattle.sync_store.specs.Commits.{GainsBatch, MayAdd}
 use Rattle.sync_store.specs.Moments.{JournalMoment, LeadsTo, WithAtMost, RunsCommit}
-use Rattle.sync_store.proofs.Framing.{end_framed, framed_long}
+use Rattle.frame_journal.proofs.Framed.{framed_long}
+use Rattle.sync_store.proofs.Framing.{end_framed}
 use Rattle.sync_store.proofs.Headers.{one_format, one_generation, one_journal_file}
 
 -- ---- the two files
 
 -- a crash leaves of a file in which nothing is pending what it reads as
-pub settled_only : (bytes c : List ℕ) → IsFileImage (settled bytes) c → c ≡ bytes
-settled_only bytes c image =
-    ext_get_or 0 c bytes (omega (arith, image.no_shorter, image.no_longer))
-    (λ i below. image.kept i (omega (arith, image.no_shorter, image.no_longer)) refl)
-
 other_settled : (two : Two File) (file : ℕ) → NothingPending two 0 → NothingPending two 1
     → other_of two file ≡ settled (other_of two file).now
 other_settled two zero first second = second

@@ -1,10 +1,7 @@
--- A payload within its frame.
-use Rattle.std.proofs.Common.{◌≡◌, ℕ, ◌+◌, ◌-◌, List, [], ◌∷◌, ◌++◌, length, take, drop, refl, sym}
-use Rattle.std.proofs.Common.{ap, ◌∙◌, subst, arith, length-append, append_assoc}
-use Rattle.std.specs.Int.{w32, to_be_bytes}
-use Rattle.std.proofs.Math.Seq.{take-append_seam, drop-append_seam}
-use Rattle.outside.specs.Frames.{IsPayload}
-use Rattle.frame_journal.specs.Append.{framed_of, payload_of, IsFramed}
+-- The end of a journal with a batch more.
+use Rattle.std.proofs.Common.{◌≡◌, ℕ, ◌+◌, List, [], ◌∷◌, ◌++◌, length, ap, arith}
+use Rattle.frame_journal.specs.Append.{payload_of, IsFramed}
+use Rattle.frame_journal.proofs.Framed.{framed_long}
 use Rattle.sync_rules.specs.declared.entries.Entry.{Entry}
 use Rattle.sync_rules.specs.Facts.{facts}
 use Rattle.entry_codec.specs.declared.naming.Format.{Format}
@@ -12,40 +9,6 @@ use Rattle.entry_codec.specs.Payloads.{journal_end, names_of, payload}
 use Rattle.entry_codec.proofs.Growing.{journal_end_push}
 use Rattle.entry_codec.proofs.LawProofs.{batch_len_same}
 
-be_long : (n : ℕ) → length (to_be_bytes w32 n) ≡ 4
-be_long n = refl
-
-pub framed_length : (p : List ℕ) → length (framed_of p) ≡ 5 + length p
-framed_length p =
-    let head = to_be_bytes w32 (length p) in
-    omega (arith, be_long (length p), length-append head p, length-append (head ++ p) (0 ∷ []))
-
-behind_head : (p : List ℕ) → drop 4 (framed_of p) ≡ p ++ 0 ∷ []
-behind_head p =
-    let head = to_be_bytes w32 (length p) in
-    ap (drop 4) (append_assoc head p (0 ∷ []))
-    ∙ ap (λ n. drop n (head ++ (p ++ 0 ∷ []))) (sym (be_long (length p)))
-    ∙ drop-append_seam head (p ++ 0 ∷ [])
-
-pub payload_framed : (p : List ℕ) → payload_of (framed_of p) ≡ p
-payload_framed p =
-    let n : length (framed_of p) - 5 ≡ length p = omega (arith, framed_length p) in
-    ap (λ k. take k (drop 4 (framed_of p))) n ∙ ap (take (length p)) (behind_head p)
-    ∙ take-append_seam p (0 ∷ [])
-
-pub framed_so : (p : List ℕ) → IsPayload p → IsFramed (framed_of p)
-framed_so p fits =
-    let same = payload_framed p in
-    record {
-      fits = subst IsPayload (sym same) fits;
-      spelled = ap framed_of (sym same);
-    }
-
-pub framed_long : (framed : List ℕ) → IsFramed framed → length framed ≡ 5 + length
-    (payload_of framed)
-framed_long framed is_framed = ap length is_framed.spelled ∙ framed_length (payload_of framed)
-
--- the end of a journal with a batch more
 pub end_framed : (format : Format) (j : List (List Entry)) (b : List Entry) (framed : List ℕ)
     → IsFramed framed → payload_of framed ≡ payload format (facts j) b
     → journal_end format (j ++ b ∷ []) ≡ journal_end format j + length framed

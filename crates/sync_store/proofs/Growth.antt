@@ -5,12 +5,11 @@ use Rattle.std.proofs.Common.{ap, ◌∙◌, subst, inl, inr, arith}
 use Rattle.std.specs.List.{AllByRecursion}
 use Rattle.std.proofs.lemmas.Bool.Decides.{nat_tests}
 use Rattle.outside.specs.Files.{Two, File, file_of}
-use Rattle.outside.specs.Frames.{IsPayload}
 use Rattle.outside.specs.Disk.{RelatesTold}
 use Rattle.outside.specs.Outside.{Outside, MakesAtMost, MakesCalls, MakesJust}
 use Rattle.outside.specs.Steps.{PassedMoments}
 use Rattle.outside.proofs.CallCounts.{most_none}
-use Rattle.frame_journal.specs.Append.{AppendsFrame, BeforeOrWith, IsFramed, framed_of, payload_of}
+use Rattle.frame_journal.specs.Append.{AppendsFrame, BeforeOrWith, framed_of, payload_of}
 use Rattle.sync_rules.specs.declared.entries.Entry.{Entry}
 use Rattle.sync_rules.specs.declared.limits.TheConstants.{MAX_STEPS}
 use Rattle.sync_rules.specs.Allows.{is_account_kind}
@@ -40,12 +39,11 @@ use Rattle.sync_store.specs.Settling.{BatchSo, ComesBy, IsOneBatch, MakesBatch}
 use Rattle.sync_store.proofs.FitSteps.{IsSame, adds_err, adds_ok, fits_some_same, framed_len}
 use Rattle.sync_store.proofs.FitSteps.{true≢false}
 use Rattle.sync_store.proofs.FormatLaws.{room_framed, room_less, steps_few, steps_some}
-use Rattle.sync_store.proofs.Framing.{framed_length, framed_so, payload_framed}
-use Rattle.sync_store.proofs.HeldIds.{names_stay}
+use Rattle.frame_journal.proofs.Framed.{framed_as, framed_length, payload_framed}
 use Rattle.sync_store.proofs.OldKinds.{allowed_old, kinds_of, settling_old}
 use Rattle.sync_store.proofs.Limits.{counts_more}
 use Rattle.sync_store.proofs.SettleSteps.{calls_closed, calls_one, leads_one, leads_one_closed}
-use Rattle.sync_store.proofs.Steps.{numbers_stay}
+use Rattle.sync_store.proofs.Steps.{names_stay, numbers_stay}
 
 -- ---- numbers
 
@@ -130,9 +128,6 @@ ready_same clients s new files ready same answers still = record {
 
 -- ---- a batch in its frame
 
-framed_by : (p framed : List ℕ) → framed ≡ framed_of p → IsPayload p → IsFramed framed
-framed_by p framed is fits = subst IsFramed (sym is) (framed_so p fits)
-
 payload_by : (p framed : List ℕ) → framed ≡ framed_of p → payload_of framed ≡ p
 payload_by p framed is = ap payload_of is ∙ payload_framed p
 
@@ -165,7 +160,7 @@ may_add laws clients s new batch framed store facts end format allowed plain wit
       kinds =
           kinds_of (written_in new) batch (allowed_old clients s.state.facts batch allowed plain);
       within = within;
-      is_framed = framed_by p framed is (omega (arith, short.0, len), omega (arith, short.1, len));
+      is_framed = framed_as p framed is (omega (arith, short.0, len), omega (arith, short.1, len));
       payload_is =
           payload_by p framed is ∙ ap (λ (k : Format). payload k s.state.facts batch) (sym same)
           ∙ ap (λ (f : Facts). payload (written_in new) f batch) (sym facts);
@@ -202,7 +197,7 @@ filled_may clients s facts es framed f =
       kinds = kinds_of kind es (settling_old clients s.state.facts es f.settling);
       within = f.within;
       is_framed =
-          framed_by p framed f.framed_is (
+          framed_as p framed f.framed_is (
             omega (arith, f.long, len, steps_some kind (length es) f.some),
             omega (arith, f.long, len, f.few, steps_few kind (length es)),
           );

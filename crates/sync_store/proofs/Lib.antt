@@ -5,7 +5,6 @@ mod Headers
 mod FormatLaws
 mod OldKinds
 mod Framing
-mod HeldIds
 mod FitSteps
 mod Steps
 mod SettleSteps

@@ -2,7 +2,6 @@
 use Rattle.std.proofs.Common.{◌≡◌, ℕ, ◌+◌, ◌≤◌, false, List, [], length, map, take, refl, sym, ap}
 use Rattle.std.proofs.Common.{subst, ◌∙◌, arith}
 use Rattle.std.specs.Prelude.{Option, None, Some, Ok, Err}
-use Rattle.std.proofs.lemmas.Grind.{same_number_lists}
 use Rattle.sync_rules.specs.Clients.{Meaning}
 use Rattle.std.specs.FinMap as fin_map
 use Rattle.std.specs.Ordering.{nat_cmp}
@@ -29,6 +28,7 @@ use Rattle.entry_codec.proofs.FrontLaws.{front_closed, front_format, front_frame
 use Rattle.entry_codec.proofs.FrontLaws.{front_start}
 use Rattle.journal_state.specs.Whole.{KnowsJudgements, StateValue}
 use Rattle.outside.specs.declared.limits.TheConstants.{MAX_JOURNAL}
+use Rattle.outside.proofs.Calm.{settled_only}
 use Rattle.sync_store.specs.Store.{StoreValue, format_meant}
 use Rattle.sync_store.specs.Fitting.{FitsSome}
 use Rattle.sync_store.specs.Ready.{IsReady}
@@ -41,11 +41,6 @@ use Rattle.sync_store.proofs.FormatLaws.{known_format, unknown_format}
 use Rattle.sync_store.proofs.LoadSteps.{as_read}
 
 -- ---- the barrier
-
-settled_only : (bytes c : List ℕ) → IsFileImage (settled bytes) c → c ≡ bytes
-settled_only bytes c image =
-    same_number_lists c bytes (omega (arith, image.no_shorter, image.no_longer)) (λ k below.
-    image.kept k (omega (arith, image.no_longer)) refl)
 
 -- an image of the settled files is the files as they read, and that is an image of the files
 settled_back : (old new : Two File) (c : Two (List ℕ)) → IsImage old (read_files old)

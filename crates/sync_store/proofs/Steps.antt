@@ -5,6 +5,7 @@ use Rattle.std.specs.List.{AllByRecursion}
 use Rattle.std.proofs.lemmas.Bool.{false≢true}
 use Rattle.sync_rules.specs.declared.entries.Entry.{Entry}
 use Rattle.sync_rules.specs.Clients.{Meaning}
+use Rattle.sync_rules.specs.Consistency.{ids_of_held}
 use Rattle.sync_rules.specs.Facts.{Facts, after, after_all, after_batches, takes_of}
 use Rattle.sync_rules.specs.Left.{left_of}
 use Rattle.sync_rules.proofs.LeftLaws.{steps_lower}
@@ -13,6 +14,7 @@ use Rattle.sync_rules.proofs.BatchEntries.{settling_each}
 use Rattle.sync_rules.proofs.StepKinds.{settling_only}
 use Rattle.sync_rules.specs.Steps.{IsSettled, next}
 use Rattle.sync_rules.specs.EntryTests.{IsSettlingEntry}
+use Rattle.entry_codec.specs.Payloads.{names_of}
 use Rattle.sync_store.specs.Settling.{AreFilled, IsFullBatch, steps_in}
 use Rattle.sync_store.specs.Store.{HasNumbers}
 
@@ -35,6 +37,11 @@ pub after_push : (f : Facts) (es : List Entry) (e : Entry) → after_all f (es +
     (after_all f es) e
 after_push f [] e = refl
 after_push f (x ∷ xs) e = after_push (after f x) xs e
+
+-- steps keep the names
+pub names_stay : (clients : Meaning) (f : Facts) (es : List Entry) → IsSettling clients f es
+    → names_of (after_all f es) ≡ names_of f
+names_stay clients f es settling = ap ids_of_held (settling_only clients f es settling).held
 
 -- ---- counts
 

@@ -17,7 +17,7 @@ use Rattle.world_devices.specs.Cited.{SentGrows}
 use Rattle.world_devices.specs.Devices.{DeviceValue}
 use Rattle.world_devices.specs.Linking.{AddsLink}
 use Rattle.world_devices.specs.Running.{DeviceRuns}
-use Rattle.world_links.specs.Ends.{EndValue, input_of, unused_end as byte_end}
+use Rattle.world_links.specs.Ends.{EndValue, input_of, new_end as byte_end}
 use Rattle.world_links.specs.Links.{side_end, other, side_of}
 use Rattle.world_links.specs.declared.link.Link.{Link}
 use Rattle.world_links.specs.declared.moves.Side.{Side}

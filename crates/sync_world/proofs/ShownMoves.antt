@@ -13,10 +13,10 @@ use Rattle.world_links.specs.declared.moves.Move.{Move}
 use Rattle.world_links.specs.declared.moves.Move.TheVariants as move
 use Rattle.world_links.specs.declared.moves.Side.{Side}
 use Rattle.world_links.specs.declared.moves.Side.TheVariants as side
-use Rattle.world_links.specs.Ends.{EndValue, unused_end as byte_end}
+use Rattle.world_links.specs.Ends.{EndValue, new_end as byte_end}
 use Rattle.world_links.specs.Links.{all_carried, cut, given_too, joined, left_at, left_by, moved}
 use Rattle.world_links.specs.Links.{with_flight}
-use Rattle.world_links.specs.Moves.{flight_then as bytes_after, records_given as bytes_given}
+use Rattle.world_links.specs.Moves.{flight_after as bytes_after, given_by as bytes_given}
 use Rattle.world_laws.specs.Moves.{Cut, flight_then, records_given, link_after_move}
 use Rattle.world_laws.specs.Moves.{links_after_move}
 use Rattle.world_laws.specs.Moves.{other_after, sender_after}

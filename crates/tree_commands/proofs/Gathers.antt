@@ -21,7 +21,8 @@ use Rattle.sync_rules.specs.Views.{IsFound, IsPlace, place_of}
 use Rattle.journal_state.specs.Firsts.{first_dependency, firsts_of, number_held}
 use Rattle.journal_state.specs.Sound.{AreApart, DeliversJudged}
 use Rattle.journal_state.specs.Whole.{KnowsJudgements, StateValue, id_at}
-use Rattle.journal_state.proofs.Places.{id_itself, place_found}
+use Rattle.sync_rules.proofs.Elements.{same_id_itself}
+use Rattle.sync_rules.proofs.PlaceLaws.{place_found}
 use Rattle.tree_commands.specs.Gathered.{IsThreadOf, StandsAt, with_delivered}
 use Rattle.tree_commands.specs.Threads.{ThreadValue, parent_among, with_number}
 use Rattle.tree_commands.specs.Trees.{delivered_in, first_of, parents_of, place_if, replied_by}
@@ -185,7 +186,7 @@ among_at : (ids : List Id) (k : ℕ) (id : Id) → slice_get ids k ≡ Some id �
 among_at [] k id at = absurd (let none : None ≡ Some id = at in cc)
 among_at (x ∷ ids) zero id at =
     let is : x ≡ id = cc in
-    ap (λ (b : Bool). b || is_among ids id) (ap (λ (y : Id). same_id y id) is ∙ id_itself id)
+    ap (λ (b : Bool). b || is_among ids id) (ap (λ (y : Id). same_id y id) is ∙ same_id_itself id)
 among_at (x ∷ ids) (suc k) id at = or_true (same_id x id) (is_among ids id) (among_at ids k id at)
   where
     or_true : (b c : Bool) → c ≡ true → (b || c) ≡ true

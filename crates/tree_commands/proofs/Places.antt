@@ -12,7 +12,7 @@ use Rattle.sync_rules.specs.Lists.{is_among, same_id}
 use Rattle.sync_rules.specs.Views.{IsPlace}
 use Rattle.journal_state.specs.Sound.{AreApart}
 use Rattle.journal_state.specs.Whole.{id_at}
-use Rattle.journal_state.proofs.Places.{id_is, id_itself}
+use Rattle.sync_rules.proofs.Elements.{same_id-is, same_id_itself}
 use Rattle.tree_commands.specs.Gathered.{StandsAt}
 use Rattle.tree_commands.specs.Threads.{number_among, parent_among}
 use Rattle.tree_commands.specs.Trees.{place_among, place_if}
@@ -43,7 +43,7 @@ not_behind : (h k : Held) (hs : List Held) (m : ℕ) → is_among (ids_of hs) h.
     → slice_get hs m ≡ Some k → k.id ≡ h.id → ⊥
 not_behind h k hs m apart e same =
     let is : same_id k.id h.id ≡ true = subst (λ (x : Id). same_id x h.id ≡ true) (sym same)
-    (id_itself h.id) in
+    (same_id_itself h.id) in
     false≢true (sym apart ∙ among_there hs m k h.id e is)
 
 one_number : (hs : List Held) → AreApart (ids_of hs) → (n m : ℕ) (h k : Held)
@@ -90,8 +90,8 @@ module _ (held : List Held) where
       (λ e. let one : n ≡ m = eq_is n m e in
       let is : id_at held n ≡ d = ap (id_at held) one ∙ id_there held m at.message at.stands
       ∙ at.named in
-      subst (λ (x : Id). same_id x d ≡ true) (sym is) (id_itself d))
-      (λ s. let is : item.0.id ≡ at.message.id = sym named ∙ id_is (id_at held n) d s
+      subst (λ (x : Id). same_id x d ≡ true) (sym is) (same_id_itself d))
+      (λ s. let is : item.0.id ≡ at.message.id = sym named ∙ same_id-is (id_at held n) d s
       ∙ sym at.named in
       subst (λ (k : ℕ). (n == k) ≡ true) (one_number held apart n m item.0 at.message item.1
       at.stands is) (eq_same n))

@@ -12,7 +12,7 @@ use Rattle.sync_rules.specs.Knowing.{AreServed, DeliversInOrder, IsServedBehind}
 use Rattle.sync_rules.specs.Legal.{Legal}
 use Rattle.sync_rules.specs.Lists.{is_among, same_id}
 use Rattle.sync_rules.specs.Steps.{is_beside}
-use Rattle.journal_state.proofs.Places.{id_is}
+use Rattle.sync_rules.proofs.Elements.{same_id-is}
 use Rattle.tree_commands.specs.Trees.{HasParent, RepliesToFirst, delivered_in, first_of}
 use Rattle.tree_commands.specs.Trees.{parents_behind, parents_of, place_among, place_if, replied_by}
 
@@ -45,7 +45,7 @@ among_at (x ∷ ids) d e =
         within = omega arith;
         is = refl;
         there =
-            ap Some (id_is x d s);
+            ap Some (same_id-is x d s);
       }
       | false ↦ λ s e. later x ids (place_among ids d) d (among_at ids d e)
     ] refl e
@@ -74,7 +74,7 @@ module _ (p : Id → Bool) where
         | false ↦ λ f.
             elim (same_id x d) as (λ b. same_id x d ≡ b → (b || is_among ids d) ≡ true
             → is_among (filter p ids) d ≡ true) [
-              | true ↦ λ s e. absurd (false≢true (sym f ∙ ap p (id_is x d s) ∙ pass))
+              | true ↦ λ s e. absurd (false≢true (sym f ∙ ap p (same_id-is x d s) ∙ pass))
               | false ↦ λ s e. kept_among ids d pass e
             ] refl e
       ] refl
@@ -120,7 +120,7 @@ module _ (clients : Meaning) (f : Facts) (group : Id) where
   first_before before id d s inside replied =
       let same : same_id s.message.message.group group ≡ true = sym (ap (is_beside group) s.found)
       ∙ inside in
-      let its : s.message.message.group ≡ group = id_is s.message.message.group group same in
+      let its : s.message.message.group ≡ group = same_id-is s.message.message.group group same in
       let first : slice_get s.deps 0 ≡ Some d =
       sym (ap (replied_by clients f) s.found ∙ ap first_of s.accepted) ∙ replied in
       let there = first_among s.deps d before

@@ -1,14 +1,13 @@
 -- What a crash may leave: files that stand for a journal that has something, over calls that look,
 -- settle or change nothing.
-use Rattle.std.proofs.Common.{◌≡◌, ℕ, ◌≤◌, List, refl, sym, ap, ◌∙◌, subst, arith, Some}
-use Rattle.std.proofs.lemmas.List.{ext_get_or}
+use Rattle.std.proofs.Common.{◌≡◌, ℕ, ◌≤◌, List, refl, sym, ap, ◌∙◌, subst, Some}
 use Rattle.outside.specs.Files.{Two, File, IsFileImage, IsImage, NothingPending, read_files}
-use Rattle.outside.specs.Files.{settled}
 use Rattle.outside.specs.HostTold.{host_told}
 use Rattle.outside.specs.Links.{sent_of}
 use Rattle.outside.specs.MemDisk.{disk_files, files_of}
 use Rattle.outside.specs.MemHost.{MemHostValue}
 use Rattle.outside.specs.Outside.{AnyImage, Moment, Outside}
+use Rattle.outside.proofs.Calm.{settled_only}
 use Rattle.client_basic.specs.Bodies.{bundle_meaning}
 use Rattle.entry_codec.specs.Standing.{journal}
 use Rattle.file_standing.specs.Standing.{stands}
@@ -23,11 +22,6 @@ use Rattle.sync_rules.specs.Facts.{Journal}
 -- ---- files
 
 -- a crash leaves of a file in which nothing is pending what it reads as
-settled_only : (bytes left : List ℕ) → IsFileImage (settled bytes) left → left ≡ bytes
-settled_only bytes left image =
-    ext_get_or 0 left bytes (omega (arith, image.no_shorter, image.no_longer))
-    (λ i below. image.kept i (omega (arith, image.no_shorter, image.no_longer)) refl)
-
 pub still_files : (two : Two File) (left : Two (List ℕ)) → NothingPending two 0
     → NothingPending two 1 → IsImage two left → left ≡ read_files two
 still_files two left first second image =

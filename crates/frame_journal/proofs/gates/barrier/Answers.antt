@@ -1,4 +1,5 @@
-use Rattle.frame_journal.proofs.Calm.{calm_begun, calm_sync, reads_none, reads_sync}
+use Rattle.frame_journal.proofs.Calm.{reads_none, reads_sync}
+use Rattle.outside.proofs.Calm.{calm_begun, calm_sync}
 use Rattle.frame_journal.proofs.gates.barrier.Goals as goal
 
 pub returns-in_err-sync-clause-any_moment : goal.returns-in_err-sync-clause-any_moment

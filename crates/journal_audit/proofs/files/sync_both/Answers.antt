@@ -1,4 +1,4 @@
-use Rattle.journal_audit.proofs.Calm.{calm_begun, calm_sync}
+use Rattle.outside.proofs.Calm.{calm_begun, calm_sync}
 use Rattle.journal_audit.proofs.files.sync_both.Goals as goal
 
 pub returns-in_err-sync-clause-any_moment : goal.returns-in_err-sync-clause-any_moment

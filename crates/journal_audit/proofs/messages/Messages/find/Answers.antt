@@ -1,7 +1,7 @@
 use Rattle.std.proofs.Common.{◌≡◌, ℕ, Option, sym, subst, rules}
 use Rattle.sync_rules.specs.Views.{IsFound, place_of}
 use Rattle.journal_audit.specs.Lines.{held_in}
-use Rattle.journal_audit.proofs.Places.{place_found}
+use Rattle.sync_rules.proofs.PlaceLaws.{place_found}
 use Rattle.journal_audit.proofs.messages.Messages.find.Goals as goal
 
 pub returns-clause-found : goal.returns-clause-found

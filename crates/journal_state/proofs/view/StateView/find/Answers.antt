@@ -3,7 +3,7 @@ use Rattle.sync_rules.specs.Views.{place_of, IsFound}
 use Rattle.message_graph.specs.Nodes as nodes
 use Rattle.journal_state.specs.Whole.{StateValue}
 use Rattle.journal_state.proofs.Firsts.{number_same}
-use Rattle.journal_state.proofs.Places.{place_found}
+use Rattle.sync_rules.proofs.PlaceLaws.{place_found}
 use Rattle.journal_state.proofs.view.StateView.find.Goals as goal
 
 pub returns-clause-place : goal.returns-clause-place

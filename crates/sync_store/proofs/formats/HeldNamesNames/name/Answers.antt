@@ -1,5 +1,5 @@
 use Rattle.std.proofs.Common.{arith, sym, ◌∙◌}
-use Rattle.sync_store.proofs.HeldIds.{id_there, none_there}
+use Rattle.journal_migration.proofs.FirstIds.{id_there, none_there}
 use Rattle.sync_store.proofs.formats.HeldNamesNames.name.Goals as goal
 
 pub returns-then-n-held : goal.returns-then-n-held

@@ -1,7 +1,7 @@
 use Rattle.std.proofs.Common.{ap, ◌∙◌}
 use Rattle.std.specs.Option.{is_some}
 use Rattle.entry_codec.specs.Payloads.{names_of}
-use Rattle.sync_store.proofs.HeldIds.{placed_among, same_place}
+use Rattle.journal_migration.proofs.FirstIds.{placed_among, same_place}
 use Rattle.sync_store.proofs.formats.HeldNamesNames.number.Goals as goal
 
 pub returns-clause-place : goal.returns-clause-place

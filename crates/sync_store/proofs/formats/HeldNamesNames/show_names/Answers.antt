@@ -1,4 +1,4 @@
-use Rattle.sync_store.proofs.HeldIds.{sound_names}
+use Rattle.journal_migration.proofs.FirstIds.{sound_names}
 use Rattle.sync_store.proofs.formats.HeldNamesNames.show_names.Goals as goal
 
 pub returns : goal.returns

@@ -10,7 +10,6 @@ use Rattle.entry_codec.specs.Naming.{IsNamed}
 use Rattle.entry_codec.specs.Payloads.{names_of}
 use Rattle.entry_codec.specs.Spelling.{EntryNames}
 use Rattle.entry_codec.proofs.Named.{named_in}
-use Rattle.sync_store.proofs.HeldIds.{names_stay}
 use Rattle.sync_store.specs.declared.fault.StoreFault.{StoreFault}
 use Rattle.sync_store.specs.declared.fault.StoreFault.TheVariants as fault
 use Rattle.sync_store.specs.Store.{StoreValue, format_meant}
@@ -23,7 +22,7 @@ use Rattle.sync_store.proofs.Growth.{Came, Filled, filled_err, filled_from, fill
 use Rattle.sync_store.proofs.Growth.{filled_memory, filled_room, filled_whole, length_nil}
 use Rattle.sync_store.proofs.Growth.{made_none, none_by, some_by, stepped_store}
 use Rattle.sync_store.proofs.SettleSteps.{comes_none}
-use Rattle.sync_store.proofs.Steps.{all_steps}
+use Rattle.sync_store.proofs.Steps.{all_steps, names_stay}
 use Rattle.sync_store.proofs.store.Store.settle_into.Goals as goal
 
 pub returns-in_err-filled-clause-made : goal.returns-in_err-filled-clause-made

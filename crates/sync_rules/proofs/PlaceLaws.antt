@@ -1,22 +1,12 @@
--- A held message by its id.
-use Rattle.std.proofs.Common.{◌≡◌, ℕ, suc, true, false, cond, List, [], ◌∷◌, Option, Some, None, refl, ◌∙◌, ap, arith}
+-- The place of a held message is found by its id.
+use Rattle.std.proofs.Common.{◌≡◌, ℕ, suc, true, false, cond, List, [], ◌∷◌, Option, Some, None}
+use Rattle.std.proofs.Common.{refl}
+use Rattle.std.proofs.Common.{◌∙◌, ap, arith}
 use Rattle.std.specs.Option.{option_map}
-use Rattle.std.specs.Cmp.Lexicographic.{bytes_decides}
-use Rattle.std.proofs.lemmas.Cmp.{nat_list_eq_equiv}
 use Rattle.sync_rules.specs.Lists.{same_id}
-use Rattle.sync_rules.specs.Facts.{Id, Held, held_at}
-use Rattle.sync_rules.specs.Views.{place_of, IsFound}
-
-pub id_swap : (a b : Id) → same_id a b ≡ same_id b a
-id_swap a b = nat_list_eq_equiv.symm a b
-
-pub id_is : (a b : Id) → same_id a b ≡ true → a ≡ b
-id_is a b h = (bytes_decides a b).0 h
-
-pub id_itself : (a : Id) → same_id a a ≡ true
-id_itself a = (bytes_decides a a).1 refl
-
--- ---- a place is found
+use Rattle.sync_rules.specs.Facts.{Held, Id, held_at}
+use Rattle.sync_rules.specs.Views.{IsFound, place_of}
+use Rattle.sync_rules.proofs.Elements.{same_id-is}
 
 found_later : (h : Held) (hs : List Held) (id : Id) → same_id h.id id ≡ false → (r : Option ℕ) → IsFound hs id r → IsFound (h ∷ hs) id (option_map suc r)
 found_later h hs id other None none = ap (λ b. cond b (Some h) (held_at hs id)) other ∙ none
@@ -34,7 +24,7 @@ place_found (h ∷ hs) id =
     elim (same_id h.id id) as (λ b. same_id h.id id ≡ b → IsFound (h ∷ hs) id (cond b (Some 0) (option_map suc (place_of hs id)))) [
       | true ↦ λ e. record {
         message = h;
-        named = id_is h.id id e;
+        named = same_id-is h.id id e;
         first = ap (λ b. cond b (Some h) (held_at hs id)) e;
         stands = refl;
         within = omega arith;
