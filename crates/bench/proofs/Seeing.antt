@@ -1,5 +1,6 @@
 -- What the posts are seen as, call by call.
 use Rattle.std.proofs.Common.{◌≡◌, ℕ, zero, suc, ◌<◌, Bool, true, false, cond, not, ◌&&◌, ◌||◌}
+use Rattle.std.proofs.Common.{unwrap_or}
 use Rattle.std.proofs.Common.{nat_eq, List, [], ◌∷◌, length, map, slice_get, Option, None, Some}
 use Rattle.std.proofs.Common.{position, refl, sym, ap, ◌∙◌, add-one, arith, is_some}
 use Rattle.std.specs.Cmp.Lexicographic.{bytes_decides, nat_list_eq_equiv, nat_list_cmp_total}
@@ -11,9 +12,10 @@ use Rattle.std.specs.Option.{option_map}
 use Rattle.std.specs.Ordering.{nat_cmp, eq_by_cmp}
 use Rattle.std.proofs.lemmas.Cmp.{on_total, then_total}
 use Rattle.std.proofs.lemmas.Iterator.Adapters.{position_from-zero}
+use Rattle.sync_rules.specs.declared.entries.Level.{Level}
 use Rattle.sync_rules.specs.declared.entries.Level.TheVariants as level
 use Rattle.sync_rules.specs.Facts.{Held, Id, Pair, Row, group_at, held_at, is_invisible, level_at}
-use Rattle.sync_rules.specs.Facts.{level_or, pair_cmp, row_at, row_or, no_row, wanted_from, ids_or}
+use Rattle.sync_rules.specs.Facts.{pair_cmp, row_at, no_row, wanted_from}
 use Rattle.sync_rules.specs.Lists.{same_id, is_among}
 use Rattle.sync_rules.specs.Sessions.{ids_where}
 use Rattle.sync_rules.specs.Views.{IsFound, group_in, is_seen_in, place_of}
@@ -95,7 +97,8 @@ pub shared_with_0 : (group : Id) (contact : ℕ) (other : Id)
     → level_at (fin_map.insert fin_map.empty (0, group) level.Shared) contact other
     ≡ cond (nat_eq contact 0 && same_id other group) level.Shared level.Invisible
 shared_with_0 group contact other =
-    ap level_or (fin_map.get-insert pair_total fin_map.empty (0, group) level.Shared (
+    ap (λ (o : Option Level). unwrap_or o level.Invisible)
+    (fin_map.get-insert pair_total fin_map.empty (0, group) level.Shared (
       contact,
       other,
     ) ∙ ap (cond (eq_by_cmp pair_cmp (contact, other) (0, group)) (Some level.Shared))
@@ -105,8 +108,8 @@ shared_with_0 group contact other =
     (sym (both_tied (nat_eq contact 0) (same_id other group) (nat_cmp contact 0)
     (slice_cmp nat_cmp other group) (unsigned_ties contact 0) (texts_ties other group))))
   where
-    by : (b : Bool) → level_or
-        (cond b (Some level.Shared) None) ≡ cond b level.Shared level.Invisible
+    by : (b : Bool) → unwrap_or (cond b (Some level.Shared) None) level.Invisible
+        ≡ cond b level.Shared level.Invisible
     by true = refl
     by false = refl
 
@@ -139,10 +142,12 @@ module _ (group : Id) (contact : ℕ) (other : Id) (shared : Bool)
 -- ---- rows and wants
 
 pub no_row_is : (contact : ℕ) (id : Id) → row_at fin_map.empty contact id ≡ no_row
-no_row_is contact id = ap row_or (fin_map.get-empty pair_cmp (contact, id))
+no_row_is contact id = ap (λ (o : Option Row). unwrap_or o no_row)
+    (fin_map.get-empty pair_cmp (contact, id))
 
 pub none_wanted : (contact : ℕ) → wanted_from fin_map.empty contact ≡ []
-none_wanted contact = ap ids_or (fin_map.get-empty nat_cmp contact)
+none_wanted contact = ap (λ (o : Option (List Id)). unwrap_or o [])
+    (fin_map.get-empty nat_cmp contact)
 
 -- ---- lists of ids
 

@@ -1,6 +1,7 @@
 -- A journal and what is told of its messages, side by side: what is told may be told, and the same is held and has ended
 -- behind it. All contacts and groups of the journal are there from the beginning, so those at a place of it are fewer.
 use Rattle.std.proofs.Common.{◌≡◌, ◌≤◌, true, cond, ◌&&◌, List, [], ◌∷◌, ◌++◌, refl, sym, ◌∙◌, ap, subst, arith, inl, inr, Option, Some, None, is_some}
+use Rattle.std.specs.Option.{option_or}
 use Rattle.std.specs.List.{list_all}
 use Rattle.std.specs.FinSet as fin_set
 use Rattle.std.proofs.lemmas.Bool.{false≢true}
@@ -21,7 +22,8 @@ use Rattle.sync_rules.specs.Growth.{ContinuesFacts}
 use Rattle.sync_rules.specs.Legal.{accepts_served, IsKeptFrom, MayKeep}
 use Rattle.sync_rules.specs.Lists.{In, is_among}
 use Rattle.sync_rules.specs.Meeting.{AllMeet, MeetsNoStep}
-use Rattle.sync_rules.specs.Steps.{first_or_next, first_step, IsSettled, is_beside, next, step, step_by, verdict_for, verdict_in}
+use Rattle.sync_rules.specs.Steps.{first_step, IsSettled, is_beside, next, step, step_by}
+use Rattle.sync_rules.specs.Steps.{verdict_for, verdict_in}
 use Rattle.sync_rules.proofs.Continuing.{continues_all}
 use Rattle.sync_rules.proofs.Kept.{after_all-append, sound_after}
 use Rattle.sync_rules.proofs.MeetingLaws.{meets_fits}
@@ -84,7 +86,8 @@ module _ (clients : Meaning) (f g : Facts) (w : IsWithin f g) where
       → first_step clients with_groups_of hs ≡ first_step clients f hs
   same_first [] known = refl
   same_first (h ∷ hs) known =
-      λ i. first_or_next (same_step h (known h (inl refl)) i) (same_first hs (λ x inside. known x (inr inside)) i)
+      λ i. option_or (same_step h (known h (inl refl)) i)
+      (same_first hs (λ x inside. known x (inr inside)) i)
 
   pub next_along : SoundFacts clients f → IsAlong f g → next clients g ≡ next clients f
   next_along sound a =

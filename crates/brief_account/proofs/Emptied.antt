@@ -1,11 +1,13 @@
 -- Lists of wanted ids that are empty: those with which a brief account begins, which messages leave as they are.
-use Rattle.std.proofs.Common.{◌≡◌, ℕ, zero, suc, ◌<◌, ◌≤◌, Bool, true, false, cond, nat_eq, eqb-true, lt-ltb, le-ltb, ltb-true, ltb-false, List, [], ◌∷◌, refl, sym, ◌∙◌, ap, arith, Option, Some, None}
+use Rattle.std.proofs.Common.{◌≡◌, ℕ, zero, suc, ◌<◌, ◌≤◌, Bool, true, false, cond, nat_eq}
+use Rattle.std.proofs.Common.{eqb-true, lt-ltb, le-ltb, ltb-true, ltb-false, List, [], ◌∷◌, refl}
+use Rattle.std.proofs.Common.{sym, ◌∙◌, ap, arith, Option, Some, None, unwrap_or}
 use Rattle.std.specs.Prelude.{nat_lt}
 use Rattle.std.specs.FinMap as fin_map
 use Rattle.std.specs.Ordering.{nat_cmp, eq_by_cmp}
 use Rattle.std.specs.Cmp.{nat_cmp_total, unsigned_tied}
 use Rattle.std.proofs.lemmas.Bool.{eqb-false}
-use Rattle.sync_rules.specs.Facts.{Facts, Id, Wants, change_each, ids_or, wanted_by_none, wanted_from}
+use Rattle.sync_rules.specs.Facts.{Facts, Id, Wants, change_each, wanted_by_none, wanted_from}
 use Rattle.sync_rules.specs.Lists.{without}
 
 -- an empty list for each contact below this number, and none for another
@@ -52,7 +54,7 @@ emptied zero = fin_map.empty
 emptied (suc n) = fin_map.insert (emptied n) n (wanted_from (emptied n) n)
 
 -- a list that is not there, and one that is empty
-none_there : (b : Bool) → ids_or (cond b (Some []) None) ≡ []
+none_there : (b : Bool) → unwrap_or {T = List Id} (cond b (Some []) None) [] ≡ []
 none_there true = refl
 none_there false = refl
 
@@ -82,7 +84,8 @@ contacts_empty zero contact =
     ∙ sym (ap (λ b. cond b (Some []) None) (le-ltb contact zero (omega arith)))
 contacts_empty (suc n) contact =
     let ids : List Id = wanted_from (emptied n) n in
-    let none : ids ≡ [] = ap ids_or (contacts_empty n n) ∙ none_there (nat_lt n n) in
+    let none : ids ≡ [] = ap (λ (o : Option (List Id)). unwrap_or o []) (contacts_empty n n)
+    ∙ none_there (nat_lt n n) in
     fin_map.get-insert nat_cmp_total (emptied n) n ids contact
     ∙ ((λ i. cond (unsigned_tied contact n i) (Some ids) (contacts_empty n contact i))
     ∙ one_more contact n ids none (nat_eq contact n) refl)

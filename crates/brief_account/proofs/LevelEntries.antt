@@ -1,5 +1,7 @@
 -- The levels of a brief account: its Level entries may follow one after the other, and make known the levels told.
-use Rattle.std.proofs.Common.{◌≡◌, ℕ, zero, suc, ◌<◌, ◌≤◌, true, false, cond, ◌||◌, List, [], ◌∷◌, ◌++◌, Option, Some, None, is_some, refl, sym, ◌∙◌, ap, subst, arith}
+use Rattle.std.proofs.Common.{◌≡◌, ℕ, zero, suc, ◌<◌, ◌≤◌, true, false, cond, ◌||◌, List, [], ◌∷◌}
+use Rattle.std.proofs.Common.{◌++◌, Option, Some, None, is_some, refl, sym, ◌∙◌, ap, subst, arith}
+use Rattle.std.proofs.Common.{unwrap_or}
 use Rattle.std.specs.FinMap as fin_map
 use Rattle.std.proofs.lemmas.Bool.{or_left, or_right, false≢true}
 use Rattle.sync_rules.specs.declared.entries.Entry.{Entry}
@@ -8,7 +10,8 @@ use Rattle.sync_rules.specs.declared.entries.Level.TheVariants as level
 use Rattle.sync_rules.specs.declared.states.Start.TheVariants as start
 use Rattle.sync_rules.specs.Clients.{Meaning}
 use Rattle.sync_rules.specs.Lists.{same_id, is_among}
-use Rattle.sync_rules.specs.Facts.{Facts, Id, Known, LevelMap, after, after_all, facts, group_at, is_invisible, level_at, level_or}
+use Rattle.sync_rules.specs.Facts.{Facts, Id, Known, LevelMap, after, after_all, facts, group_at}
+use Rattle.sync_rules.specs.Facts.{is_invisible, level_at}
 use Rattle.sync_rules.specs.Steps.{IsSettled}
 use Rattle.sync_rules.specs.Legal.{GoesOn, Legal}
 use Rattle.sync_rules.specs.Consistency.{HasLevels, IsLevelOf, ids_of_groups}
@@ -40,7 +43,8 @@ ShowsAll from = (contact : ℕ) (group : Id) (l : Level) → fin_map.get from (c
 
 one_put : (g : Facts) (into : LevelMap) (c : ℕ) (id : Id) (o : Option Level)
     → ((l : Level) → o ≡ Some l → is_invisible l ≡ false)
-    → after_all (with_levels g into) (level_entry c id (level_or o)) ≡ with_levels g (put into (c, id) o)
+    → after_all (with_levels g into) (level_entry c id (unwrap_or o level.Invisible))
+    ≡ with_levels g (put into (c, id) o)
 one_put g into c id None shown = refl
 one_put g into c id (Some level.Invisible) shown = absurd (false≢true (sym (shown level.Invisible refl)))
 one_put g into c id (Some level.Visible) shown = refl

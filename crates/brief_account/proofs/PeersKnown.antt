@@ -1,6 +1,7 @@
 -- What a journal knows of rows and of wanted ids: a row without tries has no wait, and each known contact has a list of
 -- wanted ids, perhaps an empty one.
-use Rattle.std.proofs.Common.{◌≡◌, ℕ, ◌+◌, ◌<◌, Bool, true, false, cond, nat_eq, List, [], ◌∷◌, Option, Some, is_some, refl, sym, ◌∙◌, ap, subst, arith}
+use Rattle.std.proofs.Common.{◌≡◌, ℕ, ◌+◌, ◌<◌, Bool, true, false, cond, nat_eq, List, [], ◌∷◌}
+use Rattle.std.proofs.Common.{Option, Some, is_some, refl, sym, ◌∙◌, ap, subst, arith, unwrap_or}
 use Rattle.std.specs.FinMap as fin_map
 use Rattle.std.specs.Ordering.{nat_cmp, eq_by_cmp}
 use Rattle.std.specs.Cmp.{nat_cmp_total, unsigned_tied}
@@ -11,7 +12,11 @@ use Rattle.sync_rules.specs.declared.entries.Out.TheVariants as out
 use Rattle.sync_rules.specs.declared.entries.Tried.{Tried}
 use Rattle.sync_rules.specs.Clients.{Meaning}
 use Rattle.sync_rules.specs.Lists.{firsts, without}
-use Rattle.sync_rules.specs.Facts.{Facts, Id, Row, Rows, Wants, after, after_all, change_each, change_row, change_rows, contact_of, entries_of, facts, is_held, latency_of, nothing, pair_cmp, row_acked, row_asked, row_at, row_heard, row_offered, row_or, row_seen, row_sent, row_tried, wait_for, wanted_by_none, wanted_from, with_want, without_each}
+use Rattle.sync_rules.specs.Facts.{Facts, Id, Row, Rows, Wants, after, after_all, change_each}
+use Rattle.sync_rules.specs.Facts.{change_row, change_rows, contact_of, entries_of, facts, is_held}
+use Rattle.sync_rules.specs.Facts.{latency_of, nothing, pair_cmp, row_acked, row_asked, row_at}
+use Rattle.sync_rules.specs.Facts.{row_heard, row_offered, row_seen, row_sent, row_tried, wait_for}
+use Rattle.sync_rules.specs.Facts.{wanted_by_none, wanted_from, with_want, without_each, no_row}
 use Rattle.sync_rules.specs.Legal.{Legal}
 use Rattle.sync_rules.specs.Meeting.{AllMeet, MeetsNoStep}
 use Rattle.sync_rules.specs.Consistency.{HasHeld, HasRows, HasWanted}
@@ -85,7 +90,8 @@ pub has_waits : (j : List (List Entry)) → HasWaits (facts j).rows
 has_waits j =
     subst (λ (f : Facts). HasWaits f.rows) (sym (after_batches-is nothing j))
     (waits_all nothing (entries_of j)
-    (λ contact id e. ap (λ o. (row_or o).expiry) (fin_map.get-empty pair_cmp (contact, id))))
+    (λ contact id e. ap (λ (o : Option Row). (unwrap_or o no_row).expiry)
+    (fin_map.get-empty pair_cmp (contact, id))))
 
 -- ---- each known contact has a list of wanted ids
 

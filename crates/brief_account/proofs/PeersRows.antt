@@ -1,5 +1,7 @@
 -- The rows of a brief account: the Tried entries of a contact suit, and put the rows that they tell into the map.
-use Rattle.std.proofs.Common.{◌≡◌, ℕ, ◌<◌, ◌≤◌, min, Bool, true, false, not, cond, ◌&&◌, ◌||◌, nat_eq, eqb-true, List, [], ◌∷◌, ◌++◌, Option, Some, None, refl, sym, ◌∙◌, ap, subst, arith}
+use Rattle.std.proofs.Common.{◌≡◌, ℕ, ◌<◌, ◌≤◌, min, Bool, true, false, not, cond, ◌&&◌, ◌||◌}
+use Rattle.std.proofs.Common.{nat_eq, eqb-true, List, [], ◌∷◌, ◌++◌, Option, Some, None, refl, sym}
+use Rattle.std.proofs.Common.{◌∙◌, ap, subst, arith, unwrap_or}
 use Rattle.std.specs.FinMap as fin_map
 use Rattle.std.proofs.lemmas.Bool.{and_parts, or_left, or_parts, or_right, false≢true}
 use Rattle.sync_rules.specs.declared.entries.Entry.{Entry}
@@ -8,7 +10,8 @@ use Rattle.sync_rules.specs.declared.entries.Tried.{Tried}
 use Rattle.sync_rules.specs.declared.states.Start.TheVariants as start
 use Rattle.sync_rules.specs.declared.limits.TheConstants.{MAX_TRIES}
 use Rattle.sync_rules.specs.Lists.{same_id, is_among, has_repeat}
-use Rattle.sync_rules.specs.Facts.{Facts, Held, Id, Row, Rows, Wants, after, after_all, is_held, is_no_row, put_row, row_at, row_or, row_tried, wait_for}
+use Rattle.sync_rules.specs.Facts.{Facts, Held, Id, Row, Rows, Wants, after, after_all, is_held}
+use Rattle.sync_rules.specs.Facts.{is_no_row, put_row, row_at, row_tried, wait_for, no_row}
 use Rattle.sync_rules.specs.Legal.{AreRows}
 use Rattle.sync_rules.specs.Consistency.{HasRows, ids_of_held}
 use Rattle.sync_rules.proofs.Elements.{same_id-is, same_id_itself}
@@ -83,7 +86,7 @@ waits_as r waits = at (nat_eq r.tries 0) refl
 
 -- what is kept of a row takes the place of an empty one
 restored : (contact : ℕ) (id : Id) (r : Row) → r.tries ≤ MAX_TRIES → (r.tries ≡ 0 → r.expiry ≡ 0)
-    → row_tried (tried_as contact id r) (row_or None) ≡ r
+    → row_tried (tried_as contact id r) (unwrap_or None no_row) ≡ r
 restored contact id r few waits = λ i. record {
   seen = or_false r.seen i;
   owed = r.owed;
@@ -117,12 +120,13 @@ row_told g rows wanted contact id r known held is new = record {
       few_tries = is.few;
       no_wait = is.waits;
       not_empty = untold_empty r is.waits (is_untold r) refl is.not_empty;
-      first = ap (λ o. is_no_row (row_or o)) new;
+      first = ap (λ (o : Option Row). is_no_row (unwrap_or o no_row)) new;
     },
     tt,
   );
   reached = ap (λ (w : Rows). with_peers g w wanted)
-      (ap (λ o. put_row rows (contact, id) (row_tried (tried_as contact id r) (row_or o))) new
+      (ap (λ (o : Option Row). put_row rows (contact, id)
+      (row_tried (tried_as contact id r) (unwrap_or o no_row))) new
       ∙ (ap (put_row rows (contact, id)) (restored contact id r is.few is.waits)
       ∙ ap (λ b. cond b (fin_map.remove rows (contact, id)) (fin_map.insert rows (contact, id) r)) is.not_empty));
 }
@@ -131,7 +135,8 @@ row_told g rows wanted contact id r known held is new = record {
 found_told : (g : Facts) (rows : Rows) (wanted : Wants) (contact : ℕ) (id : Id) (o : Option Row) → contact < g.contacts
     → is_held g.held id ≡ true
     → ((r : Row) → o ≡ Some r → IsTellable g contact id r) → fin_map.get rows (contact, id) ≡ None
-    → IsTold g (row_entry contact id (row_or o)) rows wanted (put rows (contact, id) o) wanted
+    → IsTold g (row_entry contact id (unwrap_or o no_row)) rows wanted (put rows (contact, id) o)
+    wanted
 found_told g rows wanted contact id None known held is new = told_none g rows wanted
 found_told g rows wanted contact id (Some r) known held is new =
     let one : IsTellable g contact id r = is r refl in
@@ -147,7 +152,8 @@ module _ (f g : Facts) (has : HasRows f) (waits : HasWaits f.rows) (wanted : Wan
   tellable id r at = record {
     not_empty = (has contact id r at).not_empty;
     few = (has contact id r at).few_tries;
-    waits = λ e. ap (λ o. (row_or o).expiry) (sym at) ∙ waits contact id (ap (λ o. (row_or o).tries) at ∙ e);
+    waits = λ e. ap (λ (o : Option Row). (unwrap_or o no_row).expiry) (sym at)
+        ∙ waits contact id (ap (λ (o : Option Row). (unwrap_or o no_row).tries) at ∙ e);
   }
 
   -- another id of the contact is told nothing by this one

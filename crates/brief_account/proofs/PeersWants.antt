@@ -1,13 +1,16 @@
 -- The wanted ids of a brief account: the Want entries of a contact suit, and put the ids that they tell at the end of
 -- its list.
-use Rattle.std.proofs.Common.{◌≡◌, ℕ, zero, suc, ◌+◌, ◌<◌, ◌≤◌, Bool, true, false, cond, ◌||◌, nat_eq, nat_lt, eqb-true, List, [], ◌∷◌, ◌++◌, length, length-append, append_assoc, append-nil, Option, Some, None, is_some, refl, sym, ◌∙◌, ap, subst, arith}
+use Rattle.std.proofs.Common.{◌≡◌, ℕ, zero, suc, ◌+◌, ◌<◌, ◌≤◌, Bool, true, false, cond, ◌||◌}
+use Rattle.std.proofs.Common.{nat_eq, nat_lt, eqb-true, List, [], ◌∷◌, ◌++◌, length, length-append}
+use Rattle.std.proofs.Common.{append_assoc, append-nil, Option, Some, None, is_some, refl, sym, ◌∙◌}
+use Rattle.std.proofs.Common.{ap, subst, arith, unwrap_or}
 use Rattle.std.specs.FinMap as fin_map
 use Rattle.std.specs.Cmp.{nat_cmp_total, unsigned_tied}
 use Rattle.std.proofs.lemmas.Bool.{false≢true, le-ltb, lt-ltb, or_left, or_parts, or_right}
 use Rattle.sync_rules.specs.declared.entries.Entry.TheVariants as entry
 use Rattle.sync_rules.specs.declared.limits.TheConstants.{MAX_WANTED}
 use Rattle.sync_rules.specs.Lists.{same_id, is_among, has_repeat}
-use Rattle.sync_rules.specs.Facts.{Facts, Id, Rows, Wants, ids_or, is_held, wanted_from, with_want}
+use Rattle.sync_rules.specs.Facts.{Facts, Id, Rows, Wants, is_held, wanted_from, with_want}
 use Rattle.sync_rules.proofs.Elements.{any-append, same_id_itself, same_id_swap}
 use Rattle.brief_account.specs.Brief.{want_entries}
 use Rattle.brief_account.proofs.PeersMaps.{below_or_last}
@@ -87,8 +90,9 @@ module _ (g : Facts) (rows : Rows) (contact : ℕ) (known : contact < g.contacts
       record {
         known_contact = known;
         not_held = new;
-        not_wanted = ap (λ o. is_among (ids_or o) id) was ∙ apart;
-        few = subst (λ (l : List Id). length l < MAX_WANTED) (sym (ap ids_or was)) few;
+        not_wanted = ap (λ (o : Option (List Id)). is_among (unwrap_or o []) id) was ∙ apart;
+        few = subst (λ (l : List Id). length l < MAX_WANTED)
+            (sym (ap (λ (o : Option (List Id)). unwrap_or o []) was)) few;
       },
       tt,
     );
@@ -97,7 +101,7 @@ module _ (g : Facts) (rows : Rows) (contact : ℕ) (known : contact < g.contacts
     where
       longer : with_want (is_held g.held id) (wanted_from wanted contact) id ≡ before ++ id ∷ []
       longer =
-          ap (λ o. with_want (is_held g.held id) (ids_or o) id) was
+          ap (λ (o : Option (List Id)). with_want (is_held g.held id) (unwrap_or o []) id) was
           ∙ (λ i. cond (new i || apart i) before (before ++ id ∷ []))
 
   pub wants_told : (wanted : Wants) (before ids : List Id) → fin_map.get wanted contact ≡ Some before
@@ -163,7 +167,7 @@ module _ (from into : Wants) where
 
 -- a: below the number of contacts
 whole_at : (a : Bool) (o : Option (List Id)) → (is_some o ≡ true → a ≡ true) → (a ≡ true → is_some o ≡ true)
-    → cond a (Some (ids_or o)) (cond a (Some []) None) ≡ o
+    → cond a (Some (unwrap_or o [])) (cond a (Some []) None) ≡ o
 whole_at true None up down = absurd (false≢true (down refl))
 whole_at true (Some ids) up down = refl
 whole_at false None up down = refl

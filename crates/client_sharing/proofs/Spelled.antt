@@ -22,7 +22,8 @@ use Rattle.entry_codec.specs.Laws.{IsEntryRead, EntriesReadBack}
 use Rattle.entry_codec.specs.declared.reading.EntryFound.{EntryFound}
 use Rattle.entry_codec.specs.declared.reading.EntryFound.TheVariants as found
 use Rattle.client_sharing.specs.declared.bodies.Saying.{Saying}
-use Rattle.client_sharing.specs.Bodies.{IsSaying, body_of, def_cut, def_of, is_def, saying_by, saying_of}
+use Rattle.client_sharing.specs.Bodies.{IsSaying, saying_body, def_cut, def_of, is_def, saying_by}
+use Rattle.client_sharing.specs.Bodies.{saying_of}
 use Rattle.client_sharing.specs.Bodies.{stance_byte, stance_of, whole_def}
 
 some_same : {A : Type 0} → (a b : A) → Some a ≡ Some b → a ≡ b
@@ -159,7 +160,8 @@ stance_told byte join e = go (nat_eq byte 1) (nat_eq byte 2) refl refl e where
   go false true x y h = eqb-true byte 2 y ∙ ap stance_byte (some_same false join h)
   go false false x y h = absurd cc
 
-saying_back : (s : Saying) → length s.previous ≡ 32 → IsDef s.def → saying_of (body_of s) ≡ Some s
+saying_back : (s : Saying) → length s.previous ≡ 32 → IsDef s.def → saying_of (saying_body s)
+    ≡ Some s
 unfolding saying_of
 saying_back s whole is =
     let front : take 32 (s.previous ++ def_bytes s.def) ≡ s.previous = take_at s.previous (def_bytes s.def) 32 whole in

@@ -24,14 +24,14 @@ stance_byte true = 1
 stance_byte false = 2
 
 -- a stance, the previous id, and a definition as a journal spells it behind the tag of its entry
-abbrev pub body_of : Saying → List ℕ
-body_of s = stance_byte s.join ∷ (s.previous ++ def_bytes s.def)
+abbrev pub saying_body : Saying → List ℕ
+saying_body s = stance_byte s.join ∷ (s.previous ++ def_bytes s.def)
 
 -- this body says this, which is within the limits
 pub record IsSaying (s : Saying) (body : List ℕ) : Type 0 where
   pub whole_id : length s.previous ≡ 32
   pub within : IsDef s.def
-  pub is : body ≡ body_of s
+  pub is : body ≡ saying_body s
 
 -- ---- the same as a function of the body
 

@@ -42,40 +42,47 @@ is_left [] = false
 is_left (word ∷ words) = true
 
 -- no word is left
-abbrev pub ends : Command → Rest
-ends asked place [] = Do asked
-ends asked place (word ∷ words) = Usage place
+abbrev pub no_more : Command → Rest
+no_more asked place [] = Do asked
+no_more asked place (word ∷ words) = Usage place
 
 -- ---- the words behind each command's
 
 -- a client's name and a descriptor
 abbrev pub asks_try : Rest
-asks_try = word_then name_in (λ name. word_then descriptor_in (λ descriptor. ends (command.Try name descriptor)))
+asks_try =
+    word_then name_in (λ name.
+    word_then descriptor_in (λ descriptor. no_more (command.Try name descriptor)))
 
 -- a client's name, a major version and a descriptor
 abbrev pub asks_group : Rest
 asks_group =
     word_then name_in (λ name. word_then (number_in MAX_MAJOR) (λ major. word_then descriptor_in (λ descriptor.
-    ends (command.Group name major descriptor))))
+    no_more (command.Group name major descriptor))))
 
 -- a contact, a group and a level
 abbrev pub asks_share : Rest
-asks_share = word_then (number_in MAX_CONTACT) (λ contact. word_then id_in (λ group. word_then level_in (λ level. ends (command.Share contact group level))))
+asks_share =
+    word_then (number_in MAX_CONTACT) (λ contact.
+    word_then id_in (λ group.
+    word_then level_in (λ level. no_more (command.Share contact group level))))
 
 -- a group and a time
 abbrev pub asks_post : Rest
-asks_post = word_then id_in (λ group. word_then (number_in MAX_TIMESTAMP) (λ timestamp. ends (command.Post group timestamp)))
+asks_post =
+    word_then id_in (λ group.
+    word_then (number_in MAX_TIMESTAMP) (λ timestamp. no_more (command.Post group timestamp)))
 
 -- the id of a message
 abbrev pub asks_body : Rest
-asks_body = word_then id_in (λ id. ends (command.Body id))
+asks_body = word_then id_in (λ id. no_more (command.Body id))
 
 -- a group, a place of the walk and a number of messages
 abbrev pub asks_tree : Rest
 asks_tree =
     word_then id_in (λ group.
     word_then (number_in MAX_WALK) (λ from.
-    word_then (number_in MAX_WALK) (λ count. ends (command.Tree group from count))))
+    word_then (number_in MAX_WALK) (λ count. no_more (command.Tree group from count))))
 
 -- whether one joins a group or leaves it
 abbrev pub stance_in : List ℕ → Option Bool
@@ -88,7 +95,7 @@ stance_in word =
 abbrev pub asks_saying : (group : List ℕ) (timestamp : ℕ) (join : Bool) → Rest
 asks_saying group timestamp join =
     word_then name_in (λ name. word_then (number_in MAX_MAJOR) (λ major. word_then descriptor_in (λ descriptor.
-    ends (command.Say group timestamp join name major descriptor))))
+    no_more (command.Say group timestamp join name major descriptor))))
 
 -- the group in which it is said, a time, a stance, and what it is said of
 abbrev pub asks_say : Rest
@@ -99,7 +106,9 @@ asks_say =
 
 -- a contact and a group
 abbrev pub asks_agree : Rest
-asks_agree = word_then (number_in MAX_CONTACT) (λ contact. word_then id_in (λ group. ends (command.Agree contact group)))
+asks_agree =
+    word_then (number_in MAX_CONTACT) (λ contact.
+    word_then id_in (λ group. no_more (command.Agree contact group)))
 
 -- whether a mailbox file comes in
 abbrev pub way_in : List ℕ → Option Bool
@@ -110,14 +119,14 @@ way_in word =
 
 -- a contact
 abbrev pub asks_taking : Rest
-asks_taking = word_then (number_in MAX_CONTACT) (λ contact. ends (command.MailboxIn contact))
+asks_taking = word_then (number_in MAX_CONTACT) (λ contact. no_more (command.MailboxIn contact))
 
 -- a contact, a latency and a number of outputs
 abbrev pub asks_sending : Rest
 asks_sending =
     word_then (number_in MAX_CONTACT) (λ contact.
     word_then (positive_in MAX_LATENCY) (λ latency.
-    word_then (positive_in MAX_OUTS) (λ count. ends (command.MailboxOut contact latency count))))
+    word_then (positive_in MAX_OUTS) (λ count. no_more (command.MailboxOut contact latency count))))
 
 abbrev pub asks_way : Bool → Rest
 asks_way true = asks_taking
@@ -144,7 +153,7 @@ has_ended (link ∷ links) words = not (is_left words)
 
 -- at most so many more links behind others
 unfoldable pub asks_links : (List LinkWords → Command) → (more : ℕ) → (before : List LinkWords) → Rest
-asks_links asked zero before place words = ends (asked before) place words
+asks_links asked zero before place words = no_more (asked before) place words
 asks_links asked (suc more) before place words =
     if has_ended before words then Do (asked before) else link_then before (λ link. asks_links asked more (before ++ link ∷ [])) place words
 
@@ -168,7 +177,7 @@ plain_in word =
 
 abbrev pub ends_or_usage : Option Command → Rest
 ends_or_usage None place words = Usage 0
-ends_or_usage (Some asked) place words = ends asked place words
+ends_or_usage (Some asked) place words = no_more asked place words
 
 -- by the first word
 abbrev pub asks_of : List ℕ → Rest

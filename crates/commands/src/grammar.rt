@@ -3,7 +3,7 @@ ghost use Rattle.std.specs.Prelude.{◌≡◌, ◌≤◌, drop, IfOk, IfSome};
 ghost use Rattle.commands.specs.Reading.{asks, asks_agree, asks_of, asks_try, asks_group};
 ghost use Rattle.commands.specs.Reading.{asks_mailbox, asks_share, asks_sending, asks_taking};
 ghost use Rattle.commands.specs.Reading.{asks_post, asks_body, asks_say, asks_saying, asks_sync};
-ghost use Rattle.commands.specs.Reading.{asks_tree, ends};
+ghost use Rattle.commands.specs.Reading.{asks_tree, no_more};
 ghost use Rattle.commands.specs.Reading.{IsReadAs, IsCommandWithin, plain_in};
 ghost use Rattle.sync_words.specs.Words.{texts};
 
@@ -88,7 +88,7 @@ fn plain(word: &str) -> Option<Command>
 
 // The command, where no word stands at this place.
 fn read_end(words: &[String], place: usize, command: Command) -> Result<Command, WordsFault>
-    ensures read { IsReadAs (ends command place (drop place (texts words.now))) result }
+    ensures read { IsReadAs (no_more command place (drop place (texts words.now))) result }
     ensures same { IfOk result (λ read. read ≡ command) }
 {
     if is_left_at(words, place) {

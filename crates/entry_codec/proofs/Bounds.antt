@@ -1,5 +1,6 @@
 -- How long spellings are.
-use Rattle.std.proofs.Common.{◌≡◌, ℕ, ◌+◌, ◌*◌, ◌≤◌, List, [], ◌∷◌, ◌++◌, length, refl, arith, length-append}
+use Rattle.std.proofs.Common.{◌≡◌, ℕ, ◌+◌, ◌*◌, ◌≤◌, List, [], ◌∷◌, ◌++◌, length, refl, arith}
+use Rattle.std.proofs.Common.{length-append, unwrap_or}
 use Rattle.std.specs.Prelude.{Option, Some, None}
 use Rattle.std.specs.Int.{w32, w64, to_be_bytes}
 use Rattle.std.specs.List.{flat_map}
@@ -15,7 +16,7 @@ use Rattle.sync_rules.specs.declared.states.Origin.TheVariants as origin
 use Rattle.entry_codec.specs.declared.lengths.TheConstants.{MAX_SPELLING}
 use Rattle.entry_codec.specs.declared.naming.Format.{Format}
 use Rattle.entry_codec.specs.declared.naming.Format.TheVariants as format
-use Rattle.entry_codec.specs.Naming.{held_bytes, number_or, place_in}
+use Rattle.entry_codec.specs.Naming.{held_bytes, place_in}
 use Rattle.entry_codec.specs.Spelling.{EntryNames, IsEntry, IsId, IsNonce, IsOut, OutNames, counted, def_bytes, flags_byte, ids_bytes, message_bytes, named_count, nonce_bytes, origin_bytes, out_bytes, out_count, spelling, spelling_in, tried_bytes, whole}
 
 pub length_def : (d : GroupValue) → length (def_bytes d) ≡ 7 + length d.name + length d.descriptor
@@ -122,7 +123,12 @@ ids_whole _ is = tt
 short_ids : (names ids : List (List ℕ)) → length (flat_map (held_bytes format.Short names) ids) ≡ 4 * length ids
 short_ids names [] = refl
 short_ids names (id ∷ ids) =
-    omega (arith, length-append (to_be_bytes w32 (number_or (place_in names id))) (flat_map (held_bytes format.Short names) ids), short_ids names ids)
+    omega (
+      arith,
+      length-append (to_be_bytes w32 (unwrap_or (place_in names id) 0))
+          (flat_map (held_bytes format.Short names) ids),
+      short_ids names ids,
+    )
 
 saved_out : (names : List (List ℕ)) (o : Out) → OutNames IsId o → length (out_bytes (held_bytes format.Short names) o) + 28 * out_count o ≡ length (out_bytes whole o)
 saved_out names (out.Acks ids) is = omega (arith, short_ids names ids, length_ids ids is)

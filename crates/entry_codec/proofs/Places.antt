@@ -1,5 +1,6 @@
 -- Ids in a list, and their places in it.
-use Rattle.std.proofs.Common.{◌≡◌, ℕ, zero, suc, ◌^◌, ◌<◌, true, false, cond, ◌||◌, List, [], ◌∷◌, length, refl, sym, ap, ◌∙◌, arith}
+use Rattle.std.proofs.Common.{◌≡◌, ℕ, zero, suc, ◌^◌, ◌<◌, true, false, cond, ◌||◌, List, [], ◌∷◌}
+use Rattle.std.proofs.Common.{length, refl, sym, ap, ◌∙◌, arith, Option, unwrap_or}
 use Rattle.std.specs.Prelude.{Some}
 use Rattle.std.specs.Option.{option_map}
 use Rattle.std.specs.Int.{w32, to_be_bytes}
@@ -10,7 +11,7 @@ use Rattle.sync_rules.specs.Lists.{has_repeat, is_among, same_id}
 use Rattle.sync_rules.proofs.Elements.{same_id-is, same_id_itself}
 use Rattle.entry_codec.specs.declared.naming.Format.{Format}
 use Rattle.entry_codec.specs.declared.naming.Format.TheVariants as format
-use Rattle.entry_codec.specs.Naming.{AreNames, IsNamed, held_bytes, number_or, place_in}
+use Rattle.entry_codec.specs.Naming.{AreNames, IsNamed, held_bytes, place_in}
 use Rattle.entry_codec.specs.Spelling.{IsId}
 use Rattle.entry_codec.specs.Reading.{be_number_in, held_in, id_in}
 use Rattle.entry_codec.proofs.Readers.{IsReader, meant_reads, seen_as}
@@ -93,11 +94,17 @@ whole_held names =
 
 short_held : (names : List (List ℕ)) → AreNames names → IsReader (held_bytes format.Short names) (IsHeldId format.Short names) (held_in format.Short names)
 short_held names are =
-    meant_reads (to_be_bytes w32) (λ n. n < 2 ^ 32) (IsHeldId format.Short names) (be_number_in w32) (slice_get names) (λ id. number_or (place_in names id)) number32
+    meant_reads (to_be_bytes w32) (λ n. n < 2 ^ 32) (IsHeldId format.Short names) (be_number_in w32)
+    (slice_get names) (λ id. unwrap_or (place_in names id) 0) number32
     (λ id m. let place = place_of_one names id m.1 in
-    let is : number_or (place_in names id) ≡ place.n = ap number_or place.is in
+    let is : unwrap_or (place_in names id) 0 ≡ place.n =
+    ap (λ (o : Option ℕ). unwrap_or o 0) place.is in
     (omega (arith, is, place.below, are.few), ap (slice_get names) is ∙ place.at))
-    (λ n id l e. ((named_whole names n id are.whole e, named_among names n id e), sym (ap number_or (place_of_name names n id are.distinct e))))
+    (λ n id l e. (
+      (named_whole names n id are.whole e, named_among names n id e),
+      sym
+          (ap (λ (o : Option ℕ). unwrap_or o 0) (place_of_name names n id are.distinct e)),
+    ))
 
 pub held_reads : (f : Format) (names : List (List ℕ)) → AreNames names → IsReader (held_bytes f names) (IsHeldId f names) (held_in f names)
 held_reads format.Whole names are = whole_held names

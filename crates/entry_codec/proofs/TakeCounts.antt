@@ -1,5 +1,6 @@
 -- A batch that may follow a journal takes one record at most.
 use Rattle.std.proofs.Common.{◌≡◌, ℕ, ◌+◌, ◌≤◌, Bool, true, false, cond, List, [], ◌∷◌, refl, ap}
+use Rattle.std.proofs.Common.{Option, unwrap_or}
 use Rattle.std.proofs.Common.{◌∙◌, arith}
 use Rattle.std.specs.Prelude.{◌==◌, Some}
 use Rattle.std.specs.List.{AllByRecursion}
@@ -10,7 +11,7 @@ use Rattle.std.proofs.lemmas.Bool.{eqb-true, false≢true}
 use Rattle.sync_rules.specs.declared.entries.Entry.{Entry}
 use Rattle.sync_rules.specs.declared.entries.Entry.TheVariants as entry
 use Rattle.sync_rules.specs.Clients.{Meaning}
-use Rattle.sync_rules.specs.Facts.{Facts, after, after_all, count_or, takes_of}
+use Rattle.sync_rules.specs.Facts.{Facts, after, after_all, takes_of}
 use Rattle.sync_rules.specs.Sessions.{taken}
 use Rattle.sync_rules.specs.Legal.{Allowed, SuitsRows}
 use Rattle.sync_rules.specs.EntryTests.{IsSettlingEntry}
@@ -29,20 +30,25 @@ takes_all (e ∷ es) = takes_in e + takes_all es
 
 more_takes : (takes : fin_map.FinMap nat_cmp ℕ) (s session : ℕ) → takes_of (fin_map.insert takes s (takes_of takes s + 1)) session ≤ takes_of takes session + 1
 more_takes takes s session = go (session == s) refl where
-  put : takes_of (fin_map.insert takes s (takes_of takes s + 1)) session ≡ count_or (cond (session == s) (Some (takes_of takes s + 1)) (fin_map.get takes session))
+  put : takes_of (fin_map.insert takes s (takes_of takes s + 1)) session
+      ≡ unwrap_or (cond (session == s) (Some (takes_of takes s + 1)) (fin_map.get takes session)) 0
   put =
-      ap count_or (fin_map.get-insert nat_cmp_total takes s (takes_of takes s + 1) session)
-      ∙ ap (λ b. count_or (cond b (Some (takes_of takes s + 1)) (fin_map.get takes session))) (unsigned_tied session s)
+      ap (λ (o : Option ℕ). unwrap_or o 0)
+      (fin_map.get-insert nat_cmp_total takes s (takes_of takes s + 1) session)
+      ∙ ap (λ b. unwrap_or (cond b (Some (takes_of takes s + 1)) (fin_map.get takes session)) 0)
+      (unsigned_tied session s)
 
   go : (b : Bool) → (session == s) ≡ b → takes_of (fin_map.insert takes s (takes_of takes s + 1)) session ≤ takes_of takes session + 1
   go true is =
       let same : takes_of takes session ≡ takes_of takes s = ap (takes_of takes) (eqb-true session s is) in
       let now : takes_of (fin_map.insert takes s (takes_of takes s + 1)) session ≡ takes_of takes s + 1 =
-      put ∙ ap (λ b. count_or (cond b (Some (takes_of takes s + 1)) (fin_map.get takes session))) is in
+      put ∙ ap (λ b. unwrap_or (cond b (Some (takes_of takes s + 1)) (fin_map.get takes session)) 0)
+      is in
       omega (arith, same, now)
   go false is =
       let now : takes_of (fin_map.insert takes s (takes_of takes s + 1)) session ≡ takes_of takes session =
-      put ∙ ap (λ b. count_or (cond b (Some (takes_of takes s + 1)) (fin_map.get takes session))) is in
+      put ∙ ap (λ b. unwrap_or (cond b (Some (takes_of takes s + 1)) (fin_map.get takes session)) 0)
+      is in
       omega (arith, now)
 
 takes_one : (f : Facts) (e : Entry) (session : ℕ) → takes_of (after f e).takes session ≤ takes_of f.takes session + takes_in e

@@ -1,5 +1,6 @@
 -- The two formats of a journal: how each names a message that is held before a batch.
 use Rattle.std.specs.Prelude.{◌≡◌, ℕ, suc, ◌^◌, ◌≤◌, ◌==◌, true, false, cond, if◌then◌else◌}
+use Rattle.std.specs.Prelude.{unwrap_or}
 use Rattle.std.specs.Prelude.{List, [], ◌∷◌, length, Option, Some, None}
 use Rattle.std.specs.Option.{option_map}
 use Rattle.std.specs.Int.{w32, to_be_bytes}
@@ -23,15 +24,10 @@ pub record AreNames (ids : List (List ℕ)) : Type 0 where
   pub whole : AreIds ids
   pub few : length ids ≤ 2 ^ 32
 
--- a number that there is, or 0
-abbrev pub number_or : Option ℕ → ℕ
-number_or None = 0
-number_or (Some n) = n
-
 -- the bytes of the id of a message that is held, where these are the ids held: the id, or its place among them
 abbrev pub held_bytes : Format → List (List ℕ) → List ℕ → List ℕ
 held_bytes format.Whole names id = id
-held_bytes format.Short names id = to_be_bytes w32 (number_or (place_in names id))
+held_bytes format.Short names id = to_be_bytes w32 (unwrap_or (place_in names id) 0)
 
 -- an id that a format can write where these are the ids held
 abbrev pub IsNamed : Format → List (List ℕ) → List ℕ → Type 0

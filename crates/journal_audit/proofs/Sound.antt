@@ -1,5 +1,6 @@
 -- What holds of plain facts stays so, entry by entry.
 use Rattle.std.proofs.Common.{◌≡◌, ◌≢◌, ℕ, ◌+◌, ◌<◌, ◌≤◌, Bool, true, false, not, cond, ◌&&◌, ◌||◌}
+use Rattle.std.proofs.Common.{Option, unwrap_or}
 use Rattle.std.proofs.Common.{List, [], ◌∷◌, ◌++◌, length, Some, refl, sym, ◌∙◌, ap, subst, arith}
 use Rattle.std.proofs.Common.{is_some, nat_eq, nat_lt, eqb-true}
 use Rattle.std.specs.FinMap as fin_map
@@ -7,9 +8,9 @@ use Rattle.std.specs.List.{slice_get}
 use Rattle.std.proofs.lemmas.Bool.{and_from, and_parts, false≢true}
 use Rattle.sync_rules.specs.declared.entries.Level.{Level}
 use Rattle.sync_rules.specs.declared.entries.Level.TheVariants as level
-use Rattle.sync_rules.specs.Facts.{Held, Id, Known, LevelMap, Rows, group_at, is_invisible}
-use Rattle.sync_rules.specs.Facts.{is_level_shared, level_at, level_or, pair_cmp, put_level, row_at}
-use Rattle.sync_rules.specs.Facts.{row_or}
+use Rattle.sync_rules.specs.Facts.{Held, Id, Known, LevelMap, Rows, group_at, is_invisible, Row}
+use Rattle.sync_rules.specs.Facts.{no_row}
+use Rattle.sync_rules.specs.Facts.{is_level_shared, level_at, pair_cmp, put_level, row_at}
 use Rattle.sync_rules.specs.Lists.{same_id}
 use Rattle.sync_rules.proofs.Elements.{same_id-is}
 use Rattle.sync_rules.proofs.ScanLaws.{level_at_set}
@@ -45,7 +46,8 @@ sound_none groups levels kept rows waiting owed cursors no_levels no_lines no_de
         hidden = λ contact group beyond. unset contact group;
       };
       grouped = subst R (sym no_lines) refl;
-      rows_fit = λ contact id none. ap (λ (r : Rows). row_at r contact id) no_rows ∙ ap row_or (fin_map.get-empty pair_cmp (contact, id));
+      rows_fit = λ contact id none. ap (λ (r : Rows). row_at r contact id) no_rows
+          ∙ ap (λ (o : Option Row). unwrap_or o no_row) (fin_map.get-empty pair_cmp (contact, id));
       waits = subst P (sym no_lines) (λ n l at. cc);
       owes = subst O (sym no_lines) (λ contact n h below at. cc);
       sleeps = λ contact n h at below. let none = no_cursor contact in absurd (omega (arith, none, below));
@@ -53,7 +55,9 @@ sound_none groups levels kept rows waiting owed cursors no_levels no_lines no_de
     }
   where
     unset : (contact : ℕ) (group : Id) → level_at levels contact group ≡ level.Invisible
-    unset contact group = ap (λ (l : LevelMap). level_at l contact group) no_levels ∙ ap level_or (fin_map.get-empty pair_cmp (contact, group))
+    unset contact group = ap (λ (l : LevelMap). level_at l contact group) no_levels
+        ∙ ap (λ (o : Option Level). unwrap_or o level.Invisible)
+        (fin_map.get-empty pair_cmp (contact, group))
 
 module _ (contacts : ℕ) (groups : List Known) (levels : LevelMap) (kept : Kept) (rows : Rows) (waiting : List ℕ) (owed : List (List ℕ)) (cursors : CursorLists)
     (s : AreSound contacts groups levels kept rows waiting owed cursors) where

@@ -1,5 +1,6 @@
 -- The step of a message by what is kept of it.
 use Rattle.std.proofs.Common.{◌≡◌, ℕ, zero, suc, Bool, true, false, cond, not, ◌||◌, ◌+◌, List, [], ◌∷◌, Option, Some, None, refl, sym, ◌∙◌, ap, subst, is_some}
+use Rattle.std.specs.Option.{option_or}
 use Rattle.std.specs.FinSet as fin_set
 use Rattle.std.proofs.lemmas.Bool.{false≢true}
 use Rattle.std.specs.List.{AllByRecursion, cons_option, slice_get}
@@ -11,7 +12,8 @@ use Rattle.sync_rules.specs.Clients.{Meaning}
 use Rattle.sync_rules.specs.Facts.{Facts, Held, Id, held_at, is_held}
 use Rattle.sync_rules.specs.Left.{left_among, left_for, left_of}
 use Rattle.sync_rules.specs.Lists.{is_among, same_id}
-use Rattle.sync_rules.specs.Steps.{first_or_next, first_step, is_elsewhere, is_ended, is_failing, next, step, step_by, step_open, verdict_in}
+use Rattle.sync_rules.specs.Steps.{first_step, is_elsewhere, is_ended, is_failing, next, step}
+use Rattle.sync_rules.specs.Steps.{step_by, step_open, verdict_in}
 use Rattle.sync_rules.specs.Views.{IsFound, IsPlace, place_of}
 use Rattle.journal_audit.specs.declared.facts.PlainFacts.{PlainFacts}
 use Rattle.journal_audit.specs.declared.messages.Line.{Line}
@@ -98,7 +100,8 @@ abbrev first_of : List Entry → Option Entry
 first_of [] = None
 first_of (e ∷ es) = Some e
 
-first_cons : (o : Option Entry) (es : List Entry) → first_or_next o (first_of es) ≡ first_of (cons_option o es)
+first_cons : (o : Option Entry) (es : List Entry) → option_or o (first_of es)
+    ≡ first_of (cons_option o es)
 first_cons None es = refl
 first_cons (Some e) es = refl
 
@@ -106,12 +109,13 @@ first_picked : (clients : Meaning) (p : PlainFacts) (ns : List ℕ) → IsPlainS
     → first_at (facts_of p) p.messages.lines ns ≡ first_of (picks_at (step clients (facts_of p)) (held_in p.messages.lines) ns)
 first_picked clients p [] sound knows = refl
 first_picked clients p (n ∷ ns) sound knows =
-    (λ i. first_or_next (step_held clients p n sound knows i) (first_picked clients p ns sound knows i))
+    (λ i. option_or (step_held clients p n sound knows i) (first_picked clients p ns sound knows i))
     ∙ first_cons (of_held (step clients (facts_of p)) (slice_get (held_in p.messages.lines) n)) (picks_at (step clients (facts_of p)) (held_in p.messages.lines) ns)
 
 first_is : (clients : Meaning) (f : Facts) (hs : List Held) → first_of (picks_of (step clients f) hs) ≡ first_step clients f hs
 first_is clients f [] = refl
-first_is clients f (h ∷ hs) = sym (first_cons (step clients f h) (picks_of (step clients f) hs)) ∙ ap (first_or_next (step clients f h)) (first_is clients f hs)
+first_is clients f (h ∷ hs) = sym (first_cons (step clients f h) (picks_of (step clients f) hs))
+    ∙ ap (option_or (step clients f h)) (first_is clients f hs)
 
 -- a message that does not wait has no step
 no_step : (clients : Meaning) (p : PlainFacts) (n : ℕ) (h : Held) → IsPlainSound p → KnowsMeanings clients p → slice_get (held_in p.messages.lines) n ≡ Some h → has p.waiting n ≡ false

@@ -1,12 +1,13 @@
 -- Looks at some of the messages, by their arrival numbers.
 use Rattle.std.specs.Prelude.{ℕ, Bool, true, false, not, cond, ◌&&◌, ◌||◌, nat_le, List, [], ◌∷◌, Option, None, Some, slice_get}
+use Rattle.std.specs.Option.{option_or}
 use Rattle.std.specs.List.{cons_option}
 use Rattle.sync_rules.specs.declared.entries.Mode.{Mode}
 use Rattle.sync_rules.specs.declared.entries.Entry.{Entry}
 use Rattle.sync_rules.specs.declared.entries.Entry.TheVariants as entry
 use Rattle.sync_rules.specs.Facts.{Facts, Held, Id, LevelMap, Row, Rows, is_level_shared, level_at, row_at}
 use Rattle.sync_rules.specs.Sessions.{is_author, is_ripe, is_sendable}
-use Rattle.sync_rules.specs.Steps.{first_or_next, step_open}
+use Rattle.sync_rules.specs.Steps.{step_open}
 use Rattle.sync_rules.specs.Views.{Seen}
 use Rattle.journal_audit.specs.declared.facts.PlainFacts.{PlainFacts}
 use Rattle.journal_audit.specs.declared.messages.Line.{Line}
@@ -75,4 +76,4 @@ step_at f (Some l) = step_of_line f l
 -- the first step that is open to the messages of these numbers
 abbrev pub first_at : Facts → List Line → List ℕ → Option Entry
 first_at f lines [] = None
-first_at f lines (n ∷ ns) = first_or_next (step_at f (slice_get lines n)) (first_at f lines ns)
+first_at f lines (n ∷ ns) = option_or (step_at f (slice_get lines n)) (first_at f lines ns)

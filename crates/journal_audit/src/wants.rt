@@ -1,7 +1,7 @@
 //! The ids that are wanted from each contact.
-ghost use Rattle.std.specs.Prelude.{◌≡◌, ◌<◌, ◌^◌, length, OnOk};
+ghost use Rattle.std.specs.Prelude.{◌≡◌, ◌<◌, ◌^◌, [], length, unwrap_or, OnOk};
 ghost use Rattle.std.specs.FinMap as fin_map;
-ghost use Rattle.sync_rules.specs.Facts.{ids_or, wanted_by_none, wanted_from, with_want};
+ghost use Rattle.sync_rules.specs.Facts.{wanted_by_none, wanted_from, with_want};
 ghost use Rattle.sync_rules.specs.Facts.{without_each};
 ghost use Rattle.sync_rules.specs.Lists.{is_among, without};
 
@@ -68,7 +68,7 @@ impl WantedIds {
 
 // The list that was found, or one that has no ids.
 fn ids_or(alloc: Global, found: Option<WantedIds>) -> WantedIds
-    ensures { result ≡ ids_or found }
+    ensures { result ≡ unwrap_or found [] }
 {
     match found {
         Some(wanted) => wanted,

@@ -1,6 +1,7 @@
 -- What the batches of a legal journal are written as, where the messages that are held in the end
 -- have names.
 use Rattle.std.proofs.Common.{◌≡◌, ℕ, suc, true, false, cond, List, [], ◌∷◌, ◌++◌, length, refl}
+use Rattle.std.proofs.Common.{unwrap_or}
 use Rattle.std.proofs.Common.{sym, ◌∙◌, ap, arith}
 use Rattle.std.proofs.Common.{Option, Some}
 use Rattle.std.specs.Prelude.{◌||◌}
@@ -20,7 +21,7 @@ use Rattle.sync_rules.specs.Lists.{is_among, same_id}
 use Rattle.sync_rules.proofs.Continuing.{continues_batches}
 use Rattle.entry_codec.specs.declared.naming.Format.TheVariants as kind
 use Rattle.entry_codec.specs.Laws.{AllowedNames}
-use Rattle.entry_codec.specs.Naming.{held_bytes, number_or, place_in}
+use Rattle.entry_codec.specs.Naming.{held_bytes, place_in}
 use Rattle.entry_codec.specs.Payloads.{journal_end, names_of, payload, payloads, spellings}
 use Rattle.entry_codec.specs.Spelling.{EntryNames, OutNames, flags_byte, on_session, out_bytes}
 use Rattle.entry_codec.specs.Spelling.{spelling_in}
@@ -55,7 +56,7 @@ place_front (x ∷ ids) more id e =
 module _ (ids more : List Id) where
   held_front : (id : Id) → Among ids more id → longer ids more id ≡ shorter ids more id
   held_front id among =
-      ap (λ (o : Option ℕ). to_be_bytes w32 (number_or o)) (place_front ids more id among)
+      ap (λ (o : Option ℕ). to_be_bytes w32 (unwrap_or o 0)) (place_front ids more id among)
 
   list_front : (xs : List Id) → AllByRecursion (Among ids more) xs
       → flat_map (longer ids more) xs ≡ flat_map (shorter ids more) xs

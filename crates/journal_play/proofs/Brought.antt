@@ -117,7 +117,7 @@ hears_brings : (clients : Meaning) (def : GroupValue) (messages : List MessageVa
     → HearsRecord clients old 0 k r new → Brings def messages (facts old) → Brings def (with_record (group_id_of def) messages r) (facts new)
 hears_brings clients def messages old k r new is b =
     let group : Id = group_id_of def in
-    let taking : List Entry = take_batch old 0 k r in
+    let taking : List Entry = take_batch (facts old) 0 k r in
     let more = is.settles.more in
     let mid : facts (old ++ taking ∷ []) ≡ after_all (facts old) taking = facts-push old taking in
     let end : facts new ≡ after_batches (facts (old ++ taking ∷ [])) more = ap facts is.settles.extends ∙ after_batches-append nothing (old ++ taking ∷ []) more in

@@ -14,23 +14,29 @@ use Rattle.sync_rules.proofs.Sound.{SoundFacts}
 use Rattle.sync_rules.proofs.Runs.{legal_sound}
 use Rattle.message_graph.specs.declared.nodes.Judged.{Judged}
 use Rattle.message_graph.specs.Nodes.{fate_by, ending_by}
-use Rattle.journal_play.specs.Texts.{Line, told, unended, line_at, text_of}
+use Rattle.journal_play.specs.Texts.{FateLine, ends_told, unended, line_at, lines_text}
 use Rattle.journal_play.specs.Playing.{Story, IsStoryOf, IsTextOf, node_of, answer_shown}
 use Rattle.journal_play.specs.Keeping.{pending_line, pending_text}
 use Rattle.journal_play.proofs.Texts.{text-append}
 
-pending_case : (whole : List Held) (m : MessageValue) (rest : List Line) (answer : Option Judged) → held_at whole (message_id_of m) ≡ Some (arrived 0 m) → (invalid delivered : Bool)
-    → text_of whole (cond (delivered || invalid) rest ((fate_kind.Pending, message_id_of m) ∷ rest))
-    ≡ pending_line (fate_by answer (ending_by invalid delivered)) m ++ text_of whole rest
+pending_case : (whole : List Held) (m : MessageValue) (rest : List FateLine)
+    (answer : Option Judged) → held_at whole (message_id_of m) ≡ Some (arrived 0 m)
+    → (invalid delivered : Bool)
+    → lines_text whole (cond (delivered || invalid) rest ((fate_kind.Pending, message_id_of m)
+    ∷ rest))
+    ≡ pending_line (fate_by answer (ending_by invalid delivered)) m ++ lines_text whole rest
 pending_case whole m rest answer found true true = refl
 pending_case whole m rest answer found true false = refl
 pending_case whole m rest answer found false true = refl
-pending_case whole m rest None found false false = ap (λ o. line_at fate_kind.Pending (message_id_of m) o ++ text_of whole rest) found
-pending_case whole m rest (Some answer) found false false = ap (λ o. line_at fate_kind.Pending (message_id_of m) o ++ text_of whole rest) found
+pending_case whole m rest None found false false =
+    ap (λ o. line_at fate_kind.Pending (message_id_of m) o ++ lines_text whole rest) found
+pending_case whole m rest (Some answer) found false false =
+    ap (λ o. line_at fate_kind.Pending (message_id_of m) o ++ lines_text whole rest) found
 
 pending_same : (clients : Meaning) (f : Facts) (whole : List Held) (ms : List MessageValue)
     → ((h : Held) → In h (map (arrived 0) ms) → held_at whole h.id ≡ Some h)
-    → text_of whole (unended f (map (arrived 0) ms)) ≡ pending_text ms (map (node_of clients f) (map (arrived 0) ms))
+    → lines_text whole (unended f (map (arrived 0) ms))
+    ≡ pending_text ms (map (node_of clients f) (map (arrived 0) ms))
 pending_same clients f whole [] names = refl
 pending_same clients f whole (m ∷ ms) names =
     pending_case whole m (unended f (map (arrived 0) ms)) (answer_shown (answer_of clients f (arrived 0 m))) (names (arrived 0 m) (inl refl))
@@ -47,13 +53,14 @@ finishes clients def records play text p is =
     let sound : SoundFacts clients f = legal_sound clients j p.stands.legal in
     let names : (h : Held) → In h (map (arrived 0) play.messages) → held_at f.held h.id ≡ Some h =
     subst (λ (hs : List Held). (h : Held) → In h hs → held_at f.held h.id ≡ Some h) m.held sound.names in
-    let last : text_of f.held (unended f f.held) ≡ pending_text play.messages play.nodes =
-    ap (λ (hs : List Held). text_of f.held (unended f hs)) m.held
+    let last : lines_text f.held (unended f f.held) ≡ pending_text play.messages play.nodes =
+    ap (λ (hs : List Held). lines_text f.held (unended f hs)) m.held
     ∙ pending_same clients f f.held play.messages names
     ∙ ap (λ (hs : List Held). pending_text play.messages (map (node_of clients f) hs)) (sym m.held)
     ∙ ap (pending_text play.messages) (sym m.nodes) in
     record {
       journal = j;
       plays = p.plays;
-      printed = is ∙ sym (text-append f.held (told (entries_of j)) (unended f f.held) ∙ (λ i. sym m.text i ++ last i));
+      printed = is ∙ sym (text-append f.held (ends_told (entries_of j)) (unended f f.held)
+          ∙ (λ i. sym m.text i ++ last i));
     }

@@ -14,7 +14,7 @@ use Rattle.sync_rules.specs.Steps.{is_ended}
 use Rattle.sync_rules.specs.Rounds.{Graph}
 use Rattle.sync_rules.specs.EntryTests.{delivers, invalidates, ends}
 use Rattle.sync_rules.proofs.Elements.{In-append_right, same_id-is, same_id_itself, tally}
-use Rattle.journal_play.specs.Texts.{Line, told, unended, line_of, line_at, text_of}
+use Rattle.journal_play.specs.Texts.{FateLine, ends_told, unended, line_of, line_at, lines_text}
 use Rattle.journal_play.specs.Fates.{is_good, is_bad, is_decided, state_of, state_line}
 use Rattle.journal_play.proofs.Orders.{IsDistinct}
 
@@ -28,7 +28,7 @@ abbrev pub message_in : Option Held → List MessageValue
 message_in None = []
 message_in (Some h) = h.message ∷ []
 
-abbrev pub messages_at : List Held → List Line → List MessageValue
+abbrev pub messages_at : List Held → List FateLine → List MessageValue
 messages_at held [] = []
 messages_at held (line ∷ lines) = message_in (held_at held line.1) ++ messages_at held lines
 
@@ -70,16 +70,19 @@ module _ (messages : List MessageValue) (names : (m : MessageValue) → In m mes
       ]
 
   -- each message of a line is one of these, and an entry ends it
-  pub of_told : (es : List Entry) (z : MessageValue) → In z (messages_at (map (arrived 0) messages) (told es))
+  pub of_told : (es : List Entry) (z : MessageValue)
+      → In z (messages_at (map (arrived 0) messages) (ends_told es))
       → In z messages × (list_any (ends (message_id_of z)) es ≡ true)
   of_told [] z h = absurd h
   of_told (entry.Deliver x ∷ es) z h =
-      elim (of_line x (messages_at (map (arrived 0) messages) (told es)) (held_at (map (arrived 0) messages) x) refl z h) [
+      elim (of_line x (messages_at (map (arrived 0) messages) (ends_told es))
+      (held_at (map (arrived 0) messages) x) refl z h) [
         | inl here ↦ (here.0, or_left (ends (message_id_of z) (entry.Deliver x)) (list_any (ends (message_id_of z)) es) (or_left (same_id x (message_id_of z)) false here.1))
         | inr later ↦ let r = of_told es z later in (r.0, or_right (ends (message_id_of z) (entry.Deliver x)) (list_any (ends (message_id_of z)) es) r.1)
       ]
   of_told (entry.Invalid x ∷ es) z h =
-      elim (of_line x (messages_at (map (arrived 0) messages) (told es)) (held_at (map (arrived 0) messages) x) refl z h) [
+      elim (of_line x (messages_at (map (arrived 0) messages) (ends_told es))
+      (held_at (map (arrived 0) messages) x) refl z h) [
         | inl here ↦ (here.0, or_left (ends (message_id_of z) (entry.Invalid x)) (list_any (ends (message_id_of z)) es) here.1)
         | inr later ↦ let r = of_told es z later in (r.0, or_right (ends (message_id_of z) (entry.Invalid x)) (list_any (ends (message_id_of z)) es) r.1)
       ]
@@ -95,16 +98,16 @@ module _ (messages : List MessageValue) (names : (m : MessageValue) → In m mes
 
   -- a message that an entry ends has a line
   pub to_told : (es : List Entry) (z : MessageValue) → In z messages → list_any (ends (message_id_of z)) es ≡ true
-      → In z (messages_at (map (arrived 0) messages) (told es))
+      → In z (messages_at (map (arrived 0) messages) (ends_told es))
   to_told [] z inside h = absurd (false≢true h)
   to_told (entry.Deliver x ∷ es) z inside h =
-      let rest : List MessageValue = messages_at (map (arrived 0) messages) (told es) in
+      let rest : List MessageValue = messages_at (map (arrived 0) messages) (ends_told es) in
       elim (or_cases (ends (message_id_of z) (entry.Deliver x)) (list_any (ends (message_id_of z)) es) h) [
         | inl here ↦ to_line x rest z inside (sym (or_false (same_id x (message_id_of z))) ∙ here)
         | inr later ↦ In-append_right z (message_in (held_at (map (arrived 0) messages) x)) rest (to_told es z inside later)
       ]
   to_told (entry.Invalid x ∷ es) z inside h =
-      let rest : List MessageValue = messages_at (map (arrived 0) messages) (told es) in
+      let rest : List MessageValue = messages_at (map (arrived 0) messages) (ends_told es) in
       elim (or_cases (ends (message_id_of z) (entry.Invalid x)) (list_any (ends (message_id_of z)) es) h) [
         | inl here ↦ to_line x rest z inside here
         | inr later ↦ In-append_right z (message_in (held_at (map (arrived 0) messages) x)) rest (to_told es z inside later)
@@ -112,7 +115,8 @@ module _ (messages : List MessageValue) (names : (m : MessageValue) → In m mes
   to_told (e ∷ es) z inside h = to_told es z inside h
 
   no_second : (x : Id) (e : Entry) (es : List Entry) → ((id : Id) → ends id e ≡ same_id x id) → ((id : Id) → tally (ends id) (e ∷ es) ≤ 1)
-      → (z : MessageValue) → message_id_of z ≡ x → In z (messages_at (map (arrived 0) messages) (told es)) → ⊥
+      → (z : MessageValue) → message_id_of z ≡ x
+      → In z (messages_at (map (arrived 0) messages) (ends_told es)) → ⊥
   no_second x e es is few z named inside =
       let id : Id = message_id_of z in
       let more : 1 ≤ tally (ends id) es = any_tally (ends id) es (of_told es z inside).1 in
@@ -129,13 +133,15 @@ module _ (messages : List MessageValue) (names : (m : MessageValue) → In m mes
       ] (few id)
 
   distinct_line : (x : Id) (e : Entry) (es : List Entry) → ((id : Id) → ends id e ≡ same_id x id) → ((id : Id) → tally (ends id) (e ∷ es) ≤ 1)
-      → (o : Option Held) → held_at (map (arrived 0) messages) x ≡ o → IsDistinct (messages_at (map (arrived 0) messages) (told es))
-      → IsDistinct (message_in o ++ messages_at (map (arrived 0) messages) (told es))
+      → (o : Option Held) → held_at (map (arrived 0) messages) x ≡ o
+      → IsDistinct (messages_at (map (arrived 0) messages) (ends_told es))
+      → IsDistinct (message_in o ++ messages_at (map (arrived 0) messages) (ends_told es))
   distinct_line x e es is few None found d = d
   distinct_line x e es is few (Some h) found d = (no_second x e es is few h.message (found_in messages x h found).1, d)
 
   -- no message has two lines
-  pub distinct_told : (es : List Entry) → ((id : Id) → tally (ends id) es ≤ 1) → IsDistinct (messages_at (map (arrived 0) messages) (told es))
+  pub distinct_told : (es : List Entry) → ((id : Id) → tally (ends id) es ≤ 1)
+      → IsDistinct (messages_at (map (arrived 0) messages) (ends_told es))
   distinct_told [] few = tt
   distinct_told (entry.Deliver x ∷ es) few =
       distinct_line x (entry.Deliver x) es (λ id. or_false (same_id x id)) few (held_at (map (arrived 0) messages) x) refl
@@ -159,24 +165,29 @@ module _ (messages : List MessageValue) (names : (m : MessageValue) → In m mes
       invalid = λ m inside h. r.invalid m inside (or_right (invalidates (message_id_of m) e) (list_any (invalidates (message_id_of m)) es) h);
     }
 
-    line_text : (state : Fate) (x : Id) (rest : List Line) (o : Option Held) → held_at (map (arrived 0) messages) x ≡ o
+    line_text : (state : Fate) (x : Id) (rest : List FateLine) (o : Option Held)
+        → held_at (map (arrived 0) messages) x ≡ o
         → ((m : MessageValue) → In m messages → same_id x (message_id_of m) ≡ true → state_of g m ≡ state)
-        → text_of (map (arrived 0) messages) rest ≡ flat_map (state_line g) (messages_at (map (arrived 0) messages) rest)
-        → line_at state x o ++ text_of (map (arrived 0) messages) rest ≡ flat_map (state_line g) (message_in o ++ messages_at (map (arrived 0) messages) rest)
+        → lines_text (map (arrived 0) messages) rest
+        ≡ flat_map (state_line g) (messages_at (map (arrived 0) messages) rest)
+        → line_at state x o ++ lines_text (map (arrived 0) messages) rest
+        ≡ flat_map (state_line g) (message_in o ++ messages_at (map (arrived 0) messages) rest)
     line_text state x rest None found right same = same
     line_text state x rest (Some h) found right same =
         let at = found_in messages x h found in
         let is : state_of g h.message ≡ state = right h.message at.0 (ap (same_id x) at.1 ∙ same_id_itself x) in
         (λ i. line_of (sym is i) (sym at.1 i) h.message ++ same i)
 
-    pub told_text : (es : List Entry) → IsRight es → text_of (map (arrived 0) messages) (told es) ≡ flat_map (state_line g) (messages_at (map (arrived 0) messages) (told es))
+    pub told_text : (es : List Entry) → IsRight es → lines_text (map (arrived 0) messages)
+        (ends_told es) ≡ flat_map (state_line g)
+        (messages_at (map (arrived 0) messages) (ends_told es))
     told_text [] r = refl
     told_text (entry.Deliver x ∷ es) r =
-        line_text fate_kind.Delivered x (told es) (held_at (map (arrived 0) messages) x) refl
+        line_text fate_kind.Delivered x (ends_told es) (held_at (map (arrived 0) messages) x) refl
         (λ m inside h. r.delivered m inside (or_left (same_id x (message_id_of m)) (list_any (delivers (message_id_of m)) es) h))
         (told_text es (right_behind (entry.Deliver x) es r))
     told_text (entry.Invalid x ∷ es) r =
-        line_text fate_kind.Invalid x (told es) (held_at (map (arrived 0) messages) x) refl
+        line_text fate_kind.Invalid x (ends_told es) (held_at (map (arrived 0) messages) x) refl
         (λ m inside h. r.invalid m inside (or_left (same_id x (message_id_of m)) (list_any (invalidates (message_id_of m)) es) h))
         (told_text es (right_behind (entry.Invalid x) es r))
     told_text (e ∷ es) r = told_text es (right_behind e es r)
@@ -189,13 +200,18 @@ module _ (messages : List MessageValue) (names : (m : MessageValue) → In m mes
     -- the messages that have no end
     pub unended_text : (f : Facts) → ((m : MessageValue) → is_ended f (message_id_of m) ≡ is_decided g m) → (some : List MessageValue)
         → ((m : MessageValue) → In m some → In m messages)
-        → text_of (map (arrived 0) messages) (unended f (map (arrived 0) some)) ≡ flat_map (state_line g) (filter (λ m. not (is_decided g m)) some)
+        → lines_text (map (arrived 0) messages) (unended f (map (arrived 0) some))
+        ≡ flat_map (state_line g) (filter (λ m. not (is_decided g m)) some)
     unended_text f same [] inside = refl
     unended_text f same (m ∷ some) inside =
         let rest = unended_text f same some (λ x h. inside x (inr h)) in
-        ap (λ b. text_of (map (arrived 0) messages) (cond b (unended f (map (arrived 0) some)) ((fate_kind.Pending, message_id_of m) ∷ unended f (map (arrived 0) some)))) (same m)
+        ap (λ b. lines_text (map (arrived 0) messages)
+        (cond b (unended f (map (arrived 0) some)) ((fate_kind.Pending, message_id_of m)
+        ∷ unended f (map (arrived 0) some)))) (same m)
         ∙ elim (is_decided g m) as (λ b. is_decided g m ≡ b →
-        text_of (map (arrived 0) messages) (cond b (unended f (map (arrived 0) some)) ((fate_kind.Pending, message_id_of m) ∷ unended f (map (arrived 0) some)))
+        lines_text (map (arrived 0) messages)
+        (cond b (unended f (map (arrived 0) some)) ((fate_kind.Pending, message_id_of m)
+        ∷ unended f (map (arrived 0) some)))
         ≡ flat_map (state_line g) (cond (not b) (m ∷ filter (λ m. not (is_decided g m)) some) (filter (λ m. not (is_decided g m)) some))) [
           | true ↦ λ e. rest
           | false ↦ λ e. (λ i. line_at fate_kind.Pending (message_id_of m) (names m (inside m (inl refl)) i) ++ rest i) ∙ (λ i. line_of (sym (waits m e) i) (message_id_of m) m ++ flat_map (state_line g) (filter (λ m. not (is_decided g m)) some))

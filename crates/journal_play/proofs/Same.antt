@@ -1,7 +1,7 @@
 -- The next step of a journal is that of the nodes of its held messages.
 use Rattle.std.proofs.Common.{◌≡◌, ℕ, zero, suc, ◌+◌, ◌<◌, Bool, true, false, cond, ◌&&◌, ◌||◌, List, [], ◌∷◌, length, map, refl, sym, ◌∙◌, ap, inl, inr, arith, Option, Some, None, is_some}
 use Rattle.std.specs.List.{list_any, list_all}
-use Rattle.std.specs.Option.{option_map}
+use Rattle.std.specs.Option.{option_map, option_or}
 use Rattle.std.specs.FinSet as fin_set
 use Rattle.std.proofs.lemmas.Bool.{false≢true}
 use Rattle.sync_rules.specs.declared.answers.Judgement.{Judgement}
@@ -11,7 +11,8 @@ use Rattle.sync_rules.specs.declared.entries.Entry.TheVariants as entry
 use Rattle.sync_rules.specs.Clients.{Meaning}
 use Rattle.sync_rules.specs.Lists.{same_id, is_among, In}
 use Rattle.sync_rules.specs.Facts.{Facts, Held, Id, held_at, is_held}
-use Rattle.sync_rules.specs.Steps.{is_elsewhere, is_beside, is_failing, is_served, answer_of, step_accepted, step_open, step_by, step, first_or_next, first_step, next}
+use Rattle.sync_rules.specs.Steps.{is_elsewhere, is_beside, is_failing, is_served, answer_of}
+use Rattle.sync_rules.specs.Steps.{step_accepted, step_open, step_by, step, first_step, next}
 use Rattle.sync_rules.proofs.Elements.{same_id_itself, same_id_swap}
 use Rattle.sync_rules.proofs.Sound.{held_at-id}
 use Rattle.message_graph.specs.declared.nodes.Node.{Node}
@@ -150,9 +151,10 @@ module _ (clients : Meaning) (f : Facts) (group : Id) (one : IsOneGroup f group)
   first_same number (h ∷ hs) names groups =
       let here : h.id ≡ name number = names 0 (omega arith) ∙ ap name (omega arith) in
       let later = first_same (number + 1) hs (λ k within. names (suc k) (omega arith) ∙ ap name (omega arith)) (λ x inside. groups x (inr inside)) in
-      ap (λ (o : Option Entry). first_or_next o (first_step clients f hs)) (step_same clients f group one name number h (groups h (inl refl)) here)
+      ap (λ (o : Option Entry). option_or o (first_step clients f hs))
+      (step_same clients f group one name number h (groups h (inl refl)) here)
       ∙ elim (nodes.step_of (map (node_of clients f) f.held) number (node_of clients f h)) as (λ o.
-      first_or_next (option_map (entry_of name) o) (first_step clients f hs)
+      option_or (option_map (entry_of name) o) (first_step clients f hs)
       ≡ option_map (entry_of name) (nodes.or_else o (nodes.first_step (map (node_of clients f) f.held) (number + 1) (map (node_of clients f) hs)))) [
         | None ↦ later
         | Some s ↦ refl

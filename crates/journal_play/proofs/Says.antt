@@ -34,7 +34,7 @@ use Rattle.sync_rules.proofs.Flags.{scanned, delivered_scan, invalid_scan, ended
 use Rattle.sync_rules.proofs.Settling.{settled_law, goes_on_both, after_batches-append}
 use Rattle.sync_rules.proofs.WorkLaws.{facts-push, settles_legal}
 use Rattle.sync_rules.proofs.HearLaws.{one_session_hears, Stays, stays_all, stays_batches}
-use Rattle.journal_play.specs.Texts.{told, unended, text_of}
+use Rattle.journal_play.specs.Texts.{ends_told, unended, lines_text}
 use Rattle.journal_play.specs.Playing.{PlaysRecords, IsTextOf}
 use Rattle.journal_play.specs.Fates.{is_brought, with_record, with_records, brought, graph_with, is_good, is_bad, is_decided, state_of, state_line, SaysFates}
 use Rattle.journal_play.proofs.Steps.{delivered_held, bad_held, good_held, invalid_held, no_two, of_group, verdict_of}
@@ -91,7 +91,7 @@ hears_on : (clients : Meaning) (old : List (List Entry)) (k : ℕ) (r : Record) 
     → HearsRecord clients old 0 k r new → IsHearing clients new 0 0 (k + 1)
 hears_on clients old k r new h within is =
     let f : Facts = facts old in
-    let taking : List Entry = take_batch old 0 k r in
+    let taking : List Entry = take_batch (facts old) 0 k r in
     let more = is.settles.more in
     let legal : Legal clients (old ++ taking ∷ []) =
     goes_on_both clients nothing old (taking ∷ []) h.legal (
@@ -311,9 +311,9 @@ says clients kind def records text known is =
     } in
     let few : (id : Id) → tally (ends id) es ≤ 1 = λ id. subst (λ n. n ≤ 1) (sym (tally-is (ends id) es)) (ends_once clients j s.legal id) in
     record {
-      decided = messages_at held (told es);
+      decided = messages_at held (ends_told es);
       each_once =
-          same_elements (filter (is_decided g) messages) (messages_at held (told es))
+          same_elements (filter (is_decided g) messages) (messages_at held (ends_told es))
           (IsDistinct-filter (is_decided g) messages (brought_distinct (group_id_of def) [] records tt))
           (distinct_told messages names es few)
           (λ z h. let r = of_filter (is_decided g) messages z h in
@@ -322,8 +322,9 @@ says clients kind def records text known is =
           In-filter (is_decided g) messages z r.0 (sym (ended z) ∙ (ended_told (message_id_of z) j ∙ r.1)));
       lines =
           is.printed
-          ∙ ap (λ hs. text_of hs (told es ++ unended f hs)) b.held
-          ∙ text-append held (told es) (unended f held)
+          ∙ ap (λ hs. lines_text hs (ends_told es ++ unended f hs)) b.held
+          ∙ text-append held (ends_told es) (unended f held)
           ∙ (λ i. told_text messages names g es right i ++ unended_text messages names g f ended messages (λ m h. h) i)
-          ∙ sym (flat_map-append (state_line g) (messages_at held (told es)) (filter (λ m. not (is_decided g m)) messages));
+          ∙ sym (flat_map-append (state_line g) (messages_at held (ends_told es))
+          (filter (λ m. not (is_decided g m)) messages));
     }

@@ -28,13 +28,13 @@ use Rattle.message_graph.specs.declared.nodes.Step.{Step}
 use Rattle.message_graph.specs.declared.nodes.Step.TheVariants as graph_step
 use Rattle.message_graph.specs.Nodes as nodes
 use Rattle.message_graph.proofs.NodeLaws.{next_judge, next_end, there_within}
-use Rattle.journal_play.specs.Texts.{Line, told, line_of, line_at, text_of}
+use Rattle.journal_play.specs.Texts.{FateLine, ends_told, line_of, line_at, lines_text}
 use Rattle.journal_play.specs.Playing.{Story, node_of, judged_of, MirrorsFacts, StoryStandsFor}
 use Rattle.journal_play.specs.Keeping.{stepping, SettlesToStory, IsStepped}
 use Rattle.message_graph.specs.Nodes.{step_number}
 use Rattle.journal_play.proofs.Same.{IsOneGroup, entry_of, id_at, next_same}
 use Rattle.journal_play.proofs.Changes.{judged_node, invalid_node, delivered_node}
-use Rattle.journal_play.proofs.Texts.{told-push, text-append, all-push}
+use Rattle.journal_play.proofs.Texts.{ends_told-push, text-append, all-push}
 
 -- ---- what is at a number
 
@@ -165,8 +165,8 @@ module _ (clients : Meaning) (def : GroupValue) (k : ℕ) (f : Facts) (es : List
 
   pub judged_mirrors : MirrorsFacts clients def k (after f (entry.Judged (message_id_of msg))) (es ++ entry.Judged (message_id_of msg) ∷ []) (stepping clients (graph_step.Judge n) msg play)
   judged_mirrors =
-      let same : told (es ++ entry.Judged (message_id_of msg) ∷ []) ≡ told es =
-      told-push es (entry.Judged (message_id_of msg)) ∙ append-nil (told es) in
+      let same : ends_told (es ++ entry.Judged (message_id_of msg) ∷ []) ≡ ends_told es =
+      ends_told-push es (entry.Judged (message_id_of msg)) ∙ append-nil (ends_told es) in
       record {
         kind = m.kind;
         group = m.group;
@@ -178,30 +178,33 @@ module _ (clients : Meaning) (def : GroupValue) (k : ℕ) (f : Facts) (es : List
         nodes =
             ap (nodes.with_answer n (judged_of (clients.verdict play.kind msg))) m.nodes
             ∙ sym (judged_node clients f n (arrived 0 msg) held_there m.once (clients.verdict play.kind msg) verdict);
-        text = m.text ∙ ap (text_of f.held) (sym same);
+        text = m.text ∙ ap (lines_text f.held) (sym same);
         once = m.once;
         judged = λ id c.
             elim (or_cases (same_id (message_id_of msg) id) (fin_set.contains f.judged id) (sym (contains-more f.judged (message_id_of msg) id) ∙ c)) [
               | inl e ↦ ap (is_held f.held) (sym (same_id-is (message_id_of msg) id e)) ∙ ap is_some found
               | inr was ↦ m.judged id was
             ];
-        within = ap (list_all (λ (line : Line). is_held f.held line.1)) same ∙ m.within;
+        within = ap (list_all (λ (line : FateLine). is_held f.held line.1)) same ∙ m.within;
       }
 
   -- one more line
-  line_text : (x : Fate) → text_of f.held (told es ++ (x, message_id_of msg) ∷ []) ≡ play.text ++ line_of x (message_id_of msg) msg
+  line_text : (x : Fate) → lines_text f.held (ends_told es ++ (x, message_id_of msg) ∷ [])
+      ≡ play.text ++ line_of x (message_id_of msg) msg
   line_text x =
-      text-append f.held (told es) ((x, message_id_of msg) ∷ [])
+      text-append f.held (ends_told es) ((x, message_id_of msg) ∷ [])
       ∙ (λ i. sym m.text i ++ (line_at x (message_id_of msg) (found i) ++ []))
       ∙ ap (λ t. play.text ++ t) (append-nil (line_of x (message_id_of msg) msg))
 
-  line_held : (x : Fate) → list_all (λ (line : Line). is_held f.held line.1) (told es ++ (x, message_id_of msg) ∷ []) ≡ true
-  line_held x = all-push f.held (told es) (x, message_id_of msg) m.within (ap is_some found)
+  line_held : (x : Fate) → list_all (λ (line : FateLine). is_held f.held line.1)
+      (ends_told es ++ (x, message_id_of msg) ∷ []) ≡ true
+  line_held x = all-push f.held (ends_told es) (x, message_id_of msg) m.within (ap is_some found)
 
   pub invalid_mirrors : MirrorsFacts clients def k (after f (entry.Invalid (message_id_of msg))) (es ++ entry.Invalid (message_id_of msg) ∷ []) (stepping clients (graph_step.Invalid n) msg play)
   invalid_mirrors =
-      let more : told (es ++ entry.Invalid (message_id_of msg) ∷ []) ≡ told es ++ (fate_kind.Invalid, message_id_of msg) ∷ [] =
-      told-push es (entry.Invalid (message_id_of msg)) in
+      let more : ends_told (es ++ entry.Invalid (message_id_of msg) ∷ []) ≡ ends_told es
+      ++ (fate_kind.Invalid, message_id_of msg) ∷ [] =
+      ends_told-push es (entry.Invalid (message_id_of msg)) in
       record {
         kind = m.kind;
         group = m.group;
@@ -211,10 +214,11 @@ module _ (clients : Meaning) (def : GroupValue) (k : ℕ) (f : Facts) (es : List
         takes = m.takes;
         held = m.held;
         nodes = ap (nodes.with_ending n ending.Invalid) m.nodes ∙ sym (invalid_node clients f n (arrived 0 msg) held_there m.once);
-        text = sym (ap (text_of f.held) more ∙ line_text fate_kind.Invalid);
+        text = sym (ap (lines_text f.held) more ∙ line_text fate_kind.Invalid);
         once = m.once;
         judged = m.judged;
-        within = ap (list_all (λ (line : Line). is_held f.held line.1)) more ∙ line_held fate_kind.Invalid;
+        within = ap (list_all (λ (line : FateLine). is_held f.held line.1)) more
+            ∙ line_held fate_kind.Invalid;
       }
 
   not_invalid : next clients f ≡ Some (entry.Deliver (message_id_of msg)) → fin_set.contains f.invalid (message_id_of msg) ≡ false
@@ -226,8 +230,9 @@ module _ (clients : Meaning) (def : GroupValue) (k : ℕ) (f : Facts) (es : List
   pub delivered_mirrors : next clients f ≡ Some (entry.Deliver (message_id_of msg)) →
       MirrorsFacts clients def k (after f (entry.Deliver (message_id_of msg))) (es ++ entry.Deliver (message_id_of msg) ∷ []) (stepping clients (graph_step.Deliver n) msg play)
   delivered_mirrors e =
-      let more : told (es ++ entry.Deliver (message_id_of msg) ∷ []) ≡ told es ++ (fate_kind.Delivered, message_id_of msg) ∷ [] =
-      told-push es (entry.Deliver (message_id_of msg)) in
+      let more : ends_told (es ++ entry.Deliver (message_id_of msg) ∷ []) ≡ ends_told es
+      ++ (fate_kind.Delivered, message_id_of msg) ∷ [] =
+      ends_told-push es (entry.Deliver (message_id_of msg)) in
       record {
         kind = m.kind;
         group = m.group;
@@ -237,10 +242,11 @@ module _ (clients : Meaning) (def : GroupValue) (k : ℕ) (f : Facts) (es : List
         takes = m.takes;
         held = m.held;
         nodes = ap (nodes.with_ending n ending.Delivered) m.nodes ∙ sym (delivered_node clients f n (arrived 0 msg) held_there m.once (not_invalid e));
-        text = sym (ap (text_of f.held) more ∙ line_text fate_kind.Delivered);
+        text = sym (ap (lines_text f.held) more ∙ line_text fate_kind.Delivered);
         once = m.once;
         judged = m.judged;
-        within = ap (list_all (λ (line : Line). is_held f.held line.1)) more ∙ line_held fate_kind.Delivered;
+        within = ap (list_all (λ (line : FateLine). is_held f.held line.1)) more
+            ∙ line_held fate_kind.Delivered;
       }
 
 -- what a step of what is kept is for a journal

@@ -1,5 +1,8 @@
 -- A record is taken, and what is kept goes on to stand for the journal.
-use Rattle.std.proofs.Common.{◌≡◌, ℕ, ◌+◌, ◌-◌, Bool, true, false, cond, not, ◌&&◌, ◌||◌, List, [], ◌∷◌, ◌++◌, length, map, refl, sym, ◌∙◌, ap, subst, arith, Option, Some, None, is_some, append-nil, append_assoc, length-append}
+use Rattle.std.proofs.Common.{◌≡◌, ℕ, ◌+◌, ◌-◌, Bool, true, false, cond, not, ◌&&◌, ◌||◌, List, []}
+use Rattle.std.proofs.Common.{◌∷◌, ◌++◌, length, map, refl, sym, ◌∙◌, ap, subst, arith, Option}
+use Rattle.std.proofs.Common.{Some, None, is_some, append-nil, append_assoc, length-append}
+use Rattle.std.proofs.Common.{unwrap_or}
 use Rattle.std.specs.List.{list_all}
 use Rattle.std.specs.Option.{option_map}
 use Rattle.std.specs.FinMap as fin_map
@@ -18,7 +21,9 @@ use Rattle.sync_rules.specs.declared.entries.Entry.TheVariants as entry
 use Rattle.sync_rules.specs.declared.entries.Level.TheVariants as level
 use Rattle.sync_rules.specs.Clients.{Meaning}
 use Rattle.sync_rules.specs.Lists.{same_id, is_among, has_repeat, firsts}
-use Rattle.sync_rules.specs.Facts.{Facts, Held, Id, held_at, is_held, after, after_all, facts, entries_of, group_at, known_of, arrived, contact_of, level_at, is_invisible, takes_of, count_or, session_at, wanted_from, row_at}
+use Rattle.sync_rules.specs.Facts.{Facts, Held, Id, held_at, is_held, after, after_all, facts}
+use Rattle.sync_rules.specs.Facts.{entries_of, group_at, known_of, arrived, contact_of, level_at}
+use Rattle.sync_rules.specs.Facts.{is_invisible, takes_of, session_at, wanted_from, row_at}
 use Rattle.sync_rules.specs.Steps.{verdict_in, IsSettled, kind_of_def}
 use Rattle.sync_rules.specs.Sessions.{taken, taken_message, taken_message_of, taken_acks, taken_requests, taken_offers, taken_offer, is_welcome, one_if, is_shown, is_remembered, room_after}
 use Rattle.sync_rules.specs.Hearing.{HearsRecord, take_batch, one_session}
@@ -33,14 +38,15 @@ use Rattle.sync_rules.specs.Facts.{nothing}
 use Rattle.message_graph.specs.declared.nodes.Node.{Node}
 use Rattle.message_graph.specs.Nodes as nodes
 use Rattle.message_graph.proofs.NodeLaws.{number_of-node_named}
-use Rattle.journal_play.specs.Texts.{Line, told_by, told, text_of}
+use Rattle.journal_play.specs.Texts.{FateLine, told_by, ends_told, lines_text}
 use Rattle.journal_play.specs.Playing.{PlaysRecords, Story, node_of, answer_shown, MirrorsFacts, StoryStandsFor, IsStoryOf}
 use Rattle.message_graph.specs.Nodes.{ending_by}
 use Rattle.journal_play.specs.Keeping.{holding, taking, taking_message, SettlesToStory}
 use Rattle.journal_play.proofs.Same.{node_named-held, next_same, entry_of, id_at}
 use Rattle.journal_play.proofs.Changes.{ids_of}
 use Rattle.journal_play.proofs.Steps.{one_group, of_group, delivered_held, entries-push}
-use Rattle.journal_play.proofs.Texts.{told-append, told-push, text-push, stays_held, all_stay}
+use Rattle.journal_play.proofs.Texts.{ends_told-append, ends_told-push, text-push, stays_held}
+use Rattle.journal_play.proofs.Texts.{all_stay}
 use Rattle.sync_rules.specs.declared.limits.TheConstants.{MAX_WANTED}
 
 -- ---- facts that what is kept does not tell apart
@@ -55,7 +61,8 @@ pub record Alike (f g : Facts) : Type 0 where
   pub delivered : g.delivered ≡ f.delivered
 
 pub alike_mirrors : (clients : Meaning) (def : GroupValue) (k k' : ℕ) (f g : Facts) (es es' : List Entry) (play : Story)
-    → Alike f g → takes_of g.takes 0 ≡ k' → told es' ≡ told es → MirrorsFacts clients def k f es play → MirrorsFacts clients def k' g es' play
+    → Alike f g → takes_of g.takes 0 ≡ k' → ends_told es' ≡ ends_told es
+    → MirrorsFacts clients def k f es play → MirrorsFacts clients def k' g es' play
 alike_mirrors clients def k k' f g es es' play a takes same m = record {
   kind = m.kind;
   group = m.group;
@@ -66,10 +73,10 @@ alike_mirrors clients def k k' f g es es' play a takes same m = record {
   held = a.held ∙ m.held;
   nodes = m.nodes ∙ sym (λ i. map (λ (h : Held). let o = cond (fin_set.contains (a.judged i) h.id) (Some (verdict_in clients (a.groups i) h.message)) None in
       let n : Node = record { name = h.id; group = 0; answer = answer_shown o; ending = ending_by (fin_set.contains (a.invalid i) h.id) (is_among (a.delivered i) h.id) } in n) (a.held i));
-  text = m.text ∙ sym (λ i. text_of (a.held i) (same i));
+  text = m.text ∙ sym (λ i. lines_text (a.held i) (same i));
   once = ap (λ hs. has_repeat (ids_of hs)) a.held ∙ m.once;
   judged = λ id c. ap (λ hs. is_held hs id) a.held ∙ m.judged id (sym (ap (λ s. fin_set.contains s id) a.judged) ∙ c);
-  within = (λ i. list_all (λ (line : Line). is_held (a.held i) line.1) (same i)) ∙ m.within;
+  within = (λ i. list_all (λ (line : FateLine). is_held (a.held i) line.1) (same i)) ∙ m.within;
 }
 
 -- ---- entries that change nothing of it
@@ -114,7 +121,7 @@ told_by_quiet (entry.Asked s id) q = refl
 told_by_quiet (entry.Offered s id) q = refl
 told_by_quiet _ q = absurd q
 
-told_quiet : (es : List Entry) → AllQuiet es → told es ≡ []
+told_quiet : (es : List Entry) → AllQuiet es → ends_told es ≡ []
 told_quiet [] q = refl
 told_quiet (e ∷ es) q = (λ i. told_by_quiet e q.0 i ++ told_quiet es q.1 i)
 
@@ -139,8 +146,10 @@ takes_all f (e ∷ es) q = takes_all (after f e) es q.1 ∙ takes_quiet f e q.0
 
 pub one_more_take : (takes : fin_map.FinMap nat_cmp ℕ) (s : ℕ) → takes_of (fin_map.insert takes s (takes_of takes s + 1)) s ≡ takes_of takes s + 1
 one_more_take takes s =
-    ap count_or (fin_map.get-insert nat_cmp_total takes s (takes_of takes s + 1) s)
-    ∙ ap (λ b. count_or (cond b (Some (takes_of takes s + 1)) (fin_map.get takes s))) (unsigned_tied s s ∙ nat_eq_equiv.refl s)
+    ap (λ (o : Option ℕ). unwrap_or o 0)
+    (fin_map.get-insert nat_cmp_total takes s (takes_of takes s + 1) s)
+    ∙ ap (λ b. unwrap_or (cond b (Some (takes_of takes s + 1)) (fin_map.get takes s)) 0)
+    (unsigned_tied s s ∙ nat_eq_equiv.refl s)
 
 -- the Take entry and quiet ones
 quiet_mirrors : (clients : Meaning) (def : GroupValue) (k : ℕ) (f : Facts) (es ts : List Entry) (play : Story) → MirrorsFacts clients def k f es play → AllQuiet ts
@@ -151,7 +160,8 @@ quiet_mirrors clients def k f es ts play m q =
     alike_mirrors clients def k (k + 1) f (after_all g ts) es (es ++ entry.Take 0 k ∷ ts) play
     (alike_then f g (after_all g ts) first (alike_all g ts q))
     (ap (λ t. takes_of t 0) (takes_all g ts q) ∙ one_more_take f.takes 0 ∙ ap (λ n. n + 1) m.takes)
-    (told-append es (entry.Take 0 k ∷ ts) ∙ ap (λ ls. told es ++ ls) (told_quiet ts q) ∙ append-nil (told es))
+    (ends_told-append es (entry.Take 0 k ∷ ts) ∙ ap (λ ls. ends_told es ++ ls) (told_quiet ts q)
+    ∙ append-nil (ends_told es))
     m
 
 -- ---- a message arrives
@@ -197,7 +207,8 @@ arrive_mirrors clients def k f es play m sound msg none =
     false_from_ne_true (is_among f.delivered id) (λ c. false≢true (sym new ∙ delivered_held clients f sound id c)) in
     let node : node_of clients f x ≡ nodes.fresh_node id 0 =
     (λ i. let n : Node = record { name = id; group = 0; answer = answer_shown (cond (unjudged i) (Some (verdict_in clients f.groups msg)) None); ending = ending_by (valid i) (undelivered i) } in n) in
-    let same : told (es ++ entry.Arrive 0 msg ∷ []) ≡ told es = told-push es (entry.Arrive 0 msg) ∙ append-nil (told es) in
+    let same : ends_told (es ++ entry.Arrive 0 msg ∷ []) ≡ ends_told es =
+    ends_told-push es (entry.Arrive 0 msg) ∙ append-nil (ends_told es) in
     record {
       kind = m.kind;
       group = m.group;
@@ -207,10 +218,12 @@ arrive_mirrors clients def k f es play m sound msg none =
       takes = m.takes;
       held = (λ i. m.held i ++ is i ∷ []) ∙ sym (map_push (arrived 0) play.messages msg);
       nodes = (λ i. m.nodes i ++ sym node i ∷ []) ∙ sym (map_push (node_of clients f) f.held x);
-      text = m.text ∙ sym (text-push f.held x (told es) m.within) ∙ ap (text_of (f.held ++ x ∷ [])) (sym same);
+      text = m.text ∙ sym (text-push f.held x (ends_told es) m.within)
+          ∙ ap (lines_text (f.held ++ x ∷ [])) (sym same);
       once = once-push f.held x m.once (among_held f.held id ∙ new);
       judged = λ q c. stays_held f.held x q (m.judged q c);
-      within = ap (list_all (λ (line : Line). is_held (f.held ++ x ∷ []) line.1)) same ∙ all_stay f.held x (told es) m.within;
+      within = ap (list_all (λ (line : FateLine). is_held (f.held ++ x ∷ []) line.1)) same
+          ∙ all_stay f.held x (ends_told es) m.within;
     }
 
 -- ---- a name is held where it has a number
@@ -330,9 +343,10 @@ module _ (clients : Meaning) (def : GroupValue) (k : ℕ) (f : Facts) (es : List
 -- ---- journals
 
 pub take_stands : (clients : Meaning) (def : GroupValue) (k : ℕ) (j : List (List Entry)) (play : Story) → StoryStandsFor clients def k j play
-    → IsSettled clients (facts j) → (r : Record) → IsRecord r → StoryStandsFor clients def (k + 1) (j ++ take_batch j 0 k r ∷ []) (taking play r)
+    → IsSettled clients (facts j) → (r : Record) → IsRecord r → StoryStandsFor clients def (k + 1)
+    (j ++ take_batch (facts j) 0 k r ∷ []) (taking play r)
 take_stands clients def k j play s settled r within =
-    let b : List Entry = take_batch j 0 k r in
+    let b : List Entry = take_batch (facts j) 0 k r in
     let sound : SoundFacts clients (facts j) = legal_sound clients j s.legal in
     let first : MirrorsFacts clients def (k + 1) (after_all (facts j) b) (entries_of j ++ b) (taking play r) =
     take_mirrors clients def k (facts j) (entries_of j) play s.mirrors sound r in
@@ -377,7 +391,7 @@ plays_more clients j k (x ∷ records) j' j'' r p within h =
 
 -- the record that comes next is taken
 abbrev pub after_record : List (List Entry) → ℕ → Record → List (List Entry)
-after_record j k r = j ++ take_batch j 0 k r ∷ []
+after_record j k r = j ++ take_batch (facts j) 0 k r ∷ []
 
 pub hears : (clients : Meaning) (def : GroupValue) (records : List Record) (old now : Story) (r : Record) (p : IsStoryOf clients def records old) → IsRecord r
     → SettlesToStory clients def (length records + 1) (after_record p.journal (length records) r) now

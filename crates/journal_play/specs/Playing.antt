@@ -21,7 +21,7 @@ use Rattle.message_graph.specs.declared.nodes.Judged.TheVariants as judged
 use Rattle.message_graph.specs.declared.nodes.Ending.{Ending}
 use Rattle.message_graph.specs.Nodes.{ending_by}
 use Rattle.journal_play.specs.declared.kept.Head.{Head}
-use Rattle.journal_play.specs.Texts.{told, text_of, play_text}
+use Rattle.journal_play.specs.Texts.{ends_told, lines_text, play_text}
 
 -- a journal takes records on its session 0, the first as that of number k, and is settled after each
 abbrev pub PlaysRecords : Meaning → List (List Entry) → ℕ → List Record → List (List Entry) → Type 0
@@ -72,11 +72,11 @@ pub record MirrorsFacts (clients : Meaning) (def : GroupValue) (k : ℕ) (f : Fa
   pub takes : takes_of f.takes 0 ≡ k
   pub held : f.held ≡ map (arrived 0) play.messages
   pub nodes : play.nodes ≡ map (node_of clients f) f.held
-  pub text : play.text ≡ text_of f.held (told entries)
+  pub text : play.text ≡ lines_text f.held (ends_told entries)
   -- ids of held messages are distinct, and only held messages are judged or spoken of
   pub once : has_repeat (map (λ h. h.id) f.held) ≡ false
   pub judged : (id : Id) → fin_set.contains f.judged id ≡ true → is_held f.held id ≡ true
-  pub within : list_all (λ line. is_held f.held line.1) (told entries) ≡ true
+  pub within : list_all (λ line. is_held f.held line.1) (ends_told entries) ≡ true
 
 -- a story is that of a legal journal whose session has taken k records
 pub record StoryStandsFor (clients : Meaning) (def : GroupValue) (k : ℕ) (journal : List (List Entry)) (play : Story) : Type 0 where

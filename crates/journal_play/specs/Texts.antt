@@ -11,28 +11,28 @@ use Rattle.sync_rules.specs.Steps.{is_ended}
 use Rattle.sync_words.specs.StreamTexts.{try_text}
 
 -- what a line says: the state of the message of an id
-abbrev pub Line : Type 0
-Line = Fate × Id
+abbrev pub FateLine : Type 0
+FateLine = Fate × Id
 
 -- what an entry says of the end of a message
-abbrev pub told_by : Entry → List Line
+abbrev pub told_by : Entry → List FateLine
 told_by (entry.Deliver id) = (fate_kind.Delivered, id) ∷ []
 told_by (entry.Invalid id) = (fate_kind.Invalid, id) ∷ []
 told_by _ = []
 
 -- what the entries say, in their order
-abbrev pub told : List Entry → List Line
-told [] = []
-told (e ∷ es) = told_by e ++ told es
+abbrev pub ends_told : List Entry → List FateLine
+ends_told [] = []
+ends_told (e ∷ es) = told_by e ++ ends_told es
 
 -- the messages that have no end, in order of arrival
-abbrev pub unended : Facts → List Held → List Line
+abbrev pub unended : Facts → List Held → List FateLine
 unended f [] = []
 unended f (h ∷ hs) = cond (is_ended f h.id) (unended f hs) ((fate_kind.Pending, h.id) ∷ unended f hs)
 
 -- all that is shown of a journal
-abbrev pub lines_of : List (List Entry) → List Line
-lines_of journal = told (entries_of journal) ++ unended (facts journal) (facts journal).held
+abbrev pub lines_of : List (List Entry) → List FateLine
+lines_of journal = ends_told (entries_of journal) ++ unended (facts journal) (facts journal).held
 
 -- ---- as text
 
@@ -44,14 +44,14 @@ abbrev pub line_at : Fate → Id → Option Held → List ℕ
 line_at state id None = []
 line_at state id (Some h) = line_of state id h.message
 
-abbrev pub line_in : List Held → Line → List ℕ
-line_in held line = line_at line.0 line.1 (held_at held line.1)
+abbrev pub told_line : List Held → FateLine → List ℕ
+told_line held line = line_at line.0 line.1 (held_at held line.1)
 
 -- the lines as text
-abbrev pub text_of : List Held → List Line → List ℕ
-text_of held [] = []
-text_of held (line ∷ lines) = line_in held line ++ text_of held lines
+abbrev pub lines_text : List Held → List FateLine → List ℕ
+lines_text held [] = []
+lines_text held (line ∷ lines) = told_line held line ++ lines_text held lines
 
 -- what is printed of a journal
 abbrev pub play_text : List (List Entry) → List ℕ
-play_text journal = text_of (facts journal).held (lines_of journal)
+play_text journal = lines_text (facts journal).held (lines_of journal)

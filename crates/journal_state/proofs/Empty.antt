@@ -1,9 +1,12 @@
 -- The parts of a journal that has no entries, and of one that has groups alone.
 use Rattle.std.proofs.Common.{◌≡◌, ℕ, ◌+◌, List, [], ◌∷◌, Some, None, slice_get, refl, sym, ◌∙◌, ap}
+use Rattle.std.proofs.Common.{Option, unwrap_or}
 use Rattle.std.specs.FinMap as fin_map
 use Rattle.std.proofs.lemmas.Bool.{false≢true}
+use Rattle.sync_rules.specs.declared.entries.Level.{Level}
+use Rattle.sync_rules.specs.declared.entries.Level.TheVariants as level
 use Rattle.sync_rules.specs.declared.states.Start.TheVariants as start
-use Rattle.sync_rules.specs.Facts.{Known, Rows, pair_cmp, level_or, is_invisible}
+use Rattle.sync_rules.specs.Facts.{Known, Rows, pair_cmp, is_invisible}
 use Rattle.brief_account.specs.Account.{with_groups}
 use Rattle.retry_table.specs.Table as retry
 use Rattle.visibility_table.specs.Table as levels
@@ -46,8 +49,11 @@ empty_is_state groups room table none = record {
   many = refl;
   free_rows = λ contact n beyond. ap (λ (ks : List retry.KeptRow). retry.kept_in ks n) (none contact).0;
   free_wants = λ contact beyond. ap (λ (w : retry.WantedFromContact). w.ids) (none contact).1;
-  hidden = λ contact group beyond. ap level_or (fin_map.get-empty pair_cmp (contact, group));
-  shown = λ contact group e. absurd (false≢true (sym e ∙ ap (λ o. is_invisible (level_or o)) (fin_map.get-empty pair_cmp (contact, group))));
+  hidden = λ contact group beyond. ap (λ (o : Option Level). unwrap_or o level.Invisible)
+      (fin_map.get-empty pair_cmp (contact, group));
+  shown = λ contact group e. absurd
+      (false≢true (sym e ∙ ap (λ (o : Option Level). is_invisible (unwrap_or o level.Invisible))
+      (fin_map.get-empty pair_cmp (contact, group))));
   ready = λ contact n h known at. absurd (not_there n h at);
 }
 

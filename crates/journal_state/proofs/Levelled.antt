@@ -1,5 +1,8 @@
 -- What a level makes of the parts.
-use Rattle.std.proofs.Common.{◌≡◌, ℕ, zero, suc, ◌-◌, ◌<◌, ◌≤◌, Bool, true, false, cond, ◌&&◌, ◌||◌, nat_eq, nat_lt, List, [], ◌∷◌, ◌++◌, length, map, Option, None, Some, is_some, slice_get, slice_index_or, refl, sym, ◌∙◌, ap, subst, arith, eqb-true}
+use Rattle.std.proofs.Common.{◌≡◌, ℕ, zero, suc, ◌-◌, ◌<◌, ◌≤◌, Bool, true, false, cond, ◌&&◌, ◌||◌}
+use Rattle.std.proofs.Common.{nat_eq, nat_lt, List, [], ◌∷◌, ◌++◌, length, map, Option, None, Some}
+use Rattle.std.proofs.Common.{is_some, slice_get, slice_index_or, refl, sym, ◌∙◌, ap, subst, arith}
+use Rattle.std.proofs.Common.{eqb-true, unwrap_or}
 use Rattle.std.specs.List.{list_all, list_any}
 use Rattle.std.specs.FinMap as fin_map
 use Rattle.std.specs.Ordering.{eq_by_cmp}
@@ -8,7 +11,7 @@ use Rattle.std.proofs.lemmas.Option.{slice_get_past}
 use Rattle.sync_rules.specs.declared.entries.Level.{Level}
 use Rattle.sync_rules.specs.declared.entries.Level.TheVariants as level
 use Rattle.sync_rules.specs.Lists.{same_id}
-use Rattle.sync_rules.specs.Facts.{Held, Id, group_at, level_at, level_or, put_level, pair_cmp, is_invisible}
+use Rattle.sync_rules.specs.Facts.{Held, Id, group_at, level_at, put_level, pair_cmp, is_invisible}
 use Rattle.sync_rules.specs.declared.answers.Judgement.{Judgement}
 use Rattle.sync_rules.specs.declared.entries.Entry.TheVariants as entry
 use Rattle.sync_rules.specs.Facts.{is_level_shared}
@@ -112,11 +115,13 @@ levels_room space old new contact xs level l = room_spent space (space - 1) old 
 
 -- ---- levels
 
-level_chosen : (b : Bool) (l : Level) (o : Option Level) → level_or (cond b (Some l) o) ≡ cond b l (level_or o)
+level_chosen : (b : Bool) (l : Level) (o : Option Level)
+    → unwrap_or (cond b (Some l) o) level.Invisible ≡ cond b l (unwrap_or o level.Invisible)
 level_chosen true l o = refl
 level_chosen false l o = refl
 
-level_dropped : (b : Bool) (o : Option Level) → level_or (cond b None o) ≡ cond b level.Invisible (level_or o)
+level_dropped : (b : Bool) (o : Option Level) → unwrap_or (cond b None o) level.Invisible
+    ≡ cond b level.Invisible (unwrap_or o level.Invisible)
 level_dropped true o = refl
 level_dropped false o = refl
 
@@ -124,15 +129,18 @@ level_dropped false o = refl
 pub level_put : (ls : fin_map.FinMap pair_cmp Level) (c : ℕ) (g : Id) (l : Level) (contact : ℕ) (group : Id)
     → level_at (put_level ls (c, g) l) contact group ≡ cond (hits contact group c g) l (level_at ls contact group)
 level_put ls c g level.Invisible contact group =
-    ap level_or (fin_map.get-remove pair_total ls (c, g) (contact, group))
+    ap (λ (o : Option Level). unwrap_or o level.Invisible)
+    (fin_map.get-remove pair_total ls (c, g) (contact, group))
     ∙ (level_dropped (eq_by_cmp pair_cmp (contact, group) (c, g)) (fin_map.get ls (contact, group))
     ∙ ap (λ b. cond b level.Invisible (level_at ls contact group)) (hits-is contact c group g))
 level_put ls c g level.Visible contact group =
-    ap level_or (fin_map.get-insert pair_total ls (c, g) level.Visible (contact, group))
+    ap (λ (o : Option Level). unwrap_or o level.Invisible)
+    (fin_map.get-insert pair_total ls (c, g) level.Visible (contact, group))
     ∙ (level_chosen (eq_by_cmp pair_cmp (contact, group) (c, g)) level.Visible (fin_map.get ls (contact, group))
     ∙ ap (λ b. cond b level.Visible (level_at ls contact group)) (hits-is contact c group g))
 level_put ls c g level.Shared contact group =
-    ap level_or (fin_map.get-insert pair_total ls (c, g) level.Shared (contact, group))
+    ap (λ (o : Option Level). unwrap_or o level.Invisible)
+    (fin_map.get-insert pair_total ls (c, g) level.Shared (contact, group))
     ∙ (level_chosen (eq_by_cmp pair_cmp (contact, group) (c, g)) level.Shared (fin_map.get ls (contact, group))
     ∙ ap (λ b. cond b level.Shared (level_at ls contact group)) (hits-is contact c group g))
 

@@ -3,7 +3,7 @@ use Rattle.std.proofs.Common.{◌≡◌, ℕ, suc, ◌+◌, ◌<◌, length, Boo
 use Rattle.std.specs.List.{list_any, list_all}
 use Rattle.std.proofs.lemmas.List.{length-map}
 use Rattle.std.proofs.lemmas.Bool.{false≢true}
-use Rattle.std.specs.Option.{option_map}
+use Rattle.std.specs.Option.{option_map, option_or}
 use Rattle.std.specs.FinSet as fin_set
 use Rattle.sync_rules.specs.declared.answers.Judgement.{Judgement}
 use Rattle.sync_rules.specs.declared.answers.Judgement.TheVariants as judgement
@@ -12,7 +12,8 @@ use Rattle.sync_rules.specs.declared.entries.Entry.TheVariants as entry
 use Rattle.sync_rules.specs.Clients.{Meaning}
 use Rattle.sync_rules.specs.Lists.{same_id, is_among}
 use Rattle.sync_rules.specs.Facts.{Held, Id, held_at}
-use Rattle.sync_rules.specs.Steps.{is_elsewhere, is_beside, is_failing, is_served, step_accepted, step_open, step_by, step, first_or_next, first_step, next, IsSettled}
+use Rattle.sync_rules.specs.Steps.{is_elsewhere, is_beside, is_failing, is_served, step_accepted}
+use Rattle.sync_rules.specs.Steps.{step_open, step_by, step, first_step, next, IsSettled}
 use Rattle.message_graph.specs.declared.nodes.Node.{Node}
 use Rattle.message_graph.specs.declared.nodes.Judged.{Judged}
 use Rattle.message_graph.specs.declared.nodes.Judged.TheVariants as judged
@@ -134,9 +135,10 @@ module _ (clients : Meaning) (p : Parts) (s : IsState p) (k : KnowsJudgements cl
   first_same name number (node ∷ xs) (h ∷ hs) each names own =
       let first : h.id ≡ name number = names 0 h refl ∙ ap name (omega arith) in
       let later = first_same name (number + 1) xs hs each.1 (λ j x at. names (suc j) x at ∙ ap name (omega arith)) (λ j n x a b. own (suc j) n x a b) in
-      ap (λ (o : Option Entry). first_or_next o (first_step clients (facts_of p) hs)) (step_same name number h node first each.0 (own 0 node h refl refl))
+      ap (λ (o : Option Entry). option_or o (first_step clients (facts_of p) hs))
+      (step_same name number h node first each.0 (own 0 node h refl refl))
       ∙ elim (nodes.step_of p.nodes number node) as (λ o.
-      first_or_next (option_map (entry_of name) o) (first_step clients (facts_of p) hs)
+      option_or (option_map (entry_of name) o) (first_step clients (facts_of p) hs)
       ≡ option_map (entry_of name) (nodes.or_else o (nodes.first_step p.nodes (number + 1) xs))) [
         | None ↦ later
         | Some x ↦ refl

@@ -1,12 +1,14 @@
 -- Sessions by their numbers, and the counts of the records taken on them.
-use Rattle.std.proofs.Common.{◌≡◌, ℕ, zero, suc, ◌+◌, ◌-◌, ◌<◌, ◌≤◌, false, cond, nat_eq, List, [], ◌∷◌, ◌++◌, length, Option, Some, None, slice_get, refl, sym, ◌∙◌, ap, arith}
+use Rattle.std.proofs.Common.{◌≡◌, ℕ, zero, suc, ◌+◌, ◌-◌, ◌<◌, ◌≤◌, false, cond, nat_eq, List, []}
+use Rattle.std.proofs.Common.{◌∷◌, ◌++◌, length, Option, Some, None, slice_get, refl, sym, ◌∙◌, ap}
+use Rattle.std.proofs.Common.{arith, unwrap_or}
 use Rattle.std.proofs.lemmas.Bool.Decides.{nat_tests}
 use Rattle.std.specs.FinMap as fin_map
 use Rattle.std.specs.Cmp.{nat_cmp_total, unsigned_ties, eq_by_cmp_equiv}
 use Rattle.std.specs.Ordering.{nat_cmp, eq_by_cmp}
 use Rattle.std.specs.Map.{lookup}
 use Rattle.sync_rules.specs.declared.entries.Session.{Session}
-use Rattle.sync_rules.specs.Facts.{session_at, takes_of, count_or}
+use Rattle.sync_rules.specs.Facts.{session_at, takes_of}
 use Rattle.journal_state.specs.Begun.{IsNumbered}
 
 -- ---- sessions
@@ -55,8 +57,9 @@ swapped : (a b : ℕ) → eq_by_cmp nat_cmp a b ≡ nat_eq b a
 swapped a b = (eq_by_cmp_equiv nat_cmp_total).symm a b ∙ sym (unsigned_ties b a)
 
 -- the records taken on a session are those that are counted
-pub kept_count : (es : List (ℕ × ℕ)) (n : ℕ) → takes_of (fin_map.from_entries {R = nat_cmp} es) n ≡ count_or (lookup (nat_eq n) es)
-kept_count es n = ap count_or (got es n)
+pub kept_count : (es : List (ℕ × ℕ)) (n : ℕ) → takes_of (fin_map.from_entries {R = nat_cmp} es) n
+    ≡ unwrap_or (lookup (nat_eq n) es) 0
+kept_count es n = ap (λ (o : Option ℕ). unwrap_or o 0) (got es n)
 
 -- what is counted once one count is set
 pub kept_counted : (es new : List (ℕ × ℕ)) (k v : ℕ) → ((q : ℕ) → lookup (nat_eq q) new ≡ cond (nat_eq k q) (Some v) (lookup (nat_eq q) es))

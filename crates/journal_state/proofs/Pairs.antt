@@ -1,11 +1,13 @@
 -- Maps of contacts and ids: the row of each, and when two maps are one.
 use Rattle.std.proofs.Common.{◌≡◌, ℕ, Bool, true, false, cond, Option, Some, None, refl, sym, ◌∙◌}
+use Rattle.std.proofs.Common.{unwrap_or}
 use Rattle.std.proofs.Common.{ap}
 use Rattle.std.specs.FinMap as fin_map
 use Rattle.std.specs.Ordering.{nat_cmp, eq_by_cmp, ordering_then}
 use Rattle.std.specs.declared.cmp.Ordering.TheVariants.{Less, Equal, Greater}
 use Rattle.std.proofs.lemmas.Bool.{false≢true}
-use Rattle.sync_rules.specs.Facts.{Id, Pair, Row, Rows, pair_cmp, id_cmp, no_row, is_no_row, row_or, row_at, put_row}
+use Rattle.sync_rules.specs.Facts.{Id, Pair, Row, Rows, pair_cmp, id_cmp, no_row, is_no_row, row_at}
+use Rattle.sync_rules.specs.Facts.{put_row}
 use Rattle.sync_rules.proofs.ScanLaws.{pair_total}
 
 tied_parts : (a b : ℕ) (x y : Id) → ordering_then (nat_cmp a b) (id_cmp x y) ≡ Equal → ◌≡◌ {A = Pair} (a, x) (b, y)
@@ -20,7 +22,8 @@ pair_same : fin_map.IsAntisymmetric pair_cmp
 pair_same a b e = tied_parts a.0 b.0 a.1 b.1 e
 
 pub row_at_empty : (contact : ℕ) (id : Id) → row_at fin_map.empty contact id ≡ no_row
-row_at_empty contact id = ap row_or (fin_map.get-empty pair_cmp (contact, id))
+row_at_empty contact id = ap (λ (o : Option Row). unwrap_or o no_row)
+    (fin_map.get-empty pair_cmp (contact, id))
 
 -- ---- maps without empty rows
 
@@ -46,7 +49,9 @@ lean_put rows p w lean =
       | false ↦ λ e q r h. lean_chosen (eq_by_cmp pair_cmp q p) w (fin_map.get rows q) e (lean q) r (sym (fin_map.get-insert pair_total rows p w q) ∙ h)
     ] refl
 
-same_or : (a b : Option Row) → ((r : Row) → a ≡ Some r → is_no_row r ≡ false) → ((r : Row) → b ≡ Some r → is_no_row r ≡ false) → row_or a ≡ row_or b → a ≡ b
+same_or : (a b : Option Row) → ((r : Row) → a ≡ Some r → is_no_row r ≡ false)
+    → ((r : Row) → b ≡ Some r → is_no_row r ≡ false) → unwrap_or a no_row ≡ unwrap_or b no_row → a
+    ≡ b
 same_or None None p q e = refl
 same_or (Some r) None p q e = absurd (false≢true (sym (p r refl) ∙ ap is_no_row e))
 same_or None (Some r) p q e = absurd (false≢true (sym (q r refl) ∙ ap is_no_row (sym e)))

@@ -1,5 +1,6 @@
 -- What is due is of held messages, each named once.
 use Rattle.std.proofs.Common.{◌≡◌, ℕ, zero, suc, Bool, true, false, cond, ◌||◌, List, [], ◌∷◌, map, take, Option, None, Some, is_some, refl, sym, ◌∙◌, ap, subst}
+use Rattle.std.specs.Option.{option_or}
 use Rattle.std.specs.List.{list_all}
 use Rattle.std.proofs.lemmas.Bool.{and_parts, and_from, or_parts}
 use Rattle.sync_rules.specs.declared.entries.Mode.{Mode}
@@ -10,7 +11,8 @@ use Rattle.sync_rules.specs.declared.entries.Session.{Session}
 use Rattle.sync_rules.specs.Lists.{same_id, is_among, unless_among, firsts, firsts_after}
 use Rattle.sync_rules.specs.Facts.{Facts, Held, Id, held_at, is_held}
 use Rattle.sync_ids.specs.declared.lists.TheConstants.{MAX_IDS}
-use Rattle.sync_rules.specs.Sessions.{acks_due, due_by, first_id, ids_where, offers_due, offers_of, out_or, owed_to, requests_due, send_due, send_of, wanted_of}
+use Rattle.sync_rules.specs.Sessions.{acks_due, due_by, first_id, ids_where, offers_due, offers_of}
+use Rattle.sync_rules.specs.Sessions.{owed_to, requests_due, send_due, send_of, wanted_of}
 use Rattle.journal_state.specs.Taking.{CanSend}
 use Rattle.sync_rules.proofs.Elements.{same_id_itself, same_id_swap}
 use Rattle.journal_state.specs.Sound.{AreApart}
@@ -124,18 +126,22 @@ first_held held (x ∷ xs) id all e = let same : x ≡ id = cc in ap (is_held he
 -- ---- what is due
 
 module _ (f : Facts) (what : Out) where
-  acks_can : (ids : List Id) (later : Option Out) → IsSendable f.held ids → (later ≡ Some what → CanSend f what) → out_or (acks_due ids) later ≡ Some what → CanSend f what
+  acks_can : (ids : List Id) (later : Option Out) → IsSendable f.held ids
+      → (later ≡ Some what → CanSend f what) → option_or (acks_due ids) later ≡ Some what
+      → CanSend f what
   acks_can [] later s others e = others e
   acks_can (id ∷ ids) later s others e =
       let same : out.Acks (id ∷ ids) ≡ what = cc in subst (CanSend f) same (s.held_each, s.once)
 
-  requests_can : (mode : Mode) (ids : List Id) (later : Option Out) → (later ≡ Some what → CanSend f what) → out_or (requests_due mode ids) later ≡ Some what → CanSend f what
+  requests_can : (mode : Mode) (ids : List Id) (later : Option Out)
+      → (later ≡ Some what → CanSend f what) → option_or (requests_due mode ids) later ≡ Some what
+      → CanSend f what
   requests_can mode_kind.Batch ids later others e = others e
   requests_can mode_kind.Interactive [] later others e = others e
   requests_can mode_kind.Interactive (id ∷ ids) later others e = let same : out.Requests (id ∷ ids) ≡ what = cc in subst (CanSend f) same tt
 
   send_can : (o : Option Id) (later : Option Out) → ((id : Id) → o ≡ Some id → is_held f.held id ≡ true) → (later ≡ Some what → CanSend f what)
-      → out_or (send_due o) later ≡ Some what → CanSend f what
+      → option_or (send_due o) later ≡ Some what → CanSend f what
   send_can None later held others e = others e
   send_can (Some id) later held others e = let same : out.Send id ≡ what = cc in subst (CanSend f) same (held id refl)
 

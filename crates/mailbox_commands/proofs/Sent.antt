@@ -19,13 +19,14 @@ use Rattle.sync_rules.specs.Facts.{Facts, after, after_batches, facts, session_a
 use Rattle.sync_rules.specs.Growth.{output_of}
 use Rattle.sync_rules.specs.Legal.{GoesOn, IsDue}
 use Rattle.sync_rules.specs.Output.{sent}
+use Rattle.sync_rules.specs.Hearing.{batch_session}
 use Rattle.sync_store.specs.Fitting.{FitsFiles}
 use Rattle.sync_store.specs.Store.{StoreValue}
 use Rattle.sync_store.specs.declared.fault.StoreFault.{StoreFault}
 use Rattle.sync_store.specs.declared.fault.StoreFault.TheVariants as fault
 use Rattle.mailbox_core.specs.Laws.{OutputsAreSent}
 use Rattle.mailbox_core.specs.Sending.{HasWrittenBox, SendsAll, WritesSome}
-use Rattle.mailbox_core.specs.Sending.{WritesUntilFull, batch_session}
+use Rattle.mailbox_core.specs.Sending.{WritesUntilFull}
 use Rattle.sync_course.specs.LinkTurns.{out_batch}
 use Rattle.mailbox_core.specs.Taking.{BeginsThen, first_batch}
 use Rattle.sync_words.specs.declared.outcome.Outcome.{Outcome}

@@ -15,6 +15,7 @@ use Rattle.sync_rules.specs.declared.entries.Entry.TheVariants as entry
 use Rattle.sync_rules.specs.Clients.{Meaning}
 use Rattle.sync_rules.specs.Facts.{Facts, after, after_batches, facts, takes_of}
 use Rattle.sync_rules.specs.Steps.{IsSettled}
+use Rattle.sync_rules.specs.Hearing.{take_batch}
 use Rattle.sync_rules.proofs.Continuing.{facts-append, legal-append}
 use Rattle.sync_rules.proofs.WorkLaws.{settles_then, settling_goes_on}
 use Rattle.sync_store.specs.Commits.{needed}
@@ -28,7 +29,6 @@ use Rattle.mailbox_core.specs.Files.{box_ending, box_records}
 use Rattle.mailbox_core.specs.Laws.{ReadsAreBoxes}
 use Rattle.mailbox_core.specs.Reading.{HasReadBox, ReadsSome, ReadsTo, ReadsUntilFull}
 use Rattle.mailbox_core.specs.Taking.{AllTaken, NoRoomFor, SomeTaken, TakesTo, first_batch}
-use Rattle.mailbox_core.specs.Taking.{batch_of_take}
 use Rattle.sync_words.specs.declared.outcome.Outcome.{Outcome}
 use Rattle.sync_words.specs.declared.outcome.Outcome.TheVariants as outcome
 use Rattle.sync_words.specs.Outcomes.{came_to}
@@ -97,7 +97,7 @@ lacked : (clients : Meaning) (session : ℕ) (s : StoreValue) (f : Facts) (k : �
     → Lacked clients session s f k rs more
 lacked clients session s f k [] more at = absurd at
 lacked clients session s f k (r ∷ rs) more (inl at) = record {
-  next = batch_of_take s.state.facts session k r;
+  next = take_batch s.state.facts session k r;
   at = inl (at.0, refl);
   over = at.1;
 }

@@ -15,8 +15,9 @@ use Rattle.sync_rules.specs.Facts.{Facts, after_batches, facts, session_at}
 use Rattle.sync_rules.specs.Growth.{output_of}
 use Rattle.sync_rules.specs.Legal.{IsDue}
 use Rattle.sync_rules.specs.Output.{sent}
+use Rattle.sync_rules.specs.Hearing.{batch_session}
 use Rattle.sync_store.specs.Store.{StoreValue}
-use Rattle.mailbox_core.specs.Sending.{SendsAll, SendsSome, WritesSome, batch_session}
+use Rattle.mailbox_core.specs.Sending.{SendsAll, SendsSome, WritesSome}
 use Rattle.sync_course.specs.LinkTurns.{out_batch}
 use Rattle.mailbox_core.specs.Taking.{BeginsThen, first_batch}
 use Rattle.sync_words.specs.declared.outcome.Outcome.{Outcome}

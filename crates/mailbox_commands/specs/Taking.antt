@@ -11,13 +11,14 @@ use Rattle.sync_ids.specs.declared.records.Record.{Record}
 use Rattle.sync_rules.specs.declared.entries.Entry.{Entry}
 use Rattle.sync_rules.specs.Clients.{Meaning}
 use Rattle.sync_rules.specs.Facts.{Facts, after_batches}
+use Rattle.sync_rules.specs.Hearing.{take_batch}
 use Rattle.mailbox_laws.specs.Boxes.{box_session}
 use Rattle.mailbox_core.specs.declared.ends.BoxEnd.{BoxEnd}
 use Rattle.mailbox_core.specs.declared.ends.BoxEnding.{BoxEnding}
 use Rattle.mailbox_core.specs.declared.ends.BoxEnding.TheVariants as box
 use Rattle.mailbox_core.specs.Files.{box_ending, box_records}
 use Rattle.mailbox_core.specs.Reading.{ReadsSome, ReadsTo}
-use Rattle.mailbox_core.specs.Taking.{AllTaken, first_batch, batch_of_take}
+use Rattle.mailbox_core.specs.Taking.{AllTaken, first_batch}
 use Rattle.sync_words.specs.declared.outcome.Outcome.{Outcome}
 use Rattle.sync_words.specs.declared.outcome.Outcome.TheVariants as outcome
 use Rattle.mailbox_commands.specs.declared.taking.TheConstants.{MAX_MAIL}
@@ -44,7 +45,7 @@ abbrev pub IsNextTake : Facts → ℕ → List Entry → Facts → ℕ → List 
     → Type 0
 IsNextTake last session next f k [] more = ⊥
 IsNextTake last session next f k (r ∷ rs) more = (more ≡ [])
-    × (next ≡ batch_of_take last session k r)
+    × (next ≡ take_batch last session k r)
 
 -- the next batch of the reading of records: that with which the session begins, or the next
 -- record's

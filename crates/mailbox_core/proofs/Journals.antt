@@ -10,7 +10,7 @@ use Rattle.sync_rules.specs.declared.entries.Session.{Session}
 use Rattle.sync_rules.specs.Clients.{Meaning}
 use Rattle.sync_rules.specs.Facts.{Facts, after, after_batches, facts, session_at, takes_of}
 use Rattle.sync_rules.specs.Growth.{output_of}
-use Rattle.sync_rules.specs.Hearing.{HearsRecord}
+use Rattle.sync_rules.specs.Hearing.{HearsRecord, take_batch}
 use Rattle.sync_rules.specs.Legal.{AllSettling, Legal}
 use Rattle.sync_rules.specs.Steps.{IsSettled}
 use Rattle.sync_rules.proofs.Continuing.{facts-append, legal-append}
@@ -19,7 +19,7 @@ use Rattle.sync_rules.proofs.SessionLaws.{legal_sessions}
 use Rattle.sync_rules.proofs.WorkLaws.{facts-push, settles_itself}
 use Rattle.mailbox_laws.specs.Boxes.{HearsAll, box_session, with_box}
 use Rattle.mailbox_core.specs.Laws.{OutputsAreSent, ReadsAreBoxes}
-use Rattle.mailbox_core.specs.Taking.{AllTaken, TakesRecord, TakesTo, batch_of_take}
+use Rattle.mailbox_core.specs.Taking.{AllTaken, TakesRecord, TakesTo}
 
 abbrev Batches : Type 0
 Batches = List (List Entry)
@@ -51,7 +51,7 @@ record_heard : (clients : Meaning) (session k : ℕ) (j : Batches) (r : Record) 
     → IsSettled clients (after_batches (facts j) more)
     → HearsRecord clients j session k r (j ++ more)
 record_heard clients session k j r more takes settled =
-    let its : List Entry = batch_of_take (facts j) session k r in
+    let its : List Entry = take_batch (facts j) session k r in
     record {
       settles = record {
         more = takes.settling;

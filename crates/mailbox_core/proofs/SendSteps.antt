@@ -18,6 +18,7 @@ use Rattle.sync_rules.specs.Growth.{output_in, output_of}
 use Rattle.sync_rules.specs.Legal.{IsDue}
 use Rattle.sync_rules.specs.Output.{first_records, out_records}
 use Rattle.sync_rules.specs.Steps.{IsSettled}
+use Rattle.sync_rules.specs.Hearing.{batch_session}
 use Rattle.sync_store.specs.declared.fault.StoreFault.{StoreFault}
 use Rattle.sync_store.specs.declared.fault.StoreFault.TheVariants as fault
 use Rattle.sync_store.specs.Commits.{needed}
@@ -25,7 +26,7 @@ use Rattle.sync_store.specs.Fitting.{ImagesStand}
 use Rattle.sync_store.specs.Store.{IsStore, StoreValue}
 use Rattle.sync_store.specs.Rooms.{StoreComesTo}
 use Rattle.mailbox_core.specs.Sending.{AreDue, HasWrittenBox, IsSessionQuiet, SendsAll, SendsSome}
-use Rattle.mailbox_core.specs.Sending.{SendsUntilFull, WritesSo, WritesSome, batch_session}
+use Rattle.mailbox_core.specs.Sending.{SendsUntilFull, WritesSo, WritesSome}
 use Rattle.sync_course.specs.LinkTurns.{out_batch}
 use Rattle.mailbox_core.specs.Sending.{out_batches}
 use Rattle.mailbox_core.specs.Steps.{BeginsSo, HasBegunSession, HasCommitted, HasPut, HasPutAll}

@@ -17,6 +17,7 @@ use Rattle.sync_rules.specs.Facts.{takes_of}
 use Rattle.sync_rules.specs.Legal.{Allowed, AllSettling}
 use Rattle.sync_rules.specs.Sessions.{taken, taken_from}
 use Rattle.sync_rules.specs.Steps.{IsSettled}
+use Rattle.sync_rules.specs.Hearing.{take_batch}
 use Rattle.sync_rules.proofs.Continuing.{continues_batches}
 use Rattle.sync_rules.proofs.StepKinds.{all_settling_only, takes_one}
 use Rattle.sync_store.specs.declared.fault.StoreFault.{StoreFault}
@@ -28,7 +29,7 @@ use Rattle.sync_store.specs.Runs.{AddsBatch, ExtendsSo, HasExtended}
 use Rattle.sync_store.specs.Store.{IsStore, StoreValue}
 use Rattle.sync_store.specs.Rooms.{StoreComesTo}
 use Rattle.mailbox_core.specs.Steps.{HasTakenRecord, IsAt, IsOpenFor, TakesSo, next_on}
-use Rattle.mailbox_core.specs.Taking.{SomeTaken, TakesRecord, TakesTo, batch_of_take}
+use Rattle.mailbox_core.specs.Taking.{SomeTaken, TakesRecord, TakesTo}
 use Rattle.mailbox_core.proofs.Committed.{comes_extended, needed_stays}
 use Rattle.mailbox_core.proofs.Rooms.{comes_none}
 
@@ -37,7 +38,7 @@ use Rattle.mailbox_core.proofs.Rooms.{comes_none}
 -- by the session that is found under its number it is that of the definition
 pub next_is : (f : Facts) (session : Session) (k : ℕ) (r : Record)
     → session_at f.sessions session.number ≡ Some session
-    → take_of f session k r ≡ batch_of_take f session.number k r
+    → take_of f session k r ≡ take_batch f session.number k r
 next_is f session k r found =
     ap (λ c. entry.Take session.number k ∷ taken_from f session.number c r)
     (sym (ap contact_in found))
@@ -46,7 +47,7 @@ pub take_allowed : (clients : Meaning) (f : Facts) (session k : ℕ) (r : Record
     → IsSettled clients f
     → is_some (session_at f.sessions session) ≡ true → IsRecord r → k ≡ takes_of f.takes session
     → batch
-    ≡ batch_of_take f session k r
+    ≡ take_batch f session k r
     → Allowed clients f batch
 take_allowed clients f session k r batch settled known within numbered is =
     subst (λ (b : List Entry). Allowed clients f b) (sym is) (
@@ -68,11 +69,11 @@ take_kind f session k r batch is = ap is_settling_kind is
 -- a record more was taken on the session
 count_more : (clients : Meaning) (f : Facts) (session k : ℕ) (r : Record) (more : List (List Entry))
     → Allowed clients f
-    (batch_of_take f session k r)
+    (take_batch f session k r)
     → TakesRecord clients f session k r more → takes_of (after_batches f more).takes session
     ≡ takes_of f.takes session + 1
 count_more clients f session k r more allowed takes =
-    let g : Facts = after_all f (batch_of_take f session k r) in
+    let g : Facts = after_all f (take_batch f session k r) in
     ap (λ (bs : List (List Entry)). takes_of (after_batches f bs).takes session) takes.is
     ∙ (ap (λ t. takes_of t session) (all_settling_only clients g takes.settling takes.settles).takes
     ∙ ((takes_one clients f session k (taken f session r) allowed).takes session
@@ -83,12 +84,12 @@ count_more clients f session k r more allowed takes =
 
 module _ (clients : Meaning) (session k : ℕ) (r : Record) (s s' : StoreValue) (batch : List Entry)
     (numbered : k ≡ next_on s session)
-    (is : batch ≡ batch_of_take s.state.facts session k r) where
+    (is : batch ≡ take_batch s.state.facts session k r) where
   abbrev its : List Entry
-  its = batch_of_take s.state.facts session (next_on s session) r
+  its = take_batch s.state.facts session (next_on s session) r
 
   is_its : batch ≡ its
-  is_its = is ∙ ap (λ n. batch_of_take s.state.facts session n r) numbered
+  is_its = is ∙ ap (λ n. take_batch s.state.facts session n r) numbered
 
   abbrev Record_taken : List (List Entry) → Type 0
   Record_taken more = TakesRecord clients s.state.facts session (next_on s session) r more
@@ -134,9 +135,9 @@ module _ (clients : Meaning) (session k : ℕ) (r : Record) (s s' : StoreValue) 
   taken_so allowed opened settled more (Err fault.Closed) facts adds so = absurd so
   taken_so allowed opened settled more (Err fault.Full) facts adds so =
       let stays : KeepsStore s s' = so.2 in
-      let same : its ≡ batch_of_take s'.state.facts session (next_on s session) r =
-      ap (λ (f : Facts). batch_of_take f session (next_on s session) r) (sym stays.facts) in
-      let sum : needed s' (batch_of_take s'.state.facts session (next_on s session) r)
+      let same : its ≡ take_batch s'.state.facts session (next_on s session) r =
+      ap (λ (f : Facts). take_batch f session (next_on s session) r) (sym stays.facts) in
+      let sum : needed s' (take_batch s'.state.facts session (next_on s session) r)
       ≡ needed s batch =
       ap (needed s') (sym same ∙ sym is_its) ∙ needed_stays s s' batch stays in (
         stays.closed ∙ opened,

@@ -5,7 +5,6 @@ use Rattle.outside.specs.Outside.{Outside}
 use Rattle.record_grammar.specs.Spelling.{spelled}
 use Rattle.sync_rules.specs.declared.entries.Entry.{Entry}
 use Rattle.sync_rules.specs.declared.entries.Entry.TheVariants as entry
-use Rattle.sync_rules.specs.declared.entries.Mode.TheVariants as mode_kind
 use Rattle.sync_rules.specs.declared.entries.Out.{Out}
 use Rattle.sync_rules.specs.declared.entries.Session.{Session}
 use Rattle.sync_rules.specs.Clients.{Meaning}
@@ -14,6 +13,7 @@ use Rattle.sync_rules.specs.Growth.{output_of}
 use Rattle.sync_rules.specs.Legal.{IsDue}
 use Rattle.sync_rules.specs.Sessions.{due}
 use Rattle.sync_rules.specs.Steps.{IsSettled}
+use Rattle.sync_rules.specs.Hearing.{batch_session}
 use Rattle.sync_course.specs.LinkTurns.{out_batch}
 use Rattle.sync_store.specs.declared.fault.StoreFault.{StoreFault}
 use Rattle.sync_store.specs.declared.fault.StoreFault.TheVariants as fault
@@ -21,17 +21,6 @@ use Rattle.sync_store.specs.Commits.{needed}
 use Rattle.sync_store.specs.Store.{StoreValue}
 use Rattle.sync_store.specs.Rooms.{StoreComesTo}
 use Rattle.mailbox_core.specs.Taking.{BeginsThen, first_batch}
-
--- the session of this number on which a file is written: in batch mode, of this latency
-abbrev pub batch_session : ℕ → ℕ → ℕ → Session
-batch_session number contact latency =
-    record {
-      number = number;
-      contact = contact;
-      mode = mode_kind.Batch;
-      latency = latency;
-      nonce = None;
-    }
 
 -- ---- outputs
 

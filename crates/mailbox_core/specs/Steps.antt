@@ -15,6 +15,7 @@ use Rattle.sync_rules.specs.Facts.{Facts, session_at, takes_of}
 use Rattle.sync_rules.specs.Growth.{output_of}
 use Rattle.sync_rules.specs.Legal.{IsDue}
 use Rattle.sync_rules.specs.Steps.{IsSettled}
+use Rattle.sync_rules.specs.Hearing.{take_batch, batch_session}
 use Rattle.sync_store.specs.declared.fault.StoreFault.{StoreFault}
 use Rattle.sync_store.specs.declared.fault.StoreFault.TheVariants as fault
 use Rattle.sync_store.specs.Commits.{AnswersCommit, needed}
@@ -27,9 +28,8 @@ use Rattle.mailbox_core.specs.declared.ends.BoxEnding.{BoxEnding}
 use Rattle.mailbox_core.specs.Files.{ending_behind, records_to_take}
 use Rattle.sync_store.specs.Rooms.{StoreComesTo}
 use Rattle.mailbox_core.specs.Sending.{IsSessionQuiet, SendsAll, SendsSome, SendsUntilFull}
-use Rattle.mailbox_core.specs.Sending.{batch_session}
 use Rattle.mailbox_core.specs.Taking.{AllTaken, NoRoomFor, SomeTaken, TakesRecord, TakesTo}
-use Rattle.mailbox_core.specs.Taking.{first_batch, batch_of_take}
+use Rattle.mailbox_core.specs.Taking.{first_batch}
 
 -- a settled store that is ready and has this session
 pub record IsOpenFor (clients : Meaning) (session : Session) (s : StoreValue)
@@ -87,7 +87,7 @@ TakesSo clients session r s s' more (Ok _) =
 TakesSo clients session r s s' more (Err fault.Closed) = ⊥
 TakesSo clients session r s s' more (Err fault.Full) =
     (s'.closed ≡ false) × IsSettled clients s'.state.facts × (more ≡ [])
-    × (s'.limit < needed s' (batch_of_take s'.state.facts session (next_on s session) r))
+    × (s'.limit < needed s' (take_batch s'.state.facts session (next_on s session) r))
 TakesSo clients session r s s' more (Err fault.Memory) =
     (s'.closed ≡ false) × ((more ≡ [])
     ⊎ TakesRecord clients s.state.facts session (next_on s session) r more)

@@ -10,6 +10,7 @@ use Rattle.sync_rules.specs.Facts.{Facts, after, after_all, after_batches}
 use Rattle.sync_rules.specs.Legal.{AllSettling}
 use Rattle.sync_rules.specs.Sessions.{taken}
 use Rattle.sync_rules.specs.Steps.{IsSettled}
+use Rattle.sync_rules.specs.Hearing.{take_batch}
 use Rattle.sync_store.specs.Commits.{needed}
 use Rattle.sync_store.specs.Store.{StoreValue}
 
@@ -29,17 +30,13 @@ pub record BeginsThen (f : Facts) (s : Session) (more : List (List Entry))
 
 -- ---- one record
 
--- the batch that a record makes which is the session's k-th
-abbrev pub batch_of_take : Facts → ℕ → ℕ → Record → List Entry
-batch_of_take f session k r = entry.Take session k ∷ taken f session r
-
 -- the record is taken, and settling follows
 pub record TakesRecord (clients : Meaning) (f : Facts) (session k : ℕ) (r : Record)
     (more : List (List Entry))
     : Type 0 where
   pub settling : List (List Entry)
-  pub is : more ≡ batch_of_take f session k r ∷ settling
-  pub settles : AllSettling clients (after_all f (batch_of_take f session k r)) settling
+  pub is : more ≡ take_batch f session k r ∷ settling
+  pub settles : AllSettling clients (after_all f (take_batch f session k r)) settling
 
 -- the record is taken, the journal is settled, and the batches behind that have this
 pub record TakesThen (clients : Meaning) (f : Facts) (session k : ℕ) (r : Record)
@@ -79,4 +76,4 @@ SomeTaken clients session f k (r ∷ rs) more = (more ≡ []) ⊎ TakesRecord cl
 abbrev pub NoRoomFor : ℕ → StoreValue → Facts → ℕ → List Record → List (List Entry) → Type 0
 NoRoomFor session s f k [] more = ⊥
 NoRoomFor session s f k (r ∷ rs) more =
-    (more ≡ []) × (s.limit < needed s (batch_of_take s.state.facts session k r))
+    (more ≡ []) × (s.limit < needed s (take_batch s.state.facts session k r))

@@ -32,8 +32,9 @@ settles_extends clients old new s = (s.more, s.extends)
 hears_extends : (clients : Meaning) (session k : ℕ) (r : Record) (old new : List (List Entry))
     → HearsRecord clients old session k r new → ExtendsJournal new old
 hears_extends clients session k r old new h =
-    let pushed : List (List Entry) = old ++ take_batch old session k r ∷ [] in
-    extends_then new pushed old (settles_extends clients pushed new h.settles) (take_batch old session k r ∷ [], refl)
+    let pushed : List (List Entry) = old ++ take_batch (facts old) session k r ∷ [] in
+    extends_then new pushed old (settles_extends clients pushed new h.settles)
+    (take_batch (facts old) session k r ∷ [], refl)
 
 pub all_extends : (clients : Meaning) (session k : ℕ) (old : List (List Entry)) (records : List Record)
     (new : List (List Entry))
@@ -133,14 +134,15 @@ module _ (clients : Meaning) (contact : ℕ) (s : Facts) (all : List Record) (ow
         (subst (λ (j : List (List Entry)). Stands contact s done (facts j)) (sym e) st)
     stands_all session k old (r ∷ rs) new done within known with_contact st h =
         let mid : List (List Entry) = h.0 in
-        let pushed : List (List Entry) = old ++ take_batch old session k r ∷ [] in
+        let pushed : List (List Entry) = old ++ take_batch (facts old) session k r ∷ [] in
         let whole : (done ++ r ∷ []) ++ rs ≡ done ++ r ∷ rs = append_assoc done (r ∷ []) rs in
         let heard_so : Stands contact s (done ++ r ∷ []) (heard (facts old) session k r) =
         stands_heard contact s all own names done (facts old) st
         (λ x i. within x (In-append_left x done (r ∷ rs) i)) session k r
         (within r (In-append_right r done (r ∷ rs) (inl refl))) with_contact in
         let taken_so : Stands contact s (done ++ r ∷ []) (facts pushed) =
-        subst (Stands contact s (done ++ r ∷ [])) (sym (facts-push old (take_batch old session k r))) heard_so in
+        subst (Stands contact s (done ++ r ∷ []))
+        (sym (facts-push old (take_batch (facts old) session k r))) heard_so in
         let settled_so : Stands contact s (done ++ r ∷ []) (facts mid) =
         stands_settled contact s (facts pushed) (facts mid) (done ++ r ∷ [])
         (settles_only clients pushed mid (h.1).settles) taken_so in

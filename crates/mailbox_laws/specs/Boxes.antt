@@ -1,19 +1,17 @@
 -- A journal that grows by files of records from one contact, each read on a session of its own.
-use Rattle.std.specs.Prelude.{◌≡◌, ℕ, ◌+◌, List, [], ◌∷◌, ◌++◌, None}
+use Rattle.std.specs.Prelude.{◌≡◌, ℕ, ◌+◌, List, [], ◌∷◌, ◌++◌}
 use Rattle.sync_ids.specs.declared.records.Record.{Record}
 use Rattle.sync_rules.specs.declared.entries.Entry.{Entry}
 use Rattle.sync_rules.specs.declared.entries.Entry.TheVariants as entry
-use Rattle.sync_rules.specs.declared.entries.Mode.TheVariants as mode_kind
 use Rattle.sync_rules.specs.declared.entries.Session.{Session}
 use Rattle.sync_rules.specs.Clients.{Meaning}
 use Rattle.sync_rules.specs.Facts.{facts}
-use Rattle.sync_rules.specs.Hearing.{HearsRecord, SettlesJournal}
+use Rattle.sync_rules.specs.Hearing.{HearsRecord, SettlesJournal, batch_session}
 use Rattle.sync_rules.specs.Steps.{IsSettled}
 
 -- the session of this number on which a file is read: in batch mode, of latency 1
 abbrev pub box_session : ℕ → ℕ → Session
-box_session number contact =
-    record { number = number; contact = contact; mode = mode_kind.Batch; latency = 1; nonce = None }
+box_session number contact = batch_session number contact 1
 
 -- a journal behind which that session begins
 abbrev pub with_box : ℕ → List (List Entry) → List (List Entry)

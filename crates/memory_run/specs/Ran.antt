@@ -7,7 +7,7 @@ use Rattle.outside.specs.Streams.{Stream}
 use Rattle.sync_rules.specs.Clients.{Meaning}
 use Rattle.commands.specs.Reading.{Asked}
 use Rattle.sync_words.specs.declared.status.Status.{Status}
-use Rattle.sync_top.specs.Run.{Ran}
+use Rattle.sync_top.specs.Run.{RanCommand}
 
 -- an output to which nothing was written
 abbrev pub no_text : Stream
@@ -18,6 +18,7 @@ no_text = record { bytes = Some []; faults = 0 }
 abbrev pub RanInMemory : Meaning → Asked → (old new : MemHostValue) → (input input' : SourceValue)
     → (out err : SinkValue) → Status → Type 0
 RanInMemory clients asked old new input input' out err given =
-    Ran clients asked (host_told old) (host_told new) (source_told input) (source_told input')
+    RanCommand clients asked (host_told old) (host_told new) (source_told input)
+    (source_told input')
     no_text
     (sink_told out) no_text (sink_told err) given

@@ -1,5 +1,6 @@
 -- A journal that hears a message and settles goes on hearing.
-use Rattle.std.proofs.Common.{◌≡◌, ℕ, ◌+◌, true, false, not, cond, List, [], ◌∷◌, ◌++◌, refl, sym, ◌∙◌, ap, subst, Some, None, is_some}
+use Rattle.std.proofs.Common.{◌≡◌, ℕ, ◌+◌, true, false, not, cond, List, [], ◌∷◌, ◌++◌, refl, sym}
+use Rattle.std.proofs.Common.{◌∙◌, ap, subst, Some, None, is_some, Option, unwrap_or}
 use Rattle.std.specs.FinMap as fin_map
 use Rattle.std.specs.Cmp.{nat_cmp_total, unsigned_tied, nat_eq_equiv}
 use Rattle.std.specs.Ordering.{nat_cmp}
@@ -10,7 +11,8 @@ use Rattle.sync_ids.specs.declared.records.Record.TheVariants as record_kind
 use Rattle.sync_rules.specs.declared.entries.Entry.{Entry}
 use Rattle.sync_rules.specs.declared.entries.Entry.TheVariants as entry
 use Rattle.sync_rules.specs.Clients.{Meaning}
-use Rattle.sync_rules.specs.Facts.{Facts, after, after_all, after_batches, nothing, facts, held_at, session_at, contact_of, takes_of, count_or, level_at, is_invisible}
+use Rattle.sync_rules.specs.Facts.{Facts, after, after_all, after_batches, nothing, facts, held_at}
+use Rattle.sync_rules.specs.Facts.{session_at, contact_of, takes_of, level_at, is_invisible}
 use Rattle.sync_rules.specs.Sessions.{taken_message, taken_message_of, is_welcome, one_if}
 use Rattle.sync_rules.specs.Legal.{IsSettling, AllSettling, Legal}
 use Rattle.sync_rules.specs.Hearing.{HearsRecord, IsHearing, take_batch}
@@ -54,19 +56,23 @@ message_takes f g session contact m =
 
 one_more_take : (takes : fin_map.FinMap nat_cmp ℕ) (s : ℕ) → takes_of (fin_map.insert takes s (takes_of takes s + 1)) s ≡ takes_of takes s + 1
 one_more_take takes s =
-    ap count_or (fin_map.get-insert nat_cmp_total takes s (takes_of takes s + 1) s)
-    ∙ ap (λ b. count_or (cond b (Some (takes_of takes s + 1)) (fin_map.get takes s))) (unsigned_tied s s ∙ nat_eq_equiv.refl s)
+    ap (λ (o : Option ℕ). unwrap_or o 0)
+    (fin_map.get-insert nat_cmp_total takes s (takes_of takes s + 1) s)
+    ∙ ap (λ b. unwrap_or (cond b (Some (takes_of takes s + 1)) (fin_map.get takes s)) 0)
+    (unsigned_tied s s ∙ nat_eq_equiv.refl s)
 
 -- ---- a message is taken
 
 module _ (clients : Meaning) (old : List (List Entry)) (session contact k : ℕ) (h : IsHearing clients old session contact k) (m : MessageValue)
     (within : IsRecord (record_kind.Message m)) where
   batch : List Entry
-  batch = take_batch old session k (record_kind.Message m)
+  batch = take_batch (facts old) session k (record_kind.Message m)
 
-  pub take_legal : Legal clients (old ++ take_batch old session k (record_kind.Message m) ∷ [])
+  pub take_legal : Legal clients (old ++ take_batch (facts old) session k (record_kind.Message m)
+      ∷ [])
   take_legal =
-      goes_on_both clients nothing old (take_batch old session k (record_kind.Message m) ∷ []) h.legal (
+      goes_on_both clients nothing old (take_batch (facts old) session k (record_kind.Message m)
+      ∷ []) h.legal (
         (
           h.settled,
           record {
@@ -83,7 +89,7 @@ module _ (clients : Meaning) (old : List (List Entry)) (session contact k : ℕ)
   pub hears_on : (new : List (List Entry)) → HearsRecord clients old session k (record_kind.Message m) new → IsHearing clients new session contact (k + 1)
   hears_on new is =
       let f : Facts = facts old in
-      let taking : List Entry = take_batch old session k (record_kind.Message m) in
+      let taking : List Entry = take_batch (facts old) session k (record_kind.Message m) in
       let more = is.settles.more in
       let mid : facts (old ++ taking ∷ []) ≡ after_all f taking = facts-push old taking in
       let end : facts new ≡ after_batches (facts (old ++ taking ∷ [])) more = ap facts is.settles.extends ∙ after_batches-append nothing (old ++ taking ∷ []) more in

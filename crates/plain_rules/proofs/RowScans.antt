@@ -1,5 +1,7 @@
 -- The row of a contact and a message is found by going over entries, and how long a message waits.
-use Rattle.std.proofs.Common.{◌≡◌, ℕ, zero, suc, ◌+◌, ◌*◌, ◌-◌, ◌^◌, ◌<◌, ◌≤◌, min, Bool, true, false, cond, ◌&&◌, nat_eq, List, take, get_or, length, refl, sym, ◌∙◌, ap, arith}
+use Rattle.std.proofs.Common.{◌≡◌, ℕ, zero, suc, ◌+◌, ◌*◌, ◌-◌, ◌^◌, ◌<◌, ◌≤◌, min, Bool, true}
+use Rattle.std.proofs.Common.{false, cond, ◌&&◌, nat_eq, List, take, get_or, length, refl, sym, ◌∙◌}
+use Rattle.std.proofs.Common.{ap, arith, Option, unwrap_or}
 use Rattle.std.proofs.Math.Nat.{pow-suc, mul_assoc}
 use Rattle.std.specs.FinMap as fin_map
 use Rattle.sync_ids.specs.Ids.{message_id_of}
@@ -7,7 +9,9 @@ use Rattle.sync_rules.specs.declared.entries.Entry.{Entry}
 use Rattle.sync_rules.specs.declared.entries.Entry.TheVariants as entry
 use Rattle.sync_rules.specs.declared.entries.Out.TheVariants as out
 use Rattle.sync_rules.specs.Lists.{same_id, is_among}
-use Rattle.sync_rules.specs.Facts.{Facts, Id, Row, after, after_all, nothing, contact_of, latency_of, row_at, row_or, no_row, pair_cmp, row_heard, row_seen, row_asked, row_acked, row_offered, row_sent, row_tried}
+use Rattle.sync_rules.specs.Facts.{Facts, Id, Row, after, after_all, nothing, contact_of}
+use Rattle.sync_rules.specs.Facts.{latency_of, row_at, no_row, pair_cmp, row_heard, row_seen}
+use Rattle.sync_rules.specs.Facts.{row_asked, row_acked, row_offered, row_sent, row_tried}
 use Rattle.plain_rules.specs.Rows.{row_then}
 use Rattle.sync_rules.proofs.RowLaws.{row_at_change, row_at_firsts}
 use Rattle.plain_rules.proofs.Loops.{entries_more, same_conds}
@@ -36,7 +40,8 @@ row_step f contact id (entry.Tried t) = row_at_change f.rows contact t.contact i
 row_step f contact id _ = refl
 
 pub no_row_at : (contact : ℕ) (id : Id) → row_at nothing.rows contact id ≡ no_row
-no_row_at contact id = ap row_or (fin_map.get-empty pair_cmp (contact, id))
+no_row_at contact id = ap (λ (o : Option Row). unwrap_or o no_row)
+    (fin_map.get-empty pair_cmp (contact, id))
 
 -- ---- the wait
 

@@ -1,5 +1,7 @@
 -- The wanted ids of a plain view are those of the facts.
-use Rattle.std.proofs.Common.{◌≡◌, ℕ, ◌+◌, ◌<◌, Bool, true, false, cond, ◌&&◌, ◌||◌, nat_eq, eqb-true, List, [], ◌∷◌, ◌++◌, take, get_or, length, refl, sym, ◌∙◌, ap, subst, Option, Some, None, is_some}
+use Rattle.std.proofs.Common.{◌≡◌, ℕ, ◌+◌, ◌<◌, Bool, true, false, cond, ◌&&◌, ◌||◌, nat_eq}
+use Rattle.std.proofs.Common.{eqb-true, List, [], ◌∷◌, ◌++◌, take, get_or, length, refl, sym, ◌∙◌}
+use Rattle.std.proofs.Common.{ap, subst, Option, Some, None, is_some, unwrap_or}
 use Rattle.std.specs.FinMap as fin_map
 use Rattle.std.specs.Ordering.{nat_cmp}
 use Rattle.sync_ids.specs.Ids.{message_id_of}
@@ -8,7 +10,8 @@ use Rattle.sync_rules.specs.declared.entries.Entry.TheVariants as entry
 use Rattle.sync_rules.specs.declared.entries.Out.TheVariants as out
 use Rattle.plain_rules.specs.declared.wants.WantedLine.{WantedLine}
 use Rattle.sync_rules.specs.Lists.{same_id, is_among, without}
-use Rattle.sync_rules.specs.Facts.{Facts, Held, Id, after, after_all, nothing, facts, held_at, is_held, contact_of, ids_or, wanted_from, with_want, without_each}
+use Rattle.sync_rules.specs.Facts.{Facts, Held, Id, after, after_all, nothing, facts, held_at}
+use Rattle.sync_rules.specs.Facts.{is_held, contact_of, wanted_from, with_want, without_each}
 use Rattle.sync_rules.specs.Scans.{first_of_two, first_message, message_at}
 use Rattle.plain_rules.specs.Wants.{wanted_in, WantsAre, lines_without, want_then, with_line}
 use Rattle.sync_rules.proofs.Elements.{same_id_swap}
@@ -170,4 +173,4 @@ pub wants_batch : (bs : List (List Entry)) (k : ℕ) (b : List Entry) (now : Lis
 wants_batch bs k b now within at h = subst (λ (g : Facts). WantsAre g now) (sym (batches_more bs k b within at)) h
 
 pub wants_nothing : WantsAre nothing []
-wants_nothing c = sym (ap ids_or (fin_map.get-empty nat_cmp c))
+wants_nothing c = sym (ap (λ (o : Option (List Id)). unwrap_or o []) (fin_map.get-empty nat_cmp c))

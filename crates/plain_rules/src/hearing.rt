@@ -57,7 +57,8 @@ pub fn take_message(
     message: Message,
 ) -> Result<Batch, AllocError>
     requires { contact_of (facts j.now).sessions session ≡ contact }
-    ensures { IfOk result (λ b. b ≡ take_batch j.now session k (record_kind.Message message)) }
+    ensures { IfOk result
+        (λ b. b ≡ take_batch (facts j.now) session k (record_kind.Message message)) }
 {
     let mut entries = Vec::new(alloc);
     entries.push(Entry::Take(session, k))?;

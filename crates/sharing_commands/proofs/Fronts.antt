@@ -4,6 +4,7 @@ use Rattle.std.proofs.Common.{◌∙◌}
 use Rattle.std.proofs.Common.{subst, append_assoc, append-nil, arith, Result, Ok, Err}
 use Rattle.std.specs.Prelude.{IsErrAnd}
 use Rattle.outside.specs.Outside.{Outside}
+use Rattle.outside.specs.Runs.{IsFront}
 use Rattle.sync_rules.specs.declared.entries.Entry.{Entry}
 use Rattle.sync_rules.specs.Clients.{Meaning}
 use Rattle.sync_rules.specs.Facts.{Facts, after_all, after_batches, facts}
@@ -22,7 +23,6 @@ use Rattle.sync_words.specs.declared.outcome.Outcome.TheVariants as outcome
 use Rattle.entry_codec.specs.declared.naming.Format.{Format}
 use Rattle.sync_store.specs.Rooms.{AreRoomy, needed_in}
 use Rattle.sharing_commands.specs.Adding.{AddsFront, AddsSo, LacksRoomForTarget}
-use Rattle.sharing_commands.specs.Agreeing.{IsFrontAdded}
 
 -- ---- none
 
@@ -63,7 +63,7 @@ none_added images clients s o all store = record {
   runs = runs_none images clients s s o store (as_before s);
   ends = λ opened j ends. end_on s s j refl ends;
   roomy = λ j ends same. tt;
-  answer = record { rest = all; parts = refl };
+  answer = record { rest = all; whole = refl };
 }
 
 -- ---- one
@@ -107,7 +107,7 @@ module _ (clients : Meaning) (s s' : StoreValue) (o o' : Outside) (batch : List 
     runs = runs;
     ends = λ opened j ends. true≢false s'.closed commits.2.closed opened;
     roomy = λ j ends same. ((λ plain. room_for s j batch ends same commits.1), tt);
-    answer = record { rest = []; parts = refl };
+    answer = record { rest = []; whole = refl };
   }
 
   pub one_left : RunsBy clients s s' o o' [] → AnswersCommit s s' batch (Err fault.Memory)
@@ -117,7 +117,7 @@ module _ (clients : Meaning) (s s' : StoreValue) (o o' : Outside) (batch : List 
     runs = runs;
     ends = λ opened j ends. end_on s s' j commits.2.end ends;
     roomy = λ j ends same. tt;
-    answer = record { rest = batch ∷ []; parts = refl };
+    answer = record { rest = batch ∷ []; whole = refl };
   }
 
   pub one_refused : RunsBy clients s s' o o' [] → AnswersCommit s s' batch (Err fault.Full)
@@ -156,13 +156,13 @@ roomy_both format limit j (x ∷ xs) ys first second = (
       (sym (append_assoc j (x ∷ []) xs)) second),
 )
 
-more_front : (xs ys front back : List (List Entry)) → front ≡ xs → IsFrontAdded ys back
-    → IsFrontAdded (xs ++ ys) (front ++ back)
-more_front xs ys front back whole some = record {
+more_front : (xs ys front back : List (List Entry)) → front ≡ xs → IsFront back ys
+    → IsFront (front ++ back) (xs ++ ys)
+more_front xs ys front back same some = record {
   rest = some.rest;
-  parts = ap (λ (z : List (List Entry)). xs ++ z) some.parts
+  whole = ap (λ (z : List (List Entry)). xs ++ z) some.whole
       ∙ sym (append_assoc xs back some.rest)
-      ∙ ap (λ (z : List (List Entry)). (z ++ back) ++ some.rest) (sym whole);
+      ∙ ap (λ (z : List (List Entry)). (z ++ back) ++ some.rest) (sym same);
 }
 
 more_lacks : (s : StoreValue) (xs ys front back : List (List Entry)) → front ≡ xs
@@ -242,11 +242,11 @@ short_so s all front rest outcome.Full so = (
 )
 short_so s all front rest outcome.Memory so = record {
   rest = so.rest ++ rest;
-  parts = ap (λ (z : List (List Entry)). z ++ rest) so.parts ∙ append_assoc front so.rest rest;
+  whole = ap (λ (z : List (List Entry)). z ++ rest) so.whole ∙ append_assoc front so.rest rest;
 }
 short_so s all front rest outcome.DiskFault so = record {
   rest = so.rest ++ rest;
-  parts = ap (λ (z : List (List Entry)). z ++ rest) so.parts ∙ append_assoc front so.rest rest;
+  whole = ap (λ (z : List (List Entry)). z ++ rest) so.whole ∙ append_assoc front so.rest rest;
 }
 short_so s all front rest _ so = absurd so
 

@@ -15,7 +15,7 @@ use Rattle.sync_words.specs.declared.outcome.Outcome.TheVariants as outcome
 use Rattle.store_commands.specs.declared.commit.Settling.TheVariants as settling
 use Rattle.store_commands.specs.Entries.{HasAdded}
 use Rattle.store_commands.specs.Load.{HasFacts, LoadKeeps}
-use Rattle.store_commands.specs.Plans.{Plan, adds, refuses}
+use Rattle.store_commands.specs.Plans.{EntryPlan, adds, refuses}
 use Rattle.store_commands.specs.Post.{IsPlanOfPost}
 use Rattle.store_commands.specs.Show.{LeavesFilesSo}
 use Rattle.store_commands.proofs.EntryLemmas.{added_none, added_refused}
@@ -34,7 +34,8 @@ say_follows clients f s e is = by (sharing_test (group_at f.groups s.group)) is 
 
 -- ---- a message that may not be added
 
-pub said_fault : (clients : Meaning) (plan : Facts → Plan) (old new : Outside) (out out' : Stream)
+pub said_fault : (clients : Meaning) (plan : Facts → EntryPlan) (old new : Outside)
+    (out out' : Stream)
     (s : StoreValue) → DiskRun old new
     → ((two : Two File) → old.files ≡ Some two → LeavesFilesSo (LoadKeeps (Ok s) two) two old new)
     → ((two : Two File) → old.files ≡ Some two → HasFacts (stands clients (read_files two)) s)

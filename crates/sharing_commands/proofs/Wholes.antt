@@ -6,6 +6,7 @@ use Rattle.outside.specs.declared.limits.TheConstants.{MAX_JOURNAL}
 use Rattle.outside.specs.Files.{Two, File, read_files}
 use Rattle.outside.specs.Outside.{DiskRun, Outside}
 use Rattle.outside.specs.Streams.{Stream, IsIdle}
+use Rattle.outside.specs.Runs.{IsFront}
 use Rattle.sync_rules.specs.declared.entries.Entry.{Entry}
 use Rattle.sync_rules.specs.declared.states.Refused.{Refused}
 use Rattle.sync_rules.specs.Clients.{Meaning}
@@ -26,16 +27,16 @@ use Rattle.store_commands.proofs.Follow.{stays}
 use Rattle.store_commands.proofs.Passing.{passed}
 use Rattle.store_commands.proofs.Working.{prints_plain, worked_loaded, worked_none, worked_refused}
 use Rattle.sharing_commands.specs.Adding.{AddsFront, AddsSo}
-use Rattle.sharing_commands.specs.Agreeing.{HasAgreed, IsFrontAdded, agreement}
+use Rattle.sharing_commands.specs.Agreeing.{HasAgreed, agreement}
 use Rattle.sharing_commands.specs.Agreement.{agree_test, agreed_batches, agreed_text}
 
 -- ---- what the targets ask for
 
 front_of : (s : StoreValue) (all front : List (List Entry)) (r : Result (Unit {0}) Outcome)
-    → AddsSo s all front r → IsFrontAdded all front
-front_of s all front (Ok u) so = record { rest = []; parts = sym so.1 ∙ sym (append-nil front) }
+    → AddsSo s all front r → IsFront front all
+front_of s all front (Ok u) so = record { rest = []; whole = sym so.1 ∙ sym (append-nil front) }
 front_of s all front (Err outcome.Full) so =
-    record { rest = so.1.next ∷ so.1.rest; parts = so.1.parts }
+    record { rest = so.1.next ∷ so.1.rest; whole = so.1.parts }
 front_of s all front (Err outcome.Memory) so = so
 front_of s all front (Err outcome.DiskFault) so = so
 front_of s all front (Err _) so = absurd so
@@ -52,7 +53,7 @@ does_so clients contact group f s front (Err outcome.Full) so settled = (
     next = so.1.next;
     follows = record {
       rest = so.1.rest;
-      parts = so.1.parts ∙ sym (append_assoc front (so.1.next ∷ []) so.1.rest);
+      whole = so.1.parts ∙ sym (append_assoc front (so.1.next ∷ []) so.1.rest);
     };
     over = so.1.over;
   },

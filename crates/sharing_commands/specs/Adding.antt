@@ -1,6 +1,7 @@
 -- Batches that are added to a settled store, one after the other.
 use Rattle.std.specs.Prelude.{◌≡◌, ◌<◌, ℕ, false, List, ◌∷◌, ◌++◌, Result, Ok, Err}
 use Rattle.outside.specs.Outside.{Outside}
+use Rattle.outside.specs.Runs.{IsFront}
 use Rattle.sync_rules.specs.declared.entries.Entry.{Entry}
 use Rattle.sync_rules.specs.Clients.{Meaning}
 use Rattle.sync_rules.specs.Facts.{facts}
@@ -13,7 +14,6 @@ use Rattle.sync_store.specs.Runs.{RunsBy}
 use Rattle.sync_store.specs.Store.{IsStore, StoreValue, written_in}
 use Rattle.sync_words.specs.declared.outcome.Outcome.{Outcome}
 use Rattle.sync_words.specs.declared.outcome.Outcome.TheVariants as outcome
-use Rattle.sharing_commands.specs.Agreeing.{IsFrontAdded}
 
 -- there was no room for the first batch of those that were not added
 pub record LacksRoomForTarget (s : StoreValue) (all front : List (List Entry)) : Type 0 where
@@ -27,8 +27,8 @@ abbrev pub AddsSo : StoreValue → (all front : List (List Entry)) → Result (U
     → Type 0
 AddsSo s all front (Ok _) = (s.closed ≡ false) × (front ≡ all)
 AddsSo s all front (Err outcome.Full) = (s.closed ≡ false) × LacksRoomForTarget s all front
-AddsSo s all front (Err outcome.Memory) = IsFrontAdded all front
-AddsSo s all front (Err outcome.DiskFault) = IsFrontAdded all front
+AddsSo s all front (Err outcome.Memory) = IsFront front all
+AddsSo s all front (Err outcome.DiskFault) = IsFront front all
 AddsSo s all front (Err _) = ⊥
 
 -- a store came by a front of these batches to this one, as far as the answer says; there was room

@@ -2,6 +2,7 @@
 -- entry a batch of its own, and prints a line for each group.
 use Rattle.std.specs.Prelude.{◌≡◌, ℕ, List, [], ◌∷◌, ◌++◌}
 use Rattle.outside.specs.Outside.{Outside}
+use Rattle.outside.specs.Runs.{IsFront}
 use Rattle.outside.specs.Streams.{Stream}
 use Rattle.sync_rules.specs.declared.entries.Entry.{Entry}
 use Rattle.sync_rules.specs.Clients.{Meaning}
@@ -12,17 +13,12 @@ use Rattle.store_commands.specs.Errands.{Errand, running}
 use Rattle.store_commands.specs.Works.{HasWorked}
 use Rattle.sharing_commands.specs.Agreement.{agree_test, agreed_batches, agreed_text}
 
--- these batches are a front of all
-pub record IsFrontAdded (all front : List (List Entry)) : Type 0 where
-  pub rest : List (List Entry)
-  pub parts : all ≡ front ++ rest
-
 -- what the targets ask for, over the words of both in the settled journal
 abbrev pub agreement : Meaning → ℕ → Id → Errand
 agreement clients contact group = record {
-  some = λ f more. IsFrontAdded (agreed_batches clients contact group f) more;
+  some = λ f more. IsFront more (agreed_batches clients contact group f);
   whole = λ f more. more ≡ agreed_batches clients contact group f;
-  next = λ f more next. IsFrontAdded (agreed_batches clients contact group f) (more ++ next ∷ []);
+  next = λ f more next. IsFront (more ++ next ∷ []) (agreed_batches clients contact group f);
   comes = outcome.Done;
   text = λ settled more. agreed_text clients contact group (facts settled);
 }

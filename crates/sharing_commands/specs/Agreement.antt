@@ -12,7 +12,7 @@ use Rattle.client_sharing.specs.declared.agreement.Target.{Target}
 use Rattle.client_sharing.specs.Targets.{targets_of}
 use Rattle.sharing_commands.specs.Deeds.{all_batches, all_text, target_id}
 use Rattle.sharing_commands.specs.Sayings.{sharing_test}
-use Rattle.sharing_commands.specs.Words.{said_in}
+use Rattle.sharing_commands.specs.Words.{said_by_both}
 
 -- the tests of `agree`, over the journal as it was loaded: the contact is known, and the group is a
 -- known `sharing` group
@@ -22,7 +22,7 @@ agree_test f contact group =
     refused.UnknownContact
 
 abbrev pub agreed_targets : Facts → ℕ → Id → List Target
-agreed_targets f contact group = targets_of (said_in f contact group)
+agreed_targets f contact group = targets_of (said_by_both f contact group)
 
 -- what is added to a settled journal of these facts, and what is printed
 abbrev pub agreed_batches : Meaning → ℕ → Id → Facts → List (List Entry)

@@ -9,10 +9,10 @@ use Rattle.sync_rules.specs.Clients.{Meaning}
 use Rattle.sync_rules.specs.Facts.{Facts, Held, Id, Known, group_at, held_at}
 use Rattle.sync_rules.specs.Lists.{same_id}
 use Rattle.sync_rules.specs.Sessions.{is_author}
-use Rattle.store_commands.specs.Plans.{Plan, refuses, message_plan}
+use Rattle.store_commands.specs.Plans.{EntryPlan, refuses, message_plan}
 use Rattle.store_commands.specs.Post.{posted_message}
 use Rattle.client_sharing.specs.declared.bodies.Saying.{Saying}
-use Rattle.client_sharing.specs.Bodies.{body_of, is_sharing}
+use Rattle.client_sharing.specs.Bodies.{saying_body, is_sharing}
 use Rattle.sharing_commands.specs.declared.saying.Speech.{Speech}
 
 -- ---- the group in which it is said
@@ -49,12 +49,12 @@ abbrev pub saying_in : Facts → Speech → Saying
 saying_in f s = record { join = s.join; previous = previous_own f s.group; def = s.def }
 
 abbrev pub message_said : Facts → Speech → MessageValue
-message_said f s = posted_message s.group s.timestamp (body_of (saying_in f s))
+message_said f s = posted_message s.group s.timestamp (saying_body (saying_in f s))
 
-abbrev pub say_by : Meaning → Facts → Speech → Option Refused → Plan
+abbrev pub say_by : Meaning → Facts → Speech → Option Refused → EntryPlan
 say_by clients f s (Some why) = refuses why
 say_by clients f s None = message_plan clients f (message_said f s)
 
 -- `say`: the group is known and a `sharing` group, and then the tests of a message
-abbrev pub say_plan : Meaning → Speech → Facts → Plan
+abbrev pub say_plan : Meaning → Speech → Facts → EntryPlan
 say_plan clients s f = say_by clients f s (sharing_test (group_at f.groups s.group))

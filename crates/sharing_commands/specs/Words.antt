@@ -12,9 +12,9 @@ use Rattle.client_sharing.specs.Bodies.{saying_of}
 
 -- whose word a message is: one of this device, or of the contact; that of another contact is
 -- neither's
-abbrev pub side_of : ℕ → Origin → Option Bool
-side_of contact origin.Author = Some true
-side_of contact (origin.From c) = cond (nat_eq c contact) (Some false) None
+abbrev pub speaker_of : ℕ → Origin → Option Bool
+speaker_of contact origin.Author = Some true
+speaker_of contact (origin.From c) = cond (nat_eq c contact) (Some false) None
 
 -- what a side says; what is no saying is passed over
 abbrev pub said_as : Option Bool → Option Saying → Option Said
@@ -24,7 +24,7 @@ said_as side saying = None
 -- a message of this origin
 abbrev pub said_by : ℕ → Id → Origin → MessageValue → Option Said
 said_by contact group from m =
-    cond (same_id m.group group) (said_as (side_of contact from) (saying_of m.body)) None
+    cond (same_id m.group group) (said_as (speaker_of contact from) (saying_of m.body)) None
 
 abbrev pub words_of : Option Said → List Said
 words_of None = []
@@ -35,5 +35,6 @@ said_of contact group None = []
 said_of contact group (Some h) = words_of (said_by contact group h.origin h.message)
 
 -- all that was said in a group by this device and by a contact, in the order of delivery
-abbrev pub said_in : Facts → ℕ → Id → List Said
-said_in f contact group = flat_map (λ id. said_of contact group (held_at f.held id)) f.delivered
+abbrev pub said_by_both : Facts → ℕ → Id → List Said
+said_by_both f contact group = flat_map (λ id. said_of contact group (held_at f.held id))
+    f.delivered

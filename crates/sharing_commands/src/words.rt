@@ -1,7 +1,7 @@
 // What was said in a `sharing` group.
 ghost use Rattle.std.specs.Prelude.{◌≡◌, ◌++◌, ◌<◌, length, IfOk, OnOk, slice_get, Some};
 ghost use Rattle.sync_rules.specs.Facts.{Id, held_at};
-ghost use Rattle.sharing_commands.specs.Words.{said_by, said_in, said_of, side_of};
+ghost use Rattle.sharing_commands.specs.Words.{said_by, said_by_both, said_of, speaker_of};
 
 use client_sharing::{Said, Saying, read_saying};
 use std::alloc::{AllocError, Global};
@@ -17,7 +17,8 @@ pub(crate) fn gather_words(
     contact: u8,
     group: &GroupId,
 ) -> Result<Vec<Said>, AllocError>
-    ensures { IfOk result (λ said. said.items ≡ said_in store.now.state.facts contact group.now) }
+    ensures { IfOk result
+        (λ said. said.items ≡ said_by_both store.now.state.facts contact group.now) }
 {
     let mut said = Vec::new(alloc);
     'delivered: for k in 0..store.delivered() {
@@ -74,7 +75,7 @@ fn said_by(
 
 // Whether a message of this origin is a word of this device, or of the contact.
 fn side_of(contact: u8, from: Origin) -> Option<bool>
-    ensures { result ≡ side_of contact from }
+    ensures { result ≡ speaker_of contact from }
 {
     match from {
         Origin::Author => Some(true),

@@ -16,7 +16,7 @@ use Rattle.store_commands.specs.declared.commit.Settling.{Settling}
 use Rattle.store_commands.specs.Commit.{ExtendsBy, ExtendsTold, SettlesAnew, StoreStaysReady}
 use Rattle.store_commands.specs.Entries.{EntryAdded, HasAdded}
 use Rattle.sync_rules.specs.declared.states.Refused.{Refused}
-use Rattle.store_commands.specs.Plans.{Plan, plan_of, refuses}
+use Rattle.store_commands.specs.Plans.{EntryPlan, plan_of, refuses}
 use Rattle.store_commands.specs.Post.{HasPosted}
 use Rattle.store_commands.specs.Looking.{HasLooked}
 use Rattle.store_commands.specs.Shown.{Showing}
@@ -68,7 +68,7 @@ module _ (r : Result (Unit {0}) Outcome) (x : Outcome) (is : IsErrAnd r (λ e. e
   entry_on clients asked s e o o' out out' =
       passed (λ (came : Outcome). EntryAdded clients asked s e o o' out out' came) r x is
 
-  pub added_on : (clients : Meaning) (plan : Facts → Plan) (asked : Settling) (o o' : Outside)
+  pub added_on : (clients : Meaning) (plan : Facts → EntryPlan) (asked : Settling) (o o' : Outside)
       (out out' : Stream) → HasAdded clients plan asked o o' out out' x
       → HasAdded clients plan asked o o' out out' (came_to r)
   added_on clients plan asked o o' out out' =

@@ -20,7 +20,7 @@ use Rattle.sync_words.specs.declared.outcome.Outcome.TheVariants as outcome
 use Rattle.store_commands.specs.declared.commit.Settling.TheVariants as settling
 use Rattle.store_commands.specs.declared.plans.PlannedPost.{PlannedPost}
 use Rattle.store_commands.specs.Entries.{HasAdded}
-use Rattle.store_commands.specs.Plans.{Plan, adds, refuses, post_plan}
+use Rattle.store_commands.specs.Plans.{EntryPlan, adds, refuses, post_plan}
 use Rattle.store_commands.specs.Stopping.{InputStops, StopsEarly}
 
 -- the body of a post is the whole input, or its first bytes, one more than a body may have
@@ -70,7 +70,7 @@ HasPosted clients group timestamp old new input input' out out' came =
     ⊎ PostsBody clients group timestamp old new input input' out out' came
 
 -- the plan of a post as it is answered, with the message's id, but for want of memory
-abbrev pub IsPlanOfPost : Plan → Result PlannedPost Outcome → Type 0
+abbrev pub IsPlanOfPost : EntryPlan → Result PlannedPost Outcome → Type 0
 IsPlanOfPost plan (Ok post) =
     (plan ≡ adds (entry.Author post.message)) × (post.id ≡ message_id_of post.message)
 IsPlanOfPost plan (Err outcome.Memory) = Unit {0}

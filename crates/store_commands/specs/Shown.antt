@@ -87,9 +87,9 @@ abbrev pub listing_shown : Listing → Facts → Showing
 listing_shown what f = shows (listing_text what f)
 
 -- `body`: the bytes of the body as they are, of a message that is held
-abbrev pub body_of : Option Held → Showing
-body_of None = denies refused.UnknownMessage
-body_of (Some h) = shows h.message.body
+abbrev pub body_held : Option Held → Showing
+body_held None = denies refused.UnknownMessage
+body_held (Some h) = shows h.message.body
 
 abbrev pub body_shown : Id → Facts → Showing
-body_shown id f = body_of (held_at f.held id)
+body_shown id f = body_held (held_at f.held id)

@@ -9,7 +9,7 @@ use Rattle.std.specs.declared.cmp.Ordering.TheVariants as ordering
 use Rattle.std.proofs.lemmas.Bool.{and_from, and_parts, false≢true, lt-ltb, ltb-true, or_cases, or_left, or_right}
 use Rattle.sync_rules.specs.Lists.{In}
 use Rattle.sync_course.specs.declared.ends.LinkEnd.TheVariants as end
-use Rattle.sync_course.specs.Links.{Link, beats, closed_from, is_beaten, is_before, is_going}
+use Rattle.sync_course.specs.Links.{Link, beats, closed_from, is_beaten, is_preferred, is_going}
 use Rattle.sync_course.specs.Links.{is_nonce_kept}
 use Rattle.sync_course.specs.Redundant.{KeptRather, closed_as, closed_upto}
 
@@ -22,23 +22,24 @@ turned x y o is = nat_list_cmp_total.antisymm y x ∙ ap ordering_reverse is
 module _ (x y z : List ℕ) (first second whole : Bool)
     (both : first ≡ true → second ≡ true → whole ≡ true) where
   before_then : (o r : Ordering)
-      → slice_cmp nat_cmp x y ≡ o → slice_cmp nat_cmp y z ≡ r → is_before o first ≡ true → is_before r second ≡ true
-      → is_before (slice_cmp nat_cmp x z) whole ≡ true
+      → slice_cmp nat_cmp x y ≡ o → slice_cmp nat_cmp y z ≡ r → is_preferred o first ≡ true
+      → is_preferred r second ≡ true
+      → is_preferred (slice_cmp nat_cmp x z) whole ≡ true
   before_then ordering.Less r e f a b = cc
   before_then ordering.Equal ordering.Less e f a b = cc
   before_then ordering.Greater ordering.Less e f a b = cc
   before_then ordering.Greater ordering.Greater e f a b =
       let low =
       nat_list_cmp_total.trans z y x (turned y z ordering.Greater f) (turned x y ordering.Greater e) in
-      ap (λ o. is_before o whole) (turned z x ordering.Less low)
+      ap (λ o. is_preferred o whole) (turned z x ordering.Less low)
   before_then ordering.Greater ordering.Equal e f a b =
       let low : slice_cmp nat_cmp z x ≡ ordering.Less =
       sym (nat_list_cmp_total.congr y z x f) ∙ turned x y ordering.Greater e in
-      ap (λ o. is_before o whole) (turned z x ordering.Less low)
+      ap (λ o. is_preferred o whole) (turned z x ordering.Less low)
   before_then ordering.Equal ordering.Greater e f a b =
-      ap (λ o. is_before o whole) (nat_list_cmp_total.congr x y z e ∙ f)
+      ap (λ o. is_preferred o whole) (nat_list_cmp_total.congr x y z e ∙ f)
   before_then ordering.Equal ordering.Equal e f a b =
-      ap (λ o. is_before o whole) (nat_list_cmp_total.congr x y z e ∙ f) ∙ both a b
+      ap (λ o. is_preferred o whole) (nat_list_cmp_total.congr x y z e ∙ f) ∙ both a b
 
 kept_then : (x y z : Option (List ℕ)) (first second whole : Bool)
     → (first ≡ true → second ≡ true → whole ≡ true) → is_nonce_kept x y first ≡ true
@@ -53,9 +54,10 @@ not_kept : (x : Option (List ℕ)) → is_nonce_kept x x false ≡ false
 not_kept None = refl
 not_kept (Some x) = not_before (slice_cmp nat_cmp x x) refl
   where
-    not_before : (o : Ordering) → slice_cmp nat_cmp x x ≡ o → is_before (slice_cmp nat_cmp x x) false ≡ false
-    not_before ordering.Greater is = ap (λ o. is_before o false) (turned x x ordering.Greater is)
-    not_before _ is = ap (λ o. is_before o false) is
+    not_before : (o : Ordering) → slice_cmp nat_cmp x x ≡ o → is_preferred (slice_cmp nat_cmp x x)
+        false ≡ false
+    not_before ordering.Greater is = ap (λ o. is_preferred o false) (turned x x ordering.Greater is)
+    not_before _ is = ap (λ o. is_preferred o false) is
 
 -- the parts of a comparison of two links
 pub record Beats (i : ℕ) (a : Link) (k : ℕ) (b : Link) : Type 0 where

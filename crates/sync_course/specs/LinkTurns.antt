@@ -16,6 +16,7 @@ use Rattle.sync_rules.specs.Facts.{Facts, after_all, session_at, takes_of}
 use Rattle.sync_rules.specs.Legal.{Allowed, IsDue, IsSettlingBatch}
 use Rattle.sync_rules.specs.Sessions.{due, taken}
 use Rattle.sync_rules.specs.Steps.{IsSettled}
+use Rattle.sync_rules.specs.Hearing.{take_batch}
 use Rattle.sync_course.specs.declared.ends.LinkEnd.TheVariants as end
 use Rattle.sync_course.specs.declared.TheConstants.{MAX_OUTPUTS}
 use Rattle.sync_course.specs.Events.{Event, Commit, Hear, Miss, Read, Break, Pass}
@@ -46,7 +47,7 @@ IsNothingDue clients f (Some s) now = due clients f s now ≡ None
 
 -- the batch of a record that is the next of its session
 abbrev pub next_take : Facts → ℕ → Record → List Entry
-next_take f session r = entry.Take session (takes_of f.takes session) ∷ taken f session r
+next_take f session r = take_batch f session (takes_of f.takes session) r
 
 -- the batch of an output
 abbrev pub out_batch : ℕ → ℕ → Out → List Entry

@@ -82,16 +82,17 @@ stands_ended (ending_kind.Bad place why) = end.Bad place why
 -- ---- redundant links
 
 -- a nonce is greater than another, by their bytes, or equal to it and that of a link of a smaller number
-abbrev pub is_before : Ordering → Bool → Bool
-is_before ordering.Greater smaller = true
-is_before ordering.Equal smaller = smaller
-is_before ordering.Less smaller = false
+abbrev pub is_preferred : Ordering → Bool → Bool
+is_preferred ordering.Greater smaller = true
+is_preferred ordering.Equal smaller = smaller
+is_preferred ordering.Less smaller = false
 
 -- the first nonce is kept rather than the other, where both are known
 abbrev pub is_nonce_kept : Option (List ℕ) → Option (List ℕ) → Bool → Bool
 is_nonce_kept None other smaller = false
 is_nonce_kept (Some nonce) None smaller = false
-is_nonce_kept (Some nonce) (Some other) smaller = is_before (slice_cmp nat_cmp nonce other) smaller
+is_nonce_kept (Some nonce) (Some other) smaller = is_preferred (slice_cmp nat_cmp nonce other)
+    smaller
 
 -- the link of the number i is kept rather than that of the number k: both are asked and lead to the same contact, and its nonce is
 -- greater, or equal where i is the smaller number

@@ -10,7 +10,7 @@ use Rattle.sync_node.specs.Sending.{ClosesSome}
 use Rattle.std.specs.Cmp.Lexicographic.{slice_cmp}
 use Rattle.std.specs.Ordering.{nat_cmp}
 use Rattle.std.specs.declared.cmp.Ordering.{Ordering}
-use Rattle.sync_course.specs.Links.{beats, is_beaten, is_before, is_going, is_nonce_kept}
+use Rattle.sync_course.specs.Links.{beats, is_beaten, is_preferred, is_going, is_nonce_kept}
 use Rattle.sync_course.specs.Links.{without_redundant}
 use Rattle.sync_course.specs.Redundant.{closed_upto}
 use Rattle.sync_course.proofs.KeptLaws.{closed_whole, closes_next}
@@ -126,13 +126,13 @@ same_heard k n (x ∷ links) heard =
 pub outdoes_when : (a b : Link) (before r : Bool) (o : Ordering) (theirs own : List ℕ)
     → a.end ≡ link_end.Going → b.end ≡ link_end.Going → a.session.contact ≡ b.session.contact
     → a.nonce ≡ Some theirs → b.nonce ≡ Some own → o ≡ slice_cmp nat_cmp theirs own
-    → r ≡ is_before o before → r ≡ outdoes_of a b before
+    → r ≡ is_preferred o before → r ≡ outdoes_of a b before
 outdoes_when a b before r o theirs own first second same one two order is =
-    is ∙ ap (λ (x : Ordering). is_before x before) order ∙ sym (whole first second same one two)
+    is ∙ ap (λ (x : Ordering). is_preferred x before) order ∙ sym (whole first second same one two)
   where
     whole : a.end ≡ link_end.Going → b.end ≡ link_end.Going
         → a.session.contact ≡ b.session.contact → a.nonce ≡ Some theirs → b.nonce ≡ Some own
-        → outdoes_of a b before ≡ is_before (slice_cmp nat_cmp theirs own) before
+        → outdoes_of a b before ≡ is_preferred (slice_cmp nat_cmp theirs own) before
     whole first second same one two =
         ap (λ (e : LinkEnd). is_going e && (is_going b.end
         && (nat_eq a.session.contact b.session.contact && is_nonce_kept a.nonce b.nonce before)))

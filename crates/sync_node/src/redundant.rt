@@ -1,6 +1,6 @@
 //! Which of several links with one contact is kept (this project's profile).
 ghost use Rattle.std.specs.Prelude.{◌≡◌, ℕ, ◌<◌, List, length, slice_get, IsTrue, Some};
-ghost use Rattle.sync_course.specs.Links.{is_beaten, is_before, without_redundant};
+ghost use Rattle.sync_course.specs.Links.{is_beaten, is_preferred, without_redundant};
 ghost use Rattle.sync_node.specs.Courses.{link_at, links_from, outdoes_of};
 ghost use Rattle.sync_node.specs.Sending.{ClosesSome};
 
@@ -57,7 +57,7 @@ fn outdoes(rival: &Link, link: &Link, before: bool) -> bool
 // Whether of two nonces that compare so the first is kept: it is greater, or the same, and its link
 // stands before the other.
 fn goes_first(order: Ordering, before: bool) -> bool
-    ensures { result ≡ is_before order before }
+    ensures { result ≡ is_preferred order before }
 {
     match order {
         Ordering::Greater => true,

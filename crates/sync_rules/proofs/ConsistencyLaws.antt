@@ -1,6 +1,9 @@
 -- The facts of every legal journal fit together: each entry keeps what holds of groups, held messages, levels, rows, wanted
 -- ids and ends.
-use Rattle.std.proofs.Common.{◌≡◌, ℕ, ◌+◌, ◌<◌, ◌≤◌, Bool, true, false, not, cond, ◌&&◌, ◌||◌, ◌⊎◌, nat_eq, eqb-true, List, [], ◌∷◌, ◌++◌, length, length-append, refl, sym, ◌∙◌, ap, subst, inl, inr, arith, Option, Some, None, is_some}
+use Rattle.std.proofs.Common.{◌≡◌, ℕ, ◌+◌, ◌<◌, ◌≤◌, Bool, true, false, not, cond, ◌&&◌, ◌||◌, ◌⊎◌}
+use Rattle.std.proofs.Common.{nat_eq, eqb-true, List, [], ◌∷◌, ◌++◌, length, length-append, refl}
+use Rattle.std.proofs.Common.{sym, ◌∙◌, ap, subst, inl, inr, arith, Option, Some, None, is_some}
+use Rattle.std.proofs.Common.{unwrap_or}
 use Rattle.std.specs.FinMap as fin_map
 use Rattle.std.specs.FinSet as fin_set
 use Rattle.std.specs.Ordering.{nat_cmp, eq_by_cmp}
@@ -20,7 +23,13 @@ use Rattle.sync_rules.specs.declared.states.Origin.{Origin}
 use Rattle.sync_rules.specs.declared.states.Origin.TheVariants as origin
 use Rattle.sync_rules.specs.Clients.{Meaning}
 use Rattle.sync_rules.specs.Lists.{same_id, is_among, has_repeat, without, firsts}
-use Rattle.sync_rules.specs.Facts.{Facts, Held, Id, Known, Row, Rows, LevelMap, Wants, pair_cmp, after, after_all, nothing, facts, entries_of, group_at, held_at, is_held, session_at, contact_of, put_level, is_no_row, row_or, row_at, put_row, change_row, change_rows, row_heard, row_seen, row_acked, row_asked, row_offered, row_sent, row_tried, one_more_try, latency_of, ids_or, wanted_from, change_each, wanted_by_none, with_want, without_each, authored, arrived, kept_as, known_of}
+use Rattle.sync_rules.specs.Facts.{Facts, Held, Id, Known, Row, Rows, LevelMap, Wants, pair_cmp}
+use Rattle.sync_rules.specs.Facts.{after, after_all, nothing, facts, entries_of, group_at, held_at}
+use Rattle.sync_rules.specs.Facts.{is_held, session_at, contact_of, put_level, is_no_row, row_at}
+use Rattle.sync_rules.specs.Facts.{put_row, change_row, change_rows, row_heard, row_seen, row_acked}
+use Rattle.sync_rules.specs.Facts.{row_asked, row_offered, row_sent, row_tried, one_more_try}
+use Rattle.sync_rules.specs.Facts.{latency_of, wanted_from, change_each, wanted_by_none, with_want}
+use Rattle.sync_rules.specs.Facts.{without_each, authored, arrived, kept_as, known_of, no_row}
 use Rattle.sync_rules.specs.Output.{NamesTheOpen}
 use Rattle.sync_rules.specs.Legal.{Legal, IsDue, IsKeptFrom}
 use Rattle.sync_rules.specs.Meeting.{MeetsNoStep, AllMeet}
@@ -329,7 +338,8 @@ row_put g rows c x r k held few has =
       | false ↦ λ e. row_insert g rows c x r (record { not_empty = e; known_contact = k; held = held; few_tries = few }) has
     ] refl
 
-few_tries_at : (g : Facts) (rows : Rows) (c : ℕ) (x : Id) → RowsIn g rows → (o : Option Row) → fin_map.get rows (c, x) ≡ o → (row_or o).tries ≤ 64
+few_tries_at : (g : Facts) (rows : Rows) (c : ℕ) (x : Id) → RowsIn g rows → (o : Option Row)
+    → fin_map.get rows (c, x) ≡ o → (unwrap_or o no_row).tries ≤ 64
 few_tries_at g rows c x has None at = omega arith
 few_tries_at g rows c x has (Some r) at = (has c x r at).few_tries
 
@@ -672,7 +682,7 @@ consistent_all clients f (e ∷ es) sound m c =
     consistent_all clients (after f e) es (sound_after clients f e (meets_fits clients f e m.0) sound) m.1 (consistent_after clients f e sound m.0 c)
 
 no_wants : (contact : ℕ) → wanted_from nothing.wanted contact ≡ []
-no_wants contact = ap ids_or (fin_map.get-empty nat_cmp contact)
+no_wants contact = ap (λ (o : Option (List Id)). unwrap_or o []) (fin_map.get-empty nat_cmp contact)
 
 pub consistent_nothing : IsConsistent nothing
 consistent_nothing = record {

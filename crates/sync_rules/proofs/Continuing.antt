@@ -1,5 +1,7 @@
 -- The facts of a journal that goes on go on, entry by entry and batch by batch.
-use Rattle.std.proofs.Common.{◌≡◌, ℕ, ◌+◌, ◌≤◌, Bool, true, false, cond, nat_eq, eqb-true, List, [], ◌∷◌, ◌++◌, refl, sym, ◌∙◌, ap, subst, arith, append_assoc, append-nil, Option, Some}
+use Rattle.std.proofs.Common.{◌≡◌, ℕ, ◌+◌, ◌≤◌, Bool, true, false, cond, nat_eq, eqb-true, List, []}
+use Rattle.std.proofs.Common.{◌∷◌, ◌++◌, refl, sym, ◌∙◌, ap, subst, arith, append_assoc, append-nil}
+use Rattle.std.proofs.Common.{Option, Some, unwrap_or}
 use Rattle.std.specs.FinSet as fin_set
 use Rattle.std.specs.FinMap as fin_map
 use Rattle.std.specs.Cmp.{nat_cmp_total, unsigned_tied}
@@ -10,7 +12,9 @@ use Rattle.sync_rules.specs.declared.entries.Entry.TheVariants as entry
 use Rattle.sync_rules.specs.declared.entries.Session.{Session}
 use Rattle.sync_rules.specs.Clients.{Meaning}
 use Rattle.sync_rules.specs.Lists.{same_id}
-use Rattle.sync_rules.specs.Facts.{Facts, Held, Id, Known, after, after_all, after_batches, nothing, facts, group_at, held_at, session_at, takes_of, count_or, authored, arrived, kept_as, known_of, contact_of, ExtendsJournal}
+use Rattle.sync_rules.specs.Facts.{Facts, Held, Id, Known, after, after_all, after_batches, nothing}
+use Rattle.sync_rules.specs.Facts.{facts, group_at, held_at, session_at, takes_of, authored}
+use Rattle.sync_rules.specs.Facts.{arrived, kept_as, known_of, contact_of, ExtendsJournal}
 use Rattle.sync_rules.specs.Legal.{Legal, Allowed, GoesOn}
 use Rattle.sync_rules.specs.EntryTests.{judges, invalidates}
 use Rattle.sync_rules.specs.Growth.{ContinuesList, ContinuesFacts}
@@ -55,10 +59,10 @@ session_at-stays (y ∷ sessions) x n s e =
 -- the count of a session after one record more
 pub takes_of-put : (takes : fin_map.FinMap nat_cmp ℕ) (s k n : ℕ) → takes_of (fin_map.insert takes s k) n ≡ cond (nat_eq n s) k (takes_of takes n)
 takes_of-put takes s k n =
-    ap count_or (fin_map.get-insert nat_cmp_total takes s k n)
+    ap (λ (o : Option ℕ). unwrap_or o 0) (fin_map.get-insert nat_cmp_total takes s k n)
     ∙ (chosen (eq_by_cmp nat_cmp n s) (fin_map.get takes n) ∙ ap (λ b. cond b k (takes_of takes n)) (unsigned_tied n s))
   where
-    chosen : (b : Bool) (o : Option ℕ) → count_or (cond b (Some k) o) ≡ cond b k (count_or o)
+    chosen : (b : Bool) (o : Option ℕ) → unwrap_or (cond b (Some k) o) 0 ≡ cond b k (unwrap_or o 0)
     chosen true o = refl
     chosen false o = refl
 

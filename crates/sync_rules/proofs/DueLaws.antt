@@ -1,5 +1,8 @@
 -- What is due is allowed, and its record is within its limits; so is all that a session sends.
-use Rattle.std.proofs.Common.{◌≡◌, ℕ, zero, suc, ◌≤◌, min, Bool, true, false, not, cond, ◌&&◌, ◌||◌, nat_le, nat_eq, List, [], ◌∷◌, ◌++◌, length, take, refl, sym, ◌∙◌, ap, subst, inl, inr, arith, Option, Some, None, is_some}
+use Rattle.std.proofs.Common.{◌≡◌, ℕ, zero, suc, ◌≤◌, min, Bool, true, false, not, cond, ◌&&◌, ◌||◌}
+use Rattle.std.proofs.Common.{nat_le, nat_eq, List, [], ◌∷◌, ◌++◌, length, take, refl, sym, ◌∙◌, ap}
+use Rattle.std.proofs.Common.{subst, inl, inr, arith, Option, Some, None, is_some, unwrap_or}
+use Rattle.std.specs.Option.{option_or}
 use Rattle.std.specs.List.{AllByRecursion}
 use Rattle.std.specs.FinMap as fin_map
 use Rattle.std.specs.Ordering.{nat_cmp}
@@ -19,9 +22,13 @@ use Rattle.sync_rules.specs.declared.entries.Mode.TheVariants as mode_kind
 use Rattle.sync_rules.specs.declared.entries.Session.{Session}
 use Rattle.sync_rules.specs.Clients.{Meaning}
 use Rattle.sync_rules.specs.Lists.{same_id, is_among, has_repeat, without}
-use Rattle.sync_rules.specs.Facts.{Facts, Held, Id, after, after_all, nothing, facts, entries_of, held_at, is_held, session_at, contact_of, contact_in, row_at, wanted_from, without_each, with_want, authored, arrived, kept_as, ids_or}
+use Rattle.sync_rules.specs.Facts.{Facts, Held, Id, after, after_all, nothing, facts, entries_of}
+use Rattle.sync_rules.specs.Facts.{held_at, is_held, session_at, contact_of, contact_in, row_at}
+use Rattle.sync_rules.specs.Facts.{wanted_from, without_each, with_want, authored, arrived, kept_as}
 use Rattle.sync_rules.specs.Steps.{IsSettled}
-use Rattle.sync_rules.specs.Sessions.{ids_where, shared_ids, is_sendable, is_ripe, owed_to, wanted_of, send_of, offers_of, out_or, acks_due, requests_due, send_due, offers_due, due_by, due}
+use Rattle.sync_rules.specs.Sessions.{ids_where, shared_ids, is_sendable, is_ripe, owed_to}
+use Rattle.sync_rules.specs.Sessions.{wanted_of, send_of, offers_of, acks_due, requests_due}
+use Rattle.sync_rules.specs.Sessions.{send_due, offers_due, due_by, due}
 use Rattle.sync_rules.specs.Legal.{Legal, Allowed, IsDue}
 use Rattle.sync_rules.specs.Output.{AllHeld, out_records, first_records, nonce_record}
 use Rattle.sync_rules.specs.Output.{message_record, sent}
@@ -34,7 +41,7 @@ use Rattle.sync_rules.proofs.Sound.{SoundFacts}
 use Rattle.sync_rules.proofs.Kept.{sound_after, after_batches-is}
 use Rattle.sync_rules.proofs.Runs.{sound_nothing}
 use Rattle.sync_rules.proofs.PeerFacts.{want_changed, want_dropped, among-without, among-without_each}
-use Rattle.sync_rules.proofs.Outputs.{found_by, among-take, first-among, out_or-cases}
+use Rattle.sync_rules.proofs.Outputs.{found_by, among-take, first-among, option_or-cases}
 use Rattle.sync_rules.proofs.StepKinds.{held_if_In}
 use Rattle.sync_rules.proofs.MeetingLaws.{legal_meets, meets_fits}
 use Rattle.sync_rules.proofs.SessionLaws.{session_at-cases}
@@ -137,17 +144,18 @@ module _ (f : Facts) where
         let sends : Held → Bool = λ k. is_sendable f shared x.contact k && is_ripe x.mode now (row_at f.rows x.contact k.id) in
         let offered : Held → Bool = λ k. is_sendable f shared x.contact k
         && (not (row_at f.rows x.contact k.id).asked && nat_le (row_at f.rows x.contact k.id).expiry now) in
-        elim (out_or-cases (acks_due (owed_to f x.contact)) (out_or requests (out_or send offers)) what e) [
+        elim (option_or-cases (acks_due (owed_to f x.contact))
+        (option_or requests (option_or send offers)) what e) [
           | inl a ↦
               acks_distinct x.contact what (owed_to f x.contact) (take_distinct MAX_IDS (ids_where owed f.held) (where_distinct owed f.held h.distinct))
               (take_few MAX_IDS (ids_where owed f.held)) (λ id among. held_by owed id (among-take MAX_IDS (ids_where owed f.held) id among)) a
           | inr r ↦
-              elim (out_or-cases requests (out_or send offers) what r) [
+              elim (option_or-cases requests (option_or send offers) what r) [
                 | inl a ↦
                     requests_distinct x.contact what x.mode (wanted_of f x.contact) (take_distinct MAX_IDS (wanted_from f.wanted x.contact) (w.distinct x.contact))
                     (take_few MAX_IDS (wanted_from f.wanted x.contact)) (λ id among. among-take MAX_IDS (wanted_from f.wanted x.contact) id among) a
                 | inr r ↦
-                    elim (out_or-cases send offers what r) [
+                    elim (option_or-cases send offers what r) [
                       | inl a ↦
                           send_held x.contact what (send_of f shared x.contact x.mode now) (λ id is. held_by sends id (first-among (ids_where sends f.held) id is)) a
                       | inr a ↦
@@ -258,7 +266,9 @@ limits_all f (e ∷ es) b l = limits_all (after f e) es b.1 (limits_after f e b.
 pub limits_nothing : HasLimits nothing
 limits_nothing = record {
   messages = λ id h at. cc;
-  wanted = λ contact id e. absurd (false≢true (sym (ap (λ (o : Option (List Id)). is_among (ids_or o) id) (fin_map.get-empty nat_cmp contact)) ∙ e));
+  wanted = λ contact id e. absurd
+      (false≢true (sym (ap (λ (o : Option (List Id)). is_among (unwrap_or o []) id)
+      (fin_map.get-empty nat_cmp contact)) ∙ e));
   nonces = λ n s at. cc;
 }
 

@@ -1,5 +1,6 @@
 -- The groups of held messages, and what one more group leaves.
 use Rattle.std.proofs.Common.{◌≡◌, Bool, true, cond, List, [], ◌∷◌, refl, ◌∙◌, ap, inl, inr, Some, None, is_some}
+use Rattle.std.specs.Option.{option_or}
 use Rattle.std.specs.List.{list_all}
 use Rattle.std.specs.FinSet as fin_set
 use Rattle.std.proofs.lemmas.Bool.{and_parts, and_from}
@@ -9,7 +10,7 @@ use Rattle.sync_rules.specs.declared.entries.Entry.{Entry}
 use Rattle.sync_rules.specs.declared.entries.Entry.TheVariants as entry
 use Rattle.sync_rules.specs.Clients.{Meaning}
 use Rattle.sync_rules.specs.Facts.{Facts, Held, after, facts, group_at, known_of}
-use Rattle.sync_rules.specs.Steps.{first_or_next, first_step, step, step_by}
+use Rattle.sync_rules.specs.Steps.{first_step, step, step_by}
 use Rattle.sync_rules.specs.Legal.{Legal}
 use Rattle.sync_rules.specs.Knowing.{GroupsLeaveSettled, KnowsGroups}
 use Rattle.sync_rules.specs.Lists.{In}
@@ -39,7 +40,7 @@ module _ (clients : Meaning) (f : Facts) (def : GroupValue) where
   same_first [] known = refl
   same_first (h ∷ hs) known =
       let both = and_parts (is_some (group_at f.groups h.message.group)) (list_all (λ x. is_some (group_at f.groups x.message.group)) hs) known in
-      λ i. first_or_next (same_step h both.0 i) (same_first hs both.1 i)
+      λ i. option_or (same_step h both.0 i) (same_first hs both.1 i)
 
 pub groups_leave_settled : GroupsLeaveSettled
 groups_leave_settled clients f def known settled = same_first clients f def f.held known ∙ settled

@@ -1,5 +1,6 @@
 -- Sessions stay known, and a journal that was just begun hears.
-use Rattle.std.proofs.Common.{◌≡◌, ℕ, true, cond, List, refl, sym, ◌∙◌, ap, arith, Option, Some, None, is_some}
+use Rattle.std.proofs.Common.{◌≡◌, ℕ, true, cond, List, refl, sym, ◌∙◌, ap, arith, Option, Some}
+use Rattle.std.proofs.Common.{None, is_some, unwrap_or}
 use Rattle.std.specs.FinMap as fin_map
 use Rattle.std.specs.Ordering.{nat_cmp}
 use Rattle.sync_ids.specs.Values.{GroupValue}
@@ -7,7 +8,8 @@ use Rattle.sync_ids.specs.Ids.{group_id_of}
 use Rattle.sync_rules.specs.declared.entries.Entry.{Entry}
 use Rattle.sync_rules.specs.declared.entries.Session.{Session}
 use Rattle.sync_rules.specs.Clients.{Meaning}
-use Rattle.sync_rules.specs.Facts.{Facts, after_all, after_batches, session_at, contact_of, contact_in, count_or, known_of}
+use Rattle.sync_rules.specs.Facts.{Facts, after_all, after_batches, session_at, contact_of}
+use Rattle.sync_rules.specs.Facts.{contact_in, known_of}
 use Rattle.sync_rules.specs.Steps.{kind_of_def}
 use Rattle.sync_rules.specs.Hearing.{IsHearing, one_session}
 use Rattle.sync_rules.proofs.Elements.{same_id_itself}
@@ -61,5 +63,5 @@ one_session_hears clients def known = record {
   settled = refl;
   known_session = refl;
   same_contact = refl;
-  numbered = sym (ap count_or (fin_map.get-empty nat_cmp 0));
+  numbered = sym (ap (λ (o : Option ℕ). unwrap_or o 0) (fin_map.get-empty nat_cmp 0));
 }

@@ -1,5 +1,6 @@
 -- What an allowed batch names is held before it.
 use Rattle.std.proofs.Common.{◌≡◌, ℕ, zero, suc, Bool, true, false, not, cond, ◌&&◌, List, [], ◌∷◌}
+use Rattle.std.specs.Option.{option_or}
 use Rattle.std.proofs.Common.{◌++◌, take, refl, ap, subst, inl, inr, Option, Some, None, is_some}
 use Rattle.std.specs.List.{list_all}
 use Rattle.std.proofs.lemmas.Bool.{and_parts, and_from, false≢true}
@@ -21,7 +22,7 @@ use Rattle.sync_rules.specs.Facts.{Facts, Held, Id, after, contact_of, held_at, 
 use Rattle.sync_rules.specs.Facts.{is_invisible, level_at, row_at, session_at}
 use Rattle.sync_rules.specs.Sessions.{acks_due, due_by, first_id, ids_where, is_remembered, is_ripe}
 use Rattle.sync_rules.specs.Sessions.{is_sendable, is_shown, is_shown_held}
-use Rattle.sync_rules.specs.Sessions.{is_welcome, offers_due, offers_of, one_if, out_or, owed_to}
+use Rattle.sync_rules.specs.Sessions.{is_welcome, offers_due, offers_of, one_if, owed_to}
 use Rattle.sync_rules.specs.Sessions.{requests_due, room_after, send_due, send_of}
 use Rattle.sync_rules.specs.Sessions.{shared_ids, taken, taken_acks, taken_message}
 use Rattle.sync_rules.specs.Sessions.{taken_message_of, taken_offers, taken_requests, wanted_of}
@@ -30,7 +31,7 @@ use Rattle.sync_rules.specs.Growth.{IsStepOf}
 use Rattle.sync_rules.specs.Knowing.{NamesHeld, held_named, held_names}
 use Rattle.sync_rules.proofs.BatchKinds.{by_kind}
 use Rattle.sync_rules.proofs.Elements.{same_id_itself}
-use Rattle.sync_rules.proofs.Outputs.{out_or-cases}
+use Rattle.sync_rules.proofs.Outputs.{option_or-cases}
 use Rattle.sync_rules.proofs.StepKinds.{next_is_step, settling_only}
 
 -- the names of an entry are held in this list
@@ -228,14 +229,14 @@ due_held f shared x now what e =
     let requests : Option Out = requests_due x.mode (wanted_of f x.contact) in
     let send : Option Out = send_due (send_of f shared x.contact x.mode now) in
     let offers : Option Out = offers_due x.mode (offers_of f shared x.contact now) in
-    elim (out_or-cases acks (out_or requests (out_or send offers)) what e) [
+    elim (option_or-cases acks (option_or requests (option_or send offers)) what e) [
       | inl a ↦ acks_pass test (owed_to f x.contact) what
           (all_take test MAX_IDS _ (where_held _ f.held)) a
       | inr r ↦
-          elim (out_or-cases requests (out_or send offers) what r) [
+          elim (option_or-cases requests (option_or send offers) what r) [
             | inl a ↦ requests_pass test x.mode (wanted_of f x.contact) what a
             | inr r ↦
-                elim (out_or-cases send offers what r) [
+                elim (option_or-cases send offers what r) [
                   | inl a ↦ send_pass test _ what
                       (where_held
                       (λ h. is_sendable f shared x.contact h && is_ripe x.mode now

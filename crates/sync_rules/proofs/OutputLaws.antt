@@ -13,7 +13,7 @@ use Rattle.sync_rules.specs.Clients.{Meaning}
 use Rattle.sync_rules.specs.Facts.{Facts, Held, Id, after, after_all, nothing, facts, entries_of, held_at, session_at, contact_in, takes_of}
 use Rattle.sync_rules.specs.Legal.{Legal, Allowed, IsDue, IsSettling, MayBegin}
 use Rattle.sync_rules.specs.Output.{IsOpen, first_records, message_record, out_records, records_by}
-use Rattle.sync_rules.specs.Output.{records_in, sent, sent_on}
+use Rattle.sync_rules.specs.Output.{records_in, sent, sent_if_begun}
 use Rattle.sync_rules.specs.Meeting.{MeetsNoStep, AllMeet}
 use Rattle.sync_rules.specs.Consistency.{HasSessions}
 use Rattle.sync_rules.specs.Growth.{output_by, output_in, output_of, is_silent}
@@ -154,7 +154,8 @@ sent_is clients j n l =
     ∙ (ap (λ (f : Facts). sent_from (session_at f.sessions n) (records_in (facts j).held n es)) whole
     ∙ records_unknown clients nothing (sound_nothing clients) sessions_of_nothing es n (facts j).held refl (legal_meets clients j l) then)
   where
-    from : (o : Option Session) → sent_on o j n ≡ sent_from o (records_in (facts j).held n (entries_of j))
+    from : (o : Option Session) → sent_if_begun o j n
+        ≡ sent_from o (records_in (facts j).held n (entries_of j))
     from None = refl
     from (Some x) = refl
 
@@ -221,7 +222,8 @@ sent_begins clients j x l a =
     ∙ ((λ i. none (session_at (facts j).sessions x.number) refl h b.numbered i ++ (cond (nat_eq_equiv.refl x.number i) (first_records x) [] ++ []))
     ∙ append-nil (first_records x))
   where
-    none : (o : Option Session) → session_at (facts j).sessions x.number ≡ o → HasSessions (facts j) → x.number ≡ (facts j).begun → sent_on o j x.number ≡ []
+    none : (o : Option Session) → session_at (facts j).sessions x.number ≡ o → HasSessions (facts j)
+        → x.number ≡ (facts j).begun → sent_if_begun o j x.number ≡ []
     none None at h is = refl
     none (Some s) at h is = let below = (h.each x.number s at).begun in absurd (omega (arith, below, is))
 
@@ -231,4 +233,8 @@ sent_whole clients j n l = sent_is clients j n l ∙ sym (output_of-is nothing n
 -- a session that has not begun has taken and sent nothing
 pub not_begun_sent : (clients : Meaning) (j : List (List Entry)) (n : ℕ) → Legal clients j → session_at (facts j).sessions n ≡ None
     → (takes_of (facts j).takes n ≡ 0) × (sent j n ≡ [])
-not_begun_sent clients j n l none = ((legal_sessions clients j l).untaken n none, ap (λ (o : Option Session). sent_on o j n) none)
+not_begun_sent clients j n l none = (
+  (legal_sessions clients j l).untaken n none,
+  ap (λ (o : Option Session). sent_if_begun o j n)
+      none,
+)

@@ -1,5 +1,6 @@
 -- What goes out is open to the contact, and what a session sends only grows.
 use Rattle.std.proofs.Common.{◌≡◌, ℕ, zero, suc, Bool, true, false, not, cond, ◌&&◌, ◌||◌, ◌⊎◌, nat_eq, nat_le, List, [], ◌∷◌, ◌++◌, length, take, refl, sym, ◌∙◌, ap, subst, inl, inr, append_assoc, Option, Some, None, is_some}
+use Rattle.std.specs.Option.{option_or}
 use Rattle.std.specs.FinSet as fin_set
 use Rattle.std.proofs.lemmas.Bool.{and_parts, or_cases, or_left, or_right, false≢true}
 use Rattle.sync_ids.specs.declared.lists.TheConstants.{MAX_IDS}
@@ -17,9 +18,12 @@ use Rattle.sync_rules.specs.Lists.{same_id, is_among, In}
 use Rattle.sync_rules.specs.Facts.{Facts, Held, Id, after, after_all, after_batches, nothing, facts, entries_of, held_at, is_held, session_at, contact_in, level_at, is_level_shared, row_at, ExtendsJournal}
 use Rattle.sync_rules.specs.Steps.{fate, fate_held}
 use Rattle.sync_rules.specs.Rounds.{graph_of}
-use Rattle.sync_rules.specs.Sessions.{ids_where, shared_ids, is_sendable, is_author, is_ripe, owed_to, wanted_of, send_of, offers_of, first_id, out_or, acks_due, requests_due, send_due, offers_due, due_by}
+use Rattle.sync_rules.specs.Sessions.{ids_where, shared_ids, is_sendable, is_author, is_ripe}
+use Rattle.sync_rules.specs.Sessions.{owed_to, wanted_of, send_of, offers_of, first_id, acks_due}
+use Rattle.sync_rules.specs.Sessions.{requests_due, send_due, offers_due, due_by}
 use Rattle.sync_rules.specs.Legal.{Legal, IsDue}
-use Rattle.sync_rules.specs.Output.{IsOpen, NamesTheOpen, SendsTheOpen, records_by, records_in, message_record, first_records, sent, sent_on, GoesOnFrom}
+use Rattle.sync_rules.specs.Output.{IsOpen, NamesTheOpen, SendsTheOpen, records_by, records_in}
+use Rattle.sync_rules.specs.Output.{message_record, first_records, sent, sent_if_begun, GoesOnFrom}
 use Rattle.sync_rules.proofs.Elements.{same_id-is, same_id_itself}
 use Rattle.sync_rules.proofs.RoundLaws.{disjoint}
 use Rattle.sync_rules.proofs.Sound.{SoundFacts}
@@ -69,9 +73,10 @@ first-among (x ∷ ids) id e =
 
 -- ---- what is due names what is open
 
-pub out_or-cases : (a b : Option Out) (what : Out) → out_or a b ≡ Some what → (a ≡ Some what) ⊎ (b ≡ Some what)
-out_or-cases None b what e = inr e
-out_or-cases (Some x) b what e = inl e
+pub option_or-cases : (a b : Option Out) (what : Out) → option_or a b ≡ Some what → (a ≡ Some what)
+    ⊎ (b ≡ Some what)
+option_or-cases None b what e = inr e
+option_or-cases (Some x) b what e = inl e
 
 module _ (clients : Meaning) (f : Facts) (s : SoundFacts clients f) where
   held_among : (test : Held → Bool) (id : Id) → FoundBy test f.held id → is_held f.held id ≡ true
@@ -154,13 +159,14 @@ module _ (clients : Meaning) (f : Facts) (s : SoundFacts clients f) where
       let offers : Option Out = offers_due x.mode (offers_of f shared x.contact now) in
       let send : Option Out = send_due (send_of f shared x.contact x.mode now) in
       let requests : Option Out = requests_due x.mode (wanted_of f x.contact) in
-      elim (out_or-cases (acks_due (owed_to f x.contact)) (out_or requests (out_or send offers)) what e) [
+      elim (option_or-cases (acks_due (owed_to f x.contact))
+      (option_or requests (option_or send offers)) what e) [
         | inl a ↦ acks_named x.contact what (owed_to f x.contact) (owed_held x.contact) a
         | inr r ↦
-            elim (out_or-cases requests (out_or send offers) what r) [
+            elim (option_or-cases requests (option_or send offers) what r) [
               | inl a ↦ requests_named x.contact what x.mode (wanted_of f x.contact) a
               | inr r ↦
-                  elim (out_or-cases send offers what r) [
+                  elim (option_or-cases send offers what r) [
                     | inl a ↦ send_named x.contact what (send_of f shared x.contact x.mode now) (send_open shared x.contact x.mode now) a
                     | inr a ↦ offers_named x.contact what x.mode (offers_of f shared x.contact now) (offers_open shared x.contact now) a
                   ]
@@ -228,7 +234,8 @@ entries_of-append [] cs = refl
 entries_of-append (b ∷ bs) cs = ap (λ (t : List Entry). b ++ t) (entries_of-append bs cs) ∙ sym (append_assoc b (entries_of bs) (entries_of cs))
 
 grows_by : (clients : Meaning) (j before more : List (List Entry)) (session : ℕ) → j ≡ before ++ more → Legal clients j → (o : Option Session)
-    → session_at (facts before).sessions session ≡ o → GoesOnFrom (sent j session) (sent_on o before session)
+    → session_at (facts before).sessions session ≡ o
+    → GoesOnFrom (sent j session) (sent_if_begun o before session)
 grows_by clients j before more session stands l None at = record { more = sent j session; goes_on = refl }
 grows_by clients j before more session stands l (Some x) at =
     let es : List Entry = entries_of before in
@@ -249,7 +256,7 @@ grows_by clients j before more session stands l (Some x) at =
     record {
       more = rest;
       goes_on =
-          ap (λ (o : Option Session). sent_on o j session) known
+          ap (λ (o : Option Session). sent_if_begun o j session) known
           ∙ (ap (λ (t : List Record). first_records x ++ t)
           (ap (records_in (facts j).held session) whole
           ∙ (records-append (facts j).held session es (entries_of more)

@@ -1,5 +1,7 @@
 -- The facts about a contact are what the words of entries say.
-use Rattle.std.proofs.Common.{◌≡◌, ℕ, ◌+◌, min, Bool, true, false, not, cond, ◌&&◌, ◌||◌, ◌⊎◌, ◌↔◌, List, [], ◌∷◌, ◌++◌, refl, sym, ◌∙◌, ap, subst, inl, inr, arith, Option, Some, None, nat_eq, eqb-true}
+use Rattle.std.proofs.Common.{◌≡◌, ℕ, ◌+◌, min, Bool, true, false, not, cond, ◌&&◌, ◌||◌, ◌⊎◌, ◌↔◌}
+use Rattle.std.proofs.Common.{List, [], ◌∷◌, ◌++◌, refl, sym, ◌∙◌, ap, subst, inl, inr, arith}
+use Rattle.std.proofs.Common.{Option, Some, None, nat_eq, eqb-true, unwrap_or}
 use Rattle.std.specs.FinMap as fin_map
 use Rattle.std.specs.Cmp.{nat_cmp_total, unsigned_tied}
 use Rattle.std.specs.Ordering.{nat_cmp, eq_by_cmp}
@@ -9,7 +11,10 @@ use Rattle.sync_rules.specs.declared.entries.Entry.{Entry}
 use Rattle.sync_rules.specs.declared.entries.Entry.TheVariants as entry
 use Rattle.sync_rules.specs.declared.entries.Out.TheVariants as out
 use Rattle.sync_rules.specs.Lists.{same_id, is_among, without}
-use Rattle.sync_rules.specs.Facts.{Facts, Id, Row, Wants, pair_cmp, row_or, row_at, one_more_try, expiry_after, contact_of, latency_of, nothing, after, after_all, ids_or, wanted_from, change_each, wanted_by_none, with_want, without_each, is_held, authored, arrived, kept_as}
+use Rattle.sync_rules.specs.Facts.{Facts, Id, Row, Wants, pair_cmp, row_at, one_more_try}
+use Rattle.sync_rules.specs.Facts.{expiry_after, contact_of, latency_of, nothing, after, after_all}
+use Rattle.sync_rules.specs.Facts.{wanted_from, change_each, wanted_by_none, with_want}
+use Rattle.sync_rules.specs.Facts.{without_each, is_held, authored, arrived, kept_as, no_row}
 use Rattle.sync_rules.specs.PeerLaws.{Test, is_with, is_heard, is_shown_seen, is_asked, is_counted_from, is_offered, requests, tries, is_out, is_acked, is_answered, tries_stated, expiry_stated, last_stated, never, NonePasses, IsLast, count_at, EndsWithPassing, SeenLaw, OwedLaw, AskedLaw, WantedLaw, TriesLaw, NoExpiryLaw, ExpiryLaw, CutLaw}
 use Rattle.sync_rules.proofs.Elements.{same_id-is, same_id_swap, among-push}
 use Rattle.sync_rules.proofs.Kept.{after_all-append}
@@ -140,8 +145,9 @@ module _ (first second : Test) where
       let law = toggled-is es in
       (λ h. law.0 (sym same ∙ h), λ l. same ∙ law.1 l)
 
-no_row_yet : (contact : ℕ) (id : Id) → row_at nothing.rows contact id ≡ row_or None
-no_row_yet contact id = ap row_or (fin_map.get-empty pair_cmp (contact, id))
+no_row_yet : (contact : ℕ) (id : Id) → row_at nothing.rows contact id ≡ unwrap_or None no_row
+no_row_yet contact id = ap (λ (o : Option Row). unwrap_or o no_row)
+    (fin_map.get-empty pair_cmp (contact, id))
 
 pub seen_law : (es : List Entry) → SeenLaw es
 seen_law es contact id =
@@ -289,10 +295,12 @@ expiry_law es contact id before behind c earlier later session now what stands p
 
 pub want_put : (wanted : Wants) (c : ℕ) (ids : List Id) (contact : ℕ) → wanted_from (fin_map.insert wanted c ids) contact ≡ cond (nat_eq contact c) ids (wanted_from wanted contact)
 want_put wanted c ids contact =
-    ap ids_or (fin_map.get-insert nat_cmp_total wanted c ids contact)
+    ap (λ (o : Option (List Id)). unwrap_or o [])
+    (fin_map.get-insert nat_cmp_total wanted c ids contact)
     ∙ (chosen (eq_by_cmp nat_cmp contact c) (fin_map.get wanted contact) ∙ ap (λ b. cond b ids (wanted_from wanted contact)) (unsigned_tied contact c))
   where
-    chosen : (b : Bool) (o : Option (List Id)) → ids_or (cond b (Some ids) o) ≡ cond b ids (ids_or o)
+    chosen : (b : Bool) (o : Option (List Id)) → unwrap_or (cond b (Some ids) o) []
+        ≡ cond b ids (unwrap_or o [])
     chosen true o = refl
     chosen false o = refl
 
@@ -306,20 +314,25 @@ pub want_changed : (wanted : Wants) (contact c : ℕ) (g : List Id → List Id)
 want_changed wanted contact c g = want_put wanted c (g (wanted_from wanted c)) contact ∙ same_want wanted contact c g (nat_eq contact c) refl
 
 found_changed : (g : List Id → List Id) (es : List (ℕ × List Id)) (contact : ℕ) → g [] ≡ []
-    → ids_or (fin_map.find nat_cmp contact (change_each g es)) ≡ g (ids_or (fin_map.find nat_cmp contact es))
+    → unwrap_or (fin_map.find nat_cmp contact (change_each g es)) []
+    ≡ g (unwrap_or (fin_map.find nat_cmp contact es) [])
 found_changed g [] contact none = sym none
 found_changed g (e ∷ es) contact none =
-    elim (eq_by_cmp nat_cmp contact e.0) as (λ b. ids_or (cond b (Some (g e.1)) (fin_map.find nat_cmp contact (change_each g es)))
-    ≡ g (ids_or (cond b (Some e.1) (fin_map.find nat_cmp contact es)))) [
+    elim (eq_by_cmp nat_cmp contact e.0) as
+    (λ b. unwrap_or (cond b (Some (g e.1)) (fin_map.find nat_cmp contact (change_each g es))) []
+    ≡ g (unwrap_or (cond b (Some e.1) (fin_map.find nat_cmp contact es)) [])) [
       | true ↦ refl
       | false ↦ found_changed g es contact none
     ]
 
 pub want_dropped : (wanted : Wants) (x : Id) (contact : ℕ) → wanted_from (wanted_by_none wanted x) contact ≡ without x (wanted_from wanted contact)
 want_dropped wanted x contact =
-    ap ids_or (fin_map.get-from_entries nat_cmp_total (change_each (without x) (fin_map.entries wanted)) contact)
+    ap (λ (o : Option (List Id)). unwrap_or o [])
+    (fin_map.get-from_entries nat_cmp_total (change_each (without x) (fin_map.entries wanted))
+    contact)
     ∙ (found_changed (without x) (fin_map.entries wanted) contact refl
-    ∙ ap (λ o. without x (ids_or o)) (sym (fin_map.get-entries wanted contact)))
+    ∙ ap (λ (o : Option (List Id)). without x (unwrap_or o []))
+    (sym (fin_map.get-entries wanted contact)))
 
 -- s: this id; t: the one that is dropped
 drop_step : (s t a n : Bool) → (s ≡ true → t ≡ n) → cond t (a && not n) (s || (a && not n)) ≡ ((s || a) && not n)
@@ -476,7 +489,9 @@ module _ (contact : ℕ) (id : Id) where
 
 pub wanted_law : (es : List Entry) → WantedLaw es
 wanted_law es contact id =
-    let start : is_wanted contact id nothing ≡ false = ap (λ o. is_among (ids_or o) id) (fin_map.get-empty nat_cmp contact) in
+    let start : is_wanted contact id nothing ≡ false =
+    ap (λ (o : Option (List Id)). is_among (unwrap_or o []) id)
+    (fin_map.get-empty nat_cmp contact) in
     let held : Bool = is_held (after_all nothing es).held id in
     let t : Bool = toggled (is_offered contact id) (is_out contact (requests id)) false nothing es in
     let is : is_wanted contact id (after_all nothing es) ≡ (not held && t) = wanted_all contact id nothing es false start in

@@ -1,5 +1,7 @@
 -- What one more entry makes of a row and of the wanted ids.
-use Rattle.std.proofs.Common.{◌≡◌, ℕ, min, Bool, true, false, not, cond, ◌&&◌, ◌||◌, List, [], ◌∷◌, refl, sym, ◌∙◌, ap, Option, Some, None, nat_eq, eqb-true, eq-eqb, arith}
+use Rattle.std.proofs.Common.{◌≡◌, ℕ, min, Bool, true, false, not, cond, ◌&&◌, ◌||◌, List, [], ◌∷◌}
+use Rattle.std.proofs.Common.{refl, sym, ◌∙◌, ap, Option, Some, None, nat_eq, eqb-true, eq-eqb}
+use Rattle.std.proofs.Common.{arith, unwrap_or}
 use Rattle.std.specs.FinMap as fin_map
 use Rattle.std.specs.Ordering.{eq_by_cmp}
 use Rattle.std.proofs.lemmas.Bool.{and_parts, or_parts, not-true}
@@ -9,7 +11,10 @@ use Rattle.sync_rules.specs.declared.entries.Entry.TheVariants as entry
 use Rattle.sync_rules.specs.declared.entries.Out.TheVariants as out
 use Rattle.sync_rules.specs.declared.limits.TheConstants.{MAX_TRIES}
 use Rattle.sync_rules.specs.Lists.{same_id, is_among, has_repeat, firsts, firsts_after, unless_among}
-use Rattle.sync_rules.specs.Facts.{Facts, Id, Row, Rows, pair_cmp, no_row, is_no_row, row_or, row_at, put_row, change_row, change_rows, row_heard, row_seen, row_acked, row_asked, row_offered, row_sent, row_tried, one_more_try, expiry_after, wait_for, contact_of, latency_of, after, after_all}
+use Rattle.sync_rules.specs.Facts.{Facts, Id, Row, Rows, pair_cmp, no_row, is_no_row, row_at}
+use Rattle.sync_rules.specs.Facts.{put_row, change_row, change_rows, row_heard, row_seen, row_acked}
+use Rattle.sync_rules.specs.Facts.{row_asked, row_offered, row_sent, row_tried, one_more_try}
+use Rattle.sync_rules.specs.Facts.{expiry_after, wait_for, contact_of, latency_of, after, after_all}
 use Rattle.sync_rules.specs.PeerLaws.{is_with, is_of, is_heard, is_shown_seen, is_asked}
 use Rattle.sync_rules.specs.PeerLaws.{is_counted_from, tries, is_out, is_acked, is_answered}
 use Rattle.sync_rules.specs.PeerLaws.{tries_stated, expiry_stated, never}
@@ -31,11 +36,13 @@ no_row-is r h =
     let at_once : r.expiry ≡ 0 = eqb-true r.expiry 0 d.1 in
     λ i. record { seen = seen i; owed = owed i; asked = asked i; tries = none i; expiry = at_once i }
 
-row_chosen : (b : Bool) (r : Row) (o : Option Row) → row_or (cond b (Some r) o) ≡ cond b r (row_or o)
+row_chosen : (b : Bool) (r : Row) (o : Option Row) → unwrap_or (cond b (Some r) o) no_row
+    ≡ cond b r (unwrap_or o no_row)
 row_chosen true r o = refl
 row_chosen false r o = refl
 
-row_dropped : (b : Bool) (o : Option Row) → row_or (cond b None o) ≡ cond b no_row (row_or o)
+row_dropped : (b : Bool) (o : Option Row) → unwrap_or (cond b None o) no_row
+    ≡ cond b no_row (unwrap_or o no_row)
 row_dropped true o = refl
 row_dropped false o = refl
 
@@ -52,12 +59,14 @@ pub row_at_put : (rows : Rows) (contact c : ℕ) (id x : Id) (r : Row)
 row_at_put rows contact c id x r =
     elim (is_no_row r) as (λ b. is_no_row r ≡ b → row_at (cond b (fin_map.remove rows (c, x)) (fin_map.insert rows (c, x) r)) contact id ≡ cond (hits contact id c x) r (row_at rows contact id)) [
       | true ↦ λ e.
-          ap row_or (fin_map.get-remove pair_total rows (c, x) (contact, id))
+          ap (λ (o : Option Row). unwrap_or o no_row)
+          (fin_map.get-remove pair_total rows (c, x) (contact, id))
           ∙ (row_dropped (eq_by_cmp pair_cmp (contact, id) (c, x)) (fin_map.get rows (contact, id))
           ∙ (ap (λ b. cond b no_row (row_at rows contact id)) (hits-is contact c id x)
           ∙ ap (λ (w : Row). cond (hits contact id c x) w (row_at rows contact id)) (sym (no_row-is r e))))
       | false ↦ λ e.
-          ap row_or (fin_map.get-insert pair_total rows (c, x) r (contact, id))
+          ap (λ (o : Option Row). unwrap_or o no_row)
+          (fin_map.get-insert pair_total rows (c, x) r (contact, id))
           ∙ (row_chosen (eq_by_cmp pair_cmp (contact, id) (c, x)) r (fin_map.get rows (contact, id))
           ∙ ap (λ b. cond b r (row_at rows contact id)) (hits-is contact c id x))
     ] refl

@@ -1,5 +1,7 @@
 -- What the plain functions find is what the facts say.
-use Rattle.std.proofs.Common.{◌≡◌, ℕ, Bool, true, false, cond, ◌&&◌, ◌||◌, nat_eq, List, [], ◌∷◌, ◌++◌, refl, sym, ◌∙◌, ap, Option, Some, None, is_some}
+use Rattle.std.proofs.Common.{◌≡◌, ℕ, Bool, true, false, cond, ◌&&◌, ◌||◌, nat_eq, List, [], ◌∷◌}
+use Rattle.std.proofs.Common.{◌++◌, refl, sym, ◌∙◌, ap, Option, Some, None, is_some, unwrap_or}
+use Rattle.std.specs.Option.{option_or}
 use Rattle.std.specs.List.{list_any}
 use Rattle.std.specs.FinSet as fin_set
 use Rattle.std.specs.FinMap as fin_map
@@ -13,8 +15,11 @@ use Rattle.sync_rules.specs.declared.entries.Level.{Level}
 use Rattle.sync_rules.specs.declared.entries.Level.TheVariants as level
 use Rattle.sync_rules.specs.Clients.{Meaning}
 use Rattle.sync_rules.specs.Lists.{same_id, is_among}
-use Rattle.sync_rules.specs.Facts.{Facts, Held, Known, Id, Pair, LevelMap, pair_cmp, after, after_all, after_batches, nothing, facts, entries_of, held_at, group_at, level_at, level_or, put_level, authored, arrived, kept_as, known_of, contact_of}
-use Rattle.sync_rules.specs.Steps.{step, first_step, first_or_next, next, is_beside, is_elsewhere}
+use Rattle.sync_rules.specs.Facts.{Facts, Held, Known, Id, Pair, LevelMap, pair_cmp, after}
+use Rattle.sync_rules.specs.Facts.{after_all, after_batches, nothing, facts, entries_of, held_at}
+use Rattle.sync_rules.specs.Facts.{group_at, level_at, put_level, authored, arrived, kept_as}
+use Rattle.sync_rules.specs.Facts.{known_of, contact_of}
+use Rattle.sync_rules.specs.Steps.{step, first_step, next, is_beside, is_elsewhere}
 use Rattle.sync_rules.specs.EntryTests.{judges, delivers, invalidates}
 use Rattle.sync_rules.specs.Scans.{message_at, def_at, is_beside_message, is_elsewhere_message, message_of, def_of, message_named, def_named, first_of_two, first_message, first_message_in, first_def, first_def_in, any_entry, level_then, last_level, last_level_in, step_brought, first_step_of, first_step_in}
 use Rattle.sync_rules.proofs.Elements.{any-append}
@@ -142,18 +147,21 @@ pair_total = then_total (on_total (λ (p : Pair). p.0) nat_cmp_total) (on_total 
 pub pair_tied : (a b : ℕ) (x y : Id) → eq_by_cmp pair_cmp (a, x) (b, y) ≡ (nat_eq a b && same_id x y)
 pair_tied a b x y = sym (both_tied (nat_eq a b) (same_id x y) (nat_cmp a b) (slice_cmp nat_cmp x y) (unsigned_ties a b) (texts_ties x y))
 
-level_chosen : (b : Bool) (x : Level) (o : Option Level) → level_or (cond b (Some x) o) ≡ cond b x (level_or o)
+level_chosen : (b : Bool) (x : Level) (o : Option Level)
+    → unwrap_or (cond b (Some x) o) level.Invisible ≡ cond b x (unwrap_or o level.Invisible)
 level_chosen true x o = refl
 level_chosen false x o = refl
 
-level_dropped : (b : Bool) (o : Option Level) → level_or (cond b None o) ≡ cond b level.Invisible (level_or o)
+level_dropped : (b : Bool) (o : Option Level) → unwrap_or (cond b None o) level.Invisible
+    ≡ cond b level.Invisible (unwrap_or o level.Invisible)
 level_dropped true o = refl
 level_dropped false o = refl
 
 level_put : (levels : LevelMap) (contact c : ℕ) (group g : Id) (l : Level)
     → level_at (fin_map.insert levels (c, g) l) contact group ≡ cond (nat_eq contact c && same_id group g) l (level_at levels contact group)
 level_put levels contact c group g l =
-    ap level_or (fin_map.get-insert pair_total levels (c, g) l (contact, group))
+    ap (λ (o : Option Level). unwrap_or o level.Invisible)
+    (fin_map.get-insert pair_total levels (c, g) l (contact, group))
     ∙ (level_chosen (eq_by_cmp pair_cmp (contact, group) (c, g)) l (fin_map.get levels (contact, group))
     ∙ ap (λ b. cond b l (level_at levels contact group)) (pair_tied contact c group g))
 
@@ -161,7 +169,8 @@ level_put levels contact c group g l =
 pub level_at_set : (levels : LevelMap) (contact c : ℕ) (group g : Id) (l : Level)
     → level_at (put_level levels (c, g) l) contact group ≡ cond (nat_eq contact c && same_id group g) l (level_at levels contact group)
 level_at_set levels contact c group g level.Invisible =
-    ap level_or (fin_map.get-remove pair_total levels (c, g) (contact, group))
+    ap (λ (o : Option Level). unwrap_or o level.Invisible)
+    (fin_map.get-remove pair_total levels (c, g) (contact, group))
     ∙ (level_dropped (eq_by_cmp pair_cmp (contact, group) (c, g)) (fin_map.get levels (contact, group))
     ∙ ap (λ b. cond b level.Invisible (level_at levels contact group)) (pair_tied contact c group g))
 level_at_set levels contact c group g level.Visible = level_put levels contact c group g level.Visible
@@ -186,44 +195,51 @@ level_after_batches f (b ∷ bs) contact group =
 
 pub level_found : (contact : ℕ) (group : Id) (j : List (List Entry)) → last_level_in contact group level.Invisible j ≡ level_at (facts j).levels contact group
 level_found contact group j =
-    ap (λ l. last_level_in contact group l j) (sym (ap level_or (fin_map.get-empty pair_cmp (contact, group))))
+    ap (λ l. last_level_in contact group l j)
+    (sym (ap (λ (o : Option Level). unwrap_or o level.Invisible)
+    (fin_map.get-empty pair_cmp (contact, group))))
     ∙ sym (level_after_batches nothing j contact group)
 
 -- ---- the next step
 
 module _ (clients : Meaning) (f : Facts) where
-  next-none : (a : Option Entry) → first_or_next a None ≡ a
+  next-none : (a : Option Entry) → option_or a None ≡ a
   next-none None = refl
   next-none (Some e) = refl
 
-  next-assoc : (a b c : Option Entry) → first_or_next (first_or_next a b) c ≡ first_or_next a (first_or_next b c)
+  next-assoc : (a b c : Option Entry) → option_or (option_or a b) c ≡ option_or a (option_or b c)
   next-assoc None b c = refl
   next-assoc (Some e) b c = refl
 
-  first_step-push : (hs : List Held) (x : Held) → first_step clients f (hs ++ x ∷ []) ≡ first_or_next (first_step clients f hs) (step clients f x)
+  first_step-push : (hs : List Held) (x : Held) → first_step clients f (hs ++ x ∷ [])
+      ≡ option_or (first_step clients f hs) (step clients f x)
   first_step-push [] x = next-none (step clients f x)
   first_step-push (h ∷ hs) x =
-      ap (first_or_next (step clients f h)) (first_step-push hs x)
+      ap (option_or (step clients f h)) (first_step-push hs x)
       ∙ sym (next-assoc (step clients f h) (first_step clients f hs) (step clients f x))
 
-  steps_after_one : (g : Facts) (e : Entry) → first_step clients f (after g e).held ≡ first_or_next (first_step clients f g.held) (step_brought clients f (message_of e))
+  steps_after_one : (g : Facts) (e : Entry) → first_step clients f (after g e).held
+      ≡ option_or (first_step clients f g.held) (step_brought clients f (message_of e))
   steps_after_one g (entry.Author m) = first_step-push g.held (authored m)
   steps_after_one g (entry.Arrive s m) = first_step-push g.held (arrived (contact_of g.sessions s) m)
   steps_after_one g (entry.Kept from m) = first_step-push g.held (kept_as from m)
   steps_after_one g _ = sym (next-none (first_step clients f g.held))
 
-  steps_after_all : (g : Facts) (es : List Entry) → first_step clients f (after_all g es).held ≡ first_or_next (first_step clients f g.held) (first_step_of clients f es)
+  steps_after_all : (g : Facts) (es : List Entry) → first_step clients f (after_all g es).held
+      ≡ option_or (first_step clients f g.held) (first_step_of clients f es)
   steps_after_all g [] = sym (next-none (first_step clients f g.held))
   steps_after_all g (e ∷ es) =
       steps_after_all (after g e) es
-      ∙ (ap (λ x. first_or_next x (first_step_of clients f es)) (steps_after_one g e)
+      ∙ (ap (λ x. option_or x (first_step_of clients f es)) (steps_after_one g e)
       ∙ next-assoc (first_step clients f g.held) (step_brought clients f (message_of e)) (first_step_of clients f es))
 
-  pub steps_after_batches : (g : Facts) (bs : List (List Entry)) → first_step clients f (after_batches g bs).held ≡ first_or_next (first_step clients f g.held) (first_step_in clients f bs)
+  pub steps_after_batches : (g : Facts) (bs : List (List Entry))
+      → first_step clients f (after_batches g bs).held ≡ option_or (first_step clients f g.held)
+      (first_step_in clients f bs)
   steps_after_batches g [] = sym (next-none (first_step clients f g.held))
   steps_after_batches g (b ∷ bs) =
       steps_after_batches (after_all g b) bs
-      ∙ (ap (λ x. first_or_next x (first_step_in clients f bs)) (steps_after_all g b)
+      ∙ (ap (λ x. option_or x (first_step_in clients f bs)) (steps_after_all g b)
       ∙ next-assoc (first_step clients f g.held) (first_step_of clients f b) (first_step_in clients f bs))
 
 pub next_found : (clients : Meaning) (j : List (List Entry)) → first_step_in clients (facts j) j ≡ next clients (facts j)

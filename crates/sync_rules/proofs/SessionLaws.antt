@@ -1,5 +1,7 @@
 -- The sessions of a legal journal: numbered in order, of known contacts, and one that has not begun has taken nothing.
-use Rattle.std.proofs.Common.{◌≡◌, ℕ, ◌+◌, ◌<◌, Bool, true, false, cond, ◌⊎◌, nat_eq, eqb-true, List, [], ◌∷◌, ◌++◌, refl, sym, ◌∙◌, ap, subst, inl, inr, arith, Option, Some, None, is_some}
+use Rattle.std.proofs.Common.{◌≡◌, ℕ, ◌+◌, ◌<◌, Bool, true, false, cond, ◌⊎◌, nat_eq, eqb-true}
+use Rattle.std.proofs.Common.{List, [], ◌∷◌, ◌++◌, refl, sym, ◌∙◌, ap, subst, inl, inr, arith}
+use Rattle.std.proofs.Common.{Option, Some, None, is_some, unwrap_or}
 use Rattle.std.specs.List.{AllByRecursion}
 use Rattle.std.specs.FinMap as fin_map
 use Rattle.std.specs.Ordering.{nat_cmp}
@@ -8,7 +10,8 @@ use Rattle.sync_rules.specs.declared.entries.Entry.{Entry}
 use Rattle.sync_rules.specs.declared.entries.Entry.TheVariants as entry
 use Rattle.sync_rules.specs.declared.entries.Session.{Session}
 use Rattle.sync_rules.specs.Clients.{Meaning}
-use Rattle.sync_rules.specs.Facts.{Facts, after, after_all, nothing, facts, entries_of, session_at, contact_of, contact_in, takes_of, count_or}
+use Rattle.sync_rules.specs.Facts.{Facts, after, after_all, nothing, facts, entries_of, session_at}
+use Rattle.sync_rules.specs.Facts.{contact_of, contact_in, takes_of}
 use Rattle.sync_rules.specs.Legal.{Legal, MayBegin}
 use Rattle.sync_rules.specs.Meeting.{MeetsNoStep, AllMeet}
 use Rattle.sync_rules.specs.Consistency.{AreAscending, IsSessionOf, HasSessions}
@@ -181,7 +184,7 @@ sessions_of_nothing = record {
   ascending = tt;
   below = tt;
   each = λ n s at. cc;
-  untaken = λ n none. ap count_or (fin_map.get-empty nat_cmp n);
+  untaken = λ n none. ap (λ (o : Option ℕ). unwrap_or o 0) (fin_map.get-empty nat_cmp n);
 }
 
 -- ---- contacts of sessions

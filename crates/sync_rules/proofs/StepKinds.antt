@@ -1,5 +1,6 @@
 -- What the next step is, and what settling, outputs and records leave of it and of the facts.
 use Rattle.std.proofs.Common.{◌≡◌, ℕ, Bool, true, false, cond, nat_eq, List, [], ◌∷◌, ◌++◌, refl, sym, ◌∙◌, ap, subst, inl, inr, Some, None, is_some}
+use Rattle.std.specs.Option.{option_or}
 use Rattle.std.specs.List.{list_all}
 use Rattle.std.proofs.lemmas.Bool.{and_parts, and_from, false≢true}
 use Rattle.sync_ids.specs.Values.{MessageValue}
@@ -13,7 +14,7 @@ use Rattle.sync_rules.specs.declared.states.Start.TheVariants as start
 use Rattle.sync_rules.specs.Clients.{Meaning}
 use Rattle.sync_rules.specs.Lists.{same_id, firsts, In}
 use Rattle.sync_rules.specs.Facts.{Facts, Held, Id, Known, Ids, after, after_all, after_batches, facts, held_at, is_held, contact_of, start_after, takes_of}
-use Rattle.sync_rules.specs.Steps.{step, first_step, first_or_next, next, IsSettled}
+use Rattle.sync_rules.specs.Steps.{step, first_step, next, IsSettled}
 use Rattle.sync_rules.specs.Sessions.{taken, taken_message, taken_message_of, taken_acks, taken_requests, taken_offers, taken_offer, one_if, is_welcome, is_remembered, room_after}
 use Rattle.sync_rules.specs.Legal.{Allowed, IsSettling, AllSettling}
 use Rattle.sync_rules.specs.Hearing.{SettlesJournal}
@@ -61,7 +62,7 @@ first_step_same : (clients : Meaning) (f g : Facts) (groups : List Known) (held 
     → first_step clients (with_steps f groups held judged invalid delivered) hs ≡ first_step clients (with_steps g groups held judged invalid delivered) hs
 first_step_same clients f g groups held judged invalid delivered [] = refl
 first_step_same clients f g groups held judged invalid delivered (h ∷ hs) =
-    ap (first_or_next (step clients (with_steps g groups held judged invalid delivered) h))
+    ap (option_or (step clients (with_steps g groups held judged invalid delivered) h))
     (first_step_same clients f g groups held judged invalid delivered hs)
 
 pub same_next : (clients : Meaning) (f later : Facts) → HasSameSteps f later → next clients later ≡ next clients f

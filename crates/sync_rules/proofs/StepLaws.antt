@@ -1,5 +1,6 @@
 -- What the step of a message tells, and what the next step of a journal tells.
 use Rattle.std.proofs.Common.{◌≡◌, Bool, true, false, cond, ◌⊎◌, List, [], ◌∷◌, refl, ◌∙◌, ap, subst, inl, inr, Option, Some, None}
+use Rattle.std.specs.Option.{option_or}
 use Rattle.std.specs.List.{list_any, list_all}
 use Rattle.std.specs.FinSet as fin_set
 use Rattle.sync_rules.specs.declared.answers.Judgement.{Judgement}
@@ -8,7 +9,8 @@ use Rattle.sync_rules.specs.declared.entries.Entry.{Entry}
 use Rattle.sync_rules.specs.declared.entries.Entry.TheVariants as entry
 use Rattle.sync_rules.specs.Clients.{Meaning}
 use Rattle.sync_rules.specs.Facts.{Facts, Held, Id}
-use Rattle.sync_rules.specs.Steps.{verdict_in, is_failing, is_served, is_ended, step, step_by, step_open, step_accepted, first_step, first_or_next, next}
+use Rattle.sync_rules.specs.Steps.{verdict_in, is_failing, is_served, is_ended, step, step_by}
+use Rattle.sync_rules.specs.Steps.{step_open, step_accepted, first_step, next}
 use Rattle.sync_rules.specs.Lists.{In}
 use Rattle.sync_rules.specs.EntryTests.{IsSettlingEntry, IsSettlingEntry}
 
@@ -118,7 +120,8 @@ pub record HasStep (clients : Meaning) (f : Facts) (hs : List Held) (e : Entry) 
 pub first_step_some : (clients : Meaning) (f : Facts) (hs : List Held) (e : Entry) → first_step clients f hs ≡ Some e → HasStep clients f hs e
 first_step_some clients f [] e is = cc
 first_step_some clients f (h ∷ hs) e is =
-    elim (step clients f h) as (λ o. step clients f h ≡ o → first_or_next o (first_step clients f hs) ≡ Some e → HasStep clients f (h ∷ hs) e) [
+    elim (step clients f h) as (λ o. step clients f h ≡ o → option_or o (first_step clients f hs)
+    ≡ Some e → HasStep clients f (h ∷ hs) e) [
       | None ↦ λ s t.
           let later = first_step_some clients f hs e t in
           record { of = later.of; inside = inr later.inside; steps = later.steps }
@@ -128,7 +131,8 @@ first_step_some clients f (h ∷ hs) e is =
 pub first_step_none : (clients : Meaning) (f : Facts) (hs : List Held) → first_step clients f hs ≡ None → (h : Held) → In h hs → step clients f h ≡ None
 first_step_none clients f [] is h inside = absurd inside
 first_step_none clients f (x ∷ hs) is h inside =
-    elim (step clients f x) as (λ o. step clients f x ≡ o → first_or_next o (first_step clients f hs) ≡ None → step clients f h ≡ None) [
+    elim (step clients f x) as (λ o. step clients f x ≡ o → option_or o (first_step clients f hs)
+    ≡ None → step clients f h ≡ None) [
       | None ↦ λ s t.
           elim inside [
             | inl e ↦ ap (step clients f) e ∙ s

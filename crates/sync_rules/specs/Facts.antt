@@ -1,7 +1,9 @@
 -- What a journal makes known. A journal is a list of batches, and a batch is a list of one or more entries. Each part of
 -- the facts is read off the entries by one scan from the first to the last: for each part there is one function that says
 -- what one more entry makes of it.
-use Rattle.std.specs.Prelude.{◌≡◌, ℕ, ◌+◌, ◌*◌, ◌-◌, ◌^◌, min, Bool, true, false, not, cond, ◌&&◌, ◌||◌, nat_eq, List, [], ◌∷◌, ◌++◌, Option, Some, None, is_some}
+use Rattle.std.specs.Prelude.{◌≡◌, ℕ, ◌+◌, ◌*◌, ◌-◌, ◌^◌, min, Bool, true, false, not, cond, ◌&&◌}
+use Rattle.std.specs.Prelude.{◌||◌, nat_eq, List, [], ◌∷◌, ◌++◌, Option, Some, None, is_some}
+use Rattle.std.specs.Prelude.{unwrap_or}
 use Rattle.std.specs.Ordering.{nat_cmp, ordering_then}
 use Rattle.std.specs.declared.cmp.Ordering.{Ordering}
 use Rattle.std.specs.Cmp.Lexicographic.{slice_cmp}
@@ -138,13 +140,9 @@ latency_in (Some s) = s.latency
 abbrev pub latency_of : List Session → ℕ → ℕ
 latency_of sessions n = latency_in (session_at sessions n)
 
-abbrev pub level_or : Option Level → Level
-level_or None = level.Invisible
-level_or (Some l) = l
-
 -- a group's level for a contact (BSP, "Group visibility"): what was last set, else Invisible
 abbrev pub level_at : LevelMap → ℕ → Id → Level
-level_at levels contact group = level_or (fin_map.get levels (contact, group))
+level_at levels contact group = unwrap_or (fin_map.get levels (contact, group)) level.Invisible
 
 abbrev pub is_invisible : Level → Bool
 is_invisible level.Invisible = true
@@ -162,29 +160,17 @@ no_row = record { seen = false; owed = false; asked = false; tries = 0; expiry =
 abbrev pub is_no_row : Row → Bool
 is_no_row r = not r.seen && (not r.owed && (not r.asked && (nat_eq r.tries 0 && nat_eq r.expiry 0)))
 
-abbrev pub row_or : Option Row → Row
-row_or None = no_row
-row_or (Some r) = r
-
 -- the row of a contact and a message
 abbrev pub row_at : Rows → ℕ → Id → Row
-row_at rows contact id = row_or (fin_map.get rows (contact, id))
-
-abbrev pub ids_or : Option (List Id) → List Id
-ids_or None = []
-ids_or (Some ids) = ids
+row_at rows contact id = unwrap_or (fin_map.get rows (contact, id)) no_row
 
 -- the ids wanted from a contact
 abbrev pub wanted_from : Wants → ℕ → List Id
-wanted_from wanted contact = ids_or (fin_map.get wanted contact)
-
-abbrev pub count_or : Option ℕ → ℕ
-count_or None = 0
-count_or (Some n) = n
+wanted_from wanted contact = unwrap_or (fin_map.get wanted contact) []
 
 -- how many records were taken on a session
 abbrev pub takes_of : fin_map.FinMap nat_cmp ℕ → ℕ → ℕ
-takes_of takes n = count_or (fin_map.get takes n)
+takes_of takes n = unwrap_or (fin_map.get takes n) 0
 
 -- ---- what one more entry makes of each part
 

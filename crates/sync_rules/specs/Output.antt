@@ -71,14 +71,15 @@ nonce_record (Some nonce) = record_kind.Priority nonce ∷ []
 abbrev pub first_records : Session → List Record
 first_records s = record_kind.Versions (0 ∷ []) ∷ nonce_record s.nonce
 
-abbrev pub sent_on : Option Session → List (List Entry) → ℕ → List Record
-sent_on None journal session = []
-sent_on (Some s) journal session = first_records s ++ records_in (facts journal).held session (entries_of journal)
+abbrev pub sent_if_begun : Option Session → List (List Entry) → ℕ → List Record
+sent_if_begun None journal session = []
+sent_if_begun (Some s) journal session = first_records s ++ records_in (facts journal).held session
+    (entries_of journal)
 
 -- what a session sends, as a list of records: none where there is no such session; else what it begins with, and a record
 -- for each of its outputs
 abbrev pub sent : List (List Entry) → ℕ → List Record
-sent journal session = sent_on (session_at (facts journal).sessions session) journal session
+sent journal session = sent_if_begun (session_at (facts journal).sessions session) journal session
 
 -- one list of records goes on from another
 pub record GoesOnFrom (records before : List Record) : Type 0 where

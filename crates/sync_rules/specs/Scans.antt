@@ -1,6 +1,7 @@
 -- What the plain functions find by going over entries from the first to the last; the contracts of the public ones speak of
 -- the facts alone.
 use Rattle.std.specs.Prelude.{ℕ, Bool, true, false, cond, ◌&&◌, nat_eq, List, [], ◌∷◌, Option, Some, None}
+use Rattle.std.specs.Option.{option_or}
 use Rattle.std.specs.List.{list_any}
 use Rattle.sync_ids.specs.Values.{GroupValue, MessageValue}
 use Rattle.sync_ids.specs.Ids.{group_id_of, message_id_of}
@@ -10,7 +11,7 @@ use Rattle.sync_rules.specs.declared.entries.Level.{Level}
 use Rattle.sync_rules.specs.Clients.{Meaning}
 use Rattle.sync_rules.specs.Lists.{same_id}
 use Rattle.sync_rules.specs.Facts.{Facts, Held, Known, Id, authored}
-use Rattle.sync_rules.specs.Steps.{step, first_or_next}
+use Rattle.sync_rules.specs.Steps.{step}
 
 -- the message that an entry brings
 abbrev pub message_of : Entry → Option MessageValue
@@ -79,11 +80,13 @@ step_brought clients f (Some m) = step clients f (authored m)
 
 abbrev pub first_step_of : Meaning → Facts → List Entry → Option Entry
 first_step_of clients f [] = None
-first_step_of clients f (e ∷ es) = first_or_next (step_brought clients f (message_of e)) (first_step_of clients f es)
+first_step_of clients f (e ∷ es) = option_or (step_brought clients f (message_of e))
+    (first_step_of clients f es)
 
 abbrev pub first_step_in : Meaning → Facts → List (List Entry) → Option Entry
 first_step_in clients f [] = None
-first_step_in clients f (b ∷ bs) = first_or_next (first_step_of clients f b) (first_step_in clients f bs)
+first_step_in clients f (b ∷ bs) =
+    option_or (first_step_of clients f b) (first_step_in clients f bs)
 
 -- what a look-up by id finds
 abbrev pub message_at : Option Held → Option MessageValue

@@ -1,5 +1,6 @@
 -- What a record is taken as, and what is due on a session.
 use Rattle.std.specs.Prelude.{ℕ, ◌-◌, Bool, true, false, not, cond, ◌&&◌, ◌||◌, nat_le, nat_lt, List, [], ◌∷◌, ◌++◌, length, take, Option, Some, None, is_some}
+use Rattle.std.specs.Option.{option_or}
 use Rattle.sync_ids.specs.Values.{MessageValue}
 use Rattle.sync_ids.specs.Ids.{message_id_of}
 use Rattle.sync_ids.specs.declared.lists.TheConstants.{MAX_IDS}
@@ -158,11 +159,6 @@ offers_of f shared contact now =
     (ids_where (λ h. is_sendable f shared contact h
     && (not (row_at f.rows contact h.id).asked && nat_le (row_at f.rows contact h.id).expiry now)) f.held)
 
--- the first of two outputs that exists
-abbrev pub out_or : Option Out → Option Out → Option Out
-out_or None later = later
-out_or (Some what) later = Some what
-
 abbrev pub acks_due : List Id → Option Out
 acks_due [] = None
 acks_due (id ∷ ids) = Some (out.Acks (id ∷ ids))
@@ -185,9 +181,9 @@ offers_due mode_kind.Interactive (id ∷ ids) = Some (out.Offers (id ∷ ids))
 -- message; in interactive mode offers
 abbrev pub due_by : Facts → List Id → Session → ℕ → Option Out
 due_by f shared s now =
-    out_or (acks_due (owed_to f s.contact))
-    (out_or (requests_due s.mode (wanted_of f s.contact))
-    (out_or (send_due (send_of f shared s.contact s.mode now))
+    option_or (acks_due (owed_to f s.contact))
+    (option_or (requests_due s.mode (wanted_of f s.contact))
+    (option_or (send_due (send_of f shared s.contact s.mode now))
     (offers_due s.mode (offers_of f shared s.contact now))))
 
 abbrev pub due : Meaning → Facts → Session → ℕ → Option Out

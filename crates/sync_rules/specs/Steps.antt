@@ -1,5 +1,6 @@
 -- The one step that is open to a held message, the next step of a journal, and when a journal is settled.
 use Rattle.std.specs.Prelude.{◌≡◌, ℕ, Bool, true, false, cond, ◌&&◌, ◌||◌, List, [], ◌∷◌, Option, Some, None}
+use Rattle.std.specs.Option.{option_or}
 use Rattle.std.specs.List.{list_any, list_all}
 use Rattle.std.specs.FinSet as fin_set
 use Rattle.sync_ids.specs.Values.{GroupValue, MessageValue}
@@ -78,13 +79,9 @@ step_by f h (Some answer) = cond (is_ended f h.id) None (step_open f h answer)
 abbrev pub step : Meaning → Facts → Held → Option Entry
 step clients f h = step_by f h (answer_of clients f h)
 
-abbrev pub first_or_next : Option Entry → Option Entry → Option Entry
-first_or_next (Some e) later = Some e
-first_or_next None later = later
-
 abbrev pub first_step : Meaning → Facts → List Held → Option Entry
 first_step clients f [] = None
-first_step clients f (h ∷ hs) = first_or_next (step clients f h) (first_step clients f hs)
+first_step clients f (h ∷ hs) = option_or (step clients f h) (first_step clients f hs)
 
 -- the next step: that of the first held message, in order of arrival, that has one
 abbrev pub next : Meaning → Facts → Option Entry

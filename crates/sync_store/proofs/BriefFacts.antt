@@ -1,9 +1,9 @@
 -- What a brief account leaves of the facts.
-use Rattle.std.proofs.Common.{◌≡◌, ℕ, ◌+◌, List, [], ◌∷◌, refl, ap, ◌∙◌}
+use Rattle.std.proofs.Common.{◌≡◌, ℕ, ◌+◌, List, [], ◌∷◌, refl, ap, ◌∙◌, Option, unwrap_or}
 use Rattle.std.specs.FinMap as fin_map
 use Rattle.std.specs.Ordering.{nat_cmp}
 use Rattle.sync_rules.specs.Clients.{Meaning}
-use Rattle.sync_rules.specs.Facts.{Facts, Held, count_or, takes_of}
+use Rattle.sync_rules.specs.Facts.{Facts, Held, takes_of}
 use Rattle.sync_rules.specs.Left.{left_among, left_for, left_of}
 use Rattle.sync_rules.specs.Steps.{IsSettled}
 use Rattle.sync_rules.proofs.StepKinds.{same_next}
@@ -11,7 +11,7 @@ use Rattle.brief_account.specs.Brief.{without_sessions}
 
 -- no record was taken
 pub none_taken : (f : Facts) (session : ℕ) → takes_of (without_sessions f).takes session ≡ 0
-none_taken f session = ap count_or (fin_map.get-empty nat_cmp session)
+none_taken f session = ap (λ (o : Option ℕ). unwrap_or o 0) (fin_map.get-empty nat_cmp session)
 
 left_same : (f : Facts) (hs : List Held) → left_among (without_sessions f) hs ≡ left_among f hs
 left_same f [] = refl

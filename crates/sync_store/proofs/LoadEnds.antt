@@ -1,11 +1,12 @@
 -- The begin and the end of a load.
 use Rattle.std.proofs.Common.{◌≡◌, ℕ, ◌+◌, ◌≤◌, false, List, [], length, map, take, refl, sym, ap}
+use Rattle.std.proofs.Common.{unwrap_or}
 use Rattle.std.proofs.Common.{subst, ◌∙◌, arith}
 use Rattle.std.specs.Prelude.{Option, None, Some, Ok, Err}
 use Rattle.sync_rules.specs.Clients.{Meaning}
 use Rattle.std.specs.FinMap as fin_map
 use Rattle.std.specs.Ordering.{nat_cmp}
-use Rattle.sync_rules.specs.Facts.{Facts, count_or, facts, nothing, takes_of}
+use Rattle.sync_rules.specs.Facts.{Facts, facts, nothing, takes_of}
 use Rattle.sync_rules.specs.Steps.{answer_of}
 use Rattle.outside.specs.Files.{File, IsFileImage, IsImage, SyncsBoth, Two, file_of, read_files}
 use Rattle.outside.specs.Files.{settled}
@@ -92,7 +93,7 @@ barrier_told o0 o1 two settles told =
 no_records : (f : Facts) (session end : ℕ) → f ≡ nothing → takes_of f.takes session ≤ end
 no_records f session end empty =
     let none : takes_of f.takes session ≡ 0 = ap (λ (g : Facts). takes_of g.takes session) empty
-    ∙ ap count_or (fin_map.get-empty nat_cmp session) in
+    ∙ ap (λ (o : Option ℕ). unwrap_or o 0) (fin_map.get-empty nat_cmp session) in
     omega (arith, none)
 
 -- no batch was read yet

@@ -33,9 +33,9 @@ use Rattle.store_commands.specs.declared.commit.Settling.{Settling}
 use Rattle.store_commands.specs.declared.commit.Settling.TheVariants as settling
 use Rattle.store_commands.specs.Commit.{HoweverSettled, MayMigrate, WasSpent, needed_by}
 use Rattle.store_commands.specs.Compact.{HasCompacted, MayRenew, brief_len, compacting}
-use Rattle.store_commands.specs.Entries.{HasAdded, adding, refusal}
+use Rattle.store_commands.specs.Entries.{HasAdded, adding, plan_refusal}
 use Rattle.store_commands.specs.Init.{HasBegun}
-use Rattle.store_commands.specs.Plans.{Plan, adds}
+use Rattle.store_commands.specs.Plans.{EntryPlan, adds}
 use Rattle.store_commands.specs.Post.{HasPosted, PostStops, PostsBody, group_test}
 use Rattle.store_commands.specs.Looking.{HasLooked, denial}
 use Rattle.store_commands.specs.Show.{PrintsText}
@@ -270,17 +270,18 @@ module _ (clients : Meaning) (old new : Outside) (input input' out out' : Stream
     | inr worked ↦ did_done test work j stood did.run.same_told roomy came worked
   ]
 
-  added_done : (plan : Facts → Plan) (asked : Settling) (came : Outcome)
+  added_done : (plan : Facts → EntryPlan) (asked : Settling) (came : Outcome)
       → HasAdded clients plan asked old new out out' came → MayAddPlanned clients plan old.files
       → Done came
   added_done plan asked came did may =
-      worked_done (λ f. refusal (plan f)) (λ f. adding clients asked (plan f)) may.before may.stood
+      worked_done (λ f. plan_refusal (plan f)) (λ f. adding clients asked (plan f)) may.before
+      may.stood
       (λ two' full. not_full clients asked may.entry old.files may.stood.0 two' may.before may.room
       may.next may.stood.1
-      (subst (λ (p : Plan).
+      (subst (λ (p : EntryPlan).
       IsWorkFull clients (adding clients asked p) may.before (read_files may.stood.0) two')
       may.planned full))
-      (ap refusal may.planned) came did
+      (ap plan_refusal may.planned) came did
 
   compacted_done : (came : Outcome) → HasCompacted clients old new out out' came
       → MayCompact clients old.files → Done came

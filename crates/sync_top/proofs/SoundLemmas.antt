@@ -19,9 +19,10 @@ use Rattle.sync_rules.proofs.StepLaws.{next_is_settling}
 use Rattle.entry_codec.specs.Standing.{Standing}
 use Rattle.file_standing.specs.Standing.{stands}
 use Rattle.entry_codec.specs.StandingLaws.{StandingIsLegal}
+use Rattle.sync_course.specs.Story.{AllSuitPlanned, SuitsPlanned}
 use Rattle.sync_course.specs.Suits.{TakesHeard}
 use Rattle.sync_node.specs.Output.{heard_on, sent_on}
-use Rattle.sync_node.specs.Suits.{AllSuitSessions, SuitsSessions, SuitsRun}
+use Rattle.sync_node.specs.Suits.{SuitsRun}
 use Rattle.commands.specs.declared.command.Command.TheVariants as command
 use Rattle.sync_words.specs.declared.link_words.LinkWords.{LinkWords}
 use Rattle.commands.specs.Reading.{Asked}
@@ -42,15 +43,15 @@ takes_no_step clients f session k rest settling =
 -- a batch of a run suits it at its place
 suits_at : (clients : Meaning) (first : ℕ) (plans : List Session) (heard : ℕ → List ℕ) (f : Facts)
     (before behind : Journal) (b : List Entry)
-    → AllSuitSessions clients first plans heard f (before ++ b ∷ behind)
-    → SuitsSessions clients first plans heard (after_batches f before) b
+    → AllSuitPlanned clients first plans heard f (before ++ b ∷ behind)
+    → SuitsPlanned clients first plans heard (after_batches f before) b
 suits_at clients first plans heard f [] behind b suit = suit.0
 suits_at clients first plans heard f (c ∷ before) behind b suit =
     suits_at clients first plans heard (after_all f c) before behind b suit.1
 
 takes_suited : (clients : Meaning) (first : ℕ) (plans : List Session) (heard : ℕ → List ℕ)
     (f : Facts) (session k : ℕ) (rest : List Entry)
-    → SuitsSessions clients first plans heard f (entry.Take session k ∷ rest)
+    → SuitsPlanned clients first plans heard f (entry.Take session k ∷ rest)
     → TakesHeard first heard f session k rest
 takes_suited clients first plans heard f session k rest (inl settling) =
     absurd (takes_no_step clients f session k rest settling)
@@ -64,9 +65,9 @@ takes_in_order clients begin whole first plans heard legal suits before behind s
     let more : suits.more ≡ before ++ b ∷ behind =
     append_cancel_left begin suits.more (before ++ b ∷ behind) (sym suits.extends ∙ is
     ∙ append_assoc begin before (b ∷ behind)) in
-    let suit : SuitsSessions clients first plans heard (after_batches (facts begin) before) b =
+    let suit : SuitsPlanned clients first plans heard (after_batches (facts begin) before) b =
     suits_at clients first plans heard (facts begin) before behind b
-    (subst (λ (m : Journal). AllSuitSessions clients first plans heard (facts begin) m) more
+    (subst (λ (m : Journal). AllSuitPlanned clients first plans heard (facts begin) m) more
     suits.suits) in
     let here : after_batches (facts begin) before ≡ facts (begin ++ before) =
     sym (after_batches-append nothing begin before) in
@@ -75,7 +76,7 @@ takes_in_order clients begin whole first plans heard legal suits before behind s
     (subst (λ (w : Journal). Legal clients w) is legal)).0 in (
       allowed.1.numbered,
       takes_suited clients first plans heard (facts (begin ++ before)) session k rest
-          (subst (λ (f : Facts). SuitsSessions clients first plans heard f b) here suit),
+          (subst (λ (f : Facts). SuitsPlanned clients first plans heard f b) here suit),
     )
 
 -- ---- the law

@@ -37,7 +37,7 @@ use Rattle.sync_store.specs.Moments.{JournalMoment}
 use Rattle.sync_node.specs.Output.{heard_on}
 use Rattle.sync_top.specs.Duties.{duty_of, sending_of}
 use Rattle.sync_top.specs.Run.{AsksSync, WordsComeTo, ComesOfStore, Covered, KeepsHost}
-use Rattle.sync_top.specs.Undamaged.{NeverDamaged, StandsForSome, Undamaged}
+use Rattle.sync_top.specs.Undamaged.{NeverDamaged, StandsForJournal, Undamaged}
 use Rattle.sync_run.specs.Headline.{Headline, IsUntouched, StandsForRun, sent_at_moment}
 use Rattle.store_commands.specs.Stopping.{StoodFor}
 use Rattle.sync_words.specs.declared.link_words.LinkWords.{LinkWords}
@@ -76,9 +76,9 @@ module _ (clients : Meaning) (old new : Outside) where
 
   -- a store was begun where there was one: there is no such moment
   begun_moment : (two : Two File) → old.files ≡ Some two
-      → ((left : Two (List ℕ)) → IsImage two left → StandsForSome clients left) → (m : Moment)
+      → ((left : Two (List ℕ)) → IsImage two left → StandsForJournal clients left) → (m : Moment)
       → InitMoment two old.links m
-      → StandsForSome clients m.files
+      → StandsForJournal clients m.files
   begun_moment two files each m (inl now) = each m.files now.image
   begun_moment two files each m (inr begun) =
       let some = each (read_files two) (old.reads two files) in
@@ -102,9 +102,9 @@ module _ (clients : Meaning) (old new : Outside) where
   of_audited out out' came did = of_now (λ two files. (did.rests two files).moments)
 
   did_moment : (P : List (List Entry) → Type 0) (sent : List (List ℕ)) (two : Two File)
-      → ((left : Two (List ℕ)) → IsImage two left → StandsForSome clients left)
+      → ((left : Two (List ℕ)) → IsImage two left → StandsForJournal clients left)
       → (m : Moment) → IsNow two old.links m ⊎ JournalMoment clients P sent m
-      → StandsForSome clients m.files
+      → StandsForJournal clients m.files
   did_moment P sent two each m (inl now) = each m.files now.image
   did_moment P sent two each m (inr on) = record { of = on.whole; stands_for = on.stands_for }
 
@@ -163,11 +163,11 @@ module _ (clients : Meaning) (old new : Outside) where
 
   -- a run of sessions leaves what a crash might have left before, or a journal of the run
   left_moment : (words : List LinkWords) (heard : ℕ → List ℕ) (standing : Standing) (two : Two File)
-      → ((left : Two (List ℕ)) → IsImage two left → StandsForSome clients left)
+      → ((left : Two (List ℕ)) → IsImage two left → StandsForJournal clients left)
       → (m : Moment) → IsUntouched two old m
       ⊎ StoodFor standing
       (λ begin. StandsForRun clients words begin heard (sent_at_moment m) m.files)
-      → StandsForSome clients m.files
+      → StandsForJournal clients m.files
   left_moment words heard standing two each m (inl untouched) = each m.files untouched.now.image
   left_moment words heard standing two each m (inr on) =
       record { of = on.has.whole; stands_for = on.has.stands_for }

@@ -18,7 +18,7 @@ use Rattle.store_commands.specs.declared.listing.Listing.TheVariants as listing
 use Rattle.store_commands.specs.Compact.{HasCompacted}
 use Rattle.store_commands.specs.Entries.{HasAdded}
 use Rattle.store_commands.specs.Init.{HasBegun}
-use Rattle.store_commands.specs.Plans.{Plan, contact_plan, group_plan, level_plan}
+use Rattle.store_commands.specs.Plans.{EntryPlan, contact_plan, group_plan, level_plan}
 use Rattle.store_commands.specs.Post.{HasPosted}
 use Rattle.store_commands.specs.Looking.{HasLooked}
 use Rattle.store_commands.specs.Shown.{Showing, body_shown, listing_shown}
@@ -52,7 +52,7 @@ unread comes serves = record {
 }
 
 -- an entry is added as it is planned
-abbrev pub to_add : Meaning → (Facts → Plan) → Settling → Duty
+abbrev pub to_add : Meaning → (Facts → EntryPlan) → Settling → Duty
 to_add clients plan settles =
     unread (HasAdded clients plan settles) (MayAddPlanned clients plan)
 
@@ -65,8 +65,8 @@ abbrev pub HasNoHeader : Option (Two File) → Type 0
 HasNoHeader files = (two : Two File) × (files ≡ Some two) × (has_open two ≡ false)
 
 -- the group that words describe
-abbrev pub def_of : (name : List ℕ) (major : ℕ) (descriptor : List ℕ) → GroupValue
-def_of name major descriptor = record { name = name; major = major; descriptor = descriptor }
+abbrev pub group_named : (name : List ℕ) (major : ℕ) (descriptor : List ℕ) → GroupValue
+group_named name major descriptor = record { name = name; major = major; descriptor = descriptor }
 
 -- what the words of `say` say
 abbrev pub speech_of : (group : List ℕ) (timestamp : ℕ) (join : Bool) → GroupValue → Speech
@@ -115,7 +115,7 @@ abbrev pub duty_of : Meaning → Command → Duty
 duty_of clients command.Init = unread HasBegun HasNoHeader
 duty_of clients command.Contact = to_add clients contact_plan settling.Before
 duty_of clients (command.Group name major descriptor) =
-    to_add clients (λ f. group_plan clients f (def_of name major descriptor)) settling.Before
+    to_add clients (λ f. group_plan clients f (group_named name major descriptor)) settling.Before
 duty_of clients (command.Share contact group level) =
     to_add clients (λ f. level_plan f contact group level) settling.Before
 duty_of clients (command.Post group timestamp) = record {
@@ -130,7 +130,7 @@ duty_of clients (command.Tree group from count) =
 duty_of clients command.Audit = unread (HasAudited clients) (MayAudit clients)
 duty_of clients (command.Say group timestamp join name major descriptor) =
     to_add clients
-    (say_plan clients (speech_of group timestamp join (def_of name major descriptor)))
+    (say_plan clients (speech_of group timestamp join (group_named name major descriptor)))
     settling.BeforeAndAfter
 duty_of clients (command.Agree contact group) =
     unread (HasAgreed clients contact group) (MayDoWork clients

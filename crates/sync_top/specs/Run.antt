@@ -161,7 +161,7 @@ ReportsOutcome came err err' given = (given ≡ status_of came) × GetsText err 
 
 -- a run of a command: what the words ask for came to an outcome, and the status and the error
 -- output tell it
-pub record Ran (clients : Meaning) (words : Asked) (old new : Outside)
+pub record RanCommand (clients : Meaning) (words : Asked) (old new : Outside)
     (input input' out out' err err' : Stream) (given : Status) : Type 0 where
   pub came : Outcome
   pub comes : WordsComeTo clients words old new input input' out out' came

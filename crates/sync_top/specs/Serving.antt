@@ -14,7 +14,7 @@ use Rattle.sync_node.specs.Courses.{ReadsAs}
 use Rattle.sync_words.specs.declared.link_words.LinkWords.{LinkWords}
 use Rattle.store_commands.specs.Commit.{HoweverSettled, MayMigrate, needed_by}
 use Rattle.store_commands.specs.Compact.{MayRenew, brief_len}
-use Rattle.store_commands.specs.Plans.{Plan, adds, post_plan}
+use Rattle.store_commands.specs.Plans.{EntryPlan, adds, post_plan}
 use Rattle.store_commands.specs.Post.{IsBody, posted_message}
 use Rattle.store_commands.specs.Shown.{Showing, shows}
 use Rattle.sync_run.specs.declared.run.Limits.{Limits}
@@ -31,7 +31,7 @@ pub record MayDoWork (clients : Meaning) (tests : Facts → Type 0)
   pub next : MayMigrate files
 
 -- the same where the command plans to add an entry
-pub record MayAddPlanned (clients : Meaning) (plan : Facts → Plan)
+pub record MayAddPlanned (clients : Meaning) (plan : Facts → EntryPlan)
     (files : Option (Two File)) : Type 0 where
   pub before : List (List Entry)
   pub entry : Entry

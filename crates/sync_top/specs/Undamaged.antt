@@ -11,7 +11,7 @@ use Rattle.commands.specs.Reading.{Asked}
 use Rattle.sync_top.specs.Run.{AsksSync}
 
 -- the files stand for a journal
-pub record StandsForSome (clients : Meaning) (files : Two (List ℕ)) : Type 0 where
+pub record StandsForJournal (clients : Meaning) (files : Two (List ℕ)) : Type 0 where
   pub of : List (List Entry)
   pub stands_for : stands clients files ≡ journal of
 
@@ -20,8 +20,8 @@ pub record StandsForSome (clients : Meaning) (files : Two (List ℕ)) : Type 0 w
 abbrev pub Undamaged : Meaning → (old new : Outside) → Type 0
 Undamaged clients old new =
     (two : Two File) → old.files ≡ Some two
-    → ((left : Two (List ℕ)) → IsImage two left → StandsForSome clients left)
-    → MomentsAre old new (λ m. StandsForSome clients m.files)
+    → ((left : Two (List ℕ)) → IsImage two left → StandsForJournal clients left)
+    → MomentsAre old new (λ m. StandsForJournal clients m.files)
 
 -- no command damages a store; of a run of sessions it is said where files and links are told
 abbrev pub NeverDamaged : Meaning → Asked → (old new : Outside) → Type 0

@@ -2,7 +2,8 @@
 ghost use Rattle.std.specs.Prelude.{◌≡◌};
 ghost use Rattle.sync_top.specs.Complete.{Complete};
 ghost use Rattle.sync_top.specs.Looking.{LooksUnless};
-ghost use Rattle.sync_top.specs.Run.{AsksSync, WordsComeTo, Covered, KeepsHost, Ran, ReportsOutcome};
+ghost use Rattle.sync_top.specs.Run.{AsksSync, WordsComeTo, Covered, KeepsHost, RanCommand};
+ghost use Rattle.sync_top.specs.Run.{ReportsOutcome};
 ghost use Rattle.sync_top.specs.Sound.{AlwaysOpens};
 ghost use Rattle.sync_top.specs.States.{TellsWhole};
 ghost use Rattle.sync_top.specs.Undamaged.{NeverDamaged};
@@ -52,7 +53,7 @@ pub fn run<H: Host, S: Source, W: Sink, E: Sink, C: Clients>(
         (H.tells host.new) }
     ensures opens { AlwaysOpens (C.meaning clients.now) (asks (texts words.now))
         (H.tells host.old) (H.tells host.new) }
-    ensures ran { Ran (C.meaning clients.now) (asks (texts words.now)) (H.tells host.old)
+    ensures ran { RanCommand (C.meaning clients.now) (asks (texts words.now)) (H.tells host.old)
         (H.tells host.new) (S.tells input.old) (S.tells input.new) (W.tells out.old)
         (W.tells out.new) (E.tells err.old) (E.tells err.new) result }
     ensures states { TellsWhole (C.meaning clients.now) (asks (texts words.now)) (S.tells input.old)

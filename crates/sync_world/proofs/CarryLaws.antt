@@ -5,12 +5,13 @@ use Rattle.std.proofs.Common.{length, refl, arith, length-append}
 use Rattle.client_basic.specs.Bodies.{bundle_meaning}
 use Rattle.world_devices.specs.Devices.{DeviceValue}
 use Rattle.world_laws.specs.Worlds.{World}
+use Rattle.record_grammar.specs.Spelling.{joined}
 use Rattle.world_links.specs.Ends.{EndValue}
-use Rattle.world_links.specs.Links.{all_carried, given_too, joined, with_flight}
+use Rattle.world_links.specs.Links.{all_carried, given_too, with_flight}
 use Rattle.world_links.specs.declared.link.Link.{Link}
 use Rattle.world_links.specs.declared.moves.Side.TheVariants as side
 use Rattle.sync_world.specs.Cited.{WorldLaws}
-use Rattle.sync_world.specs.Shown.{arrived}
+use Rattle.sync_world.specs.Shown.{link_arrived}
 use Rattle.sync_world.specs.Standing.{IsShown, LeadsOn}
 use Rattle.sync_world.proofs.GoLaws.{moved_leads}
 use Rattle.sync_world.proofs.ReachLaws.{all_arrived_shown}
@@ -43,12 +44,12 @@ arrived_if k false l =
       cut = λ uncut. uncut;
     }
 
-pub arrived_others : (k : ℕ) (ls : List Link) → AllMove k ls (map arrived ls)
-arrived_others k ls = all_map k arrived ls (λ l. arrived_if k l.is_cut l)
+pub arrived_others : (k : ℕ) (ls : List Link) → AllMove k ls (map link_arrived ls)
+arrived_others k ls = all_map k link_arrived ls (λ l. arrived_if k l.is_cut l)
 
 -- from a world that is shown to one that is shown
 pub arrived_leads : WorldLaws → (w : World) (devices : List DeviceValue) (ls : List Link)
-    → IsShown w devices ls → LeadsOn w false devices (map arrived ls)
+    → IsShown w devices ls → LeadsOn w false devices (map link_arrived ls)
 arrived_leads laws w devices ls s =
-    moved_leads w devices ls (map arrived ls) s
+    moved_leads w devices ls (map link_arrived ls) s
     (all_arrived_shown laws bundle_meaning ls w.links s.shown) (λ k. arrived_others k ls)

@@ -32,7 +32,7 @@ use Rattle.world_devices.specs.declared.stop.StepFault.TheVariants as fault
 use Rattle.world_devices.specs.Running.{DeviceRuns, HoldsAfterCrash, ReadsAsJournal, is_session_of}
 use Rattle.world_devices.specs.Running.{records_for, records_heard}
 use Rattle.world_links.specs.Ends.{EndValue, input_of}
-use Rattle.world_links.specs.Links.{cut, detached, left_at, left_by, with_flight}
+use Rattle.world_links.specs.Links.{cut, detached, left_from, left_by, with_flight}
 use Rattle.world_links.specs.declared.moves.Side.TheVariants as side
 use Rattle.world_links.specs.declared.link.Link.{Link}
 use Rattle.sync_world.specs.Cited.{RecordLaws}
@@ -353,7 +353,7 @@ pub left_moves : (k d : ℕ) (l : Link) → (k ≡ d → ⊥) → LinkMoves k l 
 left_moves k d l apart =
     elim (l.near.device == d) as (λ b. (l.near.device == d) ≡ b
     → LinkMoves k l
-    (left_at (if b then Some side.Near else if l.far.device == d then Some side.Far else
+    (left_from (if b then Some side.Near else if l.far.device == d then Some side.Far else
     None) l)) [
       | true ↦ λ near. record {
         near = gone_moves k d l.near (eqb-true l.near.device d near) apart;
@@ -362,7 +362,7 @@ left_moves k d l apart =
       }
       | false ↦ λ near.
           elim (l.far.device == d) as (λ b. (l.far.device == d) ≡ b
-          → LinkMoves k l (left_at (if b then Some side.Far else None) l)) [
+          → LinkMoves k l (left_from (if b then Some side.Far else None) l)) [
             | true ↦ λ far. record {
               near = emptied_moves k l.near;
               far = gone_moves k d l.far (eqb-true l.far.device d far) apart;
@@ -376,14 +376,14 @@ pub left_place : (d : ℕ) (l : Link) → place_on d (left_by d l) ≡ None
 left_place d l =
     elim (l.near.device == d) as (λ b. (l.near.device == d) ≡ b
     → place_on d
-    (left_at (if b then Some side.Near else if l.far.device == d then Some side.Far else
+    (left_from (if b then Some side.Near else if l.far.device == d then Some side.Far else
     None) l) ≡ None) [
       | true ↦ λ near.
           ap place_in (own_near d (cut (record l { near = detached l.near }))
           (eqb-true l.near.device d near))
       | false ↦ λ near.
           elim (l.far.device == d) as (λ b. (l.far.device == d) ≡ b
-          → place_on d (left_at (if b then Some side.Far else None) l) ≡ None) [
+          → place_on d (left_from (if b then Some side.Far else None) l) ≡ None) [
             | true ↦ λ far.
                 ap place_in (own_far d (cut (record l { far = detached l.far }))
                 (eqb_not l.near.device d near) (eqb-true l.far.device d far))

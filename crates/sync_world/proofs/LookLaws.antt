@@ -1,5 +1,6 @@
 -- What is in flight after a look at what a device sent.
 use Rattle.std.proofs.Common.{◌≡◌, ℕ, zero, suc, ◌+◌, ◌*◌, ◌^◌, ◌==◌, ◌-◌, ◌≤◌, min, Bool, true}
+use Rattle.std.proofs.Common.{unwrap_or}
 use Rattle.std.proofs.Common.{false, if◌then◌else◌, List, [], ◌∷◌, ◌++◌, map, length, take, drop}
 use Rattle.std.proofs.Common.{refl, sym, ◌∙◌, ap, arith, Option, Some, None, length-append}
 use Rattle.std.proofs.Common.{length-drop, length-take, take_at, drop_at}
@@ -29,8 +30,8 @@ use Rattle.sync_rules.specs.Facts.{Journal, entries_of}
 use Rattle.sync_rules.specs.Naming.{BringsWithin, IsWholeNonce}
 use Rattle.sync_rules.specs.Output.{sent}
 use Rattle.world_links.specs.Ends.{EndValue, flight_behind}
-use Rattle.world_links.specs.Flights.{first_len, first_n_records, in_front, len_of, len_or}
-use Rattle.world_links.specs.Flights.{records_in}
+use Rattle.world_links.specs.Flights.{first_len, first_n_records, in_front, len_of}
+use Rattle.world_links.specs.Flights.{whole_records}
 use Rattle.world_laws.specs.Worlds.{End}
 use Rattle.sync_world.specs.Cited.{RecordLaws}
 use Rattle.sync_world.specs.Shown.{IsWithinJournal, ShowsEnd}
@@ -122,7 +123,7 @@ none_in : (n : ℕ) → first_n_records n [] ≡ []
 unfolding first_n_records
 none_in zero = refl
 none_in (suc n) =
-    ap (λ (o : Option ℕ). in_front [] o (first_n_records n (drop (len_or o) []))) none_first
+    ap (λ (o : Option ℕ). in_front [] o (first_n_records n (drop (unwrap_or o 0) []))) none_first
 
 some_long : (r : Record) → 1 ≤ length (spelling r)
 unfolding spelling
@@ -134,7 +135,7 @@ next_in : (n len : ℕ) (first more : List ℕ) → first_len (first ++ more) �
 unfolding first_n_records
 next_in n len first more is long =
     ap (λ (o : Option ℕ).
-    in_front (first ++ more) o (first_n_records n (drop (len_or o) (first ++ more)))) is
+    in_front (first ++ more) o (first_n_records n (drop (unwrap_or o 0) (first ++ more)))) is
     ∙ (λ i. take_at first more len long i ∷ first_n_records n (drop_at first more len long i))
 
 all_in : RecordLaws → (n : ℕ) (rs : List Record) → AllByRecursion IsRecord rs
@@ -157,9 +158,10 @@ all_in laws (suc n) (r ∷ rs) within enough =
     ∙ ap (λ (l : List (List ℕ)). spelling r ∷ l) (all_in laws n rs within.1 left)
 
 -- the records that stand in spelled records are their spellings
-pub spelled_records_in : RecordLaws → (rs : List Record) → AllByRecursion IsRecord rs → records_in
+pub spelled_records_in : RecordLaws → (rs : List Record) → AllByRecursion IsRecord rs
+    → whole_records
     (spelled rs) ≡ map spelling rs
-unfolding records_in
+unfolding whole_records
 spelled_records_in laws rs within = all_in laws (length (spelled rs)) rs within (omega arith)
 
 -- ---- what a session sends
@@ -210,7 +212,7 @@ looked_flight laws rs more e within seen =
     let behind : drop e.seen (spelled (rs ++ more)) ≡ spelled more =
     ap (λ (bytes : List ℕ). drop e.seen bytes) parts
     ∙ drop_at (spelled rs) (spelled more) e.seen (sym seen) in
-    ap (λ (bytes : List ℕ). e.flight ++ records_in bytes) behind
+    ap (λ (bytes : List ℕ). e.flight ++ whole_records bytes) behind
     ∙ ap (λ (l : List (List ℕ)). e.flight ++ l)
     (spelled_records_in laws more (all_behind rs more within))
 

@@ -7,8 +7,9 @@ use Rattle.world_devices.specs.Devices.{DeviceValue}
 use Rattle.world_devices.specs.declared.stop.StepFault.{StepFault}
 use Rattle.world_devices.specs.declared.stop.StepFault.TheVariants as fault
 use Rattle.world_laws.specs.Worlds.{World}
+use Rattle.record_grammar.specs.Spelling.{joined}
 use Rattle.world_links.specs.Ends.{EndValue}
-use Rattle.world_links.specs.Links.{cut, side_end, given_too, joined, moved, side_of, with_flight}
+use Rattle.world_links.specs.Links.{cut, side_end, given_too, moved, side_of, with_flight}
 use Rattle.world_links.specs.Moves.{flight_after, given_by, is_possible}
 use Rattle.world_links.specs.declared.link.Link.{Link}
 use Rattle.world_links.specs.declared.moves.Move.{Move}

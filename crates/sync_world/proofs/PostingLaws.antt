@@ -17,7 +17,8 @@ use Rattle.world_devices.specs.declared.stop.StepFault.TheVariants as fault
 use Rattle.world_scripts.specs.Labels.{KindAndDescriptor, are_made, has_twice, suits_kind}
 use Rattle.world_scripts.specs.declared.step.TheConstants.{NOTE, THREAD, FEED}
 use Rattle.sync_world.specs.Naming.{IsMade, group_of}
-use Rattle.sync_world.specs.Posting.{body_of, has_text, head_of, ids_of, message_in, message_of}
+use Rattle.sync_world.specs.Posting.{post_body, has_text, head_of, ids_labelled, message_in}
+use Rattle.sync_world.specs.Posting.{message_for}
 use Rattle.std.specs.Option.{option_and_then}
 
 -- bytes with these ids behind them
@@ -38,11 +39,11 @@ with_posts posts ids (label ∷ labels) =
     with_posts posts (ids ++ option_to_list (slice_get posts label)) labels
 
 pub with_posts_is : (posts ids : List (List ℕ)) (labels : List ℕ)
-    → with_posts posts ids labels ≡ ids ++ ids_of posts labels
+    → with_posts posts ids labels ≡ ids ++ ids_labelled posts labels
 with_posts_is posts ids [] = sym (append-nil ids)
 with_posts_is posts ids (label ∷ labels) =
     with_posts_is posts (ids ++ option_to_list (slice_get posts label)) labels
-    ∙ append_assoc ids (option_to_list (slice_get posts label)) (ids_of posts labels)
+    ∙ append_assoc ids (option_to_list (slice_get posts label)) (ids_labelled posts labels)
 
 past : {A : Type 0} (i : ℕ) (xs : List A) → length xs ≤ i → drop i xs ≡ []
 past zero [] within = refl
@@ -53,14 +54,15 @@ past (suc i) (x ∷ xs) within = past i xs (omega arith)
 -- once all ids were put behind the head, the text makes it the body
 pub body_is : (kind i : ℕ) (ids : List (List ℕ)) (body text : List ℕ) → length ids ≤ i
     → with_ids body (drop i ids) ≡ with_ids (head_of kind ids) ids
-    → body ++ text ≡ body_of kind ids text
+    → body ++ text ≡ post_body kind ids text
 body_is kind i ids body text within same =
     let all : with_ids body (drop i ids) ≡ body =
     ap (λ (xs : List (List ℕ)). with_ids body xs) (past i ids within) in
     ap (λ (bytes : List ℕ). bytes ++ text) (sym all ∙ (same ∙ with_ids_is (head_of kind ids) ids))
 
 pub ids_are : (posts ids : List (List ℕ)) (labels : List ℕ) (i : ℕ) → length labels ≤ i
-    → with_posts posts ids (drop i labels) ≡ with_posts posts [] labels → ids ≡ ids_of posts labels
+    → with_posts posts ids (drop i labels) ≡ with_posts posts [] labels → ids
+    ≡ ids_labelled posts labels
 ids_are posts ids labels i within same =
     let all : with_posts posts ids (drop i labels) ≡ ids =
     ap (λ (xs : List ℕ). with_posts posts ids xs) (past i labels within) in
@@ -85,12 +87,13 @@ one_at_most : (id : Option (List ℕ)) → length (option_to_list id) ≤ 1
 one_at_most None = omega arith
 one_at_most (Some x) = omega arith
 
-ids_short : (posts : List (List ℕ)) (labels : List ℕ) → length (ids_of posts labels) ≤ length labels
+ids_short : (posts : List (List ℕ)) (labels : List ℕ) → length (ids_labelled posts labels)
+    ≤ length labels
 ids_short posts [] = omega arith
 ids_short posts (label ∷ labels) =
     let first = one_at_most (slice_get posts label) in
     let rest = ids_short posts labels in
-    let sum = length-append (option_to_list (slice_get posts label)) (ids_of posts labels) in
+    let sum = length-append (option_to_list (slice_get posts label)) (ids_labelled posts labels) in
     omega (arith, first, rest, sum)
 
 and_first : (a b : Bool) → (a && b) ≡ true → a ≡ true
@@ -108,12 +111,12 @@ suits_by false false true twice n suits = let few : n ≤ 1 = leb-true n 1 suits
 suits_by false false false twice n suits = absurd (cc suits)
 
 pub ids_fit : (posts ids : List (List ℕ)) (labels : List ℕ) (kind : ℕ)
-    → suits_kind kind labels ≡ true → ids ≡ ids_of posts labels → length ids ≤ MAX_DEPS
+    → suits_kind kind labels ≡ true → ids ≡ ids_labelled posts labels → length ids ≤ MAX_DEPS
 ids_fit posts ids labels kind suits are =
     let few = suits_by (kind == NOTE) (kind == THREAD) (kind == FEED) (not (has_twice labels))
     (length labels) suits in
     let short = ids_short posts labels in
-    let same : length ids ≡ length (ids_of posts labels) =
+    let same : length ids ≡ length (ids_labelled posts labels) =
     ap (λ (xs : List (List ℕ)). length xs) are in
     omega (arith, few, short, same)
 
@@ -167,41 +170,42 @@ abbrev message_with : List (List ℕ) → Option KindAndDescriptor → ℕ → L
 message_with posts group time parents text =
     option_and_then (λ (g : KindAndDescriptor).
     if has_text text && (are_made parents (length posts) && suits_kind g.0 parents)
-    then message_in (group_of g.0 g.1) time (body_of g.0 (ids_of posts parents) text)
+    then message_in (group_of g.0 g.1) time (post_body g.0 (ids_labelled posts parents) text)
     else None) group
 
 none_with : (group : Option KindAndDescriptor) (posts : List (List ℕ)) (time kind : ℕ)
     (parents text descriptor body : List ℕ) → group ≡ Some (kind, descriptor)
-    → body ≡ body_of kind (ids_of posts parents) text
+    → body ≡ post_body kind (ids_labelled posts parents) text
     → (nat_le time MAX_TIMESTAMP && nat_le (length body) MAX_BODY) ≡ false
     → message_with posts group time parents text ≡ None
 none_with None posts time kind parents text descriptor body there is unfit = absurd (cc there)
 none_with (Some g) posts time kind parents text descriptor body there is unfit =
     let of_kind : kind ≡ g.0 = cc there in
-    let same : body ≡ body_of g.0 (ids_of posts parents) text =
-    is ∙ ap (λ (k : ℕ). body_of k (ids_of posts parents) text) of_kind in
+    let same : body ≡ post_body g.0 (ids_labelled posts parents) text =
+    is ∙ ap (λ (k : ℕ). post_body k (ids_labelled posts parents) text) of_kind in
     let big : (nat_le time MAX_TIMESTAMP
-    && nat_le (length (body_of g.0 (ids_of posts parents) text)) MAX_BODY) ≡ false =
+    && nat_le (length (post_body g.0 (ids_labelled posts parents) text)) MAX_BODY) ≡ false =
     subst (λ (bytes : List ℕ). (nat_le time MAX_TIMESTAMP && nat_le (length bytes) MAX_BODY)
     ≡ false) same unfit in
     none_either (has_text text && (are_made parents (length posts) && suits_kind g.0 parents))
-    (message_in (group_of g.0 g.1) time (body_of g.0 (ids_of posts parents) text))
-    (none_in (group_of g.0 g.1) time (body_of g.0 (ids_of posts parents) text) big)
+    (message_in (group_of g.0 g.1) time (post_body g.0 (ids_labelled posts parents) text))
+    (none_in (group_of g.0 g.1) time (post_body g.0 (ids_labelled posts parents) text) big)
 
 -- a post whose message is over its limits is refused
 pub unfit_refused : (groups : List KindAndDescriptor) (posts ids : List (List ℕ))
     (group time kind : ℕ) (parents text descriptor body : List ℕ)
     → slice_get groups group ≡ Some (kind, descriptor)
-    → ids ≡ ids_of posts parents → body ≡ body_of kind ids text
+    → ids ≡ ids_labelled posts parents → body ≡ post_body kind ids text
     → (nat_le time MAX_TIMESTAMP && nat_le (length body) MAX_BODY) ≡ false
-    → IsMade (message_of groups posts group time parents text) (Err fault.Refused)
+    → IsMade (message_for groups posts group time parents text) (Err fault.Refused)
 unfit_refused groups posts ids group time kind parents text descriptor body there are is unfit =
-    none_refused (message_of groups posts group time parents text)
+    none_refused (message_for groups posts group time parents text)
     (none_with (slice_get groups group) posts time kind parents text descriptor body there (is
-    ∙ ap (λ (xs : List (List ℕ)). body_of kind xs text) are) unfit)
+    ∙ ap (λ (xs : List (List ℕ)). post_body kind xs text) are) unfit)
 
 -- a body is at least as long as its text
-pub body_some : (kind : ℕ) (ids : List (List ℕ)) (text body : List ℕ) → body ≡ body_of kind ids text
+pub body_some : (kind : ℕ) (ids : List (List ℕ)) (text body : List ℕ) → body
+    ≡ post_body kind ids text
     → 1 ≤ length text → 1 ≤ length body
 body_some kind ids text body is some =
     let sum = length-append (head_of kind ids ++ flat_map (λ (id : List ℕ). id) ids) text in

@@ -17,7 +17,7 @@ use Rattle.world_laws.specs.Worlds.{AreSteps, End, IsStep, WorldLink as RecordLi
 use Rattle.world_laws.specs.Worlds.{last_of, unused_end}
 use Rattle.sync_world.specs.Cited.{WorldLaws}
 use Rattle.sync_world.specs.Shown.{MovesShown, MovesTo, ReachesWorld, ShowsLink, ShowsLinks}
-use Rattle.sync_world.specs.Shown.{arrived, carried, emptied_end, given_more, is_near, move_of}
+use Rattle.sync_world.specs.Shown.{link_arrived, carried, emptied_end, given_more, is_near, move_of}
 use Rattle.sync_world.specs.Shown.{world_of}
 use Rattle.sync_world.proofs.ShownMoves.{shown_carried, shown_cut_at, shown_moved_at}
 
@@ -215,7 +215,7 @@ some_next clients l ls x xs first later = record {
 }
 
 some_arrive : WorldLaws → (clients : Meaning) (ls : List Link) (xs : List RecordLink)
-    → ShowsLinks ls xs → SomeArrive clients (map arrived ls) xs
+    → ShowsLinks ls xs → SomeArrive clients (map link_arrived ls) xs
 some_arrive laws clients [] [] s =
     record {
       after = [];
@@ -225,7 +225,8 @@ some_arrive laws clients [] [] s =
 some_arrive laws clients [] (x ∷ xs) s = absurd s
 some_arrive laws clients (l ∷ ls) [] s = absurd s
 some_arrive laws clients (l ∷ ls) (x ∷ xs) s =
-    some_next clients (arrived l) (map arrived ls) x xs (arrives laws clients l.is_cut l x s.0)
+    some_next clients (link_arrived l) (map link_arrived ls) x xs
+    (arrives laws clients l.is_cut l x s.0)
     (some_arrive laws clients ls xs s.1)
 
 -- ---- what links show after moves
@@ -254,7 +255,7 @@ cut_shown laws clients i ls xs l is s = record {
 }
 
 pub all_arrived_shown : WorldLaws → (clients : Meaning) (ls : List Link) (xs : List RecordLink)
-    → ShowsLinks ls xs → MovesShown clients (map arrived ls) xs
+    → ShowsLinks ls xs → MovesShown clients (map link_arrived ls) xs
 all_arrived_shown laws clients ls xs s =
     let some = some_arrive laws clients ls xs s in
     record { after = some.after; shown = some.shown; moves = λ js. some.each js [] }

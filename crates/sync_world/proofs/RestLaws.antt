@@ -8,7 +8,7 @@ use Rattle.world_devices.specs.declared.stop.StepFault.TheVariants as fault
 use Rattle.world_laws.specs.Worlds.{World}
 use Rattle.world_links.specs.declared.link.Link.{Link}
 use Rattle.sync_world.specs.Cited.{WorldLaws}
-use Rattle.sync_world.specs.Shown.{arrived}
+use Rattle.sync_world.specs.Shown.{link_arrived}
 use Rattle.sync_world.specs.Standing.{LeadsFromShown, LeadsOn, is_fatal}
 use Rattle.sync_world.specs.declared.stage.Stage.{Stage}
 use Rattle.sync_world.proofs.CarryLaws.{arrived_leads}
@@ -38,14 +38,14 @@ passed_on A B a b (Err x) e is goes =
 
 -- all that is in flight arrives then
 arrives_then : WorldLaws → (w : World) (devices : List DeviceValue) (ls ls' : List Link)
-    → ls' ≡ map arrived ls → LeadsOn w false devices ls → LeadsOn w false devices ls'
+    → ls' ≡ map link_arrived ls → LeadsOn w false devices ls → LeadsOn w false devices ls'
 arrives_then laws w devices ls ls' is leads =
     subst (λ (l : List Link). LeadsOn w false devices l) (sym is)
-    (leads_then w false devices devices ls (map arrived ls) leads (λ v shown.
+    (leads_then w false devices devices ls (map link_arrived ls) leads (λ v shown.
     arrived_leads laws v devices ls shown))
 
 pub goes_arrives : WorldLaws → (a b c : Stage) → LeadsFromShown false a b
-    → c.devices.items ≡ b.devices.items → c.links.items ≡ map arrived b.links.items
+    → c.devices.items ≡ b.devices.items → c.links.items ≡ map link_arrived b.links.items
     → LeadsFromShown false a c
 goes_arrives laws a b c goes devices links w shown =
     subst (λ (ds : List DeviceValue). LeadsOn w false ds c.links.items) (sym devices)

@@ -12,7 +12,7 @@ use Rattle.sync_world.specs.Doing.{Ground, MakesRound, RestsWithin, TurnsFrom, T
 use Rattle.sync_world.specs.Doing.{TurnsOnce}
 use Rattle.sync_world.specs.Parts.{RoundBy, TurnsBy, TurnsLinkedBy, WhenFull}
 use Rattle.sync_world.specs.Refusing.{has_links}
-use Rattle.sync_world.specs.Shown.{arrived}
+use Rattle.sync_world.specs.Shown.{link_arrived}
 use Rattle.sync_world.specs.Turning.{is_moving}
 use Rattle.sync_world.specs.declared.stage.Round.{Round}
 use Rattle.sync_world.specs.declared.stage.Round.TheVariants as round
@@ -90,7 +90,7 @@ so_ends came d still start now next broken below so turned =
 -- ---- a round
 
 pub round_made : (d : ℕ) (start now new : Ground) (still some quiet : Bool) → d ≡ MAX_DEVICES
-    → TurnsSo d still start now → new.devices ≡ now.devices → new.links ≡ map arrived now.links
+    → TurnsSo d still start now → new.devices ≡ now.devices → new.links ≡ map link_arrived now.links
     → some ≡ list_any is_moving now.links → quiet ≡ (still && not some)
     → MakesRound (Ok (Some quiet)) start new
 round_made d start now new still some quiet all so devices links is made =
@@ -100,7 +100,7 @@ round_made d start now new still some quiet all so devices links is made =
       so_all d still start now all so,
       (
         ap (λ (b : Bool). Ok (Some b)) (made ∙ ap (λ (b : Bool). still && not b) is),
-        same_ground now.devices new.devices (map arrived now.links) new.links devices links,
+        same_ground now.devices new.devices (map link_arrived now.links) new.links devices links,
       ),
     )
 

@@ -6,8 +6,8 @@ use Rattle.sync_rules.specs.Facts.{Facts, Held}
 use Rattle.sync_rules.specs.Steps.{fate_held}
 use Rattle.sync_rules.specs.declared.states.Fate.{Fate}
 use Rattle.sync_rules.specs.declared.states.Fate.TheVariants as fate
-use Rattle.sync_world.specs.Showing.{CountsOne, HasCounted, count_in}
-use Rattle.sync_world.specs.Showing.{one_if}
+use Rattle.sync_world.specs.Showing.{CountsOne, HasCounted, number_in_state}
+use Rattle.sync_world.specs.Showing.{one_if_same}
 use Rattle.sync_world.specs.declared.player.States.{States}
 
 -- the state of the message of this place
@@ -16,13 +16,14 @@ fate_at f held n = option_map (λ (h : Held). fate_held f h.id) (slice_get held 
 
 count_suc : (f : Facts) (state given : Fate) (held : List Held) (n : ℕ)
     → fate_at f held n ≡ Some given
-    → count_in f state (take (suc n) held) ≡ count_in f state (take n held) + one_if state given
-unfolding count_in
+    → number_in_state f state (take (suc n) held) ≡ number_in_state f state (take n held) +
+    one_if_same state given
+unfolding number_in_state
 count_suc f state given [] n is = absurd cc
 count_suc f state given (h ∷ held) zero is =
     let same : fate_held f h.id ≡ given = cc in
-    let one : one_if state (fate_held f h.id) ≡ one_if state given =
-    ap (λ (x : Fate). one_if state x) same in
+    let one : one_if_same state (fate_held f h.id) ≡ one_if_same state given =
+    ap (λ (x : Fate). one_if_same state x) same in
     omega (arith, one)
 count_suc f state given (h ∷ held) (suc n) is =
     let more = count_suc f state given held n is in
@@ -30,7 +31,8 @@ count_suc f state given (h ∷ held) (suc n) is =
 
 count_more : (f : Facts) (state given : Fate) (held : List Held) (n : ℕ)
     → fate_at f held n ≡ Some given
-    → count_in f state (take (n + 1) held) ≡ count_in f state (take n held) + one_if state given
+    → number_in_state f state (take (n + 1) held) ≡ number_in_state f state (take n held) +
+    one_if_same state given
 count_more f state given held n is = rw add-one (count_suc f state given held n is)
 
 pub counted_more : (f : Facts) (held : List Held) (n : ℕ) (given : Fate) (old new : States)
@@ -38,15 +40,15 @@ pub counted_more : (f : Facts) (held : List Held) (n : ℕ) (given : Fate) (old 
     → CountsOne given old new → HasCounted f (take (n + 1) held) new
 counted_more f held n given old new is counted one = record {
   delivered =
-      one.delivered ∙ ap (λ (k : ℕ). k + one_if fate.Delivered given) counted.delivered
+      one.delivered ∙ ap (λ (k : ℕ). k + one_if_same fate.Delivered given) counted.delivered
       ∙ sym (count_more f fate.Delivered given held n is);
   invalid =
-      one.invalid ∙ ap (λ (k : ℕ). k + one_if fate.Invalid given) counted.invalid
+      one.invalid ∙ ap (λ (k : ℕ). k + one_if_same fate.Invalid given) counted.invalid
       ∙ sym (count_more f fate.Invalid given held n is);
   pending =
-      one.pending ∙ ap (λ (k : ℕ). k + one_if fate.Pending given) counted.pending
+      one.pending ∙ ap (λ (k : ℕ). k + one_if_same fate.Pending given) counted.pending
       ∙ sym (count_more f fate.Pending given held n is);
   unknown =
-      one.unknown ∙ ap (λ (k : ℕ). k + one_if fate.Unknown given) counted.unknown
+      one.unknown ∙ ap (λ (k : ℕ). k + one_if_same fate.Unknown given) counted.unknown
       ∙ sym (count_more f fate.Unknown given held n is);
 }

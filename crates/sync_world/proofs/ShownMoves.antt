@@ -7,14 +7,14 @@ use Rattle.std.specs.List.{AllByRecursion}
 use Rattle.std.proofs.lemmas.Grind.{flat_map-append}
 use Rattle.sync_ids.specs.declared.records.Record.{Record}
 use Rattle.sync_ids.specs.Records.{IsRecord}
-use Rattle.record_grammar.specs.Spelling.{spelled, spelling}
+use Rattle.record_grammar.specs.Spelling.{spelled, spelling, joined}
 use Rattle.world_links.specs.declared.link.Link.{Link}
 use Rattle.world_links.specs.declared.moves.Move.{Move}
 use Rattle.world_links.specs.declared.moves.Move.TheVariants as move
 use Rattle.world_links.specs.declared.moves.Side.{Side}
 use Rattle.world_links.specs.declared.moves.Side.TheVariants as side
 use Rattle.world_links.specs.Ends.{EndValue, new_end as byte_end}
-use Rattle.world_links.specs.Links.{all_carried, cut, given_too, joined, left_at, left_by, moved}
+use Rattle.world_links.specs.Links.{all_carried, cut, given_too, left_from, left_by, moved}
 use Rattle.world_links.specs.Links.{with_flight}
 use Rattle.world_links.specs.Moves.{flight_after as bytes_after, given_by as bytes_given}
 use Rattle.world_laws.specs.Moves.{Cut, flight_then, records_given, link_after_move}
@@ -164,7 +164,8 @@ shown_cut false l x s =
     record { near = end_cut l.near x.near s.near; far = end_emptied l.far x.far s.far }
 
 left_cases : (a b : Bool) (l : Link) (x : RecordLink) → ShowsLink l x
-    → ShowsLink (left_at (if a then Some side.Near else if b then Some side.Far else None) l) (if a
+    → ShowsLink (left_from (if a then Some side.Near else if b then Some side.Far else None) l)
+    (if a
     || b then emptied x else x)
 left_cases true b l x s = record {
   near = record {

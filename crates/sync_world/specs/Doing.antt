@@ -30,9 +30,9 @@ use Rattle.world_scripts.specs.declared.step.WorldStep.{WorldStep}
 use Rattle.world_scripts.specs.declared.step.WorldStep.TheVariants as step
 use Rattle.sync_world.specs.Moving.{link_after_step}
 use Rattle.sync_world.specs.Naming.{group_of, nonce_of}
-use Rattle.sync_world.specs.Posting.{message_of}
+use Rattle.sync_world.specs.Posting.{message_for}
 use Rattle.sync_world.specs.Refusing.{group_labelled, has_links}
-use Rattle.sync_world.specs.Shown.{arrived}
+use Rattle.sync_world.specs.Shown.{link_arrived}
 use Rattle.sync_world.specs.Staging.{after_ran, begun_with, new_link, with_end}
 use Rattle.sync_world.specs.Turning.{is_moving, look_link}
 use Rattle.sync_world.specs.declared.stage.Stage.{Stage}
@@ -186,7 +186,7 @@ TurnsFrom (suc left) d still =
 abbrev pub Arrives : (still : Bool) → Becoming Bool
 Arrives still came old new =
     (came ≡ Ok (Some (still && not (list_any is_moving old.links))))
-    × (new ≡ record old { links = map arrived old.links })
+    × (new ≡ record old { links = map link_arrived old.links })
 
 -- a round: a turn of each device, in order, and then all that is in flight arrives. It answers
 -- whether it was quiet: each turn was still, and nothing was carried.
@@ -234,7 +234,7 @@ MakesStep (step.Share d e group level) came s new =
 MakesStep (step.Post d group time parents text) came s new =
     AddsBy
     (option_map (λ (m : MessageValue). entry.Author m)
-    (message_of s.groups s.posts.items group time parents text)) d came (ground_of s) new
+    (message_for s.groups s.posts.items group time parents text)) d came (ground_of s) new
 MakesStep (step.Link d e mode latency) came s new =
     MadeBy (LinksTwo d e mode latency) came (ground_of s) new
 MakesStep (step.Turn d) came s new = MadeBy (TurnsOnce d) came (ground_of s) new
@@ -254,21 +254,21 @@ MakesStep made came s new =
     (ground_of s) new
 
 -- the group labels after a step: a group has a label from the first step on that added it
-abbrev pub groups_after : WorldStep → List KindAndDescriptor → List KindAndDescriptor
-groups_after (step.Group d kind descriptor) groups = labelled (kind, descriptor) groups
-groups_after _ groups = groups
+abbrev pub labels_after : WorldStep → List KindAndDescriptor → List KindAndDescriptor
+labels_after (step.Group d kind descriptor) groups = labelled (kind, descriptor) groups
+labels_after _ groups = groups
 
 -- the ids of the posts after a step: a post has the next label, also where its device crashed in it
 abbrev pub posts_after : WorldStep → List KindAndDescriptor → List (List ℕ) → List (List ℕ)
 posts_after (step.Post d group time parents text) groups posts =
     posts ++ option_to_list
-    (option_map message_id_of (message_of groups posts group time parents text))
+    (option_map message_id_of (message_for groups posts group time parents text))
 posts_after _ groups posts = posts
 
 -- a step was made
 pub record WasDone (made : WorldStep) (old new : Stage) : Type 0 where
   pub does : MakesStep made (Ok tt) old (ground_of new)
-  pub groups : new.groups ≡ groups_after made old.groups
+  pub groups : new.groups ≡ labels_after made old.groups
   pub posts : new.posts.items ≡ posts_after made old.groups old.posts.items
 
 -- What a step does that answers so: it was made as the rules of worlds have it; or a device in it

@@ -11,9 +11,10 @@ use Rattle.world_scripts.specs.declared.step.TheConstants.{THREAD, FEED}
 use Rattle.sync_world.specs.Naming.{group_of}
 
 -- the ids of the posts of these labels
-abbrev pub ids_of : List (List ℕ) → List ℕ → List (List ℕ)
-ids_of posts [] = []
-ids_of posts (label ∷ labels) = option_to_list (slice_get posts label) ++ ids_of posts labels
+abbrev pub ids_labelled : List (List ℕ) → List ℕ → List (List ℕ)
+ids_labelled posts [] = []
+ids_labelled posts (label ∷ labels) = option_to_list (slice_get posts label)
+    ++ ids_labelled posts labels
 
 -- what stands in a feed's body where no message is the previous one
 abbrev pub zeros_for : List (List ℕ) → List ℕ
@@ -26,8 +27,8 @@ head_of kind ids =
     if kind == THREAD then length ids ∷ [] else if kind == FEED then zeros_for ids else []
 
 -- the body of a post of this kind behind these messages
-abbrev pub body_of : ℕ → List (List ℕ) → List ℕ → List ℕ
-body_of kind ids text = head_of kind ids ++ flat_map (λ id. id) ids ++ text
+abbrev pub post_body : ℕ → List (List ℕ) → List ℕ → List ℕ
+post_body kind ids text = head_of kind ids ++ flat_map (λ id. id) ids ++ text
 
 abbrev pub has_text : List ℕ → Bool
 has_text [] = false
@@ -43,10 +44,10 @@ message_in (Some def) time body =
 -- the message of a post in the group of a label: there is one where the text is not empty, the
 -- parents are labels of earlier posts and suit the kind of the group, and the message is within its
 -- limits
-abbrev pub message_of : List KindAndDescriptor → List (List ℕ) → ℕ → ℕ → List ℕ → List ℕ
+abbrev pub message_for : List KindAndDescriptor → List (List ℕ) → ℕ → ℕ → List ℕ → List ℕ
     → Option MessageValue
-message_of groups posts group time parents text =
+message_for groups posts group time parents text =
     option_and_then (λ g.
     if has_text text && (are_made parents (length posts) && suits_kind g.0 parents)
-    then message_in (group_of g.0 g.1) time (body_of g.0 (ids_of posts parents) text)
+    then message_in (group_of g.0 g.1) time (post_body g.0 (ids_labelled posts parents) text)
     else None) (slice_get groups group)

@@ -16,7 +16,7 @@ use Rattle.world_scripts.specs.declared.step.TheConstants.{MAX_ROUNDS}
 use Rattle.sync_world.specs.declared.stage.Stage.{Stage}
 use Rattle.sync_world.specs.Moving.{link_after_step}
 use Rattle.sync_world.specs.Naming.{group_of}
-use Rattle.sync_world.specs.Posting.{message_of}
+use Rattle.sync_world.specs.Posting.{message_for}
 
 -- there is no such value, or no such device, or the device refuses the value
 abbrev pub refuses_with : {A : Type 0} → (A → DeviceValue → Bool) → Option A → Option DeviceValue
@@ -66,7 +66,7 @@ refuses (step.Share d e group level) w =
     (slice_get w.devices.items d))
 refuses (step.Post d group time parents text) w =
     refuses_with (λ m x. refuses_message x.node m)
-    (message_of w.groups w.posts.items group time parents text) (slice_get w.devices.items d)
+    (message_for w.groups w.posts.items group time parents text) (slice_get w.devices.items d)
 refuses (step.Link d e mode latency) w =
     (d == e)
     || ((latency == 0)

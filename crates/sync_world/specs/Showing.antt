@@ -21,17 +21,18 @@ same_fate fate.Unknown fate.Unknown = true
 same_fate _ _ = false
 
 -- one for a message in this state
-abbrev pub one_if : Fate → Fate → ℕ
-one_if state given = if same_fate given state then 1 else 0
+abbrev pub one_if_same : Fate → Fate → ℕ
+one_if_same state given = if same_fate given state then 1 else 0
 
 -- how many of these messages are in this state, by the facts of a journal
-unfoldable pub count_in : Facts → Fate → List Held → ℕ
-count_in f state [] = 0
-count_in f state (h ∷ held) = one_if state (fate_held f h.id) + count_in f state held
+unfoldable pub number_in_state : Facts → Fate → List Held → ℕ
+number_in_state f state [] = 0
+number_in_state f state (h ∷ held) = one_if_same state (fate_held f h.id) + number_in_state f state
+    held
 
 -- how many of all held messages are
 abbrev pub count_of : Facts → Fate → ℕ
-count_of f state = count_in f state f.held
+count_of f state = number_in_state f state f.held
 
 -- a device's line: how many messages its journal has, and how many of them are in each state
 abbrev pub device_line : ℕ → Facts → List ℕ
@@ -87,17 +88,17 @@ journal_lines shown journals (suc number) =
 
 -- these are the numbers of messages in each state
 pub record HasCounted (f : Facts) (held : List Held) (states : States) : Type 0 where
-  pub delivered : states.delivered ≡ count_in f fate.Delivered held
-  pub invalid : states.invalid ≡ count_in f fate.Invalid held
-  pub pending : states.pending ≡ count_in f fate.Pending held
-  pub unknown : states.unknown ≡ count_in f fate.Unknown held
+  pub delivered : states.delivered ≡ number_in_state f fate.Delivered held
+  pub invalid : states.invalid ≡ number_in_state f fate.Invalid held
+  pub pending : states.pending ≡ number_in_state f fate.Pending held
+  pub unknown : states.unknown ≡ number_in_state f fate.Unknown held
 
 -- one more message is counted, in this state
 pub record CountsOne (given : Fate) (old new : States) : Type 0 where
-  pub delivered : new.delivered ≡ old.delivered + one_if fate.Delivered given
-  pub invalid : new.invalid ≡ old.invalid + one_if fate.Invalid given
-  pub pending : new.pending ≡ old.pending + one_if fate.Pending given
-  pub unknown : new.unknown ≡ old.unknown + one_if fate.Unknown given
+  pub delivered : new.delivered ≡ old.delivered + one_if_same fate.Delivered given
+  pub invalid : new.invalid ≡ old.invalid + one_if_same fate.Invalid given
+  pub pending : new.pending ≡ old.pending + one_if_same fate.Pending given
+  pub unknown : new.unknown ≡ old.unknown + one_if_same fate.Unknown given
 
 -- how many messages were counted
 abbrev pub total_of : States → ℕ

@@ -85,8 +85,8 @@ carried false x = record { near = given_more x.far.flight x.near; far = emptied_
 
 -- a link in bytes after all that is in flight on it arrived, first what its near end sent; one that
 -- is cut stays
-abbrev pub arrived : Link → Link
-arrived l = if l.is_cut then l else all_carried side.Far (all_carried side.Near l)
+abbrev pub link_arrived : Link → Link
+link_arrived l = if l.is_cut then l else all_carried side.Far (all_carried side.Near l)
 
 -- ---- worlds that are reached
 

@@ -1,6 +1,6 @@
 //! The body of a post.
 ghost use Rattle.std.specs.Prelude.{◌≡◌, ◌≤◌, ◌++◌, IfOk, length, option_to_list, slice_get};
-ghost use Rattle.sync_world.specs.Posting.{body_of, head_of, ids_of};
+ghost use Rattle.sync_world.specs.Posting.{post_body, head_of, ids_labelled};
 
 use std::alloc::{AllocError, Global};
 use sync_ids::MessageId;
@@ -19,7 +19,7 @@ pub(crate) fn body_of(
     text: &[u8],
 ) -> Result<Vec<u8>, AllocError>
     requires { length parents.now ≤ MAX_DEPS }
-    ensures { IfOk result (λ body. body.items ≡ body_of kind parents.now text.now) }
+    ensures { IfOk result (λ body. body.items ≡ post_body kind parents.now text.now) }
 {
     let mut body = head_of(alloc, kind, parents)?;
     'parents: for parent in parents {
@@ -49,7 +49,7 @@ pub(crate) fn ids_of(
     posts: &[MessageId],
     labels: &[u64],
 ) -> Result<Vec<MessageId>, AllocError>
-    ensures { IfOk result (λ ids. ids.items ≡ ids_of posts.now labels.now) }
+    ensures { IfOk result (λ ids. ids.items ≡ ids_labelled posts.now labels.now) }
 {
     let mut ids = Vec::new(alloc);
     'labels: for label in labels {

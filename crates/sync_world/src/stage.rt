@@ -4,7 +4,7 @@ ghost use Rattle.std.specs.Prelude.{OnOk, Some};
 ghost use Rattle.std.specs.Prelude.{is_none, length, map, slice_get};
 ghost use Rattle.std.specs.List.{list_any};
 ghost use Rattle.sync_world.specs.Beginning.{IsNewStage};
-ghost use Rattle.sync_world.specs.Shown.{arrived};
+ghost use Rattle.sync_world.specs.Shown.{link_arrived};
 ghost use Rattle.sync_world.specs.Turning.{is_moving};
 ghost use Rattle.sync_world.specs.Staging.{HasFreshEnd, IsCallMade, after_ran, attached_at, begun_with};
 ghost use Rattle.world_laws.specs.Worlds as W;
@@ -15,7 +15,7 @@ ghost use Rattle.sync_world.specs.Doing.{DoesBy, LinkBecomes, ground_of};
 ghost use Rattle.sync_world.specs.Parts.{AttachesBy, DialsBy, RoundBy, TurnsBy, TurnsLinkedBy};
 ghost use Rattle.sync_world.specs.Leaving.{IsSame};
 ghost use Rattle.sync_world.specs.Naming.{IsMade};
-ghost use Rattle.sync_world.specs.Posting.{message_of};
+ghost use Rattle.sync_world.specs.Posting.{message_for};
 ghost use Rattle.sync_world.specs.Refusing.{KnowContacts, has_links, has_room, refuses};
 ghost use Rattle.sync_world.specs.Refusing.{refuses_to_attach};
 ghost use Rattle.world_devices.specs.Refusals.{IsNotRefused, RefusedBy};
@@ -229,7 +229,7 @@ impl Stage {
         parents: &Labels,
         text: &[u8],
     ) -> Result<Message, StepFault>
-        ensures { IsMade (message_of self.now.groups self.now.posts.items group time parents.now
+        ensures { IsMade (message_for self.now.groups self.now.posts.items group time parents.now
             text.now) result }
     {
         let Some((kind, descriptor)) = self.groups.get(group) else {
@@ -551,7 +551,7 @@ impl Stage {
 
     // All that is in flight on links arrives. Answers whether that was anything.
     fn arrive(&mut self) -> Result<bool, AllocError>
-        ensures links { OnOk result (self.new.links.items ≡ map arrived self.old.links.items) }
+        ensures links { OnOk result (self.new.links.items ≡ map link_arrived self.old.links.items) }
         ensures devices { self.new.devices.items ≡ self.old.devices.items }
         ensures fault { self.new.fault ≡ self.old.fault }
         ensures some { IfOk result (λ some. some ≡ list_any is_moving self.old.links.items) }

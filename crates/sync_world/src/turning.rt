@@ -2,7 +2,7 @@
 ghost use Rattle.std.specs.Prelude.{◌≡◌, IfOk, OnOk, length, map};
 ghost use Rattle.std.specs.List.{list_any};
 ghost use Rattle.sync_world.specs.Doing.{hears_at_end, hears_on_link, hears_on_links};
-ghost use Rattle.sync_world.specs.Shown.{arrived};
+ghost use Rattle.sync_world.specs.Shown.{link_arrived};
 ghost use Rattle.sync_world.specs.Staging.{PlansAll, PlansEnd, PlansLink, SameFiles};
 ghost use Rattle.sync_world.specs.Turning.{is_moving, look_at, look_link, shut_at};
 ghost use Rattle.world_links.specs.Links.{left_by, side_of};
@@ -112,7 +112,7 @@ pub(crate) fn leave_all(number: u8, links: &mut [Link])
 /// that dialled. Answers whether that was anything. It fails only for want of memory.
 pub(crate) fn carry_all(links: &mut [Link]) -> Result<bool, AllocError>
     ensures some { IfOk result (λ some. some ≡ list_any is_moving links.old) }
-    ensures carried { OnOk result (links.new ≡ map arrived links.old) }
+    ensures carried { OnOk result (links.new ≡ map link_arrived links.old) }
 {
     let mut some = false;
     'links: for link in links.iter_mut() {
@@ -125,7 +125,7 @@ pub(crate) fn carry_all(links: &mut [Link]) -> Result<bool, AllocError>
 // All that is in flight on a link arrives, unless it is cut. Answers whether that was anything.
 fn carry(link: &mut Link) -> Result<bool, AllocError>
     ensures some { IfOk result (λ some. some ≡ is_moving link.old) }
-    ensures carried { OnOk result (link.new ≡ arrived link.old) }
+    ensures carried { OnOk result (link.new ≡ link_arrived link.old) }
 {
     if link.is_cut {
         return Ok(false);

@@ -25,7 +25,8 @@ use Rattle.sync_rules.proofs.Elements.{same_id_itself}
 use Rattle.sync_rules.proofs.PlaceLaws.{place_found}
 use Rattle.tree_commands.specs.Gathered.{IsThreadOf, StandsAt, with_delivered}
 use Rattle.tree_commands.specs.Threads.{ThreadValue, parent_among, with_number}
-use Rattle.tree_commands.specs.Trees.{delivered_in, first_of, parents_of, place_if, replied_by}
+use Rattle.tree_commands.specs.Trees.{delivered_in, first_dependency_of, parents_of, place_if}
+use Rattle.tree_commands.specs.Trees.{replied_by}
 use Rattle.tree_commands.proofs.Parents.{parent_behind, parents_push}
 use Rattle.tree_commands.proofs.Places.{id_there, reply_same}
 
@@ -219,17 +220,18 @@ module _ (clients : Meaning) (s : StateValue) (knows : KnowsJudgements clients s
       ap (λ (xs : List (Option Judgement)). slice_get xs n) knows
       ∙ map_at (answer_of clients f) f.held n h at.stands in
       let first : get_or firsts n d ≡ number_held f.held
-      (first_of (verdict_in clients f.groups h.message)) =
+      (first_dependency_of (verdict_in clients f.groups h.message)) =
       ap (λ (xs : List (Option ℕ)). get_or xs n d) are
       ∙ first_at f.held s.answers n (answer_of clients f h) d there
       ∙ ap (λ (a : Option Judgement). number_held f.held (first_dependency a)) answer
       ∙ ap (number_held f.held) (first_is (verdict_in clients f.groups h.message)) in
-      let replied : replied_by clients f (held_at f.held id) ≡ first_of
+      let replied : replied_by clients f (held_at f.held id) ≡ first_dependency_of
       (verdict_in clients f.groups h.message) = ap (replied_by clients f) at.first in
       subst (λ (o : Option Id). StandsAt f.held o (get_or firsts n d)) (sym replied)
-      (subst (StandsAt f.held (first_of (verdict_in clients f.groups h.message))) (sym first)
-      (stands_held f.held (first_of (verdict_in clients f.groups h.message))))
+      (subst (StandsAt f.held (first_dependency_of (verdict_in clients f.groups h.message)))
+      (sym first)
+      (stands_held f.held (first_dependency_of (verdict_in clients f.groups h.message))))
     where
-      first_is : (j : Judgement) → first_dependency (Some j) ≡ first_of j
+      first_is : (j : Judgement) → first_dependency (Some j) ≡ first_dependency_of j
       first_is judgement.Refuse = refl
       first_is (judgement.Accept deps share) = refl

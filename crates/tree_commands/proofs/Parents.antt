@@ -8,16 +8,17 @@ use Rattle.reply_tree.specs.Walks.{RepliesToEarlier}
 use Rattle.sync_rules.specs.Clients.{Meaning}
 use Rattle.sync_rules.specs.Facts.{Facts, Id, held_at}
 use Rattle.sync_rules.specs.Lists.{same_id}
-use Rattle.tree_commands.specs.Trees.{parents_behind, parents_of, place_among, place_if, replied_by}
+use Rattle.entry_codec.specs.Naming.{place_in}
+use Rattle.tree_commands.specs.Trees.{parents_behind, parents_of, place_if, replied_by}
 use Rattle.tree_commands.proofs.Numbers.{shifted}
 
-place_less : (ids : List Id) (d : Id) → IfSome (place_among ids d) (λ p. p < length ids)
+place_less : (ids : List Id) (d : Id) → IfSome (place_in ids d) (λ p. p < length ids)
 place_less [] d = tt
 place_less (x ∷ ids) d =
-    elim (same_id x d) as (λ b. IfSome (cond b (Some 0) (option_map suc (place_among ids d)))
+    elim (same_id x d) as (λ b. IfSome (cond b (Some 0) (option_map suc (place_in ids d)))
     (λ p. p < suc (length ids))) [
       | true ↦ omega arith
-      | false ↦ shifted (length ids) (place_among ids d) (place_less ids d)
+      | false ↦ shifted (length ids) (place_in ids d) (place_less ids d)
     ]
 
 if_less : (ids : List Id) (o : Option Id) (p : ℕ) → place_if ids o ≡ Some p → p < length ids

@@ -13,9 +13,10 @@ use Rattle.sync_rules.specs.Views.{IsPlace}
 use Rattle.journal_state.specs.Sound.{AreApart}
 use Rattle.journal_state.specs.Whole.{id_at}
 use Rattle.sync_rules.proofs.Elements.{same_id-is, same_id_itself}
+use Rattle.entry_codec.specs.Naming.{place_in}
 use Rattle.tree_commands.specs.Gathered.{StandsAt}
 use Rattle.tree_commands.specs.Threads.{number_among, parent_among}
-use Rattle.tree_commands.specs.Trees.{place_among, place_if}
+use Rattle.tree_commands.specs.Trees.{place_if}
 
 abbrev ids_of : List Held → List Id
 ids_of held = map (λ (h : Held). h.id) held
@@ -98,10 +99,10 @@ module _ (held : List Held) where
 
   places_same : AreApart (ids_of held) → (d : Id) (m : ℕ) (ns : List ℕ)
       → AllByRecursion (λ n. n < length held) ns → IsPlace held d m
-      → place_among (map (id_at held) ns) d ≡ number_among ns m
+      → place_in (map (id_at held) ns) d ≡ number_among ns m
   places_same apart d m [] within at = refl
   places_same apart d m (n ∷ ns) within at =
-      ap (λ (b : Bool). cond b (Some 0) (option_map suc (place_among (map (id_at held) ns) d)))
+      ap (λ (b : Bool). cond b (Some 0) (option_map suc (place_in (map (id_at held) ns) d)))
       (sym (same_at apart d n m within.0 at))
       ∙ ap (λ o. cond (n == m) (Some 0) (option_map suc o)) (places_same apart d m ns within.1 at)
 
@@ -125,14 +126,14 @@ not_named (x ∷ hs) d (suc n) h none e = not_named hs d n h (rest (same_id x.id
 
 places_none : (held : List Held) (d : Id) (ns : List ℕ) → AllByRecursion (λ n. n < length held) ns
     → held_at held d ≡ None
-    → place_among (map (id_at held) ns) d ≡ None
+    → place_in (map (id_at held) ns) d ≡ None
 places_none held d [] within none = refl
 places_none held d (n ∷ ns) within none =
     let item = some_at held n within.0 in
     let not : same_id (id_at held n) d ≡ false =
     ap (λ (x : Id). same_id x d) (id_there held n item.0 item.1)
     ∙ not_named held d n item.0 none item.1 in
-    ap (λ (b : Bool). cond b (Some 0) (option_map suc (place_among (map (id_at held) ns) d))) not
+    ap (λ (b : Bool). cond b (Some 0) (option_map suc (place_in (map (id_at held) ns) d))) not
     ∙ ap (λ o. option_map suc o) (places_none held d ns within.1 none)
 
 -- ---- what is replied to

@@ -13,8 +13,9 @@ use Rattle.sync_rules.specs.Legal.{Legal}
 use Rattle.sync_rules.specs.Lists.{is_among, same_id}
 use Rattle.sync_rules.specs.Steps.{is_beside}
 use Rattle.sync_rules.proofs.Elements.{same_id-is}
-use Rattle.tree_commands.specs.Trees.{HasParent, RepliesToFirst, delivered_in, first_of}
-use Rattle.tree_commands.specs.Trees.{parents_behind, parents_of, place_among, place_if, replied_by}
+use Rattle.entry_codec.specs.Naming.{place_in}
+use Rattle.tree_commands.specs.Trees.{HasParent, RepliesToFirst, delivered_in, first_dependency_of}
+use Rattle.tree_commands.specs.Trees.{parents_behind, parents_of, place_if, replied_by}
 
 -- ---- a message among others has a place
 
@@ -35,11 +36,11 @@ later x ids o d at = record {
   there = at.there;
 }
 
-among_at : (ids : List Id) (d : Id) → is_among ids d ≡ true → IsAt ids (place_among ids d) d
+among_at : (ids : List Id) (d : Id) → is_among ids d ≡ true → IsAt ids (place_in ids d) d
 among_at [] d e = absurd (false≢true e)
 among_at (x ∷ ids) d e =
     elim (same_id x d) as (λ b. same_id x d ≡ b → (b || is_among ids d) ≡ true
-    → IsAt (x ∷ ids) (cond b (Some 0) (option_map suc (place_among ids d))) d) [
+    → IsAt (x ∷ ids) (cond b (Some 0) (option_map suc (place_in ids d))) d) [
       | true ↦ λ s e. record {
         place = 0;
         within = omega arith;
@@ -47,7 +48,7 @@ among_at (x ∷ ids) d e =
         there =
             ap Some (same_id-is x d s);
       }
-      | false ↦ λ s e. later x ids (place_among ids d) d (among_at ids d e)
+      | false ↦ λ s e. later x ids (place_in ids d) d (among_at ids d e)
     ] refl e
 
 -- what stands in the front
@@ -122,7 +123,7 @@ module _ (clients : Meaning) (f : Facts) (group : Id) where
       ∙ inside in
       let its : s.message.message.group ≡ group = same_id-is s.message.message.group group same in
       let first : slice_get s.deps 0 ≡ Some d =
-      sym (ap (replied_by clients f) s.found ∙ ap first_of s.accepted) ∙ replied in
+      sym (ap (replied_by clients f) s.found ∙ ap first_dependency_of s.accepted) ∙ replied in
       let there = first_among s.deps d before
       (λ x. is_beside s.message.message.group (held_at f.held x)) first s.served in
       kept_among in_group before d (subst (λ (g : Id). is_beside g (held_at f.held d) ≡ true) its
@@ -136,7 +137,7 @@ module _ (clients : Meaning) (f : Facts) (group : Id) where
     there : slice_get (earlier ++ ids) place ≡ Some d
 
   at_once : (earlier ids : List Id) (id d : Id) → replied_by clients f (held_at f.held id) ≡ Some d
-      → IsAt earlier (place_among earlier d) d → HasPlace earlier (id ∷ ids) 0 d
+      → IsAt earlier (place_in earlier d) d → HasPlace earlier (id ∷ ids) 0 d
   at_once earlier ids id d replied at = record {
     place = at.place;
     less = omega (arith, at.within);

@@ -13,7 +13,7 @@ use Rattle.sync_rules.specs.Facts.{Facts, Id}
 use Rattle.journal_state.specs.Whole.{id_at}
 use Rattle.tree_commands.specs.Gathered.{IsThreadOf}
 use Rattle.tree_commands.specs.Threads.{AreItemNumbers, ThreadValue}
-use Rattle.tree_commands.specs.Trees.{item_line, parents_of, walk_text}
+use Rattle.tree_commands.specs.Trees.{walk_line, parents_of, walk_text}
 use Rattle.tree_commands.proofs.Parents.{parents_long, replies_earlier}
 
 -- ---- numbers of items
@@ -49,7 +49,7 @@ module _ (clients : Meaning) (f : Facts) (ids : List Id) (t : ThreadValue)
   -- the lines of the items of a window are those of the walk
   pub lines_are : HasOneWalk → IsSortedWalk → (from count : ℕ) (items : List ℕ)
       → IsWindow t.parents from count items
-      → flat_map (item_line (map (id_at f.held) t.numbers) t.parents) items ≡ walk_text ids
+      → flat_map (walk_line (map (id_at f.held) t.numbers) t.parents) items ≡ walk_text ids
       (parents_of clients f ids) from count
   lines_are one sorted from count items w =
       let ps : List (Option ℕ) = parents_of clients f ids in
@@ -59,9 +59,9 @@ module _ (clients : Meaning) (f : Facts) (ids : List Id) (t : ThreadValue)
       one ps w'.walk (walk_of ps) w'.is_walk (sorted ps (replies_earlier clients f ids)) in
       let items_are : items ≡ take count (drop from (walk_of ps)) =
       w'.part ∙ ap (λ (x : List ℕ). take count (drop from x)) walk_is in
-      ap (λ (xs : List Id). flat_map (item_line xs t.parents) items) of.numbered
-      ∙ ap (λ (x : List (Option ℕ)). flat_map (item_line ids x) items) of.parents
-      ∙ ap (λ (x : List ℕ). flat_map (item_line ids ps) x) items_are
+      ap (λ (xs : List Id). flat_map (walk_line xs t.parents) items) of.numbered
+      ∙ ap (λ (x : List (Option ℕ)). flat_map (walk_line ids x) items) of.parents
+      ∙ ap (λ (x : List ℕ). flat_map (walk_line ids ps) x) items_are
 
 -- ---- lines
 

@@ -16,6 +16,7 @@ use Rattle.sync_rules.specs.Facts.{Facts, Held, Id, facts, group_at, held_at}
 use Rattle.sync_rules.specs.Legal.{Legal}
 use Rattle.sync_rules.specs.Lists.{same_id}
 use Rattle.sync_rules.specs.Steps.{is_beside, verdict_in}
+use Rattle.entry_codec.specs.Naming.{place_in}
 use Rattle.store_commands.specs.Shown.{Showing, denies, shows}
 use Rattle.tree_commands.specs.declared.tree.Window.{Window}
 
@@ -26,23 +27,18 @@ abbrev pub delivered_in : Facts → Id → List Id
 delivered_in f group = filter (λ id. is_beside group (held_at f.held id)) f.delivered
 
 -- the first dependency of a verdict, none where there is none
-abbrev pub first_of : Judgement → Option Id
-first_of judgement.Refuse = None
-first_of (judgement.Accept deps share) = slice_get deps 0
+abbrev pub first_dependency_of : Judgement → Option Id
+first_dependency_of judgement.Refuse = None
+first_dependency_of (judgement.Accept deps share) = slice_get deps 0
 
 -- what a held message replies to
 abbrev pub replied_by : Meaning → Facts → Option Held → Option Id
 replied_by clients f None = None
-replied_by clients f (Some h) = first_of (verdict_in clients f.groups h.message)
-
--- the place of a message in a list of ids
-abbrev pub place_among : List Id → Id → Option ℕ
-place_among [] id = None
-place_among (x ∷ xs) id = cond (same_id x id) (Some 0) (option_map suc (place_among xs id))
+replied_by clients f (Some h) = first_dependency_of (verdict_in clients f.groups h.message)
 
 abbrev pub place_if : List Id → Option Id → Option ℕ
 place_if ids None = None
-place_if ids (Some id) = place_among ids id
+place_if ids (Some id) = place_in ids id
 
 -- of each message the place of what it replies to, among the earlier ones
 abbrev pub parents_behind : Meaning → Facts → (earlier : List Id) → List Id → List (Option ℕ)
@@ -61,12 +57,12 @@ parents_of clients f ids = parents_behind clients f [] ids
 abbrev pub tree_text : (depth size : ℕ) (id : List ℕ) → List ℕ
 tree_text depth size id = decimal depth ++ (32 ∷ decimal size ++ (32 ∷ encode_lower id ++ 10 ∷ []))
 
-abbrev pub item_line : List Id → List (Option ℕ) → ℕ → List ℕ
-item_line ids ps n = tree_text (depth_of ps n) (size_of ps n) (slice_index_or ids n [])
+abbrev pub walk_line : List Id → List (Option ℕ) → ℕ → List ℕ
+walk_line ids ps n = tree_text (depth_of ps n) (size_of ps n) (slice_index_or ids n [])
 
 -- so many messages of the walk from a place on, a line each
 abbrev pub walk_text : List Id → List (Option ℕ) → (from count : ℕ) → List ℕ
-walk_text ids ps from count = flat_map (item_line ids ps) (take count (drop from (walk_of ps)))
+walk_text ids ps from count = flat_map (walk_line ids ps) (take count (drop from (walk_of ps)))
 
 -- what `tree` shows; it is refused where the group is not known
 abbrev pub tree_shown : Meaning → Window → Facts → Showing

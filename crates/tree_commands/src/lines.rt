@@ -4,7 +4,7 @@ ghost use Rattle.std.specs.List.{flat_map};
 ghost use Rattle.std.specs.String.{string_bytes};
 ghost use Rattle.journal_state.specs.Whole.{id_at};
 ghost use Rattle.tree_commands.specs.Threads.{AreItemNumbers};
-ghost use Rattle.tree_commands.specs.Trees.{item_line, tree_text};
+ghost use Rattle.tree_commands.specs.Trees.{walk_line, tree_text};
 
 use crate::thread::Thread;
 use std::alloc::{AllocError, Global};
@@ -38,7 +38,7 @@ pub(crate) fn add_lines(
     requires sized { thread.now.held ≡ length store.now.state.facts.held }
     requires within { AreItemNumbers thread.now items.now }
     ensures { OnOk result (string_bytes to.new ≡ string_bytes to.old ++ flat_map
-        (item_line (map (id_at store.now.state.facts.held) thread.now.numbers) thread.now.parents)
+        (walk_line (map (id_at store.now.state.facts.held) thread.now.numbers) thread.now.parents)
         items.now) }
 {
     'items: for i in 0..items.len() {
@@ -56,7 +56,7 @@ fn add_line(
 ) -> Result<(), AllocError>
     requires sized { thread.now.held ≡ length store.now.state.facts.held }
     requires within { item < length thread.now.numbers }
-    ensures { OnOk result (string_bytes to.new ≡ string_bytes to.old ++ item_line
+    ensures { OnOk result (string_bytes to.new ≡ string_bytes to.old ++ walk_line
         (map (id_at store.now.state.facts.held) thread.now.numbers) thread.now.parents item) }
 {
     let id = store.id_at(thread.number(item));

@@ -1,5 +1,6 @@
 -- Levels kept as a list of pairs with their levels are a map from pairs to levels.
-use Rattle.std.proofs.Common.{◌≡◌, ℕ, Bool, cond, ◌&&◌, nat_eq, List, [], ◌∷◌, Some, None, refl, sym, ◌∙◌, ap}
+use Rattle.std.proofs.Common.{◌≡◌, ℕ, Bool, cond, ◌&&◌, nat_eq, List, [], ◌∷◌, Some, None, refl}
+use Rattle.std.proofs.Common.{sym, ◌∙◌, ap, Option, unwrap_or}
 use Rattle.std.specs.FinMap as fin_map
 use Rattle.std.specs.Cmp.{IsTotalOrder, nat_cmp_total, unsigned_ties, both_tied, eq_by_cmp_equiv}
 use Rattle.std.specs.Cmp.Lexicographic.{slice_cmp, nat_list_cmp_total, texts_ties}
@@ -7,9 +8,10 @@ use Rattle.std.specs.Ordering.{nat_cmp, eq_by_cmp, ordering_then}
 use Rattle.std.specs.Map.{lookup}
 use Rattle.std.specs.declared.cmp.Ordering.TheVariants.{Less, Equal, Greater}
 use Rattle.std.proofs.lemmas.Cmp.{on_total, then_total}
+use Rattle.sync_rules.specs.declared.entries.Level.TheVariants as level
 use Rattle.sync_rules.specs.declared.entries.Level.{Level}
 use Rattle.sync_rules.specs.Lists.{same_id}
-use Rattle.sync_rules.specs.Facts.{Id, Pair, LevelMap, pair_cmp, id_cmp, level_or, level_at}
+use Rattle.sync_rules.specs.Facts.{Id, Pair, LevelMap, pair_cmp, id_cmp, level_at}
 
 -- whether two pairs are the same
 abbrev pub same_pair : Pair → Pair → Bool
@@ -41,8 +43,10 @@ find-lookup q (e ∷ es) = λ i. cond (pair_tied q e.0 i) (Some e.1) (find-looku
 
 -- the level of a pair is the one that is kept
 pub kept_level : (es : List (Pair × Level)) (contact : ℕ) (group : Id)
-    → level_at (fin_map.from_entries {R = pair_cmp} es) contact group ≡ level_or (lookup (same_pair (contact, group)) es)
-kept_level es contact group = ap level_or (fin_map.get-from_entries pair_total es (contact, group) ∙ find-lookup (contact, group) es)
+    → level_at (fin_map.from_entries {R = pair_cmp} es) contact group
+    ≡ unwrap_or (lookup (same_pair (contact, group)) es) level.Invisible
+kept_level es contact group = ap (λ (o : Option Level). unwrap_or o level.Invisible)
+    (fin_map.get-from_entries pair_total es (contact, group) ∙ find-lookup (contact, group) es)
 
 got : (es : List (Pair × Level)) (q : Pair) → fin_map.get (fin_map.from_entries {R = pair_cmp} es) q ≡ lookup (same_pair q) es
 got es q = fin_map.get-from_entries pair_total es q ∙ find-lookup q es

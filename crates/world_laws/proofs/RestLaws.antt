@@ -1,5 +1,6 @@
 -- Where nothing is due and no message waits, no message is still to be sent.
 use Rattle.std.proofs.Common.{◌≡◌, ℕ, zero, suc, ◌≤◌, Bool, true, false, not, cond, ◌&&◌, nat_le, List, [], ◌∷◌, take, refl, sym, ◌∙◌, ap, inl, inr, arith, Option, Some, None}
+use Rattle.std.specs.Option.{option_or}
 use Rattle.std.proofs.lemmas.Bool.{false≢true, le-leb}
 use Rattle.sync_ids.specs.declared.lists.TheConstants.{MAX_IDS}
 use Rattle.sync_rules.specs.declared.entries.Mode.{Mode}
@@ -8,7 +9,9 @@ use Rattle.sync_rules.specs.declared.entries.Out.{Out}
 use Rattle.sync_rules.specs.declared.entries.Session.{Session}
 use Rattle.sync_rules.specs.Lists.{In}
 use Rattle.sync_rules.specs.Facts.{Facts, Held, Id, Row, row_at}
-use Rattle.sync_rules.specs.Sessions.{acks_due, due_by, first_id, ids_where, is_ripe, is_sendable, offers_due, offers_of, out_or, owed_to, requests_due, send_due, send_of, wanted_of}
+use Rattle.sync_rules.specs.Sessions.{acks_due, due_by, first_id, ids_where, is_ripe, is_sendable}
+use Rattle.sync_rules.specs.Sessions.{offers_due, offers_of, owed_to, requests_due, send_due}
+use Rattle.sync_rules.specs.Sessions.{send_of, wanted_of}
 
 -- no id passes a test
 none_passes : (test : Held → Bool) (hs : List Held) → ids_where test hs ≡ [] → (h : Held) → In h hs → test h ≡ false
@@ -28,9 +31,9 @@ take_none zero ids some e = absurd (omega arith)
 take_none (suc n) [] some e = refl
 take_none (suc n) (x ∷ ids) some e = cc
 
-out_or-none : (a b : Option Out) → out_or a b ≡ None → (a ≡ None) × (b ≡ None)
-out_or-none None b e = (refl, e)
-out_or-none (Some x) b e = cc
+option_or-none : (a b : Option Out) → option_or a b ≡ None → (a ≡ None) × (b ≡ None)
+option_or-none None b e = (refl, e)
+option_or-none (Some x) b e = cc
 
 send_none : (o : Option Id) → send_due o ≡ None → o ≡ None
 send_none None e = refl
@@ -70,9 +73,10 @@ none_sendable f shared s now none h inside waits =
     let sends : Held → Bool = λ k. is_sendable f shared s.contact k && is_ripe s.mode now (row_at f.rows s.contact k.id) in
     let offered : Held → Bool = λ k. is_sendable f shared s.contact k
     && (not (row_at f.rows s.contact k.id).asked && nat_le (row_at f.rows s.contact k.id).expiry now) in
-    let a = out_or-none (acks_due (owed_to f s.contact)) (out_or requests (out_or send offers)) none in
-    let b = out_or-none requests (out_or send offers) a.1 in
-    let c = out_or-none send offers b.1 in
+    let a = option_or-none (acks_due (owed_to f s.contact))
+    (option_or requests (option_or send offers)) none in
+    let b = option_or-none requests (option_or send offers) a.1 in
+    let c = option_or-none send offers b.1 in
     let no_send : ids_where sends f.held ≡ [] = first_none (ids_where sends f.held) (send_none (send_of f shared s.contact s.mode now) c.0) in
     ripe_or_not f shared s.contact now h waits s.mode (none_passes sends f.held no_send h inside)
     (λ interactive.

@@ -1,5 +1,7 @@
 -- Each step of a sound world leads to a sound world.
-use Rattle.std.proofs.Common.{◌≡◌, ℕ, zero, suc, ◌-◌, ◌<◌, ◌≤◌, Bool, true, false, not, cond, ◌||◌, ◌⊎◌, List, [], ◌∷◌, ◌++◌, append_assoc, append-nil, refl, sym, ◌∙◌, ap, subst, inl, inr, arith, Option, Some, None, is_some}
+use Rattle.std.proofs.Common.{◌≡◌, ℕ, zero, suc, ◌-◌, ◌<◌, ◌≤◌, Bool, true, false, not, cond, ◌||◌}
+use Rattle.std.proofs.Common.{◌⊎◌, List, [], ◌∷◌, ◌++◌, append_assoc, append-nil, refl, sym, ◌∙◌}
+use Rattle.std.proofs.Common.{ap, subst, inl, inr, arith, Option, Some, None, is_some, unwrap_or}
 use Rattle.std.specs.Prelude.{nat_lt}
 use Rattle.std.specs.FinMap as fin_map
 use Rattle.std.proofs.lemmas.Bool.{cases_eq, false≢true, ltb-true, ltb-false}
@@ -16,9 +18,9 @@ use Rattle.sync_rules.specs.Consistency.{HasRows}
 use Rattle.sync_rules.proofs.ConsistencyLaws.{legal_consistent}
 use Rattle.sync_rules.proofs.Continuing.{continues_journals, facts-append, legal-append}
 use Rattle.sync_rules.specs.Lists.{In, is_among}
-use Rattle.sync_rules.specs.Facts.{ExtendsJournal, Facts, Held, Id, Journal, Row, after_all}
+use Rattle.sync_rules.specs.Facts.{ExtendsJournal, Facts, Held, Id, Journal, Row, after_all, no_row}
 use Rattle.sync_rules.specs.Facts.{entries_of, facts, held_at, is_held, is_level_shared, level_at}
-use Rattle.sync_rules.specs.Facts.{row_at, row_or, session_at}
+use Rattle.sync_rules.specs.Facts.{row_at, session_at}
 use Rattle.sync_rules.proofs.Kept.{after_batches-is}
 use Rattle.sync_rules.specs.Laws.{IsAuthored}
 use Rattle.sync_rules.specs.Legal.{Legal}
@@ -412,7 +414,9 @@ module _ (clients : Meaning) (w : World) (n : IsNewWorld clients w) where
   no_way : (i : ℕ) (near : Bool) → way_at w i near ≡ None
   no_way i near = ap (λ (ls : List WorldLink). way_in near (link_in ls i)) n.unlinked
 
-  row_held : (f : Facts) → HasRows f → (contact : ℕ) (id : Id) (o : Option Row) → fin_map.get f.rows (contact, id) ≡ o → (row_or o).seen ≡ true → is_held f.held id ≡ true
+  row_held : (f : Facts) → HasRows f → (contact : ℕ) (id : Id) (o : Option Row)
+      → fin_map.get f.rows (contact, id) ≡ o → (unwrap_or o no_row).seen ≡ true → is_held f.held id
+      ≡ true
   row_held f has contact id None at seen = absurd (false≢true seen)
   row_held f has contact id (Some x) at seen = (has contact id x at).held
 

@@ -1,12 +1,13 @@
 -- Records cut off the front of some bytes, and all records in flight that arrive.
 use Rattle.std.proofs.Common.{◌≡◌, ℕ, zero, suc, ◌+◌, ◌-◌, ◌≤◌, List, [], ◌∷◌, ◌++◌, length, take}
+use Rattle.std.proofs.Common.{Option, unwrap_or}
 use Rattle.std.proofs.Common.{drop, refl, sym, ap, ◌∙◌, arith, append_assoc, length-drop, Some}
 use Rattle.std.proofs.Common.{None}
 use Rattle.record_grammar.specs.declared.front.Front.{Front}
 use Rattle.record_grammar.specs.declared.front.Front.TheVariants as front
 use Rattle.record_grammar.specs.Reading.{front_in}
-use Rattle.world_links.specs.Flights.{first_len, first_n_records, in_front, len_of, len_or}
-use Rattle.world_links.specs.Flights.{records_in}
+use Rattle.world_links.specs.Flights.{first_len, first_n_records, in_front, len_of}
+use Rattle.world_links.specs.Flights.{whole_records}
 
 -- ---- cutting
 
@@ -27,7 +28,7 @@ none_left : (m : ℕ) (bytes : List ℕ) → length bytes ≤ 0 → first_n_reco
 unfolding first_n_records
 none_left zero bytes short = refl
 none_left (suc m) [] short = ap
-    (λ o. in_front [] o (first_n_records m (drop (len_or o) []))) none_of
+    (λ (o : Option ℕ). in_front [] o (first_n_records m (drop (unwrap_or o 0) []))) none_of
 none_left (suc m) (b ∷ bytes) short = absurd (omega arith)
 
 -- more room than bytes changes nothing
@@ -39,8 +40,8 @@ agree (suc n) zero bytes a b = none_left (suc n) bytes b
 agree (suc n) (suc m) bytes a b =
     elim (first_len bytes) as
     (λ o. first_len bytes ≡ o
-    → in_front bytes o (first_n_records n (drop (len_or o) bytes))
-    ≡ in_front bytes o (first_n_records m (drop (len_or o) bytes))) [
+    → in_front bytes o (first_n_records n (drop (unwrap_or o 0) bytes))
+    ≡ in_front bytes o (first_n_records m (drop (unwrap_or o 0) bytes))) [
       | None ↦ λ e. refl
       | Some len ↦ λ e.
           let some = long bytes len e in
@@ -51,16 +52,19 @@ agree (suc n) (suc m) bytes a b =
 by_first : (n : ℕ) (bytes : List ℕ) (len : ℕ) → first_len bytes ≡ Some len
     → first_n_records (suc n) bytes ≡ take len bytes ∷ first_n_records n (drop len bytes)
 unfolding first_n_records
-by_first n bytes len is = ap (λ o. in_front bytes o (first_n_records n (drop (len_or o) bytes))) is
+by_first n bytes len is = ap (λ (o : Option ℕ). in_front bytes o
+    (first_n_records n (drop (unwrap_or o 0) bytes))) is
 
 by_none : (n : ℕ) (bytes : List ℕ) → first_len bytes ≡ None → first_n_records n bytes ≡ []
 unfolding first_n_records
 by_none zero bytes is = refl
-by_none (suc n) bytes is = ap (λ o. in_front bytes o (first_n_records n (drop (len_or o) bytes))) is
+by_none (suc n) bytes is = ap (λ (o : Option ℕ). in_front bytes o
+    (first_n_records n (drop (unwrap_or o 0) bytes))) is
 
 -- the record at the front, and those behind it
-pub records_next : (bytes : List ℕ) (len : ℕ) → first_len bytes ≡ Some len → len ≤ length bytes → records_in bytes ≡ take len bytes ∷ records_in (drop len bytes)
-unfolding records_in
+pub records_next : (bytes : List ℕ) (len : ℕ) → first_len bytes ≡ Some len → len ≤ length bytes
+    → whole_records bytes ≡ take len bytes ∷ whole_records (drop len bytes)
+unfolding whole_records
 records_next bytes len is fits =
     let some = long bytes len is in
     let short = length-drop len bytes in
@@ -70,11 +74,12 @@ records_next bytes len is fits =
     ∙ ap (λ l. take len bytes ∷ l) (agree (length bytes) (length (drop len bytes)) (drop len bytes) enough (omega arith))
 
 -- no record stands at the front
-pub records_none : (bytes : List ℕ) → first_len bytes ≡ None → records_in bytes ≡ []
-unfolding records_in
+pub records_none : (bytes : List ℕ) → first_len bytes ≡ None → whole_records bytes ≡ []
+unfolding whole_records
 records_none bytes is = by_none (length bytes) bytes is
 
 -- one more record was sent, and those behind it are to be
-pub sent_next : (front all later : List (List ℕ)) (first bytes : List ℕ) → records_in bytes ≡ first ∷ later → front ++ records_in bytes ≡ all
+pub sent_next : (front all later : List (List ℕ)) (first bytes : List ℕ) → whole_records bytes
+    ≡ first ∷ later → front ++ whole_records bytes ≡ all
     → (front ++ first ∷ []) ++ later ≡ all
 sent_next front all later first bytes next so_far = append_assoc front (first ∷ []) later ∙ ap (λ l. front ++ l) (sym next) ∙ so_far

@@ -2,7 +2,7 @@
 use Rattle.std.specs.Prelude.{ℕ, Bool, true, false, List, [], ◌∷◌, ◌++◌, drop, take, Option, Some, None}
 use Rattle.outside.specs.Links.{Planned, piece, pause, close}
 use Rattle.world_links.specs.declared.end.TheConstants.{PIECE_LEN}
-use Rattle.world_links.specs.Flights.{records_in}
+use Rattle.world_links.specs.Flights.{whole_records}
 
 -- its device; the number that the link has at the device's host, while the device has it; the session that began on it; the
 -- records in flight from it; all bytes that it was given, and how many of them were heard; and how many of the bytes that were
@@ -33,4 +33,4 @@ answer_to cut (byte ∷ bytes) = piece (take PIECE_LEN (byte ∷ bytes)) ∷ []
 -- what was sent since the last look is in flight; on a link that is cut it is dropped
 abbrev pub flight_behind : Bool → List ℕ → EndValue → List (List ℕ)
 flight_behind true sent e = e.flight
-flight_behind false sent e = e.flight ++ records_in (drop e.seen sent)
+flight_behind false sent e = e.flight ++ whole_records (drop e.seen sent)

@@ -1,5 +1,6 @@
 -- The records that stand whole at the front of some bytes, each by its bytes.
-use Rattle.std.specs.Prelude.{ℕ, zero, suc, ◌+◌, List, [], ◌∷◌, length, take, drop, Option, Some, None}
+use Rattle.std.specs.Prelude.{ℕ, zero, suc, ◌+◌, List, [], ◌∷◌, length, take, drop, Option, Some}
+use Rattle.std.specs.Prelude.{None, unwrap_or}
 use Rattle.record_grammar.specs.declared.front.Front.{Front}
 use Rattle.record_grammar.specs.declared.front.Front.TheVariants as front
 use Rattle.record_grammar.specs.Reading.{front_in}
@@ -18,17 +19,13 @@ abbrev pub in_front : List ℕ → Option ℕ → List (List ℕ) → List (List
 in_front bytes None later = []
 in_front bytes (Some len) later = take len bytes ∷ later
 
--- where the others begin
-abbrev pub len_or : Option ℕ → ℕ
-len_or None = 0
-len_or (Some len) = len
-
 -- the first n records, or as many as there are
 unfoldable pub first_n_records : ℕ → List ℕ → List (List ℕ)
 first_n_records zero bytes = []
 first_n_records (suc n) bytes =
-    in_front bytes (first_len bytes) (first_n_records n (drop (len_or (first_len bytes)) bytes))
+    in_front bytes (first_len bytes)
+    (first_n_records n (drop (unwrap_or (first_len bytes) 0) bytes))
 
 -- the records that stand whole at the front, one behind the other
-unfoldable pub records_in : List ℕ → List (List ℕ)
-records_in bytes = first_n_records (length bytes) bytes
+unfoldable pub whole_records : List ℕ → List (List ℕ)
+whole_records bytes = first_n_records (length bytes) bytes

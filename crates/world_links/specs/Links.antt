@@ -1,16 +1,12 @@
 -- A link and the moves of what is in flight on it.
 use Rattle.std.specs.Prelude.{ℕ, ◌==◌, true, if◌then◌else◌, List, [], ◌++◌, Option, Some, None}
-use Rattle.std.specs.List.{flat_map}
+use Rattle.record_grammar.specs.Spelling.{joined}
 use Rattle.world_links.specs.declared.moves.Move.{Move}
 use Rattle.world_links.specs.declared.moves.Side.{Side}
 use Rattle.world_links.specs.declared.moves.Side.TheVariants as side
 use Rattle.world_links.specs.declared.link.Link.{Link}
 use Rattle.world_links.specs.Ends.{EndValue}
 use Rattle.world_links.specs.Moves.{flight_after, given_by}
-
--- records, one behind the other
-abbrev pub joined : List (List ℕ) → List ℕ
-joined records = flat_map (λ r. r) records
 
 -- the end of a side, and a link by the end of that side and the other one
 abbrev pub side_end : Side → Link → EndValue
@@ -55,11 +51,11 @@ cut l = record { near = with_flight [] l.near; far = with_flight [] l.far; is_cu
 abbrev pub detached : EndValue → EndValue
 detached e = record e { at = None }
 
-abbrev pub left_at : Option Side → Link → Link
-left_at None l = l
-left_at (Some side.Near) l = cut (record l { near = detached l.near })
-left_at (Some side.Far) l = cut (record l { far = detached l.far })
+abbrev pub left_from : Option Side → Link → Link
+left_from None l = l
+left_from (Some side.Near) l = cut (record l { near = detached l.near })
+left_from (Some side.Far) l = cut (record l { far = detached l.far })
 
 -- a link that a device has no more
 abbrev pub left_by : ℕ → Link → Link
-left_by device l = left_at (side_of device l) l
+left_by device l = left_from (side_of device l) l

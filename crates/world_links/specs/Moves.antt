@@ -24,9 +24,9 @@ swapped_first [] = []
 swapped_first (r ∷ rs) = swapped_next r rs
 
 -- the first, if there is one
-abbrev pub first_of : {A : Type 0} → List A → List A
-first_of [] = []
-first_of (r ∷ rs) = r ∷ []
+abbrev pub first_only : {A : Type 0} → List A → List A
+first_only [] = []
+first_only (r ∷ rs) = r ∷ []
 
 -- whether there is what moves
 abbrev pub is_possible : {A : Type 0} → Move → List A → Bool
@@ -44,7 +44,7 @@ flight_after move.Swap rs = swapped_first rs
 
 -- what the other end is given
 abbrev pub given_by : {A : Type 0} → Move → List A → List A
-given_by move.Carry rs = first_of rs
+given_by move.Carry rs = first_only rs
 given_by move.Lose rs = []
-given_by move.Repeat rs = first_of rs
+given_by move.Repeat rs = first_only rs
 given_by move.Swap rs = []

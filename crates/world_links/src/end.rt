@@ -4,7 +4,7 @@ ghost use Rattle.std.specs.Prelude.{drop, length, take};
 ghost use Rattle.outside.specs.Script.{planned_of};
 ghost use Rattle.world_links.specs.Ends.{answer_to, flight_behind, input_of, new_end};
 ghost use Rattle.world_links.specs.Links.{given_too};
-ghost use Rattle.world_links.specs.Moves.{dropped_first, first_of, has_first, has_two};
+ghost use Rattle.world_links.specs.Moves.{dropped_first, first_only, has_first, has_two};
 ghost use Rattle.world_links.specs.Moves.{swapped_first};
 
 use crate::flight::Flight;
@@ -141,7 +141,7 @@ impl End {
 
     // Gives the first record in flight to another end, if there is one, and leaves it in flight.
     pub(crate) fn give_first(&self, to: &mut End) -> Result<(), AllocError>
-        ensures ok { OnOk result (to.new ≡ given_too (first_of self.now.flight) to.old) }
+        ensures ok { OnOk result (to.new ≡ given_too (first_only self.now.flight) to.old) }
         ensures err { OnErr result (to.new ≡ to.old) }
     {
         if let Some(record) = self.flight.first() {

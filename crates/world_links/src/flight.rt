@@ -2,7 +2,7 @@
 ghost use Rattle.std.specs.Prelude.{◌≡◌, ◌<◌, ◌≤◌, [], ◌∷◌, ◌++◌, length, slice_get};
 ghost use Rattle.std.specs.Prelude.{IfSome, MatchOption, OnErr, OnOk};
 ghost use Rattle.std.specs.Option.{option_copied};
-ghost use Rattle.world_links.specs.Flights.{first_len, records_in};
+ghost use Rattle.world_links.specs.Flights.{first_len, whole_records};
 ghost use Rattle.world_links.specs.Moves.{dropped_first, swapped_first, has_first, has_two};
 
 use record_grammar::{Front, HEADER_LEN, front_of};
@@ -52,7 +52,7 @@ impl Flight {
     /// The records that stand whole at the front of these bytes are sent, one behind the other. It
     /// fails only for want of memory.
     pub fn send(&mut self, alloc: Global, bytes: &[u8]) -> Result<(), AllocError>
-        ensures { OnOk result (self.new ≡ self.old ++ records_in bytes.now) }
+        ensures { OnOk result (self.new ≡ self.old ++ whole_records bytes.now) }
     {
         let mut rest = bytes;
         'records: while let Some((record, behind)) = first_record(rest) {
@@ -129,8 +129,8 @@ fn record_len(bytes: &[u8]) -> Option<usize>
 
 // The record that stands whole at the front, and what follows it.
 fn first_record(bytes: &[u8]) -> Option<(&[u8], &[u8])>
-    ensures cut { MatchOption result (records_in bytes.now ≡ [])
-        (λ cut. records_in bytes.now ≡ cut.0.now ∷ records_in cut.1.now) }
+    ensures cut { MatchOption result (whole_records bytes.now ≡ [])
+        (λ cut. whole_records bytes.now ≡ cut.0.now ∷ whole_records cut.1.now) }
     ensures shorter { IfSome result (λ cut. length cut.1.now < length bytes.now) }
 {
     match record_len(bytes) {

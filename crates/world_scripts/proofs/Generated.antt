@@ -4,7 +4,8 @@ use Rattle.std.proofs.Common.{true, false, cond, List, [], ◌∷◌, ◌++◌, 
 use Rattle.std.proofs.Common.{ap, arith, add-one, eq-eqb, ne_eqb, Option, Some, None}
 use Rattle.std.proofs.Common.{slice_get}
 use Rattle.std.specs.Option.{option_to_list}
-use Rattle.world_scripts.specs.Generator.{advanced, number_at, writer, last_post, text_of, post_of}
+use Rattle.world_scripts.specs.Generator.{number_behind, number_at, writer, last_post, label_text}
+use Rattle.world_scripts.specs.Generator.{post_of}
 use Rattle.world_scripts.specs.Generator.{posts_from, rests, is_rest_behind, opening_steps}
 use Rattle.world_scripts.specs.Generator.{Position, steps_left, steps_of, IsPosition}
 use Rattle.world_scripts.specs.declared.step.WorldStep.{WorldStep}
@@ -14,9 +15,9 @@ use Rattle.world_scripts.specs.declared.step.WorldStep.TheVariants as step
 
 module _ (seed count posted number : ℕ) (first second : Option ℕ)
     (at : IsPosition seed count posted number first second)
-    (drawn label : ℕ) (is_drawn : drawn ≡ advanced number) (is_label : label ≡ posted) where
-  draws : drawn ≡ advanced (number_at seed posted)
-  draws = is_drawn ∙ ap advanced at.drawn
+    (drawn label : ℕ) (is_drawn : drawn ≡ number_behind number) (is_label : label ≡ posted) where
+  draws : drawn ≡ number_behind (number_at seed posted)
+  draws = is_drawn ∙ ap number_behind at.drawn
 
   next_number : drawn ≡ number_at seed (posted + 1)
   unfolding number_at
@@ -75,23 +76,25 @@ module _ (seed count posted number : ℕ) (first second : Option ℕ)
       }
 
   pub post_first : (made : WorldStep) → ((drawn / 2 ^ 33) % 2 ≡ 1 → ⊥)
-      → made ≡ step.Post 0 0 label (option_to_list first) (text_of label)
+      → made ≡ step.Post 0 0 label (option_to_list first) (label_text label)
       → made ≡ post_of seed posted
   unfolding post_of
   post_first made h made_is =
       made_is ∙ (λ i. step.Post 0 0 (is_label i) (option_to_list (at.first i))
-      (text_of (is_label i)))
-      ∙ ap (λ d. step.Post d 0 posted (option_to_list (last_post seed d posted)) (text_of posted))
+      (label_text (is_label i)))
+      ∙ ap (λ d. step.Post d 0 posted (option_to_list (last_post seed d posted))
+      (label_text posted))
       (sym (first_writes h))
 
   pub post_second : (made : WorldStep) → (drawn / 2 ^ 33) % 2 ≡ 1
-      → made ≡ step.Post 1 0 label (option_to_list second) (text_of label)
+      → made ≡ step.Post 1 0 label (option_to_list second) (label_text label)
       → made ≡ post_of seed posted
   unfolding post_of
   post_second made h made_is =
       made_is ∙ (λ i. step.Post 1 0 (is_label i) (option_to_list (at.second i))
-      (text_of (is_label i)))
-      ∙ ap (λ d. step.Post d 0 posted (option_to_list (last_post seed d posted)) (text_of posted))
+      (label_text (is_label i)))
+      ∙ ap (λ d. step.Post d 0 posted (option_to_list (last_post seed d posted))
+      (label_text posted))
       (sym (second_writes h))
 
 -- no post was made

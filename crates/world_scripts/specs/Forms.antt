@@ -72,8 +72,8 @@ over value None = Some value
 over value (Some text) = None
 
 -- all words that are left
-abbrev pub whole : {W : Type 0} → Form W → LineLeft → Option W
-whole form left = and_then (form left) over
+abbrev pub whole_line : {W : Type 0} → Form W → LineLeft → Option W
+whole_line form left = and_then (form left) over
 
 -- ---- single words
 
@@ -119,8 +119,8 @@ unfoldable pub labels_in : List ℕ → Option (List ℕ)
 labels_in word =
     if bytes_eq word (codes "-") then Some [] else each_label (slice_split (λ b. b == 44) word)
 
-abbrev pub latency_in : List ℕ → Option ℕ
-latency_in word = number_between 1 MAX_LATENCY word
+abbrev pub link_latency_in : List ℕ → Option ℕ
+link_latency_in word = number_between 1 MAX_LATENCY word
 
 -- ---- the forms by their first words
 
@@ -148,7 +148,7 @@ link_forms =
 unfoldable pub device_forms : Forms
 device_forms =
     (codes "share", says step.Share ▸ device_in ▸ device_in ▸ count_in ▸ level_in)
-    ∷ (codes "link", says step.Link ▸ device_in ▸ device_in ▸ mode_in ▸ latency_in)
+    ∷ (codes "link", says step.Link ▸ device_in ▸ device_in ▸ mode_in ▸ link_latency_in)
     ∷ (codes "stop", says step.Stop ▸ device_in ▸ count_in ▸ pick_in)
     ∷ (codes "turn", says step.Turn ▸ device_in)
     ∷ (codes "restart", says step.Restart ▸ device_in) ∷ link_forms
@@ -164,13 +164,13 @@ step_forms =
 
 -- what is left of a line whose first word this is, by these forms
 abbrev pub form_in : Forms → List ℕ → LineLeft → Option WorldStep
-form_in forms word left = option_and_then (λ form. whole form left) (named forms word)
+form_in forms word left = option_and_then (λ form. whole_line form left) (named forms word)
 
 abbrev pub devices_in : LineLeft → Option Line
-devices_in = whole (says line.Devices ▸ number_between MIN_DEVICES MAX_DEVICES)
+devices_in = whole_line (says line.Devices ▸ number_between MIN_DEVICES MAX_DEVICES)
 
 abbrev pub show_in : LineLeft → Option Line
-show_in = whole (says (λ device. line.Does (action.Show device)) ▸ device_in)
+show_in = whole_line (says (λ device. line.Does (action.Show device)) ▸ device_in)
 
 unfoldable pub said_in : List ℕ → LineLeft → Option Line
 said_in word left =

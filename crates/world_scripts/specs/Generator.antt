@@ -10,17 +10,17 @@ use Rattle.world_scripts.specs.declared.step.WorldStep.{WorldStep}
 use Rattle.world_scripts.specs.declared.step.WorldStep.TheVariants as step
 
 -- the number behind a number
-unfoldable pub advanced : ℕ → ℕ
-advanced x = (x * 6364136223846793005 + 1442695040888963407) % 2 ^ 64
+unfoldable pub number_behind : ℕ → ℕ
+number_behind x = (x * 6364136223846793005 + 1442695040888963407) % 2 ^ 64
 
 -- the number that is drawn for the post before the one of this label; at first it is the seed
 unfoldable pub number_at : ℕ → ℕ → ℕ
 number_at seed zero = seed
-number_at seed (suc label) = advanced (number_at seed label)
+number_at seed (suc label) = number_behind (number_at seed label)
 
 -- the device that writes the post of this label
 unfoldable pub writer : ℕ → ℕ → ℕ
-writer seed label = (advanced (number_at seed label) / 2 ^ 33) % 2
+writer seed label = (number_behind (number_at seed label) / 2 ^ 33) % 2
 
 -- the last post of a device before the post of this label
 unfoldable pub last_post : ℕ → ℕ → ℕ → Option ℕ
@@ -29,15 +29,15 @@ last_post seed device (suc label) =
     if writer seed label == device then Some label else last_post seed device label
 
 -- the letter m and the label
-abbrev pub text_of : ℕ → List ℕ
-text_of label = codes "m" ++ decimal label
+abbrev pub label_text : ℕ → List ℕ
+label_text label = codes "m" ++ decimal label
 
 -- the post of this label: in the one group, at the time that is its label, behind its device's last
 -- post
 unfoldable pub post_of : ℕ → ℕ → WorldStep
 post_of seed label =
     step.Post (writer seed label) 0 label
-    (option_to_list (last_post seed (writer seed label) label)) (text_of label)
+    (option_to_list (last_post seed (writer seed label) label)) (label_text label)
 
 -- whether a rest stands behind so many posts: behind each hundredth, and behind the last
 abbrev pub is_rest_behind : ℕ → ℕ → Bool

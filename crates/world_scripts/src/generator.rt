@@ -1,8 +1,9 @@
 //! Worlds that are made from a seed.
 ghost use Rattle.std.specs.Prelude.{◌≡◌, ◌+◌, ◌<◌, ◌≤◌, ◌==◌, IfOk, OnErr, OnOk, codes};
 ghost use Rattle.std.specs.Prelude.{option_to_list, slice_get};
-ghost use Rattle.world_scripts.specs.Generator.{advanced, is_rest_behind, IsNextStep, opening_steps};
-ghost use Rattle.world_scripts.specs.Generator.{post_of, steps_of, text_of};
+ghost use Rattle.world_scripts.specs.Generator.{number_behind, is_rest_behind, IsNextStep};
+ghost use Rattle.world_scripts.specs.Generator.{opening_steps};
+ghost use Rattle.world_scripts.specs.Generator.{post_of, steps_of, label_text};
 
 use crate::lists::{Labels, Text};
 use crate::step::{THREAD, WorldStep};
@@ -169,7 +170,7 @@ impl Generator {
 
 // The number that follows.
 fn advanced(number: u64) -> u64
-    ensures { result ≡ advanced number }
+    ensures { result ≡ number_behind number }
 {
     number.wrapping_mul(FACTOR).wrapping_add(SUMMAND)
 }
@@ -198,7 +199,7 @@ fn thread_of(alloc: Global, device: u8) -> Result<WorldStep, AllocError>
 // The post of this label, behind the device's last one.
 fn post(alloc: Global, device: u8, label: u64, last: Option<u64>) -> Result<WorldStep, AllocError>
     ensures { IfOk result (λ step. step ≡ WorldStep.Post device 0 label (option_to_list last)
-        (text_of label)) }
+        (label_text label)) }
 {
     let mut parents = Vec::new(alloc);
     if let Some(last) = last {

@@ -1,6 +1,6 @@
 use Rattle.std.proofs.Common.{◌≡◌, Err, drop, refl, sym, ◌∙◌, subst, rules}
 use Rattle.commands.specs.declared.command.Command.TheVariants as command
-use Rattle.commands.specs.Reading.{Asked, word_then, ends, asks_saying, IsReadAs}
+use Rattle.commands.specs.Reading.{Asked, word_then, no_more, asks_saying, IsReadAs}
 use Rattle.sync_words.specs.Words.{texts}
 use Rattle.sync_words.specs.Words.{name_in, number_in, descriptor_in}
 use Rattle.commands.proofs.PlaceLemmas.{stopped}
@@ -15,7 +15,7 @@ returns-in_err-name-clause-read c =
     let stops : IsReadAs asked (Err c.in_err-name.field-0.0) =
     stopped name_in (texts c.args.words.now) 4 asked c.in_err-name.field-0.0
     (λ name. word_then (number_in 4294967295) (λ major. word_then descriptor_in
-    (λ descriptor. ends (command.Say group timestamp join name major descriptor)))) refl
+    (λ descriptor. no_more (command.Say group timestamp join name major descriptor)))) refl
     c.in_err-name.ensures.err in
     search rules
 
@@ -27,15 +27,15 @@ returns-in_err-major-clause-read c =
     let name = c.in_ok-name.name in
     let asked : Asked = asks_saying group timestamp join 4 (drop 4 (texts c.args.words.now)) in
     let there : asked ≡ word_then (number_in 4294967295) (λ major. word_then descriptor_in
-    (λ descriptor. ends (command.Say group timestamp join name major descriptor))) 5
+    (λ descriptor. no_more (command.Say group timestamp join name major descriptor))) 5
     (drop 5 (texts c.args.words.now)) =
     c.in_ok-name.ensures.ok
     (λ name. word_then (number_in 4294967295) (λ major. word_then descriptor_in
-    (λ descriptor. ends (command.Say group timestamp join name major descriptor)))) in
+    (λ descriptor. no_more (command.Say group timestamp join name major descriptor)))) in
     let stops : IsReadAs asked (Err c.in_err-major.field-0.0) =
     stopped (number_in 4294967295) (texts c.args.words.now) 5 asked c.in_err-major.field-0.0
     (λ major. word_then descriptor_in
-    (λ descriptor. ends (command.Say group timestamp join name major descriptor))) there
+    (λ descriptor. no_more (command.Say group timestamp join name major descriptor))) there
     c.in_err-major.ensures.err in
     search rules
 
@@ -48,17 +48,17 @@ returns-in_err-descriptor-clause-read c =
     let major = c.in_ok-major.major in
     let asked : Asked = asks_saying group timestamp join 4 (drop 4 (texts c.args.words.now)) in
     let there : asked ≡ word_then descriptor_in
-    (λ descriptor. ends (command.Say group timestamp join name major descriptor)) 6
+    (λ descriptor. no_more (command.Say group timestamp join name major descriptor)) 6
     (drop 6 (texts c.args.words.now)) =
     c.in_ok-name.ensures.ok
     (λ name. word_then (number_in 4294967295) (λ major. word_then descriptor_in
-    (λ descriptor. ends (command.Say group timestamp join name major descriptor))))
+    (λ descriptor. no_more (command.Say group timestamp join name major descriptor))))
     ∙ c.in_ok-major.ensures.ok
     (λ major. word_then descriptor_in
-    (λ descriptor. ends (command.Say group timestamp join name major descriptor))) in
+    (λ descriptor. no_more (command.Say group timestamp join name major descriptor))) in
     let stops : IsReadAs asked (Err c.in_err-descriptor.field-0.0) =
     stopped descriptor_in (texts c.args.words.now) 6 asked c.in_err-descriptor.field-0.0
-    (λ descriptor. ends (command.Say group timestamp join name major descriptor)) there
+    (λ descriptor. no_more (command.Say group timestamp join name major descriptor)) there
     c.in_err-descriptor.ensures.err in
     search rules
 
@@ -72,10 +72,10 @@ returns-clause-read c =
     let there =
     c.in_ok-name.ensures.ok
     (λ name. word_then (number_in 4294967295) (λ major. word_then descriptor_in
-    (λ descriptor. ends (command.Say group timestamp join name major descriptor))))
+    (λ descriptor. no_more (command.Say group timestamp join name major descriptor))))
     ∙ c.in_ok-major.ensures.ok
     (λ major. word_then descriptor_in
-    (λ descriptor. ends (command.Say group timestamp join name major descriptor)))
+    (λ descriptor. no_more (command.Say group timestamp join name major descriptor)))
     ∙ c.in_ok-descriptor.ensures.ok
-    (λ descriptor. ends (command.Say group timestamp join name major descriptor)) in
+    (λ descriptor. no_more (command.Say group timestamp join name major descriptor)) in
     subst (λ (asked : Asked). IsReadAs asked c.read_end.result) (sym there) c.read_end.ensures.read

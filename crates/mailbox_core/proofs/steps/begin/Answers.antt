@@ -1,8 +1,8 @@
 use Rattle.std.proofs.Common.{ℕ, Ok, is_some, sym, ap, ◌∙◌}
 use Rattle.std.proofs.lemmas.Bool.{false≢true}
 use Rattle.sync_rules.specs.Facts.{session_at}
+use Rattle.sync_rules.specs.Hearing.{batch_session}
 use Rattle.sync_store.specs.declared.fault.StoreFault.TheVariants as fault
-use Rattle.mailbox_core.specs.Sending.{batch_session}
 use Rattle.mailbox_core.specs.Steps.{HasBegunSession}
 use Rattle.mailbox_core.specs.Taking.{first_batch}
 use Rattle.mailbox_core.proofs.BeginSteps.{begun_found, begun_starved, of_its_batch}

@@ -1,10 +1,10 @@
 use Rattle.std.proofs.Common.{ℕ, ◌+◌, refl, ap, ◌∙◌}
-use Rattle.sync_world.specs.Showing.{count_in}
+use Rattle.sync_world.specs.Showing.{number_in_state}
 use Rattle.sync_world.proofs.ShowLemmas.{counted_more}
 use Rattle.sync_world.proofs.player.states_of.Goals as goal
 
 pub messages-init : goal.messages-init
-unfolding count_in
+unfolding number_in_state
 messages-init c =
     (record { delivered = refl; invalid = refl; pending = refl; unknown = refl }, refl)
 

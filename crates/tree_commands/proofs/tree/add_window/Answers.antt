@@ -3,7 +3,7 @@ use Rattle.std.specs.List.{flat_map}
 use Rattle.std.specs.String.{string_bytes}
 use Rattle.journal_state.specs.Whole.{id_at}
 use Rattle.reply_tree.specs.Walks.{IsWindow}
-use Rattle.tree_commands.specs.Trees.{delivered_in, item_line, parents_of, walk_text}
+use Rattle.tree_commands.specs.Trees.{delivered_in, walk_line, parents_of, walk_text}
 use Rattle.tree_commands.proofs.Walked.{items_within, lines_are, on_lines}
 use Rattle.tree_commands.proofs.tree.add_window.Goals as goal
 
@@ -32,7 +32,7 @@ returns c clients knows =
     subst (λ (xs : List ℕ). IsWindow thread.parents w.from w.count xs)
     (sym c.as_slice.ensures.value)
     c.in_ok-items.ensures in
-    let lines : flat_map (item_line (map (id_at f.held) thread.numbers) thread.parents)
+    let lines : flat_map (walk_line (map (id_at f.held) thread.numbers) thread.parents)
     c.as_slice.result.now
     ≡ walk_text ids (parents_of clients f ids) w.from w.count =
     lines_are clients f ids thread (c.in_ok-thread.ensures clients knows) c.walks_are_one.ensures

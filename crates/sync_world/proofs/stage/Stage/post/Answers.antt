@@ -8,7 +8,7 @@ use Rattle.sync_world.proofs.StepLaws.{leads_err, came_goes, fails_leads}
 use Rattle.world_devices.specs.Devices.{DeviceValue}
 use Rattle.world_devices.specs.Refusals.{RefusedBy, refuses_message}
 use Rattle.sync_ids.specs.Values.{MessageValue}
-use Rattle.sync_world.specs.Posting.{message_of}
+use Rattle.sync_world.specs.Posting.{message_for}
 use Rattle.sync_world.proofs.RefusingLaws.{by_same, done_same, with_both}
 use Rattle.sync_world.proofs.RefusingLaws.{with_missing}
 use Rattle.sync_rules.specs.declared.entries.Entry.TheVariants as entry
@@ -51,7 +51,7 @@ pub returns-then-d-len-clause-refused : goal.returns-then-d-len-clause-refused
 returns-then-d-len-clause-refused c =
     by_same true _ _
     (with_missing (λ (m : MessageValue) (x : DeviceValue). refuses_message x.node m)
-    (message_of c.args.self.now.groups c.args.self.now.posts.items c.args.group c.args.time
+    (message_for c.args.self.now.groups c.args.self.now.posts.items c.args.group c.args.time
     c.args.parents.now c.args.text.now) (slice_get c.args.self.now.devices.items c.args.d)
     (slice_get_past c.args.self.now.devices.items c.args.d (omega arith))) tt
 
@@ -61,7 +61,7 @@ returns-in_err-ran-clause-refused c =
     c.from_residual-in_err-ran.result = search rules in
     by_same (refuses_message c.index_mut-device.result.now.node c.in_ok-message.message) _ _
     (with_both (λ (m : MessageValue) (x : DeviceValue). refuses_message x.node m)
-    (message_of c.args.self.now.groups c.args.self.now.posts.items c.args.group c.args.time
+    (message_for c.args.self.now.groups c.args.self.now.posts.items c.args.group c.args.time
     c.args.parents.now c.args.text.now) (slice_get c.args.self.now.devices.items c.args.d)
     c.in_ok-message.message c.index_mut-device.result.now c.in_ok-message.ensures
     (get_at c.args.self.now.devices.items c.args.d c.index_mut-device.result.now (omega arith)
@@ -71,7 +71,7 @@ pub returns-clause-refused : goal.returns-clause-refused
 returns-clause-refused c =
     by_same (refuses_message c.index_mut-device.result.now.node c.in_ok-message.message) _ _
     (with_both (λ (m : MessageValue) (x : DeviceValue). refuses_message x.node m)
-    (message_of c.args.self.now.groups c.args.self.now.posts.items c.args.group c.args.time
+    (message_for c.args.self.now.groups c.args.self.now.posts.items c.args.group c.args.time
     c.args.parents.now c.args.text.now) (slice_get c.args.self.now.devices.items c.args.d)
     c.in_ok-message.message c.index_mut-device.result.now c.in_ok-message.ensures
     (get_at c.args.self.now.devices.items c.args.d c.index_mut-device.result.now (omega arith)
@@ -82,7 +82,7 @@ returns-clause-refused c =
 pub returns-in_err-ran-clause-does : goal.returns-in_err-ran-clause-does
 returns-in_err-ran-clause-does c =
     let within : c.args.d < length c.args.self.now.devices.items = omega arith in
-    let message = message_of c.args.self.now.groups c.args.self.now.posts.items c.args.group
+    let message = message_for c.args.self.now.groups c.args.self.now.posts.items c.args.group
     c.args.time c.args.parents.now c.args.text.now in
     added_not (step.Post c.args.d c.args.group c.args.time c.args.parents.now c.args.text.now)
     c.args.self.now _ (option_map (λ (m : MessageValue). entry.Author m) message)
@@ -96,7 +96,7 @@ returns-in_err-ran-clause-does c =
 pub returns-clause-does : goal.returns-clause-does
 returns-clause-does c =
     let within : c.args.d < length c.args.self.now.devices.items = omega arith in
-    let message = message_of c.args.self.now.groups c.args.self.now.posts.items c.args.group
+    let message = message_for c.args.self.now.groups c.args.self.now.posts.items c.args.group
     c.args.time c.args.parents.now c.args.text.now in
     record {
       does =
@@ -125,7 +125,7 @@ returns-in_err-message-clause-does c =
     c.from_residual.result c.in_err-message.field-0.0 c.args.self.now c.args.self.now
     c.from_residual.ensures.1
     (made_unfilled _
-    (message_of c.args.self.now.groups c.args.self.now.posts.items c.args.group
+    (message_for c.args.self.now.groups c.args.self.now.posts.items c.args.group
     c.args.time c.args.parents.now c.args.text.now) c.in_err-message.field-0.0
     c.in_err-message.ensures) (inl refl)
 

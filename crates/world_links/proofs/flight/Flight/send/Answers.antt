@@ -1,12 +1,14 @@
 use Rattle.std.proofs.Common.{◌++◌, sym, ap, ◌∙◌, append-nil}
-use Rattle.world_links.specs.Flights.{records_in}
+use Rattle.world_links.specs.Flights.{whole_records}
 use Rattle.world_links.proofs.FlightLaws.{sent_next}
 use Rattle.world_links.proofs.flight.Flight.send.Goals as goal
 
 pub records-preserved : goal.records-preserved
 records-preserved c =
-    ap (λ s. s ++ records_in c.in-Some.behind.now) c.in_ok-push.ensures
-    ∙ sent_next c.records.self (c.args.self.now ++ records_in c.args.bytes.now) (records_in c.in-Some.behind.now) c.in-Some.record.now c.records.rest.now c.in-Some.ensures.cut c.records.invariant
+    ap (λ s. s ++ whole_records c.in-Some.behind.now) c.in_ok-push.ensures
+    ∙ sent_next c.records.self (c.args.self.now ++ whole_records c.args.bytes.now)
+    (whole_records c.in-Some.behind.now) c.in-Some.record.now c.records.rest.now
+    c.in-Some.ensures.cut c.records.invariant
 
 pub returns : goal.returns
 returns c =
