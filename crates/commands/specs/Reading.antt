@@ -84,6 +84,17 @@ asks_tree =
     word_then (number_in MAX_WALK) (λ from.
     word_then (number_in MAX_WALK) (λ count. no_more (command.Tree group from count))))
 
+-- a place of the list of delivered messages and a number of them
+abbrev pub asks_inbox_from : Rest
+asks_inbox_from =
+    word_then (number_in MAX_WALK) (λ from.
+    word_then (number_in MAX_WALK) (λ count. no_more (command.InboxFrom from count)))
+
+-- no word, for the whole list; or a part of it
+abbrev pub asks_inbox : Rest
+asks_inbox place words =
+    if is_left words then asks_inbox_from place words else Do command.Inbox
+
 -- whether one joins a group or leaves it
 abbrev pub stance_in : List ℕ → Option Bool
 stance_in word =
@@ -170,7 +181,6 @@ plain_in word =
     else if bytes_eq word (codes "init") then Some command.Init
     else if bytes_eq word (codes "contact") then Some command.Contact
     else if bytes_eq word (codes "show") then Some command.Show
-    else if bytes_eq word (codes "inbox") then Some command.Inbox
     else if bytes_eq word (codes "audit") then Some command.Audit
     else if bytes_eq word (codes "compact") then Some command.Compact
     else None
@@ -186,6 +196,7 @@ asks_of word =
     else if bytes_eq word (codes "group") then asks_group
     else if bytes_eq word (codes "share") then asks_share
     else if bytes_eq word (codes "post") then asks_post
+    else if bytes_eq word (codes "inbox") then asks_inbox
     else if bytes_eq word (codes "body") then asks_body
     else if bytes_eq word (codes "tree") then asks_tree
     else if bytes_eq word (codes "say") then asks_say

@@ -11,6 +11,7 @@ may_write (command.Try name descriptor) = false
 may_write command.Records = false
 may_write command.Show = false
 may_write command.Inbox = false
+may_write (command.InboxFrom from count) = false
 may_write (command.Body id) = false
 may_write (command.Tree group from count) = false
 may_write command.Audit = false

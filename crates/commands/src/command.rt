@@ -27,6 +27,8 @@ pub enum Command {
     Show,
     /// `inbox`: prints the delivered messages.
     Inbox,
+    /// `inbox FROM COUNT`: prints so many of the delivered messages, from a place on.
+    InboxFrom(u32, u32),
     /// `body ID`: writes the body of a message.
     Body(MessageId),
     /// `tree GROUP FROM COUNT`: prints so many messages of the walk of a group's replies, from a
@@ -81,6 +83,7 @@ impl Command {
             | Command::Records
             | Command::Show
             | Command::Inbox
+            | Command::InboxFrom(_, _)
             | Command::Body(_)
             | Command::Tree(_, _, _)
             | Command::Audit => false,

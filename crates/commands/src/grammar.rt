@@ -3,7 +3,7 @@ ghost use Rattle.std.specs.Prelude.{◌≡◌, ◌≤◌, drop, IfOk, IfSome};
 ghost use Rattle.commands.specs.Reading.{asks, asks_agree, asks_of, asks_try, asks_group};
 ghost use Rattle.commands.specs.Reading.{asks_mailbox, asks_share, asks_sending, asks_taking};
 ghost use Rattle.commands.specs.Reading.{asks_post, asks_body, asks_say, asks_saying, asks_sync};
-ghost use Rattle.commands.specs.Reading.{asks_tree, no_more};
+ghost use Rattle.commands.specs.Reading.{asks_inbox, asks_inbox_from, asks_tree, no_more};
 ghost use Rattle.commands.specs.Reading.{IsReadAs, IsCommandWithin, plain_in};
 ghost use Rattle.sync_words.specs.Words.{texts};
 
@@ -23,7 +23,7 @@ pub const MAX_CONTACT: u64 = MAX_CONTACTS as u64 - 1;
 // The greatest major version of a client.
 const MAX_MAJOR: u64 = 4_294_967_295;
 
-// The greatest place of a walk, and the most messages of it.
+// The greatest place of a walk or of the delivered messages, and the most messages of it.
 const MAX_WALK: u64 = 4_294_967_295;
 
 /// The most outputs in a mailbox file.
@@ -56,6 +56,7 @@ fn read_command(alloc: Global, word: &str, words: &[String]) -> Result<Command, 
         "group" => read_group(alloc, words),
         "share" => read_share(words),
         "post" => read_post(words),
+        "inbox" => read_inbox(words),
         "body" => read_body(words),
         "tree" => read_tree(words),
         "say" => read_say(alloc, words),
@@ -79,7 +80,6 @@ fn plain(word: &str) -> Option<Command>
         "init" => Some(Command::Init),
         "contact" => Some(Command::Contact),
         "show" => Some(Command::Show),
-        "inbox" => Some(Command::Inbox),
         "audit" => Some(Command::Audit),
         "compact" => Some(Command::Compact),
         _ => None,
@@ -133,6 +133,27 @@ fn read_post(words: &[String]) -> Result<Command, WordsFault>
     let group = id_at(words, 1)?;
     let timestamp = number_at(words, 2, MAX_TIMESTAMP)?;
     read_end(words, 3, Command::Post(group, timestamp))
+}
+
+fn read_inbox(words: &[String]) -> Result<Command, WordsFault>
+    ensures read { IsReadAs (asks_inbox 1 (drop 1 (texts words.now))) result }
+    ensures within { IfOk result IsCommandWithin }
+{
+    if is_left_at(words, 1) {
+        read_inbox_from(words)
+    } else {
+        Ok(Command::Inbox)
+    }
+}
+
+// Reads which part of the delivered messages is printed.
+fn read_inbox_from(words: &[String]) -> Result<Command, WordsFault>
+    ensures read { IsReadAs (asks_inbox_from 1 (drop 1 (texts words.now))) result }
+    ensures within { IfOk result IsCommandWithin }
+{
+    let from = number_at(words, 1, MAX_WALK)?;
+    let count = number_at(words, 2, MAX_WALK)?;
+    read_end(words, 3, Command::InboxFrom(from as u32, count as u32))
 }
 
 fn read_body(words: &[String]) -> Result<Command, WordsFault>

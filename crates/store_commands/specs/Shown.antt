@@ -1,5 +1,5 @@
 -- What the commands of a store print, by the facts of its journal.
-use Rattle.std.specs.Prelude.{ℕ, zero, suc, List, [], ◌++◌, length, Option, Some, None}
+use Rattle.std.specs.Prelude.{ℕ, zero, suc, List, [], ◌++◌, length, take, drop, Option, Some, None}
 use Rattle.std.specs.List.{flat_map}
 use Rattle.sync_ids.specs.Ids.{group_id_of, message_id_of}
 use Rattle.sync_rules.specs.declared.entries.Entry.{Entry}
@@ -71,6 +71,11 @@ delivered_line (Some h) =
 abbrev pub inbox_of : Facts → List ℕ
 inbox_of f = flat_map (λ id. delivered_line (held_at f.held id)) f.delivered
 
+-- what `inbox FROM COUNT` prints: of these the lines at the places from one on, counted from 0, at most so many
+abbrev pub inbox_from : Facts → ℕ → ℕ → List ℕ
+inbox_from f from count =
+    flat_map (λ id. delivered_line (held_at f.held id)) (take count (drop from f.delivered))
+
 -- ---- what a command shows
 
 -- what a command that only looks shows: a text, or it is refused
@@ -82,6 +87,7 @@ pub data Showing : Type 0 where
 abbrev pub listing_text : Listing → Facts → List ℕ
 listing_text listing.Store f = show_text f
 listing_text listing.Inbox f = inbox_of f
+listing_text (listing.InboxFrom from count) f = inbox_from f from count
 
 abbrev pub listing_shown : Listing → Facts → Showing
 listing_shown what f = shows (listing_text what f)

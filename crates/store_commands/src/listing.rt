@@ -5,7 +5,7 @@ ghost use Rattle.std.specs.List.{flat_map};
 ghost use Rattle.std.specs.String.{string_bytes};
 ghost use Rattle.sync_rules.specs.Facts.{Held, Id, Known, held_at};
 ghost use Rattle.store_commands.specs.Shown.{contact_levels, delivered_line, group_level};
-ghost use Rattle.store_commands.specs.Shown.{group_line, inbox_of, level_line, levels_below};
+ghost use Rattle.store_commands.specs.Shown.{group_line, inbox_from, inbox_of, level_line, levels_below};
 ghost use Rattle.store_commands.specs.Shown.{listing_text, message_line, show_text};
 
 use std::alloc::{AllocError, Global};
@@ -22,6 +22,9 @@ pub enum Listing {
     Store,
     /// `inbox`: the delivered messages in the order of their delivery.
     Inbox,
+    /// `inbox FROM COUNT`: of these, those at the places from the first number on, counted from 0,
+    /// and at most as many as the second says.
+    InboxFrom(u32, u32),
 }
 
 /// All that a listing prints.
@@ -37,6 +40,7 @@ pub fn add_listing(
     match listing {
         Listing::Store => add_show(alloc, store, to),
         Listing::Inbox => add_inbox(alloc, store, to),
+        Listing::InboxFrom(from, count) => add_inbox_from(alloc, store, from, count, to),
     }
 }
 
@@ -147,6 +151,24 @@ fn add_inbox(alloc: Global, store: &Store, to: &mut String) -> Result<(), AllocE
 {
     'delivered: for k in 0..store.delivered() {
         add_delivered(alloc, store, k, to)?;
+    }
+    Ok(())
+}
+
+// What `inbox FROM COUNT` prints.
+fn add_inbox_from(
+    alloc: Global,
+    store: &Store,
+    from: u32,
+    count: u32,
+    to: &mut String,
+) -> Result<(), AllocError>
+    ensures { OnOk result (string_bytes to.new ≡ string_bytes to.old ++ inbox_from
+        store.now.state.facts from count) }
+{
+    let shown = count.min(store.delivered().saturating_sub(from));
+    'delivered: for k in 0..shown {
+        add_delivered(alloc, store, from + k, to)?;
     }
     Ok(())
 }

@@ -124,6 +124,8 @@ duty_of clients (command.Post group timestamp) = record {
 }
 duty_of clients command.Show = to_show clients (listing_shown listing.Store)
 duty_of clients command.Inbox = to_show clients (listing_shown listing.Inbox)
+duty_of clients (command.InboxFrom from count) =
+    to_show clients (listing_shown (listing.InboxFrom from count))
 duty_of clients (command.Body id) = to_show clients (body_shown id)
 duty_of clients (command.Tree group from count) =
     to_show clients (tree_shown clients (record { group = group; from = from; count = count }))

@@ -165,6 +165,10 @@ fn obey<H: Host, S: Source, W: Sink, C: Clients>(
         }
         Command::Show => list(alloc, hasher, Listing::Store, host, out, clients),
         Command::Inbox => list(alloc, hasher, Listing::Inbox, host, out, clients),
+        Command::InboxFrom(from, count) => {
+            let part = Listing::InboxFrom(from, count);
+            list(alloc, hasher, part, host, out, clients)
+        }
         Command::Body(id) => write_body(alloc, hasher, &id, host, out, clients),
         Command::Tree(group, from, count) => {
             let window = Window { group, from, count };
