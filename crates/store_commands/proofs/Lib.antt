@@ -1,4 +1,5 @@
 pub mod Lines
+mod Places
 pub mod Passing
 pub mod Looks
 pub mod Adds

@@ -1,6 +1,6 @@
 -- Lines that are added one after the other.
-use Rattle.std.proofs.Common.{◌≡◌, ℕ, zero, suc, ◌+◌, ◌<◌, List, [], ◌∷◌, ◌++◌, length, take}
-use Rattle.std.proofs.Common.{Some, refl, sym, ap, ◌∙◌, append_assoc, append-nil}
+use Rattle.std.proofs.Common.{◌≡◌, ℕ, zero, suc, ◌+◌, ◌<◌, List, [], ◌∷◌, ◌++◌, length, take, drop}
+use Rattle.std.proofs.Common.{None, Some, refl, sym, ap, ◌∙◌, append_assoc, append-nil}
 use Rattle.std.proofs.Common.{add-one, arith}
 use Rattle.std.specs.Prelude.{slice_get}
 use Rattle.std.specs.List.{flat_map}
@@ -17,6 +17,15 @@ pub item_at : {A : Type 0} (xs : List A) (n : ℕ) → n < length xs
 item_at [] n within = absurd (omega arith)
 item_at (y ∷ ys) zero within = (y, refl)
 item_at (y ∷ ys) (suc n) within = item_at ys n (omega arith)
+
+-- an item of what stands behind a place
+pub item_behind : {A : Type 0} (xs : List A) (from n : ℕ) (x : A)
+    → slice_get (drop from xs) n ≡ Some x → slice_get xs (from + n) ≡ Some x
+item_behind xs zero n x e = ap (slice_get xs) (refl) ∙ e
+item_behind [] (suc from) n x e = absurd (let it : None ≡ Some x = e in cc)
+item_behind (y ∷ ys) (suc from) n x e =
+    let one : suc from + n ≡ suc (from + n) = omega arith in
+    ap (slice_get (y ∷ ys)) one ∙ item_behind ys from n x e
 
 -- the lines up to an item and its own
 take_line : {A : Type 0} (line : A → List ℕ) (xs : List A) (n : ℕ) (x : A) → slice_get xs n ≡ Some x

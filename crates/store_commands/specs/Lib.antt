@@ -1,5 +1,6 @@
 pub mod Plans
 pub mod Shown
+pub mod Places
 pub mod Show
 pub mod Stopping
 pub mod Looking

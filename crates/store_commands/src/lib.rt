@@ -4,6 +4,7 @@
 //! - `load`: a store that is loaded, or what the command comes to without one.
 //! - `plans`: the tests of a command over the loaded journal, and the entry that it plans.
 //! - `commit`: a migration, settling, a batch, and settling again, with the answers of a store as outcomes.
+//! - `laws`: that a line which is listed keeps its place.
 //! - `listing`, `print`: what is printed of a store, and how it goes out.
 #![tactic(auto)]
 
@@ -11,6 +12,7 @@ mod commit;
 mod compacting;
 mod entries;
 mod init;
+mod laws;
 mod listing;
 mod load;
 mod plans;
@@ -22,6 +24,7 @@ pub use commit::{Settling, migrate_and_settle};
 pub use compacting::compact;
 pub use entries::{add_contact, add_entry, add_group, set_level};
 pub use init::make_store;
+pub use laws::lines_keep_places;
 pub use listing::{Listing, add_listing};
 pub use load::load_store;
 pub use plans::{PlannedPost, plan_message};
