@@ -3,12 +3,12 @@
 
 mod need;
 
-use crate::need::need_of;
+use crate::need::{early_input, need_of};
 use arguments::words;
 use client_sharing::SharingBundle;
 use commands::{WordsFault, read_words};
-use outside::{Sink, Source};
-use outside_real::{EarlySource, FileHost, Need, StdSink, hold_standard_numbers};
+use outside::{Sink, write_text};
+use outside_real::{Cause, EarlySource, FileHost, Need, StdSink, hold_standard_numbers};
 use std::alloc::{AllocError, Global};
 use std::fs::{File, Files};
 use std::hash::RandomState;
@@ -17,11 +17,11 @@ use std::net::Net;
 use std::process::ExitCode;
 use std::random::RandomSource;
 use std::rt::Runtime;
-use sync_ids::MAX_BODY;
-use sync_top::{Outcome, report, run};
+use sync_top::{Outcome, Status, report, run};
 
 /// Does what the words of the command line ask for, in the folder that is current. No file may
-/// have been opened yet.
+/// have been opened yet. The locks on the files of the store are let go of before the first write to
+/// the output or the error output. Behind `disk fault` a second line says why.
 pub fn run_program<R, I, O, E>(rt: R, input: I, out: O, err: E) -> ExitCode
 where
     R: Runtime + Files<File = File> + AllocGlobal + Net + RandomSource,
@@ -32,8 +32,13 @@ where
     let alloc = rt.alloc();
     let mut err = StdSink::new(err);
     // No file was opened yet, so none has the number of a stream that is closed.
-    let Ok(_numbers) = hold_standard_numbers(&rt) else {
-        return ended(&Outcome::DiskFault, &mut err);
+    let _numbers = match hold_standard_numbers(&rt) {
+        Ok(numbers) => numbers,
+        Err(e) => {
+            let status = ended(&Outcome::DiskFault, &mut err);
+            tell(Some(Cause::of(&e)), &mut err);
+            return status;
+        }
     };
     let Ok(words) = words(&rt, alloc) else {
         return ended(&Outcome::Memory, &mut err);
@@ -50,7 +55,10 @@ where
     let Ok(mut host) = FileHost::with(rt, ".", need) else {
         return ended(&Outcome::Memory, &mut err);
     };
-    run(
+    if hand_lock(&host, &mut out, &mut err).is_err() {
+        return ended(&Outcome::Memory, &mut err);
+    }
+    let status = run(
         alloc,
         hasher,
         words.as_slice(),
@@ -59,8 +67,29 @@ where
         &mut out,
         &mut err,
         &SharingBundle::new(),
-    )
-    .exit_code()
+    );
+    if status == Status::DiskFault {
+        tell(host.cause(), &mut err);
+    }
+    status.exit_code()
+}
+
+// Has both outputs let go of the locks on the files before they write.
+fn hand_lock<R: Runtime + Net, O: Write + Drop, E: Write + Drop>(
+    host: &FileHost<R>,
+    out: &mut StdSink<O>,
+    err: &mut StdSink<E>,
+) -> Result<(), AllocError> {
+    out.let_go_first(host.lock()?);
+    err.let_go_first(host.lock()?);
+    Ok(())
+}
+
+// Says why a call on a file failed. That the error output fails changes nothing.
+fn tell<S: Sink>(cause: Option<Cause>, err: &mut S) {
+    if let Some(cause) = cause {
+        let _ = write_text(err, cause.line());
+    }
 }
 
 // What the command of these words needs of the files, once its input was read: nobody waits for this
@@ -72,9 +101,7 @@ fn prepare<I: Read + Drop>(
 ) -> Result<Need, AllocError> {
     match read_words(alloc, words) {
         Ok(command) => {
-            if command.reads_body() {
-                input.read_early(MAX_BODY + 1)?;
-            }
+            input.read_early(early_input(&command))?;
             Ok(need_of(&command))
         }
         Err(WordsFault::Usage(_)) => Ok(Need::Nothing),

@@ -8,6 +8,7 @@ abbrev pub writes : Need → Bool
 writes need.Nothing = false
 writes need.Read = false
 writes need.Write = true
+writes need.Make = true
 writes need.Stay = true
 
 -- neither file may be written, by what each says of it

@@ -2,7 +2,7 @@
 ghost use Rattle.std.specs.Prelude.{◌≤◌, length};
 
 use crate::streams::read_full;
-use std::alloc::Global;
+use std::alloc::{AllocError, Global};
 use std::io;
 use std::io::Read;
 
@@ -23,6 +23,14 @@ impl Ahead {
             at: 0,
             bytes: Vec::new(alloc),
         }
+    }
+
+    /// As `new`, with all memory that reads need.
+    pub fn with_room(alloc: Global) -> Result<Ahead, AllocError> {
+        Ok(Ahead {
+            at: 0,
+            bytes: Vec::with_capacity(alloc, AHEAD)?,
+        })
     }
 
     /// Forgets what was read ahead.

@@ -2,6 +2,7 @@
 use crate::opening::{is_there, open};
 use crate::streams::read_full;
 use std::alloc::Global;
+use std::fs::OpenFile;
 use std::io;
 use std::io::{ErrorKind, Read};
 use std::path::{Path, PathBuf};
@@ -12,6 +13,9 @@ const PIECE: usize = 1_048_576;
 
 // How many pieces are read at most: more than a journal has, and of what lies behind none is read.
 const MOST_PIECES: usize = 257;
+
+// How many bytes these are.
+const MOST: usize = MOST_PIECES * PIECE;
 
 // How many bytes of a file say which journal it has.
 const HEADER: usize = 14;
@@ -47,12 +51,14 @@ fn copy<R: Files>(files: &R, alloc: Global, path: &PathBuf) -> io::Result<Vec<u8
         return Ok(Vec::new(alloc));
     }
     let mut file = open(files, path.as_path())?;
-    read_all(&mut file, alloc)
+    let len = file.metadata()?.len().min(MOST as u64) as usize;
+    read_all(&mut file, alloc, len)
 }
 
-// The bytes up to the end, as it is once it is reached.
-fn read_all<F: Read>(from: &mut F, alloc: Global) -> io::Result<Vec<u8>> {
-    let mut bytes = Vec::new(alloc);
+// The bytes up to the end, as it is once it is reached. Memory is taken once, for a file of this
+// length and what is read behind it; more only where the file grows meanwhile.
+fn read_all<F: Read>(from: &mut F, alloc: Global, len: usize) -> io::Result<Vec<u8>> {
+    let mut bytes = Vec::with_capacity(alloc, len.saturating_add(PIECE))?;
     for _ in 0..MOST_PIECES {
         let had = bytes.len();
         bytes.resize(had.saturating_add(PIECE), 0)?;

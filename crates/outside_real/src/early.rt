@@ -1,10 +1,14 @@
 //! A standard stream that is read before it is asked for.
-ghost use Rattle.std.specs.Prelude.{◌≤◌, length};
+ghost use Rattle.std.specs.Prelude.{◌≡◌, ◌≤◌, length, IfSome};
 
 use crate::streams::read_once;
 use outside::{Failed, Source};
 use std::alloc::{AllocError, Global};
 use std::io::Read;
+
+// How many bytes are read early in one piece. Memory of this size goes back to the system, one piece
+// after the other as they are taken.
+const PIECE: usize = 262_144;
 
 /// What comes behind the bytes that were read early.
 #[derive(Clone, Copy, PartialEq, Eq)]
@@ -18,11 +22,14 @@ enum Rest {
 }
 
 /// A source over a reader, of which a front may be read before it is asked for. It answers as if it
-/// were read when it is asked, and tells its failures alone.
+/// were read when it is asked, and tells its failures alone. What was read early takes memory until
+/// it was taken, and no longer.
 #[derive(Drop)]
 pub struct EarlySource<R: Read + Drop> {
+    alloc: Global,
     from: R,
-    early: Vec<u8>,
+    pieces: Vec<Vec<u8>>,
+    piece: usize,
     at: usize,
     rest: Rest,
     faults: u64,
@@ -32,25 +39,51 @@ impl<R: Read + Drop> EarlySource<R> {
     /// A source that reads `from`, of which nothing was read yet.
     pub fn new(alloc: Global, from: R) -> EarlySource<R> {
         EarlySource {
+            alloc,
             from,
-            early: Vec::new(alloc),
+            pieces: Vec::new(alloc),
+            piece: 0,
             at: 0,
             rest: Rest::Stream,
             faults: 0,
         }
     }
 
-    /// Reads up to so many bytes more, or to the end, or up to a failure.
+    /// Reads up to so many bytes more, or to the end, or up to a failure. It takes memory as bytes
+    /// come.
     pub fn read_early(&mut self, most: usize) -> Result<(), AllocError> {
-        if self.rest != Rest::Stream {
-            return Ok(());
+        let mut left = most;
+        'pieces: while left > 0 && self.rest == Rest::Stream {
+            let wanted = left.min(PIECE);
+            let mut piece = vec![in self.alloc; 0u8; wanted]?;
+            let (n, rest) = read_front(&mut self.from, piece.as_mut_slice());
+            piece.truncate(n);
+            self.rest = rest;
+            if n > 0 {
+                self.pieces.push(piece)?;
+            }
+            left -= wanted;
         }
-        let had = self.early.len();
-        self.early.resize(had.saturating_add(most), 0)?;
-        let (n, rest) = read_front(&mut self.from, &mut self.early.as_mut_slice()[had..]);
-        self.early.truncate(had + n);
-        self.rest = rest;
         Ok(())
+    }
+
+    // Takes bytes of those that were read early, into the front of `buf`, and says how many; none
+    // where all were taken.
+    fn take_early(&mut self, buf: &mut [u8]) -> Option<usize>
+        ensures bound { IfSome result (λ n. n ≤ length buf.new) }
+        ensures faults { self.new.faults ≡ self.old.faults }
+    {
+        let piece = self.pieces.get_mut(self.piece)?;
+        let left = &piece[self.at.min(piece.len())..];
+        let n = left.len().min(buf.len());
+        buf[..n].copy_from_slice(&left[..n]);
+        self.at += n;
+        if self.at >= piece.len() {
+            *piece = Vec::new(self.alloc);
+            self.piece += 1;
+            self.at = 0;
+        }
+        Some(n)
     }
 }
 
@@ -62,9 +95,9 @@ fn read_front<R: Read>(from: &mut R, buf: &mut [u8]) -> (usize, Rest)
     let mut done = 0;
     'pieces: while done < buf.len() {
         match read_once(from, &mut buf[done..]) {
-            Some(0) => return (done, Rest::End),
-            Some(n) => done += n,
-            None => return (done, Rest::Failure),
+            Ok(0) => return (done, Rest::End),
+            Ok(n) => done += n,
+            Err(_) => return (done, Rest::Failure),
         }
     }
     (done, Rest::Stream)
@@ -76,15 +109,11 @@ impl<R: Read + Drop> Source for EarlySource<R> {
     ghost tells = { λ s. record { bytes = None; faults = s.faults } };
 
     fn read(&mut self, buf: &mut [u8]) -> Result<usize, Failed> {
-        if self.at < self.early.len() {
-            let left = &self.early[self.at..];
-            let n = left.len().min(buf.len());
-            buf[..n].copy_from_slice(&left[..n]);
-            self.at += n;
+        if let Some(n) = self.take_early(buf) {
             return Ok(n);
         }
         let answer = match self.rest {
-            Rest::Stream => read_once(&mut self.from, buf),
+            Rest::Stream => read_once(&mut self.from, buf).ok(),
             Rest::End => Some(0),
             Rest::Failure => None,
         };

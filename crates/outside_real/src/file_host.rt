@@ -5,32 +5,38 @@ ghost use Rattle.outside_real.specs.Need.{IsUnwritten, writes};
 ghost use Rattle.outside.specs.declared.limits.TheConstants.{LINKS};
 ghost use Rattle.outside.specs.Faults.{HasCause};
 
+use crate::cause::{Cause, Unmet};
 use crate::copying::copy_both;
 use crate::link::Link;
 use crate::lock::{Lock, lock_to_read, lock_to_stay, lock_to_write};
 use crate::need::Need;
 use crate::random::random_bytes;
+use crate::real_file::sync_above;
 use crate::store_file::StoreFile;
 use outside::{Disk, Failed, Heard, Host, LINKS, raise_at};
 use std::alloc::{AllocError, Global};
 use std::fs::{File, Files};
 use std::io;
+use std::io::ErrorKind;
 use std::net::Net;
+use std::rc::Rc;
 use std::rt::Runtime;
 use std::time::Clock;
 
 /// A disk of the files `bsp.0` and `bsp.1` in a folder, the links and the clock of this machine. It
 /// tells its counts alone: of its links, and of the failures of the disk and of each link. After a
-/// sync of a file that failed each call on that file fails. A read on a socket waits for 100 ms and
-/// then answers `Idle`, one on the standard input never does; sends to a peer wait 100 ms each, and
-/// half a minute beside that in all.
+/// sync of a file that failed each call on that file fails, and so does each call on a file once the
+/// locks were let go of. A read on a socket waits for 100 ms and then answers `Idle`, one on the
+/// standard input never does; sends to a peer wait 100 ms each, and half a minute beside that in
+/// all.
 #[derive(Drop)]
 pub struct FileHost<R: Runtime + Net> {
     rt: R,
     alloc: Global,
-    first: StoreFile<R>,
-    second: StoreFile<R>,
-    lock: Option<Lock>,
+    first: StoreFile,
+    second: StoreFile,
+    lock: Option<Rc<Lock>>,
+    cause: Option<Cause>,
     disk_faults: u64,
     links: Vec<Link<R>>,
     link_faults: [u64; LINKS],
@@ -43,10 +49,17 @@ impl<R: Runtime + AllocGlobal + Net> FileHost<R> {
     pub fn new(rt: R, folder: &str) -> Result<FileHost<R>, AllocError>
         ensures no_links { IfOk result (λ h. vec_len h.links ≡ 0) }
     {
+        FileHost::held(rt, folder, None)
+    }
+
+    // As `new`, for as long as these locks are held.
+    fn held(rt: R, folder: &str, lock: Option<Rc<Lock>>) -> Result<FileHost<R>, AllocError>
+        ensures no_links { IfOk result (λ h. vec_len h.links ≡ 0) }
+    {
         let alloc = rt.alloc();
         let first = StoreFile::open(alloc, folder, "bsp.0")?;
         let second = StoreFile::open(alloc, folder, "bsp.1")?;
-        Ok(FileHost::over(rt, first, second))
+        Ok(FileHost::over(rt, first, second, lock, None))
     }
 
     /// A host without links that touches no file: each call on one fails.
@@ -54,13 +67,27 @@ impl<R: Runtime + AllocGlobal + Net> FileHost<R> {
         ensures no_links { IfOk result (λ h. vec_len h.links ≡ 0) }
         ensures reads { IfOk result (λ h. IsUnwritten h.first.may_write h.second.may_write) }
     {
+        FileHost::shut_for(rt, folder, None)
+    }
+
+    // As `shut`, and why.
+    fn shut_for(rt: R, folder: &str, cause: Option<Cause>) -> Result<FileHost<R>, AllocError>
+        ensures no_links { IfOk result (λ h. vec_len h.links ≡ 0) }
+        ensures reads { IfOk result (λ h. IsUnwritten h.first.may_write h.second.may_write) }
+    {
         let alloc = rt.alloc();
         let first = StoreFile::shut(alloc, folder, "bsp.0")?;
         let second = StoreFile::shut(alloc, folder, "bsp.1")?;
-        Ok(FileHost::over(rt, first, second))
+        Ok(FileHost::over(rt, first, second, None, cause))
     }
 
-    fn over(rt: R, first: StoreFile<R>, second: StoreFile<R>) -> FileHost<R>
+    fn over(
+        rt: R,
+        first: StoreFile,
+        second: StoreFile,
+        lock: Option<Rc<Lock>>,
+        cause: Option<Cause>,
+    ) -> FileHost<R>
         ensures no_links { vec_len result.links ≡ 0 }
         ensures first { result.first ≡ first }
         ensures second { result.second ≡ second }
@@ -71,7 +98,8 @@ impl<R: Runtime + AllocGlobal + Net> FileHost<R> {
             alloc,
             first,
             second,
-            lock: None,
+            lock,
+            cause,
             disk_faults: 0,
             links: Vec::new(alloc),
             link_faults: [0; LINKS],
@@ -82,9 +110,9 @@ impl<R: Runtime + AllocGlobal + Net> FileHost<R> {
 impl<R: Runtime + Files<File = File> + AllocGlobal + Net> FileHost<R> {
     /// A host without links for what is needed of the files in this folder, among other processes
     /// that call this: what is read stood at one time, and nobody else writes what is written here,
-    /// until the host is dropped or the process has ended. It waits for those that will be done at
-    /// once, and to write, ten seconds for one that stays. Where the files can't be had so, each
-    /// call on them fails.
+    /// until the host is dropped, its locks are let go of or the process has ended. It waits for
+    /// those that will be done at once, and to write, ten seconds for one that stays. Where the
+    /// files can't be had so, each call on them fails, and the host says why.
     pub fn with(rt: R, folder: &str, need: Need) -> Result<FileHost<R>, AllocError>
         ensures no_links { IfOk result (λ h. vec_len h.links ≡ 0) }
         ensures reads { writes need ≡ false
@@ -94,7 +122,11 @@ impl<R: Runtime + Files<File = File> + AllocGlobal + Net> FileHost<R> {
             Need::Nothing => FileHost::shut(rt, folder),
             Need::Read => FileHost::reading(rt, folder),
             Need::Write => {
-                let lock = lock_to_write(&rt, rt.alloc(), folder);
+                let lock = lock_to_write(&rt, rt.alloc(), folder, false);
+                FileHost::locked(rt, folder, lock)
+            }
+            Need::Make => {
+                let lock = lock_to_make(&rt, rt.alloc(), folder);
                 FileHost::locked(rt, folder, lock)
             }
             Need::Stay => {
@@ -109,24 +141,41 @@ impl<R: Runtime + Files<File = File> + AllocGlobal + Net> FileHost<R> {
         ensures no_links { IfOk result (λ h. vec_len h.links ≡ 0) }
         ensures reads { IfOk result (λ h. IsUnwritten h.first.may_write h.second.may_write) }
     {
-        let mut host = FileHost::shut(rt, folder)?;
-        if let Ok((first, second)) = copied(&host.rt, host.alloc, folder) {
-            host.first.read_from(first);
-            host.second.read_from(second);
+        match copied(&rt, rt.alloc(), folder) {
+            Ok((first, second)) => FileHost::over_copies(rt, folder, first, second),
+            Err(Unmet::Memory) => Err(AllocError),
+            Err(Unmet::Cause(cause)) => FileHost::shut_for(rt, folder, Some(cause)),
         }
+    }
+
+    // Over these copies of the files.
+    fn over_copies(
+        rt: R,
+        folder: &str,
+        first: Vec<u8>,
+        second: Vec<u8>,
+    ) -> Result<FileHost<R>, AllocError>
+        ensures no_links { IfOk result (λ h. vec_len h.links ≡ 0) }
+        ensures reads { IfOk result (λ h. IsUnwritten h.first.may_write h.second.may_write) }
+    {
+        let mut host = FileHost::shut(rt, folder)?;
+        host.first.read_from(first);
+        host.second.read_from(second);
         Ok(host)
     }
 
     // Over the files themselves, for as long as the lock is held; over none without it.
-    fn locked(rt: R, folder: &str, lock: io::Result<Lock>) -> Result<FileHost<R>, AllocError>
+    fn locked(rt: R, folder: &str, lock: Result<Lock, Unmet>) -> Result<FileHost<R>, AllocError>
         ensures no_links { IfOk result (λ h. vec_len h.links ≡ 0) }
     {
-        let Ok(lock) = lock else {
-            return FileHost::shut(rt, folder);
-        };
-        let mut host = FileHost::new(rt, folder)?;
-        host.lock = Some(lock);
-        Ok(host)
+        match lock {
+            Ok(lock) => {
+                let lock = Rc::new(rt.alloc(), lock)?;
+                FileHost::held(rt, folder, Some(lock))
+            }
+            Err(Unmet::Memory) => Err(AllocError),
+            Err(Unmet::Cause(cause)) => FileHost::shut_for(rt, folder, Some(cause)),
+        }
     }
 }
 
@@ -135,9 +184,33 @@ fn copied<R: Files<File = File> + Clock>(
     rt: &R,
     alloc: Global,
     folder: &str,
-) -> io::Result<(Vec<u8>, Vec<u8>)> {
-    let _lock = lock_to_read(rt, alloc, folder)?;
-    copy_both(rt, alloc, folder)
+) -> Result<(Vec<u8>, Vec<u8>), Unmet> {
+    let _lock = lock_to_read(rt, folder)?;
+    Ok(copy_both(rt, alloc, folder)?)
+}
+
+// As `lock_to_write`, in a folder that may be new.
+fn lock_to_make<R: Files<File = File> + Clock>(
+    rt: &R,
+    alloc: Global,
+    folder: &str,
+) -> Result<Lock, Unmet> {
+    let lock = lock_to_write(rt, alloc, folder, true)?;
+    sync_above(rt, alloc, folder)?;
+    Ok(lock)
+}
+
+impl<R: Runtime + Net> FileHost<R> {
+    /// Why the first call on a file that failed did; none where none did.
+    pub fn cause(&self) -> Option<Cause> {
+        self.cause
+    }
+
+    /// The locks on the files, where there are any. Once they are let go of each call on a file
+    /// fails.
+    pub fn lock(&self) -> Result<Option<Rc<Lock>>, AllocError> {
+        self.lock.clone()
+    }
 }
 
 impl<R: Runtime + Net> FileHost<R> {
@@ -150,7 +223,8 @@ impl<R: Runtime + Net> FileHost<R> {
     {
         match answer {
             Ok(x) => Ok(x),
-            Err(_) => {
+            Err(e) => {
+                self.cause = self.cause.or(Some(Cause::of(&e)));
                 self.disk_faults = self.disk_faults.saturating_add(1);
                 Err(Failed)
             }
@@ -171,41 +245,54 @@ impl<R: Runtime + Net> FileHost<R> {
     }
 }
 
-impl<R: Runtime + Net> Disk for FileHost<R> {
+impl<R: Runtime + Files<File = File> + Net> Disk for FileHost<R> {
     ghost use Rattle.std.specs.Prelude.{vec_len};
     ghost use Rattle.outside.specs.Silent.{silent};
 
     ghost tells = { λ h. silent h.disk_faults (vec_len h.links) h.link_faults };
 
     fn len(&mut self, file: u8) -> Result<u64, Failed> {
-        let answer = numbered(&mut self.first, &mut self.second, file).len(&self.rt);
+        let answer = match numbered(&self.lock, &mut self.first, &mut self.second, file) {
+            Ok(it) => it.len(&self.rt),
+            Err(e) => Err(e),
+        };
         self.answer(answer)
     }
 
     fn read_at(&mut self, file: u8, at: u64, buf: &mut [u8]) -> Result<usize, Failed> {
-        let answer = numbered(&mut self.first, &mut self.second, file).read_at(&self.rt, at, buf);
+        let answer = match numbered(&self.lock, &mut self.first, &mut self.second, file) {
+            Ok(it) => it.read_at(&self.rt, at, buf),
+            Err(e) => Err(e),
+        };
         self.answer(answer)
     }
 
     fn write_at(&mut self, file: u8, at: u64, bytes: &[u8]) -> Result<(), Failed> {
-        let answer = numbered(&mut self.first, &mut self.second, file).write_at(
-            &self.rt, at, bytes,
-        );
+        let answer = match numbered(&self.lock, &mut self.first, &mut self.second, file) {
+            Ok(it) => it.write_at(&self.rt, at, bytes),
+            Err(e) => Err(e),
+        };
         self.answer(answer)
     }
 
     fn cut(&mut self, file: u8, len: u64) -> Result<(), Failed> {
-        let answer = numbered(&mut self.first, &mut self.second, file).cut(&self.rt, len);
+        let answer = match numbered(&self.lock, &mut self.first, &mut self.second, file) {
+            Ok(it) => it.cut(&self.rt, len),
+            Err(e) => Err(e),
+        };
         self.answer(answer)
     }
 
     fn sync(&mut self, file: u8) -> Result<(), Failed> {
-        let answer = numbered(&mut self.first, &mut self.second, file).sync(&self.rt);
+        let answer = match numbered(&self.lock, &mut self.first, &mut self.second, file) {
+            Ok(it) => it.sync(&self.rt),
+            Err(e) => Err(e),
+        };
         self.answer(answer)
     }
 }
 
-impl<R: Runtime + Net> Host for FileHost<R> {
+impl<R: Runtime + Files<File = File> + Net> Host for FileHost<R> {
     fn dial(&mut self, spec: &str) -> Result<u8, Failed> {
         let number = self.links.len();
         match self.make_link(spec) {
@@ -258,13 +345,18 @@ impl<R: Runtime + Net> Host for FileHost<R> {
     }
 }
 
-// The file of this number.
-fn numbered<'a, R: Files>(
-    first: &'a mut StoreFile<R>,
-    second: &'a mut StoreFile<R>,
+// The file of this number, unless its locks were let go of.
+fn numbered<'a>(
+    lock: &Option<Rc<Lock>>,
+    first: &'a mut StoreFile,
+    second: &'a mut StoreFile,
     file: u8,
-) -> &'a mut StoreFile<R> {
-    if file == 0 { first } else { second }
+) -> io::Result<&'a mut StoreFile> {
+    match lock {
+        Some(lock) if !lock.is_held() => Err(ErrorKind::NotConnected.into()),
+        _ if file == 0 => Ok(first),
+        _ => Ok(second),
+    }
 }
 
 // The time since 1970, and 0 before it.

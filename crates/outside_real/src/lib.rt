@@ -7,6 +7,7 @@
 #![tactic(auto)]
 
 mod ahead;
+mod cause;
 mod copying;
 mod early;
 mod file_host;
@@ -15,6 +16,7 @@ mod link;
 mod lock;
 mod need;
 mod opening;
+mod pages;
 mod random;
 mod real_file;
 mod size_limit;
@@ -28,8 +30,10 @@ mod streams;
 mod tcp_link;
 mod unix_link;
 
+pub use cause::Cause;
 pub use early::EarlySource;
 pub use file_host::FileHost;
+pub use lock::Lock;
 pub use need::Need;
 pub use standard::{StandardNumbers, hold_standard_numbers};
 pub use streams::{StdSink, StdSource};

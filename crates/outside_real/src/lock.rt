@@ -1,12 +1,15 @@
 //! Who may read and write the files of a store, among the processes of a machine.
 //!
-//! Who writes has an exclusive lock on the store's folder, and who reads a shared one. Who stays for
-//! as long as others take has one on each file of the store too: by these it is told from who will
-//! be done at once. All are those of `flock`, which the system releases when a process ends.
-use crate::opening::{is_there, open};
+//! Who writes has exclusive locks on the store's folder and on those of its files that are there, so
+//! that two who come to one file by two folders meet too. Who stays for as long as others take keeps
+//! those on the files and shares the folder: by this it is told from who will be done at once. Who
+//! reads has a shared lock on the folder. All are those of `flock`, which the system releases when a
+//! process ends.
+use crate::cause::{Cause, Unmet};
+use crate::opening::{is_there, open, open_to_lock, open_to_write};
 use std::alloc::Global;
+use std::cell::Cell;
 use std::fs::{File, Files, TryLockError};
-use std::io::ErrorKind;
 use std::path::Path;
 use std::time::{Clock, Duration};
 use std::{io, thread};
@@ -17,36 +20,108 @@ const PAUSE_MILLISECONDS: u64 = 10;
 // How often it looks at most behind one that stays: ten seconds of pauses.
 const MOST_LOOKS: u32 = 1_000;
 
-/// Locks, which are held for as long as this is there.
+/// Locks, which are held until they are let go of, and no longer than this is there.
 #[derive(Drop)]
 pub struct Lock {
     folder: File,
     first: Option<File>,
     second: Option<File>,
+    is_held: Cell<bool>,
 }
 
-/// Waits until nobody reads or writes the files of a folder, and keeps others from it. An error
-/// where one stays there for ten seconds more, and where the folder can't be locked.
+/// Who has what is to be locked.
+#[derive(Clone, Copy, PartialEq, Eq)]
+enum Holder {
+    /// Nobody had it: it is locked.
+    Nobody,
+    /// One that will be done at once.
+    Short,
+    /// One that stays, or one that came to a file by another folder.
+    Long,
+}
+
+impl Lock {
+    /// Whether it was not let go of.
+    pub fn is_held(&self) -> bool {
+        self.is_held.get()
+    }
+
+    /// Lets go of all locks. Where the system does not, they end with the process.
+    pub fn let_go(&self) {
+        self.is_held.set(false);
+        let _ = self.folder.unlock();
+        unlock(&self.first);
+        unlock(&self.second);
+    }
+
+    // Locks the folder and the files that are there to write, or nothing.
+    fn take<R: Files<File = File>>(
+        &mut self,
+        files: &R,
+        alloc: Global,
+        folder: &str,
+        make: bool,
+    ) -> io::Result<Holder> {
+        if !is_taken(self.folder.try_lock())? {
+            return self.holder(files, alloc, folder);
+        }
+        if make {
+            // Where it can't be made the command finds that at its first write.
+            let _ = make_file(files, alloc, folder);
+        }
+        self.first = opened(files, alloc, folder, "bsp.0")?;
+        self.second = opened(files, alloc, folder, "bsp.1")?;
+        if is_had(&self.first)? && is_had(&self.second)? {
+            return Ok(Holder::Nobody);
+        }
+        self.first = None;
+        self.second = None;
+        self.folder.unlock()?;
+        Ok(Holder::Long)
+    }
+
+    // Who has the folder, which is not locked here. It is shared, and each file, for a moment.
+    fn holder<R: Files<File = File>>(
+        &self,
+        files: &R,
+        alloc: Global,
+        folder: &str,
+    ) -> io::Result<Holder> {
+        if !is_taken(self.folder.try_lock_shared())? {
+            return Ok(Holder::Short);
+        }
+        let is_long = is_alone(files, alloc, folder, "bsp.0")?
+            || is_alone(files, alloc, folder, "bsp.1")?;
+        self.folder.unlock()?;
+        if is_long {
+            Ok(Holder::Long)
+        } else {
+            Ok(Holder::Short)
+        }
+    }
+}
+
+/// Waits until nobody reads or writes the files of a folder, and keeps others from it. Where one
+/// stays there for ten seconds more the cause is that. The first file is made where that is asked
+/// and it is not there, so that two who make a store by two folders meet.
 pub fn lock_to_write<R: Files<File = File> + Clock>(
     rt: &R,
     alloc: Global,
     folder: &str,
-) -> io::Result<Lock> {
-    let lock = unlocked(rt, folder)?;
+    make: bool,
+) -> Result<Lock, Unmet> {
+    let mut lock = unlocked(rt, folder)?;
     let mut looks = 0;
     for _ in 0..u64::MAX {
-        if is_taken(lock.folder.try_lock())? {
-            return Ok(lock);
+        match lock.take(rt, alloc, folder, make)? {
+            Holder::Nobody => return Ok(lock),
+            Holder::Short => {}
+            Holder::Long if looks >= MOST_LOOKS => break,
+            Holder::Long => looks += 1,
         }
-        if is_long(rt, alloc, folder)? {
-            if looks >= MOST_LOOKS {
-                break;
-            }
-            looks += 1;
-        }
-        thread::sleep(rt, Duration::from_millis(PAUSE_MILLISECONDS));
+        pause(rt);
     }
-    Err(ErrorKind::TimedOut.into())
+    Err(Unmet::Cause(Cause::Held))
 }
 
 /// As `lock_to_write`, for one that stays: who reads goes on beside it.
@@ -54,28 +129,40 @@ pub fn lock_to_stay<R: Files<File = File> + Clock>(
     rt: &R,
     alloc: Global,
     folder: &str,
-) -> io::Result<Lock> {
-    let mut lock = lock_to_write(rt, alloc, folder)?;
-    lock.first = mark(rt, alloc, folder, "bsp.0")?;
-    lock.second = mark(rt, alloc, folder, "bsp.1")?;
-    Ok(lock)
+) -> Result<Lock, Unmet> {
+    let lock = lock_to_write(rt, alloc, folder, false)?;
+    if lock.first.is_none() && lock.second.is_none() {
+        return Ok(lock);
+    }
+    // The folder is given up before it is shared. Who gets it between finds the files taken.
+    if is_shared_in_time(rt, &lock.folder)? {
+        Ok(lock)
+    } else {
+        Err(Unmet::Cause(Cause::Held))
+    }
 }
 
 /// Waits until nobody writes the files of a folder but one that stays, and keeps others from it
-/// that will be done at once.
-pub fn lock_to_read<R: Files<File = File> + Clock>(
-    rt: &R,
-    alloc: Global,
-    folder: &str,
-) -> io::Result<Lock> {
+/// that will be done at once; behind one that is not, it goes on after ten seconds.
+pub fn lock_to_read<R: Files<File = File> + Clock>(rt: &R, folder: &str) -> io::Result<Lock> {
     let lock = unlocked(rt, folder)?;
-    for _ in 0..u64::MAX {
-        if is_taken(lock.folder.try_lock_shared())? || is_long(rt, alloc, folder)? {
-            return Ok(lock);
+    is_shared_in_time(rt, &lock.folder)?;
+    Ok(lock)
+}
+
+// Whether a file was shared within ten seconds.
+fn is_shared_in_time<R: Clock>(clock: &R, file: &File) -> io::Result<bool> {
+    for _ in 0..MOST_LOOKS {
+        if is_taken(file.try_lock_shared())? {
+            return Ok(true);
         }
-        thread::sleep(rt, Duration::from_millis(PAUSE_MILLISECONDS));
+        pause(clock);
     }
-    Err(ErrorKind::TimedOut.into())
+    Ok(false)
+}
+
+fn pause<R: Clock>(clock: &R) {
+    thread::sleep(clock, Duration::from_millis(PAUSE_MILLISECONDS));
 }
 
 // The folder, not locked yet.
@@ -84,6 +171,7 @@ fn unlocked<R: Files<File = File>>(files: &R, folder: &str) -> io::Result<Lock> 
         folder: open(files, Path::new(folder))?,
         first: None,
         second: None,
+        is_held: Cell::new(true),
     })
 }
 
@@ -96,13 +184,22 @@ fn is_taken(answer: Result<(), TryLockError>) -> io::Result<bool> {
     }
 }
 
-// Whether who has the folder stays for as long as others take.
-fn is_long<R: Files<File = File>>(files: &R, alloc: Global, folder: &str) -> io::Result<bool> {
-    Ok(is_marked(files, alloc, folder, "bsp.0")? || is_marked(files, alloc, folder, "bsp.1")?)
+fn unlock(file: &Option<File>) {
+    if let Some(file) = file {
+        let _ = file.unlock();
+    }
 }
 
-// Whether somebody has the lock on a file. This one's own ends with the call.
-fn is_marked<R: Files<File = File>>(
+// Whether a file was locked, or is not there.
+fn is_had(file: &Option<File>) -> io::Result<bool> {
+    match file {
+        Some(file) => is_taken(file.try_lock()),
+        None => Ok(true),
+    }
+}
+
+// Whether somebody has a file alone. This one's own lock ends with the call.
+fn is_alone<R: Files<File = File>>(
     files: &R,
     alloc: Global,
     folder: &str,
@@ -114,25 +211,6 @@ fn is_marked<R: Files<File = File>>(
     }
 }
 
-// The lock on a file that is there. Who looks whether it is taken has it for a moment.
-fn mark<R: Files<File = File> + Clock>(
-    rt: &R,
-    alloc: Global,
-    folder: &str,
-    name: &str,
-) -> io::Result<Option<File>> {
-    let Some(file) = opened(rt, alloc, folder, name)? else {
-        return Ok(None);
-    };
-    for _ in 0..MOST_LOOKS {
-        if is_taken(file.try_lock())? {
-            return Ok(Some(file));
-        }
-        thread::sleep(rt, Duration::from_millis(1));
-    }
-    Err(ErrorKind::TimedOut.into())
-}
-
 // A file of a folder, where it is there.
 fn opened<R: Files<File = File>>(
     files: &R,
@@ -142,8 +220,17 @@ fn opened<R: Files<File = File>>(
 ) -> io::Result<Option<File>> {
     let path = Path::new(folder).join(alloc, name)?;
     if is_there(files, path.as_path())? {
-        Ok(Some(open(files, path.as_path())?))
+        Ok(Some(open_to_lock(files, path.as_path())?))
     } else {
         Ok(None)
     }
+}
+
+// Makes the first file of a folder where it is not there. An empty one is as none.
+fn make_file<R: Files<File = File>>(files: &R, alloc: Global, folder: &str) -> io::Result<()> {
+    let path = Path::new(folder).join(alloc, "bsp.0")?;
+    if !is_there(files, path.as_path())? {
+        open_to_write(files, path.as_path(), true)?;
+    }
+    Ok(())
 }

@@ -9,6 +9,8 @@ pub enum Need {
     Read,
     /// They are written too, by one that will be done at once: others wait for it.
     Write,
+    /// As `Write`, by one that makes them where they are not there, in a folder that may be new.
+    Make,
     /// They are written too, for as long as others take: who reads goes on beside it.
     Stay,
 }

@@ -3,14 +3,14 @@ ghost use Rattle.std.specs.Prelude.{◌≡◌, ◌≤◌, true, length, is_err, 
 
 use crate::ahead::{AHEAD, Ahead};
 use crate::opening::{is_there, open, open_to_write};
+use crate::pages::let_go_of_pages;
 use crate::size_limit::may_grow_to;
 use crate::streams::{read_full, write_full};
 use std::alloc::{AllocError, Global};
-use std::fs::OpenFile;
+use std::fs::{File, Files};
 use std::io;
 use std::io::{ErrorKind, Seek, SeekFrom};
 use std::path::{Path, PathBuf};
-use std::rt::Files;
 
 /// For what a file was opened.
 #[derive(Clone, Copy, PartialEq, Eq)]
@@ -27,12 +27,13 @@ enum Access {
 /// alone, and again at the first call that writes, which makes it, for its owner alone, if it is not
 /// there; until then what is not there is empty. What is there and no regular file is a failure. Its
 /// length and the bytes of reads ahead are kept. A sync makes its bytes and its length durable, and
-/// the first one its name too. After a sync that failed each call fails.
+/// the first one its name too. After a sync that failed each call fails. What the system keeps in
+/// memory of the file is let go of behind each write, cut and sync that failed.
 #[derive(Drop)]
-pub struct RealFile<R: Files> {
+pub struct RealFile {
     folder: PathBuf,
     path: PathBuf,
-    file: Option<R::File>,
+    file: Option<File>,
     access: Access,
     len: Option<u64>,
     position: Option<u64>,
@@ -41,9 +42,14 @@ pub struct RealFile<R: Files> {
     has_failed: bool,
 }
 
-impl<R: Files> RealFile<R> {
-    /// The file of this name, which need not be there.
-    pub fn new(alloc: Global, folder: &str, name: &str) -> Result<RealFile<R>, AllocError> {
+impl RealFile {
+    /// The file of this name, which need not be there, and of which nothing was read ahead yet.
+    pub fn new(
+        alloc: Global,
+        folder: &str,
+        name: &str,
+        ahead: Ahead,
+    ) -> Result<RealFile, AllocError> {
         let folder = Path::new(folder);
         Ok(RealFile {
             folder: folder.join(alloc, "")?,
@@ -52,14 +58,14 @@ impl<R: Files> RealFile<R> {
             access: Access::Unseen,
             len: None,
             position: None,
-            ahead: Ahead::new(alloc),
+            ahead,
             is_named: false,
             has_failed: false,
         })
     }
 
     /// The length of the file in bytes.
-    pub fn len(&mut self, files: &R) -> io::Result<u64>
+    pub fn len<R: Files<File = File>>(&mut self, files: &R) -> io::Result<u64>
         ensures over { self.old.has_failed ≡ true → (is_err result ≡ true)
             × (self.new.has_failed ≡ true) }
         ensures still { self.new.has_failed ≡ self.old.has_failed }
@@ -78,7 +84,12 @@ impl<R: Files> RealFile<R> {
 
     /// Reads from place `at` on into the front of `buf`, as many bytes as there are, or as it has
     /// room for.
-    pub fn read_at(&mut self, files: &R, at: u64, buf: &mut [u8]) -> io::Result<usize>
+    pub fn read_at<R: Files<File = File>>(
+        &mut self,
+        files: &R,
+        at: u64,
+        buf: &mut [u8],
+    ) -> io::Result<usize>
         ensures bound { IfOk result (λ n. n ≤ length buf.new) }
         ensures over { self.old.has_failed ≡ true → (is_err result ≡ true)
             × (self.new.has_failed ≡ true) }
@@ -99,7 +110,12 @@ impl<R: Files> RealFile<R> {
     }
 
     /// Writes all bytes from place `at` on.
-    pub fn write_at(&mut self, files: &R, at: u64, bytes: &[u8]) -> io::Result<()>
+    pub fn write_at<R: Files<File = File>>(
+        &mut self,
+        files: &R,
+        at: u64,
+        bytes: &[u8],
+    ) -> io::Result<()>
         ensures over { self.old.has_failed ≡ true → (is_err result ≡ true)
             × (self.new.has_failed ≡ true) }
     {
@@ -111,8 +127,7 @@ impl<R: Files> RealFile<R> {
         let had = self.len(files)?;
         self.forget();
         if let Some(file) = &mut self.file {
-            file.seek(SeekFrom::Start(at))?;
-            write_full(file, bytes)?;
+            write_behind(file, at, bytes)?;
         }
         self.len = Some(had.max(end));
         self.position = Some(end);
@@ -120,21 +135,21 @@ impl<R: Files> RealFile<R> {
     }
 
     /// Cuts the file to a length.
-    pub fn cut(&mut self, files: &R, len: u64) -> io::Result<()>
+    pub fn cut<R: Files<File = File>>(&mut self, files: &R, len: u64) -> io::Result<()>
         ensures over { self.old.has_failed ≡ true → (is_err result ≡ true)
             × (self.new.has_failed ≡ true) }
     {
         self.find_to_write(files, false)?;
         self.forget();
         if let Some(file) = &self.file {
-            file.set_len(len)?;
+            cut_to(file, len)?;
             self.len = Some(len);
         }
         Ok(())
     }
 
     /// Waits until the file is on its device, and at the first time its name too.
-    pub fn sync(&mut self, files: &R) -> io::Result<()>
+    pub fn sync<R: Files<File = File>>(&mut self, files: &R) -> io::Result<()>
         ensures over { self.old.has_failed ≡ true → (is_err result ≡ true)
             × (self.new.has_failed ≡ true) }
         ensures fails { is_err result ≡ true → self.new.has_failed ≡ true }
@@ -143,13 +158,14 @@ impl<R: Files> RealFile<R> {
             Ok(()) => Ok(()),
             Err(e) => {
                 self.has_failed = true;
+                self.let_go();
                 Err(e)
             }
         }
     }
 
     // What is on its device then is the bytes and the length: the times of a file are no matter here.
-    fn sync_now(&mut self, files: &R) -> io::Result<()>
+    fn sync_now<R: Files<File = File>>(&mut self, files: &R) -> io::Result<()>
         ensures over { self.old.has_failed ≡ true → (is_err result ≡ true)
             × (self.new.has_failed ≡ true) }
     {
@@ -157,11 +173,18 @@ impl<R: Files> RealFile<R> {
         if let Some(file) = &self.file {
             file.sync_data()?;
             if !self.is_named {
-                open(files, self.folder.as_path())?.sync_all()?;
+                sync_folder(files, self.folder.as_path())?;
                 self.is_named = true;
             }
         }
         Ok(())
+    }
+
+    // What the system keeps of the file is let go of.
+    fn let_go(&self) {
+        if let Some(file) = &self.file {
+            let_go_of_pages(file);
+        }
     }
 
     // What was kept of the file is no longer known.
@@ -172,7 +195,7 @@ impl<R: Files> RealFile<R> {
     }
 
     // Opens the file where it is there and was not looked for.
-    fn find(&mut self, files: &R) -> io::Result<()>
+    fn find<R: Files<File = File>>(&mut self, files: &R) -> io::Result<()>
         ensures over { self.old.has_failed ≡ true → (is_err result ≡ true)
             × (self.new.has_failed ≡ true) }
         ensures still { self.new.has_failed ≡ self.old.has_failed }
@@ -191,7 +214,7 @@ impl<R: Files> RealFile<R> {
     }
 
     // The file as it was found.
-    fn take(&mut self, file: R::File) -> io::Result<()>
+    fn take(&mut self, file: File) -> io::Result<()>
         ensures { self.new.has_failed ≡ self.old.has_failed }
     {
         self.len = Some(file.metadata()?.len());
@@ -201,7 +224,7 @@ impl<R: Files> RealFile<R> {
     }
 
     // Opens the file for writing too, and makes it where that is asked and it is not there.
-    fn find_to_write(&mut self, files: &R, make: bool) -> io::Result<()>
+    fn find_to_write<R: Files<File = File>>(&mut self, files: &R, make: bool) -> io::Result<()>
         ensures over { self.old.has_failed ≡ true → (is_err result ≡ true)
             × (self.new.has_failed ≡ true) }
     {
@@ -244,4 +267,45 @@ impl<R: Files> RealFile<R> {
         }
         Ok(())
     }
+}
+
+// Writes all bytes from place `at` on.
+fn write_behind(file: &mut File, at: u64, bytes: &[u8]) -> io::Result<()> {
+    file.seek(SeekFrom::Start(at))?;
+    let answer = write_full(file, bytes);
+    if answer.is_err() {
+        let_go_of_pages(file);
+    }
+    answer
+}
+
+// Cuts a file to a length.
+fn cut_to(file: &File, len: u64) -> io::Result<()> {
+    let answer = file.set_len(len);
+    if answer.is_err() {
+        let_go_of_pages(file);
+    }
+    answer
+}
+
+// Waits until the names in a folder are on its device.
+fn sync_folder<R: Files<File = File>>(files: &R, folder: Path<'_>) -> io::Result<()> {
+    let file = open(files, folder)?;
+    let answer = file.sync_all();
+    if answer.is_err() {
+        let_go_of_pages(&file);
+    }
+    answer
+}
+
+/// Waits until the name of a folder is on its device, in the folder above. Where that can't be
+/// opened or synced it stays as it was: who uses a folder need have no leave for the one above.
+pub fn sync_above<R: Files<File = File>>(
+    files: &R,
+    alloc: Global,
+    folder: &str,
+) -> Result<(), AllocError> {
+    let above = Path::new(folder).join(alloc, "..")?;
+    let _ = sync_folder(files, above.as_path());
+    Ok(())
 }

@@ -13,9 +13,9 @@ pub fn hear<S: Read>(from: &mut S, buf: &mut [u8]) -> Heard
     ensures { FitsBuffer (length buf.new) result }
 {
     match read_once(from, buf) {
-        Some(0) => Heard::End,
-        Some(n) => Heard::Got(n),
-        None => Heard::Failed,
+        Ok(0) => Heard::End,
+        Ok(n) => Heard::Got(n),
+        Err(_) => Heard::Failed,
     }
 }
 

@@ -1,11 +1,12 @@
 //! A file of a store, as a process may use it.
 ghost use Rattle.std.specs.Prelude.{◌≡◌, ◌≤◌, false, true, length, is_err, IfOk};
 
+use crate::ahead::Ahead;
 use crate::real_file::RealFile;
 use std::alloc::{AllocError, Global};
+use std::fs::{File, Files};
 use std::io;
 use std::io::ErrorKind;
-use std::rt::Files;
 
 /// What a process may do with a file.
 #[derive(Clone, Copy, PartialEq, Eq)]
@@ -22,18 +23,19 @@ enum Leave {
 /// each call fails. A copy is never written; its sync is that of the file itself, behind the copy,
 /// so that what was read is durable.
 #[derive(Drop)]
-pub struct StoreFile<R: Files> {
-    file: RealFile<R>,
+pub struct StoreFile {
+    file: RealFile,
     copy: Vec<u8>,
     leave: Leave,
     pub may_write: bool,
 }
 
-impl<R: Files> StoreFile<R> {
+impl StoreFile {
     /// A file that is read and written.
-    pub fn open(alloc: Global, folder: &str, name: &str) -> Result<StoreFile<R>, AllocError> {
+    pub fn open(alloc: Global, folder: &str, name: &str) -> Result<StoreFile, AllocError> {
+        let ahead = Ahead::with_room(alloc)?;
         Ok(StoreFile {
-            file: RealFile::new(alloc, folder, name)?,
+            file: RealFile::new(alloc, folder, name, ahead)?,
             copy: Vec::new(alloc),
             leave: Leave::All,
             may_write: true,
@@ -41,11 +43,11 @@ impl<R: Files> StoreFile<R> {
     }
 
     /// A file that is not touched.
-    pub fn shut(alloc: Global, folder: &str, name: &str) -> Result<StoreFile<R>, AllocError>
+    pub fn shut(alloc: Global, folder: &str, name: &str) -> Result<StoreFile, AllocError>
         ensures { IfOk result (λ file. file.may_write ≡ false) }
     {
         Ok(StoreFile {
-            file: RealFile::new(alloc, folder, name)?,
+            file: RealFile::new(alloc, folder, name, Ahead::new(alloc))?,
             copy: Vec::new(alloc),
             leave: Leave::Nothing,
             may_write: false,
@@ -62,7 +64,7 @@ impl<R: Files> StoreFile<R> {
     }
 
     /// The length in bytes.
-    pub fn len(&mut self, files: &R) -> io::Result<u64>
+    pub fn len<R: Files<File = File>>(&mut self, files: &R) -> io::Result<u64>
         ensures { self.new.may_write ≡ self.old.may_write }
     {
         match self.leave {
@@ -74,7 +76,12 @@ impl<R: Files> StoreFile<R> {
 
     /// Reads from place `at` on into the front of `buf`, as many bytes as there are, or as it has
     /// room for.
-    pub fn read_at(&mut self, files: &R, at: u64, buf: &mut [u8]) -> io::Result<usize>
+    pub fn read_at<R: Files<File = File>>(
+        &mut self,
+        files: &R,
+        at: u64,
+        buf: &mut [u8],
+    ) -> io::Result<usize>
         ensures bound { IfOk result (λ n. n ≤ length buf.new) }
         ensures leave { self.new.may_write ≡ self.old.may_write }
     {
@@ -86,7 +93,12 @@ impl<R: Files> StoreFile<R> {
     }
 
     /// Writes all bytes from place `at` on.
-    pub fn write_at(&mut self, files: &R, at: u64, bytes: &[u8]) -> io::Result<()>
+    pub fn write_at<R: Files<File = File>>(
+        &mut self,
+        files: &R,
+        at: u64,
+        bytes: &[u8],
+    ) -> io::Result<()>
         ensures refused { self.old.may_write ≡ false → is_err result ≡ true }
         ensures leave { self.new.may_write ≡ self.old.may_write }
     {
@@ -97,7 +109,7 @@ impl<R: Files> StoreFile<R> {
     }
 
     /// Cuts the file to a length.
-    pub fn cut(&mut self, files: &R, len: u64) -> io::Result<()>
+    pub fn cut<R: Files<File = File>>(&mut self, files: &R, len: u64) -> io::Result<()>
         ensures refused { self.old.may_write ≡ false → is_err result ≡ true }
         ensures leave { self.new.may_write ≡ self.old.may_write }
     {
@@ -108,7 +120,7 @@ impl<R: Files> StoreFile<R> {
     }
 
     /// Waits until the file, with its name, is on its device.
-    pub fn sync(&mut self, files: &R) -> io::Result<()>
+    pub fn sync<R: Files<File = File>>(&mut self, files: &R) -> io::Result<()>
         ensures { self.new.may_write ≡ self.old.may_write }
     {
         match self.leave {

@@ -1,9 +1,11 @@
 //! Standard streams as sources and sinks.
-ghost use Rattle.std.specs.Prelude.{ℕ, ◌<◌, ◌≤◌, length, IfOk, IfSome};
+ghost use Rattle.std.specs.Prelude.{ℕ, ◌<◌, ◌≤◌, length, IfOk};
 
+use crate::lock::Lock;
 use outside::{Failed, Sink, Source};
 use std::io;
 use std::io::{ErrorKind, Read, Write};
+use std::rc::Rc;
 
 /// A source over a reader. It tells its failures alone, and not what bytes are left.
 #[derive(Drop)]
@@ -26,8 +28,8 @@ impl<R: Read + Drop> Source for StdSource<R> {
 
     fn read(&mut self, buf: &mut [u8]) -> Result<usize, Failed> {
         match read_once(&mut self.from, buf) {
-            Some(n) => Ok(n),
-            None => {
+            Ok(n) => Ok(n),
+            Err(_) => {
                 self.faults = self.faults.saturating_add(1);
                 Err(Failed)
             }
@@ -35,17 +37,28 @@ impl<R: Read + Drop> Source for StdSource<R> {
     }
 }
 
-/// A sink over a writer. It tells its failures alone, and not what bytes it took.
+/// A sink over a writer. It tells its failures alone, and not what bytes it took. Before its first
+/// write it lets go of the locks that it was handed, so that nobody waits for who reads it.
 #[derive(Drop)]
 pub struct StdSink<W: Write + Drop> {
     to: W,
+    lock: Option<Rc<Lock>>,
     faults: u64,
 }
 
 impl<W: Write + Drop> StdSink<W> {
     /// A sink that writes to `to`.
     pub fn new(to: W) -> StdSink<W> {
-        StdSink { to, faults: 0 }
+        StdSink {
+            to,
+            lock: None,
+            faults: 0,
+        }
+    }
+
+    /// Lets go of these locks before the next write.
+    pub fn let_go_first(&mut self, lock: Option<Rc<Lock>>) {
+        self.lock = lock;
     }
 }
 
@@ -55,9 +68,12 @@ impl<W: Write + Drop> Sink for StdSink<W> {
     ghost tells = { λ s. record { bytes = None; faults = s.faults } };
 
     fn write(&mut self, bytes: &[u8]) -> Result<usize, Failed> {
+        if let Some(lock) = self.lock.take() {
+            lock.let_go();
+        }
         match write_once(&mut self.to, bytes) {
-            Some(n) => Ok(n),
-            None => {
+            Ok(n) => Ok(n),
+            Err(_) => {
                 self.faults = self.faults.saturating_add(1);
                 Err(Failed)
             }
@@ -65,34 +81,32 @@ impl<W: Write + Drop> Sink for StdSink<W> {
     }
 }
 
-// A read that no signal interrupted; none where it failed.
-pub(crate) fn read_once<R: Read>(from: &mut R, buf: &mut [u8]) -> Option<usize>
-    ensures { IfSome result (λ n. n ≤ length buf.new) }
+// A read that no signal interrupted.
+pub(crate) fn read_once<R: Read>(from: &mut R, buf: &mut [u8]) -> io::Result<usize>
+    ensures { IfOk result (λ n. n ≤ length buf.new) }
 {
     for _ in 0..u64::MAX {
         match from.read(buf) {
-            Ok(n) => return Some(n),
             Err(e) if e.kind() == ErrorKind::Interrupted => {}
-            Err(_) => return None,
+            answer => return answer,
         }
     }
-    None
+    Err(ErrorKind::Interrupted.into())
 }
 
-// A write that no signal interrupted; none where it failed or took nothing.
-pub(crate) fn write_once<W: Write>(to: &mut W, bytes: &[u8]) -> Option<usize>
-    ensures bound { IfSome result (λ n. n ≤ length bytes.now) }
-    ensures some { 0 < length bytes.now → IfSome result (λ n. 0 < n) }
+// A write that no signal interrupted. One that took nothing has failed.
+pub(crate) fn write_once<W: Write>(to: &mut W, bytes: &[u8]) -> io::Result<usize>
+    ensures bound { IfOk result (λ n. n ≤ length bytes.now) }
+    ensures some { 0 < length bytes.now → IfOk result (λ n. 0 < n) }
 {
     for _ in 0..u64::MAX {
         match to.write(bytes) {
-            Ok(0) if !bytes.is_empty() => return None,
-            Ok(n) => return Some(n),
+            Ok(0) if !bytes.is_empty() => return Err(ErrorKind::WriteZero.into()),
             Err(e) if e.kind() == ErrorKind::Interrupted => {}
-            Err(_) => return None,
+            answer => return answer,
         }
     }
-    None
+    Err(ErrorKind::Interrupted.into())
 }
 
 // Reads until the buffer is full or nothing is left.
@@ -101,10 +115,9 @@ pub(crate) fn read_full<R: Read>(from: &mut R, buf: &mut [u8]) -> io::Result<usi
 {
     let mut done = 0;
     'pieces: while done < buf.len() {
-        match read_once(from, &mut buf[done..]) {
-            Some(0) => break,
-            Some(n) => done += n,
-            None => return Err(ErrorKind::Other.into()),
+        match read_once(from, &mut buf[done..])? {
+            0 => break,
+            n => done += n,
         }
     }
     Ok(done)
@@ -114,10 +127,7 @@ pub(crate) fn read_full<R: Read>(from: &mut R, buf: &mut [u8]) -> io::Result<usi
 pub(crate) fn write_full<W: Write>(to: &mut W, bytes: &[u8]) -> io::Result<()> {
     let mut done = 0;
     'pieces: while done < bytes.len() {
-        match write_once(to, &bytes[done..]) {
-            Some(n) => done += n,
-            None => return Err(ErrorKind::Other.into()),
-        }
+        done += write_once(to, &bytes[done..])?;
     }
     Ok(())
 }

@@ -1,7 +1,7 @@
 ghost use Rattle.std.specs.Prelude.{◌<◌};
 
 use crate::checks::{holds, kept, same};
-use crate::real::{reading_host, real_host};
+use crate::real::{RealHost, reading_host, real_host, writing_host};
 use outside::{Disk, Failed, Host, Sink, Source};
 use outside_real::{EarlySource, FileHost, StdSink, StdSource};
 use std::alloc::AllocError;
@@ -154,9 +154,7 @@ fn reads_much(rt: HostRuntime, folder: &str) -> Result<bool, AllocError> {
     Ok(answer == Ok(300_000) && large.last() == Some(&7))
 }
 
-static NOT_SYNCED: [Call; 10] = [
-    Call::Len(0, Ok(0)),
-    Call::Write(0, 0, b"a", Ok(())),
+static NOT_SYNCED: [Call; 8] = [
     Call::Sync(0, Err(Failed)),
     Call::Sync(0, Err(Failed)),
     Call::Len(0, Err(Failed)),
@@ -167,16 +165,83 @@ static NOT_SYNCED: [Call; 10] = [
     Call::Sync(1, Ok(())),
 ];
 
-// A file of the system's, which can't be synced, stands in the place of a file: the name of this
-// process.
+// The folder is moved once a file was written there, so the sync of the file's name fails.
 #[test]
 fn a_failed_sync_is_final(rt: HostRuntime) {
     let folder = "files_not_synced";
     make_folder(&rt, folder);
-    let name = "/proc/self/comm";
-    kept(&rt, symlink(&rt, name, "files_not_synced/bsp.0"));
-    same(&rt, &first_apart(rt, folder, &NOT_SYNCED), &Ok(None));
+    let moved = "files_not_synced_moved";
+    same(&rt, &first_moved(rt, folder, moved), &Ok(None));
+    remove_folder(&rt, moved);
+}
+
+// Writes a file of a folder, moves that and makes the calls: the number of the first one that
+// answers otherwise.
+fn first_moved(rt: HostRuntime, folder: &str, moved: &str) -> Result<Option<usize>, AllocError> {
+    let mut host = real_host(rt, folder)?;
+    let is_written = host.host.write_at(0, 0, b"abc").is_ok();
+    let is_moved = fs::rename(&rt, folder, moved).is_ok();
+    holds(&rt, "it was written and moved", is_written && is_moved);
+    Ok(first_of(&mut host.host, &NOT_SYNCED))
+}
+
+// The first file is none of a store.
+static NO_FILE: [Call; 4] = [
+    Call::Len(0, Err(Failed)),
+    Call::Sync(0, Err(Failed)),
+    Call::Write(0, 0, b"a", Err(Failed)),
+    Call::Len(1, Ok(0)),
+];
+
+#[test]
+fn a_file_of_two_names(rt: HostRuntime) {
+    let folder = "files_of_two_names";
+    make_folder(&rt, folder);
+    write_file(&rt, "files_of_two_names/other", b"abc");
+    kept(
+        &rt,
+        fs::hard_link(&rt, "files_of_two_names/other", "files_of_two_names/bsp.0"),
+    );
+    same(&rt, &first_apart(rt, folder, &NO_FILE), &Ok(None));
+    kept(&rt, fs::remove_file(&rt, "files_of_two_names/bsp.0"));
+    kept(&rt, symlink(&rt, "other", "files_of_two_names/bsp.0"));
+    same(&rt, &first_apart(rt, folder, &NO_FILE), &Ok(None));
     remove_folder(&rt, folder);
+}
+
+static LET_GO: [Call; 5] = [
+    Call::Len(0, Err(Failed)),
+    Call::Read(0, 0, 3, Err(Failed)),
+    Call::Write(0, 0, b"a", Err(Failed)),
+    Call::Cut(0, 0, Err(Failed)),
+    Call::Sync(0, Err(Failed)),
+];
+
+// Once its locks were let go of a host is over, and another one has the files at once.
+#[test]
+fn locks_are_let_go(rt: HostRuntime) {
+    let folder = "files_let_go";
+    make_folder(&rt, folder);
+    same(&rt, &first_let_go(rt, folder), &Ok(None));
+    remove_folder(&rt, folder);
+}
+
+fn first_let_go(rt: HostRuntime, folder: &str) -> Result<Option<usize>, AllocError> {
+    let mut host = writing_host(rt, folder)?;
+    let is_written = host.host.write_at(0, 0, b"abc").is_ok();
+    holds(&rt, "it was written", is_written && let_go(&host)?);
+    let mut next = writing_host(rt, folder)?;
+    holds(&rt, "another has it", next.host.len(0) == Ok(3));
+    Ok(first_of(&mut host.host, &LET_GO))
+}
+
+// Whether there was a lock to let go of, and no call had failed.
+fn let_go(host: &RealHost) -> Result<bool, AllocError> {
+    let Some(lock) = host.host.lock()? else {
+        return Ok(false);
+    };
+    lock.let_go();
+    Ok(host.host.cause().is_none())
 }
 
 static TO_READ: [Call; 3] = [
@@ -206,21 +271,13 @@ static A_FOLDER: [Call; 3] = [
     Call::Sync(1, Err(Failed)),
 ];
 
-// The first file is a device.
-static A_DEVICE: [Call; 4] = [
-    Call::Len(0, Err(Failed)),
-    Call::Sync(0, Err(Failed)),
-    Call::Write(0, 0, b"a", Err(Failed)),
-    Call::Len(1, Ok(0)),
-];
-
 #[test]
 fn no_regular_file(rt: HostRuntime) {
     let folder = "files_and_a_device";
     make_folder(&rt, folder);
     let device = "/dev/null";
     kept(&rt, symlink(&rt, device, "files_and_a_device/bsp.0"));
-    same(&rt, &first_apart(rt, folder, &A_DEVICE), &Ok(None));
+    same(&rt, &first_apart(rt, folder, &NO_FILE), &Ok(None));
     remove_folder(&rt, folder);
 }
 

@@ -30,3 +30,11 @@ pub(crate) fn reading_host(rt: HostRuntime, folder: &str) -> Result<RealHost, Al
     let host = FileHost::with(rt, folder, Need::Read)?;
     Ok(RealHost { host })
 }
+
+/// A host without links that has the files in this folder alone.
+pub(crate) fn writing_host(rt: HostRuntime, folder: &str) -> Result<RealHost, AllocError>
+    ensures { IfOk result (λ h. vec_len h.host.links ≡ 0) }
+{
+    let host = FileHost::with(rt, folder, Need::Make)?;
+    Ok(RealHost { host })
+}
