@@ -32,7 +32,7 @@ impl<R: Runtime + Net> Link<R> {
             Some(Spec::Tcp(place)) => Stream::Tcp(tcp_link::connect(rt, place)?),
             Some(Spec::Listen(place)) => Stream::Tcp(tcp_link::listen(rt, place)?),
             Some(Spec::Unix(path)) => Stream::Unix(unix_link::connect(rt, path)?),
-            Some(Spec::UnixListen(path)) => Stream::Unix(unix_link::listen(rt, path)?),
+            Some(Spec::UnixListen(path)) => Stream::Unix(unix_link::listen(rt, alloc, path)?),
             None => return Err(ErrorKind::InvalidInput.into()),
         };
         Ok(Link::Socket(Socket::new(alloc, stream)?))
