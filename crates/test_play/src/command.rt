@@ -2,9 +2,10 @@
 ghost use Rattle.std.specs.Prelude.{◌≡◌, []};
 ghost use Rattle.outside.specs.MemHost.{links_of};
 
+use crate::slow::{SlowSink, SlowSource};
 use crate::stage::Stage;
 use anyhow::Result;
-use outside::{MemHost, MemRandom, MemSink, MemSource};
+use outside::{MemDisk, MemHost, MemRandom};
 use std::alloc::{AllocError, Global};
 use std::hash::RandomState;
 use std::str;
@@ -14,8 +15,8 @@ use sync_top::run;
 /// What a command came to: its status, what it wrote to both outputs, and the host.
 pub(crate) struct Came {
     pub(crate) status: u8,
-    out: MemSink,
-    err: MemSink,
+    out: SlowSink,
+    err: SlowSink,
     host: MemHost,
 }
 
@@ -34,17 +35,34 @@ impl Drop for Came {
 impl Came {
     /// What it wrote to the output.
     pub(crate) fn out_text(&self) -> Result<&str> {
-        Ok(str::from_utf8(self.out.bytes())?)
+        Ok(str::from_utf8(self.out.0.bytes())?)
     }
 
     /// The bytes that it wrote to the output.
     pub(crate) fn out_bytes(&self) -> &[u8] {
-        self.out.bytes()
+        self.out.0.bytes()
     }
 
     /// What it wrote to the error output.
     pub(crate) fn err_text(&self) -> Result<&str> {
-        Ok(str::from_utf8(self.err.bytes())?)
+        Ok(str::from_utf8(self.err.0.bytes())?)
+    }
+
+    /// The bytes that it wrote to the error output.
+    pub(crate) fn err_bytes(&self) -> &[u8] {
+        self.err.0.bytes()
+    }
+
+    /// Whether it came to the same status and wrote the same as another.
+    pub(crate) fn says(&self, other: &Came) -> bool {
+        (self.status == other.status)
+            & (self.out_bytes() == other.out_bytes())
+            & (self.err_bytes() == other.err_bytes())
+    }
+
+    /// The disk as the command left it.
+    pub(crate) fn disk(&self) -> &MemDisk {
+        self.host.disk()
     }
 
     /// The host as the command left it.
@@ -61,11 +79,23 @@ pub(crate) fn command<C: Clients>(
     input: &[u8],
     clients: &C,
 ) -> Result<Came> {
-    let host = stage.into_host();
     let words = words_of(alloc, words)?;
-    let source = MemSource::new(input.to_vec(alloc)?, Vec::new(alloc));
     let hasher = RandomState::new(&MemRandom(0))?;
-    Ok(obeyed(alloc, hasher, words.as_slice(), host, source, clients))
+    let streams = Streams {
+        source: stage.source(alloc, input)?,
+        out: stage.out(alloc)?,
+        err: stage.err(alloc)?,
+    };
+    let host = stage.into_host();
+    Ok(obeyed(alloc, hasher, words.as_slice(), host, streams, clients))
+}
+
+// What a command reads and writes.
+#[derive(Drop)]
+struct Streams {
+    source: SlowSource,
+    out: SlowSink,
+    err: SlowSink,
 }
 
 // The one call of `run`.
@@ -74,15 +104,17 @@ fn obeyed<C: Clients>(
     hasher: RandomState,
     words: &[String],
     host: MemHost,
-    source: MemSource,
+    streams: Streams,
     clients: &C,
 ) -> Came
     requires no_links { links_of host.disk ≡ [] }
 {
     let mut host = host;
-    let mut source = source;
-    let mut out = MemSink::new(alloc, Vec::new(alloc));
-    let mut err = MemSink::new(alloc, Vec::new(alloc));
+    let Streams {
+        mut source,
+        mut out,
+        mut err,
+    } = streams;
     let status = run(
         alloc,
         hasher,
@@ -101,8 +133,12 @@ fn obeyed<C: Clients>(
     }
 }
 
+// The words of a line; an empty line has none.
 fn words_of(alloc: Global, line: &str) -> Result<Vec<String>, AllocError> {
     let mut words = Vec::new(alloc);
+    if line.is_empty() {
+        return Ok(words);
+    }
     for word in line.split(' ') {
         words.push(String::from_str(alloc, word)?)?;
     }

@@ -2,14 +2,20 @@
 ghost use Rattle.std.specs.Prelude.{◌≡◌, []};
 ghost use Rattle.outside.specs.MemHost.{links_of};
 
-use anyhow::{Context, Result};
-use outside::{Answer, LINKS, MemDisk, MemHost};
+use crate::files::decoded;
+use crate::slow::{SlowSink, SlowSource, part_of};
+use anyhow::{Context, Result, anyhow};
+use outside::{Answer, LINKS, MemDisk, MemHost, MemSink, MemSource};
 use std::alloc::{AllocError, Global};
 
-/// A host on which no link was made, with what is to come of its links, its clock and its nonces.
+/// A host on which no link was made, with what is to come of its links, its clock and its nonces, and
+/// the calls of the streams that are to fail.
 #[derive(Drop)]
 pub(crate) struct Stage {
     host: MemHost,
+    reads: Vec<u64>,
+    outs: Vec<u64>,
+    errs: Vec<u64>,
     ghost no_links: { links_of host.disk ≡ [] },
 }
 
@@ -18,6 +24,9 @@ impl Stage {
     pub(crate) fn over(alloc: Global, disk: MemDisk) -> Result<Stage> {
         Ok(Stage {
             host: MemHost::new(alloc, disk)?,
+            reads: Vec::new(alloc),
+            outs: Vec::new(alloc),
+            errs: Vec::new(alloc),
         })
     }
 
@@ -25,8 +34,31 @@ impl Stage {
     pub(crate) fn into_host(self) -> MemHost
         ensures { links_of result.disk ≡ [] }
     {
-        let Stage { host } = self;
+        let Stage {
+            host,
+            reads: _,
+            outs: _,
+            errs: _,
+        } = self;
         host
+    }
+
+    /// The input of these bytes.
+    pub(crate) fn source(&self, alloc: Global, input: &[u8]) -> Result<SlowSource, AllocError> {
+        Ok(SlowSource {
+            most: part_of(input.len()),
+            source: MemSource::new(input.to_vec(alloc)?, self.reads.clone()?),
+        })
+    }
+
+    /// The output.
+    pub(crate) fn out(&self, alloc: Global) -> Result<SlowSink, AllocError> {
+        Ok(SlowSink(MemSink::new(alloc, self.outs.clone()?)))
+    }
+
+    /// The error output.
+    pub(crate) fn err(&self, alloc: Global) -> Result<SlowSink, AllocError> {
+        Ok(SlowSink(MemSink::new(alloc, self.errs.clone()?)))
     }
 
     /// Adds what a line says of links, clock, nonces and failing calls.
@@ -37,8 +69,21 @@ impl Stage {
             "nonce" => self.give_nonce(alloc, rest),
             "clock" => Ok(self.host.reading(rest.parse::<u64>()?)?),
             "faildial" => Ok(self.host.fail_dial(rest.parse::<u8>()?)?),
-            _ => Ok(self.host.fail_send(rest.parse::<u64>()?)?),
+            _ => self.fail(kind, rest.parse::<u64>()?),
         }
+    }
+
+    // The call of this number of this kind is to fail.
+    fn fail(&mut self, kind: &str, call: u64) -> Result<()> {
+        match kind {
+            "faildisk" => self.fail_at(call)?,
+            "failread" => self.reads.push(call)?,
+            "failout" => self.outs.push(call)?,
+            "failerr" => self.errs.push(call)?,
+            "failsend" => self.host.fail_send(call)?,
+            _ => return Err(anyhow!("no line begins with {kind}")),
+        }
+        Ok(())
     }
 
     // Adds answers to the script of a link.
@@ -73,6 +118,12 @@ impl Stage {
         let made = self.host.disk().calls();
         self.host.stop_at(made.saturating_add(call));
     }
+
+    /// This call of the disk is to fail, counted from those that were made.
+    pub(crate) fn fail_at(&mut self, call: u64) -> Result<(), AllocError> {
+        let made = self.host.disk().calls();
+        self.host.fail_at(made.saturating_add(call))
+    }
 }
 
 fn answer_of(kind: &str) -> Answer {
@@ -81,16 +132,4 @@ fn answer_of(kind: &str) -> Answer {
         "end" => Answer::End,
         _ => Answer::Fail,
     }
-}
-
-/// The bytes of these digits.
-pub(crate) fn decoded(alloc: Global, digits: &str) -> Result<Vec<u8>> {
-    hex::decode(alloc, digits).ok().context("no digits")
-}
-
-/// A disk with the same files.
-pub(crate) fn copy_of(alloc: Global, disk: &MemDisk) -> Result<MemDisk, AllocError> {
-    let first = disk.file(0).to_vec(alloc)?;
-    let second = disk.file(1).to_vec(alloc)?;
-    MemDisk::new(alloc, first, second)
 }

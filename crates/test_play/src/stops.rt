@@ -1,10 +1,8 @@
 //! A command that is stopped at each call of the disk, and what crashes then leave.
 
 use crate::case::Case;
-use crate::command::{Came, command};
-use crate::stage::Stage;
+use crate::command::Came;
 use anyhow::{Context, Result};
-use client_basic::Bundle;
 use outside::{LINKS, MemDisk, Pick};
 use record_grammar::{Found, read_one};
 use std::alloc::{AllocError, Global};
@@ -35,7 +33,7 @@ pub(crate) fn play_stops(alloc: Global, case: &Case, words: &str) -> Result<Stri
         apart: 0,
         acknowledged: 0,
     };
-    for call in 0..=calls_of(alloc, case, words)? {
+    for call in 0..=calls_of(case, words)? {
         stop_at(alloc, case, words, call, &mut tally)?;
     }
     Ok(line_of(alloc, tally)?)
@@ -50,30 +48,25 @@ fn line_of(alloc: Global, tally: Tally) -> Result<String, AllocError> {
 }
 
 // How many calls of the disk the command makes.
-fn calls_of(alloc: Global, case: &Case, words: &str) -> Result<u64> {
-    let whole = command(alloc, words, case.stage()?, case.input(), &Bundle::new())?;
-    Ok(whole.host().disk().calls())
+fn calls_of(case: &Case, words: &str) -> Result<u64> {
+    let whole = case.commanded(words, case.stage()?)?;
+    Ok(whole.disk().calls())
 }
 
 fn stop_at(alloc: Global, case: &Case, words: &str, call: u64, tally: &mut Tally) -> Result<()> {
     let mut stage = case.stage()?;
     stage.stop_at(call);
-    let came = command(alloc, words, stage, case.input(), &Bundle::new())?;
+    let came = case.commanded(words, stage)?;
     look_at_images(alloc, case, &came, tally)
 }
 
 // Looks at each image that a crash may leave of a command.
 fn look_at_images(alloc: Global, case: &Case, came: &Came, tally: &mut Tally) -> Result<()> {
     for pick in &PICKS {
-        let image = came.host().disk().image(*pick)?;
+        let image = came.disk().image(*pick)?;
         let goes_on = goes_on(case.file(), &image);
-        let shown = command(
-            alloc,
-            "show",
-            Stage::over(alloc, image)?,
-            &[],
-            &Bundle::new(),
-        )?;
+        let left = Case::over(alloc, &image)?;
+        let shown = left.commanded("show", left.stage()?)?;
         if !(goes_on & is_sound(alloc, came, &shown, tally)?) {
             tally.apart = tally.apart.saturating_add(1);
         }

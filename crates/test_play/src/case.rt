@@ -1,18 +1,20 @@
-//! A case: the files as they stand, and what is to come of the next run.
+//! A case: the files as they stand, and what is to come of the next command.
 
+use crate::answer::{tell_answer, tell_bytes, tell_disk};
 use crate::command::{Came, command};
 use crate::compacting;
+use crate::crash::{Plan, crash, crash_twice};
 use crate::crossed::Crossed;
-use crate::stage::{Stage, copy_of, decoded};
+use crate::files::{add_counted, add_frames, begun, copy_of, decoded};
+use crate::stage::Stage;
 use crate::stops::play_stops;
 use anyhow::{Context, Result};
-use bramble_hash::Blake2b;
-use client_basic::Bundle;
+use client_sharing::SharingBundle;
 use outside::{LINKS, MemDisk};
 use std::alloc::{AllocError, Global};
 
-// The longest bytes that are printed whole.
-const MAX_SHOWN: usize = 120;
+// The commands that a load refuses.
+static LOADING: [&str; 4] = ["contact", "inbox", "group note 0 d", "audit"];
 
 /// A case that is played line by line.
 pub(crate) struct Case {
@@ -62,6 +64,7 @@ impl Case {
             "states" => return self.tell_states(),
             "other" => return self.tell_other(),
             "compact" => return self.compact(),
+            "find" => return self.find(),
             _ => {}
         }
         let (kind, rest) = line.split_once(' ').context("a line of one word")?;
@@ -75,8 +78,98 @@ impl Case {
             "sync" => self.run(line),
             "mailbox" => self.carry(line),
             "stops" => self.stop(rest),
+            "files" | "journal" | "add" | "count" => self.write_files(kind, rest),
+            "run" | "try" | "loaded" => self.tell_command(kind, rest),
+            "crash" | "fails" | "twice" => self.tell_failing(kind, rest),
             _ => self.prepare(line),
         }
+    }
+
+    // The files are others.
+    fn write_files(&mut self, kind: &str, words: &str) -> Result<()> {
+        match kind {
+            "files" => {
+                let (first, second) = words.split_once(' ').context("one file")?;
+                let second = decoded(self.alloc, second)?;
+                self.disk = MemDisk::new(self.alloc, decoded(self.alloc, first)?, second)?;
+                Ok(())
+            }
+            "journal" => {
+                let file = begun(self.alloc, words)?;
+                self.disk = MemDisk::new(self.alloc, file, Vec::new(self.alloc))?;
+                Ok(())
+            }
+            _ => self.add_to_file(kind, words),
+        }
+    }
+
+    // Frames are added to file 0.
+    fn add_to_file(&mut self, kind: &str, words: &str) -> Result<()> {
+        let mut file = self.disk.file(0).to_vec(self.alloc)?;
+        match kind {
+            "add" => add_frames(self.alloc, &mut file, words)?,
+            _ => add_counted(self.alloc, &mut file, words)?,
+        }
+        let second = self.disk.file(1).to_vec(self.alloc)?;
+        self.disk = MemDisk::new(self.alloc, file, second)?;
+        Ok(())
+    }
+
+    // A command is told whole: `run` keeps what it leaves.
+    fn tell_command(&mut self, kind: &str, words: &str) -> Result<()> {
+        writeln!(self.told, "> {words}")?;
+        let mut stage = self.stage()?;
+        if kind == "loaded" {
+            let shown = self.commanded("show", self.stage()?)?;
+            stage.fail_at(shown.disk().calls())?;
+        }
+        let came = self.commanded(words, stage)?;
+        tell_answer(self.alloc, &came, &mut self.told)?;
+        tell_disk(self.alloc, &self.disk, came.disk(), &mut self.told)?;
+        if kind == "run" {
+            self.disk = copy_of(self.alloc, came.disk())?;
+        }
+        self.forget();
+        Ok(())
+    }
+
+    // A command is told of which each call of the disk fails in turn.
+    fn tell_failing(&mut self, kind: &str, line: &str) -> Result<()> {
+        let plan = Plan::of(kind != "fails", line)?;
+        let mut told = String::new(self.alloc);
+        writeln!(told, "> {kind} {line}")?;
+        if kind == "twice" {
+            crash_twice(self.alloc, self, &plan, &mut told)?;
+        } else {
+            crash(self.alloc, self, &plan, &mut told)?;
+        }
+        self.told.push_str(told.as_str())?;
+        self.forget();
+        Ok(())
+    }
+
+    // What a load says of the files, and each command that does not say the same.
+    fn find(&mut self) -> Result<()> {
+        let shown = self.commanded("show", self.stage()?)?;
+        tell_answer(self.alloc, &shown, &mut self.told)?;
+        tell_disk(self.alloc, &self.disk, shown.disk(), &mut self.told)?;
+        for words in &LOADING {
+            self.find_by(words, &shown)?;
+        }
+        Ok(())
+    }
+
+    // Over no store a command is to say what `show` says; an audit is told of any other.
+    fn find_by(&mut self, words: &str, shown: &Came) -> Result<()> {
+        if shown.status == 0 && words != "audit" {
+            return Ok(());
+        }
+        let came = self.commanded(words, self.stage()?)?;
+        if shown.status == 0 || !came.says(shown) {
+            writeln!(self.told, "> {words}")?;
+            tell_answer(self.alloc, &came, &mut self.told)?;
+        }
+        Ok(tell_disk(self.alloc, &self.disk, came.disk(), &mut self.told)?)
     }
 
     /// Prints what came of the lines so far.
@@ -97,6 +190,13 @@ impl Case {
     fn tell(&mut self, line: &str) -> Result<(), AllocError> {
         self.told.push_str(line)?;
         self.told.push('\n')
+    }
+
+    /// A case over the files of a disk, which nothing is prepared for.
+    pub(crate) fn over(alloc: Global, disk: &MemDisk) -> Result<Case, AllocError> {
+        let mut case = Case::new(alloc)?;
+        case.disk = copy_of(alloc, disk)?;
+        Ok(case)
     }
 
     // The files are this one and an empty one.
@@ -161,33 +261,27 @@ impl Case {
         self.disk.file(0)
     }
 
-    /// The input of the next command.
-    pub(crate) fn input(&self) -> &[u8] {
-        self.input.as_slice()
-    }
-
-    // Runs a command. What was prepared for it is gone then.
+    // Runs a command, whose files these are then.
     fn came(&mut self, words: &str) -> Result<Came> {
-        let came = self.commanded(words)?;
-        self.settle(&came)?;
+        let came = self.commanded(words, self.stage()?)?;
+        self.disk = copy_of(self.alloc, came.disk())?;
+        self.forget();
         Ok(came)
     }
 
-    fn commanded(&self, words: &str) -> Result<Came> {
-        let stage = self.stage()?;
+    /// What a command comes to on this stage.
+    pub(crate) fn commanded(&self, words: &str, stage: Stage) -> Result<Came> {
         let input = self.input.as_slice();
         match &self.crossed {
             Some(clients) => command(self.alloc, words, stage, input, clients),
-            None => command(self.alloc, words, stage, input, &Bundle::new()),
+            None => command(self.alloc, words, stage, input, &SharingBundle::new()),
         }
     }
 
-    // The files are those that a command left.
-    fn settle(&mut self, came: &Came) -> Result<(), AllocError> {
-        self.disk = copy_of(self.alloc, came.host().disk())?;
+    // Nothing is prepared for the next command.
+    fn forget(&mut self) {
         self.input = Vec::new(self.alloc);
         self.prepared = Vec::new(self.alloc);
-        Ok(())
     }
 
     fn obey(&mut self, words: &str) -> Result<()> {
@@ -236,8 +330,7 @@ impl Case {
             _ => play_stops(self.alloc, self, words)?,
         };
         self.tell(line.as_str())?;
-        self.input = Vec::new(self.alloc);
-        self.prepared = Vec::new(self.alloc);
+        self.forget();
         Ok(())
     }
 }
@@ -250,7 +343,7 @@ fn tell_run(alloc: Global, came: &Came, told: &mut String) -> Result<()> {
         tell_sent(alloc, link as u8, came.host().sent(link as u8), told)?;
     }
     told.push_str("file ")?;
-    Ok(tell_bytes(alloc, came.host().disk().file(0), told)?)
+    Ok(tell_bytes(alloc, came.disk().file(0), told)?)
 }
 
 fn tell_sent(alloc: Global, link: u8, sent: &[u8], told: &mut String) -> Result<(), AllocError> {
@@ -259,21 +352,4 @@ fn tell_sent(alloc: Global, link: u8, sent: &[u8], told: &mut String) -> Result<
         tell_bytes(alloc, sent, told)?;
     }
     Ok(())
-}
-
-// Bytes as they are printed: whole where they are few, else their number and digest.
-fn tell_bytes(alloc: Global, bytes: &[u8], told: &mut String) -> Result<(), AllocError> {
-    if bytes.len() <= MAX_SHOWN {
-        return tell_digits(alloc, bytes, told);
-    }
-    write!(told, "{} ", bytes.len())?;
-    let mut hash = Blake2b::<32>::new();
-    hash.update(bytes);
-    tell_digits(alloc, &hash.finalize(), told)
-}
-
-fn tell_digits(alloc: Global, bytes: &[u8], told: &mut String) -> Result<(), AllocError> {
-    let digits = hex::encode(alloc, bytes)?;
-    told.push_str(digits.as_str())?;
-    told.push('\n')
 }
