@@ -7,7 +7,7 @@
 # The last lines are `ratio NAME VALUE`.
 set -eu
 cd "$(dirname "$0")/.."
-(cd crates/bench && rt run -- store load 50 200 1 >/dev/null)
+.ci/built bench || exit 1
 exec env PYTHONPATH=bench:oracle PYTHONDONTWRITEBYTECODE=1 python3 - "${RUNS:-3}" "${FEW:-5000}" "${MANY:-20000}" "${WORST:-5000}" <<'PY'
 import math, os, subprocess, sys, tempfile
 

@@ -10,7 +10,7 @@
 # The last lines are `ratio NAME VALUE`: post over each peer, the part of a post that is the load, and the growth over linear.
 cd "$(dirname "$0")/.." || exit 1
 bsp=$PWD/crates/bsp/out/bsp
-if [ ! -x "$bsp" ]; then (cd crates/bsp && rt run -- try note d <stdin >/dev/null) || exit 1; fi
+.ci/built bsp || exit 1
 folder=$(mktemp -d) || exit 1
 trap 'rm -rf "$folder"' EXIT
 case $(stat -f -c %T "$folder") in

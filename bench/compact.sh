@@ -12,7 +12,7 @@
 # The last lines are `ratio NAME VALUE`.
 cd "$(dirname "$0")/.." || exit 1
 bsp=$PWD/crates/bsp/out/bsp
-if [ ! -x "$bsp" ]; then (cd crates/bsp && rt run -- try note d <stdin >/dev/null) || exit 1; fi
+.ci/built bsp || exit 1
 folder=$(mktemp -d) || exit 1
 memory=$(mktemp -d /dev/shm/compact.XXXXXX) || exit 1
 trap 'rm -rf "$folder" "$memory"' EXIT

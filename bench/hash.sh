@@ -3,7 +3,7 @@
 # Prints each one's least time of RUNS (7) runs; the last line is `ratio hash VALUE`.
 set -eu
 cd "$(dirname "$0")/.."
-(cd crates/bench && rt run -- hash <stdin >/dev/null)
+.ci/built bench || exit 1
 exec env PYTHONPATH=bench PYTHONDONTWRITEBYTECODE=1 python3 - "${RUNS:-7}" <<'PY'
 import os, sys, tempfile
 

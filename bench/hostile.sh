@@ -7,7 +7,7 @@
 # chosen and of one slot over random for the OFFER.
 set -eu
 cd "$(dirname "$0")/.."
-(cd crates/bench && rt run -- store load 50 200 1 >/dev/null)
+.ci/built bench || exit 1
 exec env PYTHONPATH=bench:oracle PYTHONDONTWRITEBYTECODE=1 python3 - "${RUNS:-3}" "${FEW:-5000}" "${MANY:-20000}" <<'PY'
 import hashlib, math, os, struct, sys, tempfile
 

@@ -12,8 +12,8 @@
 # The last lines are `ratio NAME VALUE`.
 cd "$(dirname "$0")/.." || exit 1
 bsp=$PWD/crates/bsp/out/bsp
-if [ ! -x "$bsp" ]; then (cd crates/bsp && rt run -- try note d <stdin >/dev/null) || exit 1; fi
-(cd crates/bench && rt run -- store load 50 200 1 >/dev/null) || exit 1
+.ci/built bsp || exit 1
+.ci/built bench || exit 1
 folder=$(mktemp -d) || exit 1
 trap 'rm -rf "$folder"' EXIT
 case $(stat -f -c %T "$folder") in

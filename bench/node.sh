@@ -7,7 +7,7 @@
 # to the same journal's file and the same bytes sent as are computed here. The last lines are `ratio NAME VALUE`.
 set -eu
 cd "$(dirname "$0")/.."
-(cd crates/bench && rt run -- node both hear 50 200 >/dev/null)
+.ci/built bench || exit 1
 exec env PYTHONPATH=bench:oracle PYTHONDONTWRITEBYTECODE=1 python3 - "${RUNS:-5}" <<'PY'
 import hashlib, struct, sys
 from multiprocessing import get_context

@@ -4,7 +4,7 @@
 # `ratio records_small VALUE` and `ratio records VALUE`, of the small and of the large bodies.
 cd "$(dirname "$0")/.." || exit 1
 bsp=$PWD/crates/bsp/out/bsp
-if [ ! -x "$bsp" ]; then (cd crates/bsp && rt run -- try note d <stdin >/dev/null) || exit 1; fi
+.ci/built bsp || exit 1
 exec env PYTHONPATH=bench PYTHONDONTWRITEBYTECODE=1 python3 - "$bsp" "${RUNS:-5}" <<'PY'
 import os, sys, tempfile
 

@@ -7,7 +7,7 @@
 # generated world.
 cd "$(dirname "$0")/.." || exit 1
 replay=${REPLAY:-$PWD/crates/bsp_replay/out/bsp_replay}
-if [ ! -x "$replay" ]; then (cd crates/bsp_replay && rt run -- gen 7 200 >/dev/null) || exit 1; fi
+[ -x "$replay" ] || .ci/built bsp_replay || exit 1
 exec env PYTHONPATH=bench PYTHONDONTWRITEBYTECODE=1 python3 - "$replay" "${RUNS:-3}" <<'PY'
 import os, sys, tempfile
 

@@ -6,7 +6,7 @@
 # a held message takes beside its body.
 set -eu
 cd "$(dirname "$0")/.."
-(cd crates/bench && rt run -- store load 50 200 1 >/dev/null)
+.ci/built bench || exit 1
 exec env PYTHONPATH=bench:oracle PYTHONDONTWRITEBYTECODE=1 python3 - "${RUNS:-5}" "${CONTACTS:-1}" <<'PY'
 import os, struct, sys, tempfile
 

@@ -14,7 +14,7 @@
 # The last lines are `ratio NAME VALUE`, of the least times.
 cd "$(dirname "$0")/.." || exit 1
 bsp=${BSP:-$PWD/crates/bsp/out/bsp}
-if [ ! -x "$bsp" ]; then (cd crates/bsp && rt run -- try note d <stdin >/dev/null) || exit 1; fi
+[ -x "$bsp" ] || .ci/built bsp || exit 1
 folder=$(mktemp -d) || exit 1
 trap 'rm -rf "$folder"' EXIT
 case $(stat -f -c %T "$folder") in

@@ -4,7 +4,7 @@
 # of one contact and message, and last `ratio tables VALUE`: how much faster than n log n the work grows.
 set -eu
 cd "$(dirname "$0")/.."
-(cd crates/bench && rt run -- tables 10 >/dev/null)
+.ci/built bench || exit 1
 exec env PYTHONPATH=bench PYTHONDONTWRITEBYTECODE=1 python3 - "${RUNS:-5}" <<'PY'
 import math, sys
 

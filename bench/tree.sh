@@ -7,9 +7,9 @@
 # and one of 100,000 (CHAINS). The last lines are `ratio NAME VALUE`. It takes some minutes.
 set -eu
 cd "$(dirname "$0")/.."
-(cd crates/bench && rt run -- tree 10 100 >/dev/null)
+.ci/built bench || exit 1
 bsp=$PWD/crates/bsp/out/bsp
-if [ ! -x "$bsp" ]; then (cd crates/bsp && rt run -- try note d <stdin >/dev/null); fi
+.ci/built bsp || exit 1
 export PYTHONPATH=bench:oracle PYTHONDONTWRITEBYTECODE=1
 # The memory of a child counts from what its parent had when it was made, so it is measured from a small process, and between two
 # trees that are both greater than that one.

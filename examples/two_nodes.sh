@@ -6,7 +6,7 @@
 set -eu
 cd "$(dirname "$0")/.."
 bsp=$PWD/crates/bsp/out/bsp
-if [ ! -x "$bsp" ]; then (cd crates/bsp && rt run -- try note d <stdin >/dev/null); fi
+.ci/built bsp || exit 1
 folder=$(mktemp -d)
 trap 'rm -rf "$folder"' EXIT
 mkdir "$folder/alice" "$folder/bob"

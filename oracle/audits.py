@@ -1,7 +1,4 @@
-#!/usr/bin/env python3
-"""The rows of test_commands for `audit`: two files, and what it comes to over them.
-
-    audits.py > crates/test_commands/src/audit_rows.rt
+"""What `audit` comes to over two files: command_cases.py makes cases of these.
 
 The stores are those of old_stores.py and of the worked rows of docs/FORMATS.md; what is told of a journal is counted here: good and bad
 by rounds over all held messages and what their clients say of them, judged or not, and the journal is open while run_model.py finds
@@ -9,9 +6,9 @@ a step. Nothing here is shared with the program.
 """
 from digests import message_id
 from journal import SHORT, WHOLE, entries, entry_of, frames, respelled
-from old_stores import NOTES, SHARINGS, THREADS, bare, ended, fresh, heard, held, spoken
+from old_stores import NOTES, THREADS, bare, ended, fresh, heard, held, spoken
 from run_model import BATCH, VISIBLE, Journal, Store, message_record
-from sharing import ALL_CLIENTS, NOTE, SHARING, THREAD, rust
+from sharing import ALL_CLIENTS, NOTE, THREAD
 from store_file import CLOSED, framed, header
 
 
@@ -123,71 +120,3 @@ def rows():
         yield contact[:length].hex(), '', f'damaged: file 0 at {place}\n'
         yield '', contact[:length].hex(), f'damaged: file 1 at {place}\n'
     yield (header(3, 1) + CLOSED).hex(), '', 'damaged: file 0 at 5\n'
-
-
-STATUSES = {'legal': 'Done', 'no': 'NoStore', 'damaged:': 'Damaged'}
-DIGITS = 5_000
-
-
-def parts():
-    """The rows in order, in parts of at most so many digits: a check takes the strings of one static at once."""
-    told = [[]]
-    for row in rows():
-        if sum(len(first) + len(second) for first, second, _ in told[-1] + [row]) > DIGITS:
-            told.append([])
-        told[-1].append(row)
-    return told
-
-
-def row_lines(row):
-    first, second, line = row
-    yield 'Audit {'
-    yield f'    first: "{first}",'
-    yield f'    second: "{second}",'
-    yield f'    status: Status::{STATUSES[line.split()[0]]},'
-    yield f'    line: "{rust(line)}",'
-    yield '}'
-
-
-def part_lines(number, part):
-    """A part and the function that lends it; a list of one row stands on its name's line."""
-    head = f'static PART_{number}: [Audit; {len(part)}] = ['
-    if len(part) == 1:
-        first, *rest = row_lines(part[0])
-        yield head + first
-        yield from rest[:-1]
-        yield rest[-1] + '];'
-    else:
-        yield head
-        for row in part:
-            *lines, last = row_lines(row)
-            yield from ('    ' + line for line in lines)
-            yield '    ' + last + ','
-        yield '];'
-    yield ''
-    yield f"fn part_{number}() -> &'static [Audit] {{"
-    yield f'    &PART_{number}'
-    yield '}'
-
-
-def table():
-    told = parts()
-    yield '//! The rows of audits, by oracle/audits.py.'
-    yield ''
-    yield 'use crate::audits::Audit;'
-    yield 'use sync_top::Status;'
-    yield ''
-    yield '/// All rows.'
-    yield f"pub(crate) fn parts() -> [&'static [Audit]; {len(told)}] {{"
-    yield '    ['
-    for number in range(1, len(told) + 1):
-        yield f'        part_{number}(),'
-    yield '    ]'
-    yield '}'
-    for number, part in enumerate(told, 1):
-        yield ''
-        yield from part_lines(number, part)
-
-
-if __name__ == '__main__':
-    print('\n'.join(table()))

@@ -1,16 +1,13 @@
-#!/usr/bin/env python3
-"""The rows of test_commands for stores of format 1: what a command prints of them, and the journal that one which adds leaves in
-format 2.
-
-    old_stores.py > crates/test_commands/src/old_rows.rt
+"""Stores of format 1: what a command prints of them, and the journal that one which adds leaves in format 2. command_cases.py makes
+cases of these.
 
 What a node does is played by run_model.py and sharing.py, what is shown of its journal by world_model.py, and both formats are those of
 journal.py. Nothing here is shared with the program.
 """
 from digests import group_id, message_id
-from journal import SHORT, WHOLE, entries, entry_of, respelled
+from journal import SHORT, entries, entry_of
 from run_model import ACK, BATCH, INTERACTIVE, OFFER, REQUEST, SHARED, VISIBLE, message_record as message, record_bytes as record
-from sharing import NOTE, SHARING, THREAD, Person, rust
+from sharing import NOTE, SHARING, THREAD, Person
 from world_model import Facts, shown
 
 NOTES, THREADS, SHARINGS = (group_id(*definition) for definition in (NOTE, THREAD, SHARING))
@@ -165,71 +162,12 @@ SCENES = [
 ]
 
 
-def escaped(data):
-    return ''.join(chr(byte) if 32 <= byte < 127 and byte not in b'"\\' else {10: '\\n'}.get(byte, f'\\x{byte:02x}') for byte in data)
-
-
-def hex_of(payloads):
-    return ' '.join(payload.hex() for payload in payloads)
-
-
-def scene_rows(name, scenes):
-    yield f'pub(crate) static {name}: [Old; {len(scenes)}] = ['
-    for person, words, given, does in scenes:
-        before = list(person.batches)
-        text = does(person)
-        adds = person.batches[len(before):]
-        texts = [show_text(before + adds[:stage]) for stage in range(len(adds) + 1)]
-        assert len(texts) <= 3
-        yield '    Old {'
-        yield f'        old: "{hex_of(respelled(before, SHORT, WHOLE))}",'
-        yield '        scene: Scene {'
-        yield '            begun: true,'
-        yield f'            before: "{hex_of(before)}",'
-        yield f'            words: "{words}",'
-        yield f'            input: b"{escaped(given)}",'
-        yield f'            out: b"{rust(text)}",'
-        yield f'            adds: "{hex_of(adds)}",'
-        yield '            shown: ['
-        for at_stage in (texts + [''])[:3]:
-            yield f'                "{rust(at_stage)}",'
-        yield '            ],'
-        yield '        },'
-        yield '    },'
-    yield '];'
-    yield ''
-
-
-def look_rows():
-    person = heard()
+def looks_at(person):
+    """What commands print that look at the store of `heard`: their words, and the bytes of the output."""
     payloads = list(person.batches)
     facts = facts_of(payloads)
-    looks = [('show', show_text(payloads).encode()), ('inbox', inbox_text(payloads).encode())]
-    looks += [(f'body {it.id.hex()}', it.body) for it in facts.held]
-    looks.append((f'tree {THREADS.hex()} 0 10', tree_text(payloads, THREADS).encode()))
-    yield 'pub(crate) const OLD_HEARD: &str ='
-    yield f'    "{hex_of(respelled(payloads, SHORT, WHOLE))}";'
-    yield ''
-    yield 'pub(crate) const HEARD: &str ='
-    yield f'    "{hex_of(payloads)}";'
-    yield ''
-    yield f'pub(crate) static LOOKS: [(&str, &[u8]); {len(looks)}] = ['
-    for words, out in looks:
-        yield f'    ("{words}", b"{escaped(out)}"),'
-    yield '];'
-    yield ''
-
-
-def table():
-    yield '//! The rows of stores of format 1, by oracle/old_stores.py.'
-    yield ''
-    yield 'use crate::migrations::Old;'
-    yield 'use crate::scenes::Scene;'
-    yield ''
-    yield from look_rows()
-    yield from scene_rows('ADDING', SCENES)
-    yield from scene_rows('ADDED', [(heard(), 'contact', b'', adds_contact)])
-
-
-if __name__ == '__main__':
-    print('\n'.join(table()).rstrip())
+    yield 'show', show_text(payloads).encode()
+    yield 'inbox', inbox_text(payloads).encode()
+    for it in facts.held:
+        yield f'body {it.id.hex()}', it.body
+    yield f'tree {THREADS.hex()} 0 10', tree_text(payloads, THREADS).encode()

@@ -1,14 +1,12 @@
-"""The two people who agree on the groups that they share, played plainly by docs/PROTOCOL.md and docs/FORMATS.md, and the tables
-of the commands `say` and `agree` in crates/test_commands.
+"""The two people who agree on the groups that they share, played plainly by docs/PROTOCOL.md and docs/FORMATS.md, and the steps
+of the commands `say` and `agree` of which command_cases.py makes cases.
 
-    sharing.py > crates/test_commands/src/sharing_rows.rt
-    sharing.py session > examples/agree.txt
+    sharing.py > examples/agree.txt
 
 Nothing here is shared with the program.
 """
 import random
 import struct
-import sys
 
 from digests import group_id, message_id
 from run_model import BATCH, CLIENTS, INVISIBLE, SHARED, VISIBLE, Node, Store, message_record
@@ -277,44 +275,11 @@ def agrees_at_random(seed):
     return scene
 
 
-def rust(text):
-    return text.replace('\\', '\\\\').replace('"', '\\"').replace('\n', '\\n')
-
-
-def step_rows(name, scene):
-    yield f'pub(crate) static {name}: [Step; {len(scene.steps)}] = ['
-    for words, text, adds in scene.steps:
-        yield '    Step {'
-        yield f'        words: "{rust(words)}",'
-        yield '        input: b"",'
-        yield f'        out: b"{rust(text)}",'
-        yield f'        adds: "{" ".join(adds)}",'
-        yield '    },'
-    yield '];'
-    yield ''
-
-
-def text_rows(name, text):
-    yield f'pub(crate) const {name}: &str ='
-    yield f'    "{rust(text)}";'
-    yield ''
-
-
 SCENES = [
     ('SAYS', says), ('SAYS_BEHIND', says_behind), ('SAYS_OPEN', says_open),
     ('AGREES', agrees), ('AGREES_BEHIND', agrees_behind), ('AGREES_AT_LENGTH', agrees_at_length),
 ]
 SEEDS = range(1, 13)
-
-
-def table():
-    yield '//! The rows of `say` and `agree`, by oracle/sharing.py.'
-    yield ''
-    yield 'use crate::steps::Step;'
-    yield ''
-    for name, scene in [(name, made()) for name, made in SCENES] + [(f'DRAWN_{seed}', agrees_at_random(seed)) for seed in SEEDS]:
-        yield from text_rows(f'BEFORE_{name}', ' '.join(scene.begun()))
-        yield from step_rows(name, scene)
 
 
 # ---- the session of examples/agree.sh
@@ -358,4 +323,4 @@ def session():
 
 
 if __name__ == '__main__':
-    print('\n'.join(session() if sys.argv[1:] == ['session'] else table()).rstrip())
+    print('\n'.join(session()).rstrip())

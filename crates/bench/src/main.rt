@@ -1,22 +1,16 @@
-//! What the scripts of `bench/` measure: parts, each by its name and words, as `frames 10`. A word
+//! What the scripts of `bench/` measure: parts, each by its name and words, as `tables 10`. A word
 //! `and` stands between two parts of one run, which make one after the other what they print.
 //!
 //! - `hash`: the digest of the standard input.
-//! - `frames COUNT`: frames that are added to a journal on a disk in memory.
-//! - `graph SHAPE COUNT`: messages that come in the worst order, through the waiting graph.
 //! - `tree SHAPE COUNT`: items that are added to a tree of replies.
 //! - `tables COUNT`: the table of what is due, for eight contacts.
-//! - `session STEP COUNT ROUNDS`: the steps of a session over a view by maps.
 //! - `store STEP ..`: a store on a disk in memory, or that of the folder's file.
 //! - `node WHO WAY COUNT LENGTH`: a node on a host in memory, and a store beside it.
 #![tactic(auto)]
 
-mod frames;
-mod graph;
 mod group;
 mod hash;
 mod node;
-mod session;
 mod stop;
 mod store;
 mod tables;
@@ -33,11 +27,8 @@ const BETWEEN: &str = "and";
 fn measure(rt: &HostRuntime, name: &str, words: &[String]) -> Result<()> {
     match name {
         "hash" => hash::measure(rt),
-        "frames" => frames::measure(rt, words),
-        "graph" => graph::measure(rt, words),
         "tree" => tree::measure(rt, words),
         "tables" => tables::measure(rt, words),
-        "session" => session::measure(rt, words),
         "store" => store::measure(rt, words),
         "node" => node::measure(rt, words),
         other => bail!("no part: {other}"),

@@ -1,0 +1,506 @@
+#!/usr/bin/env python3
+"""The cases of crates/test_commands and what they must print.
+
+    command_cases.py          writes crates/test_commands/stdin and stdout
+    command_cases.py --count  prints how many cases each part has
+
+Cases by hand stand in commands.txt beside it, each with its answer; those of sharing.py, old_stores.py and audits.py are added, and what
+crashes and failing calls leave is told here by the layout of a journal and the order of the writes, as docs/FORMATS.md has both. Nothing
+is shared with the program.
+
+A line of commands.txt is one of the driver's (crates/test_play says which), or one of these. `$NAME` is what `let NAME ..` says.
+
+    = LINE, =x HEX, ! N LINE     behind a command: it prints this, or these bytes; its status and the line on the error output
+    + PAYLOAD ..                 it adds frames of these payloads to file 0
+    @ F G .., @1 F G ..          file 0, or file 1, is then a journal in format F of generation G with these payloads
+    refuse WORDS                 `try`, and `loaded` beside it: both are refused alike
+    alone WORDS                  `try` of a command that uses no store
+    usage N WORDS                the word of this number is wrong
+    find FOUND                   FOUND is `none`, `damaged FILE PLACE` or `contacts N`
+    bases HEX ..                 the files that the next lines change: `invert PLACE FOUND`, `set PLACE VALUE FOUND`, `cut LENGTH FOUND` (the
+                                 same in file 1) and `raw HEX FOUND`, of what stands in the place of the closed gate
+    grow A B C D                 `contact` makes of files A and B these
+    unfit F P .. / PAYLOAD       the last payload may not follow the others in format F
+    foreign HEX                  bytes of no store, in either file and in both: `init` begins one in file 0
+    scene WORDS                  a command that is crashed, and all of whose calls fail in turn: with `begins` over no store, else `journal F G P ..`
+    unwritten WORDS              a command whose writes of the error output fail in turn
+"""
+import hashlib
+import os
+import re
+import sys
+
+from audits import Audited, rows as audit_rows
+from journal import SHORT, WHOLE, respelled
+from old_stores import SCENES as OLD_SCENES, adds_contact, heard, looks_at, show_text
+from sharing import ALL_CLIENTS, SCENES as SHARING_SCENES, SEEDS, Person, agrees_at_length, agrees_at_random
+from store_file import CLOSED, framed, header
+
+FOLDER = os.path.dirname(os.path.abspath(__file__))
+CRATE = os.path.join(FOLDER, '..', 'crates', 'test_commands')
+NO_STORE, EXISTS, DAMAGED, DISK_FAULT, READ_FAULT, WRITE_FAULT = 2, 3, 5, 6, 8, 13
+# an append writes a frame behind the closed gate, syncs, writes the gate and syncs: which of its calls fails when the gate may already
+# read as open, by what a crash leaves of what was not synced; and with no crash
+OPENED = {'old': 4, 'new': 2, 'zero': 4, 'ones': 2, 'left': 3}
+APPEND = 4
+# the most bytes of an output that go into one call, and the parts in which an input comes
+PIECE = 7
+
+
+def told_bytes(data):
+    return data.hex() if len(data) <= 120 else f'{len(data)} {hashlib.blake2b(data, digest_size=32).hexdigest()}'
+
+
+def told_output(data):
+    """The lines of an output, or its digits where it does not end in a line's end."""
+    if data.endswith(b'\n'):
+        try:
+            return data.decode().split('\n')[:-1]
+        except UnicodeDecodeError:
+            pass
+    return ['bytes ' + told_bytes(data)] if data else []
+
+
+def expanded(text):
+    return re.sub(r'\{([^*]*)\*(\d+)\}', lambda of: of[1] * int(of[2]), text)
+
+
+def unhex(digits):
+    return b'' if digits == '-' else bytes.fromhex(expanded(digits))
+
+
+def typed(words):
+    """Words as they are written in a case, with no space at the end."""
+    return words if words and not words.endswith(' ') else (words[:-1] + '{ *1}' if words else '{*0}')
+
+
+def line_of(text):
+    return text.encode() + b'\n'
+
+
+class Outcome:
+    """What a command comes to: both outputs, its status, the files that it changes, and whether it asked the disk."""
+
+    def __init__(self, out=b'', status=0, err=b'', after=(), asks=True):
+        self.out, self.status, self.err, self.after, self.asks = out, status, err, dict(after), asks
+
+    def answer(self):
+        return told_output(self.out) + ([f'status {self.status}'] if self.status else []) + told_output(self.err)
+
+    def lines(self, files):
+        changed = [f'file {file} {told_bytes(data)}' for file, data in sorted(self.after.items()) if files[file] != data]
+        return self.answer() + ([] if self.asks else ['no call']) + changed
+
+
+class Text:
+    """The cases and the answers, and the files as they then stand."""
+
+    def __init__(self):
+        self.cases, self.answers, self.files, self.counts, self.part = [], [], [b'', b''], {}, ''
+
+    def count(self, number=1):
+        self.counts[self.part] = self.counts.get(self.part, 0) + number
+
+    def say(self, *lines):
+        self.cases += lines
+
+    def case(self, name):
+        self.say('case ' + name)
+        self.answers.append('case ' + name)
+        self.part, self.files = name, [header(SHORT, 1) + CLOSED, b'']
+
+    def put_files(self, first, second=b''):
+        self.say(f'files {first.hex() or "-"} {second.hex() or "-"}')
+        self.files = [first, second]
+
+    def journal(self, spelled, generation, payloads):
+        self.say(f'journal {spelled} {generation}', *(['add ' + ' '.join(it.hex() for it in payloads)] if payloads else []))
+        self.files = [framed(header(spelled, generation), payloads), b'']
+
+    def tell(self, kind, words, outcome, *prepared):
+        """A command of one of the kinds `try`, `run` and `loaded`."""
+        self.say(*prepared, f'{kind} {typed(words)}')
+        self.answers += [f'> {expanded(words)}', *outcome.lines(self.files)]
+        if kind == 'run':
+            for file, data in outcome.after.items():
+                self.files[file] = data
+        self.count()
+
+    def find(self, found):
+        """What the files are found to be."""
+        self.say('find')
+        kind, *numbers = found.split()
+        if kind == 'contacts':
+            count, = numbers
+            self.answers += [f'contacts {count}', 'sessions 0', '> audit', f'legal {count} {count} 0 0 settled']
+        elif kind == 'none':
+            self.answers += [f'status {NO_STORE}', 'no store']
+        else:
+            self.answers += [f'status {DAMAGED}', 'damaged: file {} at {}'.format(*numbers)]
+        self.count()
+
+    # ---- crashes
+
+    def seen(self, title, views):
+        """The rows of what is seen in each view, and then what that is; behind a title."""
+        self.answers += [title, *self.seen_lines(views)]
+
+    @staticmethod
+    def seen_lines(views):
+        kinds, rows = [], []
+        for name, seen in views:
+            row = []
+            for kind in seen:
+                if kind not in kinds:
+                    kinds.append(kind)
+                number = kinds.index(kind)
+                if row and row[-1][1] == number:
+                    row[-1][0] += 1
+                else:
+                    row.append([1, number])
+            rows.append(name + f' {row[0][1]}' + ''.join(f', {count} {number}' for count, number in row[1:]))
+        for number, kind in enumerate(kinds):
+            rows += [f'seen {number}', *kind]
+        return rows
+
+
+def state(audit, answer, journal):
+    """What is seen of files: an audit, what the next command came to, and the journal then."""
+    first, *rest = audit
+    return ['audit ' + first, *rest, *answer, 'journal ' + told_bytes(journal) if journal else 'no journal']
+
+
+def stages_at(name, stages):
+    """The number of the stage at each call of the appends, and behind the last."""
+    return [0] + [at // APPEND + (at % APPEND >= OPENED[name]) for at in range(APPEND * stages)] + [stages]
+
+
+def crashed(outcome, states, names):
+    """The views of a command which fails at each call and then comes to its end; its appends lead from state to state."""
+    fault = Outcome(status=DISK_FAULT, err=b'disk fault\n').answer()
+    views = [('answer', [fault, outcome.answer()])]
+    return views + [(name, [states[stage] for stage in stages_at(name, len(states) - 1)]) for name in names]
+
+
+CRASH, FAIL = ('old', 'new', 'zero', 'ones'), ('left',)
+
+
+def stores_of(begun, payloads, adds):
+    """The payloads of each journal that a command leads through, the one before it first; None where there is no store."""
+    before = [list(payloads)] if begun else [None, []]
+    return before + [list(payloads) + adds[:count] for count in range(1, len(adds) + 1)]
+
+
+def front_of(spelled, generation, payloads):
+    return framed(header(spelled, generation), payloads)[:-1]
+
+
+def audit_of(payloads):
+    if payloads is None:
+        return Outcome(status=NO_STORE, err=b'no store\n').answer()
+    return [Audited(payloads).line()[:-1]]
+
+
+def shown_state(payloads):
+    """What `show` sees of a journal in format 2 of generation 1."""
+    if payloads is None:
+        return state(audit_of(None), Outcome(status=NO_STORE, err=b'no store\n').answer(), b'')
+    return state(audit_of(payloads), told_output(show_text(payloads).encode()), front_of(SHORT, 1, payloads))
+
+
+def pieces_of(text):
+    """What was written of a text when the call of each number fails."""
+    return [text[:at] for at in range(0, len(text), PIECE)]
+
+
+def reads_of(given):
+    """How many reads give all bytes of an input and find its end."""
+    return -(-len(given) // (len(given) // 4 + 1)) + 1 if given else 0
+
+
+def play_scene(text, words, begun, payloads, given, outcome, adds):
+    stores = stores_of(begun, payloads, adds)
+    prepared = ['input ' + given.hex()] if given else []
+    for kind, names in (('crash', CRASH), ('fails', FAIL)):
+        text.say(*prepared, f'{kind} {words} / show')
+        text.seen(f'> {kind} {words} / show', crashed(outcome, [shown_state(it) for it in stores], names))
+        text.count()
+    for call in range(reads_of(given)):
+        text.tell('try', words, Outcome(status=READ_FAULT, err=b'read fault\n'), *prepared, f'failread {call}')
+    for call, front in enumerate(pieces_of(outcome.out)):
+        told = Outcome(front, WRITE_FAULT, b'write fault\n', outcome.after)
+        text.tell('try', words, told, *prepared, f'failout {call}')
+
+
+def play_begun_twice(text):
+    """An `init` is crashed, a second one on each image, and a third one is run on what that leaves."""
+    text.case('an init that is crashed, and crashed again')
+    text.put_files(b'')
+    text.say('twice init / init')
+    ready, exists = Outcome(b'ready\n'), Outcome(status=EXISTS, err=b'store exists\n')
+    over = {None: ready, True: exists}
+    front = front_of(SHORT, 1, [])
+    none, store = (state(audit_of(it), over[None if it is None else True].answer(), front) for it in (None, []))
+    again = [Text.seen_lines(crashed(outcome, states, CRASH)) for outcome, states in ((ready, [none, store]), (exists, [store]))]
+    views = [(name, [again[stage] for stage in stages_at(name, 1)]) for name in CRASH]
+    text.seen('> twice init / init', views)
+    text.count()
+
+
+# ---- the text by hand
+
+class Reader:
+    """Reads commands.txt, line by line: a command waits for the lines that say what it must come to."""
+
+    def __init__(self, text):
+        self.text, self.prepared, self.given, self.command, self.bases = text, [], b'', None, []
+        old = respelled(heard().batches, SHORT, WHOLE)
+        self.names = {'OLD_HEARD': ' '.join(payload.hex() for payload in old)}
+        self.outcome, self.adds, self.scene = None, [], None
+
+    def read(self, lines):
+        for line in lines:
+            if line and not line.startswith('#'):
+                self.take(re.sub(r'\$([A-Z_]+)', lambda of: self.names[of[1]], line))
+        self.close()
+
+    def take(self, line):
+        kind, _, rest = line.partition(' ')
+        if kind in ('=', '=x', '!', '+', '@', '@1'):
+            return self.expect(kind, rest)
+        self.close()
+        if kind == 'let':
+            name, _, value = rest.partition(' ')
+            self.names[name] = value
+        elif kind in ('run', 'try', 'refuse', 'alone', 'unwritten'):
+            self.command, self.outcome, self.adds = (kind, rest), Outcome(), []
+        elif kind == 'scene':
+            self.text.case('a command that fails: ' + rest)
+            self.scene = rest
+        elif kind == 'begins':
+            self.text.put_files(b'')
+            self.command, self.outcome, self.adds, self.before = ('begins', self.scene), Outcome(), [], []
+        elif kind == 'input':
+            self.prepared.append(line)
+            self.given = unhex(rest)
+        elif kind.startswith('fail') or kind == 'crossed':
+            self.prepared.append(line)
+        else:
+            self.play(kind, rest)
+
+    def expect(self, kind, rest):
+        it = self.outcome
+        if kind == '=':
+            it.out += line_of(rest)
+        elif kind == '=x':
+            it.out += bytes.fromhex(rest)
+        elif kind == '!':
+            status, _, line = rest.partition(' ')
+            it.status, it.err = int(status), line_of(line) if line else b''
+        elif kind == '+':
+            self.adds = [unhex(digits) for digits in rest.split()]
+            it.after[0] = self.text.files[0][:-1] + framed(b'', self.adds)
+        else:
+            spelled, generation, *payloads = rest.split()
+            it.after[int(kind[1:] or 0)] = framed(header(int(spelled), int(generation)), [unhex(digits) for digits in payloads])
+
+    def close(self):
+        """The command that waits is played."""
+        if not self.command:
+            return
+        (kind, words), self.command = self.command, None
+        given, prepared = self.given, self.prepared
+        self.given, self.prepared = b'', []
+        if kind == 'alone':
+            self.outcome.asks = False
+        if kind in ('scene', 'begins'):
+            play_scene(self.text, words, kind == 'scene', self.before, given, self.outcome, self.adds)
+        elif kind == 'unwritten':
+            for call, front in enumerate(pieces_of(self.outcome.err)):
+                asks = self.outcome.status != 1
+                self.text.tell('try', words, Outcome(b'', self.outcome.status, front, asks=asks), 'input 78', f'failerr {call}')
+        elif kind == 'refuse':
+            for each in ('try', 'loaded'):
+                self.text.tell(each, words, self.outcome, *prepared)
+        else:
+            self.text.tell('run' if kind == 'run' else 'try', words, self.outcome, *prepared)
+
+    def play(self, kind, rest):
+        text, words = self.text, rest.split()
+        if kind == 'case':
+            text.case(rest)
+        elif kind == 'files':
+            text.put_files(*map(unhex, words))
+        elif kind == 'journal':
+            payloads = [unhex(digits) for digits in words[2:]]
+            text.journal(int(words[0]), int(words[1]), payloads)
+            if self.scene:
+                self.command, self.outcome, self.adds, self.before = ('scene', self.scene), Outcome(), [], payloads
+                self.scene = None
+        elif kind == 'add':
+            text.say(f'add {rest}')
+            text.files[0] = text.files[0][:-1] + framed(b'', map(unhex, words))
+        elif kind == 'count':
+            count, size, front = int(words[0]), int(words[1]), unhex(words[2])
+            text.say(f'count {rest}')
+            text.files[0] = text.files[0][:-1] + framed(b'', [front + number.to_bytes(size, 'big') for number in range(count)])
+        elif kind == 'usage':
+            told = Outcome(status=1, err=line_of('usage: word ' + words[0]), asks=False)
+            text.tell('try', rest.partition(' ')[2], told, 'input 78')
+        else:
+            self.play_damage(kind, rest, words)
+
+    def play_damage(self, kind, rest, words):
+        text = self.text
+        if kind == 'find':
+            text.find(rest)
+        elif kind == 'bases':
+            self.bases = [unhex(digits) for digits in words]
+        elif kind == 'grow':
+            first, second, *after = map(unhex, words)
+            text.put_files(first, second)
+            text.tell('try', 'contact', Outcome(b'contact 0\n', after=enumerate(after)))
+        elif kind == 'unfit':
+            (spelled, *before), last = words[:-2], unhex(words[-1])
+            text.journal(int(spelled), 1, [unhex(digits) for digits in before if digits != '-'])
+            place = len(text.files[0]) - 1
+            text.say('add ' + last.hex())
+            text.find(f'damaged 0 {place}')
+        elif kind == 'foreign':
+            for files in ((unhex(rest), b''), (b'', unhex(rest)), (unhex(rest), unhex(rest))):
+                text.put_files(*files)
+                text.find('none')
+                text.tell('try', 'init', Outcome(b'ready\n', after=[(0, header(SHORT, 1) + CLOSED)]))
+        else:
+            for base in self.bases:
+                self.change(kind, base, words)
+
+    def change(self, kind, base, words):
+        """A file that is changed at a place is looked at; `set` has a value too."""
+        place, found = words[0], ' '.join(words[2 if kind == 'set' else 1:])
+        if kind == 'raw':
+            self.text.put_files(base[:-1] + unhex(place))
+        elif kind == 'cut':
+            self.text.put_files(base[:int(place)])
+            self.text.find(found)
+            self.text.put_files(b'', base[:int(place)])
+            found = found.replace('damaged 0', 'damaged 1')
+        else:
+            at = int(place)
+            value = int(words[1]) if kind == 'set' else 255 - base[at]
+            self.text.put_files(base[:at] + bytes([value]) + base[at + 1:])
+        self.text.find(found)
+
+
+# ---- what the models of the other programs say
+
+def play_sharing(text):
+    made = [(name.lower().replace('_', ' '), scene()) for name, scene in SHARING_SCENES]
+    made += [(f'drawn {seed}', agrees_at_random(seed)) for seed in SEEDS]
+    for name, scene in made:
+        text.case('say and agree: ' + name)
+        text.journal(SHORT, 1, [bytes.fromhex(digits) for digits in scene.begun()])
+        for words, out, adds in scene.steps:
+            after = text.files[0][:-1] + framed(b'', map(bytes.fromhex, adds))
+            text.tell('run', words, Outcome(out.encode(), after=[(0, after)]))
+    play_agree_again(text, agrees_at_length())
+
+
+def play_agree_again(text, scene):
+    """An `agree` of several frames is crashed, and run again: it ends the work."""
+    text.case('an agree that is crashed, and run again')
+    before = [bytes.fromhex(digits) for digits in scene.begun()]
+    text.journal(SHORT, 1, before)
+    (words, out, adds), = scene.steps
+    stores = stores_of(True, before, [bytes.fromhex(digits) for digits in adds])
+    done = Outcome(out.encode())
+    states = [state(audit_of(it), done.answer(), front_of(SHORT, 1, stores[-1])) for it in stores]
+    text.say(f'crash {words} / {words}')
+    text.seen(f'> crash {words} / {words}', crashed(done, states, CRASH))
+    text.count()
+
+
+def person_of(payloads):
+    """A person whose journal has these payloads."""
+    person = Person()
+    person.store.read(framed(header(SHORT, 1), payloads))
+    person.store.journal.clients = ALL_CLIENTS
+    return person
+
+
+def with_contact(payloads):
+    """What `contact` prints over a journal of these payloads, and the payloads then."""
+    person = person_of(payloads)
+    out = adds_contact(person)
+    return out, person.batches
+
+
+def play_old(text):
+    person = heard()
+    payloads = list(person.batches)
+    first = framed(header(WHOLE, 1), respelled(payloads, SHORT, WHOLE))
+    text.case('a store of format 1 that is looked at, and what it becomes')
+    for files in ((first, b''), (first, framed(header(SHORT, 2), payloads)), (framed(header(WHOLE, 2 ** 64 - 1), respelled(payloads, SHORT, WHOLE)), b'')):
+        text.put_files(*files)
+        for words, out in looks_at(person):
+            text.tell('try', words, Outcome(out))
+    for number, (person, words, given, does) in enumerate(OLD_SCENES + [(heard(), 'contact', b'', adds_contact)]):
+        text.case('a store of format 1 that is added to: ' + words)
+        before = list(person.batches)
+        out = does(person).encode()
+        adds = person.batches[len(before):]
+        old = list(respelled(before, SHORT, WHOLE))
+        text.journal(WHOLE, 1, old)
+        prepared = ['input ' + given.hex()] if given else []
+        done = Outcome(out, after=[(1, framed(header(SHORT, 2), before + adds))])
+        text.tell('try', words, done, *prepared)
+        if number < len(OLD_SCENES):
+            play_old_crashes(text, words, prepared, done, before, adds, old)
+
+
+def play_old_crashes(text, words, prepared, done, before, adds, old):
+    """The journal is written anew first, which ends like an append: its header's gate is written and synced."""
+    stores = [before] + stores_of(True, before, adds)
+    fronts = [front_of(WHOLE, 1, old)] + [front_of(SHORT, 2, it) for it in stores[1:]]
+    shows = [state(audit_of(it), told_output(show_text(it).encode()), front) for it, front in zip(stores, fronts)]
+    goes_on = []
+    for it in stores:
+        out, after = with_contact(it)
+        goes_on.append(state(audit_of(it), told_output(out.encode()), front_of(SHORT, 2, after)))
+    for kind, names, next_words, states in (('crash', CRASH, 'show', shows), ('crash', CRASH, 'contact', goes_on), ('fails', FAIL, 'show', shows)):
+        title = f'{kind} {words} / {next_words}'
+        text.say(*prepared, title)
+        text.seen('> ' + title, crashed(done, states, names))
+        text.count()
+
+
+def play_audits(text):
+    text.case('audits')
+    for first, second, line in audit_rows():
+        text.put_files(bytes.fromhex(first), bytes.fromhex(second))
+        status = {'legal': 0, 'no': NO_STORE, 'damaged:': DAMAGED}[line.split()[0]]
+        text.tell('try', 'audit', Outcome(err=line.encode(), status=status) if status else Outcome(line.encode()))
+
+
+def made():
+    text = Text()
+    with open(os.path.join(FOLDER, 'commands.txt')) as lines:
+        Reader(text).read(lines.read().split('\n'))
+    play_begun_twice(text)
+    play_sharing(text)
+    play_old(text)
+    play_audits(text)
+    return text
+
+
+def main(words):
+    text = made()
+    if words == ['--count']:
+        return print('\n'.join(f'{count:6} {name}' for name, count in text.counts.items()), f'\n{sum(text.counts.values()):6} in all')
+    for name, lines in (('stdin', text.cases), ('stdout', text.answers)):
+        with open(os.path.join(CRATE, name), 'w') as file:
+            file.write('\n'.join(lines) + '\n')
+
+
+if __name__ == '__main__':
+    main(sys.argv[1:])
