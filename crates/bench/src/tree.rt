@@ -1,11 +1,11 @@
-//! Adds items to a tree of replies, for its speed and memory, as chains, as a star or as replies
+//! Makes a tree of replies of its items, for its speed and memory, as chains, as a star or as replies
 //! that look random.
 
 ghost use Rattle.std.specs.Prelude.{◌<◌, IfSome};
 
 use crate::words::{number_at, word_at};
 use anyhow::{Context, Result, bail};
-use reply_tree::Tree;
+use reply_tree::{Replies, Tree};
 use std::alloc::{AllocError, Global};
 
 /// The shapes: chains of this length, one root to which all others reply, and replies to items that
@@ -48,20 +48,25 @@ fn earlier(parent: Option<u32>, len: u32) -> Option<u32>
     }
 }
 
-// The tree of so many items, and the sum of their depths.
-fn build(alloc: Global, shape: Shape, count: u32) -> Result<(Tree, u64), AllocError> {
-    let mut tree = Tree::new(alloc)?;
-    let mut depths = 0u64;
+// The tree of so many items.
+fn build(alloc: Global, shape: Shape, count: u32) -> Result<Tree, AllocError> {
+    let mut replies = Replies::new(alloc);
     for n in 0..count {
-        let len = tree.len();
+        let len = replies.len();
         if len < u32::MAX {
-            let added = tree.add(earlier(shape.parent(n), len))?;
-            if added < tree.len() {
-                depths = depths.saturating_add(u64::from(tree.depth(added)));
-            }
+            replies.add(earlier(shape.parent(n), len))?;
         }
     }
-    Ok((tree, depths))
+    replies.finish()
+}
+
+// The sum of the depths of all items.
+fn sum_depths(tree: &Tree) -> u64 {
+    let mut depths = 0u64;
+    for n in 0..tree.len() {
+        depths = depths.saturating_add(u64::from(tree.depth(n)));
+    }
+    depths
 }
 
 // The shape of a word, and the length of chains.
@@ -73,11 +78,12 @@ fn shape_of(word: &str) -> Result<Shape> {
     }
 }
 
-/// Adds so many items of a shape, and prints what their depths and the walk come to.
+/// Makes the tree of so many items of a shape, and prints what their depths and the walk come to.
 pub(crate) fn measure(rt: &HostRuntime, words: &[String]) -> Result<()> {
     let shape = shape_of(word_at(words, 0))?;
     let count = number_at(words, 1)?;
-    let (tree, depths) = build(rt.alloc(), shape, count)?;
+    let tree = build(rt.alloc(), shape, count)?;
+    let depths = sum_depths(&tree);
     let last = tree.walk(count / 2, 1)?;
     let Some(last) = last.first() else {
         bail!("no items");

@@ -1,12 +1,8 @@
 pub mod PathLaws
 pub mod Paths
-pub mod Inserting
-pub mod Raising
-pub mod Stepping
 pub mod OneWalk
-pub mod Joining
-pub mod Adding
-pub mod Windows
-pub mod Limits
-pub mod Added
 pub mod SortedWalk
+pub mod Counts
+pub mod Ranks
+pub mod Placing
+pub mod Passing

@@ -1,9 +1,9 @@
 -- Two walks of the same items are one, and an item stands behind what it replies to.
-use Rattle.std.proofs.Common.{◌≡◌, ◌⊎◌, ◌↔◌, ℕ, zero, suc, ◌+◌, ◌-◌, ◌<◌, ◌≤◌, Bool, true, false, List, [], ◌∷◌, ◌++◌, length, Option, None, Some, get_or, refl, sym, ap, ◌∙◌, subst, inl, inr, arith}
+use Rattle.std.proofs.Common.{◌≡◌, ◌⊎◌, ℕ, zero, suc, ◌<◌, ◌≤◌, true, false, List, [], ◌∷◌, ◌++◌, length, Option, None, Some, get_or, sym, ap, ◌∙◌, subst, inl, inr, arith}
 use Rattle.std.specs.List.{Contains}
-use Rattle.std.proofs.lemmas.List.{get_or_default, same_lists, get_or_past}
+use Rattle.std.proofs.lemmas.List.{get_or_default, same_lists}
 use Rattle.std.proofs.lemmas.Bool.{cases_lt, cases_eq}
-use Rattle.reply_tree.specs.Walks.{path_above, paths, path_of, is_before, IsWalk, RepliesToEarlier, HasOneWalk, HasParentsFirst}
+use Rattle.reply_tree.specs.Walks.{path_above, paths, path_of, is_before, IsWalk, HasOneWalk, HasParentsFirst}
 use Rattle.reply_tree.proofs.PathLaws.{before-same, before-once, before-push, begins-same}
 use Rattle.reply_tree.proofs.Paths.{path_is, path_below}
 

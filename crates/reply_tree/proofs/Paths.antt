@@ -1,6 +1,6 @@
 -- The path of each item: one more item leaves those before it, and each is that of its parent with its own number.
-use Rattle.std.proofs.Common.{◌≡◌, ◌⊎◌, ℕ, zero, suc, ◌+◌, ◌<◌, ◌≤◌, ◌==◌, ◌&&◌, nat_lt, Bool, true, false, List, [], ◌∷◌, ◌++◌, length, Option, None, Some, get_or, refl, sym, ap, ◌∙◌, subst, inl, inr, arith, length-append, append_assoc}
-use Rattle.std.proofs.lemmas.List.{get_or_append_left, get_or_push, get_or_past, get_or_at, length_push}
+use Rattle.std.proofs.Common.{◌≡◌, ℕ, zero, suc, ◌+◌, ◌<◌, ◌≤◌, nat_lt, true, false, List, [], ◌∷◌, ◌++◌, length, Option, None, Some, get_or, refl, sym, ap, ◌∙◌, subst, inl, inr, arith, length-append, append_assoc}
+use Rattle.std.proofs.lemmas.List.{get_or_append_left, get_or_push, get_or_past, length_push}
 use Rattle.std.proofs.lemmas.Bool.{cases_lt}
 use Rattle.reply_tree.specs.Walks.{path_above, paths_behind, paths, path_of, begins_with, RepliesToEarlier}
 use Rattle.reply_tree.proofs.PathLaws.{all_below, and_left, and_right, and_both}
@@ -127,7 +127,7 @@ path_below_by ps (suc fuel) n old f h =
 pub path_below : (ps : List (Option ℕ)) (n m : ℕ) → RepliesToEarlier ps → n < length ps → n < m → all_below m (path_of ps n) ≡ true
 path_below ps n m old h k = all_below-more (suc n) m (path_of ps n) (omega arith) (path_below_by ps (suc n) n old (omega arith) h)
 
-some_begins : (xs : List ℕ) (n : ℕ) → begins_with (xs ++ n ∷ []) [] ≡ false
+pub some_begins : (xs : List ℕ) (n : ℕ) → begins_with (xs ++ n ∷ []) [] ≡ false
 some_begins [] n = refl
 some_begins (x ∷ xs) n = refl
 

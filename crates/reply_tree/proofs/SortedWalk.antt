@@ -1,10 +1,9 @@
 -- Sorting the items by their paths gives the walk.
-use Rattle.std.proofs.Common.{◌≡◌, ◌⊎◌, ◌↔◌, ℕ, zero, suc, ◌+◌, ◌-◌, ◌<◌, ◌≤◌, ◌==◌, ◌&&◌, ◌||◌, nat_lt, Bool, true, false, if◌then◌else◌, List, [], ◌∷◌, ◌++◌, length, Option, None, Some, get_or, refl, sym, ap, ◌∙◌, subst, inl, inr, arith}
-use Rattle.std.specs.List.{Contains}
+use Rattle.std.proofs.Common.{◌≡◌, ◌⊎◌, ℕ, zero, suc, ◌+◌, ◌<◌, ◌≤◌, ◌==◌, ◌&&◌, ◌||◌, nat_lt, Bool, true, false, if◌then◌else◌, List, [], ◌∷◌, length, Option, None, get_or, refl, sym, ap, ◌∙◌, subst, inl, inr, arith}
 use Rattle.std.proofs.lemmas.List.{get_or_default, same_from_push}
-use Rattle.std.proofs.lemmas.Bool.{cases_lt, cases_eq}
+use Rattle.std.proofs.lemmas.Bool.{cases_lt}
 use Rattle.reply_tree.specs.Walks.{path_above, paths, path_of, is_before, among_paths, walk_below, walk_of, IsWalk, RepliesToEarlier, IsSortedWalk}
-use Rattle.reply_tree.proofs.PathLaws.{and_left, and_right, and_both, eq_same, eq_is, before-same}
+use Rattle.reply_tree.proofs.PathLaws.{and_both, eq_same}
 use Rattle.reply_tree.proofs.Paths.{path_is}
 
 either_true : (s t : Bool) → t ≡ true → (s || t) ≡ true
@@ -13,7 +12,7 @@ either_true false t h = h
 
 -- ---- of two lists one stands before the other, or they are one
 
-before_or : (x y : List ℕ) → (is_before x y ≡ true) ⊎ ((is_before y x ≡ true) ⊎ (x ≡ y))
+pub before_or : (x y : List ℕ) → (is_before x y ≡ true) ⊎ ((is_before y x ≡ true) ⊎ (x ≡ y))
 before_or [] [] = inr (inr refl)
 before_or [] (b ∷ y) = inl refl
 before_or (a ∷ x) [] = inr (inl refl)
@@ -42,7 +41,7 @@ before_or (a ∷ x) (b ∷ y) =
         let eq : (a == b) ≡ true = subst (λ (n : ℕ). (a == n) ≡ true) same (eq_same a) in
         either_true (nat_lt a b) ((a == b) && is_before x y) (and_both (a == b) (is_before x y) eq h)
 
-before_then : (x y z : List ℕ) → is_before x y ≡ true → is_before y z ≡ true → is_before x z ≡ true
+pub before_then : (x y z : List ℕ) → is_before x y ≡ true → is_before y z ≡ true → is_before x z ≡ true
 before_then [] [] z h k = absurd (let f : false ≡ true = h in cc)
 before_then [] (b ∷ y) [] h k = absurd (let f : false ≡ true = k in cc)
 before_then [] (b ∷ y) (c ∷ z) h k = refl
@@ -56,11 +55,11 @@ before_then (a ∷ x) (b ∷ y) (c ∷ z) h k =
 
 -- two items with one path are one: its last number is their own
 module _ (ps : List (Option ℕ)) (old : RepliesToEarlier ps) where
-  one_item : (m n : ℕ) → m < length ps → n < length ps → path_of ps m ≡ path_of ps n → m ≡ n
+  pub one_item : (m n : ℕ) → m < length ps → n < length ps → path_of ps m ≡ path_of ps n → m ≡ n
   one_item m n h g e = (same_from_push (path_above (paths ps) (get_or ps m None)) (path_above (paths ps) (get_or ps n None)) m n (sym (path_is ps m old h) ∙ e ∙ path_is ps n old g)).1
 
   -- a list that ascends
-  abbrev Ascends : List ℕ → Type 0
+  abbrev pub Ascends : List ℕ → Type 0
   Ascends xs = (i j : ℕ) → i < j → j < length xs → is_before (path_of ps (get_or xs i 0)) (path_of ps (get_or xs j 0)) ≡ true
 
   tail_ascends : (m : ℕ) (xs : List ℕ) → Ascends (m ∷ xs) → Ascends xs
@@ -157,17 +156,19 @@ module _ (ps : List (Option ℕ)) (old : RepliesToEarlier ps) where
       ]
 
   -- the numbers below one, sorted
-  record IsSorted (n : ℕ) (xs : List ℕ) : Type 0 where
-    ascends : Ascends xs
-    below : (k : ℕ) → k < length xs → get_or xs k 0 < n
-    all : (m : ℕ) → m < n → (k : ℕ) × (k < length xs) × (get_or xs k 0 ≡ m)
+  pub record IsSorted (n : ℕ) (xs : List ℕ) : Type 0 where
+    pub many : length xs ≡ n
+    pub ascends : Ascends xs
+    pub below : (k : ℕ) → k < length xs → get_or xs k 0 < n
+    pub all : (m : ℕ) → m < n → (k : ℕ) × (k < length xs) × (get_or xs k 0 ≡ m)
 
-  sorted : (n : ℕ) → n ≤ length ps → IsSorted n (walk_below ps n)
-  sorted zero h = record { ascends = λ i j g k. absurd (omega arith); below = λ k g. absurd (omega arith); all = λ m g. absurd (omega arith) }
+  pub sorted : (n : ℕ) → n ≤ length ps → IsSorted n (walk_below ps n)
+  sorted zero h = record { many = refl; ascends = λ i j g k. absurd (omega arith); below = λ k g. absurd (omega arith); all = λ m g. absurd (omega arith) }
   sorted (suc n) h =
       let s = sorted n (omega (arith, h)) in
       let r = among n (walk_below ps n) (omega (arith, h)) (λ k g. let b = s.below k g in (omega (arith, b, h), λ e. omega (arith, e, b))) s.ascends in
       record {
+        many = omega (arith, r.many, s.many);
         ascends = r.ascends;
         below = λ j g. elim (r.each j g) [ inl new ↦ omega (arith, new) | inr was ↦ let b = s.below was.0 was.1 in omega (arith, was.2, b) ];
         all = λ m g. elim (cases_lt m n) [

@@ -2,7 +2,7 @@
 ghost use Rattle.std.specs.Prelude.{◌<◌, IfSome};
 
 use crate::plain::{are_placed, is_part, sorted_paths};
-use reply_tree::Tree;
+use reply_tree::{Replies, Tree};
 use std::alloc::{AllocError, Global};
 use test_drafts::Dice;
 
@@ -54,14 +54,14 @@ fn draw_parent(dice: &mut Dice, n: u32, roots: u64, near: u64) -> Option<u32> {
 
 /// The tree of items that reply to these.
 pub(crate) fn tree_of(alloc: Global, parents: &[Option<u32>]) -> Result<Tree, AllocError> {
-    let mut tree = Tree::new(alloc)?;
+    let mut replies = Replies::new(alloc);
     for parent in parents {
-        let len = tree.len();
+        let len = replies.len();
         if len < u32::MAX {
-            tree.add(earlier(*parent, len))?;
+            replies.add(earlier(*parent, len))?;
         }
     }
-    Ok(tree)
+    replies.finish()
 }
 
 // The parent, where it is an earlier item.

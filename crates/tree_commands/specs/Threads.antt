@@ -31,6 +31,11 @@ pub record IsThread (numbers : List ℕ) (parents places : List (Option ℕ)) : 
   pub each : (m : ℕ) → m < length places → slice_index_or places m None ≡ number_among numbers m
   pub within : (i : ℕ) → i < length numbers → slice_index_or numbers i 0 < length places
 
+-- each item has an arrival number, which is that of a held message
+pub record IsNumbered (numbers : List ℕ) (parents : List (Option ℕ)) (held : ℕ) : Type 0 where
+  pub many : length parents ≡ length numbers
+  pub within : (i : ℕ) → i < length numbers → slice_index_or numbers i 0 < held
+
 -- these are numbers of items
 abbrev pub AreItemNumbers : ThreadValue → List ℕ → Type 0
 AreItemNumbers t items = (i : ℕ) → i < length items → slice_index_or items i 0 < length t.numbers

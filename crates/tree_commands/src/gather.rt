@@ -8,6 +8,7 @@ ghost use Rattle.journal_state.specs.Whole.{KnowsJudgements};
 ghost use Rattle.tree_commands.specs.Gathered.{IsThreadOf, with_delivered};
 ghost use Rattle.tree_commands.specs.Trees.{delivered_in};
 
+use crate::finished::FinishedThread;
 use crate::thread::Thread;
 use std::alloc::{AllocError, Global};
 use sync_ids::{GroupId, Message};
@@ -15,7 +16,11 @@ use sync_store::Store;
 
 /// The delivered messages of a group as a tree, by the judgements that the store keeps. It fails
 /// only for want of memory.
-pub(crate) fn gather(alloc: Global, store: &Store, group: &GroupId) -> Result<Thread, AllocError>
+pub(crate) fn gather(
+    alloc: Global,
+    store: &Store,
+    group: &GroupId,
+) -> Result<FinishedThread, AllocError>
     ensures { (clients : Meaning) → KnowsJudgements clients store.now.state
         → IfOk result (IsThreadOf clients store.now.state.facts
         (delivered_in store.now.state.facts group.now)) }
@@ -25,7 +30,7 @@ pub(crate) fn gather(alloc: Global, store: &Store, group: &GroupId) -> Result<Th
     'delivered: for k in 0..store.delivered() {
         add_delivered(store, k, group, firsts.as_slice(), &mut thread)?;
     }
-    Ok(thread)
+    thread.finish()
 }
 
 // Adds the k-th of the delivered messages, if it is of the group; each replies to the first that it

@@ -2,9 +2,11 @@
 //!
 //! - `tree`: the command; `laws`: what a message of the tree replies to.
 //! - `gather`: the delivered messages of a group and what they reply to, from a store.
-//! - `thread`: these messages as a tree; `lines`: the lines of a part of its walk.
+//! - `thread`: these messages as they come, and `finished` as a tree; `lines`: the lines of a part of
+//!   its walk.
 #![tactic(auto)]
 
+mod finished;
 mod gather;
 pub mod laws;
 mod lines;

@@ -6,7 +6,7 @@ ghost use Rattle.journal_state.specs.Whole.{id_at};
 ghost use Rattle.tree_commands.specs.Threads.{AreItemNumbers};
 ghost use Rattle.tree_commands.specs.Trees.{walk_line, tree_text};
 
-use crate::thread::Thread;
+use crate::finished::FinishedThread;
 use std::alloc::{AllocError, Global};
 use sync_ids::MessageId;
 use sync_store::Store;
@@ -31,7 +31,7 @@ pub fn tree_line(
 pub(crate) fn add_lines(
     alloc: Global,
     store: &Store,
-    thread: &Thread,
+    thread: &FinishedThread,
     items: &[u32],
     to: &mut String,
 ) -> Result<(), AllocError>
@@ -50,7 +50,7 @@ pub(crate) fn add_lines(
 fn add_line(
     alloc: Global,
     store: &Store,
-    thread: &Thread,
+    thread: &FinishedThread,
     item: u32,
     to: &mut String,
 ) -> Result<(), AllocError>

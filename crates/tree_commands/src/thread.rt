@@ -1,19 +1,18 @@
 //! `Thread`.
 ghost use Rattle.std.specs.Prelude.{◌≡◌, [], ◌-◌, ◌^◌, ◌<◌, length, IfOk, IfSome, OnErr, OnOk};
-ghost use Rattle.std.specs.Prelude.{slice_index_or};
-ghost use Rattle.reply_tree.specs.Walks.{IsWindow, depth_of, size_of};
 ghost use Rattle.tree_commands.specs.Threads.{parent_among, with_number};
 
-use reply_tree::Tree;
+use crate::finished::FinishedThread;
+use reply_tree::Replies;
 use std::alloc::{AllocError, Global};
 use std::marker::Model;
 
-/// The delivered messages of a group as a tree of replies, by their arrival numbers. Its items are
+/// The delivered messages of a group and what they reply to, by their arrival numbers. Its items are
 /// numbered in the order in which they are added. Contracts see the arrival number and the parent
 /// of each item, and the number of held messages.
 #[derive(Drop)]
 pub(crate) struct Thread {
-    tree: Tree,
+    replies: Replies,
     numbers: Vec<u32>,
     // The first item of each held message.
     places: Vec<Option<u32>>,
@@ -27,11 +26,11 @@ impl Model for Thread {
 
     ghost view = { λ t. record {
       numbers = t.numbers.items;
-      parents = t.tree;
+      parents = t.replies;
       held = length t.places.items;
     } };
 
-    ghost invariant = { λ t. IsThread t.numbers.items t.tree t.places.items };
+    ghost invariant = { λ t. IsThread t.numbers.items t.replies t.places.items };
 }
 
 impl Thread {
@@ -40,7 +39,7 @@ impl Thread {
         ensures { IfOk result (λ t. t ≡ record { numbers = []; parents = []; held = held }) }
     {
         Ok(Thread {
-            tree: Tree::new(alloc)?,
+            replies: Replies::new(alloc),
             numbers: Vec::new(alloc),
             places: vec![in alloc; None; held as usize]?,
         })
@@ -57,7 +56,7 @@ impl Thread {
     {
         let parent = self.parent(replied);
         self.numbers.reserve(1)?;
-        let number = self.tree.add(parent)?;
+        let number = self.replies.add(parent)?;
         self.numbers.push(n).unwrap();
         let place = self.places[n as usize].or(Some(number));
         self.places[n as usize] = place;
@@ -76,36 +75,16 @@ impl Thread {
         }
     }
 
-    /// At most so many items of the walk, from this place of it on. It fails only for want of
-    /// memory.
-    pub(crate) fn walk(&self, from: u32, count: u32) -> Result<Vec<u32>, AllocError>
-        ensures { IfOk result (λ items. IsWindow self.now.parents from count items.items) }
+    /// The tree of all items. It fails only for want of memory; then no items are left.
+    pub(crate) fn finish(self) -> Result<FinishedThread, AllocError>
+        ensures { IfOk result (λ t. t ≡ self) }
     {
-        self.tree.walk(from, count)
-    }
-
-    /// The arrival number of an item.
-    pub(crate) fn number(&self, item: u32) -> u32
-        requires { item < length self.now.numbers }
-        ensures value { result ≡ slice_index_or self.now.numbers item 0 }
-        ensures within { result < self.now.held }
-    {
-        self.numbers[item as usize]
-    }
-
-    /// How many items stand above an item.
-    pub(crate) fn depth(&self, item: u32) -> u32
-        requires { item < length self.now.numbers }
-        ensures { result ≡ depth_of self.now.parents item }
-    {
-        self.tree.depth(item)
-    }
-
-    /// How many items there are below an item, and itself.
-    pub(crate) fn size(&self, item: u32) -> u32
-        requires { item < length self.now.numbers }
-        ensures { result ≡ size_of self.now.parents item }
-    {
-        self.tree.size(item)
+        let Thread {
+            mut replies,
+            numbers,
+            places,
+        } = self;
+        let tree = replies.finish()?;
+        Ok(FinishedThread::of(tree, numbers, places.len()))
     }
 }
