@@ -8,3 +8,4 @@ pub mod ClearSteps
 pub mod Read
 pub mod Prepared
 pub mod Framed
+pub mod Closed

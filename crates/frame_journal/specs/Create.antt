@@ -1,7 +1,8 @@
 -- A file emptied for a journal, and a journal begun in it.
-use Rattle.std.specs.Prelude.{◌≡◌, ◌≢◌, ◌⊎◌, ℕ, true, false, List, [], ◌∷◌, ◌++◌, take, drop}
+use Rattle.std.specs.Prelude.{◌≡◌, ◌≢◌, ◌⊎◌, ◌≤◌, ℕ, true, false, List, [], ◌∷◌, ◌++◌, take, drop}
+use Rattle.std.specs.Prelude.{slice_index}
 use Rattle.std.specs.Int.{w64, to_be_bytes}
-use Rattle.outside.specs.Files.{Two, File, file_of, settled, NothingPending}
+use Rattle.outside.specs.Files.{Two, File, file_of, is_written, settled, NothingPending}
 use Rattle.outside.specs.Frames.{is_open, header_of, HasFrames, IsAtRest}
 use Rattle.outside.specs.Steps.{other_of}
 
@@ -78,6 +79,31 @@ pub record HasShutGate (bytes : List ℕ) : Type 0 where
   pub rest : List ℕ
   pub closed : gate ≢ 1
   pub shape : bytes ≡ gate ∷ rest
+
+-- A file whose header no crash opens: its first byte is there and is no open gate, was so at the
+-- last sync, and no write or cut since then has reached it.
+pub record StaysClosed (f : File) : Type 0 where
+  pub reads : HasShutGate f.now
+  pub synced : slice_index f.synced 0 ≢ 1
+  pub unwritten : is_written f.written 0 ≡ false
+  pub uncut : 1 ≤ f.least
+
+-- whatever was answered: where no crash would open the file's header none does; the other file is
+-- as before
+pub record LeavesClosed (file : ℕ) (old new : Two File) : Type 0 where
+  pub closed : StaysClosed (file_of old file) → StaysClosed (file_of new file)
+  pub other : other_of new file ≡ other_of old file
+
+-- a file reads as its first byte alone; the other file is as before
+pub record IsCutBack (file : ℕ) (old new : Two File) : Type 0 where
+  pub reads : (file_of new file).now ≡ take 1 (file_of old file).now
+  pub other : other_of new file ≡ other_of old file
+
+-- a file is one byte long, which is no open gate, with nothing pending in it; the other file is as
+-- before
+pub record IsClearedAgain (file : ℕ) (old new : Two File) : Type 0 where
+  pub cleared : IsCleared new file
+  pub other : other_of new file ≡ other_of old file
 
 -- a file's first byte becomes or stays a closed gate; where nothing was pending in it nothing is
 pub record ShutsGate (file : ℕ) (old new : Two File) : Type 0 where

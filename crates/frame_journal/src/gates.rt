@@ -6,12 +6,13 @@ ghost use Rattle.outside.specs.Faults.{HasCause};
 ghost use Rattle.outside.specs.Files.{File, NothingPending, ReadsSame, SyncsBoth, Two, file_of};
 ghost use Rattle.outside.specs.Disk.{RelatesTold};
 ghost use Rattle.outside.specs.Frames.{is_open};
-ghost use Rattle.outside.specs.Outside.{AnyImage, DiskRun, MakesAtMost, MakesCalls};
+ghost use Rattle.outside.specs.Outside.{AnyImage, DiskRun, MakesAtMost, MakesCalls, MakesJust};
 ghost use Rattle.outside.specs.Steps.{PassedMoments};
 ghost use Rattle.frame_journal.specs.Append.{WritesAndOpensGate, Gated};
 ghost use Rattle.frame_journal.specs.Create.{IsCleared, ClearsFile, CreatesJournal, PreparesJournal, behind_gate};
 ghost use Rattle.frame_journal.specs.Create.{ShutOrBegun, BeforeOrShut, HasShutGate, ShutsGate};
 ghost use Rattle.frame_journal.specs.Create.{CutsToFirstByte, IsPrepared, PublishesHeader, ShutOrOpened};
+ghost use Rattle.frame_journal.specs.Create.{IsClearedAgain, IsCutBack, LeavesClosed, StaysClosed};
 ghost use Rattle.frame_journal.specs.Gates.{WritesBehind, OpensGate};
 ghost use Rattle.frame_journal.specs.Journal.{is_format};
 ghost use Rattle.frame_journal.specs.Gates.{KeepsFront, KeepsAllBut};
@@ -53,6 +54,8 @@ pub fn write_behind<D: Disk>(
     ensures any_moment { (two : Two File) → (D.tells disk.old).files ≡ Some two
         → PassedMoments two (D.tells disk.old) (D.tells disk.new) file
         (KeepsFront (file_of two file).now end) }
+    ensures leaves { 1 ≤ end → RelatesTold (LeavesClosed file) (D.tells disk.old).files
+        (D.tells disk.new).files }
     ensures run { DiskRun (D.tells disk.old) (D.tells disk.new) }
     ensures fault { HasCause (D.tells disk.old).disk_faults (D.tells disk.new).disk_faults result }
     ensures calls { MakesCalls 2 result (D.tells disk.old) (D.tells disk.new) }
@@ -74,6 +77,8 @@ pub fn open_gate<D: Disk>(disk: &mut D, file: u8, end: u64) -> Result<(), DiskFa
     ensures any_moment { (two : Two File) → (D.tells disk.old).files ≡ Some two
         → PassedMoments two (D.tells disk.old) (D.tells disk.new) file
         (KeepsAllBut (file_of two file).now (end - 1)) }
+    ensures leaves { 2 ≤ end → RelatesTold (LeavesClosed file) (D.tells disk.old).files
+        (D.tells disk.new).files }
     ensures run { DiskRun (D.tells disk.old) (D.tells disk.new) }
     ensures fault { HasCause (D.tells disk.old).disk_faults (D.tells disk.new).disk_faults result }
     ensures calls { MakesCalls 2 result (D.tells disk.old) (D.tells disk.new) }
@@ -95,6 +100,8 @@ pub fn open_behind<D: Disk>(disk: &mut D, file: u8, end: u64, bytes: &[u8]) -> R
     ensures any_moment { (two : Two File) → (D.tells disk.old).files ≡ Some two
         → PassedMoments two (D.tells disk.old) (D.tells disk.new) file
         (Gated (file_of two file).now end bytes.now) }
+    ensures leaves { 2 ≤ end → RelatesTold (LeavesClosed file) (D.tells disk.old).files
+        (D.tells disk.new).files }
     ensures run { DiskRun (D.tells disk.old) (D.tells disk.new) }
     ensures fault { HasCause (D.tells disk.old).disk_faults (D.tells disk.new).disk_faults result }
     ensures calls { MakesCalls 4 result (D.tells disk.old) (D.tells disk.new) }
@@ -138,6 +145,8 @@ pub fn prepare<D: Disk>(
         (D.tells disk.new).files) }
     ensures any_moment { (two : Two File) → (D.tells disk.old).files ≡ Some two
         → PassedMoments two (D.tells disk.old) (D.tells disk.new) file (λ left. is_open left ≡ false) }
+    ensures leaves { RelatesTold (LeavesClosed file) (D.tells disk.old).files
+        (D.tells disk.new).files }
     ensures run { DiskRun (D.tells disk.old) (D.tells disk.new) }
     ensures fault { HasCause (D.tells disk.old).disk_faults (D.tells disk.new).disk_faults result }
     ensures calls { MakesCalls 2 result (D.tells disk.old) (D.tells disk.new) }
@@ -189,8 +198,9 @@ pub fn clear<D: Disk>(disk: &mut D, file: u8) -> Result<(), DiskFault>
     shorten(disk, file)
 }
 
-// Puts a closed gate in the place of an open one, or of none.
-fn shut_gate<D: Disk>(disk: &mut D, file: u8) -> Result<(), DiskFault>
+/// Puts a closed gate in the place of an open one, or of none: the begin of `clear`. At each moment
+/// the file is as it was, or has no open header; after `Ok` its first byte is no open gate.
+pub fn shut_gate<D: Disk>(disk: &mut D, file: u8) -> Result<(), DiskFault>
     requires { file < 2 }
     ensures shut { OnOk result (RelatesTold (ShutsGate file) (D.tells disk.old).files
         (D.tells disk.new).files) }
@@ -218,8 +228,9 @@ fn is_shut(n: usize, gate: u8) -> bool
     n > 0 && gate != 1
 }
 
-// Cuts a file whose gate is closed to that gate.
-fn shorten<D: Disk>(disk: &mut D, file: u8) -> Result<(), DiskFault>
+/// Cuts a file whose gate is closed to that gate, and waits until that is on the disk: the end of
+/// `clear`. At each moment the file has no open header.
+pub fn shorten<D: Disk>(disk: &mut D, file: u8) -> Result<(), DiskFault>
     requires file { file < 2 }
     requires shut { ForSome (D.tells disk.old).files (λ two. HasShutGate (file_of two file).now) }
     ensures shortened { OnOk result (RelatesTold (CutsToFirstByte file) (D.tells disk.old).files
@@ -227,6 +238,8 @@ fn shorten<D: Disk>(disk: &mut D, file: u8) -> Result<(), DiskFault>
     ensures any_moment { (two : Two File) → (D.tells disk.old).files ≡ Some two
         → NothingPending two file → PassedMoments two (D.tells disk.old) (D.tells disk.new) file
         (λ left. is_open left ≡ false) }
+    ensures leaves { RelatesTold (LeavesClosed file) (D.tells disk.old).files
+        (D.tells disk.new).files }
     ensures run { DiskRun (D.tells disk.old) (D.tells disk.new) }
     ensures fault { HasCause (D.tells disk.old).disk_faults (D.tells disk.new).disk_faults result }
     ensures calls { MakesAtMost 3 (D.tells disk.old) (D.tells disk.new) }
@@ -236,6 +249,46 @@ fn shorten<D: Disk>(disk: &mut D, file: u8) -> Result<(), DiskFault>
         return Ok(());
     }
     disk.cut(file, 1)?;
+    disk.sync(file)?;
+    Ok(())
+}
+
+/// Cuts a file whose header no crash opens to its first byte, in one call of the disk, and does not
+/// wait until that is on the disk: whatever a crash leaves then, the header is not open. A cut to
+/// nothing would not do: a later write of the first byte could then be pending beside it.
+pub fn cut_back<D: Disk>(disk: &mut D, file: u8) -> Result<(), DiskFault>
+    requires file { file < 2 }
+    requires closed { ForSome (D.tells disk.old).files (λ two. StaysClosed (file_of two file)) }
+    ensures cut { OnOk result (RelatesTold (IsCutBack file) (D.tells disk.old).files
+        (D.tells disk.new).files) }
+    ensures any_moment { (two : Two File) → (D.tells disk.old).files ≡ Some two
+        → PassedMoments two (D.tells disk.old) (D.tells disk.new) file (λ left. is_open left ≡ false) }
+    ensures leaves { RelatesTold (LeavesClosed file) (D.tells disk.old).files
+        (D.tells disk.new).files }
+    ensures run { DiskRun (D.tells disk.old) (D.tells disk.new) }
+    ensures fault { HasCause (D.tells disk.old).disk_faults (D.tells disk.new).disk_faults result }
+    ensures calls { MakesJust 1 (D.tells disk.old) (D.tells disk.new) }
+{
+    disk.cut(file, 1)?;
+    Ok(())
+}
+
+/// The same, and then it waits until that is on the disk, in a second call: after `Ok` the file is
+/// as `clear` leaves it.
+pub fn clear_back<D: Disk>(disk: &mut D, file: u8) -> Result<(), DiskFault>
+    requires file { file < 2 }
+    requires closed { ForSome (D.tells disk.old).files (λ two. StaysClosed (file_of two file)) }
+    ensures cleared { OnOk result (RelatesTold (IsClearedAgain file) (D.tells disk.old).files
+        (D.tells disk.new).files) }
+    ensures any_moment { (two : Two File) → (D.tells disk.old).files ≡ Some two
+        → PassedMoments two (D.tells disk.old) (D.tells disk.new) file (λ left. is_open left ≡ false) }
+    ensures leaves { RelatesTold (LeavesClosed file) (D.tells disk.old).files
+        (D.tells disk.new).files }
+    ensures run { DiskRun (D.tells disk.old) (D.tells disk.new) }
+    ensures fault { HasCause (D.tells disk.old).disk_faults (D.tells disk.new).disk_faults result }
+    ensures calls { MakesCalls 2 result (D.tells disk.old) (D.tells disk.new) }
+{
+    cut_back(disk, file)?;
     disk.sync(file)?;
     Ok(())
 }

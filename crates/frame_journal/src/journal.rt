@@ -13,6 +13,7 @@ ghost use Rattle.outside.specs.Disk.{RelatesTold};
 ghost use Rattle.outside.specs.Frames.{IsAtRest};
 ghost use Rattle.outside.specs.Steps.{PassedMoments};
 ghost use Rattle.frame_journal.specs.Append.{IsFramed, AppendsFrame, BeforeOrWith};
+ghost use Rattle.frame_journal.specs.Create.{LeavesClosed};
 
 use crate::frame::next_at;
 use crate::gates::open_behind;
@@ -181,6 +182,8 @@ impl Journal {
         ensures any_moment { (two : Two File) → (D.tells disk.old).files ≡ Some two
             → PassedMoments two (D.tells disk.old) (D.tells disk.new) self.old.file
             (BeforeOrWith (file_of two self.old.file).now self.old.end framed.now) }
+        ensures leaves { RelatesTold (LeavesClosed self.old.file) (D.tells disk.old).files
+            (D.tells disk.new).files }
         ensures run { DiskRun (D.tells disk.old) (D.tells disk.new) }
         ensures fault { HasCause (D.tells disk.old).disk_faults (D.tells disk.new).disk_faults
             result }

@@ -8,6 +8,8 @@ mod header;
 mod journal;
 
 pub use fault::{DiskFault, FrameFault, StartFault};
-pub use gates::{barrier, clear, create, prepare, publish};
+pub use gates::{
+    barrier, clear, clear_back, create, cut_back, prepare, publish, shorten, shut_gate,
+};
 pub use header::{FIRST_FORMAT, Header, SECOND_FORMAT, is_format, read_header};
 pub use journal::Journal;

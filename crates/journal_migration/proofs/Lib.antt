@@ -10,4 +10,6 @@ pub mod Shut
 mod Begun
 pub mod Published
 mod Migrated
-mod Own
+pub mod Own
+pub mod Back
+mod Filled

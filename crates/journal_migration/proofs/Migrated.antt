@@ -76,15 +76,6 @@ module _ (clients : Meaning) (f : Facts) (generation : ℕ) (j : List (List Entr
       (FilesHoldMigrated clients file generation j (Err e)) o0 o3
       (λ t so. copied_fault clients file generation j r' n' e t so) (copied_so (Err e) later))
 
-  -- it ended elsewhere
-  pub copy_elsewhere : Later (Ok tt) → r'.file ≡ file
-      → MigratesJournal clients file generation j o0 o3 (Err fault.Memory)
-  copy_elsewhere later same =
-      keeps_map clients j (CopiesAllSo clients generation j file r' n' (Ok tt))
-      (FilesHoldMigrated clients file generation j (Err fault.Memory)) o0 o3
-      (λ t so. subst (λ (k : ℕ). HoldsFirst clients k generation j t) same so.copies.holds)
-      (copied_so (Ok tt) later)
-
   module _ (laws : MigrationLaws) (o4 : Outside) (run3 : DiskRun o0 o3) (pair : IsPair r' n')
       (few : generation + 1 < 2 ^ 64) (later : Later (Ok tt))
       (passed : (t : Two File) → o3.files ≡ Some t

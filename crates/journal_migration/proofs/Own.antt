@@ -5,7 +5,7 @@ use Rattle.outside.specs.Files.{Two, File}
 use Rattle.outside.specs.Outside.{OnlyReads, Outside}
 use Rattle.outside.specs.Steps.{other_of}
 use Rattle.outside.proofs.CallSteps.{becomes_map, becomes_none, becomes_then}
-use Rattle.frame_journal.specs.Create.{PreparesJournal}
+use Rattle.frame_journal.specs.Create.{LeavesClosed, PreparesJournal}
 use Rattle.journal_migration.specs.Migrating.{KeepsFile, ReadsOnly}
 use Rattle.journal_migration.specs.declared.fault.MigrationFault.{MigrationFault}
 use Rattle.journal_migration.specs.declared.fault.MigrationFault.TheVariants as fault
@@ -49,18 +49,11 @@ own_fault {A = A} file o o' e result is becomes =
     own_so fault.Memory = becomes
     own_so fault.DiskFault = tt
 
--- a fault of a later step
-pub own_later : (A : Type 0) {B : Type 0} (file : ℕ) (o0 o1 o2 : Option (Two File))
-    (e : MigrationFault) (result : Result B MigrationFault) → result ≡ Err e
-    → RelatesTold (KeepsFile file) o0 o1
-    → ReadsOnly {A = A} file o1 o2 (Err e) → ReadsOnly file o0 o2 result
-own_later A {B = B} file o0 o1 o2 e result is first later =
-    subst (λ (x : Result B MigrationFault). ReadsOnly file o0 o2 x) (sym is) (later_so e later)
-  where
-    later_so : (e : MigrationFault) → ReadsOnly {A = A} file o1 o2 (Err e)
-        → ReadsOnly {A = B} file o0 o2 (Err e)
-    later_so fault.Memory becomes = own_then file o0 o1 o2 first becomes
-    later_so fault.DiskFault becomes = tt
+-- the other file was written and maybe taken back
+pub own_left : (file other : ℕ) (o o' : Option (Two File)) → file < 2 → other ≡ 1 - file
+    → RelatesTold (LeavesClosed other) o o' → RelatesTold (KeepsFile file) o o'
+own_left file other o o' few is =
+    own_step (LeavesClosed other) file other o o' few is (λ a b x. x.other)
 
 -- a call on the disk failed
 pub own_cut : {A : Type 0} (file : ℕ) (o o' : Option (Two File)) (result : Result A MigrationFault)

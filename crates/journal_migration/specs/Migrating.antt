@@ -1,6 +1,6 @@
 -- A journal of format 1 that is written anew into the other file, in format 2, and then made the
 -- journal.
-use Rattle.std.specs.Prelude.{◌≡◌, ℕ, ◌+◌, ◌-◌, ◌≤◌, List, Option, Some, Result, Ok, Err}
+use Rattle.std.specs.Prelude.{◌≡◌, ◌⊎◌, ℕ, ◌+◌, ◌-◌, ◌≤◌, List, Option, Some, Result, Ok, Err}
 use Rattle.std.specs.List.{AllByRecursion}
 use Rattle.outside.specs.declared.limits.TheConstants.{MAX_JOURNAL}
 use Rattle.outside.specs.Files.{Two, File, NothingPending, file_of, read_files}
@@ -8,6 +8,7 @@ use Rattle.outside.specs.Frames.{HasFrames, format_in, generation_in, journal_fi
 use Rattle.outside.specs.Links.{sent_of}
 use Rattle.outside.specs.Disk.{RelatesTold}
 use Rattle.outside.specs.Outside.{Moment, MomentsAre, Outside}
+use Rattle.frame_journal.specs.Create.{IsCleared}
 use Rattle.frame_journal.specs.Journal.{JournalValue}
 use Rattle.sync_rules.specs.declared.entries.Entry.{Entry}
 use Rattle.sync_rules.specs.Clients.{Meaning}
@@ -91,6 +92,18 @@ abbrev pub ReadsOnly : {A : Type 0} → (file : ℕ) → (old new : Option (Two 
 ReadsOnly file old new (Ok a) = RelatesTold (KeepsFile file) old new
 ReadsOnly file old new (Err fault.Memory) = RelatesTold (KeepsFile file) old new
 ReadsOnly file old new (Err fault.DiskFault) = Unit {0}
+
+-- both files are as before, or this one is one byte long, which is no open gate, with nothing
+-- pending in it
+abbrev pub IsAsBeforeOrCleared : (file : ℕ) → Two File → Two File → Type 0
+IsAsBeforeOrCleared file old new = (new ≡ old) ⊎ IsCleared new file
+
+-- Where no memory was found nothing is left of what was written of this file.
+abbrev pub TakesBack : {A : Type 0} → (file : ℕ) → (old new : Option (Two File))
+    → Result A MigrationFault → Type 0
+TakesBack file old new (Ok a) = Unit {0}
+TakesBack file old new (Err fault.Memory) = RelatesTold (IsAsBeforeOrCleared file) old new
+TakesBack file old new (Err fault.DiskFault) = Unit {0}
 
 -- a journal in the other file, in format 2 and with the next generation, that ends no later
 pub record IsNextJournal (file generation end : ℕ) (n : JournalValue) : Type 0 where

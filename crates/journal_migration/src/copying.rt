@@ -2,17 +2,20 @@
 ghost use Rattle.std.specs.Prelude.{◌≡◌, ◌<◌, ◌≤◌, ◌+◌, IfOk, IsErrOf, OnOk, Some, List, ℕ, true};
 ghost use Rattle.std.specs.Prelude.{OnErr};
 ghost use Rattle.std.specs.Option.{ForSome};
+ghost use Rattle.outside.specs.Disk.{RelatesTold};
 ghost use Rattle.outside.specs.Faults.{CountRose};
 ghost use Rattle.outside.specs.Files.{Two, File};
 ghost use Rattle.outside.specs.Outside.{DiskRun};
+ghost use Rattle.frame_journal.specs.Create.{LeavesClosed};
 ghost use Rattle.sync_rules.specs.declared.entries.Entry.{Entry};
 ghost use Rattle.sync_rules.specs.Clients.{Meaning};
 ghost use Rattle.journal_migration.specs.Copying.{CopiesBatches, CopiesAll, CopiesNext, IsFurther};
 ghost use Rattle.journal_migration.specs.Copying.{IsPair, IsSamePair, AreBothShut};
-ghost use Rattle.journal_migration.specs.Migrating.{ReadsOnly};
+ghost use Rattle.journal_migration.specs.Starting.{ClearsAgain};
 
 use crate::MigrationFault;
 use crate::laws::cite_laws;
+use crate::migrating::take_back;
 use crate::spelling::respell;
 use frame_journal::Journal;
 use journal_state::State;
@@ -41,8 +44,8 @@ fn copy_next<D: Disk>(
         → CopiesBatches clients state.now.facts generation j reader.old writer.old count two
         → CopiesNext clients state.now.facts generation j reader.old.file reader.new writer.new count
         (D.tells disk.old) (D.tells disk.new) result }
-    ensures own { ReadsOnly reader.old.file (D.tells disk.old).files (D.tells disk.new).files
-        result }
+    ensures leaves { RelatesTold (LeavesClosed writer.old.file) (D.tells disk.old).files
+        (D.tells disk.new).files }
     ensures run { DiskRun (D.tells disk.old) (D.tells disk.new) }
     ensures fault { IsErrOf result MigrationFault.DiskFault
         → CountRose (D.tells disk.old).disk_faults (D.tells disk.new).disk_faults }
@@ -59,7 +62,7 @@ fn copy_next<D: Disk>(
 }
 
 // Copies all frames up to the closed gate.
-pub(crate) fn copy_all<D: Disk>(
+fn copy_all<D: Disk>(
     alloc: Global,
     disk: &mut D,
     state: &State,
@@ -76,8 +79,8 @@ pub(crate) fn copy_all<D: Disk>(
         → CopiesBatches clients state.now.facts generation j reader.old writer.old 0 two
         → CopiesAll clients generation j reader.old.file reader.new writer.new
         (D.tells disk.old) (D.tells disk.new) result }
-    ensures own { ReadsOnly reader.old.file (D.tells disk.old).files (D.tells disk.new).files
-        result }
+    ensures leaves { RelatesTold (LeavesClosed writer.old.file) (D.tells disk.old).files
+        (D.tells disk.new).files }
     ensures run { DiskRun (D.tells disk.old) (D.tells disk.new) }
     ensures fault { IsErrOf result MigrationFault.DiskFault
         → CountRose (D.tells disk.old).disk_faults (D.tells disk.new).disk_faults }
@@ -89,5 +92,73 @@ pub(crate) fn copy_all<D: Disk>(
             Some(brought) => count = count.saturating_add(brought),
             None => return Ok(()),
         }
+    }
+}
+
+// Copies all frames up to the closed gate, which is to stand before this end.
+fn copy_to<D: Disk>(
+    alloc: Global,
+    disk: &mut D,
+    state: &State,
+    end: u64,
+    reader: &mut Journal,
+    writer: &mut Journal,
+) -> Result<(), MigrationFault>
+    requires pair { IsPair reader.old writer.old }
+    requires works { ForSome (D.tells disk.old).files (AreBothShut reader.old writer.old) }
+    ensures pair { OnOk result (IsPair reader.new writer.new) }
+    ensures same { OnOk result (IsSamePair reader.old reader.new writer.old writer.new) }
+    ensures works { OnOk result (ForSome (D.tells disk.new).files (AreBothShut reader.new writer.new)) }
+    ensures copies { (clients : Meaning) (generation : ℕ) (j : List (List Entry)) (two : Two File)
+        → (D.tells disk.old).files ≡ Some two
+        → CopiesBatches clients state.now.facts generation j reader.old writer.old 0 two
+        → CopiesAll clients generation j reader.old.file reader.new writer.new
+        (D.tells disk.old) (D.tells disk.new) result }
+    ensures end { OnOk result (reader.new.end ≡ end) }
+    ensures leaves { RelatesTold (LeavesClosed writer.old.file) (D.tells disk.old).files
+        (D.tells disk.new).files }
+    ensures run { DiskRun (D.tells disk.old) (D.tells disk.new) }
+    ensures fault { IsErrOf result MigrationFault.DiskFault
+        → CountRose (D.tells disk.old).disk_faults (D.tells disk.new).disk_faults }
+{
+    copy_all(alloc, disk, state, reader, writer)?;
+    if reader.end() != end {
+        return Err(MigrationFault::Memory);
+    }
+    Ok(())
+}
+
+// The same. What was written of the writer's file is taken back after a failure.
+pub(crate) fn copy_whole<D: Disk>(
+    alloc: Global,
+    disk: &mut D,
+    state: &State,
+    end: u64,
+    reader: &mut Journal,
+    writer: &mut Journal,
+) -> Result<(), MigrationFault>
+    requires pair { IsPair reader.old writer.old }
+    requires works { ForSome (D.tells disk.old).files (AreBothShut reader.old writer.old) }
+    ensures pair { OnOk result (IsPair reader.new writer.new) }
+    ensures same { OnOk result (IsSamePair reader.old reader.new writer.old writer.new) }
+    ensures works { OnOk result (ForSome (D.tells disk.new).files (AreBothShut reader.new writer.new)) }
+    ensures copies { (clients : Meaning) (generation : ℕ) (j : List (List Entry)) (two : Two File)
+        → (D.tells disk.old).files ≡ Some two
+        → CopiesBatches clients state.now.facts generation j reader.old writer.old 0 two
+        → CopiesAll clients generation j reader.old.file reader.new writer.new
+        (D.tells disk.old) (D.tells disk.new) result }
+    ensures end { OnOk result (reader.new.end ≡ end) }
+    ensures leaves { RelatesTold (LeavesClosed writer.old.file) (D.tells disk.old).files
+        (D.tells disk.new).files }
+    ensures back { ClearsAgain writer.old.file (D.tells disk.old).files (D.tells disk.new).files
+        result }
+    ensures run { DiskRun (D.tells disk.old) (D.tells disk.new) }
+    ensures fault { IsErrOf result MigrationFault.DiskFault
+        → CountRose (D.tells disk.old).disk_faults (D.tells disk.new).disk_faults }
+{
+    let file = writer.file();
+    match copy_to(alloc, disk, state, end, reader, writer) {
+        Ok(()) => Ok(()),
+        Err(fault) => Err(take_back(disk, file, fault)),
     }
 }

@@ -13,4 +13,4 @@ mod spelling;
 
 pub use fault::MigrationFault;
 pub use first_names::FirstNames;
-pub use migrating::{begin, migrate};
+pub use migrating::{begin, migrate, take_back};

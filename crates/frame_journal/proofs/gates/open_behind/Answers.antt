@@ -1,4 +1,4 @@
-use Rattle.std.proofs.Common.{◌-◌}
+use Rattle.std.proofs.Common.{◌-◌, arith}
 use Rattle.outside.specs.Files.{file_of}
 use Rattle.outside.proofs.CallSteps.{becomes_told}
 use Rattle.frame_journal.specs.Append.{WritesAndOpensGate, Gated}
@@ -6,6 +6,7 @@ use Rattle.frame_journal.specs.Gates.{WritesBehind, OpensGate, KeepsFront, Keeps
 use Rattle.frame_journal.proofs.BehindSteps.{behind_fits, other_after}
 use Rattle.frame_journal.proofs.AppendSteps.{gated_behind, gated_after, opens_both, passed_map}
 use Rattle.frame_journal.proofs.ClearSteps.{on_ok_map, becomes_new, becomes_then, passed_then}
+use Rattle.frame_journal.proofs.Closed.{leaves_then}
 use Rattle.frame_journal.proofs.gates.open_behind.Goals as goal
 
 pub open_gate-requires-clause-fits : goal.open_gate-requires-clause-fits
@@ -46,3 +47,10 @@ returns-clause-any_moment g c two told =
     (other_after file end framed two mid.0 mid.2)
     (gated_after file end framed two mid.0 c.requires.behind (c.requires.fits two told).1 mid.2)
     (c.open_gate.ensures.any_moment mid.0 mid.1)
+
+pub returns-in_err-write_behind-clause-leaves : goal.returns-in_err-write_behind-clause-leaves
+returns-in_err-write_behind-clause-leaves g c some = c.write_behind.ensures.leaves (omega (arith, some))
+
+pub returns-clause-leaves : goal.returns-clause-leaves
+returns-clause-leaves g c some =
+    leaves_then c.args.file (g.D.Disk.tells c.args.disk.now).files (g.D.Disk.tells c.write_behind.new.disk).files (g.D.Disk.tells c.open_gate.new.disk).files (c.write_behind.ensures.leaves (omega (arith, some))) (c.open_gate.ensures.leaves some)

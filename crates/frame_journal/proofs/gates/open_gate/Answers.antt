@@ -1,8 +1,9 @@
-use Rattle.std.proofs.Common.{◌∙◌, ◌-◌, arith}
+use Rattle.std.proofs.Common.{◌∙◌, ◌-◌, ◌∷◌, [], arith}
 use Rattle.outside.specs.Files.{Two, File, file_of}
 use Rattle.frame_journal.specs.Gates.{OpensGate}
 use Rattle.frame_journal.proofs.GateSteps.{gate_inside, open_ok, open_err, last_ok, last_err, opens}
 use Rattle.frame_journal.proofs.AppendSteps.{becomes_from}
+use Rattle.frame_journal.proofs.Closed.{leaves_both, leaves_wrote}
 use Rattle.frame_journal.proofs.gates.open_gate.Goals as goal
 
 pub write_at-requires-clause-place : goal.write_at-requires-clause-place
@@ -48,3 +49,15 @@ returns-clause-any_moment g c two told =
     let first = open_ok two o0 c.args.file (c.args.end - 1) told fits.0 inside o1 tt c.in_ok-write_at.ensures.call c.in_ok-write_at.ensures.written in
     let second = last_ok two o0 c.args.file (c.args.end - 1) told fits.0 inside o1 o2 tt first c.in_ok-sync.ensures.call c.in_ok-sync.ensures.synced in
     second.moments
+
+pub returns-in_err-write_at-clause-leaves : goal.returns-in_err-write_at-clause-leaves
+returns-in_err-write_at-clause-leaves g c some =
+    leaves_wrote c.args.file (c.args.end - 1) (1 ∷ []) c.write_at.result (g.D.Disk.tells c.args.disk.now).files (g.D.Disk.tells c.write_at.new.self).files (omega (arith, some)) c.write_at.ensures.written
+
+pub returns-in_err-sync-clause-leaves : goal.returns-in_err-sync-clause-leaves
+returns-in_err-sync-clause-leaves g c some =
+    leaves_both c.args.file (c.args.end - 1) (1 ∷ []) c.write_at.result c.sync.result (g.D.Disk.tells c.args.disk.now).files (g.D.Disk.tells c.write_at.new.self).files (g.D.Disk.tells c.sync.new.self).files (omega (arith, some)) c.write_at.ensures.written c.sync.ensures.synced
+
+pub returns-clause-leaves : goal.returns-clause-leaves
+returns-clause-leaves g c some =
+    leaves_both c.args.file (c.args.end - 1) (1 ∷ []) c.write_at.result c.sync.result (g.D.Disk.tells c.args.disk.now).files (g.D.Disk.tells c.write_at.new.self).files (g.D.Disk.tells c.sync.new.self).files (omega (arith, some)) c.write_at.ensures.written c.sync.ensures.synced

@@ -1,4 +1,4 @@
-use Rattle.std.proofs.Common.{◌≡◌, false, subst, List, ℕ}
+use Rattle.std.proofs.Common.{◌≡◌, false, subst, List, ℕ, arith}
 use Rattle.outside.specs.Files.{Two, File, file_of}
 use Rattle.outside.specs.Disk.{RelatesTold}
 use Rattle.outside.specs.Frames.{is_open}
@@ -28,3 +28,6 @@ returns-clause-any_moment g c two told =
     let file = c.args.file in
     passed_map two (g.D.Disk.tells c.args.disk.now) (g.D.Disk.tells c.write_behind.new.disk) file (KeepsFront (file_of two file).now 1) (λ left. is_open left ≡ false)
     (kept_shut two file (c.requires.cleared two told)) (c.write_behind.ensures.any_moment two told)
+
+pub returns-clause-leaves : goal.returns-clause-leaves
+returns-clause-leaves g c = c.write_behind.ensures.leaves (omega arith)

@@ -3,6 +3,7 @@ use Rattle.outside.specs.Files.{Two, File}
 use Rattle.frame_journal.specs.Gates.{WritesBehind}
 use Rattle.frame_journal.proofs.BehindSteps.{write_ok, write_err, sync_ok, sync_err, writes}
 use Rattle.frame_journal.proofs.AppendSteps.{becomes_from}
+use Rattle.frame_journal.proofs.Closed.{leaves_both, leaves_wrote}
 use Rattle.frame_journal.proofs.gates.write_behind.Goals as goal
 
 pub write_at-requires-clause-place : goal.write_at-requires-clause-place
@@ -44,3 +45,15 @@ returns-clause-any_moment g c two told =
     let first = write_ok two o0 c.args.file c.args.end c.args.bytes.now told fits.0 fits.1 o1 tt c.in_ok-write_at.ensures.call c.in_ok-write_at.ensures.written in
     let second = sync_ok two o0 c.args.file c.args.end c.args.bytes.now told fits.0 fits.1 o1 o2 tt first c.in_ok-sync.ensures.call c.in_ok-sync.ensures.synced in
     second.moments
+
+pub returns-in_err-write_at-clause-leaves : goal.returns-in_err-write_at-clause-leaves
+returns-in_err-write_at-clause-leaves g c some =
+    leaves_wrote c.args.file c.args.end c.args.bytes.now c.write_at.result (g.D.Disk.tells c.args.disk.now).files (g.D.Disk.tells c.write_at.new.self).files some c.write_at.ensures.written
+
+pub returns-in_err-sync-clause-leaves : goal.returns-in_err-sync-clause-leaves
+returns-in_err-sync-clause-leaves g c some =
+    leaves_both c.args.file c.args.end c.args.bytes.now c.write_at.result c.sync.result (g.D.Disk.tells c.args.disk.now).files (g.D.Disk.tells c.write_at.new.self).files (g.D.Disk.tells c.sync.new.self).files some c.write_at.ensures.written c.sync.ensures.synced
+
+pub returns-clause-leaves : goal.returns-clause-leaves
+returns-clause-leaves g c some =
+    leaves_both c.args.file c.args.end c.args.bytes.now c.write_at.result c.sync.result (g.D.Disk.tells c.args.disk.now).files (g.D.Disk.tells c.write_at.new.self).files (g.D.Disk.tells c.sync.new.self).files some c.write_at.ensures.written c.sync.ensures.synced

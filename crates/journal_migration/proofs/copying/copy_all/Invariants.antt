@@ -3,10 +3,11 @@ use Rattle.std.specs.Option.{ForSome}
 use Rattle.outside.specs.Disk.{RelatesTold}
 use Rattle.outside.specs.Files.{Two, File}
 use Rattle.outside.specs.Outside.{DiskRun}
+use Rattle.frame_journal.specs.Create.{LeavesClosed}
 use Rattle.sync_rules.specs.declared.entries.Entry.{Entry}
 use Rattle.sync_rules.specs.Clients.{Meaning}
 use Rattle.journal_migration.specs.Copying.{CopiesBatches, IsPair, IsSamePair, AreBothShut}
-use Rattle.journal_migration.specs.Migrating.{KeepsJournal, KeepsFile}
+use Rattle.journal_migration.specs.Migrating.{KeepsJournal}
 use Rattle.journal_migration.proofs.copying.copy_all.Given as goal
 
 -- the frames so far are copied
@@ -21,7 +22,7 @@ invariant-frames g l = record {
       → KeepsJournal clients j
       (CopiesBatches clients l.state.facts generation j l.reader l.writer l.count)
       (g.D.Disk.tells l.fn.disk) (g.D.Disk.tells l.disk);
-  own : RelatesTold (KeepsFile l.fn.reader.file) (g.D.Disk.tells l.fn.disk).files
+  leaves : RelatesTold (LeavesClosed l.fn.writer.file) (g.D.Disk.tells l.fn.disk).files
       (g.D.Disk.tells l.disk).files;
   run : DiskRun (g.D.Disk.tells l.fn.disk) (g.D.Disk.tells l.disk);
 }

@@ -1,7 +1,7 @@
 use Rattle.std.proofs.Common.{ℕ, List, take, sym, ap, subst}
 use Rattle.outside.specs.Files.{file_of}
-use Rattle.frame_journal.specs.Append.{AppendsFrame}
 use Rattle.frame_journal.specs.Journal.{JournalValue}
+use Rattle.frame_journal.proofs.Closed.{leaves_looks}
 use Rattle.entry_codec.specs.Payloads.{names_of}
 use Rattle.journal_migration.specs.Copying.{IsRespelled}
 use Rattle.journal_migration.specs.Faults.{fault_of_frame}
@@ -9,7 +9,7 @@ use Rattle.journal_migration.specs.declared.fault.MigrationFault.TheVariants as 
 use Rattle.journal_migration.proofs.Copied.{copied_all, copied_cut, copied_not, copied_one}
 use Rattle.journal_migration.proofs.Copied.{next_false, next_true}
 use Rattle.journal_migration.proofs.Errors.{err_is}
-use Rattle.journal_migration.proofs.Own.{own_cut, own_fault, own_looks, own_step, own_then}
+use Rattle.journal_migration.proofs.Back.{leaves_behind}
 use Rattle.journal_migration.proofs.Shut.{moves_true, works_appended}
 use Rattle.journal_migration.proofs.copying.copy_next.Goals as goal
 
@@ -105,44 +105,29 @@ returns-clause-copies g c clients generation j two told copies =
     (ap (λ (v : JournalValue). v.end) c.in_ok-append.ensures.ok)
     (ap (λ (v : JournalValue). v.file) c.in_ok-append.ensures.ok)
 
-pub returns-in_err-more-clause-own : goal.returns-in_err-more-clause-own
-returns-in_err-more-clause-own g c =
-    let o = g.D.Disk.tells c.args.disk.now in
-    let o' = g.D.Disk.tells c.next_frame.new.disk in
-    let e = fault_of_frame c.in_err-more.field-0.0 in
-    own_fault c.args.reader.now.file o.files o'.files e c.from_residual.result
-    (err_is c.from_residual.result e c.from_residual.ensures.1)
-    (own_looks c.args.reader.now.file o o' c.next_frame.ensures.looks)
+pub returns-in_err-more-clause-leaves : goal.returns-in_err-more-clause-leaves
+returns-in_err-more-clause-leaves g c =
+    leaves_looks c.args.writer.now.file (g.D.Disk.tells c.args.disk.now).files
+    (g.D.Disk.tells c.next_frame.new.disk).files c.next_frame.ensures.looks.same_files
 
-pub returns-then-not-more-clause-own : goal.returns-then-not-more-clause-own
-returns-then-not-more-clause-own g c =
-    own_looks c.args.reader.now.file (g.D.Disk.tells c.args.disk.now)
-    (g.D.Disk.tells c.next_frame.new.disk) c.next_frame.ensures.looks
+pub returns-then-not-more-clause-leaves : goal.returns-then-not-more-clause-leaves
+returns-then-not-more-clause-leaves g c =
+    leaves_looks c.args.writer.now.file (g.D.Disk.tells c.args.disk.now).files
+    (g.D.Disk.tells c.next_frame.new.disk).files c.next_frame.ensures.looks.same_files
 
-pub returns-in_err-respelled-clause-own : goal.returns-in_err-respelled-clause-own
-returns-in_err-respelled-clause-own g c =
-    let o = g.D.Disk.tells c.args.disk.now in
-    let o' = g.D.Disk.tells c.next_frame.new.disk in
-    let e = c.in_err-respelled.field-0.0 in
-    own_fault c.args.reader.now.file o.files o'.files e c.from_residual-in_err-respelled.result
-    (err_is c.from_residual-in_err-respelled.result e c.from_residual-in_err-respelled.ensures.1)
-    (own_looks c.args.reader.now.file o o' c.next_frame.ensures.looks)
+pub returns-in_err-respelled-clause-leaves : goal.returns-in_err-respelled-clause-leaves
+returns-in_err-respelled-clause-leaves g c =
+    leaves_looks c.args.writer.now.file (g.D.Disk.tells c.args.disk.now).files
+    (g.D.Disk.tells c.next_frame.new.disk).files c.next_frame.ensures.looks.same_files
 
-pub returns-in_err-append-clause-own : goal.returns-in_err-append-clause-own
-returns-in_err-append-clause-own g c =
-    own_cut c.args.reader.now.file (g.D.Disk.tells c.args.disk.now).files
-    (g.D.Disk.tells c.append.new.disk).files c.from_residual-in_err-append.result
-    (err_is c.from_residual-in_err-append.result fault.DiskFault
-    c.from_residual-in_err-append.ensures.1)
+pub returns-in_err-append-clause-leaves : goal.returns-in_err-append-clause-leaves
+returns-in_err-append-clause-leaves g c =
+    leaves_behind c.args.writer.now.file (g.D.Disk.tells c.args.disk.now).files
+    (g.D.Disk.tells c.next_frame.new.disk).files (g.D.Disk.tells c.append.new.disk).files
+    c.next_frame.ensures.looks.same_files c.append.ensures.leaves
 
-pub returns-clause-own : goal.returns-clause-own
-returns-clause-own g c =
-    let o = g.D.Disk.tells c.args.disk.now in
-    let o1 = g.D.Disk.tells c.next_frame.new.disk in
-    let o2 = g.D.Disk.tells c.append.new.disk in
-    let file = c.args.reader.now.file in
-    let n = c.args.writer.now in
-    own_then file o.files o1.files o2.files (own_looks file o o1 c.next_frame.ensures.looks)
-    (own_step (AppendsFrame n.file n.end c.as_slice-2.result.now) file n.file o1.files o2.files
-    c.requires.pair.reads c.requires.pair.writes (λ a b x.
-    x.other) c.in_ok-append.ensures.appended)
+pub returns-clause-leaves : goal.returns-clause-leaves
+returns-clause-leaves g c =
+    leaves_behind c.args.writer.now.file (g.D.Disk.tells c.args.disk.now).files
+    (g.D.Disk.tells c.next_frame.new.disk).files (g.D.Disk.tells c.append.new.disk).files
+    c.next_frame.ensures.looks.same_files c.append.ensures.leaves

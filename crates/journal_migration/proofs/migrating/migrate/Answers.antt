@@ -1,20 +1,22 @@
-use Rattle.std.proofs.Common.{◌≡◌, ℕ, ◌+◌, ◌-◌, Result, Err, sym, ap, subst, ◌∙◌, arith}
-use Rattle.outside.specs.Files.{file_of}
+use Rattle.std.proofs.Common.{◌≡◌, ℕ, ◌+◌, ◌-◌, Option, Result, Err, refl, sym, ap, subst, ◌∙◌}
+use Rattle.std.proofs.Common.{arith}
+use Rattle.outside.specs.Files.{Two, File, file_of}
 use Rattle.outside.specs.Disk.{RelatesTold}
 use Rattle.outside.specs.Steps.{PassedMoments}
 use Rattle.outside.proofs.CallSteps.{run_then}
 use Rattle.frame_journal.specs.Journal.{JournalValue}
-use Rattle.frame_journal.specs.Create.{IsPrepared, PublishesHeader, ShutOrOpened}
+use Rattle.frame_journal.specs.Create.{IsPrepared, PreparesJournal, PublishesHeader, ShutOrOpened}
 use Rattle.journal_migration.specs.Faults.{fault_of_start}
-use Rattle.journal_migration.specs.Migrating.{KeepsFile, MigratesJournal, FilesHoldMigrated}
-use Rattle.journal_migration.specs.Migrating.{ReadsOnly}
+use Rattle.journal_migration.specs.Migrating.{MigratesJournal, FilesHoldMigrated}
+use Rattle.journal_migration.specs.Starting.{ClearsAgain}
 use Rattle.journal_migration.specs.declared.fault.MigrationFault.{MigrationFault}
 use Rattle.journal_migration.specs.declared.fault.MigrationFault.TheVariants as fault
+use Rattle.journal_migration.proofs.Back.{back_begun, back_cut, back_unmade}
 use Rattle.journal_migration.proofs.Begun.{begun_copies, begun_so}
 use Rattle.journal_migration.proofs.Errors.{err_is}
-use Rattle.journal_migration.proofs.Migrated.{copy_elsewhere, copy_failed, looked_so, open_failed}
+use Rattle.journal_migration.proofs.Migrated.{copy_failed, looked_so, open_failed}
 use Rattle.journal_migration.proofs.Migrated.{opened_so}
-use Rattle.journal_migration.proofs.Own.{own_begun, own_cut, own_fault, own_later, own_looks}
+use Rattle.journal_migration.proofs.Own.{own_begun, own_cut, own_fault, own_left, own_looks}
 use Rattle.journal_migration.proofs.Own.{own_step, own_then}
 use Rattle.journal_migration.proofs.Shut.{prepared_so, works_ready}
 use Rattle.journal_migration.proofs.migrating.migrate.Goals as goal
@@ -40,8 +42,8 @@ returns-in_err-writer-clause-migrates g c clients j two told same holds =
     c.begin.ensures.moments
     (FilesHoldMigrated clients c.args.file c.args.generation j (Err fault.DiskFault)) (λ t end. tt))
 
-pub copy_all-requires-clause-works : goal.copy_all-requires-clause-works
-copy_all-requires-clause-works g c =
+pub copy_whole-requires-clause-works : goal.copy_whole-requires-clause-works
+copy_whole-requires-clause-works g c =
     works_ready c.args.file (c.args.generation + 1) c.in_ok-reader.reader c.in_ok-writer.writer
     (g.D.Disk.tells c.args.disk.now) (g.D.Disk.tells c.start.new.disk)
     (g.D.Disk.tells c.begin.new.disk)
@@ -50,8 +52,8 @@ copy_all-requires-clause-works g c =
     ∙ c.if-file.false)
     c.in_ok-writer.ensures.value
 
-pub returns-in_err-copy_all-clause-migrates : goal.returns-in_err-copy_all-clause-migrates
-returns-in_err-copy_all-clause-migrates g c clients j two told same holds =
+pub returns-in_err-copy_whole-clause-migrates : goal.returns-in_err-copy_whole-clause-migrates
+returns-in_err-copy_whole-clause-migrates g c clients j two told same holds =
     let f = c.args.state.now.facts in
     let generation = c.args.generation in
     let file = c.args.file in
@@ -64,39 +66,19 @@ returns-in_err-copy_all-clause-migrates g c clients j two told same holds =
     let begun = begun_copies clients f generation j file r n o0 o1 o2 two told c.requires.file holds
     c.start.ensures.looks c.begin.ensures.moments same reader c.in_ok-reader.ensures.fresh.1
     c.in_ok-writer.ensures.value c.in_ok-writer.ensures.prepared in
-    let e = c.in_err-copy_all.field-0.0 in
-    copy_failed clients f generation j file r n c.copy_all.new.reader c.copy_all.new.writer o0 o2
-    (g.D.Disk.tells c.copy_all.new.disk) two told
+    let e = c.in_err-copy_whole.field-0.0 in
+    copy_failed clients f generation j file r n c.copy_whole.new.reader c.copy_whole.new.writer o0 o2
+    (g.D.Disk.tells c.copy_whole.new.disk) two told
     (run_then o0 o1 o2 c.start.ensures.looks.run c.begin.ensures.run) reader begun e
-    (λ mid at copies. c.in_err-copy_all.ensures.copies clients generation j mid at copies)
-    c.from_residual-in_err-copy_all.result
-    (err_is c.from_residual-in_err-copy_all.result e c.from_residual-in_err-copy_all.ensures.1)
-
-pub returns-then-end-clause-migrates : goal.returns-then-end-clause-migrates
-returns-then-end-clause-migrates g c clients j two told same holds =
-    let f = c.args.state.now.facts in
-    let generation = c.args.generation in
-    let file = c.args.file in
-    let r = c.in_ok-reader.reader in
-    let n = c.in_ok-writer.writer in
-    let o0 = g.D.Disk.tells c.args.disk.now in
-    let o1 = g.D.Disk.tells c.start.new.disk in
-    let o2 = g.D.Disk.tells c.begin.new.disk in
-    let reader : r.file ≡ file = sym c.file.ensures.value ∙ c.if-file.false in
-    let begun = begun_copies clients f generation j file r n o0 o1 o2 two told c.requires.file holds
-    c.start.ensures.looks c.begin.ensures.moments same reader c.in_ok-reader.ensures.fresh.1
-    c.in_ok-writer.ensures.value c.in_ok-writer.ensures.prepared in
-    copy_elsewhere clients f generation j file r n c.copy_all.new.reader c.copy_all.new.writer o0 o2
-    (g.D.Disk.tells c.copy_all.new.disk) two told
-    (run_then o0 o1 o2 c.start.ensures.looks.run c.begin.ensures.run) reader begun
-    (λ mid at copies. c.in_ok-copy_all.ensures.copies clients generation j mid at copies)
-    (c.in_ok-copy_all.ensures.same.reader_file ∙ reader)
+    (λ mid at copies. c.in_err-copy_whole.ensures.copies clients generation j mid at copies)
+    c.from_residual-in_err-copy_whole.result
+    (err_is c.from_residual-in_err-copy_whole.result e c.from_residual-in_err-copy_whole.ensures.1)
 
 pub publish-requires-clause-prepared : goal.publish-requires-clause-prepared
 publish-requires-clause-prepared g c x told =
     subst (IsPrepared x) (sym c.file-2.ensures.value)
-    (prepared_so c.copy_all.new.reader c.copy_all.new.writer x
-    (c.in_ok-copy_all.ensures.works x told))
+    (prepared_so c.copy_whole.new.reader c.copy_whole.new.writer x
+    (c.in_ok-copy_whole.ensures.works x told))
 
 pub returns-in_err-publish-clause-migrates : goal.returns-in_err-publish-clause-migrates
 returns-in_err-publish-clause-migrates g c clients j two told same holds =
@@ -105,11 +87,11 @@ returns-in_err-publish-clause-migrates g c clients j two told same holds =
     let file = c.args.file in
     let r = c.in_ok-reader.reader in
     let n = c.in_ok-writer.writer in
-    let n' = c.copy_all.new.writer in
+    let n' = c.copy_whole.new.writer in
     let o0 = g.D.Disk.tells c.args.disk.now in
     let o1 = g.D.Disk.tells c.start.new.disk in
     let o2 = g.D.Disk.tells c.begin.new.disk in
-    let o3 = g.D.Disk.tells c.copy_all.new.disk in
+    let o3 = g.D.Disk.tells c.copy_whole.new.disk in
     let o4 = g.D.Disk.tells c.publish.new.disk in
     let reader : r.file ≡ file = sym c.file.ensures.value ∙ c.if-file.false in
     let run = run_then o0 o1 o2 c.start.ensures.looks.run c.begin.ensures.run in
@@ -117,10 +99,10 @@ returns-in_err-publish-clause-migrates g c clients j two told same holds =
     c.start.ensures.looks c.begin.ensures.moments same reader c.in_ok-reader.ensures.fresh.1
     c.in_ok-writer.ensures.value c.in_ok-writer.ensures.prepared in
     let result = c.from_residual-in_err-publish.result in
-    open_failed clients f generation j file r n c.copy_all.new.reader n' o0 o2 o3 two told run
-    reader begun c.cite_laws.ensures o4 (run_then o0 o2 o3 run c.copy_all.ensures.run)
-    c.in_ok-copy_all.ensures.pair (omega (arith, c.requires.generation)) (λ mid at copies.
-    c.in_ok-copy_all.ensures.copies clients generation j mid at copies)
+    open_failed clients f generation j file r n c.copy_whole.new.reader n' o0 o2 o3 two told run
+    reader begun c.cite_laws.ensures o4 (run_then o0 o2 o3 run c.copy_whole.ensures.run)
+    c.in_ok-copy_whole.ensures.pair (omega (arith, c.requires.generation)) (λ mid at copies.
+    c.in_ok-copy_whole.ensures.copies clients generation j mid at copies)
     (λ t at. subst (λ (k : ℕ). PassedMoments t o3 o4 k (ShutOrOpened (file_of t k).now))
     c.file-2.ensures.value (c.publish.ensures.any_moment t at)) result
     (err_is result fault.DiskFault c.from_residual-in_err-publish.ensures.1)
@@ -132,26 +114,26 @@ returns-clause-migrates g c clients j two told same holds =
     let file = c.args.file in
     let r = c.in_ok-reader.reader in
     let n = c.in_ok-writer.writer in
-    let n' = c.copy_all.new.writer in
+    let n' = c.copy_whole.new.writer in
     let o0 = g.D.Disk.tells c.args.disk.now in
     let o1 = g.D.Disk.tells c.start.new.disk in
     let o2 = g.D.Disk.tells c.begin.new.disk in
-    let o3 = g.D.Disk.tells c.copy_all.new.disk in
+    let o3 = g.D.Disk.tells c.copy_whole.new.disk in
     let o4 = g.D.Disk.tells c.publish.new.disk in
     let reader : r.file ≡ file = sym c.file.ensures.value ∙ c.if-file.false in
     let run = run_then o0 o1 o2 c.start.ensures.looks.run c.begin.ensures.run in
     let begun = begun_copies clients f generation j file r n o0 o1 o2 two told c.requires.file holds
     c.start.ensures.looks c.begin.ensures.moments same reader c.in_ok-reader.ensures.fresh.1
     c.in_ok-writer.ensures.value c.in_ok-writer.ensures.prepared in
-    opened_so clients f generation j file r n c.copy_all.new.reader n' o0 o2 o3 two told run reader
-    begun c.cite_laws.ensures o4 (run_then o0 o2 o3 run c.copy_all.ensures.run)
-    c.in_ok-copy_all.ensures.pair (omega (arith, c.requires.generation)) (λ mid at copies.
-    c.in_ok-copy_all.ensures.copies clients generation j mid at copies)
+    opened_so clients f generation j file r n c.copy_whole.new.reader n' o0 o2 o3 two told run reader
+    begun c.cite_laws.ensures o4 (run_then o0 o2 o3 run c.copy_whole.ensures.run)
+    c.in_ok-copy_whole.ensures.pair (omega (arith, c.requires.generation)) (λ mid at copies.
+    c.in_ok-copy_whole.ensures.copies clients generation j mid at copies)
     (λ t at. subst (λ (k : ℕ). PassedMoments t o3 o4 k (ShutOrOpened (file_of t k).now))
     c.file-2.ensures.value (c.publish.ensures.any_moment t at))
     (subst (λ (k : ℕ). RelatesTold (PublishesHeader k) o3.files o4.files) c.file-2.ensures.value
     c.in_ok-publish.ensures.published)
-    (c.in_ok-copy_all.ensures.same.writer_generation
+    (c.in_ok-copy_whole.ensures.same.writer_generation
     ∙ ap (λ (v : JournalValue). v.generation) c.in_ok-writer.ensures.value)
 
 pub returns-in_err-reader-clause-own : goal.returns-in_err-reader-clause-own
@@ -175,37 +157,23 @@ returns-in_err-writer-clause-own g c =
     (err_is c.from_residual-in_err-writer.result fault.DiskFault
     c.from_residual-in_err-writer.ensures.1)
 
-pub returns-in_err-copy_all-clause-own : goal.returns-in_err-copy_all-clause-own
-returns-in_err-copy_all-clause-own g c =
+pub returns-in_err-copy_whole-clause-own : goal.returns-in_err-copy_whole-clause-own
+returns-in_err-copy_whole-clause-own g c =
     let file = c.args.file in
-    let r = c.in_ok-reader.reader in
     let o0 = g.D.Disk.tells c.args.disk.now in
     let o1 = g.D.Disk.tells c.start.new.disk in
     let o2 = g.D.Disk.tells c.begin.new.disk in
-    let o3 = g.D.Disk.tells c.copy_all.new.disk in
-    let reader : r.file ≡ file = sym c.file.ensures.value ∙ c.if-file.false in
-    let e = c.in_err-copy_all.field-0.0 in
-    own_later (Unit {0}) file o0.files o2.files o3.files e c.from_residual-in_err-copy_all.result
-    (err_is c.from_residual-in_err-copy_all.result e c.from_residual-in_err-copy_all.ensures.1)
+    let o3 = g.D.Disk.tells c.copy_whole.new.disk in
+    let e = c.in_err-copy_whole.field-0.0 in
+    own_fault file o0.files o3.files e c.from_residual-in_err-copy_whole.result
+    (err_is c.from_residual-in_err-copy_whole.result e
+    c.from_residual-in_err-copy_whole.ensures.1)
+    (own_then file o0.files o2.files o3.files
     (own_begun file (c.args.generation + 1) o0 o1 o2 c.requires.file c.start.ensures.looks
     c.in_ok-writer.ensures.prepared)
-    (subst (λ (k : ℕ). ReadsOnly {A = Unit {0}} k o2.files o3.files (Err e)) reader
-    c.in_err-copy_all.ensures.own)
-
-pub returns-then-end-clause-own : goal.returns-then-end-clause-own
-returns-then-end-clause-own g c =
-    let file = c.args.file in
-    let r = c.in_ok-reader.reader in
-    let o0 = g.D.Disk.tells c.args.disk.now in
-    let o1 = g.D.Disk.tells c.start.new.disk in
-    let o2 = g.D.Disk.tells c.begin.new.disk in
-    let o3 = g.D.Disk.tells c.copy_all.new.disk in
-    let reader : r.file ≡ file = sym c.file.ensures.value ∙ c.if-file.false in
-    own_then file o0.files o2.files o3.files
-    (own_begun file (c.args.generation + 1) o0 o1 o2 c.requires.file c.start.ensures.looks
-    c.in_ok-writer.ensures.prepared)
-    (subst (λ (k : ℕ). RelatesTold (KeepsFile k) o2.files o3.files) reader
-    c.in_ok-copy_all.ensures.own)
+    (own_left file c.in_ok-writer.writer.file o2.files o3.files c.requires.file
+    (ap (λ (v : JournalValue). v.file) c.in_ok-writer.ensures.value)
+    c.copy_whole.ensures.leaves))
 
 pub returns-in_err-publish-clause-own : goal.returns-in_err-publish-clause-own
 returns-in_err-publish-clause-own g c =
@@ -217,24 +185,66 @@ returns-in_err-publish-clause-own g c =
 pub returns-clause-own : goal.returns-clause-own
 returns-clause-own g c =
     let file = c.args.file in
-    let r = c.in_ok-reader.reader in
-    let n = c.in_ok-writer.writer in
-    let n' = c.copy_all.new.writer in
+    let n' = c.copy_whole.new.writer in
     let o0 = g.D.Disk.tells c.args.disk.now in
     let o1 = g.D.Disk.tells c.start.new.disk in
     let o2 = g.D.Disk.tells c.begin.new.disk in
-    let o3 = g.D.Disk.tells c.copy_all.new.disk in
+    let o3 = g.D.Disk.tells c.copy_whole.new.disk in
     let o4 = g.D.Disk.tells c.publish.new.disk in
-    let reader : r.file ≡ file = sym c.file.ensures.value ∙ c.if-file.false in
-    let writes : n'.file ≡ 1 - file = c.in_ok-copy_all.ensures.same.writer_file
-    ∙ ap (λ (v : JournalValue). v.file) c.in_ok-writer.ensures.value in
+    let begun = ap (λ (v : JournalValue). v.file) c.in_ok-writer.ensures.value in
+    let writes : n'.file ≡ 1 - file = c.in_ok-copy_whole.ensures.same.writer_file ∙ begun in
     own_then file o0.files o3.files o4.files
     (own_then file o0.files o2.files o3.files
     (own_begun file (c.args.generation + 1) o0 o1 o2 c.requires.file c.start.ensures.looks
     c.in_ok-writer.ensures.prepared)
-    (subst (λ (k : ℕ). RelatesTold (KeepsFile k) o2.files o3.files) reader
-    c.in_ok-copy_all.ensures.own))
+    (own_left file c.in_ok-writer.writer.file o2.files o3.files c.requires.file begun
+    c.copy_whole.ensures.leaves))
     (own_step (PublishesHeader n'.file) file n'.file o3.files o4.files c.requires.file writes
     (λ a b x. x.other)
     (subst (λ (k : ℕ). RelatesTold (PublishesHeader k) o3.files o4.files) c.file-2.ensures.value
     c.in_ok-publish.ensures.published))
+
+pub returns-in_err-reader-clause-back : goal.returns-in_err-reader-clause-back
+returns-in_err-reader-clause-back g c =
+    let e = fault_of_start c.in_err-reader.field-0.0 in
+    back_unmade (1 - c.args.file) e c.from_residual.result (g.D.Disk.tells c.args.disk.now).files
+    (g.D.Disk.tells c.start.new.disk).files
+    (err_is c.from_residual.result e c.from_residual.ensures.1) c.start.ensures.looks.same_files
+
+pub returns-then-file-clause-back : goal.returns-then-file-clause-back
+returns-then-file-clause-back g c =
+    back_unmade {A = JournalValue} (1 - c.args.file) fault.Memory (Err fault.Memory)
+    (g.D.Disk.tells c.args.disk.now).files
+    (g.D.Disk.tells c.start.new.disk).files refl c.start.ensures.looks.same_files
+
+pub returns-in_err-writer-clause-back : goal.returns-in_err-writer-clause-back
+returns-in_err-writer-clause-back g c =
+    back_cut (1 - c.args.file) c.from_residual-in_err-writer.result
+    (g.D.Disk.tells c.args.disk.now).files (g.D.Disk.tells c.begin.new.disk).files
+    (err_is c.from_residual-in_err-writer.result fault.DiskFault
+    c.from_residual-in_err-writer.ensures.1)
+
+pub returns-in_err-copy_whole-clause-back : goal.returns-in_err-copy_whole-clause-back
+returns-in_err-copy_whole-clause-back g c =
+    let other = 1 - c.args.file in
+    let o0 = (g.D.Disk.tells c.args.disk.now).files in
+    let o1 = (g.D.Disk.tells c.start.new.disk).files in
+    let o2 = (g.D.Disk.tells c.begin.new.disk).files in
+    let o3 = (g.D.Disk.tells c.copy_whole.new.disk).files in
+    let e = c.in_err-copy_whole.field-0.0 in
+    back_begun other (c.args.generation + 1) e c.from_residual-in_err-copy_whole.result o0 o2 o3
+    (err_is c.from_residual-in_err-copy_whole.result e
+    c.from_residual-in_err-copy_whole.ensures.1)
+    (subst (λ (x : Option (Two File)). RelatesTold
+    (PreparesJournal other 2 (c.args.generation + 1)) x o2) c.start.ensures.looks.same_files
+    c.in_ok-writer.ensures.prepared)
+    (subst (λ (k : ℕ). ClearsAgain {A = Unit {0}} k o2 o3 (Err e))
+    (ap (λ (v : JournalValue). v.file) c.in_ok-writer.ensures.value)
+    c.in_err-copy_whole.ensures.back)
+
+pub returns-in_err-publish-clause-back : goal.returns-in_err-publish-clause-back
+returns-in_err-publish-clause-back g c =
+    back_cut (1 - c.args.file) c.from_residual-in_err-publish.result
+    (g.D.Disk.tells c.args.disk.now).files (g.D.Disk.tells c.publish.new.disk).files
+    (err_is c.from_residual-in_err-publish.result fault.DiskFault
+    c.from_residual-in_err-publish.ensures.1)
