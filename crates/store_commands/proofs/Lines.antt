@@ -21,7 +21,9 @@ item_at (y ∷ ys) (suc n) within = item_at ys n (omega arith)
 -- an item of what stands behind a place
 pub item_behind : {A : Type 0} (xs : List A) (from n : ℕ) (x : A)
     → slice_get (drop from xs) n ≡ Some x → slice_get xs (from + n) ≡ Some x
-item_behind xs zero n x e = ap (slice_get xs) (refl) ∙ e
+item_behind xs zero n x e =
+    let none : zero + n ≡ n = omega arith in
+    ap (slice_get xs) none ∙ e
 item_behind [] (suc from) n x e = absurd (let it : None ≡ Some x = e in cc)
 item_behind (y ∷ ys) (suc from) n x e =
     let one : suc from + n ≡ suc (from + n) = omega arith in
