@@ -5,4 +5,3 @@ mod Fronts
 mod Targets
 mod Wholes
 mod LastLevels
-mod WellSaid

@@ -4,4 +4,3 @@ pub mod Deeds
 pub mod Agreement
 pub mod Agreeing
 pub mod Adding
-pub mod SayingLaws

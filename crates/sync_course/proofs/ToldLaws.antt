@@ -1,13 +1,12 @@
 -- What is told of events one behind the other, and of the events of single calls.
-use Rattle.std.proofs.Common.{◌≡◌, ◌⊎◌, ℕ, ◌-◌, ◌^◌, ◌≤◌, min, Bool, true, false, ◌||◌, nat_eq, eq-eqb, eqb-true, List, [], ◌∷◌, ◌++◌, length, take, append-nil, append_assoc, refl, sym, ◌∙◌, ap, subst, inl, inr, arith, Option, None, Some, Ok, Err}
-use Rattle.std.specs.Prelude.{if◌then◌else◌}
+use Rattle.std.proofs.Common.{◌≡◌, ◌⊎◌, ℕ, ◌≤◌, le_of_eq, Bool, true, false, ◌||◌, nat_eq, eqb-true, List, [], ◌∷◌, ◌++◌, length, take, append-nil, append_assoc, refl, sym, ◌∙◌, ap, subst, inl, inr, arith, Option, None, Some, Ok, Err}
 use Rattle.std.specs.Option.{option_map}
 use Rattle.std.proofs.Math.Bool.{or_assoc}
 use Rattle.std.proofs.lemmas.Bool.{cases_eq}
 use Rattle.outside.specs.declared.failed.Failed.{Failed}
 use Rattle.outside.specs.declared.host.Heard.{Heard}
 use Rattle.outside.specs.declared.host.Heard.TheVariants as answer
-use Rattle.outside.specs.Faults.{CountRose, one_more}
+use Rattle.outside.specs.Faults.{CountRose}
 use Rattle.outside.specs.Host.{GrowsReadings, HearsAnswer, IsAnswerCaused, ReadsClock, SendsOnLink}
 use Rattle.outside.specs.Disk.{RelatesTold}
 use Rattle.outside.specs.Links.{HeardOn, Planned, Reply, changed_at, got, idle, ended, hear_reply}
@@ -16,7 +15,7 @@ use Rattle.outside.specs.Outside.{Outside}
 use Rattle.outside.proofs.CallSteps.{becomes_map, becomes_none, becomes_then}
 use Rattle.sync_rules.specs.declared.entries.Entry.{Entry}
 use Rattle.sync_course.specs.declared.TheConstants.{PIECE_LEN}
-use Rattle.sync_course.specs.Events.{Event, Commit, Hear, Miss, Read, Break, Pass, asked_event, batches_of, commits, readings_of, heard_by, heard_after, is_failure, has_failure, GrowsBy, PlansAfter, failures_after, ChangesThrough, TellsEvents, UpcomingAfter}
+use Rattle.sync_course.specs.Events.{Event, Commit, Hear, Miss, Read, Break, Pass, asked_event, batches_of, commits, readings_of, heard_by, heard_after, is_failure, has_failure, GrowsBy, PlansAfter, RoseIf, ChangesThrough, TellsEvents, UpcomingAfter}
 
 -- ---- lists of events
 
@@ -41,28 +40,6 @@ has_failure-append link (e ∷ es) fs =
     ap (λ b. is_failure link e || b) (has_failure-append link es fs)
     ∙ sym (or_assoc (is_failure link e) (has_failure link es) (has_failure link fs))
 
-failures_after-append : (link : ℕ) (es fs : List Event) (count : ℕ) → failures_after link (es ++ fs) count ≡ failures_after link fs (failures_after link es count)
-failures_after-append link [] fs count = refl
-failures_after-append link (e ∷ es) fs count =
-    failures_after-append link es fs (if is_failure link e then one_more count else count)
-
--- a count does not fall, but for one past its end
-least_after : (link : ℕ) (es : List Event) (count : ℕ) → min count (2 ^ 64 - 1) ≤ failures_after link es count
-least_after link [] count = omega arith
-least_after link (e ∷ es) count = elim (is_failure link e) as (λ b. min count (2 ^ 64 - 1) ≤ failures_after link es (if b then one_more count else count)) [
-  | true ↦ omega (arith, least_after link es (one_more count))
-  | false ↦ least_after link es count
-]
-
--- it rose where a call failed
-pub failed_rose : (link : ℕ) (es : List Event) (count : ℕ) → has_failure link es ≡ true → CountRose count (failures_after link es count)
-failed_rose link [] count is = cc
-failed_rose link (e ∷ es) count is =
-    elim (is_failure link e) as (λ b. (b || has_failure link es) ≡ true → CountRose count (failures_after link es (if b then one_more count else count))) [
-      | true ↦ λ failed. omega (arith, least_after link es (one_more count))
-      | false ↦ λ later. failed_rose link es count later
-    ] is
-
 -- ---- what is told grows
 
 option_map_same : {A : Type 0} (f : A → A) → ((x : A) → f x ≡ x) → (o : Option A) → o ≡ option_map f o
@@ -84,6 +61,12 @@ grows_then more others a None (Some c) first second = absurd second
 grows_then more others None (Some b) (Some c) first second = absurd first
 grows_then more others (Some a) (Some b) (Some c) first second =
     second ∙ ap (λ l. l ++ others) first ∙ append_assoc a more others
+
+rose_then : (a b : Bool) (x y z : ℕ) → RoseIf a x y → RoseIf b y z → RoseIf (a || b) x z
+rose_then true true x y z first second = omega (arith, first, second)
+rose_then true false x y z first second = omega (arith, first, second)
+rose_then false true x y z first second = omega (arith, first, second)
+rose_then false false x y z first second = omega (arith, first, second)
 
 -- ---- what is left
 
@@ -108,7 +91,7 @@ told_stays o o' same = record {
   readings =
       subst (λ l. GrowsBy [] o.links.readings l.readings) (sym same)
       (grows_none o.links.readings);
-  faults = λ link. ap (λ l. l.faults link) same;
+  faults = λ link. le_of_eq (ap (λ l. l.faults link) (sym same));
   planned =
       told_as (ChangesThrough PlansAfter []) _ _ (λ x. refl) (ap (λ l. l.planned) same);
   upcoming =
@@ -128,8 +111,10 @@ told_then es fs o o1 o2 first second = record {
       (sym (readings_of-append es fs))
       (grows_then (readings_of es) (readings_of fs) _ _ _ first.readings second.readings);
   faults = λ link.
-      second.faults link ∙ ap (failures_after link fs) (first.faults link)
-      ∙ sym (failures_after-append link es fs (o.links.faults link));
+      subst (λ b. RoseIf b (o.links.faults link) (o2.links.faults link))
+      (sym (has_failure-append link es fs))
+      (rose_then (has_failure link es) (has_failure link fs) _ _ _ (first.faults link)
+      (second.faults link));
   planned =
       becomes_then _ _ _ _ _ _ (through_then PlansAfter es fs) first.planned second.planned;
   upcoming =
@@ -146,8 +131,8 @@ batches_of_commits (b ∷ bs) = ap (λ l. b ∷ l) (batches_of_commits bs)
 told_one : (e : Event) (o o' : Outside)
     → o'.links.heard ≡ option_map (heard_by e) o.links.heard
     → GrowsBy (readings_of (e ∷ [])) o.links.readings o'.links.readings
-    → ((link : ℕ) → o'.links.faults link ≡ failures_after link (e ∷ []) (o.links.faults link))
-    → RelatesTold (PlansAfter e) o.links.planned o'.links.planned
+    → ((link : ℕ) → RoseIf (has_failure link (e ∷ [])) (o.links.faults link)
+    (o'.links.faults link)) → RelatesTold (PlansAfter e) o.links.planned o'.links.planned
     → RelatesTold (UpcomingAfter e) o.links.upcoming o'.links.upcoming
     → TellsEvents (e ∷ []) o o'
 told_one e o o' heard readings faults planned upcoming = record {
@@ -168,8 +153,8 @@ SaysNothing _ = Unit {0}
 told_same : (e : Event) (o o' : Outside) → SaysNothing e
     → o'.links.heard ≡ o.links.heard → o'.links.readings ≡ o.links.readings
     → o'.links.planned ≡ o.links.planned → o'.links.upcoming ≡ o.links.upcoming
-    → ((link : ℕ) → o'.links.faults link ≡ failures_after link (e ∷ []) (o.links.faults link))
-    → TellsEvents (e ∷ []) o o'
+    → ((link : ℕ) → RoseIf (has_failure link (e ∷ [])) (o.links.faults link)
+    (o'.links.faults link)) → TellsEvents (e ∷ []) o o'
 told_same (Hear link reply) o o' says heard readings planned upcoming faults = absurd says
 told_same (Miss link) o o' says heard readings planned upcoming faults = absurd says
 told_same (Read link now) o o' says heard readings planned upcoming faults = absurd says
@@ -182,7 +167,7 @@ told_same e o o' says heard readings planned upcoming faults =
 -- nothing that is told of
 pub told_pass : (o o' : Outside) → o'.links ≡ o.links → TellsEvents (Pass ∷ []) o o'
 told_pass o o' same =
-    told_then (Pass ∷ []) [] o o o' (told_same Pass o o tt refl refl refl refl (λ link. refl))
+    told_then (Pass ∷ []) [] o o o' (told_same Pass o o tt refl refl refl refl (λ link. omega arith))
     (told_stays o o' same)
 
 -- batches that were committed while the links stayed as they were
@@ -190,38 +175,37 @@ pub told_commits : (bs : List (List Entry)) (o o' : Outside) → o'.links ≡ o.
 told_commits [] o o' same = told_stays o o' same
 told_commits (b ∷ bs) o o' same =
     told_then (Commit b ∷ []) (commits bs) o o o'
-    (told_same (Commit b) o o tt refl refl refl refl (λ link. refl))
+    (told_same (Commit b) o o tt refl refl refl refl (λ link. omega arith))
     (told_commits bs o o' same)
 
--- no call failed
-same_counts : (n link : ℕ) (old new : ℕ → ℕ) → new n ≡ old n → ((i : ℕ) → (i ≡ n → ⊥) → new i ≡ old i) → new link ≡ old link
-same_counts n link old new stays others =
+-- a count of a link that rose where the call of another one failed
+other_faults : (n link : ℕ) (old new : ℕ → ℕ) → old n ≤ new n → ((i : ℕ) → (i ≡ n → ⊥) → new i ≡ old i) → old link ≤ new link
+other_faults n link old new later others =
     elim (cases_eq link n) [
-      | inl same ↦ subst (λ i. new i ≡ old i) (sym same) stays
-      | inr other ↦ others link other
+      | inl same ↦ subst (λ i. old i ≤ new i) (sym same) later
+      | inr other ↦ le_of_eq (sym (others link other))
     ]
 
--- one call failed
-one_count : (n link : ℕ) (old new : ℕ → ℕ) → new n ≡ one_more (old n) → ((i : ℕ) → (i ≡ n → ⊥) → new i ≡ old i)
-    → new link ≡ (if nat_eq n link then one_more (old link) else old link)
-one_count n link old new rose others =
-    elim (nat_eq n link) as (λ b. nat_eq n link ≡ b → new link ≡ (if b then one_more (old link) else old link)) [
-      | true ↦ λ is. subst (λ i. new i ≡ one_more (old i)) (eqb-true n link is) rose
-      | false ↦ λ is. others link (λ same. let yes : nat_eq n link ≡ true = eq-eqb n link (sym same) in cc)
+failed_faults : (n link : ℕ) (old new : ℕ → ℕ) → CountRose (old n) (new n) → old n ≤ new n → ((i : ℕ) → (i ≡ n → ⊥) → new i ≡ old i)
+    → RoseIf (nat_eq n link || false) (old link) (new link)
+failed_faults n link old new rose later others =
+    elim (nat_eq n link) as (λ b. nat_eq n link ≡ b → RoseIf (b || false) (old link) (new link)) [
+      | true ↦ λ is. subst (λ i. CountRose (old i) (new i)) (eqb-true n link is) rose
+      | false ↦ λ is. other_faults n link old new later others
     ] refl
 
 -- a link was asked
 told_reply : (link : ℕ) (given : Heard) (reply : Reply) (buf : List ℕ) (o o' : Outside)
-    → length buf ≡ PIECE_LEN → o'.links.faults link ≡ o.links.faults link → HearsAnswer link given buf o.links o'.links
+    → length buf ≡ PIECE_LEN → HearsAnswer link given buf o.links o'.links
     → o'.links.heard ≡ option_map (changed_at link (hear_reply (length buf) reply)) o.links.heard
     → ((x y : ℕ → List Planned) → AnswersAsPlanned link given buf x y
     → UsesPlan link (length buf) (Some reply) x y) → TellsEvents (Hear link reply ∷ []) o o'
-told_reply link given reply buf o o' whole stays hears heard uses =
+told_reply link given reply buf o o' whole hears heard uses =
     told_one (Hear link reply) o o'
     (heard
     ∙ ap (λ room. option_map (changed_at link (hear_reply room reply)) o.links.heard) whole)
     (subst (GrowsBy [] o.links.readings) (sym hears.same_readings) (grows_none o.links.readings))
-    (λ i. same_counts link i o.links.faults o'.links.faults stays hears.others)
+    (λ i. other_faults link i o.links.faults o'.links.faults hears.later hears.others)
     (becomes_map (AnswersAsPlanned link given buf) _ _ _
     (λ x y used. subst (λ room. UsesPlan link room (Some reply) x y) whole (uses x y used))
     hears.planned)
@@ -231,16 +215,16 @@ pub told_asked : (link : ℕ) (given : Heard) (buf : List ℕ) (o o' : Outside) 
     → HearsAnswer link given buf o.links o'.links → IsAnswerCaused given (length buf) (o.links.faults link) (o'.links.faults link)
     → TellsEvents (asked_event link given buf ∷ []) o o'
 told_asked link (answer.Got n) buf o o' whole hears caused =
-    told_reply link (answer.Got n) (got (take n buf)) buf o o' whole caused.2 hears hears.heard
-    (λ x y used. used)
+    told_reply link (answer.Got n) (got (take n buf)) buf o o' whole hears hears.heard (λ x y used.
+    used)
 told_asked link answer.Idle buf o o' whole hears caused =
-    told_reply link answer.Idle idle buf o o' whole caused hears hears.heard (λ x y used. used)
+    told_reply link answer.Idle idle buf o o' whole hears hears.heard (λ x y used. used)
 told_asked link answer.End buf o o' whole hears caused =
-    told_reply link answer.End ended buf o o' whole caused hears hears.heard (λ x y used. used)
+    told_reply link answer.End ended buf o o' whole hears hears.heard (λ x y used. used)
 told_asked link answer.Failed buf o o' whole hears caused =
     told_one (Miss link) o o' hears.heard
     (subst (GrowsBy [] o.links.readings) (sym hears.same_readings) (grows_none o.links.readings))
-    (λ i. one_count link i o.links.faults o'.links.faults caused hears.others)
+    (λ i. failed_faults link i o.links.faults o'.links.faults caused hears.later hears.others)
     (becomes_map (AnswersAsPlanned link answer.Failed buf) _ _ _
     (λ x y uses. subst (λ room. UsesPlan link room None x y ⊎ (y ≡ x)) whole uses) hears.planned)
     (told_as (UpcomingAfter (Miss link)) _ _ (λ x. refl) hears.same_upcoming)
@@ -256,7 +240,7 @@ told_read link now o o' reads =
     told_one (Read link now) o o'
     (reads.same_heard ∙ option_map_same (heard_after []) (λ heard. refl) o.links.heard)
     (grows_one now o.links.readings o'.links.readings reads.readings)
-    (λ i. ap (λ f. f i) reads.same_faults)
+    (λ i. le_of_eq (ap (λ f. f i) (sym reads.same_faults)))
     (told_as (PlansAfter (Read link now)) _ _ (λ x. refl) reads.same_planned) reads.upcoming
 
 -- all bytes were sent
@@ -264,7 +248,7 @@ pub told_sent : (link : ℕ) (bytes : List ℕ) (o o' : Outside) → SendsOnLink
 told_sent link bytes o o' sends =
     told_same Pass o o' tt sends.same_heard sends.same_readings sends.same_planned
     sends.same_upcoming (λ i.
-    same_counts link i o.links.faults o'.links.faults sends.faults.counts sends.faults.others)
+    other_faults link i o.links.faults o'.links.faults sends.faults.later sends.faults.others)
 
 -- a send failed
 pub told_broken : (link : ℕ) (bytes : List ℕ) (why : Failed) (o o' : Outside) → SendsOnLink link bytes (Err why) o.links o'.links
@@ -272,4 +256,5 @@ pub told_broken : (link : ℕ) (bytes : List ℕ) (why : Failed) (o o' : Outside
 told_broken link bytes why o o' sends =
     told_same (Break link) o o' tt sends.same_heard sends.same_readings sends.same_planned
     sends.same_upcoming (λ i.
-    one_count link i o.links.faults o'.links.faults sends.faults.counts sends.faults.others)
+    failed_faults link i o.links.faults o'.links.faults sends.faults.failed sends.faults.later
+    sends.faults.others)

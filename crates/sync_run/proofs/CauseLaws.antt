@@ -17,9 +17,7 @@ use Rattle.sync_words.specs.declared.link_words.LinkWords.{LinkWords}
 use Rattle.sync_words.specs.declared.outcome.Outcome.{Outcome}
 use Rattle.sync_words.specs.declared.outcome.Outcome.TheVariants as outcome
 use Rattle.sync_run.specs.Causes.{FailuresRose, IsCaused, RunCaused}
-use Rattle.sync_run.specs.Dialling.{FailsOnce, NoneFails}
 use Rattle.sync_run.specs.Parts.{closed_by}
-use Rattle.sync_run.proofs.DialLaws.{once_behind}
 
 pub rose_before : (a b c : ℕ) → a ≤ b → CountRose b c → CountRose a c
 rose_before a b c before rose = let r : one_more b ≤ c = rose in omega (arith, before, r)
@@ -74,12 +72,12 @@ ends_rose over links links' ends o o' none are causes i stands at failed =
 -- calls before and behind what was caused so
 module _ (words words' : List LinkWords) (o o1 o2 o3 : Outside)
     (more : length words ≤ length words')
-    (links : NoneFails o.links o1.links) (disk : o.disk_faults ≤ o1.disk_faults)
+    (links : (i : ℕ) → o.links.faults i ≤ o1.links.faults i) (disk : o.disk_faults ≤ o1.disk_faults)
     (same_links : o3.links ≡ o2.links) (same_faults : o3.disk_faults ≡ o2.disk_faults) where
   rose_on : (i : ℕ) → CountRose (o1.links.faults i) (o2.links.faults i)
       → CountRose (o.links.faults i) (o3.links.faults i)
   rose_on i rose =
-      rose_before _ _ _ (omega (arith, links i))
+      rose_before _ _ _ (links i)
       (subst (λ (l : Links). CountRose (o1.links.faults i) (l.faults i)) (sym same_links) rose)
 
   pub caused_amid : (r : Result Closing Outcome) → IsCaused words o1 o2 r → IsCaused words' o o3 r
@@ -87,11 +85,7 @@ module _ (words words' : List LinkWords) (o o1 o2 o3 : Outside)
   caused_amid (Err outcome.DiskFault) caused =
       rose_before _ _ _ disk (subst (CountRose o1.disk_faults) (sym same_faults) caused)
   caused_amid (Err (outcome.LinkFailed link)) caused =
-      (
-        omega (arith, caused.0, more),
-        subst (FailsOnce link o.links) (sym same_links)
-            (once_behind link o.links o1.links o2.links links caused.1),
-      )
+      (omega (arith, caused.0, more), rose_on link caused.1)
   caused_amid (Err outcome.NoStore) caused = tt
   caused_amid (Err (outcome.Damaged place)) caused = tt
   caused_amid (Err (outcome.Refused refused.UnknownContact)) caused = tt
@@ -106,7 +100,7 @@ pub caused_behind : (words : List LinkWords) (o o1 o2 o3 : Outside) → DiskRun 
     → IsCaused words o1 o2 r → IsCaused words o o3 r
 caused_behind words o o1 o2 o3 run same_links same_faults =
     caused_amid words words o o1 o2 o3 (omega arith)
-    (λ i. ap (λ (l : Links). l.faults i) run.same_links) run.later same_links
+    (λ i. omega (arith, ap (λ (l : Links). l.faults i) run.same_links)) run.later same_links
     same_faults
 
 -- settling itself was broken off

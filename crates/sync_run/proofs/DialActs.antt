@@ -5,6 +5,7 @@ use Rattle.std.proofs.Common.{Option, None, Some, is_some, Result, Ok, Err}
 use Rattle.std.specs.Option.{option_map}
 use Rattle.std.proofs.lemmas.List.{nil_from_length}
 use Rattle.outside.specs.declared.failed.Failed.{Failed}
+use Rattle.outside.specs.Faults.{one_more}
 use Rattle.outside.specs.Links.{HeardOn}
 use Rattle.outside.specs.Outside.{Outside}
 use Rattle.outside.proofs.RunLaws.{grow_then, told_after}
@@ -15,7 +16,7 @@ use Rattle.sync_rules.specs.Clients.{Meaning}
 use Rattle.sync_rules.specs.Facts.{Journal, facts}
 use Rattle.sync_store.specs.Store.{StoreValue}
 use Rattle.sync_course.specs.Acts.{AtFront, batches_in, events_of}
-use Rattle.sync_course.specs.Events.{Event, GrowsBy, TellsEvents, failures_after, heard_after}
+use Rattle.sync_course.specs.Events.{Event, GrowsBy, RoseIf, TellsEvents, has_failure, heard_after}
 use Rattle.sync_course.specs.Events.{readings_of}
 use Rattle.sync_course.specs.Owing.{paid}
 use Rattle.sync_course.specs.Turns.{Place, Terms, first_place}
@@ -33,9 +34,8 @@ use Rattle.sync_words.specs.declared.outcome.Outcome.TheVariants as outcome
 use Rattle.sync_words.specs.Links.{has_nonce}
 use Rattle.sync_run.specs.declared.dialling.Dialled.{Dialled}
 use Rattle.sync_run.specs.declared.run.Limits.{Limits}
-use Rattle.sync_run.specs.Courses.{CountsRun, HearsRun, RanSoFar, ReadsShort, RunWasSpent}
-use Rattle.sync_run.specs.Courses.{terms_of}
-use Rattle.sync_run.specs.Dialling.{DialsOnly, DialsAll, MakesLinks, NoneFails, unheard}
+use Rattle.sync_run.specs.Courses.{HearsRun, RanSoFar, RunWasSpent, terms_of}
+use Rattle.sync_run.specs.Dialling.{DialsOnly, DialsAll, MakesLinks, unheard}
 use Rattle.sync_run.specs.Parts.{RanDialled, RanOnLinks, RunDid}
 use Rattle.sync_run.specs.Plans.{ArePlanned, sessions_from}
 use Rattle.sync_run.proofs.DialLaws.{calms_run, makes_then}
@@ -81,6 +81,10 @@ some_planned first (w ∷ words) =
 
 -- ---- what is told
 
+rose_if_before : (b : Bool) (x y z : ℕ) → x ≤ y → RoseIf b y z → RoseIf b x z
+rose_if_before true x y z before rose = let r : one_more y ≤ z = rose in omega (arith, before, r)
+rose_if_before false x y z before rose = let r : y ≤ z = rose in omega (arith, before, r)
+
 -- on links that were made, of which there were none before
 heard_by_run : (es : List Event) (n : ℕ) (o0 o1 o : Option (List HeardOn))
     → ((h : List HeardOn) → o0 ≡ Some h → length h ≡ 0)
@@ -106,13 +110,10 @@ hears_dialled words es o0 o1 o none makes told same =
           o0.links.heard) (sym number);
       readings = subst (λ (r : Option (List ℕ)). GrowsBy (readings_of es) r o.links.readings)
           makes.same_readings told.readings;
+      faults = λ link.
+          rose_if_before (has_failure link es) (o0.links.faults link) (o1.links.faults link)
+          (o.links.faults link) (makes.grows.faults link) (told.faults link);
     }
-
--- no call failed before them
-counts_behind : (es : List Event) (o0 o1 o : Outside) → NoneFails o0.links o1.links
-    → TellsEvents es o1 o → CountsRun es o0.links o.links
-counts_behind es o0 o1 o none told link =
-    told.faults link ∙ ap (failures_after link es) (none link)
 
 -- ---- dials before other acts
 
@@ -198,12 +199,9 @@ module _ (clients : Meaning) (limits : Limits) (words : List LinkWords) (links :
         grows = grow_then o0.links o1.links o.links calms.grows goes.links;
         hears = hears_dialled words (events_of over.did.acts) o0 o1 o none makes over.told
             goes.same_dialled;
-        counts = λ none_undialled.
-            counts_behind (events_of over.did.acts) o0 o1 o dials.all.2 over.told;
         answer =
-            answers_map clients limits terms over.did.to (ReadsShort o.files) (MayMigrate o1.files)
-            (RunWasSpent [] o1 o) ⊥ (MayMigrate o0.files) (RunWasSpent words o0 o)
-            (o.files ≡ o0.files)
+            answers_map clients limits terms over.did.to (MayMigrate o1.files)
+            (RunWasSpent [] o1 o) ⊥ (MayMigrate o0.files) (RunWasSpent words o0 o) (ReadsAs clients o.files j)
             (j ++ batches_in over.did.acts) (j ++ batches_in over.did.acts) refl
             (λ may two told. may two (calms.same_files ∙ told)) (spent_so o makes)
             (λ undialled. absurd undialled) r over.answer;
@@ -225,16 +223,14 @@ module _ (clients : Meaning) (limits : Limits) (words : List LinkWords) (links :
         made = inr refl;
         grows = calms.grows;
         hears = hears_dialled dials.made [] o0 o1 o1 none dials.makes (told_none o1) refl;
-        counts = λ none_undialled. absurd (none_undialled link refl);
-        answer = calms.same_files;
+        answer = calm_reads clients s o0 o1 calms j fit;
       }
 
 -- the run did not begin
 pub unbegun : (clients : Meaning) (limits : Limits) (words made : List LinkWords) (j : Journal)
     (o0 o : Outside) → o0.links.dialled ≡ 0 → MakesLinks made o0.links o.links
-    → NoneFails o0.links o.links → ReadsAs clients o.files j
-    → RanSoFar clients limits words j o0 o
-unbegun clients limits words made j o0 o none makes fine reads =
+    → ReadsAs clients o.files j → RanSoFar clients limits words j o0 o
+unbegun clients limits words made j o0 o none makes reads =
     let some = some_planned (facts j).begun words in
     record {
       sessions = some.0;
@@ -245,6 +241,5 @@ unbegun clients limits words made j o0 o none makes fine reads =
       course = refl;
       all_made = λ begun. absurd (omega (arith, begun));
       hears = hears_dialled made [] o0 o o none makes (told_none o) refl;
-      counts = fine;
       reads = subst (λ (k : Journal). ReadsAs clients o.files k) (sym (append-nil j)) reads;
     }

@@ -6,22 +6,22 @@ use Rattle.std.specs.Bool.{if◌then◌else◌}
 use Rattle.std.specs.Result.{is_ok}
 use Rattle.std.specs.List.{slice_get}
 use Rattle.std.specs.Option.{option_map}
-use Rattle.std.proofs.lemmas.Bool.{cases_eq}
 use Rattle.std.proofs.lemmas.List.{length-append, length-take, map-append, take-append-drop}
 use Rattle.outside.specs.declared.failed.Failed.{Failed}
-use Rattle.outside.specs.Faults.{one_more}
-use Rattle.outside.specs.Host.{AsksNonce, DialsLink, LinkCause}
+use Rattle.outside.specs.Faults.{CountRose}
+use Rattle.outside.specs.Host.{AsksNonce, DialsLink}
 use Rattle.outside.specs.Links.{HeardOn, ToldLink, Links, nothing_heard}
 use Rattle.outside.specs.Outside.{IsNow, Outside, QuietCall}
 use Rattle.outside.proofs.CallCounts.{no_call_none, no_call_then, no_call_goes_on}
 use Rattle.outside.specs.Runs.{HostRun, IsFront, LinksGrow}
 use Rattle.outside.proofs.RunLaws.{grow_dial, grow_nonce, grow_same, grow_then, others_dial, others_nonce}
+use Rattle.sync_run.proofs.CauseLaws.{rose_before}
 use Rattle.sync_node.specs.Output.{sent_on}
 use Rattle.sync_node.specs.Plans.{session_of}
 use Rattle.sync_words.specs.declared.link_words.LinkWords.{LinkWords}
 use Rattle.sync_run.specs.declared.dialling.Dialled.{Dialled}
-use Rattle.sync_run.specs.Dialling.{AreDialled, DialsOnly, DialsAll, FailsOnce, MakesAll, MakesLinks}
-use Rattle.sync_run.specs.Dialling.{MakesOne, NoneFails, PassesTime, fresh_links, unheard}
+use Rattle.sync_run.specs.Dialling.{AreDialled, DialsOnly, DialsAll, MakesAll, MakesLinks, MakesOne}
+use Rattle.sync_run.specs.Dialling.{PassesTime, fresh_links, unheard}
 use Rattle.sync_run.specs.Plans.{ArePlanned, IsPlanned, sessions_from}
 
 -- ---- calls that send nothing
@@ -242,54 +242,31 @@ dialled_push first (v ∷ words) (x ∷ links) w d are there is =
 
 -- ---- a call that failed
 
--- a call on a link that succeeded, and one that failed
-pub none_fails : {T : Type 0} (link : ℕ) (t : T) (a b : Links)
-    → LinkCause {E = Failed} link a.faults b.faults (Ok t) → NoneFails a b
-none_fails link t a b cause i = elim (cases_eq i link) [
-  | inl here ↦ subst (λ (k : ℕ). b.faults k ≡ a.faults k) (sym here) cause.counts
-  | inr other ↦ cause.others i other
-]
-
-pub fails_once : {T : Type 0} (link : ℕ) (e : Failed) (a b : Links)
-    → LinkCause {T = T} link a.faults b.faults (Err e) → FailsOnce link a b
-fails_once link e a b cause = record { once = cause.counts; others = cause.others }
-
-pub none_then : (a b c : Links) → NoneFails a b → NoneFails b c → NoneFails a c
-none_then a b c first second i = second i ∙ first i
-
-pub once_behind : (link : ℕ) (a b c : Links) → NoneFails a b → FailsOnce link b c
-    → FailsOnce link a c
-once_behind link a b c none once = record {
-  once = once.once ∙ ap one_more (none link);
-  others = λ i other. once.others i other ∙ none i;
-}
-
 -- a nonce that could not be drawn for the link that was dialled
-pub once_asked : (spec : List ℕ) (link : ℕ) (e : Failed) (a b c d : Links)
-    → DialsLink spec (Ok link) a b → AsksNonce link (Err e) b c → d ≡ c → FailsOnce a.dialled a d
-once_asked spec link e a b c d dials asks same =
-    subst (FailsOnce a.dialled a) (sym same)
-    (once_behind a.dialled a b c (none_fails a.dialled link a b dials.faults)
-    (subst (λ (k : ℕ). FailsOnce k b c) dials.made.0 (fails_once link e b c asks.faults)))
+pub rose_then : (spec : List ℕ) (link : ℕ) (e : Failed) (a b c d : Links)
+    → DialsLink spec (Ok link) a b → AsksNonce link (Err e) b c → d ≡ c
+    → CountRose (a.faults a.dialled) (d.faults a.dialled)
+rose_then spec link e a b c d dials asks same =
+    let rose : CountRose (b.faults a.dialled) (c.faults a.dialled) =
+    subst (λ (k : ℕ). CountRose (b.faults k) (c.faults k)) dials.made.0 asks.faults.failed in
+    subst (λ (l : Links). CountRose (a.faults a.dialled) (l.faults a.dialled)) (sym same)
+    (rose_before _ _ _ ((grow_dial spec (Ok link) a b dials).faults a.dialled) rose)
 
 -- the call on the link of this number failed
 pub dial_stops : (words : List LinkWords) (links : List Dialled) (i : ℕ) (w : LinkWords)
     (e : Failed) (o0 o1 o2 : Outside) → o0.links.dialled ≡ 0 → length links ≡ i
     → slice_get words i ≡ Some w → i < length words → AreDialled words links
-    → MakesLinks (take i words) o0.links o1.links → NoneFails o0.links o1.links
+    → MakesLinks (take i words) o0.links o1.links
     → MakesOne {T = Unit {0}} w (Err e) o1.links o2.links → DialsAll words links (Err e) o0 o2
-dial_stops words links i w e o0 o1 o2 none long there within are makes fine one =
+dial_stops words links i w e o0 o1 o2 none long there within are makes one =
     let len : (n : ℕ) → n ≤ length words → length (take n words) ≡ n =
     λ n most. omega (arith, length-take n words, most) in
     let at : o1.links.dialled ≡ length links =
     omega (arith, makes.dialled, none, len i (omega (arith, within)), long) in
-    let once : FailsOnce (length links) o1.links o2.links =
-    subst (λ (k : ℕ). FailsOnce k o1.links o2.links) at one.0 in
+    let rose1 : CountRose (o1.links.faults (length links)) (o2.links.faults (length links)) =
+    subst (λ (k : ℕ). CountRose (o1.links.faults k) (o2.links.faults k)) at one.0 in
     let all : MakesAll words [] (length links) (Err e) o0.links o2.links =
-    (
-      omega (arith, within, long),
-      once_behind (length links) o0.links o1.links o2.links fine once,
-    ) in
+    (omega (arith, within, long), rose_before _ _ _ (makes.grows.faults (length links)) rose1) in
     elim one.1 [
       | inl none_made ↦ record {
         made = take i words ++ [];

@@ -1,5 +1,5 @@
 -- What a run comes to and leaves that ends before its first session, by the calls that it made.
-use Rattle.std.proofs.Common.{Bool, Err, List, None, Ok, Option, Result, Some, [], ap, append-nil, arith}
+use Rattle.std.proofs.Common.{Bool, Err, List, None, Ok, Option, Result, Some, [], ap, append-nil}
 use Rattle.std.proofs.Common.{false, inl, refl, subst, sym, true, ℕ, ◌++◌, ◌+◌, ◌∙◌, ◌≡◌}
 use Rattle.std.specs.Prelude.{IsErrAnd, if◌then◌else◌, length, nat_lt}
 use Rattle.outside.proofs.CallSteps.{becomes_told, moments_map}
@@ -30,8 +30,7 @@ use Rattle.sync_run.proofs.RunActs.{passed}
 use Rattle.sync_run.proofs.TellLaws.{nothing_sent, reads_told, silent_by}
 use Rattle.sync_run.proofs.WordLaws.{specs_disk}
 use Rattle.sync_run.specs.Causes.{IsCaused, IsOfRun}
-use Rattle.sync_run.specs.Courses.{RanShort, RanSoFar, RunComesTo, TestsWords, is_unknown}
-use Rattle.sync_run.specs.Courses.{run_test}
+use Rattle.sync_run.specs.Courses.{RanSoFar, RunComesTo, TestsWords, is_unknown, run_test}
 use Rattle.sync_run.specs.Headline.{Headline, IsUntouched, LeavesFilesAtRest}
 use Rattle.sync_run.specs.Leaving.{LeavesLinks, MakesFront}
 use Rattle.sync_run.specs.Ran.{HasRun, RanTold}
@@ -97,23 +96,14 @@ module _ (clients : Meaning) (limits : Limits) (words : List LinkWords) (two : T
   pub broken_early : (begin : Journal) → stood ≡ journal begin
       → RanSoFar clients limits words begin o o'
   broken_early begin began =
-      unbegun clients limits words [] begin o o' none (no_links_made o o' same)
-      (λ link. ap (λ (l : Links). l.faults link) same) (still begin began)
-
-  -- for want of memory
-  pub starved_early : (begin : Journal) → stood ≡ journal begin
-      → RanShort clients limits words begin o o'
-  starved_early begin began = record {
-    run = broken_early begin began;
-    short = λ begun. absurd (omega (arith, begun));
-  }
+      unbegun clients limits words [] begin o o' none (no_links_made o o' same) (still begin began)
 
   pub load_comes : (came : Outcome) → LoadedBy o o' (Err came) → IsLoaded stood (Err came)
       → RunComesTo clients limits words stood o o' (Err came)
   load_comes outcome.NoStore by loaded = loaded
   load_comes (outcome.Damaged place) by loaded = loaded
   load_comes outcome.DiskFault by loaded = broken_early
-  load_comes outcome.Memory by loaded = starved_early
+  load_comes outcome.Memory by loaded = broken_early
   load_comes _ by loaded = absurd by
 
   pub refused_comes : (s : StoreValue) → HasFacts stood s → (why : Refused)

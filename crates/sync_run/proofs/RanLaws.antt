@@ -1,6 +1,6 @@
 -- What a run leaves, whatever it came to, by the acts of its node: the headline, what was sent, and
 -- its course.
-use Rattle.std.proofs.Common.{◌≡◌, ◌≢◌, ◌⊎◌, ℕ, ◌+◌, ◌<◌, ◌≤◌, Bool, true, false, List, []}
+use Rattle.std.proofs.Common.{◌≡◌, ◌⊎◌, ℕ, ◌+◌, ◌<◌, ◌≤◌, Bool, true, false, List, []}
 use Rattle.std.proofs.Common.{◌∷◌, ◌++◌, append-nil, length, refl, sym, ◌∙◌, ap, subst, arith}
 use Rattle.std.proofs.Common.{inl, inr, Option, None, Some, is_some, Result, Ok, Err}
 use Rattle.std.specs.Prelude.{IfOk, slice_get}
@@ -9,7 +9,6 @@ use Rattle.std.proofs.lemmas.Bool.{cases_Bool}
 use Rattle.std.proofs.lemmas.Option.{slice_get-map}
 use Rattle.outside.specs.declared.limits.TheConstants.{MAX_JOURNAL}
 use Rattle.outside.specs.Disk.{RelatesTold}
-use Rattle.outside.specs.Faults.{CountRose}
 use Rattle.outside.proofs.CallSteps.{becomes_told}
 use Rattle.outside.specs.Files.{File, ReadsSame, Two, read_files}
 use Rattle.outside.specs.Links.{HeardOn, Links, sent_of}
@@ -32,7 +31,7 @@ use Rattle.store_commands.specs.Stopping.{StoodFor}
 use Rattle.sync_course.specs.Acts.{Act, AtFront, Does, batches_in, commit_acts, events_of}
 use Rattle.sync_course.specs.Acts.{next_bytes, sends_on}
 use Rattle.sync_course.specs.Closing.{Closing}
-use Rattle.sync_course.specs.Events.{Commit, Event, GrowsBy, batches_of, has_failure}
+use Rattle.sync_course.specs.Events.{Commit, Event, GrowsBy, RoseIf, batches_of, has_failure}
 use Rattle.sync_course.specs.Free.{Free, FreeStep, first_free, forget, owing_free}
 use Rattle.sync_course.specs.Links as course_links
 use Rattle.sync_course.specs.Owing.{ActStep, Owing, paid}
@@ -48,7 +47,6 @@ use Rattle.sync_course.proofs.FailLaws.{FailsJust, path_fails}
 use Rattle.sync_course.proofs.FreeLaws.{run_acts_are_free}
 use Rattle.sync_course.proofs.PathLaws.{path_then}
 use Rattle.sync_course.proofs.SendLaws.{events_path}
-use Rattle.sync_course.proofs.ToldLaws.{failed_rose}
 use Rattle.sync_node.specs.Courses.{FitsWith, ReadsAs}
 use Rattle.sync_node.specs.OnRuns.{RunActs}
 use Rattle.sync_node.specs.Output.{heard_on, output, sent_on}
@@ -57,9 +55,8 @@ use Rattle.sync_words.specs.declared.link_words.LinkWords.{LinkWords}
 use Rattle.sync_words.specs.declared.outcome.Outcome.{Outcome}
 use Rattle.sync_words.specs.declared.outcome.Outcome.TheVariants as outcome
 use Rattle.sync_run.specs.declared.run.Limits.{Limits}
-use Rattle.sync_run.specs.Courses.{CountsRun, HearsRun, OfJournal, RanShort, RanSoFar}
-use Rattle.sync_run.specs.Courses.{RanToEnd, ReadsShort, RunComesTo, RunWasSpent, WasFull}
-use Rattle.sync_run.specs.Courses.{WasOver, run_test, terms_of}
+use Rattle.sync_run.specs.Courses.{HearsRun, OfJournal, RanSoFar, RanToEnd, RunComesTo}
+use Rattle.sync_run.specs.Courses.{RunWasSpent, WasFull, WasOver, run_test, terms_of}
 use Rattle.sync_run.specs.Dialling.{MakesLinks, PassesTime, unheard}
 use Rattle.sync_run.specs.Headline.{AllSentWhenFull, IsUntouched, LeavesFilesAtRest, RunLeaves}
 use Rattle.sync_run.specs.Headline.{SentWhole, StandsForRun, sent_at_moment}
@@ -180,16 +177,10 @@ module _ (clients : Meaning) (limits : Limits) (words : List LinkWords) (s : Sto
         readings =
             subst (λ (l : List ℕ). GrowsBy l o1.links.readings o2.links.readings)
             (sym way.thins.readings) ran.hears.readings;
+        faults = λ link.
+            subst (λ (b : Bool). RoseIf b (o1.links.faults link) (o2.links.faults link))
+            (sym (way.thins.failures link)) (ran.hears.faults link);
       })
-
-  -- but where a dial failed
-  abbrev NotUndialled : Type 0
-  NotUndialled = (link : ℕ) → r ≢ Err (outcome.LinkFailed link)
-
-  counts : NotUndialled → CountsRun way.events o0.links o3.links
-  counts dialled =
-      same_links (CountsRun way.events) (λ link.
-      ran.counts dialled link ∙ sym (way.thins.counts link (o1.links.faults link)))
 
   -- nothing was done, or all links were made
   nothing_done : ran.did.acts ≡ [] → ran.did.to ≡ paid start
@@ -406,14 +397,11 @@ module _ (clients : Meaning) (limits : Limits) (words : List LinkWords) (s : Sto
       (one_journal now whole (sym (reads_end told) ∙ ends))
 
   abbrev answer_as : (x : Result Closing Outcome) → r ≡ x
-      → AnswersAt clients limits terms ran.did.to now (ReadsShort o2.files) (MayMigrate o1.files)
-      (RunWasSpent words o1 o2) (o2.files ≡ o1.files) x
+      → AnswersAt clients limits terms ran.did.to now (MayMigrate o1.files)
+      (RunWasSpent words o1 o2) (ReadsAs clients o2.files loaded.of) x
   answer_as x is =
-      subst (AnswersAt clients limits terms ran.did.to now (ReadsShort o2.files)
-      (MayMigrate o1.files) (RunWasSpent words o1 o2) (o2.files ≡ o1.files)) is ran.answer
-
-  short_as : ReadsShort o2.files → ReadsShort o3.files
-  short_as = subst ReadsShort (sym stills.same_files)
+      subst (AnswersAt clients limits terms ran.did.to now (MayMigrate o1.files)
+      (RunWasSpent words o1 o2) (ReadsAs clients o2.files loaded.of)) is ran.answer
 
   -- what was told of the files after the load
   told_loaded : (old : Two File) → o0.files ≡ Some old
@@ -433,8 +421,8 @@ module _ (clients : Meaning) (limits : Limits) (words : List LinkWords) (s : Sto
 
   -- ---- its course
 
-  abbrev was : NotUndialled → RanSoFar clients limits words loaded.of o0 o3
-  was dialled = record {
+  abbrev was : RanSoFar clients limits words loaded.of o0 o3
+  was = record {
     sessions = ran.sessions;
     planned = ran.planned;
     all_planned = ran.all_planned;
@@ -445,7 +433,6 @@ module _ (clients : Meaning) (limits : Limits) (words : List LinkWords) (s : Sto
         all_made (λ none.
         absurd (omega (arith, begun, ap (λ (x : Owing Place). x.at.facts.begun) none)));
     hears = hears;
-    counts = counts dialled;
     reads =
         subst (λ (bs : Journal). ReadsAs clients o3.files (loaded.of ++ bs)) (sym way.thins.batches)
         (ran.did.reads.0, stills.same_files ∙ ran.did.reads.1, ran.did.reads.2);
@@ -491,12 +478,12 @@ module _ (clients : Meaning) (limits : Limits) (words : List LinkWords) (s : Sto
     sent_full is told begin final began at_end i begun = elim (answer_as (Err outcome.Full) is) [
       | inl fills ↦ elim (cases_Bool (has_failure i (events_of ran.did.acts))) [
         | inl failed ↦
-            inl (subst (CountRose (o0.links.faults i))
-            (sym (counts (λ link same. cc) i))
-            (failed_rose i way.events (o0.links.faults i) (way.thins.failures i ∙ failed)))
+            inl (subst (λ (b : Bool). RoseIf b (o0.links.faults i) (o3.links.faults i))
+            (way.thins.failures i ∙ failed)
+            (hears.faults i))
         | inr well ↦
             inr (sent_as told begin final began at_end i
-            (well_sent told (filled_sent fills.0) i well))
+            (well_sent told (filled_sent fills) i well))
       ]
       -- where nothing was done no session began
       | inr spent ↦
@@ -515,7 +502,7 @@ module _ (clients : Meaning) (limits : Limits) (words : List LinkWords) (s : Sto
         let course : Course clients terms ran.sessions (facts loaded.of) way.events ran.did.to.at =
         record { numbered = refl; path = way.path; at_end = answer.0.at_end } in
         record {
-          run = was (λ link same. cc);
+          run = was;
           at_end = answer.0.at_end;
           all_made =
               all_made (λ none.
@@ -532,13 +519,11 @@ module _ (clients : Meaning) (limits : Limits) (words : List LinkWords) (s : Sto
           next = λ old told spent.
               let at = told_loaded old told in
               answer.1 at.0 at.1 (subst HasLastGeneration (sym at.2) spent);
-          short = short_as answer.2;
         }
 
-    over : NotUndialled → FillsAt clients terms ran.did.to now → ReadsShort o2.files
-        → WasOver clients limits words loaded.of o0 o3
-    over dialled fills short = record {
-      run = was dialled;
+    over : FillsAt clients terms ran.did.to now → WasOver clients limits words loaded.of o0 o3
+    over fills = record {
+      run = was;
       batch = fills.batch;
       next = fills.next.at;
       steps = fills.steps.1;
@@ -552,7 +537,6 @@ module _ (clients : Meaning) (limits : Limits) (words : List LinkWords) (s : Sto
           let same : l ≡ failed.link = cc in
           unfailed (ap (λ (x : course_links.Link). x.stands) same ∙ failed.failed))
           ∙ ap (λ (bs : Journal). output (loaded.of ++ bs) (first + i)) (sym way.thins.batches);
-      short = short_as short;
     }
 
     tested : run_test (facts loaded.of) words ≡ None
@@ -561,36 +545,24 @@ module _ (clients : Meaning) (limits : Limits) (words : List LinkWords) (s : Sto
     of_journal : (P : Journal → Type 0) → P loaded.of → OfJournal words stood None P
     of_journal P has = record { before = loaded.of; stood = loaded.stood; has = (tested, has) }
 
-    broken : NotUndialled → (begin : Journal) → stood ≡ journal begin
-        → RanSoFar clients limits words begin o0 o3
-    broken dialled begin began =
-        subst (λ (j : Journal). RanSoFar clients limits words j o0 o3) (same_begin begin began)
-        (was dialled)
-
-    starved : r ≡ Err outcome.Memory → (begin : Journal) → stood ≡ journal begin
-        → RanShort clients limits words begin o0 o3
-    starved is begin began =
-        subst (λ (j : Journal). RanShort clients limits words j o0 o3) (same_begin begin began)
-        (record {
-          run = was (λ link same. cc);
-          short = λ begun. short_as (answer_as (Err outcome.Memory) is begun);
-        })
+    broken : (begin : Journal) → stood ≡ journal begin → RanSoFar clients limits words begin o0 o3
+    broken begin began =
+        subst (λ (j : Journal). RanSoFar clients limits words j o0 o3) (same_begin begin began) was
 
     comes : (x : Result Closing Outcome) → r ≡ x → RunComesTo clients limits words stood o0 o3 x
     comes (Ok ends) is =
         of_journal (λ j. RanToEnd clients limits words j o0 o3 ends) (ended ends is)
     comes (Err (outcome.LinkFailed link)) is =
-        let same = answer_as (Err (outcome.LinkFailed link)) is in
-        of_journal (λ j. RelatesTold ReadsSame o0.files o3.files)
-        (subst (RelatesTold ReadsSame o0.files) (sym (stills.same_files ∙ same)) reads)
+        let files = answer_as (Err (outcome.LinkFailed link)) is in
+        of_journal (ReadsAs clients o3.files) (files.0, stills.same_files ∙ files.1, files.2)
     comes (Err outcome.Full) is =
         of_journal (λ j. WasFull clients limits words j o0 o3)
         (elim (answer_as (Err outcome.Full) is) [
-          | inl fills ↦ inl (over (λ link same. cc) fills.0 fills.1)
+          | inl fills ↦ inl (over fills)
           | inr spent ↦ inr (spent_as spent)
         ])
-    comes (Err outcome.Memory) is = starved is
-    comes (Err outcome.DiskFault) is = broken (λ link same. cc)
+    comes (Err outcome.Memory) is = broken
+    comes (Err outcome.DiskFault) is = broken
     comes (Err e) is = absurd (answer_as (Err e) is)
 
     pub ran_told : LeavesFilesAtRest o2.files r → RanTold clients limits words two o0 o3 r

@@ -6,8 +6,7 @@ use Rattle.std.specs.Prelude.{slice_get}
 use Rattle.std.specs.List.{list_any}
 use Rattle.std.specs.Option.{option_map}
 use Rattle.outside.specs.declared.limits.TheConstants.{MAX_JOURNAL}
-use Rattle.outside.specs.Disk.{RelatesTold}
-use Rattle.outside.specs.Files.{Two, File, read_files, ReadsSame}
+use Rattle.outside.specs.Files.{Two, File, read_files}
 use Rattle.outside.specs.Links.{HeardOn, Links, ToldLink}
 use Rattle.outside.specs.Outside.{Outside}
 use Rattle.outside.specs.Runs.{IsFront, TellsAll}
@@ -18,10 +17,9 @@ use Rattle.sync_rules.specs.declared.states.Refused.{Refused}
 use Rattle.sync_rules.specs.declared.states.Refused.TheVariants as refused
 use Rattle.sync_rules.specs.Clients.{Meaning}
 use Rattle.sync_rules.specs.Facts.{Facts, Journal, facts}
-use Rattle.entry_codec.specs.declared.naming.Format.TheVariants as kind
 use Rattle.entry_codec.specs.Standing.{Standing, damaged, journal, no_store}
 use Rattle.sync_course.specs.Closing.{Closing, closing}
-use Rattle.sync_course.specs.Events.{Commit, Event, GrowsBy, batches_of, failures_after}
+use Rattle.sync_course.specs.Events.{Commit, Event, GrowsBy, RoseIf, batches_of, has_failure}
 use Rattle.sync_course.specs.Events.{heard_after, readings_of}
 use Rattle.sync_course.specs.Links as course_links
 use Rattle.sync_course.specs.Quiet.{EndsQuiet}
@@ -30,7 +28,7 @@ use Rattle.sync_course.specs.Turns.{Ended, Place, RunStep, Terms, first_place, i
 use Rattle.sync_node.specs.Courses.{ReadsAs}
 use Rattle.sync_course.specs.declared.ends.LinkEnd.TheVariants as end
 use Rattle.sync_node.specs.Output.{output, sent_on}
-use Rattle.store_commands.specs.Commit.{HasLastGeneration, IsInFormat, MayMigrate, needed_by}
+use Rattle.store_commands.specs.Commit.{HasLastGeneration, MayMigrate, needed_by}
 use Rattle.store_commands.specs.Show.{FilesReadSame}
 use Rattle.store_commands.specs.Stopping.{StoodFor}
 use Rattle.sync_words.specs.declared.link_words.LinkWords.{LinkWords}
@@ -50,20 +48,13 @@ abbrev pub terms_of : Limits → Journal → Terms
 terms_of limits begin = terms_at limits (facts begin).begun
 
 -- From a host on which no link was made: what the links heard and what the clock gave is what the
--- events say, wherever it is told.
+-- events say, wherever it is told; and the count of a link's failures rose where an event says that
+-- a call of it failed.
 pub record HearsRun (events : List Event) (old new : Links) : Type 0 where
   pub heard : new.heard
       ≡ option_map (λ (h : List HeardOn). heard_after events (unheard new.dialled)) old.heard
   pub readings : GrowsBy (readings_of events) old.readings new.readings
-
--- a call on a link failed just for each event that says so
-abbrev pub CountsRun : List Event → (old new : Links) → Type 0
-CountsRun events old new =
-    (link : ℕ) → new.faults link ≡ failures_after link events (old.faults link)
-
--- where files are told, the file of the journal is in format 2
-abbrev pub ReadsShort : Option (Two File) → Type 0
-ReadsShort files = (two : Two File) → files ≡ Some two → IsInFormat kind.Short (read_files two)
+  pub faults : (link : ℕ) → RoseIf (has_failure link events) (old.faults link) (new.faults link)
 
 -- the links that were made have the first specs of the words, in order
 abbrev pub HaveSpecs : List LinkWords → Outside → Type 0
@@ -83,19 +74,11 @@ pub record RanSoFar (clients : Meaning) (limits : Limits) (words : List LinkWord
       events last
   pub all_made : (facts begin).begun < last.facts.begun → new.links.dialled ≡ length words
   pub hears : HearsRun events old.links new.links
-  pub counts : CountsRun events old.links new.links
   pub reads : ReadsAs clients new.files (begin ++ batches_of events)
-
--- Memory was wanting. Where a session had begun, the journal is in format 2.
-pub record RanShort (clients : Meaning) (limits : Limits) (words : List LinkWords)
-    (begin : Journal) (old new : Outside) : Type 0 where
-  pub run : RanSoFar clients limits words begin old new
-  pub short : (facts begin).begun < run.last.facts.begun → ReadsShort new.files
 
 -- The run came to its end, and closes so. Each link was made, and stands by what was heard on it.
 -- Where the run was over nothing is due on a link that is not closed, and what was heard was taken.
--- It began with a journal in format 2, or with one for which a generation was left, and leaves one
--- in format 2.
+-- It began with a journal in format 2, or with one for which a generation was left.
 pub record RanToEnd (clients : Meaning) (limits : Limits) (words : List LinkWords)
     (begin : Journal) (old new : Outside) (ends : Closing) : Type 0 where
   pub run : RanSoFar clients limits words begin old new
@@ -107,11 +90,10 @@ pub record RanToEnd (clients : Meaning) (limits : Limits) (words : List LinkWord
   pub quiet : is_over limits.quiet run.last ≡ true
       → EndsQuiet clients (terms_of limits begin) run.events run.last
   pub next : MayMigrate old.files
-  pub short : ReadsShort new.files
 
 -- There was no room: from its last place the next step of the course commits a batch with which the
--- journal, the batch's frame and the room for settling pass the greatest length of a journal; a link
--- that has not failed there has sent the whole; and the journal is in format 2.
+-- journal, the batch's frame and the room for settling pass the greatest length of a journal; and a
+-- link that has not failed there has sent the whole.
 pub record WasOver (clients : Meaning) (limits : Limits) (words : List LinkWords)
     (begin : Journal) (old new : Outside) : Type 0 where
   pub run : RanSoFar clients limits words begin old new
@@ -122,7 +104,6 @@ pub record WasOver (clients : Meaning) (limits : Limits) (words : List LinkWords
   pub sent : TellsAll new → (i : ℕ) (l : course_links.Link) → slice_get run.last.links i ≡ Some l
       → l.stands ≢ end.Failed
       → sent_on new.links i ≡ output (begin ++ batches_of run.events) ((facts begin).begun + i)
-  pub short : ReadsShort new.files
 
 -- No generation was left for a journal in format 2: the files read as before. All links were made,
 -- and nothing was sent or heard on them.
@@ -167,7 +148,7 @@ OfJournal words standing fails P =
 
 -- What the command comes to, by what the files stood for; what is said of journals, answers and
 -- readings is said where the files were told. A run that ends before its first session leaves the
--- files as they read: so does a dial that failed.
+-- files as they read.
 abbrev pub RunComesTo : Meaning → Limits → List LinkWords → Standing → (old new : Outside)
     → Result Closing Outcome → Type 0
 RunComesTo clients limits words stood old new (Ok ends) =
@@ -178,11 +159,11 @@ RunComesTo clients limits words stood old new (Err (outcome.Damaged place)) =
 RunComesTo clients limits words stood old new (Err (outcome.Refused why)) =
     OfJournal words stood (Some why) (ReadsAs clients new.files)
 RunComesTo clients limits words stood old new (Err (outcome.LinkFailed link)) =
-    OfJournal words stood None (λ begin. RelatesTold ReadsSame old.files new.files)
+    OfJournal words stood None (ReadsAs clients new.files)
 RunComesTo clients limits words stood old new (Err outcome.Full) =
     OfJournal words stood None (λ begin. WasFull clients limits words begin old new)
 RunComesTo clients limits words stood old new (Err outcome.Memory) =
-    (begin : Journal) → stood ≡ journal begin → RanShort clients limits words begin old new
+    (begin : Journal) → stood ≡ journal begin → RanSoFar clients limits words begin old new
 RunComesTo clients limits words stood old new (Err outcome.DiskFault) =
     (begin : Journal) → stood ≡ journal begin → RanSoFar clients limits words begin old new
 RunComesTo clients limits words stood old new (Err _) = ⊥

@@ -57,7 +57,7 @@ returns-in-Ok g c =
             specs_kept words dialled new run.goes.same_specs
             (specs_made words _ old dialled c.requires.unused dials.front dials.makes);
         caused =
-            caused_amid [] words old dialled new new (omega arith) dials.all.2
+            caused_amid [] words old dialled new new (omega arith) calms.grows.faults
             (omega (arith, calms.same_faults)) refl refl c.run_dialled.result run.caused.1;
         leaves = dialled_leaves words old new c.run_dialled.result run.caused.0;
       };

@@ -1,6 +1,7 @@
 use Rattle.std.proofs.Common.{ap, arith, subst, sym, ◌∙◌, ℕ}
 use Rattle.sync_node.proofs.SafeLaws.{goes_none}
 use Rattle.sync_node.specs.Node.{NodeValue}
+use Rattle.sync_store.specs.Store.{format_meant}
 use Rattle.sync_words.specs.declared.outcome.Outcome.TheVariants as outcome
 use Rattle.sync_run.specs.Needs.{AllMayBegin}
 use Rattle.sync_run.specs.Causes.{RunCaused}
@@ -8,7 +9,7 @@ use Rattle.sync_run.specs.Parts.{RanSettled}
 use Rattle.sync_run.proofs.CauseLaws.{ends_rose}
 use Rattle.sync_run.proofs.RestLaws.{rests_at, rests_ready}
 use Rattle.sync_run.proofs.RunActs.{passed, ran_broken, ran_full, ran_none, ran_out, ran_unclosed}
-use Rattle.sync_run.proofs.RunActs.{ran_whole, stays_short}
+use Rattle.sync_run.proofs.RunActs.{ran_whole}
 use Rattle.sync_run.proofs.WordLaws.{node_may}
 use Rattle.sync_run.proofs.run.run_settled.Goals as goal
 
@@ -61,8 +62,7 @@ returns-in_err-close-in-Ok g c =
           passed (RanSettled (g.C.Clients.meaning c.args.clients.now) c.args.limits c.args.links.now
           c.args.store old new) r outcome.Memory is
           (ran_unclosed _ c.args.limits c.args.links.now _ _ _ _ _ c.in_ok-node.ensures c.in-Ok.over
-          (stays_short _ _ _ c.in_ok-node.ensures c.run_node.ensures.stands.goes.same_format
-          c.requires.short) c.in-Ok.ensures.went);
+          c.in-Ok.ensures.went);
     }
 
 -- the run came to its end
@@ -78,8 +78,7 @@ returns-in-Ok g c = record {
   );
   ran =
       ran_whole _ c.args.limits c.args.links.now _ _ _ _ _ c.in_ok-node.ensures c.in-Ok.over
-      (stays_short _ _ _ c.in_ok-node.ensures c.run_node.ensures.stands.goes.same_format
-      c.requires.short) c.in-Ok.ensures.went c.in_ok-close-in-Ok.field-0 c.in_ok-close-in-Ok.ensures;
+      c.in-Ok.ensures.went c.in_ok-close-in-Ok.field-0 c.in_ok-close-in-Ok.ensures;
 }
 
 -- ---- it was broken off
@@ -92,8 +91,6 @@ returns-in-Err-Memory g c = record {
   caused = (tt, tt);
   ran =
       ran_out _ c.args.limits c.args.links.now _ _ _ _ _ c.in_ok-node.ensures
-      (stays_short _ _ _ c.in_ok-node.ensures c.run_node.ensures.stands.goes.same_format
-      c.requires.short)
       (rw c.in-Err-Memory.field-0-is at c.in-Err-Memory.ensures.stopped);
 }
 
@@ -118,6 +115,6 @@ returns-in-Err-Full g c =
       ran =
           ran_full _ c.args.limits c.args.links.now _ _ _ _ _ c.in_ok-node.ensures
           (goes.same_limit ∙ ap (λ (s : _). s.limit) made ∙ c.requires.limited)
-          (stays_short _ _ _ c.in_ok-node.ensures goes.same_format c.requires.short)
+          (ap format_meant (goes.same_format ∙ ap (λ (s : _). s.format) made) ∙ c.requires.short)
           (rw c.in-Err-Full.field-0-is at c.in-Err-Full.ensures.stopped);
     }
