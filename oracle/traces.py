@@ -1,9 +1,9 @@
 """What a command does to the two files of its folder, and what it says, from a trace of its system calls by strace.
 
-An event is a tuple: `made FILE`, `write FILE PLACE BYTES`, `cut FILE LENGTH`, `sync FILE`, `names` (the folder was synced), `parent` (the
-folder above it was), `out BYTES` (on the standard output), `sent BYTES` (on a socket), `failed WHAT CALL FD` where a call had an error,
-with WHAT a file, `folder`, `out` or None, `drop FILE FD` (its cached pages were let go of), and `close FD`. A call that could change a
-file otherwise is an error here, so that nothing is overlooked.
+An event is a tuple: `made FILE`, `write FILE PLACE BYTES`, `cut FILE LENGTH`, `sync FILE`, `names` (the folder was synced), `parent`
+(the folder above it was), `out BYTES` (on the standard output), `sent BYTES` (on a socket), `failed WHAT CALL FD` where a call had an
+error, with WHAT a file, `folder`, `parent`, `out`, `socket` or None, `drop FILE FD` (its cached pages were let go of), and `close FD`.
+A call that could change a file otherwise is an error here, so that nothing is overlooked.
 """
 import os
 import re
