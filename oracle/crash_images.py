@@ -1,14 +1,13 @@
-"""A disk of two files as it is changed call by call, and what a crash may leave of it, as docs/ARCHITECTURE.md has it under "Moments
-and images": each place below the least length since the last sync, over which nothing was written since, is as it was then; a place
-that was written may hold anything; the length is one between the least and the greatest since; the name of a file that was made may
-be gone until the folder was synced.
+"""A disk of two files as it is changed call by call, and what a crash may leave of it, as docs/ARCHITECTURE.md has it under
+"Moments and images": each place below the least length since the last sync, over which nothing was written since, is as it was
+then; a place that was written may hold anything; the length is one between the least and the greatest since; the name of a file that
+was made may be gone until the folder was synced.
 
 Of these images those are made that a disk most likely leaves, and some that it hardly does: every change but one is there, and this
-one is there up to a byte, from a byte on, in drawn bytes or not at all, with what stood there, zeros, ones or noise in the place of
-the rest. Drawn ones have any part of each change. It shares nothing with the program.
+one is there up to a byte, from a byte on, or not at all, with what stood there, zeros, ones or noise in the place of the rest; or
+none of those behind it is there; or any part of each is. It shares nothing with the program.
 """
 
-FILES = 2
 # how many bytes of a write are torn at each place, and at how many places a longer one
 EACH, DRAWN = 96, 24
 FILLS = ('old', 'zeros', 'ones', 'noise')

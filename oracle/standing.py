@@ -1,4 +1,5 @@
-"""What two files stand for, as docs/FORMATS.md has it under "A journal's files": no store, a damaged file, or the payloads of a journal.
+"""What two files stand for, as docs/FORMATS.md has it under "A journal's files": no store, a damaged file, or the payloads of a
+journal.
 
 Whether a batch may follow those before it is not looked at: who asks compares the payloads with those of a journal that is known.
 It shares nothing with the program.

@@ -1,9 +1,9 @@
 """What a command does to the two files of its folder, and what it says, from a trace of its system calls by strace.
 
-An event is a tuple: `made FILE`, `write FILE PLACE BYTES`, `cut FILE LENGTH`, `sync FILE`, `names` (the folder was synced), `parent` (the
-folder above it was), `out BYTES` (on the standard output), `sent BYTES` (on a socket), `failed WHAT CALL FD` where a call had an error,
-with WHAT a file, `folder`, `out` or None, `drop FILE FD` (its cached pages were let go of), and `close FD`. A call that could change a
-file otherwise is an error here, so that nothing is overlooked.
+An event is a tuple: `made FILE`, `write FILE PLACE BYTES`, `cut FILE LENGTH`, `sync FILE`, `names` (the folder was synced), `parent`
+(the folder above it was), `out BYTES` (on the standard output), `sent BYTES` (on a socket), `failed WHAT CALL FD ASKED` where a call had
+an error, with WHAT a file, `folder`, `parent`, `out`, `socket` or None, `drop FILE FD` (its cached pages were let go of), and `close FD`.
+A call that could change a file otherwise is an error here, so that nothing is overlooked.
 """
 import os
 import re
@@ -65,13 +65,21 @@ class Trace:
         what = it.what if it else None
         if answer < 0:
             if it and call != 'lseek' and not 'EAGAIN' in rest:
-                self.events.append(('failed', what, call, first_number(args)))
+                self.events.append(('failed', what, call, first_number(args), self.asked_for(call, args, it)))
             return
         does = getattr(self, 'take_' + call, None)
         if does:
             does(args, answer, it)
         elif what in (0, 1) or call in ('sync', 'syncfs', 'truncate', 'creat', 'open'):
             raise Unknown(f'{call}({args[:100]})')
+
+    def asked_for(self, call, args, it):
+        """What a call that failed may have done all the same: a write with its place and bytes, a cut with its length, or None."""
+        if call == 'write' and it.what in (0, 1):
+            return ('write', it.at, text_of(args))
+        if call == 'ftruncate' and it.what in (0, 1):
+            return ('cut', int(args.split(', ')[1]))
+        return None
 
     def take_openat(self, args, answer, _):
         what = self.what_is(text_of(args)) if args.startswith('AT_FDCWD, ') else None
