@@ -72,12 +72,7 @@ ROWS = [
     Row('hostile', 'hostile.sh', 'names that were chosen to meet over random ones: a load of 5,000 and of 20,000 messages of 100 names each, an '
         'OFFER of 1,536, and one whose ids share the slot by which they are counted; the growth of that load over n log n',
         '{hostile_load_5000:.2f}, {hostile_load_20000:.2f}, {hostile_offer:.2f}, {hostile_slot:.1f}; {hostile_growth:.2f}', '1; 1: n log n'),
-    Row('graph', 'graph.sh', 'the waiting graph at 200,000 messages against 50,000, over n log n', '{graph:.2f}', '1: n log n'),
-    Row('tables', 'tables.sh', 'the table of what is due at 200,000 messages against 50,000, over n log n', '{tables:.2f}', '1: n log n'),
-    Row('cascade', 'cascade.sh', 'a chain of 100,000 messages in the worst order against 25,000, over linear', '{cascade:.2f}', '1: linear'),
-    Row('session', 'session.sh', 'an OFFER of 1,536 ids, and what is due, at 200,000 messages against 50,000, over the logarithm',
-        '{session:.2f}', '1: the logarithm'),
-    Row('frames', 'frames.sh', 'frames appended to a journal in memory, 20,000 against 5,000, over linear', '{frames:.2f}', '1: linear'),
+    Row('tables', 'tables.sh', 'the table of what is due at 400,000 messages against 100,000, over n log n', '{tables:.2f}', '1: n log n'),
 ]
 PAGE, BEGIN, END = 'README.md', '<!-- the table is written by bench/speed.sh --write -->\n', '<!-- end of the table -->\n'
 HEAD = '| Row | What is compared | Figures | What they cannot pass | Run |\n|---|---|---|---|---|\n'

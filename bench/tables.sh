@@ -1,6 +1,6 @@
 #!/bin/sh
 # The growth of the table of what is due: 8 contacts, each message ready for all of them and owed to them, asked for by each, sent
-# twice, offered and acknowledged. Prints the least processor time of RUNS (5) runs for 50,000 and 200,000 messages, the bytes a row
+# twice, offered and acknowledged. Prints the least processor time of RUNS (5) runs for 100,000 and 400,000 messages, the bytes a row
 # of one contact and message, and last `ratio tables VALUE`: how much faster than n log n the work grows.
 set -eu
 cd "$(dirname "$0")/.."
@@ -11,7 +11,7 @@ import math, sys
 from measure import least, run
 
 runs = int(sys.argv[1])
-contacts, few, many = 8, 50_000, 200_000
+contacts, few, many = 8, 100_000, 400_000
 
 
 def fill(count):

@@ -31,9 +31,12 @@ import re
 import sys
 
 from audits import Audited, rows as audit_rows
+from digests import message_id
 from journal import SHORT, WHOLE, respelled
-from old_stores import SCENES as OLD_SCENES, adds_contact, heard, looks_at, show_text
-from sharing import ALL_CLIENTS, SCENES as SHARING_SCENES, SEEDS, Person, agrees_at_length, agrees_at_random
+from migration import migrated
+from old_stores import NOTES, SCENES as OLD_SCENES, THREADS, adds_contact, bare, heard, held, looks_at, show_text
+from run_model import BATCH, VISIBLE, message_record
+from sharing import ALL_CLIENTS, NOTE, SCENES as SHARING_SCENES, SEEDS, THREAD, Person, agrees_at_length, agrees_at_random
 from store_file import CLOSED, framed, header
 
 FOLDER = os.path.dirname(os.path.abspath(__file__))
@@ -474,6 +477,60 @@ def play_old_crashes(text, words, prepared, done, before, adds, old):
         text.count()
 
 
+def play_migrated(text):
+    """Stores of format 1 that other programs made by the bytes, and what a command that adds makes of them."""
+    text.case('stores of format 1 that are written anew')
+    for label, old, new in migrated():
+        text.say('# ' + label)
+        text.put_files(old)
+        number = int(label != 'no batch')
+        text.tell('try', 'contact', Outcome(b'contact %d\n' % number, after=[(1, new[:-1] + framed(b'', [bytes([1, number])]))]))
+
+
+def play_settled(text):
+    """A post that is crashed: what is left is settled by the next command that adds."""
+    text.case('a post that is crashed, and settled')
+    before, added = held(NOTE).batches[:2], held(NOTE).batches[2:]
+    words = f'post {NOTES.hex()} 0'
+    text.journal(SHORT, 1, before)
+    text.say('input 78', f'crash {words} / contact')
+    stores = stores_of(True, before, added)
+    states = []
+    for it in stores:
+        out, after = with_contact(it)
+        states.append(state(audit_of(it), told_output(out.encode()), front_of(SHORT, 1, after)))
+    posted = f'posted {message_id(NOTES, 0, b"x").hex()}\n'
+    text.seen(f'> crash {words} / contact', crashed(Outcome(posted.encode()), states, CRASH))
+    text.count()
+
+
+WAITING = 599
+
+
+def play_cascade(text):
+    """Messages that wait for one which arrives last: their settling takes three batches, and is broken off behind the first."""
+    person = bare(THREAD)
+    person.share(0, THREADS, VISIBLE)
+    person.attach(0, BATCH)
+    root = b'\0r'
+    parent = message_id(THREADS, 0, root)
+    for time in range(WAITING):
+        person.hears(0, message_record(THREADS, time, b'\1' + parent + b'.'))
+    person.unsettled(lambda: person.hears(0, message_record(THREADS, 0, root)))
+    text.case(f'{WAITING} messages that wait for one')
+    before = list(person.batches)
+    text.journal(SHORT, 1, before)
+    out = adds_contact(person)
+    added = person.batches[len(before):]
+    # a step of format 2 has five bytes
+    assert [len(it) // 5 for it in added[:-1]] == [256, 256, 89]
+    # a load syncs both files, reads two headers and the length, each frame by two calls, and the closed gate
+    load = 2 + 2 + 1 + 2 * len(before) + 1
+    first = framed(header(SHORT, 1), before + added[:1])
+    text.tell('run', 'contact', Outcome(status=DISK_FAULT, err=b'disk fault\n', after=[(0, first)]), f'faildisk {load + APPEND}')
+    text.tell('run', 'contact', Outcome(out.encode(), after=[(0, framed(header(SHORT, 1), before + added))]))
+
+
 def play_audits(text):
     text.case('audits')
     for first, second, line in audit_rows():
@@ -489,6 +546,9 @@ def made():
     play_begun_twice(text)
     play_sharing(text)
     play_old(text)
+    play_migrated(text)
+    play_settled(text)
+    play_cascade(text)
     play_audits(text)
     return text
 

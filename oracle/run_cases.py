@@ -222,6 +222,42 @@ def stopped():
     say('got 0 ' + ids_record(0, [mine]).hex(), 'idle 0 3', 'clock 1000')
     say('stops sync 9 2 0 interactive 30000 unix:p')
 
+    case('a run that hears an offer of 1,536 unknown ids twice is stopped')
+    one_contact()
+    say('nonce ' + '04' * 16, *2 * ['got 0 ' + ids_record(2, some_ids(0, 1_536)).hex()], 'idle 0 3')
+    say('stops sync 4 2 0 interactive 1000 tcp:x')
+
+    case('a run that hears a message on two links with two contacts is stopped')
+    both_say()
+    say('end 0 1', 'end 1 1', TWO_LINKS.replace('sync', 'stops sync'))
+
+
+TWO_LINKS = 'sync 3 2 0 batch 1000 std 1 batch 1000 tcp:x'
+
+
+def both_say(*silent):
+    """Two contacts with whom the note group is shared, and the same message from each but those that are silent."""
+    contacts(2)
+    group('note', NOTES, (0, 'shared'), (1, 'shared'))
+    for link in range(2):
+        if link not in silent:
+            say('got %d ' % link + ROW_8[:10] + message(NOTES, 0, b'x').hex())
+
+
+def failing_links():
+    """Each answer and each send of two links fails in turn: that link is closed, and the other goes on."""
+    for failing in range(2):
+        case('the first answer of link %d fails' % failing)
+        both_say(failing)
+        say('fail %d 1' % failing, 'end %d 1' % (1 - failing), TWO_LINKS)
+        case('the second answer of link %d fails' % failing)
+        both_say()
+        say('fail %d 1' % failing, 'end %d 1' % (1 - failing), TWO_LINKS)
+    for send in range(4):
+        case('send %d of two links fails' % send)
+        both_say()
+        say('failsend %d' % send, 'end 0 1', 'end 1 1', TWO_LINKS)
+
 
 # ---- what ends a stream
 
@@ -573,6 +609,7 @@ def main():
     named()
     crossed()
     stopped()
+    failing_links()
     endings()
     old_stores()
     for seed in range(40):

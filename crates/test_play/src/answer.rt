@@ -56,7 +56,7 @@ pub(crate) fn tell_journal(
     told: &mut String,
 ) -> Result<(), AllocError> {
     let file = journal_of(disk);
-    if file.first() != Some(&1) {
+    if !file.starts_with(b"\x01BSPJ") {
         return told.push_str("no journal\n");
     }
     told.push_str("journal ")?;

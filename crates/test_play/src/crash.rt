@@ -144,12 +144,7 @@ impl Run {
 }
 
 /// Tells what is seen of a command of which each call fails in turn, and then none.
-pub(crate) fn crash(
-    alloc: Global,
-    case: &Case,
-    plan: &Plan<'_>,
-    told: &mut String,
-) -> Result<()> {
+pub(crate) fn crash(alloc: Global, case: &Case, plan: &Plan<'_>, told: &mut String) -> Result<()> {
     let calls = plan.calls(case)?;
     let mut seen = Seen::new(alloc);
     for (name, view) in plan.views() {
@@ -187,7 +182,11 @@ fn look(alloc: Global, came: &Came, view: View, next: &str) -> Result<String> {
             Ok(told)
         }
         View::Left => look_behind(alloc, &Case::over(alloc, came.disk())?, next),
-        View::Image(pick) => look_behind(alloc, &Case::over(alloc, &came.disk().image(pick)?)?, next),
+        View::Image(pick) => look_behind(
+            alloc,
+            &Case::over(alloc, &came.disk().image(pick)?)?,
+            next,
+        ),
     }
 }
 
