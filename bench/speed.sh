@@ -12,7 +12,7 @@
 # scripts, so a small one gives a short and rough run; TMPDIR, a folder on a disk, is where the files of stores lie.
 cd "$(dirname "$0")/.." || exit 1
 exec env PYTHONDONTWRITEBYTECODE=1 python3 - "$@" <<'PY'
-import os, platform, re, subprocess, sys, time
+import functools, os, platform, re, subprocess, sys, time
 from collections import namedtuple
 
 # `figures` and `limit` are texts in which each {..} is computed from the figures that the script tells, by their names. A limit is
@@ -62,16 +62,33 @@ ROWS = [
         'n log n; over a load of the same file; its memory over the length of the file; a chain of 5,000 messages in the worst order, and '
         '5,000 that wait for one, over their loads',
         '{audit_growth:.2f}; {audit_load:.1f}; {audit_memory:.2f}; {audit_chain:.0f}, {audit_star:.0f}', '1: n log n; none; 1: the file; none'),
-    Row('tree', 'tree.sh', 'items added to a tree of replies, 200,000 against 50,000 of chains of 20,000, a star and random replies, over linear in the '
-        'sum of their depths; `tree` of 20 messages in the middle of 200,000 of a star and of random replies, and of a chain of 20,000 and '
-        'one of 100,000, over the load of their store; bytes an item',
-        '{tree_add_chains:.2f}, {tree_add_star:.2f}, {tree_add_random:.2f}; {tree_star:.2f}, {tree_random:.2f}, {tree_chain_20000:.1f}, '
-        '{tree_chain_100000:.1f}; {tree_bytes_an_item:.0f}', '1: linear; 1: the load; 24: a parent, a place and a count'),
+    Row('tree', 'tree.sh', 'a tree of replies made of 200,000 items against one of 50,000, as chains of 20,000, a star and random replies, over '
+        'linear; `tree` of 20 messages in the middle of 200,000 of a star and of random replies, and of a chain of 20,000 and one of '
+        '100,000, over the load of their store; bytes an item',
+        '{tree_add_chains:.2f}, {tree_add_star:.2f}, {tree_add_random:.2f}; {tree_star:.2f}, {tree_random:.2f}, {tree_chain_20000:.2f}, '
+        '{tree_chain_100000:.2f}; {tree_bytes_an_item:.0f}', '1: linear; 1: the load; 24: a parent, a depth, a size, a place and the walk'),
     Row('replay', 'replay.sh', 'a world of 20,000 posts against one of 5,000, over linear; a message that comes to a device in a ring of eight '
         'over one in that world; bytes of memory for each of 100,000 posts', '{gen:.2f}; {ring:.2f}; {memory_gen:.0f}', '1: linear; none; none'),
     Row('hostile', 'hostile.sh', 'names that were chosen to meet over random ones: a load of 5,000 and of 20,000 messages of 100 names each, an '
         'OFFER of 1,536, and one whose ids share the slot by which they are counted; the growth of that load over n log n',
         '{hostile_load_5000:.2f}, {hostile_load_20000:.2f}, {hostile_offer:.2f}, {hostile_slot:.1f}; {hostile_growth:.2f}', '1; 1: n log n'),
+    # the same script tells these: each shape at n and 2 n messages
+    Row('shapes', 'hostile.sh', 'what contacts may send to make a command slow: `tree` of a chain, a star and random replies of 100,000; `audit` of '
+        'a chain in the worst order and a star before its root of 40,000, 2,000 that name the same 255, an invalid note before 40,000, and '
+        '20,000 asked for again and again; 20,000 levels behind 20,000 notes; `agree` of 200,000 words: the growth from half as many over '
+        'n log n; over a load of the same store (of the notes alone); over a load of an honest store of as many bytes; the same two of a '
+        'chain and a star of 500,000 and of 30,000 that name the same 255',
+        '{hostile_growth_tree_chain:.2f}, {hostile_growth_tree_star:.2f}, {hostile_growth_tree_random:.2f}; '
+        '{hostile_growth_audit_chain:.2f}, {hostile_growth_audit_star:.2f}, {hostile_growth_audit_fan:.2f}, {hostile_growth_audit_invalid:.2f}, {hostile_growth_audit_asked:.2f}; '
+        '{hostile_growth_levels:.2f}, {hostile_growth_agree:.2f}. '
+        '{hostile_own_tree_chain:.2f}, {hostile_own_tree_star:.2f}, {hostile_own_tree_random:.2f}; '
+        '{hostile_own_audit_chain:.2f}, {hostile_own_audit_star:.2f}, {hostile_own_audit_fan:.2f}, {hostile_own_audit_invalid:.2f}, {hostile_own_audit_asked:.2f}; '
+        '{hostile_own_levels:.2f}, {hostile_own_agree:.2f}. '
+        '{hostile_honest_tree_chain:.2f}, {hostile_honest_tree_star:.2f}, {hostile_honest_tree_random:.2f}; '
+        '{hostile_honest_audit_chain:.2f}, {hostile_honest_audit_star:.2f}, {hostile_honest_audit_fan:.2f}, {hostile_honest_audit_invalid:.2f}, {hostile_honest_audit_asked:.2f}; '
+        '{hostile_honest_levels:.2f}, {hostile_honest_agree:.2f}. '
+        '{hostile_own_tree_chain_large:.2f}, {hostile_honest_tree_chain_large:.2f}, {hostile_own_tree_star_large:.2f}, {hostile_honest_tree_star_large:.2f}, {hostile_own_audit_fan_large:.2f}, {hostile_honest_audit_fan_large:.2f}',
+        '1: n log n. 1: the load. None. The same'),
     Row('tables', 'tables.sh', 'the table of what is due at 400,000 messages against 100,000, over n log n', '{tables:.2f}', '1: n log n'),
 ]
 PAGE, BEGIN, END = 'README.md', '<!-- the table is written by bench/speed.sh --write -->\n', '<!-- end of the table -->\n'
@@ -83,10 +100,11 @@ def filled(text, figures):
     return re.sub(r'\{([^{}:]+):([^{}]+)\}', lambda of: format(eval(of[1], {'__builtins__': {}}, figures), of[2]), text)
 
 
-def measure(row):
-    """What the row's script tells, by name; None if it failed."""
-    print(f'== {row.word}: bench/{row.script}', file=sys.stderr, flush=True)
-    child = subprocess.Popen(['bench/' + row.script], stdout=subprocess.PIPE, text=True)
+@functools.cache
+def measure(script):
+    """What a script tells, by name; None if it failed. One that has two rows is run once."""
+    print(f'== bench/{script}', file=sys.stderr, flush=True)
+    child = subprocess.Popen(['bench/' + script], stdout=subprocess.PIPE, text=True)
     figures = {}
     for line in child.stdout:
         sys.stderr.write(line)
@@ -159,7 +177,7 @@ def main(words):
     for row in ROWS:
         if words and row.word not in words:
             continue
-        figures = measure(row)
+        figures = measure(row.script)
         try:
             rows[row.word] = line_of(row, figures), 'new'
         except (TypeError, NameError) as fault:

@@ -1,10 +1,10 @@
 #!/bin/sh
-# Trees of replies. First a tree alone (the part `tree` of crates/bench): 50,000 and 200,000 items as chains of 20,000, as a star and as replies that
-# look random; the least processor time of RUNS (5) runs, and how much faster than linear in the sum of the depths it grows, each
-# item's depth counted with the item itself; and the bytes an item, between 2,000,000 and 4,000,000. Then the command over a store
-# of 200,000 messages, as a star and as such replies: `tree GROUP 100000 20`, in turns with `body` of an unknown id, which loads
-# the same store and refuses; its text is compared with what is told of the same messages here. Last a chain of 20,000 messages
-# and one of 100,000 (CHAINS). The last lines are `ratio NAME VALUE`. It takes some minutes.
+# Trees of replies. First a tree alone (the part `tree` of crates/bench): 50,000 and 200,000 items as chains of 20,000, as a star and as
+# replies that look random; the least processor time of RUNS (5) runs, and how much faster than linear in the items it grows; and the
+# bytes an item, between 2,000,000 and 4,000,000. Then the command over a store of 200,000 messages, as a star and as such replies:
+# `tree GROUP 100000 20`, in turns with `body` of an unknown id, which loads the same store and refuses; its text is compared with
+# what is told of the same messages here. Last a chain of 20,000 messages and one of 100,000 (CHAINS). The last lines are
+# `ratio NAME VALUE`. It takes some minutes.
 set -eu
 cd "$(dirname "$0")/.."
 .ci/built bench || exit 1
@@ -74,19 +74,18 @@ def parents_of(shape, count):
 
 
 def adds(shape, count):
-    """A run of that part, and the steps that it makes: one for each item and one for each above it."""
+    """A run of that part."""
     depths, _, walk = tree_of(parents_of(shape, count))
     told = f'{count} items, depths {sum(depths)}, {walk[count // 2]} in the middle\n'
     word = str(LENGTH) if shape == 'chains' else shape
-    return (lambda: run('crates/bench/out/bench', 'tree', word, str(count), want=told)), sum(depths) + count
+    return lambda: run('crates/bench/out/bench', 'tree', word, str(count), want=told)
 
 
 ratios = []
 for shape in ('chains', 'star', 'random'):
-    (few, few_steps), (many, many_steps), (one, _) = adds(shape, FEW), adds(shape, MANY), adds(shape, 1)
-    (short, _), (long, _), (start, _) = least(runs, few, many, one)
-    growth = (long - start) / max(short - start, 0.001) / (many_steps / few_steps)
-    print(f'{shape}: {FEW} in {short:.3f} s, {MANY} in {long:.3f} s, growth over the sum of depths {growth:.3f}', flush=True)
+    (short, _), (long, _), (start, _) = least(runs, *(adds(shape, count) for count in (FEW, MANY, 1)))
+    growth = (long - start) / max(short - start, 0.001) / (MANY / FEW)
+    print(f'{shape}: {FEW} in {short:.3f} s, {MANY} in {long:.3f} s, growth over linear {growth:.3f}', flush=True)
     ratios.append(f'ratio tree_add_{shape} {growth:.3f}')
 
 

@@ -1,10 +1,9 @@
 -- What `tree` prints: a part of the walk of the replies in a group, by the facts of the journal and
 -- the meaning of its clients.
-use Rattle.std.specs.Prelude.{◌≡◌, ℕ, suc, ◌<◌, cond, if◌then◌else◌, List, [], ◌∷◌, ◌++◌, take}
+use Rattle.std.specs.Prelude.{◌≡◌, ℕ, ◌<◌, if◌then◌else◌, List, [], ◌∷◌, ◌++◌, take}
 use Rattle.std.specs.Prelude.{drop, Option, None, Some, is_some, slice_get, slice_index_or}
 use Rattle.std.specs.Fmt.{decimal}
 use Rattle.std.specs.List.{filter, flat_map}
-use Rattle.std.specs.Option.{option_map}
 use Rattle.hex.specs.Hex.{encode_lower}
 use Rattle.reply_tree.specs.Walks.{depth_of, size_of, walk_of}
 use Rattle.sync_rules.specs.declared.answers.Judgement.{Judgement}
@@ -14,7 +13,6 @@ use Rattle.sync_rules.specs.declared.states.Refused.TheVariants as refused
 use Rattle.sync_rules.specs.Clients.{Meaning}
 use Rattle.sync_rules.specs.Facts.{Facts, Held, Id, facts, group_at, held_at}
 use Rattle.sync_rules.specs.Legal.{Legal}
-use Rattle.sync_rules.specs.Lists.{same_id}
 use Rattle.sync_rules.specs.Steps.{is_beside, verdict_in}
 use Rattle.entry_codec.specs.Naming.{place_in}
 use Rattle.store_commands.specs.Shown.{Showing, denies, shows}

@@ -11,8 +11,8 @@ invariant_of-self-2 c =
     let within : c.args.n < length old.places.items =
     subst (λ k. c.args.n < k) (sym held) c.requires.within in
     let pushed : c.push.new.self.items ≡ old.numbers.items ++ c.args.n ∷ [] = search rules in
-    let added : c.add.new.self ≡ old.tree ++ c.parent-parent.result ∷ [] = search rules in
-    added_item old.numbers.items c.push.new.self.items old.tree c.add.new.self old.places.items
+    let added : c.add.new.self ≡ old.replies ++ c.parent-parent.result ∷ [] = search rules in
+    added_item old.numbers.items c.push.new.self.items old.replies c.add.new.self old.places.items
     c.args.n c.in_ok-number.number c.parent-parent.result c.index.result.now
     c.or-place.result c.self.invariant within pushed added c.index.ensures c.or-place.ensures
     c.in_ok-number.ensures.number

@@ -13,5 +13,5 @@ returns-in-Some-clause-earlier c =
     c.in-Some.is c.requires.replied) in
     subst (λ (ps : ThreadValue). IfSome c.index.result.now (λ p. p < length ps.parents))
     c.self.view_is
-    (found_earlier c.self.inside.numbers.items c.self.inside.tree c.self.inside.places.items
+    (found_earlier c.self.inside.numbers.items c.self.inside.replies c.self.inside.places.items
     c.in-Some.m c.index.result.now c.self.invariant within c.index.ensures)
