@@ -89,6 +89,7 @@ fn another_end(rt: HostRuntime) -> Result<(), Fail> {
     let store = Store::load(alloc, hasher, &mut disk, &Bundle, MAX_JOURNAL)?;
     assert_eq!(rt; store.state().held(), 1);
     assert!(rt; disk.file(0) == hex::decode(alloc, first)?.as_slice());
+    assert!(rt; disk.file(1) == &CUT_BACK[..]);
     Ok(())
 }
 
@@ -129,6 +130,56 @@ fn read_other(
     barrier(&mut second)?;
     let answer = migrate(alloc, &mut second, 0, 1, end, store.state());
     assert_eq!(rt; answer.err(), Some(MigrationFault::Memory), "{label}");
-    assert!(rt; second.file(1).first() != Some(&1), "{label}");
+    assert!(rt; second.file(1) == &CUT_BACK[..], "{label}");
+    Ok(())
+}
+
+/// What is left of the other file once a migration failed.
+static CUT_BACK: [u8; 1] = [0];
+
+/// How many calls a migration of one message makes: it reads two headers and the length; the other
+/// file is empty, so its gate is read, written and synced, and its length is asked; the header and
+/// its sync; two reads and four calls for each of five frames; the closed gate is read; and then the
+/// header's gate is written and synced.
+const CALLS: u64 = 3 + 4 + 2 + 30 + 1 + 2;
+
+/// The calls from the one behind the sync of the closed gate up to the write that opens it.
+const FROM: u64 = 6;
+const TO: u64 = CALLS - 2;
+
+#[test]
+fn failed_calls(rt: HostRuntime) -> Result<(), Fail> {
+    let alloc = rt.alloc();
+    let (_, first, _) = JOURNALS[2];
+    let mut disk = MemDisk::new(alloc, hex::decode(alloc, first)?, Vec::new(alloc))?;
+    let hasher = RandomState::new(&MemRandom(0))?;
+    let store = Store::load(alloc, hasher, &mut disk, &Bundle, MAX_JOURNAL)?;
+    for call in 0..CALLS {
+        fail_one(&rt, alloc, &store, call)?;
+    }
+    let made = disk.calls();
+    let end = first.len() as u64 / 2;
+    assert!(rt; migrate(alloc, &mut disk, 0, 1, end, store.state()).is_ok());
+    assert_eq!(rt; disk.calls(), made.saturating_add(CALLS));
+    Ok(())
+}
+
+// A call of a migration fails, and none behind it: in between what was written is cut back.
+fn fail_one(rt: &impl Abort, alloc: Global, store: &Store, call: u64) -> Result<(), Fail> {
+    let (_, first, _) = JOURNALS[2];
+    let whole = hex::decode(alloc, first)?;
+    let end = whole.len() as u64;
+    let mut disk = MemDisk::new(alloc, whole, Vec::new(alloc))?;
+    barrier(&mut disk)?;
+    let made = disk.calls();
+    disk.fail_at(made.saturating_add(call))?;
+    let answer = migrate(alloc, &mut disk, 0, 1, end, store.state());
+    assert_eq!(rt; answer.err(), Some(MigrationFault::DiskFault), "call {call}");
+    assert!(rt; disk.file(0) == hex::decode(alloc, first)?.as_slice(), "call {call}");
+    if FROM <= call && call < TO {
+        assert!(rt; disk.file(1) == &CUT_BACK[..], "call {call}");
+    } else {
+        assert!(rt; disk.file(1).len() != 1 || call < FROM, "call {call}");
+    }
     Ok(())
 }
