@@ -143,8 +143,10 @@ static CUT_BACK: [u8; 1] = [0];
 /// header's gate is written and synced.
 const CALLS: u64 = 3 + 4 + 2 + 30 + 1 + 2;
 
-/// The calls from the one behind the sync of the closed gate up to the write that opens it.
+/// The first call behind the sync of the closed gate.
 const FROM: u64 = 6;
+
+/// The write that opens it.
 const TO: u64 = CALLS - 2;
 
 #[test]
@@ -174,8 +176,15 @@ fn fail_one(rt: &impl Abort, alloc: Global, store: &Store, call: u64) -> Result<
     let made = disk.calls();
     disk.fail_at(made.saturating_add(call))?;
     let answer = migrate(alloc, &mut disk, 0, 1, end, store.state());
-    assert_eq!(rt; answer.err(), Some(MigrationFault::DiskFault), "call {call}");
-    assert!(rt; disk.file(0) == hex::decode(alloc, first)?.as_slice(), "call {call}");
+    assert_eq!(rt;
+        answer.err(),
+        Some(MigrationFault::DiskFault),
+        "call {call}"
+    );
+    assert!(rt;
+        disk.file(0) == hex::decode(alloc, first)?.as_slice(),
+        "call {call}"
+    );
     if FROM <= call && call < TO {
         assert!(rt; disk.file(1) == &CUT_BACK[..], "call {call}");
     } else {
